@@ -1,0 +1,70 @@
+-- Set expressions, and the trees that spell them.
+use Rattle.std.specs.Prelude.{◌≡◌, ◌≢◌, ℕ, ◌⊎◌, false, List, [], ◌∷◌, ◌++◌, codes, bytes_eq}
+use Rattle.std.specs.List.{list_any}
+use Rattle.cil_specs.specs.Place.{Place}
+use Rattle.cil_specs.specs.Names.{Word}
+use Rattle.cil_specs.specs.Trees.{Trees, none, a_word, a_string, a_list}
+
+-- A list of elements is its first element and the others, or nothing.
+pub data Expr : Type 0 where
+  every : Expr
+  named : Word → Expr
+  opposite : Expr → Expr
+  both : Expr → Expr → Expr
+  either : Expr → Expr → Expr
+  one_of : Expr → Expr → Expr
+  nothing : Expr
+  elements : Expr → Expr → Expr
+
+-- the words that are operators where they stand first in a list
+abbrev pub operators : List (List ℕ)
+operators = codes "and" ∷ codes "or" ∷ codes "xor" ∷ codes "not" ∷ codes "all" ∷ []
+
+-- the first of the trees is no operator
+abbrev pub HasNoOperator : Trees → Type 0
+HasNoOperator none = Unit {0}
+HasNoOperator (a_word at text rest) = list_any (bytes_eq text) operators ≡ false
+HasNoOperator (a_string at text rest) = Unit {0}
+HasNoOperator (a_list at end items rest) = Unit {0}
+
+-- the trees are a list of these trees, and then the rest
+abbrev pub IsListThen : Trees → Trees → Trees → Type 0
+IsListThen trees items rest = (at : Place) × (end : ℕ) × (trees ≡ a_list at end items rest)
+
+-- the trees are a list of this word and these trees, and then the rest
+abbrev pub IsOperationThen : Trees → List ℕ → Trees → Trees → Type 0
+IsOperationThen trees operator operands rest = (items : Trees) × IsListThen trees items rest × (at : Place) × (items ≡ a_word at operator operands)
+
+abbrev mutual
+  -- the first of the trees spells the expression, and the rest follows
+  pub Expresses : Trees → Expr → Trees → Type 0
+  Expresses trees every rest = ((at : Place) × (trees ≡ a_word at (codes "all") rest)) ⊎ IsOperationThen trees (codes "all") none rest
+  Expresses trees (named word) rest = (trees ≡ a_word word.at word.text rest) × (word.text ≢ codes "all")
+  Expresses trees (opposite x) rest = (operands : Trees) × IsOperationThen trees (codes "not") operands rest × Expresses operands x none
+  Expresses trees (both x y) rest = (operands second : Trees) × IsOperationThen trees (codes "and") operands rest × Expresses operands x second × Expresses second y none
+  Expresses trees (either x y) rest = (operands second : Trees) × IsOperationThen trees (codes "or") operands rest × Expresses operands x second × Expresses second y none
+  Expresses trees (one_of x y) rest = (operands second : Trees) × IsOperationThen trees (codes "xor") operands rest × Expresses operands x second × Expresses second y none
+  Expresses trees nothing rest = IsListThen trees none rest
+  Expresses trees (elements x more) rest = (items others : Trees) × IsListThen trees items rest × HasNoOperator items × Expresses items x others × Lists others more
+
+  -- the trees spell the elements of the expression one after the other
+  pub Lists : Trees → Expr → Type 0
+  Lists trees every = ⊥
+  Lists trees (named word) = ⊥
+  Lists trees (opposite x) = ⊥
+  Lists trees (both x y) = ⊥
+  Lists trees (either x y) = ⊥
+  Lists trees (one_of x y) = ⊥
+  Lists trees nothing = trees ≡ none
+  Lists trees (elements x more) = (others : Trees) × Expresses trees x others × Lists others more
+
+-- the words of an expression in the order of the text
+abbrev pub named_words : Expr → List Word
+named_words every = []
+named_words (named word) = word ∷ []
+named_words (opposite x) = named_words x
+named_words (both x y) = named_words x ++ named_words y
+named_words (either x y) = named_words x ++ named_words y
+named_words (one_of x y) = named_words x ++ named_words y
+named_words nothing = []
+named_words (elements x more) = named_words x ++ named_words more

@@ -1,0 +1,148 @@
+-- What an edit of the store leads to.
+use Rattle.std.specs.Prelude.{◌≡◌, ◌⊎◌, ℕ, Bool, true, false, not, ◌&&◌, ◌||◌, ◌==◌, nat_le, nat_lt, List, [], ◌∷◌, length, codes, bytes_eq, decimal, Option, Some, None, IsTrue, if◌then◌else◌}
+use Rattle.std.specs.List.{list_all, list_any}
+use Rattle.cil_specs.specs.Place.{Place}
+use Rattle.cil_specs.specs.TextFault.{TextFault, unsupported, IsNoLater}
+use Rattle.cil_specs.specs.TextFault as text_fault
+use Rattle.cil_specs.specs.Trees.{Trees, none, a_word, a_string, a_list, Reads}
+use Rattle.cil_specs.specs.Reading.{IsReadingFault}
+use Rattle.cil_specs.specs.Names.{is_letter, is_digit}
+use Rattle.cil_specs.specs.Statements.{Statements}
+use Rattle.cil_specs.specs.Shape.{Shapes, IsFirstShapeFault}
+use Rattle.cil_specs.specs.Joined.{Module, Placed, joined}
+use Rattle.cil_specs.specs.Lookup.{Optionals}
+use Rattle.cil_specs.specs.PolicyFault.{PolicyFault, IsFirst, Compiles}
+use Rattle.cil_specs.specs.PolicyFault as policy_fault
+use Rattle.cil_specs.specs.Rule.{Rule, rules_of}
+use Rattle.cil_specs.specs.Store.{Entry, Store, put, active}
+
+-- until optionals are compiled there are none, and each counts as kept
+abbrev pub every_optional : Optionals
+every_optional module_name offset = true
+
+-- the words of the statements that are compiled so far
+abbrev pub compiled_words : List (List ℕ)
+compiled_words = codes "class" ∷ codes "type" ∷ codes "allow" ∷ []
+
+abbrev pub is_dotted : List ℕ → Bool
+is_dotted text = list_any (λ b. b == 46) text
+
+-- whether one of the words is self or has a dot
+abbrev pub has_later_word : Trees → Bool
+has_later_word none = false
+has_later_word (a_word at text rest) = (bytes_eq text (codes "self") || is_dotted text) || has_later_word rest
+has_later_word (a_string at text rest) = has_later_word rest
+has_later_word (a_list at end items rest) = has_later_word items || has_later_word rest
+
+-- whether a statement that begins with this word is one that isn't compiled yet
+abbrev pub is_later : List ℕ → Trees → Bool
+is_later keyword operands = not (list_any (bytes_eq keyword) compiled_words) || has_later_word operands
+
+-- a statement that isn't compiled yet is a fault at its first word
+abbrev pub IsLaterFault : Trees → TextFault → Type 0
+IsLaterFault none fault = ⊥
+IsLaterFault (a_word at text rest) fault = IsLaterFault rest fault
+IsLaterFault (a_string at text rest) fault = IsLaterFault rest fault
+IsLaterFault (a_list at end none rest) fault = IsLaterFault rest fault
+IsLaterFault (a_list at end (a_word place text operands) rest) fault =
+    (IsTrue (is_later text operands) × (fault ≡ record { kind = unsupported; at = place; word = text })) ⊎ IsLaterFault rest fault
+IsLaterFault (a_list at end (a_string place text more) rest) fault = IsLaterFault rest fault
+IsLaterFault (a_list at end (a_list place last items more) rest) fault = IsLaterFault rest fault
+
+-- the first of them, in trees that spell statements
+pub record IsFirstLaterFault (trees : Trees) (fault : TextFault) : Type 0 where
+  pub is : IsLaterFault trees fault
+  pub first : (other : TextFault) → IsLaterFault trees other → IsNoLater fault other
+
+-- the text spells the statements, all of which are compiled
+pub record IsModuleText (bytes : List ℕ) (statements : Statements) : Type 0 where
+  pub trees : Trees
+  pub reads : Reads bytes trees
+  pub shapes : Shapes false trees statements
+  pub compiled : (fault : TextFault) → IsLaterFault trees fault → ⊥
+
+-- the fault of a text: that of reading it; or else the first of its shape; or else the first statement that isn't compiled
+pub data IsTextFault (bytes : List ℕ) (fault : TextFault) : Type 0 where
+  in_reading : IsReadingFault bytes fault → IsTextFault bytes fault
+  in_shape : (trees : Trees) → Reads bytes trees → IsFirstShapeFault trees fault → IsTextFault bytes fault
+  not_compiled : (trees : Trees) (statements : Statements) → Reads bytes trees → Shapes false trees statements → IsFirstLaterFault trees fault → IsTextFault bytes fault
+
+-- the modules of entries, by the entries' names and texts
+abbrev pub AreModules : List Entry → List Module → Type 0
+AreModules [] [] = Unit {0}
+AreModules (e ∷ entries) (m ∷ modules) = (m.name ≡ e.name) × IsModuleText e.text m.statements × AreModules entries modules
+AreModules [] (m ∷ modules) = ⊥
+AreModules (e ∷ entries) [] = ⊥
+
+-- the joined policy of a store is that of its active entries
+abbrev pub IsPolicyOf : Store → List Placed → Type 0
+IsPolicyOf store policy = (modules : List Module) × AreModules (active store) modules × (policy ≡ joined modules)
+
+-- the rules of a store, whose policy compiles
+pub record AreRulesOf (store : Store) (rules : List Rule) : Type 0 where
+  pub policy : List Placed
+  pub is_policy : IsPolicyOf store policy
+  pub compiles : Compiles every_optional policy
+  pub are_rules : rules ≡ rules_of every_optional policy
+
+pub data Edit : Type 0 where
+  install : List ℕ → ℕ → List ℕ → Edit
+
+-- Why an edit is refused: by the store, with a code and a word; by a text or the policy, with a code, a module, a place and a
+-- word; or for want of memory.
+pub data Refusal : Type 0 where
+  by_store : ℕ → List ℕ → Refusal
+  at_place : ℕ → List ℕ → Place → List ℕ → Refusal
+  for_memory : Refusal
+
+abbrev pub begins_module_name : ℕ → Bool
+begins_module_name b = is_letter b || (is_digit b || b == 95)
+
+-- a letter, a digit or _, then letters, digits, _, - or dots, at most 255 bytes
+abbrev pub is_module_name : List ℕ → Bool
+is_module_name [] = false
+is_module_name (b ∷ bytes) = begins_module_name b && (list_all (λ c. begins_module_name c || (c == 45 || c == 46)) bytes && nat_le (length (b ∷ bytes)) 255)
+
+-- the store after an edit
+abbrev pub changed : Store → Edit → Store
+changed store (install name priority text) = record { entries = put (record { name = name; priority = priority; text = text }) store.entries; disabled = store.disabled }
+
+-- How the store refuses an install of a text of some length, by the first that applies: a bad module name, a priority other
+-- than 400, a text of more than 2 ^ 24 bytes.
+abbrev pub install_refusal : List ℕ → ℕ → ℕ → Option Refusal
+install_refusal name priority size =
+    if not (is_module_name name) then Some (by_store 30 name)
+    else if not (priority == 400) then Some (by_store 31 (decimal priority))
+    else if nat_lt 16777216 size then Some (by_store 34 name) else None
+
+-- how the store refuses an edit
+abbrev pub store_refusal : Store → Edit → Option Refusal
+store_refusal store (install name priority text) = install_refusal name priority (length text)
+
+-- the text of an edit has a fault
+abbrev pub IsEditFault : Edit → Refusal → Type 0
+IsEditFault (install name priority text) refusal = (fault : TextFault) × IsTextFault text fault × (refusal ≡ at_place (text_fault.code_of fault.kind) name fault.at fault.word)
+
+-- the text of an edit spells a module
+abbrev pub HasGoodText : Edit → Type 0
+HasGoodText (install name priority text) = (statements : Statements) × IsModuleText text statements
+
+-- the policy of a store has a first fault
+abbrev pub IsPolicyRefusal : Store → Refusal → Type 0
+IsPolicyRefusal store refusal = (policy : List Placed) × (fault : PolicyFault) × IsPolicyOf store policy × IsFirst every_optional policy fault
+    × (refusal ≡ at_place (policy_fault.code_of fault.kind) fault.module_name fault.at fault.word)
+
+-- an edit is accepted, and leads to another store; or it is refused
+pub data Judgement : Type 0 where
+  accepts : Store → Judgement
+  refuses : Refusal → Judgement
+
+-- What is judged of an edit: the first that applies of a refusal of the store, the fault of the text, and the first fault of
+-- the policy of the changed store; or else the changed store.
+pub data Next (store : Store) (edit : Edit) (judgement : Judgement) : Type 0 where
+  bad_store : (refusal : Refusal) → store_refusal store edit ≡ Some refusal → judgement ≡ refuses refusal → Next store edit judgement
+  bad_text : (refusal : Refusal) → store_refusal store edit ≡ None → IsEditFault edit refusal → judgement ≡ refuses refusal → Next store edit judgement
+  bad_policy : (refusal : Refusal) → store_refusal store edit ≡ None → HasGoodText edit → IsPolicyRefusal (changed store edit) refusal → judgement ≡ refuses refusal
+      → Next store edit judgement
+  good : (rules : List Rule) → store_refusal store edit ≡ None → HasGoodText edit → AreRulesOf (changed store edit) rules → judgement ≡ accepts (changed store edit)
+      → Next store edit judgement

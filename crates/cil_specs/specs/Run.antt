@@ -1,0 +1,42 @@
+-- Calls of an engine that is seen as its store, and their replies.
+use Rattle.std.specs.Prelude.{◌≡◌, ◌⊎◌, List, [], ◌∷◌}
+use Rattle.cil_specs.specs.Rule.{Rule}
+use Rattle.cil_specs.specs.Report.{Changes, AreChanges, Row, AreRows}
+use Rattle.cil_specs.specs.Store.{Store}
+use Rattle.cil_specs.specs.Next.{Edit, Refusal, for_memory, accepts, refuses, Next, AreRulesOf}
+
+-- an edit, or the question for the listing
+pub data Call : Type 0 where
+  an_edit : Edit → Call
+  ask_rows : Call
+
+pub data Reply : Type 0 where
+  changed_by : Changes → Reply
+  refused : Refusal → Reply
+  listed : List Row → Reply
+
+-- The accepted edit moves to the next store, and the reply is the difference of the two tables.
+pub record IsAccepted (old : Store) (edit : Edit) (changes : Changes) (new : Store) : Type 0 where
+  pub next : Next old edit (accepts new)
+  pub before : List Rule
+  pub after : List Rule
+  pub were_rules : AreRulesOf old before
+  pub are_rules : AreRulesOf new after
+  pub are_changes : AreChanges before after changes
+
+-- The reply to a call, and the store after it. A refused edit and a question keep the store; at any call memory may run out,
+-- which keeps it too.
+abbrev pub Step : Store → Call → Reply → Store → Type 0
+Step old (an_edit edit) (changed_by changes) new = IsAccepted old edit changes new
+Step old (an_edit edit) (refused refusal) new = ((refusal ≡ for_memory) ⊎ Next old edit (refuses refusal)) × (new ≡ old)
+Step old (an_edit edit) (listed rows) new = ⊥
+Step old ask_rows (changed_by changes) new = ⊥
+Step old ask_rows (refused refusal) new = (refusal ≡ for_memory) × (new ≡ old)
+Step old ask_rows (listed listing) new = (rules : List Rule) × AreRulesOf old rules × AreRows rules listing × (new ≡ old)
+
+-- the replies to the calls, one step after another
+abbrev pub Run : Store → List Call → List Reply → Store → Type 0
+Run old [] [] new = new ≡ old
+Run old (call ∷ calls) (reply ∷ replies) new = (mid : Store) × Step old call reply mid × Run mid calls replies new
+Run old [] (reply ∷ replies) new = ⊥
+Run old (call ∷ calls) [] new = ⊥

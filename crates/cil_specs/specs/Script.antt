@@ -1,0 +1,82 @@
+-- Scripts: their commands, and the answers.
+use Rattle.std.specs.Prelude.{◌≡◌, ◌≢◌, ℕ, ◌+◌, ◌<◌, ◌≤◌, Bool, true, false, ◌&&◌, ◌==◌, nat_le, List, [], ◌∷◌, ◌++◌, flat_map, length, codes, decimal, count_by, IsTrue}
+use Rattle.std.specs.List.{list_all, AllByRecursion}
+use Rattle.cil_specs.specs.Next.{install, Refusal, by_store, at_place, for_memory}
+use Rattle.cil_specs.specs.Report.{row_line}
+use Rattle.cil_specs.specs.Run.{Call, an_edit, ask_rows, Reply, changed_by, refused, listed}
+
+-- a byte of 0x21 to 0x7E
+abbrev pub is_shown : ℕ → Bool
+is_shown b = nat_le 33 b && nat_le b 126
+
+-- the line of a command, without its line feed
+abbrev pub line_of : Call → List ℕ
+line_of (an_edit (install name priority text)) = codes "install " ++ name ++ codes " " ++ decimal priority ++ codes " " ++ decimal (length text)
+line_of ask_rows = codes "rules"
+
+-- the bytes of a command: its line, and behind that of an install its text; a line feed stands behind each
+abbrev pub command : Call → List ℕ
+command (an_edit (install name priority text)) = line_of (an_edit (install name priority text)) ++ 10 ∷ (text ++ 10 ∷ [])
+command ask_rows = line_of ask_rows ++ 10 ∷ []
+
+-- a name has shown bytes alone, and a number at most nine digits
+abbrev pub HasGoodWords : Call → Type 0
+HasGoodWords (an_edit (install name priority text)) = (name ≢ []) × IsTrue (list_all is_shown name) × (priority < 1000000000) × (length text < 1000000000)
+HasGoodWords ask_rows = Unit {0}
+
+-- a command that a script may have: its line is at most 4096 bytes long
+abbrev pub IsCommand : Call → Type 0
+IsCommand call = HasGoodWords call × (length (line_of call) ≤ 4096)
+
+-- the last command of a script may lack its line feed, but for an install
+abbrev pub MayLackItsEnd : Call → Type 0
+MayLackItsEnd (an_edit edit) = ⊥
+MayLackItsEnd ask_rows = Unit {0}
+
+-- no command begins with these bytes, not even one that lacks its line feed
+abbrev pub IsNoCommand : List ℕ → Type 0
+IsNoCommand bytes = ((call : Call) (rest : List ℕ) → IsCommand call → bytes ≡ command call ++ rest → ⊥)
+    × ((call : Call) → IsCommand call → MayLackItsEnd call → bytes ≡ line_of call → ⊥)
+
+-- How a script ends: with its last command, or at a line that is no command, whose number counts the line feeds before it.
+pub data End : Type 0 where
+  ends : End
+  stops : ℕ → End
+
+-- what stands behind commands of these bytes
+abbrev pub IsEnd : List ℕ → List ℕ → End → Type 0
+IsEnd before rest ends = rest ≡ []
+IsEnd before rest (stops line) = (rest ≢ []) × IsNoCommand rest × (line ≡ 1 + count_by (λ b. b == 10) before)
+
+-- the script is these commands, and ends so
+pub data Commands (script : List ℕ) (calls : List Call) (end : End) : Type 0 where
+  whole : AllByRecursion IsCommand calls → (rest : List ℕ) → script ≡ flat_map command calls ++ rest → IsEnd (flat_map command calls) rest end → Commands script calls end
+  without_end : (first : List Call) (last : Call) → AllByRecursion IsCommand calls → calls ≡ first ++ last ∷ [] → MayLackItsEnd last
+      → script ≡ flat_map command first ++ line_of last → end ≡ ends → Commands script calls end
+
+-- the line of a refusal
+abbrev pub refusal_line : Refusal → List ℕ
+refusal_line (by_store code word) = codes "refused " ++ decimal code ++ codes " " ++ word ++ codes "\n"
+refusal_line (at_place code module_name at word) = codes "refused " ++ decimal code ++ codes " " ++ module_name ++ codes ":" ++ decimal at.line ++ codes ":" ++ decimal at.column
+    ++ codes " " ++ word ++ codes "\n"
+refusal_line for_memory = codes "refused 60 memory\n"
+
+-- the bytes that answer a command
+abbrev pub answer : Reply → List ℕ
+answer (changed_by changes) = codes "ok " ++ decimal (length changes.added) ++ codes " " ++ decimal (length changes.removed) ++ codes "\n"
+answer (refused refusal) = refusal_line refusal
+answer (listed listing) = flat_map row_line listing ++ codes "end " ++ decimal (length listing) ++ codes "\n"
+
+-- what is written behind the answers
+abbrev pub last_line : End → List ℕ
+last_line ends = []
+last_line (stops line) = codes "script " ++ decimal line ++ codes "\n"
+
+abbrev pub answers : List Reply → End → List ℕ
+answers replies end = flat_map answer replies ++ last_line end
+
+-- whether a reply is a refusal
+abbrev pub is_refusal : Reply → Bool
+is_refusal (changed_by changes) = false
+is_refusal (refused refusal) = true
+is_refusal (listed listing) = false

@@ -1,0 +1,95 @@
+-- Statements, and their words.
+use Rattle.std.specs.Prelude.{ℕ, ◌+◌, ◌&&◌, nat_le, Bool, true, false, List, [], ◌∷◌, ◌++◌, map, codes}
+use Rattle.cil_specs.specs.Place.{Place}
+use Rattle.cil_specs.specs.Names.{Word, Role, declared, referred}
+use Rattle.cil_specs.specs.Expr.{Expr, named_words}
+
+pub data RuleKind : Type 0 where
+  allow : RuleKind
+  auditallow : RuleKind
+  dontaudit : RuleKind
+  neverallow : RuleKind
+
+-- a rule's target: each source itself, or what a word names
+pub data Target : Type 0 where
+  itself : Target
+  the_named : Word → Target
+
+-- What a statement says, but for the statements inside a block or an optional.
+pub data Form : Type 0 where
+  block : Word → Form
+  optional : Word → Form
+  type_name : Word → Form
+  type_alias : Word → Form
+  alias_actual : Word → Word → Form
+  type_attribute : Word → Form
+  attribute_set : Word → Expr → Form
+  common : Word → List Word → Form
+  class : Word → List Word → Form
+  class_common : Word → Word → Form
+  class_order : List Word → Form
+  rule : RuleKind → Word → Target → Word → List Word → Form
+
+-- Statements one after the other: none, or a first statement, with the place of its ( and what it says and the statements
+-- inside it, and the statements after it.
+pub data Statements : Type 0 where
+  no_more : Statements
+  statement : Place → Form → Statements → Statements → Statements
+
+-- the first word of a rule
+abbrev pub rule_word : RuleKind → List ℕ
+rule_word allow = codes "allow"
+rule_word auditallow = codes "auditallow"
+rule_word dontaudit = codes "dontaudit"
+rule_word neverallow = codes "neverallow"
+
+abbrev pub as_declared : Word → Role × Word
+as_declared word = (declared, word)
+
+abbrev pub as_referred : Word → Role × Word
+as_referred word = (referred, word)
+
+-- the word of a target
+abbrev pub target_words : Target → List Word
+target_words itself = []
+target_words (the_named word) = word ∷ []
+
+-- the words in the place of a name, a reference or a permission, in the order of the text
+abbrev pub words_of : Form → List (Role × Word)
+words_of (block id) = as_declared id ∷ []
+words_of (optional id) = as_declared id ∷ []
+words_of (type_name id) = as_declared id ∷ []
+words_of (type_alias id) = as_declared id ∷ []
+words_of (alias_actual alias actual) = as_referred alias ∷ as_referred actual ∷ []
+words_of (type_attribute id) = as_declared id ∷ []
+words_of (attribute_set attribute expr) = as_referred attribute ∷ map as_referred (named_words expr)
+words_of (common id permissions) = as_declared id ∷ map as_declared permissions
+words_of (class id permissions) = as_declared id ∷ map as_declared permissions
+words_of (class_common the_class the_common) = as_referred the_class ∷ as_referred the_common ∷ []
+words_of (class_order classes) = map as_referred classes
+words_of (rule kind source target the_class permissions) = as_referred source ∷ (map as_referred (target_words target) ++ (as_referred the_class ∷ map as_declared permissions))
+
+-- whether a statement is an optional
+abbrev pub is_optional : Form → Bool
+is_optional (block id) = false
+is_optional (optional id) = true
+is_optional (type_name id) = false
+is_optional (type_alias id) = false
+is_optional (alias_actual alias actual) = false
+is_optional (type_attribute id) = false
+is_optional (attribute_set attribute expr) = false
+is_optional (common id permissions) = false
+is_optional (class id permissions) = false
+is_optional (class_common the_class the_common) = false
+is_optional (class_order classes) = false
+is_optional (rule kind source target the_class permissions) = false
+
+-- the offsets of all words of statements, in the order of the text
+abbrev pub word_offsets : Statements → List ℕ
+word_offsets no_more = []
+word_offsets (statement at form body more) = map (λ (role, word). word.at.offset) (words_of form) ++ (word_offsets body ++ word_offsets more)
+
+-- whether numbers rise, from one on
+abbrev pub rise_from : ℕ → List ℕ → Bool
+rise_from low [] = true
+rise_from low (n ∷ numbers) = nat_le low n && rise_from (n + 1) numbers

@@ -1,0 +1,18 @@
+//! Reads CIL texts into trees, and recognises the statements that the trees spell.
+#![tactic(auto)]
+
+mod fault;
+mod forest;
+mod module;
+mod place;
+mod statement;
+mod tree;
+mod word;
+
+pub use fault::{ShownWord, TextFault, TextFaultKind};
+pub use forest::Forest;
+pub use module::Module;
+pub use place::Place;
+pub use statement::{Expr, RuleKind, Statement, Target};
+pub use tree::Tree;
+pub use word::Word;

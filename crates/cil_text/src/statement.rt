@@ -1,0 +1,100 @@
+//! The statements of CIL that cilsem knows.
+
+use crate::place::Place;
+use crate::word::Word;
+use std::alloc::{Allocator, Global};
+
+/// The kinds of access vector rules (CIL Reference Guide, "Access Vector Rules").
+#[derive(Clone, Copy, Debug, PartialEq, Eq, PartialOrd, Ord)]
+pub enum RuleKind {
+    Allow,
+    AuditAllow,
+    DontAudit,
+    NeverAllow,
+}
+
+/// The target of a rule: each source itself, or what a name leads to.
+#[derive(Clone, Copy, Debug)]
+pub enum Target<'a> {
+    Itself,
+    Named(Word<'a>),
+}
+
+/// A set expression (CIL Reference Guide, "typeattributeset").
+#[derive(Debug, Drop)]
+pub enum Expr<'a, A: Allocator = Global> {
+    /// Every type.
+    All,
+    Name(Word<'a>),
+    Not(Box<Expr<'a, A>, A>),
+    And(Box<Expr<'a, A>, A>, Box<Expr<'a, A>, A>),
+    Or(Box<Expr<'a, A>, A>, Box<Expr<'a, A>, A>),
+    Xor(Box<Expr<'a, A>, A>, Box<Expr<'a, A>, A>),
+    /// The union of the elements.
+    Union(Vec<Expr<'a, A>, A>),
+}
+
+/// A statement, with the place of its `(`. Blocks and optionals hold the statements inside them.
+#[derive(Debug, Drop)]
+pub enum Statement<'a, A: Allocator = Global> {
+    Block {
+        at: Place,
+        id: Word<'a>,
+        body: Vec<Statement<'a, A>, A>,
+    },
+    Optional {
+        at: Place,
+        id: Word<'a>,
+        body: Vec<Statement<'a, A>, A>,
+    },
+    TypeName {
+        at: Place,
+        id: Word<'a>,
+    },
+    TypeAlias {
+        at: Place,
+        id: Word<'a>,
+    },
+    TypeAliasActual {
+        at: Place,
+        alias: Word<'a>,
+        actual: Word<'a>,
+    },
+    TypeAttribute {
+        at: Place,
+        id: Word<'a>,
+    },
+    TypeAttributeSet {
+        at: Place,
+        attribute: Word<'a>,
+        expr: Expr<'a, A>,
+    },
+    Common {
+        at: Place,
+        id: Word<'a>,
+        permissions: Vec<Word<'a>, A>,
+    },
+    Class {
+        at: Place,
+        id: Word<'a>,
+        permissions: Vec<Word<'a>, A>,
+    },
+    ClassCommon {
+        at: Place,
+        class: Word<'a>,
+        common: Word<'a>,
+    },
+    ClassOrder {
+        at: Place,
+        classes: Vec<Word<'a>, A>,
+    },
+    /// `allow`, `auditallow`, `dontaudit` and `neverallow`.
+    Rule {
+        at: Place,
+        kind: RuleKind,
+        source: Word<'a>,
+        target: Target<'a>,
+        class: Word<'a>,
+        permissions: Vec<Word<'a>, A>,
+    },
+}
