@@ -4,7 +4,7 @@ use Rattle.std.specs.List.{list_any, AllByRecursion}
 use Rattle.cil_specs.specs.Place.{Place}
 use Rattle.cil_specs.specs.TextFault.{TextFaultKind, unsupported, misshapen, not_in_optional, TextFault, IsNoLater}
 use Rattle.cil_specs.specs.Names.{Word, Role, name_fault}
-use Rattle.cil_specs.specs.Trees.{Trees, none, a_word, a_string, a_list}
+use Rattle.cil_specs.specs.Trees.{Trees, none, a_word, a_string, a_list, are_lists}
 use Rattle.cil_specs.specs.Expr.{Expresses, IsListThen}
 use Rattle.cil_specs.specs.Statements.{rule_word, Target, itself, the_named, Form, block, optional, type_name, type_alias, alias_actual, type_attribute, attribute_set, common, class, class_common, class_order, rule, words_of, is_optional, Statements, no_more, statement}
 
@@ -25,13 +25,6 @@ Begins trees keyword operands = (at : Place) × (trees ≡ a_word at keyword ope
 abbrev pub IsWordList : Trees → List Word → Type 0
 IsWordList trees words = IsListThen trees (all_words words) none
 
--- each tree is a list
-abbrev pub AreLists : Trees → Type 0
-AreLists none = Unit {0}
-AreLists (a_word at text rest) = ⊥
-AreLists (a_string at text rest) = ⊥
-AreLists (a_list at end items rest) = AreLists rest
-
 -- the trees are a target, and then the rest
 abbrev pub IsTargetThen : Trees → Target → Trees → Type 0
 IsTargetThen trees itself rest = (at : Place) × (trees ≡ a_word at (codes "self") rest)
@@ -48,8 +41,8 @@ IsClassAndPermissions trees the_class permissions = (items permission_list : Tre
 
 -- The elements of a statement's list fit the form, and the last are its inner statements; form by form.
 abbrev pub Fits : Trees → Form → Trees → Type 0
-Fits trees (block id) inner = Begins trees (codes "block") (put_word id inner) × AreLists inner
-Fits trees (optional id) inner = Begins trees (codes "optional") (put_word id inner) × AreLists inner
+Fits trees (block id) inner = Begins trees (codes "block") (put_word id inner) × IsTrue (are_lists inner)
+Fits trees (optional id) inner = Begins trees (codes "optional") (put_word id inner) × IsTrue (are_lists inner)
 Fits trees (type_name id) inner = Begins trees (codes "type") (put_word id none) × (inner ≡ none)
 Fits trees (type_alias id) inner = Begins trees (codes "typealias") (put_word id none) × (inner ≡ none)
 Fits trees (alias_actual alias actual) inner = Begins trees (codes "typealiasactual") (put_word alias (put_word actual none)) × (inner ≡ none)
@@ -133,7 +126,7 @@ abbrev mutual
   -- those of the statements behind the name of a block or an optional, where each of them is a list
   pub IsBodyFault : Bool → Trees → TextFault → Type 0
   IsBodyFault inside none fault = ⊥
-  IsBodyFault inside (a_word at id rest) fault = AreLists rest × IsShapeFault inside rest fault
+  IsBodyFault inside (a_word at id rest) fault = IsTrue (are_lists rest) × IsShapeFault inside rest fault
   IsBodyFault inside (a_string at text rest) fault = ⊥
   IsBodyFault inside (a_list at end items rest) fault = ⊥
 

@@ -1,5 +1,5 @@
 -- Trees of words, strings and lists, and the text that spells them.
-use Rattle.std.specs.Prelude.{◌≡◌, ℕ, ◌+◌, ◌-◌, Bool, ◌&&◌, nat_le, nat_lt, List, [], ◌∷◌, ◌++◌, length}
+use Rattle.std.specs.Prelude.{◌≡◌, ℕ, ◌+◌, ◌-◌, Bool, true, false, ◌&&◌, nat_le, nat_lt, List, [], ◌∷◌, ◌++◌, length}
 use Rattle.cil_specs.specs.Place.{Place, place_at}
 use Rattle.cil_specs.specs.Parts.{Part, white, comment, word, string, opening, closing, spelling, IsClean}
 
@@ -38,6 +38,13 @@ told bytes at (closing ∷ parts) = closing_before (at + 1) ∷ told bytes (at +
 -- the bytes spell the trees: they are a clean front with no list open, and but for white bytes and comments its parts are the trees
 abbrev pub Reads : List ℕ → Trees → Type 0
 Reads bytes trees = (parts : List Part) × IsClean bytes (length bytes) [] parts × (told bytes 0 parts ≡ marks trees)
+
+-- whether each tree is a list
+abbrev pub are_lists : Trees → Bool
+are_lists none = true
+are_lists (a_word at bytes rest) = false
+are_lists (a_string at bytes rest) = false
+are_lists (a_list at end items rest) = are_lists rest
 
 -- whether the trees stand one behind the other from one offset up to another, each with a byte at least, and those of a list between its ( and its )
 abbrev pub in_order : ℕ → Trees → ℕ → Bool
