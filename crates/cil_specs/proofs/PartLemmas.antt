@@ -1,7 +1,9 @@
 -- Parts one after the other: a clean front that grows by a part, and how long its parts are.
 use Rattle.std.proofs.Common.{◌≡◌, ℕ, ◌+◌, ◌<◌, ◌≤◌, List, [], ◌∷◌, ◌++◌, length, drop, refl, ap, sym, ◌∙◌, subst, append_assoc, length-append, length-drop, arith}
 use Rattle.cil_specs.specs.Parts.{Part, white, comment, word, string, opening, closing, spelling, IsPart, EndsBefore, Splits, Moves, Nests, IsClean}
-use Rattle.cil_specs.specs.Trees.{told}
+use Rattle.cil_specs.specs.Place.{place_at}
+use Rattle.cil_specs.specs.Trees.{Mark, word_at, string_at, opening_at, closing_before, told}
+use Rattle.std.specs.List.{AllByRecursion}
 
 -- how many bytes the parts have
 abbrev pub size : List Part → ℕ
@@ -78,3 +80,23 @@ told-clean bytes at lists parts part clean =
 -- the empty front
 pub clean-none : (bytes : List ℕ) → IsClean bytes 0 [] []
 clean-none bytes = record { within = omega arith; splits = refl; nests = refl }
+
+-- the place of an opening mark is that of its offset
+abbrev pub IsRightMark : List ℕ → Mark → Type 0
+IsRightMark bytes (word_at p text) = Unit {0}
+IsRightMark bytes (string_at p text) = Unit {0}
+IsRightMark bytes (opening_at p) = p ≡ place_at bytes p.offset
+IsRightMark bytes (closing_before end) = Unit {0}
+
+pub told-right : (bytes : List ℕ) (at : ℕ) (parts : List Part) → AllByRecursion (IsRightMark bytes) (told bytes at parts)
+told-right bytes at [] = tt
+told-right bytes at (white b ∷ parts) = told-right bytes (at + 1) parts
+told-right bytes at (comment text ∷ parts) = told-right bytes (at + length (spelling (comment text))) parts
+told-right bytes at (word text ∷ parts) = (tt, told-right bytes (at + length text) parts)
+told-right bytes at (string text ∷ parts) = (tt, told-right bytes (at + length (spelling (string text))) parts)
+told-right bytes at (opening ∷ parts) = (refl, told-right bytes (at + 1) parts)
+told-right bytes at (closing ∷ parts) = (tt, told-right bytes (at + 1) parts)
+
+pub all-middle : {X : Type 0} (P : X → Type 0) (xs : List X) (x : X) (ys : List X) → AllByRecursion P (xs ++ x ∷ ys) → P x
+all-middle P [] x ys all = all.0
+all-middle P (y ∷ more) x ys all = all-middle P more x ys all.1

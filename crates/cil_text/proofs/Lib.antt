@@ -1,0 +1,4 @@
+pub mod Marks
+pub mod Reading
+pub mod Going
+pub mod Ends

@@ -1,0 +1,30 @@
+use Rattle.std.proofs.Common.{◌≡◌, ◌<◌, ◌+◌, ◌∙◌, ◌∷◌, [], List, ℕ, length, take, drop, get_or, refl, ap, sym, subst, add-zero, length-drop, rules, arith}
+use Rattle.std.specs.List.{prefix_len}
+use Rattle.cil_specs.specs.Bytes.{is_string_byte}
+use Rattle.cil_text.specs.Reader.{IsStopped, open_lists}
+use Rattle.cil_text.proofs.Reading.{placed-column}
+use Rattle.cil_text.proofs.Going.{goes-string, bare-string, open-none}
+use Rattle.cil_text.proofs.reader.Reader.take_string.Goals as goal
+
+pub returns-then-is_empty-clause-err : goal.returns-then-is_empty-clause-err
+returns-then-is_empty-clause-err g c =
+    let inside = c.rest-inside.ensures in
+    let found = c.in-Some.ensures.some in
+    let none : length c.args.self.now.outer.items ≡ 0 = search rules in
+    subst (IsStopped c.args.self.now) (sym c.fault-then-is_empty.ensures)
+        (bare-string c.args.self.now.text.now (open_lists c.args.self.now) c.args.self.now.at.offset c.in-Some.len (open-none c.args.self.now.outer.items none) c.requires.within c.requires.byte
+        (found.0 ∙ ap (prefix_len is_string_byte) inside) (subst (λ (l : List ℕ). c.in-Some.len < length l) inside found.1) (sym (ap (λ l. get_or l c.in-Some.len 0) inside) ∙ found.2), refl)
+
+pub to_right-self-requires-clause-column : goal.to_right-self-requires-clause-column
+to_right-self-requires-clause-column g c =
+    let found = c.in-Some.ensures.some in
+    omega (arith, found.1, ap length c.rest-inside.ensures, length-drop (c.args.self.now.at.offset + 1) c.args.self.now.text.now, c.requires.placed.small, placed-column c.args.self.now c.requires.placed)
+
+pub returns-clause-ok : goal.returns-clause-ok
+returns-clause-ok g c =
+    let inside = c.rest-inside.ensures in
+    let found = c.in-Some.ensures.some in
+    let here : c.rest.result.now ≡ drop c.args.self.now.at.offset c.args.self.now.text.now = c.rest.ensures ∙ ap (λ n. drop n c.args.self.now.text.now) (add-zero c.args.self.now.at.offset) in
+    goes-string c.args.self.now (record { text = c.args.self.now.text; at = c.to_right-self.result; outer = c.args.self.now.outer; current = c.push.new.self }) c.in-Some.len _
+    c.requires.placed c.requires.within c.requires.byte (found.0 ∙ ap (prefix_len is_string_byte) inside) (subst (λ (l : List ℕ). c.in-Some.len < length l) inside found.1) (sym (ap (λ l. get_or l c.in-Some.len 0) inside) ∙ found.2)
+    (ap (take (c.in-Some.len + 2)) here) (search rules) c.to_right-self.ensures refl c.in_ok-push.ensures.items refl

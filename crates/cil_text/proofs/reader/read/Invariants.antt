@@ -1,0 +1,14 @@
+use Rattle.std.proofs.Common.{◌≡◌, ◌-◌, List, length}
+use Rattle.cil_specs.specs.Parts.{Part}
+use Rattle.cil_text.specs.Reader.{IsPlaced, HasRead}
+use Rattle.cil_text.proofs.reader.read.Given as goal
+
+abbrev pub invariant-loop-reader : goal.invariant-loop-reader
+invariant-loop-reader g l = record {
+  same : l.reader.text.now ≡ l.text;
+  placed : IsPlaced l.reader;
+  read : (parts : List Part) × HasRead l.reader parts;
+}
+
+abbrev pub decreases-loop-reader : goal.decreases-loop-reader
+decreases-loop-reader g l = length l.text - l.reader.at.offset
