@@ -2,3 +2,6 @@ pub mod PlaceLemmas
 pub mod PartLemmas
 pub mod Runs
 pub mod Order
+pub mod Fronts
+pub mod Stuck
+pub mod OneReading

@@ -71,6 +71,10 @@ abbrev pub FaultIs : TextFault → (spec_faults.TextFault → Type 0) → Type 0
 FaultIs Memory P = Unit {0}
 FaultIs (Found kind at word) P = P (record { kind = kind_of kind; at = place_of at; word = shown word })
 
+abbrev pub IsMemory : TextFault → Type 0
+IsMemory Memory = Unit {0}
+IsMemory (Found kind at word) = ⊥
+
 abbrev pub rule_kind_of : RuleKind → spec_statements.RuleKind
 rule_kind_of Allow = allow
 rule_kind_of AuditAllow = auditallow

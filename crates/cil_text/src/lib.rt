@@ -3,6 +3,7 @@
 
 mod fault;
 mod forest;
+mod laws;
 mod module;
 mod place;
 mod reader;
@@ -12,6 +13,9 @@ mod word;
 
 pub use fault::{ShownWord, TextFault, TextFaultKind};
 pub use forest::Forest;
+pub use laws::{
+    faults_are_stuck, no_fault_beside_a_reading, one_reading, one_reading_fault,
+};
 pub use module::Module;
 pub use place::Place;
 pub use reader::read;

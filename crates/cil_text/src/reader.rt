@@ -283,12 +283,12 @@ impl<'a, A: Allocator + Copy> Reader<'a, A> {
 }
 
 ghost use Rattle.std.specs.Prelude.{◌≤◌, IfOk, IfErr};
-ghost use Rattle.cil_specs.specs.Trees.{Reads};
+ghost use Rattle.cil_specs.specs.Trees.{Trees, Reads};
 ghost use Rattle.cil_specs.specs.Reading.{IsReadingFault};
-ghost use Rattle.cil_text.specs.Image.{trees_of, FaultIs};
+ghost use Rattle.cil_text.specs.Image.{trees_of, FaultIs, IsMemory};
 
-/// The trees that a text spells, or the one fault why it spells none. A text may be any bytes.
-pub fn read<'a, A: Allocator + Copy>(
+/// Goes over a text to its end.
+fn read_parts<'a, A: Allocator + Copy>(
     alloc: A,
     text: &'a [u8],
 ) -> Result<Forest<'a, A>, TextFault<'a>>
@@ -320,4 +320,21 @@ pub fn read<'a, A: Allocator + Copy>(
         }),
         None => Ok(Forest { trees: current }),
     }
+}
+
+/// The trees that a text spells, or the fault why it spells none: any bytes are read or refused. A bad byte, a `)` too
+/// many, an unclosed string, a list too deep and a word outside all lists are faults at the first byte at which no part of
+/// the text goes on; an unclosed list is one only where the text has no other. The CIL Reference Guide has s-expressions
+/// of words and quoted strings with comments behind `;`; the limits, codes and places are this project's own.
+pub fn read<'a, A: Allocator + Copy>(
+    alloc: A,
+    text: &'a [u8],
+) -> Result<Forest<'a, A>, TextFault<'a>>
+    requires { length text.now ≤ 16777216 }
+    ensures ok { IfOk result (λ forest. Reads text.now (trees_of forest.trees.items)) }
+    ensures err { IfErr result (λ fault. FaultIs fault (IsReadingFault text.now)) }
+    // What is spelt so is read, unless memory runs out; a text has one reading or one fault, as the laws say.
+    ensures spelt { (trees : Trees) → Reads text.now trees → IfErr result IsMemory }
+{
+    read_parts(alloc, text)
 }
