@@ -5,3 +5,4 @@ pub mod Order
 pub mod Fronts
 pub mod Stuck
 pub mod OneReading
+pub mod Gaining

@@ -2,3 +2,4 @@ pub mod Marks
 pub mod Reading
 pub mod Going
 pub mod Ends
+pub mod Pieces

@@ -4,9 +4,13 @@
 mod fault;
 mod forest;
 mod laws;
+mod memory_sink;
+mod memory_source;
 mod module;
 mod place;
 mod reader;
+mod sink;
+mod source;
 mod statement;
 mod tree;
 mod word;
@@ -16,9 +20,13 @@ pub use forest::Forest;
 pub use laws::{
     faults_are_stuck, no_fault_beside_a_reading, one_reading, one_reading_fault,
 };
+pub use memory_sink::MemorySink;
+pub use memory_source::MemorySource;
 pub use module::Module;
 pub use place::Place;
 pub use reader::read;
+pub use sink::{Sink, SinkFault, WriterSink, write_all};
+pub use source::{ReaderSource, Source, SourceFault};
 pub use statement::{Expr, RuleKind, Statement, Target};
 pub use tree::Tree;
 pub use word::Word;
