@@ -1,12 +1,12 @@
 -- Orders of names and accesses, the changes between two tables, and the listing.
-use Rattle.std.specs.Prelude.{◌≡◌, ◌≢◌, ◌↔◌, ℕ, Bool, true, false, not, ◌&&◌, List, [], ◌++◌, flat_map, codes, IsTrue, Contains, Any}
+use Rattle.std.specs.Prelude.{◌≡◌, ◌≢◌, ◌↔◌, ℕ, Bool, true, false, not, ◌&&◌, List, [], ◌∷◌, ◌++◌, flat_map, codes, IsTrue, Contains, Any}
 use Rattle.std.specs.List.{AllByRecursion}
 use Rattle.std.specs.List.Sorted.{IsStrictlySortedBy}
-use Rattle.std.specs.Ordering.{nat_cmp, on, then_cmp}
+use Rattle.std.specs.Ordering.{nat_cmp, is_lt, on, then_cmp}
 use Rattle.std.specs.declared.cmp.Ordering.{Ordering}
 use Rattle.std.specs.Cmp.Lexicographic.{slice_cmp}
 use Rattle.cil_specs.specs.Statements.{RuleKind, allow, auditallow, dontaudit, neverallow, rule_word}
-use Rattle.cil_specs.specs.Rule.{Rule, Atom, kind_index, is_in_table}
+use Rattle.cil_specs.specs.Rule.{Atom, kind_index}
 
 -- names by their bytes
 abbrev pub name_cmp : List ℕ → List ℕ → Ordering
@@ -27,9 +27,10 @@ pub record Changes : Type 0 where
   pub added : List Atom
   pub removed : List Atom
 
-pub record AreChanges (old new : List Rule) (changes : Changes) : Type 0 where
-  pub added : AreAtoms (λ a. is_in_table new a && not (is_in_table old a)) changes.added
-  pub removed : AreAtoms (λ a. is_in_table old a && not (is_in_table new a)) changes.removed
+-- the changes from the accesses that pass one test to those that pass another
+pub record AreChanges (old new : Atom → Bool) (changes : Changes) : Type 0 where
+  pub added : AreAtoms (λ a. new a && not (old a)) changes.added
+  pub removed : AreAtoms (λ a. old a && not (new a)) changes.removed
 
 -- a row of the listing: all permissions of one kind, source, target and class
 pub record Row : Type 0 where
@@ -63,13 +64,19 @@ pub record Has (row : Row) (a : Atom) : Type 0 where
   pub the_class : row.the_class ≡ a.the_class
   pub permission : Contains row.permissions a.permission
 
--- The rows join the accesses of the table, but for those of neverallow, by kind, source, target and class.
-pub record AreRows (rules : List Rule) (rows : List Row) : Type 0 where
+-- The rows join the accesses that pass a test, but for those of neverallow, by kind, source, target and class.
+pub record AreRows (test : Atom → Bool) (rows : List Row) : Type 0 where
   pub each : AllByRecursion IsRow rows
   pub ordered : IsStrictlySortedBy row_cmp rows
-  pub exact : (a : Atom) → Any (λ r. Has r a) rows ↔ IsTrue (is_listed a.kind && is_in_table rules a)
+  pub exact : (a : Atom) → Any (λ r. Has r a) rows ↔ IsTrue (is_listed a.kind && test a)
 
 -- the line of a row
 abbrev pub row_line : Row → List ℕ
 row_line r = rule_word r.kind ++ codes " " ++ r.source ++ codes " " ++ r.target ++ codes ":" ++ r.the_class ++ codes " { "
     ++ flat_map (λ p. p ++ codes " ") r.permissions ++ codes "};\n"
+
+-- whether names ascend strictly by their bytes
+abbrev pub names_rise : List (List ℕ) → Bool
+names_rise [] = true
+names_rise (a ∷ []) = true
+names_rise (a ∷ b ∷ names) = is_lt (name_cmp a b) && names_rise (b ∷ names)

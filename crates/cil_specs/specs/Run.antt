@@ -1,6 +1,6 @@
 -- Calls of an engine that is seen as its store, and their replies.
 use Rattle.std.specs.Prelude.{◌≡◌, ◌⊎◌, List, [], ◌∷◌}
-use Rattle.cil_specs.specs.Rule.{Rule}
+use Rattle.cil_specs.specs.Rule.{Rule, is_in_table}
 use Rattle.cil_specs.specs.Report.{Changes, AreChanges, Row, AreRows}
 use Rattle.cil_specs.specs.Store.{Store}
 use Rattle.cil_specs.specs.Next.{Edit, Refusal, for_memory, accepts, refuses, Next, AreRulesOf}
@@ -22,7 +22,7 @@ pub record IsAccepted (old : Store) (edit : Edit) (changes : Changes) (new : Sto
   pub after : List Rule
   pub were_rules : AreRulesOf old before
   pub are_rules : AreRulesOf new after
-  pub are_changes : AreChanges before after changes
+  pub are_changes : AreChanges (is_in_table before) (is_in_table after) changes
 
 -- The reply to a call, and the store after it. A refused edit and a question keep the store; at any call memory may run out,
 -- which keeps it too.
@@ -32,7 +32,7 @@ Step old (an_edit edit) (refused refusal) new = ((refusal ≡ for_memory) ⊎ Ne
 Step old (an_edit edit) (listed rows) new = ⊥
 Step old ask_rows (changed_by changes) new = ⊥
 Step old ask_rows (refused refusal) new = (refusal ≡ for_memory) × (new ≡ old)
-Step old ask_rows (listed listing) new = (rules : List Rule) × AreRulesOf old rules × AreRows rules listing × (new ≡ old)
+Step old ask_rows (listed listing) new = (rules : List Rule) × AreRulesOf old rules × AreRows (is_in_table rules) listing × (new ≡ old)
 
 -- the replies to the calls, one step after another
 abbrev pub Run : Store → List Call → List Reply → Store → Type 0

@@ -1,0 +1,4 @@
+//! Names: the joined policy, and what its names lead to.
+
+pub mod joined;
+pub mod resolved;

@@ -1,0 +1,1 @@
+//! Rules: the access table, the changes between two tables, and the listing.
