@@ -1,12 +1,12 @@
 -- Of two clean fronts of one text the longer begins with the parts of the shorter; and where a fault stands no part goes on.
-use Rattle.std.proofs.Common.{suc, zero, ◌≡◌, ◌≢◌, ℕ, ◌+◌, ◌-◌, ◌<◌, ◌≤◌, ◌||◌, ◌&&◌, cond, ◌==◌, Bool, true, false, not, List, [], ◌∷◌, ◌++◌, length, drop, get_or, refl, ap, sym, ◌∙◌, subst, append_assoc, append-nil, true≢false, length-append, length-drop, IsTrue, ◌⊎◌, inl, inr, arith}
+use Rattle.std.proofs.Common.{◌≡◌, ℕ, ◌≤◌, ◌||◌, cond, ◌==◌, Bool, true, false, List, [], ◌∷◌, ◌++◌, length, drop, get_or, refl, ap, sym, ◌∙◌, subst, append_assoc, true≢false, arith}
 use Rattle.std.specs.List.{list_all}
 use Rattle.std.proofs.lemmas.Bool.{eqb-true}
 use Rattle.std.proofs.Math.Dec.{eqb}
-use Rattle.cil_specs.specs.Bytes.{is_white, is_word_byte, is_comment_byte, is_string_byte, is_mark}
-use Rattle.cil_specs.specs.Parts.{Part, white, comment, word, string, opening, closing, spelling, IsPart, EndsBefore, Splits, Moves, Nests, IsClean}
-use Rattle.cil_specs.proofs.PartLemmas.{size, size-some, splits-size, clean-size}
-use Rattle.cil_specs.proofs.Runs.{StopsBefore, both_true, first_true, second_true, all-at, same_run}
+use Rattle.cil_specs.specs.Bytes.{is_white, is_word_byte, is_comment_byte, is_string_byte}
+use Rattle.cil_specs.specs.Parts.{Part, white, comment, word, string, opening, closing, spelling, IsPart, EndsBefore, Splits}
+use Rattle.cil_specs.proofs.PartLemmas.{size-some, splits-size}
+use Rattle.cil_specs.proofs.Runs.{StopsBefore, first_true, same_run}
 
 -- which part a byte begins: white, comment, word, string, ( or ), or none
 abbrev pub class_of : ℕ → ℕ

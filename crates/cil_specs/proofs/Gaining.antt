@@ -1,5 +1,5 @@
 -- Pieces of a text, taken one after another.
-use Rattle.std.proofs.Common.{◌≡◌, ℕ, ◌+◌, List, [], ◌++◌, take, drop, Option, None, Some, refl, ap, ◌∙◌, sym, append_assoc, append-nil, take-add}
+use Rattle.std.proofs.Common.{ℕ, ◌+◌, List, [], ◌++◌, take, drop, Option, None, Some, refl, ap, ◌∙◌, sym, append_assoc, append-nil, take-add}
 use Rattle.std.specs.Option.{option_map}
 use Rattle.cil_specs.specs.Device.{Gains}
 

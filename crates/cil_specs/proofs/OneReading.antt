@@ -1,6 +1,5 @@
 -- A text spells one list of trees at most.
 use Rattle.std.proofs.Common.{◌≡◌, ℕ, List, [], ◌∷◌, ◌++◌, length, refl, ap, sym, ◌∙◌, subst, append_assoc, append-nil, drop}
-use Rattle.cil_specs.specs.Place.{Place}
 use Rattle.cil_specs.specs.Trees.{Trees, none, a_word, a_string, a_list, Mark, word_at, string_at, opening_at, closing_before, marks, told, Reads}
 use Rattle.cil_specs.proofs.Stuck.{same-front}
 

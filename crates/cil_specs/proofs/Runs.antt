@@ -1,5 +1,5 @@
 -- The longest front of a list of bytes that passes a test.
-use Rattle.std.proofs.Common.{zero, suc, one-add, ◌≡◌, ℕ, ◌+◌, ◌<◌, ◌≤◌, Bool, true, false, cond, ◌&&◌, List, [], ◌∷◌, ◌++◌, length, take, drop, get_or, refl, ap, sym, ◌∙◌, subst, true≢false, arith}
+use Rattle.std.proofs.Common.{zero, suc, one-add, ◌≡◌, ℕ, ◌+◌, ◌<◌, Bool, true, false, cond, ◌&&◌, List, [], ◌∷◌, ◌++◌, length, take, drop, get_or, refl, ap, sym, ◌∙◌, subst, true≢false, arith}
 use Rattle.std.specs.List.{list_all, prefix_len}
 use Rattle.cil_specs.specs.Parts.{comment, word, string, opening, closing, EndsBefore}
 use Rattle.cil_specs.specs.Bytes.{is_word_byte, is_comment_byte}

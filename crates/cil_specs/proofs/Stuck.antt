@@ -1,14 +1,13 @@
 -- Where a fault of reading stands no part goes on, and a text has one fault at most.
-use Rattle.std.proofs.Common.{suc, zero, ◌≡◌, ◌≢◌, ℕ, ◌+◌, ◌-◌, ◌<◌, ◌≤◌, ◌||◌, ◌&&◌, cond, ◌==◌, Bool, true, false, not, List, [], ◌∷◌, ◌++◌, length, drop, get_or, refl, ap, sym, ◌∙◌, subst, append_assoc, append-nil, true≢false, length-append, length-drop, IsTrue, ◌⊎◌, inl, inr, take, arith}
-use Rattle.std.specs.List.{list_all, take_while, prefix_len}
-use Rattle.cil_specs.specs.Bytes.{is_white, is_word_byte, is_string_byte, is_mark, hex}
-use Rattle.cil_specs.specs.Place.{Place, place_at}
-use Rattle.cil_specs.specs.Parts.{Part, white, comment, word, string, opening, closing, spelling, IsPart, EndsBefore, Splits, Moves, Nests, IsClean}
+use Rattle.std.proofs.Common.{◌≡◌, ◌≢◌, ℕ, ◌+◌, ◌<◌, ◌≤◌, ◌||◌, cond, ◌==◌, Bool, true, false, List, [], ◌∷◌, ◌++◌, length, drop, get_or, refl, ap, sym, ◌∙◌, subst, append_assoc, append-nil, true≢false, length-drop, ◌⊎◌, inl, inr, take, arith}
+use Rattle.std.specs.List.{take_while, prefix_len}
+use Rattle.cil_specs.specs.Bytes.{is_white, is_word_byte, is_mark, hex}
+use Rattle.cil_specs.specs.Place.{place_at}
+use Rattle.cil_specs.specs.Parts.{Part, white, comment, word, string, opening, closing, spelling, IsPart, Splits, Moves, Nests, IsClean}
 use Rattle.cil_specs.specs.TextFault.{TextFaultKind, bad_byte, unbalanced, unclosed, unclosed_string, too_deep, bare_word, unsupported, misshapen, bad_name, reserved, not_in_optional, TextFault}
-use Rattle.cil_specs.specs.Reading.{IsUnclosedString, IsClosedString, Stops, IsStop, IsUnclosed, IsReadingFault, IsStuck}
-use Rattle.cil_specs.specs.Trees.{Trees, none, a_word, a_string, a_list, Mark, word_at, string_at, opening_at, closing_before, marks, told, Reads}
+use Rattle.cil_specs.specs.Reading.{IsUnclosedString, IsClosedString, Stops, IsStop, IsReadingFault, IsStuck}
+use Rattle.cil_specs.specs.Trees.{Trees, Reads}
 use Rattle.cil_specs.proofs.PartLemmas.{size, size-some, splits-size, clean-size}
-use Rattle.cil_specs.proofs.Runs.{StopsBefore, first_true}
 use Rattle.cil_specs.proofs.Fronts.{class_of, class-word, class_of_part, first-class, begins}
 
 -- what the first byte of a text says of a stop

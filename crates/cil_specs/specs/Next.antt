@@ -7,7 +7,7 @@ use Rattle.cil_specs.specs.TextFault as text_fault
 use Rattle.cil_specs.specs.Trees.{Trees, none, a_word, a_string, a_list, Reads}
 use Rattle.cil_specs.specs.Reading.{IsReadingFault}
 use Rattle.cil_specs.specs.Names.{is_letter, is_digit}
-use Rattle.cil_specs.specs.Statements.{Statements}
+use Rattle.cil_specs.specs.Statements.{allow, the_named, Form, type_name, class, rule, Statements, no_more, statement}
 use Rattle.cil_specs.specs.Shape.{Shapes, IsFirstShapeFault}
 use Rattle.cil_specs.specs.Joined.{Module, Placed, joined}
 use Rattle.cil_specs.specs.Lookup.{Optionals}
@@ -53,6 +53,19 @@ IsLaterFault (a_list at end (a_list place last items more) rest) fault = IsLater
 pub record IsFirstLaterFault (trees : Trees) (fault : TextFault) : Type 0 where
   pub is : IsLaterFault trees fault
   pub first : (other : TextFault) → IsLaterFault trees other → IsNoLater fault other
+
+-- whether a statement says what is compiled so far: a class, a type, or an allow rule between two names
+abbrev pub is_compiled_form : Form → Bool
+is_compiled_form (type_name id) = true
+is_compiled_form (class id permissions) = true
+is_compiled_form (rule allow source (the_named target) the_class permissions) = true
+is_compiled_form _ = false
+
+-- whether all statements do, none of which holds others
+abbrev pub is_compiled : Statements → Bool
+is_compiled no_more = true
+is_compiled (statement at form no_more more) = is_compiled_form form && is_compiled more
+is_compiled (statement at form (statement to inner body others) more) = false
 
 -- the text spells the statements, all of which are compiled
 pub record IsModuleText (bytes : List ℕ) (statements : Statements) : Type 0 where
