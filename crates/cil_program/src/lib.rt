@@ -3,6 +3,7 @@
 
 pub mod names;
 pub mod rules;
+pub mod script;
 mod text;
 
 pub use text::Text;

@@ -30,3 +30,14 @@ pub record Tray : Type 0 where
   pub greatest : ℕ
   pub limit : ℕ
   pub failures : ℕ
+
+-- Between two moments a source gave bytes, and of those held back before and these, some were read and the others are held back.
+pub record Takes (given now : Option (List ℕ)) (before : List ℕ) (read held : List ℕ) : Type 0 where
+  pub fresh : List ℕ
+  pub gains : Gains given now fresh
+  pub same : before ++ fresh ≡ read ++ held
+
+-- What was taken from a source and is held back, and the line feeds in what was read.
+pub record Held : Type 0 where
+  pub bytes : List ℕ
+  pub line_feeds : ℕ

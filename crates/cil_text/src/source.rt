@@ -36,7 +36,7 @@ pub trait Source {
         ensures err_count { OnErr result (count self.new ≡ count self.old) }
         ensures failed { OnErr result (HasFailed (failures self.old) (failures self.new)) }
         ensures counted { failures self.old ≤ failures self.new }
-        ensures small { count self.old < 2 ^ 64 → count self.new < 2 ^ 64 };
+        ensures small { count self.new < 2 ^ 64 };
 }
 
 /// A source over a reader of std. It tells no bytes.
@@ -79,8 +79,9 @@ impl<R: Read + Drop> Source for ReaderSource<R> {
 
     fn take(&mut self, buffer: &mut [u8]) -> Result<usize, SourceFault> {
         let wanted = buffer.len();
+        let before = self.count;
         match self.reader.read(buffer) {
-            Ok(n) => match self.count.checked_add(n as u64) {
+            Ok(n) => match before.checked_add(n as u64) {
                 Some(count) => {
                     self.count = count;
                     if n == 0 && wanted > 0 {

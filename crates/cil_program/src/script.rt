@@ -1,0 +1,3 @@
+//! Scripts: their lines, the commands on them, and the session that answers them.
+
+pub mod input;

@@ -1,0 +1,91 @@
+//! What a session reads from its source, and holds back until it reads on.
+
+ghost use Rattle.std.specs.Prelude.{◌≡◌, ◌≢◌, ◌↔◌, ◌+◌, ◌≤◌, ◌∷◌, [], false, ℕ, List, length, count_by, IsTrue, IfOk, IfSome, IfNone, OnErr};
+ghost use Rattle.cil_specs.specs.Place.{is_line_feed};
+ghost use Rattle.cil_specs.specs.Device.{HasFailed, Gains, Takes};
+
+use cil_text::{Source, SourceFault};
+use std::marker::Model;
+
+/// How many bytes are asked of the source at once.
+const PIECE: usize = 8192;
+
+/// Bytes that were taken from a source and not read yet, and how many line feeds were read. The source is asked only when
+/// nothing is held back.
+#[derive(Drop)]
+pub struct Input {
+    bytes: [u8; PIECE],
+    start: usize,
+    end: usize,
+    line_feeds: u64,
+}
+
+impl Model for Input {
+    ghost use Rattle.std.specs.Prelude.{◌≤◌, ◌<◌, ◌+◌, ◌-◌, ◌^◌, slice_range};
+    ghost use Rattle.cil_specs.specs.Device.{Held};
+
+    ghost Value = { Held };
+
+    ghost view = { λ i. record { bytes = slice_range i.bytes i.start i.end; line_feeds = i.line_feeds } };
+
+    ghost invariant = { λ i. (i.start ≤ i.end) × (i.end ≤ 8192) × (i.line_feeds + (i.end - i.start) < 2 ^ 64) };
+}
+
+impl Input {
+    pub fn new() -> Self
+        ensures { result ≡ record { bytes = []; line_feeds = 0 } }
+    {
+        Input {
+            bytes: [0; PIECE],
+            start: 0,
+            end: 0,
+            line_feeds: 0,
+        }
+    }
+
+    /// How many line feeds were read.
+    pub fn line_feeds(&self) -> u64
+        ensures { result ≡ self.now.line_feeds }
+    {
+        self.line_feeds
+    }
+
+    pub fn is_empty(&self) -> bool
+        ensures { IsTrue result ↔ (self.now.bytes ≡ []) }
+    {
+        self.start == self.end
+    }
+
+    /// The first of the bytes.
+    fn pop(&mut self) -> u8
+        requires { self.old.bytes ≢ [] }
+        ensures byte { self.old.bytes ≡ result ∷ self.new.bytes }
+        ensures line_feeds { self.new.line_feeds ≡ self.old.line_feeds + count_by is_line_feed (result ∷ []) }
+    {
+        let b = self.bytes[self.start];
+        self.start += 1;
+        if b == b'\n' {
+            self.line_feeds += 1;
+        }
+        b
+    }
+
+    /// Takes bytes from the source, and says whether there were any.
+    fn fill<S: Source>(&mut self, source: &mut S) -> Result<bool, SourceFault>
+        requires empty { self.old.bytes ≡ [] }
+        requires counted { self.old.line_feeds ≤ S.count source.old }
+        ensures more { IfOk result (λ more. IsTrue more → self.new.bytes ≢ []) }
+        ensures none { IfOk result (λ more. more ≡ false → (self.new.bytes ≡ []) × IsTrue (S.ended source.new)) }
+        ensures given { IfOk result (λ _. Gains (S.given source.old) (S.given source.new) self.new.bytes) }
+        ensures counted { IfOk result (λ _. self.new.line_feeds + length self.new.bytes ≤ S.count source.new) }
+        ensures line_feeds { self.new.line_feeds ≡ self.old.line_feeds }
+        ensures failed { OnErr result (HasFailed (S.failures source.old) (S.failures source.new)) }
+        ensures err { OnErr result ((self.new ≡ self.old) × (S.given source.new ≡ S.given source.old) × (S.count source.new ≡ S.count source.old)) }
+        ensures failures { S.failures source.old ≤ S.failures source.new }
+    {
+        let n = source.take(&mut self.bytes)?;
+        self.start = 0;
+        self.end = n;
+        Ok(n > 0)
+    }
+}
