@@ -1,3 +1,4 @@
 //! Scripts: their lines, the commands on them, and the session that answers them.
 
 pub mod input;
+pub mod line;

@@ -1,11 +1,24 @@
 //! What a session reads from its source, and holds back until it reads on.
 
 ghost use Rattle.std.specs.Prelude.{◌≡◌, ◌≢◌, ◌↔◌, ◌+◌, ◌≤◌, ◌∷◌, [], false, ℕ, List, length, count_by, IsTrue, IfOk, IfSome, IfNone, OnErr};
+ghost use Rattle.std.specs.List.{list_all};
 ghost use Rattle.cil_specs.specs.Place.{is_line_feed};
 ghost use Rattle.cil_specs.specs.Device.{HasFailed, Gains, Takes};
 
 use cil_text::{Source, SourceFault};
+use crate::script::line::Line;
 use std::marker::Model;
+
+/// How a line ended.
+#[derive(Clone, Copy, Debug, PartialEq, Eq)]
+pub enum LineEnd {
+    /// By a line feed, which was read.
+    LineFeed,
+    /// By the end of the source, with no line feed.
+    LastByte,
+    /// It is longer than a line may be; a byte too many was read.
+    TooLong,
+}
 
 /// How many bytes are asked of the source at once.
 const PIECE: usize = 8192;
@@ -87,5 +100,55 @@ impl Input {
         self.start = 0;
         self.end = n;
         Ok(n > 0)
+    }
+}
+
+impl Input {
+    ghost use Rattle.std.specs.Prelude.{◌≡◌, ◌+◌, ◌≤◌, ◌∷◌, [], ℕ, List, length, IsTrue, IfOk, IfSome, IfNone, OnErr};
+    ghost use Rattle.std.specs.List.{list_all};
+    ghost use Rattle.cil_specs.specs.Device.{HasFailed};
+    ghost use Rattle.cil_program.specs.Input.{HasRead, EndsLine, stays};
+
+    /// The next byte; none where the source told its end.
+    fn next<S: Source>(&mut self, source: &mut S) -> Result<Option<u8>, SourceFault>
+        requires { self.old.line_feeds + length self.old.bytes ≤ S.count source.old }
+        ensures byte { IfOk result (λ r. IfSome r (λ b. HasRead (S.given source.old) (S.given source.new) (S.count source.new) self.old self.new (b ∷ []))) }
+        ensures end { IfOk result (λ r. IfNone r (HasRead (S.given source.old) (S.given source.new) (S.count source.new) self.old self.new []
+            × IsTrue (S.ended source.new) × (self.new.bytes ≡ []))) }
+        ensures failed { OnErr result (HasFailed (S.failures source.old) (S.failures source.new)) }
+        ensures failures { S.failures source.old ≤ S.failures source.new }
+    {
+        if self.is_empty() && !self.fill(source)? {
+            return Ok(None);
+        }
+        Ok(Some(self.pop()))
+    }
+
+    /// Reads a line, up to its line feed.
+    pub fn read_line<S: Source>(
+        &mut self,
+        source: &mut S,
+        line: &mut Line,
+    ) -> Result<LineEnd, SourceFault>
+        requires counted { self.old.line_feeds + length self.old.bytes ≤ S.count source.old }
+        ensures read { IfOk result (λ end. (read : List ℕ) × HasRead (S.given source.old) (S.given source.new) (S.count source.new) self.old self.new read
+            × EndsLine end line.new read (S.ended source.new) self.new.bytes) }
+        ensures stays { IfOk result (λ _. IsTrue (list_all stays line.new)) }
+        ensures failed { OnErr result (HasFailed (S.failures source.old) (S.failures source.new)) }
+        ensures failures { S.failures source.old ≤ S.failures source.new }
+    {
+        line.clear();
+        loop {
+            let Some(b) = self.next(source)? else {
+                return Ok(LineEnd::LastByte);
+            };
+            if b == b'\n' {
+                return Ok(LineEnd::LineFeed);
+            }
+            if line.is_full() {
+                return Ok(LineEnd::TooLong);
+            }
+            line.push(b);
+        }
     }
 }

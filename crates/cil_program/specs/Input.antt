@@ -1,0 +1,23 @@
+-- What was read from a source that gives bytes in pieces.
+use Rattle.std.specs.Prelude.{◌≡◌, ℕ, ◌+◌, ◌≤◌, Bool, true, false, not, List, [], ◌∷◌, ◌++◌, length, count_by, IsTrue, Option}
+use Rattle.std.specs.List.{list_all}
+use Rattle.cil_specs.specs.Place.{is_line_feed}
+use Rattle.cil_specs.specs.Device.{Takes, Held}
+use Rattle.cil_program.specs.declared.script.input.LineEnd.{LineEnd}
+use Rattle.cil_program.specs.declared.script.input.LineEnd.TheVariants.{LineFeed, LastByte, TooLong}
+
+-- These bytes were read: of a source by what it gave before and now, an input by what it held back, and the source's count now.
+pub record HasRead (given now : Option (List ℕ)) (counted : ℕ) (old new : Held) (read : List ℕ) : Type 0 where
+  pub takes : Takes given now old.bytes read new.bytes
+  pub line_feeds : new.line_feeds ≡ old.line_feeds + count_by is_line_feed read
+  pub fits : new.line_feeds + length new.bytes ≤ counted
+
+-- a byte that ends no line
+abbrev pub stays : ℕ → Bool
+stays b = not (is_line_feed b)
+
+-- how the bytes read end a line: by a line feed; by the end of the source; or because the line is longer than a line may be
+abbrev pub EndsLine : LineEnd → List ℕ → List ℕ → Bool → List ℕ → Type 0
+EndsLine LineFeed line read ended held = read ≡ line ++ 10 ∷ []
+EndsLine LastByte line read ended held = (read ≡ line) × IsTrue ended × (held ≡ [])
+EndsLine TooLong line read ended held = (b : ℕ) × IsTrue (stays b) × (read ≡ line ++ b ∷ []) × (length line ≡ 4096)
