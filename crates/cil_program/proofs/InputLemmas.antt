@@ -1,12 +1,13 @@
 -- Bytes that are read one piece after another.
-use Rattle.std.proofs.Common.{◌≡◌, ℕ, ◌+◌, ◌≤◌, Bool, true, false, not, List, [], ◌∷◌, ◌++◌, length, count_by, Option, IsTrue, refl, ap, sym, ◌∙◌, append_assoc, true≢false, arith}
+use Rattle.std.proofs.Common.{◌≡◌, ℕ, ◌+◌, ◌≤◌, Bool, true, false, not, List, [], ◌∷◌, ◌++◌, length, take, drop, append-nil, length-drop, count_by, Option, IsTrue, refl, ap, sym, ◌∙◌, append_assoc, true≢false, arith}
 use Rattle.std.specs.List.{list_all}
-use Rattle.std.proofs.lemmas.List.Sums.{sum_by-append}
+use Rattle.std.proofs.lemmas.List.{take-append-drop, length-take-le}
+use Rattle.std.proofs.lemmas.List.Sums.{sum_by-append, count_by-le-length}
 use Rattle.std.proofs.lemmas.List.Folds.{list_all-append}
 use Rattle.std.proofs.lemmas.Bool.{eqb-true}
 use Rattle.cil_specs.specs.Place.{is_line_feed}
 use Rattle.cil_specs.specs.Device.{Takes, Held}
-use Rattle.cil_specs.proofs.Gaining.{gains-both}
+use Rattle.cil_specs.proofs.Gaining.{gains-both, gains-none}
 use Rattle.cil_specs.proofs.Runs.{both_true}
 use Rattle.cil_program.specs.Input.{HasRead, stays}
 
@@ -39,3 +40,23 @@ stays-byte b other = by (is_line_feed b) refl
 
 pub stays-more : (line : List ℕ) (b : ℕ) → list_all stays line ≡ true → (b ≡ 10 → ⊥) → list_all stays (line ++ b ∷ []) ≡ true
 stays-more line b all other = list_all-append stays line (b ∷ []) ∙ both_true (list_all stays line) (list_all stays (b ∷ [])) all (both_true (stays b) true (stays-byte b other) refl)
+
+-- bytes that are held back are read with nothing taken
+advances : (given : Option (List ℕ)) (counted : ℕ) (old new : Held) (n : ℕ) → old.line_feeds + length old.bytes ≤ counted → n ≤ length old.bytes → new.bytes ≡ drop n old.bytes
+    → new.line_feeds ≡ old.line_feeds + count_by is_line_feed (take n old.bytes) → HasRead given given counted old new (take n old.bytes)
+advances given counted old new n fits within bytes feeds = record {
+  takes = record {
+    fresh = [];
+    gains = gains-none given;
+    same = append-nil old.bytes ∙ sym (take-append-drop n old.bytes) ∙ ap (λ l. take n old.bytes ++ l) (sym bytes);
+  };
+  line_feeds = feeds;
+  fits = omega (arith, feeds, fits, ap length bytes, length-drop n old.bytes, length-take-le n old.bytes within, count_by-le-length is_line_feed (take n old.bytes));
+}
+
+-- what was read, then bytes that come, and then some of these read
+pub reads-on : (given mid now : Option (List ℕ)) (some all : ℕ) (old between more new : Held) (read : List ℕ) (n : ℕ) → HasRead given mid some old between read → HasRead mid now all between more [] → n ≤ length more.bytes
+    → new.bytes ≡ drop n more.bytes → new.line_feeds ≡ more.line_feeds + count_by is_line_feed (take n more.bytes) → HasRead given now all old new (read ++ take n more.bytes)
+reads-on given mid now some all old between more new read n a b within bytes feeds =
+    reads-both given mid now some all old between new read (take n more.bytes) a
+    (reads-both mid now now all all between more new [] (take n more.bytes) b (advances now all more new n b.fits within bytes feeds))

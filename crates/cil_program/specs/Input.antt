@@ -1,5 +1,5 @@
 -- What was read from a source that gives bytes in pieces.
-use Rattle.std.specs.Prelude.{◌≡◌, ℕ, ◌+◌, ◌≤◌, Bool, true, false, not, List, [], ◌∷◌, ◌++◌, length, count_by, IsTrue, Option}
+use Rattle.std.specs.Prelude.{◌≡◌, ℕ, ◌+◌, ◌<◌, ◌≤◌, Bool, true, false, not, List, [], ◌∷◌, ◌++◌, length, count_by, IsTrue, Option}
 use Rattle.std.specs.List.{list_all}
 use Rattle.cil_specs.specs.Place.{is_line_feed}
 use Rattle.cil_specs.specs.Device.{Takes, Held}
@@ -21,3 +21,8 @@ abbrev pub EndsLine : LineEnd → List ℕ → List ℕ → Bool → List ℕ �
 EndsLine LineFeed line read ended held = read ≡ line ++ 10 ∷ []
 EndsLine LastByte line read ended held = (read ≡ line) × IsTrue ended × (held ≡ [])
 EndsLine TooLong line read ended held = (b : ℕ) × IsTrue (stays b) × (read ≡ line ++ b ∷ []) × (length line ≡ 4096)
+
+-- the bytes read are a text of this length as a whole; or they are fewer, and the source ended
+abbrev pub IsText : Bool → ℕ → List ℕ → Bool → List ℕ → Type 0
+IsText true len read ended held = length read ≡ len
+IsText false len read ended held = (length read < len) × IsTrue ended × (held ≡ [])

@@ -7,6 +7,7 @@ ghost use Rattle.cil_specs.specs.Device.{HasFailed, Gains, Takes};
 
 use cil_text::{Source, SourceFault};
 use crate::script::line::Line;
+use std::alloc::Allocator;
 use std::marker::Model;
 
 /// How a line ended.
@@ -104,10 +105,11 @@ impl Input {
 }
 
 impl Input {
-    ghost use Rattle.std.specs.Prelude.{◌≡◌, ◌+◌, ◌≤◌, ◌∷◌, [], ℕ, List, length, IsTrue, IfOk, IfSome, IfNone, OnErr};
+    ghost use Rattle.std.specs.Prelude.{◌≡◌, ◌≢◌, ◌+◌, ◌≤◌, ◌∷◌, ◌++◌, [], false, ℕ, List, length, take, drop, count_by, IsTrue, IfOk, IfSome, IfNone, OnErr, vec_len, vec_capacity};
     ghost use Rattle.std.specs.List.{list_all};
     ghost use Rattle.cil_specs.specs.Device.{HasFailed};
-    ghost use Rattle.cil_program.specs.Input.{HasRead, EndsLine, stays};
+    ghost use Rattle.cil_specs.specs.Place.{is_line_feed};
+    ghost use Rattle.cil_program.specs.Input.{HasRead, EndsLine, IsText, stays};
 
     /// The next byte; none where the source told its end.
     fn next<S: Source>(&mut self, source: &mut S) -> Result<Option<u8>, SourceFault>
@@ -150,5 +152,88 @@ impl Input {
             }
             line.push(b);
         }
+    }
+
+    /// Whether there are bytes to read. Takes some from the source where none are held back.
+    fn has_more<S: Source>(&mut self, source: &mut S) -> Result<bool, SourceFault>
+        requires { self.old.line_feeds + length self.old.bytes ≤ S.count source.old }
+        ensures read { IfOk result (λ _. HasRead (S.given source.old) (S.given source.new) (S.count source.new) self.old self.new []) }
+        ensures more { IfOk result (λ more. IsTrue more → self.new.bytes ≢ []) }
+        ensures none { IfOk result (λ more. more ≡ false → IsTrue (S.ended source.new) × (self.new.bytes ≡ [])) }
+        ensures failed { OnErr result (HasFailed (S.failures source.old) (S.failures source.new)) }
+        ensures failures { S.failures source.old ≤ S.failures source.new }
+    {
+        if self.is_empty() {
+            return self.fill(source);
+        }
+        Ok(true)
+    }
+
+    /// The bytes that are held back.
+    fn held(&self) -> &[u8]
+        ensures { result.now ≡ self.now.bytes }
+    {
+        &self.bytes[self.start..self.end]
+    }
+
+    /// Goes over some of the bytes that are held back.
+    fn advance(&mut self, len: usize)
+        requires { len ≤ length self.old.bytes }
+        ensures bytes { self.new.bytes ≡ drop len self.old.bytes }
+        ensures line_feeds { self.new.line_feeds ≡ self.old.line_feeds + count_by is_line_feed (take len self.old.bytes) }
+    {
+        let from = self.start;
+        let passed = &self.bytes[from..from + len];
+        let line_feeds = passed.iter().filter(|b| **b == b'\n').count();
+        self.line_feeds += line_feeds as u64;
+        self.start = from + len;
+    }
+
+    /// Reads a text of a known length to the end of a vector that has room for it. Says whether it was there as a whole.
+    pub fn read_text<S: Source, A: Allocator>(
+        &mut self,
+        source: &mut S,
+        len: usize,
+        text: &mut Vec<u8, A>,
+    ) -> Result<bool, SourceFault>
+        requires counted { self.old.line_feeds + length self.old.bytes ≤ S.count source.old }
+        requires room { vec_len text.old + len ≤ vec_capacity text.old }
+        ensures read { IfOk result (λ whole. (read : List ℕ) × HasRead (S.given source.old) (S.given source.new) (S.count source.new) self.old self.new read
+            × (text.new.items ≡ text.old.items ++ read) × IsText whole len read (S.ended source.new) self.new.bytes) }
+        ensures failed { OnErr result (HasFailed (S.failures source.old) (S.failures source.new)) }
+        ensures failures { S.failures source.old ≤ S.failures source.new }
+    {
+        let mut left = len;
+        while left > 0 {
+            if !self.has_more(source)? {
+                return Ok(false);
+            }
+            let piece = self.held();
+            let n = left.min(piece.len());
+            text.extend_from_slice(&piece[..n]).unwrap();
+            self.advance(n);
+            left -= n;
+        }
+        Ok(true)
+    }
+
+    /// Reads a text of a known length and leaves it aside. Says whether it was there as a whole.
+    pub fn skip_text<S: Source>(&mut self, source: &mut S, len: usize) -> Result<bool, SourceFault>
+        requires { self.old.line_feeds + length self.old.bytes ≤ S.count source.old }
+        ensures read { IfOk result (λ whole. (read : List ℕ) × HasRead (S.given source.old) (S.given source.new) (S.count source.new) self.old self.new read
+            × IsText whole len read (S.ended source.new) self.new.bytes) }
+        ensures failed { OnErr result (HasFailed (S.failures source.old) (S.failures source.new)) }
+        ensures failures { S.failures source.old ≤ S.failures source.new }
+    {
+        let mut left = len;
+        while left > 0 {
+            if !self.has_more(source)? {
+                return Ok(false);
+            }
+            let n = left.min(self.held().len());
+            self.advance(n);
+            left -= n;
+        }
+        Ok(true)
     }
 }
