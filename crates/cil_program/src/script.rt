@@ -1,4 +1,5 @@
 //! Scripts: their lines, the commands on them, and the session that answers them.
 
+pub mod command;
 pub mod input;
 pub mod line;

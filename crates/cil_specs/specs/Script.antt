@@ -9,9 +9,13 @@ use Rattle.cil_specs.specs.Run.{Call, an_edit, ask_rows, Reply, changed_by, refu
 abbrev pub is_shown : ℕ → Bool
 is_shown b = nat_le 33 b && nat_le b 126
 
+-- the line of an install of a text of some length
+abbrev pub install_line : List ℕ → ℕ → ℕ → List ℕ
+install_line name priority size = codes "install " ++ name ++ codes " " ++ decimal priority ++ codes " " ++ decimal size
+
 -- the line of a command, without its line feed
 abbrev pub line_of : Call → List ℕ
-line_of (an_edit (install name priority text)) = codes "install " ++ name ++ codes " " ++ decimal priority ++ codes " " ++ decimal (length text)
+line_of (an_edit (install name priority text)) = install_line name priority (length text)
 line_of ask_rows = codes "rules"
 
 -- the bytes of a command: its line, and behind that of an install its text; a line feed stands behind each
@@ -20,8 +24,14 @@ command (an_edit (install name priority text)) = line_of (an_edit (install name 
 command ask_rows = line_of ask_rows ++ 10 ∷ []
 
 -- a name has shown bytes alone, and a number at most nine digits
+pub record AreGoodWords (name : List ℕ) (priority size : ℕ) : Type 0 where
+  pub some : name ≢ []
+  pub shown : IsTrue (list_all is_shown name)
+  pub priority_short : priority < 1000000000
+  pub size_short : size < 1000000000
+
 abbrev pub HasGoodWords : Call → Type 0
-HasGoodWords (an_edit (install name priority text)) = (name ≢ []) × IsTrue (list_all is_shown name) × (priority < 1000000000) × (length text < 1000000000)
+HasGoodWords (an_edit (install name priority text)) = AreGoodWords name priority (length text)
 HasGoodWords ask_rows = Unit {0}
 
 -- a command that a script may have: its line is at most 4096 bytes long
