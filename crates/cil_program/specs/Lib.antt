@@ -1,3 +1,5 @@
 pub mod Image
 pub mod Input
 pub mod Command
+pub mod Edits
+pub mod Calls

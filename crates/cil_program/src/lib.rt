@@ -4,6 +4,7 @@
 pub mod names;
 pub mod rules;
 pub mod script;
+pub mod store;
 mod text;
 
 pub use text::Text;

@@ -1,4 +1,5 @@
 //! Names: the joined policy, and what its names lead to.
 
+pub mod fault;
 pub mod joined;
 pub mod resolved;
