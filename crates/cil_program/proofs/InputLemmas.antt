@@ -1,15 +1,16 @@
 -- Bytes that are read one piece after another.
-use Rattle.std.proofs.Common.{◌≡◌, ℕ, ◌+◌, ◌≤◌, Bool, true, false, not, List, [], ◌∷◌, ◌++◌, length, take, drop, append-nil, length-drop, count_by, Option, IsTrue, refl, ap, sym, ◌∙◌, append_assoc, true≢false, arith}
+use Rattle.std.proofs.Common.{◌≡◌, ◌≢◌, ℕ, ◌+◌, ◌<◌, ◌≤◌, ◌^◌, Bool, true, false, not, List, [], ◌∷◌, ◌++◌, length, take, drop, append-nil, length-drop, count_by, Option, refl, ap, sym, ◌∙◌, append_assoc, length-append, arith}
 use Rattle.std.specs.List.{list_all}
 use Rattle.std.proofs.lemmas.List.{take-append-drop, length-take-le}
 use Rattle.std.proofs.lemmas.List.Sums.{sum_by-append, count_by-le-length}
 use Rattle.std.proofs.lemmas.List.Folds.{list_all-append}
 use Rattle.std.proofs.lemmas.Bool.{eqb-true}
+use lib.Seq.{take-nil, drop-nil}
 use Rattle.cil_specs.specs.Place.{is_line_feed}
 use Rattle.cil_specs.specs.Device.{Takes, Held}
 use Rattle.cil_specs.proofs.Gaining.{gains-both, gains-none}
 use Rattle.cil_specs.proofs.Runs.{both_true}
-use Rattle.cil_program.specs.Input.{HasRead, stays}
+use Rattle.cil_program.specs.Input.{Fits, HasRead, stays}
 
 takes-both : (given mid now : Option (List ℕ)) (before between held first second : List ℕ) → Takes given mid before first between → Takes mid now between second held → Takes given now before (first ++ second) held
 takes-both given mid now before between held first second a b = record {
@@ -23,12 +24,28 @@ takes-both given mid now before between held first second a b = record {
 pub count-both : (first second : List ℕ) → count_by is_line_feed (first ++ second) ≡ count_by is_line_feed first + count_by is_line_feed second
 count-both first second = sum_by-append _ first second
 
-pub reads-both : (given mid now : Option (List ℕ)) (some all : ℕ) (old between new : Held) (first second : List ℕ) → HasRead given mid some old between first → HasRead mid now all between new second → HasRead given now all old new (first ++ second)
-reads-both given mid now some all old between new first second a b = record {
+either-some : (first second : List ℕ) → first ++ second ≢ [] → (P : Type 0) → (first ≢ [] → P) → (second ≢ [] → P) → P
+either-some [] second some P f g = g some
+either-some (b ∷ first) second some P f g = f (λ e. omega (arith, ap length e))
+
+-- bytes that were counted stay counted below the bound when no more were counted
+still-small : (some all more held : ℕ) → some < 2 ^ 64 → all + more ≡ some + held → held ≡ 0 → all < 2 ^ 64
+still-small some all more held small counts none = omega (arith, small, counts, none)
+
+pub reads-both : (given mid now : Option (List ℕ)) (count some all : ℕ) (old between new : Held) (first second : List ℕ) → HasRead given mid count some old between first → HasRead mid now some all between new second
+    → HasRead given now count all old new (first ++ second)
+reads-both given mid now count some all old between new first second a b = record {
   takes = takes-both given mid now old.bytes between.bytes new.bytes first second a.takes b.takes;
   line_feeds = omega (arith, a.line_feeds, b.line_feeds, count-both first second);
+  counts = omega (arith, a.counts, b.counts, length-append first second);
   fits = b.fits;
+  small = λ there. either-some first second there (all < 2 ^ 64) (λ f. later f second refl new.bytes refl) b.small;
 }
+  where
+    later : first ≢ [] → (l : List ℕ) → second ≡ l → (k : List ℕ) → new.bytes ≡ k → all < 2 ^ 64
+    later f (c ∷ l) e k q = b.small (λ none. omega (arith, ap length (sym e ∙ none)))
+    later f [] e (c ∷ k) q = b.fits.small (λ none. omega (arith, ap length (sym q ∙ none)))
+    later f [] e [] q = still-small some all (length between.bytes) (length second + length new.bytes) (a.small f) (omega (arith, b.counts)) (omega (arith, ap length e, ap length q))
 
 -- a byte that is no line feed stays on its line
 pub stays-byte : (b : ℕ) → (b ≡ 10 → ⊥) → stays b ≡ true
@@ -42,8 +59,8 @@ pub stays-more : (line : List ℕ) (b : ℕ) → list_all stays line ≡ true �
 stays-more line b all other = list_all-append stays line (b ∷ []) ∙ both_true (list_all stays line) (list_all stays (b ∷ [])) all (both_true (stays b) true (stays-byte b other) refl)
 
 -- bytes that are held back are read with nothing taken
-advances : (given : Option (List ℕ)) (counted : ℕ) (old new : Held) (n : ℕ) → old.line_feeds + length old.bytes ≤ counted → n ≤ length old.bytes → new.bytes ≡ drop n old.bytes
-    → new.line_feeds ≡ old.line_feeds + count_by is_line_feed (take n old.bytes) → HasRead given given counted old new (take n old.bytes)
+advances : (given : Option (List ℕ)) (counted : ℕ) (old new : Held) (n : ℕ) → Fits counted old → n ≤ length old.bytes → new.bytes ≡ drop n old.bytes
+    → new.line_feeds ≡ old.line_feeds + count_by is_line_feed (take n old.bytes) → HasRead given given counted counted old new (take n old.bytes)
 advances given counted old new n fits within bytes feeds = record {
   takes = record {
     fresh = [];
@@ -51,12 +68,17 @@ advances given counted old new n fits within bytes feeds = record {
     same = append-nil old.bytes ∙ sym (take-append-drop n old.bytes) ∙ ap (λ l. take n old.bytes ++ l) (sym bytes);
   };
   line_feeds = feeds;
-  fits = omega (arith, feeds, fits, ap length bytes, length-drop n old.bytes, length-take-le n old.bytes within, count_by-le-length is_line_feed (take n old.bytes));
+  counts = omega (arith, within, ap length bytes, length-drop n old.bytes, length-take-le n old.bytes within);
+  fits = record {
+    within = omega (arith, feeds, fits.within, ap length bytes, length-drop n old.bytes, length-take-le n old.bytes within, count_by-le-length is_line_feed (take n old.bytes));
+    small = λ there. fits.small (λ none. there (bytes ∙ ap (drop n) none ∙ drop-nil n));
+  };
+  small = λ there. fits.small (λ none. there (ap (take n) none ∙ take-nil n));
 }
 
 -- what was read, then bytes that come, and then some of these read
-pub reads-on : (given mid now : Option (List ℕ)) (some all : ℕ) (old between more new : Held) (read : List ℕ) (n : ℕ) → HasRead given mid some old between read → HasRead mid now all between more [] → n ≤ length more.bytes
-    → new.bytes ≡ drop n more.bytes → new.line_feeds ≡ more.line_feeds + count_by is_line_feed (take n more.bytes) → HasRead given now all old new (read ++ take n more.bytes)
-reads-on given mid now some all old between more new read n a b within bytes feeds =
-    reads-both given mid now some all old between new read (take n more.bytes) a
-    (reads-both mid now now all all between more new [] (take n more.bytes) b (advances now all more new n b.fits within bytes feeds))
+pub reads-on : (given mid now : Option (List ℕ)) (count some all : ℕ) (old between more new : Held) (read : List ℕ) (n : ℕ) → HasRead given mid count some old between read → HasRead mid now some all between more [] → n ≤ length more.bytes
+    → new.bytes ≡ drop n more.bytes → new.line_feeds ≡ more.line_feeds + count_by is_line_feed (take n more.bytes) → HasRead given now count all old new (read ++ take n more.bytes)
+reads-on given mid now count some all old between more new read n a b within bytes feeds =
+    reads-both given mid now count some all old between new read (take n more.bytes) a
+    (reads-both mid now now some all all between more new [] (take n more.bytes) b (advances now all more new n b.fits within bytes feeds))

@@ -1,5 +1,5 @@
 -- Calls and replies, as the definitions see them.
-use Rattle.std.specs.Prelude.{◌≡◌, List, Result, Ok, Err}
+use Rattle.std.specs.Prelude.{List, Result, Ok, Err}
 use Rattle.cil_specs.specs.Report as report
 use Rattle.cil_specs.specs.Report.{Row, AreRows}
 use Rattle.cil_specs.specs.Rule as spec_rules

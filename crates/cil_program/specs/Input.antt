@@ -1,16 +1,22 @@
 -- What was read from a source that gives bytes in pieces.
-use Rattle.std.specs.Prelude.{◌≡◌, ℕ, ◌+◌, ◌<◌, ◌≤◌, Bool, true, false, not, List, [], ◌∷◌, ◌++◌, length, count_by, IsTrue, Option}
-use Rattle.std.specs.List.{list_all}
+use Rattle.std.specs.Prelude.{◌≡◌, ◌≢◌, ℕ, ◌+◌, ◌<◌, ◌≤◌, ◌^◌, Bool, true, false, not, List, [], ◌∷◌, ◌++◌, length, count_by, IsTrue, Option}
 use Rattle.cil_specs.specs.Place.{is_line_feed}
 use Rattle.cil_specs.specs.Device.{Takes, Held}
 use Rattle.cil_program.specs.declared.script.input.LineEnd.{LineEnd}
 use Rattle.cil_program.specs.declared.script.input.LineEnd.TheVariants.{LineFeed, LastByte, TooLong}
 
--- These bytes were read: of a source by what it gave before and now, an input by what it held back, and the source's count now.
-pub record HasRead (given now : Option (List ℕ)) (counted : ℕ) (old new : Held) (read : List ℕ) : Type 0 where
+-- What an input holds back is of what its source counted; where it holds bytes back, the source counted fewer than 2 ^ 64.
+pub record Fits (count : ℕ) (held : Held) : Type 0 where
+  pub within : held.line_feeds + length held.bytes ≤ count
+  pub small : held.bytes ≢ [] → count < 2 ^ 64
+
+-- These bytes were read: of a source by what it gave and counted before and now, of an input by what it held back before and now.
+pub record HasRead (given now : Option (List ℕ)) (count counted : ℕ) (old new : Held) (read : List ℕ) : Type 0 where
   pub takes : Takes given now old.bytes read new.bytes
   pub line_feeds : new.line_feeds ≡ old.line_feeds + count_by is_line_feed read
-  pub fits : new.line_feeds + length new.bytes ≤ counted
+  pub counts : counted + length old.bytes ≡ count + length read + length new.bytes
+  pub fits : Fits counted new
+  pub small : read ≢ [] → counted < 2 ^ 64
 
 -- a byte that ends no line
 abbrev pub stays : ℕ → Bool

@@ -1,6 +1,6 @@
 //! What a session reads from its source, and holds back until it reads on.
 
-ghost use Rattle.std.specs.Prelude.{◌≡◌, ◌≢◌, ◌↔◌, ◌+◌, ◌≤◌, ◌∷◌, [], false, ℕ, List, length, count_by, IsTrue, IfOk, IfSome, IfNone, OnErr};
+ghost use Rattle.std.specs.Prelude.{◌≡◌, ◌≢◌, ◌↔◌, ◌+◌, ◌<◌, ◌≤◌, ◌^◌, ◌∷◌, [], false, ℕ, List, length, count_by, IsTrue, IfOk, IfSome, IfNone, OnErr};
 ghost use Rattle.std.specs.List.{list_all};
 ghost use Rattle.cil_specs.specs.Place.{is_line_feed};
 ghost use Rattle.cil_specs.specs.Device.{HasFailed, Gains, Takes};
@@ -91,7 +91,8 @@ impl Input {
         ensures more { IfOk result (λ more. IsTrue more → self.new.bytes ≢ []) }
         ensures none { IfOk result (λ more. more ≡ false → (self.new.bytes ≡ []) × IsTrue (S.ended source.new)) }
         ensures given { IfOk result (λ _. Gains (S.given source.old) (S.given source.new) self.new.bytes) }
-        ensures counted { IfOk result (λ _. self.new.line_feeds + length self.new.bytes ≤ S.count source.new) }
+        ensures counted { IfOk result (λ _. S.count source.new ≡ S.count source.old + length self.new.bytes) }
+        ensures small { IfOk result (λ _. S.count source.new < 2 ^ 64) }
         ensures line_feeds { self.new.line_feeds ≡ self.old.line_feeds }
         ensures failed { OnErr result (HasFailed (S.failures source.old) (S.failures source.new)) }
         ensures err { OnErr result ((self.new ≡ self.old) × (S.given source.new ≡ S.given source.old) × (S.count source.new ≡ S.count source.old)) }
@@ -109,13 +110,13 @@ impl Input {
     ghost use Rattle.std.specs.List.{list_all};
     ghost use Rattle.cil_specs.specs.Device.{HasFailed};
     ghost use Rattle.cil_specs.specs.Place.{is_line_feed};
-    ghost use Rattle.cil_program.specs.Input.{HasRead, EndsLine, IsText, stays};
+    ghost use Rattle.cil_program.specs.Input.{Fits, HasRead, EndsLine, IsText, stays};
 
     /// The next byte; none where the source told its end.
     fn next<S: Source>(&mut self, source: &mut S) -> Result<Option<u8>, SourceFault>
-        requires { self.old.line_feeds + length self.old.bytes ≤ S.count source.old }
-        ensures byte { IfOk result (λ r. IfSome r (λ b. HasRead (S.given source.old) (S.given source.new) (S.count source.new) self.old self.new (b ∷ []))) }
-        ensures end { IfOk result (λ r. IfNone r (HasRead (S.given source.old) (S.given source.new) (S.count source.new) self.old self.new []
+        requires { Fits (S.count source.old) self.old }
+        ensures byte { IfOk result (λ r. IfSome r (λ b. HasRead (S.given source.old) (S.given source.new) (S.count source.old) (S.count source.new) self.old self.new (b ∷ []))) }
+        ensures end { IfOk result (λ r. IfNone r (HasRead (S.given source.old) (S.given source.new) (S.count source.old) (S.count source.new) self.old self.new []
             × IsTrue (S.ended source.new) × (self.new.bytes ≡ []))) }
         ensures failed { OnErr result (HasFailed (S.failures source.old) (S.failures source.new)) }
         ensures failures { S.failures source.old ≤ S.failures source.new }
@@ -132,8 +133,8 @@ impl Input {
         source: &mut S,
         line: &mut Line,
     ) -> Result<LineEnd, SourceFault>
-        requires counted { self.old.line_feeds + length self.old.bytes ≤ S.count source.old }
-        ensures read { IfOk result (λ end. (read : List ℕ) × HasRead (S.given source.old) (S.given source.new) (S.count source.new) self.old self.new read
+        requires counted { Fits (S.count source.old) self.old }
+        ensures read { IfOk result (λ end. (read : List ℕ) × HasRead (S.given source.old) (S.given source.new) (S.count source.old) (S.count source.new) self.old self.new read
             × EndsLine end line.new read (S.ended source.new) self.new.bytes) }
         ensures stays { IfOk result (λ _. IsTrue (list_all stays line.new)) }
         ensures failed { OnErr result (HasFailed (S.failures source.old) (S.failures source.new)) }
@@ -156,8 +157,8 @@ impl Input {
 
     /// Whether there are bytes to read. Takes some from the source where none are held back.
     fn has_more<S: Source>(&mut self, source: &mut S) -> Result<bool, SourceFault>
-        requires { self.old.line_feeds + length self.old.bytes ≤ S.count source.old }
-        ensures read { IfOk result (λ _. HasRead (S.given source.old) (S.given source.new) (S.count source.new) self.old self.new []) }
+        requires { Fits (S.count source.old) self.old }
+        ensures read { IfOk result (λ _. HasRead (S.given source.old) (S.given source.new) (S.count source.old) (S.count source.new) self.old self.new []) }
         ensures more { IfOk result (λ more. IsTrue more → self.new.bytes ≢ []) }
         ensures none { IfOk result (λ more. more ≡ false → IsTrue (S.ended source.new) × (self.new.bytes ≡ [])) }
         ensures failed { OnErr result (HasFailed (S.failures source.old) (S.failures source.new)) }
@@ -196,9 +197,9 @@ impl Input {
         len: usize,
         text: &mut Vec<u8, A>,
     ) -> Result<bool, SourceFault>
-        requires counted { self.old.line_feeds + length self.old.bytes ≤ S.count source.old }
+        requires counted { Fits (S.count source.old) self.old }
         requires room { vec_len text.old + len ≤ vec_capacity text.old }
-        ensures read { IfOk result (λ whole. (read : List ℕ) × HasRead (S.given source.old) (S.given source.new) (S.count source.new) self.old self.new read
+        ensures read { IfOk result (λ whole. (read : List ℕ) × HasRead (S.given source.old) (S.given source.new) (S.count source.old) (S.count source.new) self.old self.new read
             × (text.new.items ≡ text.old.items ++ read) × IsText whole len read (S.ended source.new) self.new.bytes) }
         ensures failed { OnErr result (HasFailed (S.failures source.old) (S.failures source.new)) }
         ensures failures { S.failures source.old ≤ S.failures source.new }
@@ -219,8 +220,8 @@ impl Input {
 
     /// Reads a text of a known length and leaves it aside. Says whether it was there as a whole.
     pub fn skip_text<S: Source>(&mut self, source: &mut S, len: usize) -> Result<bool, SourceFault>
-        requires { self.old.line_feeds + length self.old.bytes ≤ S.count source.old }
-        ensures read { IfOk result (λ whole. (read : List ℕ) × HasRead (S.given source.old) (S.given source.new) (S.count source.new) self.old self.new read
+        requires { Fits (S.count source.old) self.old }
+        ensures read { IfOk result (λ whole. (read : List ℕ) × HasRead (S.given source.old) (S.given source.new) (S.count source.old) (S.count source.new) self.old self.new read
             × IsText whole len read (S.ended source.new) self.new.bytes) }
         ensures failed { OnErr result (HasFailed (S.failures source.old) (S.failures source.new)) }
         ensures failures { S.failures source.old ≤ S.failures source.new }

@@ -1,4 +1,4 @@
-use Rattle.std.proofs.Common.{◌≡◌, ◌∙◌, ◌∷◌, ◌++◌, List, ℕ, length, decimal, ap, sym, subst, IsTrue, true≢false, rules, arith}
+use Rattle.std.proofs.Common.{◌∙◌, length, decimal, ap, sym, subst, IsTrue, true≢false}
 use Rattle.std.specs.List.{list_all}
 use Rattle.std.proofs.lemmas.Bool.{eqb-true}
 use Rattle.cil_specs.specs.Script.{is_shown}

@@ -1,4 +1,4 @@
-use Rattle.std.proofs.Common.{◌≡◌, ◌∙◌, codes, sym, true≢false}
+use Rattle.std.proofs.Common.{◌∙◌, sym, true≢false}
 use Rattle.cil_program.proofs.CommandLemmas.{no-line}
 use Rattle.cil_program.proofs.script.command.script_line.Goals as goal
 

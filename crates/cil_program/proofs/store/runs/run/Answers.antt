@@ -1,4 +1,4 @@
-use Rattle.std.proofs.Common.{◌≡◌, ◌∙◌, ◌++◌, ◌∷◌, ◌+◌, ◌<◌, ℕ, List, [], ap, subst, sym, take, map, length, get_or, is_ok, if◌then◌else◌, rules, arith}
+use Rattle.std.proofs.Common.{◌≡◌, ◌∙◌, ◌++◌, ◌∷◌, ◌+◌, ◌<◌, ℕ, List, [], ap, subst, sym, take, map, length, get_or, is_ok, if◌then◌else◌, rules}
 use Rattle.std.proofs.lemmas.List.{take_more, map-append}
 use Rattle.cil_specs.specs.Run.{Step, Run}
 use Rattle.cil_specs.specs.Store.{Store}

@@ -1,4 +1,4 @@
-use Rattle.std.proofs.Common.{◌≡◌, ◌++◌, ◌∷◌, ◌∙◌, [], Some, IfSome, List, ℕ, subst, sym, ap, refl, true≢false, length, length-append, rules, arith}
+use Rattle.std.proofs.Common.{◌≡◌, ◌++◌, ◌∷◌, ◌∙◌, [], subst, sym, ap, refl, true≢false, length, length-append, rules, arith}
 use Rattle.cil_program.specs.Input.{HasRead}
 use Rattle.cil_program.proofs.InputLemmas.{reads-both, stays-byte, stays-more}
 use Rattle.cil_program.proofs.script.input.Input.read_line.Goals as goal
@@ -10,7 +10,7 @@ returns-then-b-eq10-clause-read g c =
     let byte = rw c.in-Some.is at c.in_ok-b.ensures.byte in
     (
       c.loop-b.line ++ c.in-Some.b ∷ [],
-      reads-both (given c.args.source.now) (given c.loop-b.source) (given c.next.new.source) (count c.loop-b.source) (count c.next.new.source) c.args.self.now c.loop-b.self c.next.new.self c.loop-b.line (c.in-Some.b ∷ []) c.loop-b.invariant.read byte,
+      reads-both (given c.args.source.now) (given c.loop-b.source) (given c.next.new.source) (count c.args.source.now) (count c.loop-b.source) (count c.next.new.source) c.args.self.now c.loop-b.self c.next.new.self c.loop-b.line (c.in-Some.b ∷ []) c.loop-b.invariant.read byte,
       ap (λ b. c.loop-b.line ++ b ∷ []) c.if-b-eq10.true,
     )
 
@@ -21,7 +21,7 @@ returns-then-is_full-clause-read g c =
     let byte = rw c.in-Some.is at c.in_ok-b.ensures.byte in
     (
       c.loop-b.line ++ c.in-Some.b ∷ [],
-      reads-both (given c.args.source.now) (given c.loop-b.source) (given c.next.new.source) (count c.loop-b.source) (count c.next.new.source) c.args.self.now c.loop-b.self c.next.new.self c.loop-b.line (c.in-Some.b ∷ []) c.loop-b.invariant.read byte,
+      reads-both (given c.args.source.now) (given c.loop-b.source) (given c.next.new.source) (count c.args.source.now) (count c.loop-b.source) (count c.next.new.source) c.args.self.now c.loop-b.self c.next.new.self c.loop-b.line (c.in-Some.b ∷ []) c.loop-b.invariant.read byte,
       (c.in-Some.b, stays-byte c.in-Some.b c.if-b-eq10.false, refl, search rules),
     )
 
@@ -33,8 +33,8 @@ loop-b-preserved g c =
     let not_full : length c.loop-b.line ≡ 4096 → ⊥ = λ e. true≢false (sym (c.is_full.ensures.1 e) ∙ c.if-is_full.false) in
     record {
       read =
-          subst (HasRead (given c.args.source.now) (given c.next.new.source) (count c.next.new.source) c.args.self.now c.next.new.self) (sym c.push.ensures)
-          (reads-both (given c.args.source.now) (given c.loop-b.source) (given c.next.new.source) (count c.loop-b.source) (count c.next.new.source) c.args.self.now c.loop-b.self c.next.new.self c.loop-b.line (c.in-Some.b ∷ []) c.loop-b.invariant.read byte);
+          subst (HasRead (given c.args.source.now) (given c.next.new.source) (count c.args.source.now) (count c.next.new.source) c.args.self.now c.next.new.self) (sym c.push.ensures)
+          (reads-both (given c.args.source.now) (given c.loop-b.source) (given c.next.new.source) (count c.args.source.now) (count c.loop-b.source) (count c.next.new.source) c.args.self.now c.loop-b.self c.next.new.self c.loop-b.line (c.in-Some.b ∷ []) c.loop-b.invariant.read byte);
       stays = rw c.push.ensures (stays-more c.loop-b.line c.in-Some.b c.loop-b.invariant.stays c.if-b-eq10.false);
       short = omega (arith, not_full, ap length c.push.ensures, length-append c.loop-b.line (c.in-Some.b ∷ []), c.loop-b.invariant.short);
       failures = search rules;

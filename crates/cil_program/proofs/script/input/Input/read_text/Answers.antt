@@ -1,6 +1,5 @@
-use Rattle.std.proofs.Common.{◌≡◌, ◌≤◌, ◌∙◌, ◌++◌, ◌+◌, ℕ, List, length, take, ap, sym, append_assoc, length-append, vec_len, is_ok, if◌then◌else◌, rules, arith}
+use Rattle.std.proofs.Common.{◌≡◌, ◌≤◌, ◌∙◌, ◌++◌, ◌+◌, ℕ, length, take, ap, append_assoc, length-append, vec_len, is_ok, if◌then◌else◌, rules, arith}
 use Rattle.std.proofs.lemmas.List.{length-take-le}
-use Rattle.std.specs.Vec.{vec_capacity}
 use Rattle.cil_program.proofs.InputLemmas.{reads-on}
 use Rattle.cil_program.proofs.script.input.Input.read_text.Goals as goal
 
@@ -19,7 +18,7 @@ loop-left-preserved g c =
     record {
       read = (
         was.0 ++ take n bytes,
-        reads-on (given c.args.source.now) (given c.loop-left.source) (given c.has_more.new.source) (count c.loop-left.source) (count c.has_more.new.source) c.args.self.now c.loop-left.self c.has_more.new.self c.advance.new.self was.0 n was.1 c.in_ok-has_more.ensures.read within
+        reads-on (given c.args.source.now) (given c.loop-left.source) (given c.has_more.new.source) (count c.args.source.now) (count c.loop-left.source) (count c.has_more.new.source) c.args.self.now c.loop-left.self c.has_more.new.self c.advance.new.self was.0 n was.1 c.in_ok-has_more.ensures.read within
             c.advance.ensures.bytes c.advance.ensures.line_feeds,
         longer ∙ ap (λ l. l ++ take n piece) was.2 ∙ append_assoc c.args.text.now.items was.0 (take n piece) ∙ ap (λ l. c.args.text.now.items ++ (was.0 ++ take n l)) c.held-piece.ensures,
         omega (arith, was.3, length-append was.0 (take n bytes), length-take-le n bytes within),

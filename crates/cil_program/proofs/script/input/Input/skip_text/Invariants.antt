@@ -6,7 +6,7 @@ abbrev pub invariant-loop-left : goal.invariant-loop-left
 invariant-loop-left g l =
     let given = g.S.Source.given in
     record {
-      read : (read : List ℕ) × HasRead (given l.fn.source) (given l.source) (g.S.Source.count l.source) l.fn.self l.self read × (length read + l.left ≡ l.len);
+      read : (read : List ℕ) × HasRead (given l.fn.source) (given l.source) (g.S.Source.count l.fn.source) (g.S.Source.count l.source) l.fn.self l.self read × (length read + l.left ≡ l.len);
       failures : g.S.Source.failures l.fn.source ≤ g.S.Source.failures l.source;
     }
 
