@@ -3,3 +3,4 @@ pub mod Input
 pub mod Command
 pub mod Edits
 pub mod Calls
+pub mod Replies

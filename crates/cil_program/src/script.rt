@@ -3,3 +3,4 @@
 pub mod command;
 pub mod input;
 pub mod line;
+pub mod reply;

@@ -1,0 +1,170 @@
+//! The lines that answer a script (a form of this project's own).
+
+ghost use Rattle.std.specs.Prelude.{◌≡◌, ◌+◌, ◌≤◌, flat_map, OnOk, OnErr};
+ghost use Rattle.cil_specs.specs.Device.{HasFailed, Gains, GainsFront};
+ghost use Rattle.cil_specs.specs.Next.{by_store, at_place, for_memory};
+ghost use Rattle.cil_specs.specs.Script.{refusal_line, answer, last_line, stops};
+ghost use Rattle.cil_specs.specs.Run.{changed_by};
+ghost use Rattle.cil_text.specs.Image.{place_of};
+ghost use Rattle.cil_program.specs.Edits.{refusal_of};
+ghost use Rattle.cil_program.specs.Replies.{end_line};
+
+use crate::rules::Changes;
+use crate::store::Refusal;
+use cil_text::{Place, Sink, SinkFault};
+use itoa::Buffer;
+use std::alloc::Allocator;
+
+/// Writes the pieces of a line, one after another.
+fn write_pieces<W: Sink>(sink: &mut W, pieces: &[&[u8]]) -> Result<(), SinkFault>
+    ensures ok { OnOk result (Gains (W.taken sink.old) (W.taken sink.new) (flat_map (λ p. p.now) pieces.now)) }
+    ensures err { OnErr result (GainsFront (W.taken sink.old) (W.taken sink.new) (flat_map (λ p. p.now) pieces.now)) }
+    ensures failed { OnErr result (HasFailed (W.failures sink.old) (W.failures sink.new)) }
+    ensures counted { W.failures sink.old ≤ W.failures sink.new }
+{
+    for piece in pieces {
+        cil_text::write_all(sink, piece)?;
+    }
+    Ok(())
+}
+
+/// Writes how many accesses came and went with an accepted edit.
+pub fn write_changes<W: Sink, A: Allocator>(
+    sink: &mut W,
+    changes: &Changes<A>,
+) -> Result<(), SinkFault>
+    ensures ok { OnOk result (Gains (W.taken sink.old) (W.taken sink.new) (answer (changed_by changes.now))) }
+    ensures err { OnErr result (GainsFront (W.taken sink.old) (W.taken sink.new) (answer (changed_by changes.now))) }
+    ensures failed { OnErr result (HasFailed (W.failures sink.old) (W.failures sink.new)) }
+    ensures counted { W.failures sink.old ≤ W.failures sink.new }
+{
+    let mut added = Buffer::new();
+    let mut removed = Buffer::new();
+    write_pieces(
+        sink,
+        &[
+            b"ok ",
+            added.format(changes.added_len()).as_bytes(),
+            b" ",
+            removed.format(changes.removed_len()).as_bytes(),
+            b"\n",
+        ],
+    )
+}
+
+/// Writes the last line of a listing of so many rows.
+pub fn write_end<W: Sink>(sink: &mut W, rows: usize) -> Result<(), SinkFault>
+    ensures ok { OnOk result (Gains (W.taken sink.old) (W.taken sink.new) (end_line rows)) }
+    ensures err { OnErr result (GainsFront (W.taken sink.old) (W.taken sink.new) (end_line rows)) }
+    ensures failed { OnErr result (HasFailed (W.failures sink.old) (W.failures sink.new)) }
+    ensures counted { W.failures sink.old ≤ W.failures sink.new }
+{
+    let mut digits = Buffer::new();
+    write_pieces(sink, &[b"end ", digits.format(rows).as_bytes(), b"\n"])
+}
+
+/// Writes that a script is none from the line behind so many line feeds.
+pub fn write_script_line<W: Sink>(sink: &mut W, line_feeds: u64) -> Result<(), SinkFault>
+    ensures ok { OnOk result (Gains (W.taken sink.old) (W.taken sink.new) (last_line (stops (1 + line_feeds)))) }
+    ensures err { OnErr result (GainsFront (W.taken sink.old) (W.taken sink.new) (last_line (stops (1 + line_feeds)))) }
+    ensures failed { OnErr result (HasFailed (W.failures sink.old) (W.failures sink.new)) }
+    ensures counted { W.failures sink.old ≤ W.failures sink.new }
+{
+    let mut digits = Buffer::new();
+    let line = 1 + u128::from(line_feeds);
+    write_pieces(sink, &[b"script ", digits.format(line).as_bytes(), b"\n"])
+}
+
+/// Writes a refusal at a place of a module.
+fn write_place<W: Sink>(
+    sink: &mut W,
+    code: u8,
+    module: &[u8],
+    at: Place,
+    word: &[u8],
+) -> Result<(), SinkFault>
+    ensures ok { OnOk result (Gains (W.taken sink.old) (W.taken sink.new) (refusal_line (at_place code «module».now (place_of at) word.now))) }
+    ensures err { OnErr result (GainsFront (W.taken sink.old) (W.taken sink.new) (refusal_line (at_place code «module».now (place_of at) word.now))) }
+    ensures failed { OnErr result (HasFailed (W.failures sink.old) (W.failures sink.new)) }
+    ensures counted { W.failures sink.old ≤ W.failures sink.new }
+{
+    let mut code_digits = Buffer::new();
+    let mut line_digits = Buffer::new();
+    let mut column_digits = Buffer::new();
+    write_pieces(
+        sink,
+        &[
+            b"refused ",
+            code_digits.format(code).as_bytes(),
+            b" ",
+            module,
+            b":",
+            line_digits.format(at.line).as_bytes(),
+            b":",
+            column_digits.format(at.column).as_bytes(),
+            b" ",
+            word,
+            b"\n",
+        ],
+    )
+}
+
+/// Writes a refusal of the store.
+pub fn write_store_refusal<W: Sink>(sink: &mut W, code: u8, word: &[u8]) -> Result<(), SinkFault>
+    ensures ok { OnOk result (Gains (W.taken sink.old) (W.taken sink.new) (refusal_line (by_store code word.now))) }
+    ensures err { OnErr result (GainsFront (W.taken sink.old) (W.taken sink.new) (refusal_line (by_store code word.now))) }
+    ensures failed { OnErr result (HasFailed (W.failures sink.old) (W.failures sink.new)) }
+    ensures counted { W.failures sink.old ≤ W.failures sink.new }
+{
+    let mut digits = Buffer::new();
+    write_pieces(
+        sink,
+        &[
+            b"refused ",
+            digits.format(code).as_bytes(),
+            b" ",
+            word,
+            b"\n",
+        ],
+    )
+}
+
+/// Writes that memory ran out.
+pub fn write_no_memory<W: Sink>(sink: &mut W) -> Result<(), SinkFault>
+    ensures ok { OnOk result (Gains (W.taken sink.old) (W.taken sink.new) (refusal_line for_memory)) }
+    ensures err { OnErr result (GainsFront (W.taken sink.old) (W.taken sink.new) (refusal_line for_memory)) }
+    ensures failed { OnErr result (HasFailed (W.failures sink.old) (W.failures sink.new)) }
+    ensures counted { W.failures sink.old ≤ W.failures sink.new }
+{
+    cil_text::write_all(sink, b"refused 60 memory\n")
+}
+
+/// Writes a refusal.
+pub fn write_refusal<W: Sink, A: Allocator>(
+    sink: &mut W,
+    refusal: &Refusal<A>,
+) -> Result<(), SinkFault>
+    ensures ok { OnOk result (Gains (W.taken sink.old) (W.taken sink.new) (refusal_line (refusal_of refusal.now))) }
+    ensures err { OnErr result (GainsFront (W.taken sink.old) (W.taken sink.new) (refusal_line (refusal_of refusal.now))) }
+    ensures failed { OnErr result (HasFailed (W.failures sink.old) (W.failures sink.new)) }
+    ensures counted { W.failures sink.old ≤ W.failures sink.new }
+{
+    match refusal {
+        Refusal::Store { fault, word } => {
+            write_store_refusal(sink, fault.code(), word.as_slice())
+        }
+        Refusal::Text {
+            module,
+            kind,
+            at,
+            word,
+        } => write_place(sink, kind.code(), module.as_slice(), *at, word.as_slice()),
+        Refusal::Policy {
+            module,
+            kind,
+            at,
+            word,
+        } => write_place(sink, kind.code(), module.as_slice(), *at, word.as_slice()),
+        Refusal::Memory => write_no_memory(sink),
+    }
+}
