@@ -1,5 +1,5 @@
 -- Bytes that are read one piece after another.
-use Rattle.std.proofs.Common.{◌≡◌, ◌≢◌, ℕ, ◌+◌, ◌<◌, ◌≤◌, ◌^◌, Bool, true, false, not, List, [], ◌∷◌, ◌++◌, length, take, drop, append-nil, length-drop, count_by, Option, refl, ap, sym, ◌∙◌, append_assoc, length-append, arith}
+use Rattle.std.proofs.Common.{Option, IsTrue, Result, Ok, Err, IfOk, inl, inr, false, true, Bool, ◌≡◌, ◌≢◌, ℕ, ◌+◌, ◌<◌, ◌≤◌, ◌^◌, not, List, [], ◌∷◌, ◌++◌, length, take, drop, append-nil, length-drop, count_by, refl, ap, sym, ◌∙◌, append_assoc, length-append, arith}
 use Rattle.std.specs.List.{list_all}
 use Rattle.std.proofs.lemmas.List.{take-append-drop, length-take-le}
 use Rattle.std.proofs.lemmas.List.Sums.{sum_by-append, count_by-le-length}
@@ -7,10 +7,11 @@ use Rattle.std.proofs.lemmas.List.Folds.{list_all-append}
 use Rattle.std.proofs.lemmas.Bool.{eqb-true}
 use lib.Seq.{take-nil, drop-nil}
 use Rattle.cil_specs.specs.Place.{is_line_feed}
+use Rattle.cil_text.specs.declared.source.SourceFault.{SourceFault}
 use Rattle.cil_specs.specs.Device.{Takes, Held}
 use Rattle.cil_specs.proofs.Gaining.{gains-both, gains-none}
 use Rattle.cil_specs.proofs.Runs.{both_true}
-use Rattle.cil_program.specs.Input.{Fits, HasRead, stays}
+use Rattle.cil_program.specs.Input.{Fits, HasRead, IsOther, IsWholeText, IsShort, stays}
 
 takes-both : (given mid now : Option (List ℕ)) (before between held first second : List ℕ) → Takes given mid before first between → Takes mid now between second held → Takes given now before (first ++ second) held
 takes-both given mid now before between held first second a b = record {
@@ -82,3 +83,18 @@ pub reads-on : (given mid now : Option (List ℕ)) (count some all : ℕ) (old b
 reads-on given mid now count some all old between more new read n a b within bytes feeds =
     reads-both given mid now count some all old between new read (take n more.bytes) a
     (reads-both mid now now some all all between more new [] (take n more.bytes) b (advances now all more new n b.fits within bytes feeds))
+
+-- the bytes of a text, and then what is no line feed
+short-text : (len : ℕ) (first read : List ℕ) (ended : Bool) (held : List ℕ) → length first ≡ len → IsOther read ended held → IsShort len (first ++ read) ended held
+short-text len first read ended held size (inl none) = inl (omega (arith, size, length-append first read, ap length none.0), none.1, none.2)
+short-text len first read ended held size (inr other) = inr (first, other.0, ap (λ l. first ++ l) other.1, size, other.2)
+
+-- the bytes of a text, and then its line feed, or not
+pub text-then : (r : Result Bool SourceFault) (given mid now : Option (List ℕ)) (count some all : ℕ) (old between new : Held) (len : ℕ) (first : List ℕ) (ended : Bool) → HasRead given mid count some old between first → length first ≡ len
+    → IfOk r (λ is. IsTrue is → HasRead mid now some all between new (10 ∷ [])) → IfOk r (λ is. is ≡ false → (read : List ℕ) × HasRead mid now some all between new read × IsOther read ended new.bytes)
+    → IfOk r (λ whole. (read : List ℕ) × HasRead given now count all old new read × IsWholeText whole len first read ended new.bytes)
+text-then (Err _) given mid now count some all old between new len first ended a size is_end is_other = tt
+text-then (Ok true) given mid now count some all old between new len first ended a size is_end is_other = (first ++ 10 ∷ [], reads-both given mid now count some all old between new first (10 ∷ []) a (is_end refl), (refl, size))
+text-then (Ok false) given mid now count some all old between new len first ended a size is_end is_other =
+    let other = is_other refl in
+    (first ++ other.0, reads-both given mid now count some all old between new first other.0 a other.1, short-text len first other.0 ended new.bytes size other.2)

@@ -1,2 +1,4 @@
 pub mod InputLemmas
 pub mod CommandLemmas
+pub mod EndLemmas
+pub mod SessionLemmas

@@ -31,7 +31,7 @@ rule_of modules names r = record {
   source = a_type (slice_index_or names r.source []);
   target = at_element (a_type (slice_index_or names r.target []));
   the_class = slice_index_or names r.class [];
-  permissions = map (λ p. slice_index_or names p []) r.permissions.items
+  permissions = map (λ p. slice_index_or names p []) r.permissions.items;
 }
 
 -- the rules of a resolved policy

@@ -1,5 +1,5 @@
 -- What was read from a source that gives bytes in pieces.
-use Rattle.std.specs.Prelude.{◌≡◌, ◌≢◌, ℕ, ◌+◌, ◌<◌, ◌≤◌, ◌^◌, Bool, true, false, not, List, [], ◌∷◌, ◌++◌, length, count_by, IsTrue, Option}
+use Rattle.std.specs.Prelude.{◌≡◌, ◌≢◌, ℕ, ◌+◌, ◌<◌, ◌≤◌, ◌^◌, Bool, true, false, not, List, [], ◌∷◌, ◌++◌, length, count_by, IsTrue, Option, ◌⊎◌}
 use Rattle.cil_specs.specs.Place.{is_line_feed}
 use Rattle.cil_specs.specs.Device.{Takes, Held}
 use Rattle.cil_program.specs.declared.script.input.LineEnd.{LineEnd}
@@ -32,3 +32,16 @@ EndsLine TooLong line read ended held = (b : ℕ) × IsTrue (stays b) × (read �
 abbrev pub IsText : Bool → ℕ → List ℕ → Bool → List ℕ → Type 0
 IsText true len read ended held = length read ≡ len
 IsText false len read ended held = (length read < len) × IsTrue ended × (held ≡ [])
+
+-- what was read is no line feed: nothing, and the source ended; or another byte
+abbrev pub IsOther : List ℕ → Bool → List ℕ → Type 0
+IsOther read ended held = ((read ≡ []) × IsTrue ended × (held ≡ [])) ⊎ ((b : ℕ) × (read ≡ b ∷ []) × (b ≢ 10))
+
+-- not the text of an install and its line feed: less than them, and the source ended; or another byte stands behind the text
+abbrev pub IsShort : ℕ → List ℕ → Bool → List ℕ → Type 0
+IsShort len read ended held = ((length read ≤ len) × IsTrue ended × (held ≡ [])) ⊎ ((text : List ℕ) × (b : ℕ) × (read ≡ text ++ b ∷ []) × (length text ≡ len) × (b ≢ 10))
+
+-- the text of an install and its line feed
+abbrev pub IsWholeText : Bool → ℕ → List ℕ → List ℕ → Bool → List ℕ → Type 0
+IsWholeText true len text read ended held = (read ≡ text ++ 10 ∷ []) × (length text ≡ len)
+IsWholeText false len text read ended held = IsShort len read ended held

@@ -4,3 +4,4 @@ pub mod Command
 pub mod Edits
 pub mod Calls
 pub mod Replies
+pub mod Session

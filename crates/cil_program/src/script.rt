@@ -4,3 +4,4 @@ pub mod command;
 pub mod input;
 pub mod line;
 pub mod reply;
+pub mod session;

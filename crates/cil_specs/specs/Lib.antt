@@ -18,3 +18,4 @@ pub mod Next
 pub mod Run
 pub mod Script
 pub mod Device
+pub mod Session

@@ -5,8 +5,8 @@ ghost use Rattle.std.specs.List.{list_all};
 ghost use Rattle.cil_specs.specs.Place.{is_line_feed};
 ghost use Rattle.cil_specs.specs.Device.{HasFailed, Gains, Takes};
 
-use cil_text::{Source, SourceFault};
 use crate::script::line::Line;
+use cil_text::{Source, SourceFault};
 use std::alloc::Allocator;
 use std::marker::Model;
 
@@ -19,6 +19,24 @@ pub enum LineEnd {
     LastByte,
     /// It is longer than a line may be; a byte too many was read.
     TooLong,
+}
+
+impl LineEnd {
+    ghost use Rattle.std.specs.Prelude.{◌≡◌, ◌↔◌, IsTrue};
+    ghost use Rattle.cil_program.specs.declared.script.input.LineEnd.TheVariants.{LastByte as last_byte, TooLong as too_long};
+
+    /// Whether the line is the last of its source.
+    pub fn is_last(self) -> bool
+        ensures { IsTrue result ↔ (self ≡ last_byte) }
+    {
+        matches!(self, LineEnd::LastByte)
+    }
+
+    pub fn is_too_long(self) -> bool
+        ensures { IsTrue result ↔ (self ≡ too_long) }
+    {
+        matches!(self, LineEnd::TooLong)
+    }
 }
 
 /// How many bytes are asked of the source at once.
@@ -110,7 +128,7 @@ impl Input {
     ghost use Rattle.std.specs.List.{list_all};
     ghost use Rattle.cil_specs.specs.Device.{HasFailed};
     ghost use Rattle.cil_specs.specs.Place.{is_line_feed};
-    ghost use Rattle.cil_program.specs.Input.{Fits, HasRead, EndsLine, IsText, stays};
+    ghost use Rattle.cil_program.specs.Input.{Fits, HasRead, EndsLine, IsText, IsOther, IsWholeText, stays};
 
     /// The next byte; none where the source told its end.
     fn next<S: Source>(&mut self, source: &mut S) -> Result<Option<u8>, SourceFault>
@@ -190,8 +208,8 @@ impl Input {
         self.start = from + len;
     }
 
-    /// Reads a text of a known length to the end of a vector that has room for it. Says whether it was there as a whole.
-    pub fn read_text<S: Source, A: Allocator>(
+    /// Reads so many bytes to the end of a vector that has room for them. Says whether all were there.
+    fn take_bytes<S: Source, A: Allocator>(
         &mut self,
         source: &mut S,
         len: usize,
@@ -218,8 +236,8 @@ impl Input {
         Ok(true)
     }
 
-    /// Reads a text of a known length and leaves it aside. Says whether it was there as a whole.
-    pub fn skip_text<S: Source>(&mut self, source: &mut S, len: usize) -> Result<bool, SourceFault>
+    /// Reads so many bytes and leaves them aside. Says whether all were there.
+    fn skip_bytes<S: Source>(&mut self, source: &mut S, len: usize) -> Result<bool, SourceFault>
         requires { Fits (S.count source.old) self.old }
         ensures read { IfOk result (λ whole. (read : List ℕ) × HasRead (S.given source.old) (S.given source.new) (S.count source.old) (S.count source.new) self.old self.new read
             × IsText whole len read (S.ended source.new) self.new.bytes) }
@@ -236,5 +254,55 @@ impl Input {
             left -= n;
         }
         Ok(true)
+    }
+
+    /// Reads a byte, and says whether it was a line feed.
+    fn take_line_feed<S: Source>(&mut self, source: &mut S) -> Result<bool, SourceFault>
+        requires { Fits (S.count source.old) self.old }
+        ensures yes { IfOk result (λ is. IsTrue is → HasRead (S.given source.old) (S.given source.new) (S.count source.old) (S.count source.new) self.old self.new (10 ∷ [])) }
+        ensures no { IfOk result (λ is. is ≡ false → (read : List ℕ) × HasRead (S.given source.old) (S.given source.new) (S.count source.old) (S.count source.new) self.old self.new read
+            × IsOther read (S.ended source.new) self.new.bytes) }
+        ensures failed { OnErr result (HasFailed (S.failures source.old) (S.failures source.new)) }
+        ensures failures { S.failures source.old ≤ S.failures source.new }
+    {
+        let Some(b) = self.next(source)? else {
+            return Ok(false);
+        };
+        Ok(b == b'\n')
+    }
+
+    /// Reads the text of an install and its line feed. The text comes to the end of a vector that has room for it. Says whether
+    /// all were there.
+    pub fn read_text<S: Source, A: Allocator>(
+        &mut self,
+        source: &mut S,
+        len: usize,
+        text: &mut Vec<u8, A>,
+    ) -> Result<bool, SourceFault>
+        requires counted { Fits (S.count source.old) self.old }
+        requires room { vec_len text.old + len ≤ vec_capacity text.old }
+        ensures read { IfOk result (λ whole. (read part : List ℕ) × HasRead (S.given source.old) (S.given source.new) (S.count source.old) (S.count source.new) self.old self.new read
+            × (text.new.items ≡ text.old.items ++ part) × IsWholeText whole len part read (S.ended source.new) self.new.bytes) }
+        ensures failed { OnErr result (HasFailed (S.failures source.old) (S.failures source.new)) }
+        ensures failures { S.failures source.old ≤ S.failures source.new }
+    {
+        if !self.take_bytes(source, len, text)? {
+            return Ok(false);
+        }
+        self.take_line_feed(source)
+    }
+
+    /// Reads the text of an install and its line feed, and leaves them aside. Says whether all were there.
+    pub fn skip_text<S: Source>(&mut self, source: &mut S, len: usize) -> Result<bool, SourceFault>
+        requires { Fits (S.count source.old) self.old }
+        ensures read { IfOk result (λ whole. (read part : List ℕ) × HasRead (S.given source.old) (S.given source.new) (S.count source.old) (S.count source.new) self.old self.new read
+            × IsWholeText whole len part read (S.ended source.new) self.new.bytes) }
+        ensures failed { OnErr result (HasFailed (S.failures source.old) (S.failures source.new)) }
+        ensures failures { S.failures source.old ≤ S.failures source.new }
+    {
+        if !self.skip_bytes(source, len)? {
+            return Ok(false);
+        }
+        self.take_line_feed(source)
     }
 }

@@ -13,5 +13,5 @@ returns-clause-err g c =
     let taken = g.W.Sink.taken in
     subst (λ (l : List ℕ). OnErr c.write_pieces.result (GainsFront (taken c.args.sink.now) (taken c.write_pieces.new.sink) l))
     (line c.as_bytes.result.now c.as_bytes-2.result.now (length c.args.changes.now.added) (length c.args.changes.now.removed) (c.as_bytes.ensures.value ∙ c.format.ensures.text ∙ ap decimal c.added_len.ensures)
-     (c.as_bytes-2.ensures.value ∙ c.format-2.ensures.text ∙ ap decimal c.removed_len.ensures))
+    (c.as_bytes-2.ensures.value ∙ c.format-2.ensures.text ∙ ap decimal c.removed_len.ensures))
     c.write_pieces.ensures.err

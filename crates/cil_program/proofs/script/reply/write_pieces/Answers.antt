@@ -1,5 +1,4 @@
-use Rattle.std.proofs.Common.{ℕ, List, Bor, OnErr, rules}
-use Rattle.cil_specs.specs.Device.{GainsFront}
+use Rattle.std.proofs.Common.{ℕ, List, Bor, rules}
 use Rattle.cil_specs.proofs.Gaining.{gains-next, gains-next-front}
 use Rattle.cil_program.proofs.script.reply.write_pieces.Goals as goal
 

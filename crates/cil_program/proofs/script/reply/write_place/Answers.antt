@@ -18,7 +18,7 @@ returns-clause-ok g c =
     let taken = g.W.Sink.taken in
     subst (λ (l : List ℕ). OnOk c.write_pieces.result (Gains (taken c.args.sink.now) (taken c.write_pieces.new.sink) l))
     (line c.as_bytes.result.now c.as_bytes-2.result.now c.as_bytes-3.result.now c.args.module.now c.args.word.now c.args.code c.args.at.line c.args.at.column (c.as_bytes.ensures.value ∙ c.format.ensures.text) (c.as_bytes-2.ensures.value ∙ c.format-2.ensures.text)
-     (c.as_bytes-3.ensures.value ∙ c.format-3.ensures.text))
+    (c.as_bytes-3.ensures.value ∙ c.format-3.ensures.text))
     c.write_pieces.ensures.ok
 
 pub returns-clause-err : goal.returns-clause-err
@@ -26,5 +26,5 @@ returns-clause-err g c =
     let taken = g.W.Sink.taken in
     subst (λ (l : List ℕ). OnErr c.write_pieces.result (GainsFront (taken c.args.sink.now) (taken c.write_pieces.new.sink) l))
     (line c.as_bytes.result.now c.as_bytes-2.result.now c.as_bytes-3.result.now c.args.module.now c.args.word.now c.args.code c.args.at.line c.args.at.column (c.as_bytes.ensures.value ∙ c.format.ensures.text) (c.as_bytes-2.ensures.value ∙ c.format-2.ensures.text)
-     (c.as_bytes-3.ensures.value ∙ c.format-3.ensures.text))
+    (c.as_bytes-3.ensures.value ∙ c.format-3.ensures.text))
     c.write_pieces.ensures.err

@@ -7,8 +7,7 @@ pub returns-then-b-eq10-clause-read : goal.returns-then-b-eq10-clause-read
 returns-then-b-eq10-clause-read g c =
     let given = g.S.Source.given in
     let count = g.S.Source.count in
-    let byte = rw c.in-Some.is at c.in_ok-b.ensures.byte in
-    (
+    let byte = rw c.in-Some.is at c.in_ok-b.ensures.byte in (
       c.loop-b.line ++ c.in-Some.b ∷ [],
       reads-both (given c.args.source.now) (given c.loop-b.source) (given c.next.new.source) (count c.args.source.now) (count c.loop-b.source) (count c.next.new.source) c.args.self.now c.loop-b.self c.next.new.self c.loop-b.line (c.in-Some.b ∷ []) c.loop-b.invariant.read byte,
       ap (λ b. c.loop-b.line ++ b ∷ []) c.if-b-eq10.true,
@@ -18,8 +17,7 @@ pub returns-then-is_full-clause-read : goal.returns-then-is_full-clause-read
 returns-then-is_full-clause-read g c =
     let given = g.S.Source.given in
     let count = g.S.Source.count in
-    let byte = rw c.in-Some.is at c.in_ok-b.ensures.byte in
-    (
+    let byte = rw c.in-Some.is at c.in_ok-b.ensures.byte in (
       c.loop-b.line ++ c.in-Some.b ∷ [],
       reads-both (given c.args.source.now) (given c.loop-b.source) (given c.next.new.source) (count c.args.source.now) (count c.loop-b.source) (count c.next.new.source) c.args.self.now c.loop-b.self c.next.new.self c.loop-b.line (c.in-Some.b ∷ []) c.loop-b.invariant.read byte,
       (c.in-Some.b, stays-byte c.in-Some.b c.if-b-eq10.false, refl, search rules),

@@ -1,28 +1,19 @@
-use Rattle.std.proofs.Common.{◌≡◌, ◌≤◌, ◌∙◌, ◌++◌, ◌+◌, ℕ, length, take, ap, append_assoc, length-append, vec_len, is_ok, if◌then◌else◌, rules, arith}
-use Rattle.std.proofs.lemmas.List.{length-take-le}
-use Rattle.cil_program.proofs.InputLemmas.{reads-on}
+use Rattle.std.proofs.Common.{List, ℕ, Bool, Result, Ok, Err, IfOk}
+use Rattle.cil_text.specs.declared.source.SourceFault.{SourceFault}
+use Rattle.cil_program.proofs.InputLemmas.{text-then}
 use Rattle.cil_program.proofs.script.input.Input.read_text.Goals as goal
 
-pub loop-left-preserved : goal.loop-left-preserved
-loop-left-preserved g c =
+with-part : (H : List ℕ → Type 0) (W : Bool → List ℕ → List ℕ → Type 0) (P : List ℕ → Type 0) (r : Result Bool SourceFault) (part : List ℕ) → P part → IfOk r (λ whole. (read : List ℕ) × H read × W whole part read)
+    → IfOk r (λ whole. (read : List ℕ) × (some : List ℕ) × H read × P some × W whole some read)
+with-part H W P (Err _) part is some = tt
+with-part H W P (Ok whole) part is some = (some.0, part, some.1, is, some.2)
+
+pub returns-clause-read : goal.returns-clause-read
+returns-clause-read g c =
     let given = g.S.Source.given in
     let count = g.S.Source.count in
-    let was = c.loop-left.invariant.read in
-    let bytes = c.has_more.new.self.bytes in
-    let n : ℕ = c.min-n.result in
-    let within : n ≤ length bytes = omega (arith, ap length c.held-piece.ensures) in
-    let piece = c.held-piece.result.now in
-    let old = c.loop-left.text in
-    let longer : c.extend_from_slice.new.self.items ≡ old.items ++ take n piece = c.extend_from_slice.ensures.items ∙ ap (λ r. if is_ok r then old.items ++ take n piece else old.items) c.unwrap.ensures in
-    let size : vec_len c.extend_from_slice.new.self ≡ vec_len old + length (take n piece) = c.extend_from_slice.ensures.len ∙ ap (λ r. if is_ok r then vec_len old + length (take n piece) else vec_len old) c.unwrap.ensures in
-    record {
-      read = (
-        was.0 ++ take n bytes,
-        reads-on (given c.args.source.now) (given c.loop-left.source) (given c.has_more.new.source) (count c.args.source.now) (count c.loop-left.source) (count c.has_more.new.source) c.args.self.now c.loop-left.self c.has_more.new.self c.advance.new.self was.0 n was.1 c.in_ok-has_more.ensures.read within
-            c.advance.ensures.bytes c.advance.ensures.line_feeds,
-        longer ∙ ap (λ l. l ++ take n piece) was.2 ∙ append_assoc c.args.text.now.items was.0 (take n piece) ∙ ap (λ l. c.args.text.now.items ++ (was.0 ++ take n l)) c.held-piece.ensures,
-        omega (arith, was.3, length-append was.0 (take n bytes), length-take-le n bytes within),
-      );
-      room = omega (arith, size, length-take-le n piece (omega arith), c.extend_from_slice.ensures.capacity, c.loop-left.invariant.room);
-      failures = search rules;
-    }
+    let was = c.in_ok-take_bytes.ensures.read in
+    let size = rw c.if-not-branch.false at was.3 in
+    with-part _ _ _ c.take_line_feed.result was.0 was.2
+    (text-then c.take_line_feed.result (given c.args.source.now) (given c.take_bytes.new.source) (given c.take_line_feed.new.source) (count c.args.source.now) (count c.take_bytes.new.source) (count c.take_line_feed.new.source) c.args.self.now
+    c.take_bytes.new.self c.take_line_feed.new.self c.args.len was.0 (g.S.Source.ended c.take_line_feed.new.source) was.1 size c.take_line_feed.ensures.yes c.take_line_feed.ensures.no)

@@ -1,22 +1,19 @@
-use Rattle.std.proofs.Common.{◌≤◌, ◌++◌, ℕ, length, take, ap, length-append, rules, arith}
-use Rattle.std.proofs.lemmas.List.{length-take-le}
-use Rattle.cil_program.proofs.InputLemmas.{reads-on}
+use Rattle.std.proofs.Common.{List, ℕ, Bool, Result, Ok, Err, IfOk}
+use Rattle.cil_text.specs.declared.source.SourceFault.{SourceFault}
+use Rattle.cil_program.proofs.InputLemmas.{text-then}
 use Rattle.cil_program.proofs.script.input.Input.skip_text.Goals as goal
 
-pub loop-left-preserved : goal.loop-left-preserved
-loop-left-preserved g c =
+with-part : (H : List ℕ → Type 0) (W : Bool → List ℕ → List ℕ → Type 0) (r : Result Bool SourceFault) (part : List ℕ) → IfOk r (λ whole. (read : List ℕ) × H read × W whole part read)
+    → IfOk r (λ whole. (read : List ℕ) × (some : List ℕ) × H read × W whole some read)
+with-part H W (Err _) part some = tt
+with-part H W (Ok whole) part some = (some.0, part, some.1, some.2)
+
+pub returns-clause-read : goal.returns-clause-read
+returns-clause-read g c =
     let given = g.S.Source.given in
     let count = g.S.Source.count in
-    let was = c.loop-left.invariant.read in
-    let bytes = c.has_more.new.self.bytes in
-    let n : ℕ = c.min-n.result in
-    let within : n ≤ length bytes = omega (arith, ap length c.held.ensures) in
-    record {
-      read = (
-        was.0 ++ take n bytes,
-        reads-on (given c.args.source.now) (given c.loop-left.source) (given c.has_more.new.source) (count c.args.source.now) (count c.loop-left.source) (count c.has_more.new.source) c.args.self.now c.loop-left.self c.has_more.new.self c.advance.new.self was.0 n was.1 c.in_ok-has_more.ensures.read within
-            c.advance.ensures.bytes c.advance.ensures.line_feeds,
-        omega (arith, was.2, length-append was.0 (take n bytes), length-take-le n bytes within),
-      );
-      failures = search rules;
-    }
+    let was = c.in_ok-skip_bytes.ensures.read in
+    let size = rw c.if-not-branch.false at was.2 in
+    with-part _ _ c.take_line_feed.result was.0
+    (text-then c.take_line_feed.result (given c.args.source.now) (given c.skip_bytes.new.source) (given c.take_line_feed.new.source) (count c.args.source.now) (count c.skip_bytes.new.source) (count c.take_line_feed.new.source) c.args.self.now
+    c.skip_bytes.new.self c.take_line_feed.new.self c.args.len was.0 (g.S.Source.ended c.take_line_feed.new.source) was.1 size c.take_line_feed.ensures.yes c.take_line_feed.ensures.no)

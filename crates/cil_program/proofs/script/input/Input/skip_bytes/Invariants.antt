@@ -1,6 +1,6 @@
 use Rattle.std.proofs.Common.{◌≡◌, ◌≤◌, ◌+◌, ℕ, List, length}
 use Rattle.cil_program.specs.Input.{HasRead}
-use Rattle.cil_program.proofs.script.input.Input.skip_text.Given as goal
+use Rattle.cil_program.proofs.script.input.Input.skip_bytes.Given as goal
 
 abbrev pub invariant-loop-left : goal.invariant-loop-left
 invariant-loop-left g l =

@@ -1,7 +1,7 @@
 use Rattle.std.proofs.Common.{◌≡◌, ◌≤◌, ◌+◌, ◌++◌, ℕ, List, length, vec_len}
 use Rattle.std.specs.Vec.{vec_capacity}
 use Rattle.cil_program.specs.Input.{HasRead}
-use Rattle.cil_program.proofs.script.input.Input.read_text.Given as goal
+use Rattle.cil_program.proofs.script.input.Input.take_bytes.Given as goal
 
 abbrev pub invariant-loop-left : goal.invariant-loop-left
 invariant-loop-left g l =

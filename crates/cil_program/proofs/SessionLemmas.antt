@@ -1,0 +1,305 @@
+-- A session, one line after another.
+use Rattle.std.proofs.Common.{◌≡◌, ◌≢◌, ℕ, ◌+◌, ◌-◌, ◌^◌, ◌<◌, ◌≤◌, ◌||◌, Bool, true, false, List, [], ◌∷◌, ◌++◌, length, flat_map, count_by, IsTrue, inl, inr, ◌==◌, refl, ap, sym, ◌∙◌, subst, append_assoc, append-nil, length-append, true≢false, if◌then◌else◌, arith}
+use Rattle.std.specs.List.{list_all, list_any, AllByRecursion}
+use Rattle.std.proofs.lemmas.List.Folds.{list_any-append, list_all-append}
+use Rattle.std.proofs.lemmas.Grind.{flat_map-append}
+use Rattle.cil_specs.specs.Device.{Gains}
+use Rattle.cil_specs.specs.Run.{Call, ask_rows, Reply, changed_by, refused, listed, Run}
+use Rattle.cil_specs.specs.Script.{line_of, command, IsCommand, IsNoCommand, ends, stops, whole, without_end, answer, last_line, is_refusal}
+use Rattle.cil_specs.specs.Session as spec
+use Rattle.cil_specs.specs.Session.{IsSession, all_accepted, some_refused, no_script}
+use Rattle.cil_specs.proofs.Gaining.{gains-both, gains-none}
+use Rattle.cil_specs.proofs.RunLemmas.{run-more}
+use Rattle.cil_specs.proofs.Runs.{both_true}
+use Rattle.cil_program.specs.Input.{Fits, EndsLine, stays}
+use Rattle.cil_program.specs.Session.{Moment, Standing, status_of, Advances, outcome_of, HasAnswered, IsWhole, IsBad, IsOutcome}
+use Rattle.cil_program.specs.declared.script.input.LineEnd.{LineEnd}
+use Rattle.cil_program.specs.declared.script.input.LineEnd.TheVariants.{LineFeed, LastByte, TooLong}
+use Rattle.cil_program.specs.declared.script.session.Outcome.{Outcome}
+use Rattle.cil_program.specs.declared.script.session.Outcome.TheVariants.{Accepted, Refused, NoCommand}
+use Rattle.cil_program.specs.declared.script.session.Status.{Status}
+use Rattle.cil_program.specs.declared.script.session.Status.TheVariants as statuses
+use Rattle.cil_program.proofs.InputLemmas.{reads-both}
+use Rattle.cil_program.proofs.EndLemmas.{no-line-command, no-last-command, no-long-command, no-text-command}
+
+-- nothing was read
+pub stands : (now : Moment) → Fits now.count now.held → Advances now now []
+stands now fits = record {
+  takes = record { fresh = []; gains = gains-none now.given; same = append-nil now.held.bytes };
+  line_feeds = omega arith;
+  counts = omega arith;
+  fits = fits;
+  small = λ some. absurd (some refl);
+}
+
+-- an answered call is no line that is none
+abbrev is_none : Outcome → Bool
+is_none NoCommand = true
+is_none _ = false
+
+some-outcome : (reply : Reply) → NoCommand ≡ outcome_of reply → ⊥
+some-outcome (changed_by changes) e = true≢false (ap is_none e)
+some-outcome (refused refusal) e = true≢false (ap is_none e)
+some-outcome (listed rows) e = true≢false (ap is_none e)
+
+-- the question for the listing was answered
+pub rows-outcome : (outcome : Outcome) (end : LineEnd) (line : List ℕ) (now : Moment) (before after : Standing) → Fits now.count now.held → end ≢ TooLong → (end ≡ LastByte → IsTrue now.ended × (now.held.bytes ≡ [])) → line ≡ line_of ask_rows
+    → HasAnswered ask_rows outcome before after → IsOutcome outcome end line now now before after
+rows-outcome NoCommand end line now before after fits short last is answered = absurd (some-outcome answered.reply answered.is)
+rows-outcome Accepted LineFeed line now before after fits short last is answered = (ask_rows, [], stands now fits, (tt, is, ap (λ l. l ++ 10 ∷ []) is), answered)
+rows-outcome Accepted LastByte line now before after fits short last is answered = (ask_rows, [], stands now fits, (tt, tt, is, refl, (last refl).0, (last refl).1), answered)
+rows-outcome Accepted TooLong line now before after fits short last is answered = absurd (short refl)
+rows-outcome Refused LineFeed line now before after fits short last is answered = (ask_rows, [], stands now fits, (tt, is, ap (λ l. l ++ 10 ∷ []) is), answered)
+rows-outcome Refused LastByte line now before after fits short last is answered = (ask_rows, [], stands now fits, (tt, tt, is, refl, (last refl).0, (last refl).1), answered)
+rows-outcome Refused TooLong line now before after fits short last is answered = absurd (short refl)
+
+-- What a session did so far: it read whole commands, answered them, and wrote the answers.
+pub record SoFar (first now : Moment) (before after : Standing) (status : Status) : Type 0 where
+  pub read : List ℕ
+  pub reads : Advances first now read
+  pub calls : List Call
+  pub replies : List Reply
+  pub good : AllByRecursion IsCommand calls
+  pub is : read ≡ flat_map command calls
+  pub run : Run before.store calls replies after.store
+  pub written : Gains before.taken after.taken (flat_map answer replies)
+  pub status_is : status_of status ≡ spec.status_of replies ends
+
+-- before the first line
+pub at-start : (first : Moment) (before : Standing) → first.held.bytes ≡ [] → first.held.line_feeds ≡ 0 → SoFar first first before before statuses.Clean
+at-start first before none feeds = record {
+  read = [];
+  reads = stands first (record { within = omega (arith, feeds, ap length none); small = λ some. absurd (some none) });
+  calls = [];
+  replies = [];
+  good = tt;
+  is = refl;
+  run = refl;
+  written = gains-none before.taken;
+  status_is = refl;
+}
+
+all-more : (calls : List Call) (call : Call) → AllByRecursion IsCommand calls → IsCommand call → AllByRecursion IsCommand (calls ++ call ∷ [])
+all-more [] call all is = (is, tt)
+all-more (c ∷ calls) call all is = (all.0, all-more calls call all.1 is)
+
+map-more : {X : Type 0} (f : X → List ℕ) (xs : List X) (x : X) → flat_map f (xs ++ x ∷ []) ≡ flat_map f xs ++ f x
+map-more f xs x = flat_map-append f xs (x ∷ []) ∙ ap (λ l. flat_map f xs ++ l) (append-nil (f x))
+
+-- the status after an outcome
+abbrev pub after_outcome : Outcome → Status → Status
+after_outcome Accepted status = status
+after_outcome Refused status = statuses.Refused
+after_outcome NoCommand status = statuses.Script
+
+-- the replies tell the status
+refused-more : (replies : List Reply) (reply : Reply) (outcome : Outcome) (status : Status) → outcome ≡ outcome_of reply → status_of status ≡ spec.status_of replies ends
+    → status_of (after_outcome outcome status) ≡ spec.status_of (replies ++ reply ∷ []) ends
+refused-more replies reply outcome status is so_far = ap (λ o. status_of (after_outcome o status)) is ∙ by reply ∙ ap (λ b. if b then some_refused else all_accepted) (sym (list_any-append is_refusal replies (reply ∷ [])))
+  where
+    without : (b : Bool) → (b || false) ≡ b
+    without true = refl
+    without false = refl
+
+    with : (b : Bool) → (b || true) ≡ true
+    with true = refl
+    with false = refl
+
+    by : (reply : Reply) → status_of (after_outcome (outcome_of reply) status) ≡ (if list_any is_refusal replies || list_any is_refusal (reply ∷ []) then some_refused else all_accepted)
+    by (changed_by changes) = so_far ∙ ap (λ b. if b then some_refused else all_accepted) (sym (without (list_any is_refusal replies)))
+    by (listed rows) = so_far ∙ ap (λ b. if b then some_refused else all_accepted) (sym (without (list_any is_refusal replies)))
+    by (refused refusal) = ap (λ b. if b then some_refused else all_accepted) (sym (with (list_any is_refusal replies)))
+
+-- what is left of an outcome where there was a command
+pub record HasCommand (outcome : Outcome) (end : LineEnd) (line : List ℕ) (old new : Moment) (before after : Standing) : Type 0 where
+  pub call : Call
+  pub read : List ℕ
+  pub reads : Advances old new read
+  pub is_whole : IsWhole end line read new call
+  pub answered : HasAnswered call outcome before after
+
+pub some-command : (outcome : Outcome) (end : LineEnd) (line : List ℕ) (old new : Moment) (before after : Standing) → outcome ≢ NoCommand → IsOutcome outcome end line old new before after → HasCommand outcome end line old new before after
+some-command Accepted end line old new before after some is = record { call = is.0; read = is.1; reads = is.2; is_whole = is.3; answered = is.4 }
+some-command Refused end line old new before after some is = record { call = is.0; read = is.1; reads = is.2; is_whole = is.3; answered = is.4 }
+some-command NoCommand end line old new before after some is = absurd (some refl)
+
+advances-both : (old mid new : Moment) (first second : List ℕ) → Advances old mid first → Advances mid new second → Advances old new (first ++ second)
+advances-both old mid new first second a b = reads-both old.given mid.given new.given old.count mid.count new.count old.held mid.held new.held first second a b
+
+good-words : (end : LineEnd) (line read : List ℕ) (now : Moment) (call : Call) → IsWhole end line read now call → length line ≤ 4096 → IsCommand call
+good-words LineFeed line read now call is short = (is.0, omega (arith, short, ap length is.1))
+good-words LastByte line read now call is short = (is.0, omega (arith, short, ap length is.2))
+good-words TooLong line read now call is short = absurd is
+
+run-on : (old mid new : Standing) (calls : List Call) (replies : List Reply) (call : Call) (outcome : Outcome) → Run old.store calls replies mid.store → (answered : HasAnswered call outcome mid new) → Run old.store (calls ++ call ∷ []) (replies ++ answered.reply ∷ []) new.store
+run-on old mid new calls replies call outcome run answered = run-more old.store mid.store new.store calls replies call answered.reply run answered.step
+
+written-on : (old mid new : Standing) (replies : List Reply) (call : Call) (outcome : Outcome) → Gains old.taken mid.taken (flat_map answer replies) → (answered : HasAnswered call outcome mid new) → Gains old.taken new.taken (flat_map answer (replies ++ answered.reply ∷ []))
+written-on old mid new replies call outcome written answered =
+    subst (Gains old.taken new.taken) (sym (map-more answer replies answered.reply)) (gains-both old.taken mid.taken new.taken (flat_map answer replies) (answer answered.reply) written answered.written)
+
+-- one more line, with its line feed, was a command
+pub line-more : (first old mid now : Moment) (before between after : Standing) (status : Status) (outcome : Outcome) (line bytes : List ℕ) → SoFar first old before between status → Advances old mid bytes → EndsLine LineFeed line bytes mid.ended mid.held.bytes → length line ≤ 4096
+    → outcome ≢ NoCommand → IsOutcome outcome LineFeed line mid now between after → SoFar first now before after (after_outcome outcome status)
+line-more first old mid now before between after status outcome line bytes so_far reads ends_line short some is =
+    let had = some-command outcome LineFeed line mid now between after some is in
+    record {
+      read = so_far.read ++ (bytes ++ had.read);
+      reads = advances-both first old now so_far.read (bytes ++ had.read) so_far.reads (advances-both old mid now bytes had.read reads had.reads);
+      calls = so_far.calls ++ had.call ∷ [];
+      replies = so_far.replies ++ had.answered.reply ∷ [];
+      good = all-more so_far.calls had.call so_far.good (good-words LineFeed line had.read now had.call had.is_whole short);
+      is = (λ i. so_far.is i ++ (ends_line i ++ had.read)) ∙ ap (λ l. flat_map command so_far.calls ++ l) (append_assoc line (10 ∷ []) had.read ∙ had.is_whole.2) ∙ sym (map-more command so_far.calls had.call);
+      run = run-on before between after so_far.calls so_far.replies had.call outcome so_far.run had.answered;
+      written = written-on before between after so_far.replies had.call outcome so_far.written had.answered;
+      status_is = refused-more so_far.replies had.answered.reply outcome status had.answered.is so_far.status_is;
+    }
+
+-- What a session leaves behind, by its source and its sink.
+pub record IsDone (first now : Moment) (before after : Standing) (status : Status) : Type 0 where
+  pub bytes : List ℕ
+  pub text : List ℕ
+  pub given : Gains first.given now.given bytes
+  pub written : Gains before.taken after.taken text
+  pub session : IsSession bytes now.ended before.store after.store text (status_of status)
+
+-- the bytes that the source gave
+fresh-is : (first now : Moment) (read : List ℕ) → first.held.bytes ≡ [] → (reads : Advances first now read) → reads.takes.fresh ≡ read ++ now.held.bytes
+fresh-is first now read none reads = ap (λ l. l ++ reads.takes.fresh) (sym none) ∙ reads.takes.same
+
+-- nothing stands behind the last byte
+last-bytes : (now : Moment) (bytes read more : List ℕ) → bytes ≡ read ++ now.held.bytes → IsTrue now.ended → now.held.bytes ≡ [] → (IsTrue now.ended → more ≡ []) → bytes ++ more ≡ read
+last-bytes now bytes read more is ended none no_more = (λ i. is i ++ no_more ended i) ∙ append-nil (read ++ now.held.bytes) ∙ ap (λ l. read ++ l) none ∙ append-nil read
+
+-- the script ended with its last command
+pub done-at-end : (first old now : Moment) (before after : Standing) (status : Status) (bytes line : List ℕ) → first.held.bytes ≡ [] → SoFar first old before after status → Advances old now bytes → EndsLine LastByte line bytes now.ended now.held.bytes → line ≡ []
+    → IsDone first now before after status
+done-at-end first old now before after status bytes line none so_far reads ends_line empty =
+    let all = advances-both first old now so_far.read bytes so_far.reads reads in
+    let read_is : so_far.read ++ bytes ≡ flat_map command so_far.calls = (λ i. so_far.is i ++ (ends_line.0 ∙ empty) i) ∙ append-nil (flat_map command so_far.calls) in
+    record {
+      bytes = all.takes.fresh;
+      text = flat_map answer so_far.replies;
+      given = all.takes.gains;
+      written = so_far.written;
+      session = record {
+        calls = so_far.calls;
+        replies = so_far.replies;
+        end = ends;
+        commands = λ more no_more. whole so_far.good [] (last-bytes now all.takes.fresh (so_far.read ++ bytes) more (fresh-is first now (so_far.read ++ bytes) none all) ends_line.1 ends_line.2 no_more ∙ read_is ∙ sym (append-nil (flat_map command so_far.calls))) refl;
+        run = so_far.run;
+        answered = sym (append-nil (flat_map answer so_far.replies));
+        status_is = so_far.status_is;
+      };
+    }
+
+-- the script ended with a command that lacks its line feed
+pub done-without-end : (first old mid now : Moment) (before between after : Standing) (status : Status) (outcome : Outcome) (line bytes : List ℕ) → first.held.bytes ≡ [] → SoFar first old before between status → Advances old mid bytes
+    → EndsLine LastByte line bytes mid.ended mid.held.bytes → length line ≤ 4096 → outcome ≢ NoCommand → IsOutcome outcome LastByte line mid now between after → IsDone first now before after (after_outcome outcome status)
+done-without-end first old mid now before between after status outcome line bytes none so_far reads ends_line short some is =
+    let had = some-command outcome LastByte line mid now between after some is in
+    let all = advances-both first old now so_far.read (bytes ++ had.read) so_far.reads (advances-both old mid now bytes had.read reads had.reads) in
+    let read_is : so_far.read ++ (bytes ++ had.read) ≡ flat_map command so_far.calls ++ line_of had.call =
+    (λ i. so_far.is i ++ ((ends_line.0 ∙ had.is_whole.2) i ++ had.is_whole.3 i)) ∙ ap (λ l. flat_map command so_far.calls ++ l) (append-nil (line_of had.call))
+    in
+    record {
+      bytes = all.takes.fresh;
+      text = flat_map answer (so_far.replies ++ had.answered.reply ∷ []);
+      given = all.takes.gains;
+      written = written-on before between after so_far.replies had.call outcome so_far.written had.answered;
+      session = record {
+        calls = so_far.calls ++ had.call ∷ [];
+        replies = so_far.replies ++ had.answered.reply ∷ [];
+        end = ends;
+        commands = λ more no_more. without_end so_far.calls had.call (all-more so_far.calls had.call so_far.good (good-words LastByte line had.read now had.call had.is_whole short)) refl had.is_whole.1
+            (last-bytes now all.takes.fresh (so_far.read ++ (bytes ++ had.read)) more (fresh-is first now (so_far.read ++ (bytes ++ had.read)) none all) had.is_whole.4 had.is_whole.5 no_more ∙ read_is) refl;
+        run = run-on before between after so_far.calls so_far.replies had.call outcome so_far.run had.answered;
+        answered = sym (append-nil (flat_map answer (so_far.replies ++ had.answered.reply ∷ [])));
+        status_is = refused-more so_far.replies had.answered.reply outcome status had.answered.is so_far.status_is;
+      };
+    }
+
+-- the bytes of a line are some
+some-bytes : (end : LineEnd) (line bytes more : List ℕ) (ended : Bool) (held : List ℕ) → (end ≡ LastByte → line ≢ []) → EndsLine end line bytes ended held → bytes ++ more ≢ []
+some-bytes LineFeed line bytes more ended held some is e = omega (arith, ap length e, length-append bytes more, ap length is, length-append line (10 ∷ []))
+some-bytes LastByte [] bytes more ended held some is e = some refl refl
+some-bytes LastByte (b ∷ line) bytes more ended held some is e = omega (arith, ap length e, length-append bytes more, ap length is.0)
+some-bytes TooLong line bytes more ended held some is e = omega (arith, ap length e, length-append bytes more, ap length is.2, length-append line (is.0 ∷ []))
+
+-- no command stands where a line is bad
+bad-line : (end : LineEnd) (line bytes read more : List ℕ) (mid now : Moment) → EndsLine end line bytes mid.ended mid.held.bytes → list_all stays line ≡ true → IsBad end line read now → (IsTrue now.ended → more ≡ [])
+    → IsNoCommand ((bytes ++ read) ++ (now.held.bytes ++ more))
+bad-line LineFeed line bytes read more mid now is stay (inl none) no_more =
+    subst IsNoCommand (sym ((λ i. (is i ++ none.0 i) ++ (now.held.bytes ++ more)) ∙ ap (λ l. l ++ (now.held.bytes ++ more)) (append-nil (line ++ 10 ∷ [])) ∙ append_assoc line (10 ∷ []) (now.held.bytes ++ more)))
+    (no-line-command line (now.held.bytes ++ more) stay none.1)
+bad-line LineFeed line bytes read more mid now is stay (inr short) no_more =
+    subst IsNoCommand
+    (sym (append_assoc bytes read (now.held.bytes ++ more) ∙ ap (λ l. l ++ (read ++ (now.held.bytes ++ more))) is ∙ append_assoc line (10 ∷ []) (read ++ (now.held.bytes ++ more))))
+    (no-text-command short.0 short.1 short.2 line read (now.held.bytes ++ more) now.ended now.held.bytes short.3 short.4 stay short.5 (λ ended none. (λ i. none i ++ no_more ended i)))
+bad-line LastByte line bytes read more mid now is stay bad no_more =
+    subst IsNoCommand (sym ((λ i. (is.0 i ++ bad.0 i) ++ (bad.2 i ++ no_more bad.1 i)) ∙ append-nil (line ++ []) ∙ append-nil line)) (no-last-command line stay bad.3)
+bad-line TooLong line bytes read more mid now is stay bad no_more =
+    subst IsNoCommand (sym ((λ i. (is.2 i ++ bad i) ++ (now.held.bytes ++ more)) ∙ ap (λ l. l ++ (now.held.bytes ++ more)) (append-nil (line ++ is.0 ∷ []))))
+    (no-long-command (line ++ is.0 ∷ []) (now.held.bytes ++ more) (list_all-append stays line (is.0 ∷ []) ∙ both_true (list_all stays line) _ stay (both_true (stays is.0) true is.1 refl)) (omega (arith, is.3, length-append line (is.0 ∷ []))))
+
+-- the script stops at a line that is no command
+pub done-at-line : (first old mid now : Moment) (before after last : Standing) (status : Status) (end : LineEnd) (line bytes read : List ℕ) → first.held.bytes ≡ [] → first.held.line_feeds ≡ 0 → SoFar first old before after status → Advances old mid bytes
+    → EndsLine end line bytes mid.ended mid.held.bytes → list_all stays line ≡ true → (end ≡ LastByte → line ≢ []) → Advances mid now read → IsBad end line read now → last.store ≡ after.store → Gains after.taken last.taken (last_line (stops (1 + old.held.line_feeds)))
+    → IsDone first now before last statuses.Script
+done-at-line first old mid now before after last status end line bytes read none feeds so_far reads ends_line stay some more_reads bad same written =
+    let all = advances-both first old now so_far.read (bytes ++ read) so_far.reads (advances-both old mid now bytes read reads more_reads) in
+    let line_is : old.held.line_feeds ≡ count_by (λ b. b == 10) (flat_map command so_far.calls) = omega (arith, so_far.reads.line_feeds, feeds) ∙ ap (count_by (λ b. b == 10)) so_far.is in
+    record {
+      bytes = all.takes.fresh;
+      text = flat_map answer so_far.replies ++ last_line (stops (1 + old.held.line_feeds));
+      given = all.takes.gains;
+      written = gains-both before.taken after.taken last.taken (flat_map answer so_far.replies) (last_line (stops (1 + old.held.line_feeds))) so_far.written written;
+      session = record {
+        calls = so_far.calls;
+        replies = so_far.replies;
+        end = stops (1 + old.held.line_feeds);
+        commands = λ more no_more. whole so_far.good ((bytes ++ read) ++ (now.held.bytes ++ more))
+            ((λ i. fresh-is first now (so_far.read ++ (bytes ++ read)) none all i ++ more) ∙ regroup so_far.read (bytes ++ read) now.held.bytes more ∙ ap (λ l. l ++ ((bytes ++ read) ++ (now.held.bytes ++ more))) so_far.is)
+            (subst (λ l. l ≢ []) (sym (append_assoc bytes read (now.held.bytes ++ more))) (some-bytes end line bytes (read ++ (now.held.bytes ++ more)) mid.ended mid.held.bytes some ends_line), bad-line end line bytes read more mid now ends_line stay bad no_more, ap (λ n. 1 + n) line_is);
+        run = subst (Run before.store so_far.calls so_far.replies) (sym same) so_far.run;
+        answered = refl;
+        status_is = refl;
+      };
+    }
+  where
+    regroup : (a b c d : List ℕ) → ((a ++ b) ++ c) ++ d ≡ a ++ (b ++ (c ++ d))
+    regroup a b c d = simp append_assoc
+
+-- one more line that isn't the last was a command
+pub line-next : (first old mid now : Moment) (before between after : Standing) (status : Status) (outcome : Outcome) (end : LineEnd) (line bytes : List ℕ) → SoFar first old before between status → Advances old mid bytes → EndsLine end line bytes mid.ended mid.held.bytes → length line ≤ 4096
+    → end ≢ LastByte → outcome ≢ NoCommand → IsOutcome outcome end line mid now between after → SoFar first now before after (after_outcome outcome status)
+line-next first old mid now before between after status outcome LineFeed line bytes so_far reads ends_line short last some is = line-more first old mid now before between after status outcome line bytes so_far reads ends_line short some is
+line-next first old mid now before between after status outcome LastByte line bytes so_far reads ends_line short last some is = absurd (last refl)
+line-next first old mid now before between after status outcome TooLong line bytes so_far reads ends_line short last some is = absurd (let had = some-command outcome TooLong line mid now between after some is in had.is_whole)
+
+-- with each line fewer bytes are left of those that a source can count
+pub fewer-left : (old mid now : Moment) (outcome : Outcome) (end : LineEnd) (line bytes : List ℕ) (before after : Standing) → Fits old.count old.held → Advances old mid bytes → EndsLine end line bytes mid.ended mid.held.bytes → end ≢ LastByte
+    → outcome ≢ NoCommand → IsOutcome outcome end line mid now before after → 2 ^ 64 - (now.count - length now.held.bytes) < 2 ^ 64 - (old.count - length old.held.bytes)
+fewer-left old mid now outcome end line bytes before after fits reads ends_line last some is =
+    let had = some-command outcome end line mid now before after some is in
+    let all = advances-both old mid now bytes had.read reads had.reads in
+    let any = some-bytes end line bytes had.read mid.ended mid.held.bytes (λ e. absurd (last e)) ends_line in
+    fewer (2 ^ 64) old.count now.count (length old.held.bytes) (length now.held.bytes) (length (bytes ++ had.read)) (omega (arith, fits.within)) (omega (arith, all.fits.within)) all.counts (all.small any) (λ e. any (empty (bytes ++ had.read) e))
+  where
+    empty : (xs : List ℕ) → length xs ≡ 0 → xs ≡ []
+    empty [] e = refl
+    empty (x ∷ xs) e = absurd (omega (arith, e))
+
+    fewer : (greatest old now held kept read : ℕ) → held ≤ old → kept ≤ now → now + held ≡ old + read + kept → now < greatest → read ≢ 0 → greatest - (now - kept) < greatest - (old - held)
+    fewer greatest old now held kept read a b c d e = omega (arith, a, b, c, d, e)
+
+-- an outcome with a command, and the status after it
+pub record Moved (outcome : Outcome) (old new : Status) : Type 0 where
+  pub some : outcome ≢ NoCommand
+  pub status : new ≡ after_outcome outcome old
+
+pub accepted : (outcome : Outcome) (old new : Status) → outcome ≡ Accepted → new ≡ old → Moved outcome old new
+accepted outcome old new is same = record { some = λ e. true≢false (ap is_none (sym e ∙ is)); status = same ∙ ap (λ o. after_outcome o old) (sym is) }
+
+pub refused_one : (outcome : Outcome) (old new : Status) → outcome ≡ Refused → new ≡ statuses.Refused → Moved outcome old new
+refused_one outcome old new is same = record { some = λ e. true≢false (ap is_none (sym e ∙ is)); status = same ∙ ap (λ o. after_outcome o old) (sym is) }

@@ -1,0 +1,38 @@
+use Rattle.std.proofs.Common.{Err, ◌≡◌, ◌∙◌, ◌++◌, List, ℕ, Option, length, codes, decimal, flat_map, refl, ap, sym, subst, append_assoc}
+use Rattle.cil_specs.specs.Device.{Gains}
+use Rattle.cil_specs.specs.Report.{Row, row_line}
+use Rattle.cil_specs.specs.Next.{for_memory}
+use Rattle.cil_specs.specs.Run.{refused, listed}
+use Rattle.cil_specs.specs.Script.{answer, refusal_line}
+use Rattle.cil_specs.proofs.Gaining.{gains-both}
+use Rattle.cil_program.specs.Replies.{end_line}
+use Rattle.cil_program.proofs.script.session.answer_rows.Goals as goal
+
+-- the rows and then the last line are the answer
+listing : (old mid new : Option (List ℕ)) (rows : List Row) (n : ℕ) → n ≡ length rows → Gains old mid (flat_map row_line rows) → Gains mid new (end_line n) → Gains old new (answer (listed rows))
+listing old mid new rows n is a b = subst (Gains old new) (ap (λ k. flat_map row_line rows ++ end_line k) is ∙ sym (regroup (flat_map row_line rows) (decimal (length rows)))) (gains-both old mid new (flat_map row_line rows) (end_line n) a b)
+  where
+    regroup : (x y : List ℕ) → x ++ codes "end " ++ y ++ codes "\n" ≡ x ++ (codes "end " ++ y ++ codes "\n")
+    regroup x y = simp append_assoc
+
+pub returns-in_ok-write_end-in-Ok-clause-ok : goal.returns-in_ok-write_end-in-Ok-clause-ok
+returns-in_ok-write_end-in-Ok-clause-ok g c =
+    let taken = g.W.Sink.taken in
+    let some = c.in-Ok.ensures.ok in
+    record {
+      reply = listed some.0;
+      step = (some.1.0, some.1.1, some.1.2, refl);
+      written = listing (taken c.args.sink.now) (taken c.write_listing.new.sink) (taken c.write_end.new.sink) some.0 c.in-Ok.rows some.2 some.3 c.in_ok-write_end-in-Ok.ensures.ok;
+      is = refl;
+    }
+
+pub returns-in_ok-write_no_memory-in-Err-Memory-clause-ok : goal.returns-in_ok-write_no_memory-in-Err-Memory-clause-ok
+returns-in_ok-write_no_memory-in-Err-Memory-clause-ok g c =
+    let taken = g.W.Sink.taken in
+    let same : taken c.write_listing.new.sink ≡ taken c.args.sink.now = c.in-Err-Memory.ensures.memory (ap Err c.in-Err-Memory.field-0-is) in
+    record {
+      reply = refused for_memory;
+      step = (refl, refl);
+      written = subst (λ t. Gains t (taken c.write_no_memory.new.sink) (refusal_line for_memory)) same c.in_ok-write_no_memory-in-Err-Memory.ensures.ok;
+      is = refl;
+    }

@@ -1,0 +1,282 @@
+//! A session: it answers a script, command by command.
+
+ghost use Rattle.std.specs.Prelude.{◌≡◌, ◌≢◌, ◌≤◌, [], List, ℕ, IfOk, OnOk, OnErr, IsErrOf, IsTrue};
+ghost use Rattle.cil_specs.specs.Device.{HasFailed, Gains};
+ghost use Rattle.cil_specs.specs.Run.{an_edit, ask_rows};
+ghost use Rattle.cil_specs.specs.Script.{refusal_line};
+ghost use Rattle.cil_specs.specs.Session.{IsSession};
+ghost use Rattle.cil_program.specs.Edits.{edit_of, store_refusal_of};
+ghost use Rattle.cil_program.specs.Input.{Fits};
+ghost use Rattle.cil_program.specs.Session.{Moment, Standing, HasAnswered, IsOutcome, IsInstallOutcome, status_of};
+ghost use Rattle.cil_program.specs.declared.script.input.LineEnd.TheVariants.{LastByte};
+ghost use Rattle.cil_program.specs.declared.script.session.Status.TheVariants.{Script};
+
+use crate::script::command::{ScriptLine, script_line};
+use crate::script::input::{Input, LineEnd};
+use crate::script::line::Line;
+use crate::script::reply;
+use crate::store::{Compiled, Edit, StoreFault, WriteFault, check_install};
+use cil_text::{Sink, SinkFault, Source, SourceFault};
+use itoa::Buffer;
+use std::alloc::Allocator;
+use thiserror::Error;
+
+/// How a session ended.
+#[derive(Clone, Copy, Debug, PartialEq, Eq)]
+pub enum Status {
+    /// At the end of the script, with each edit accepted.
+    Clean,
+    /// At the end of the script, with a refusal among the answers.
+    Refused,
+    /// At a line that is no command.
+    Script,
+}
+
+/// Why a session didn't reach its end.
+#[derive(Clone, Copy, Debug, PartialEq, Eq, Error)]
+pub enum SessionFault {
+    #[error("the input failed")]
+    Read,
+    #[error("the output failed")]
+    Write,
+}
+
+impl From<SourceFault> for SessionFault {
+    ghost use Rattle.std.specs.Prelude.{◌≡◌};
+    ghost use Rattle.cil_program.specs.declared.script.session.SessionFault.TheVariants.{Read};
+
+    ghost from_gives = { λ _ e. e ≡ Read };
+
+    fn from(_e: SourceFault) -> SessionFault {
+        SessionFault::Read
+    }
+}
+
+impl From<SinkFault> for SessionFault {
+    ghost use Rattle.std.specs.Prelude.{◌≡◌};
+    ghost use Rattle.cil_program.specs.declared.script.session.SessionFault.TheVariants.{Write};
+
+    ghost from_gives = { λ _ e. e ≡ Write };
+
+    fn from(_e: SinkFault) -> SessionFault {
+        SessionFault::Write
+    }
+}
+
+/// What came of a line of a script.
+#[derive(Clone, Copy, Debug, PartialEq, Eq)]
+pub enum Outcome {
+    Accepted,
+    Refused,
+    /// It is no command, or its text is short. Nothing was done.
+    NoCommand,
+}
+
+/// Answers the question for the listing.
+fn answer_rows<W: Sink, A: Allocator + Copy, C: Compiled<A>>(
+    sink: &mut W,
+    engine: &C,
+) -> Result<Outcome, SinkFault>
+    ensures ok { IfOk result (λ outcome. HasAnswered ask_rows outcome (record { store = C.store engine.now; taken = W.taken sink.old })
+        (record { store = C.store engine.now; taken = W.taken sink.new })) }
+    ensures failed { OnErr result (HasFailed (W.failures sink.old) (W.failures sink.new)) }
+    ensures counted { W.failures sink.old ≤ W.failures sink.new }
+{
+    match engine.write_listing(sink) {
+        Ok(rows) => {
+            reply::write_end(sink, rows)?;
+            Ok(Outcome::Accepted)
+        }
+        Err(WriteFault::Memory) => {
+            reply::write_no_memory(sink)?;
+            Ok(Outcome::Refused)
+        }
+        Err(WriteFault::Sink) => Err(SinkFault),
+    }
+}
+
+/// Makes an edit and answers it.
+fn answer_edit<W: Sink, A: Allocator + Copy, C: Compiled<A>>(
+    sink: &mut W,
+    engine: &mut C,
+    edit: Edit<'_>,
+) -> Result<Outcome, SinkFault>
+    ensures ok { IfOk result (λ outcome. HasAnswered (an_edit (edit_of edit.entry)) outcome (record { store = C.store engine.old; taken = W.taken sink.old })
+        (record { store = C.store engine.new; taken = W.taken sink.new })) }
+    ensures failed { OnErr result (HasFailed (W.failures sink.old) (W.failures sink.new)) }
+    ensures counted { W.failures sink.old ≤ W.failures sink.new }
+{
+    match engine.edit(edit) {
+        Ok(changes) => {
+            reply::write_changes(sink, &changes)?;
+            Ok(Outcome::Accepted)
+        }
+        Err(refusal) => {
+            reply::write_refusal(sink, &refusal)?;
+            Ok(Outcome::Refused)
+        }
+    }
+}
+
+/// Writes the refusal of an install by its line.
+fn write_store_fault<W: Sink>(
+    sink: &mut W,
+    fault: StoreFault,
+    name: &[u8],
+    priority: u32,
+) -> Result<(), SinkFault>
+    ensures ok { OnOk result (Gains (W.taken sink.old) (W.taken sink.new) (refusal_line (store_refusal_of fault name.now priority))) }
+    ensures failed { OnErr result (HasFailed (W.failures sink.old) (W.failures sink.new)) }
+    ensures counted { W.failures sink.old ≤ W.failures sink.new }
+{
+    match fault {
+        StoreFault::BadPriority => {
+            let mut digits = Buffer::new();
+            reply::write_store_refusal(sink, fault.code(), digits.format(priority).as_bytes())
+        }
+        StoreFault::BadModuleName | StoreFault::TextTooLong => {
+            reply::write_store_refusal(sink, fault.code(), name)
+        }
+    }
+}
+
+/// Reads the text of an install and makes the install. An install that the store refuses by its line, or for whose text there
+/// is no memory, has its text left aside.
+fn answer_install<S: Source, W: Sink, A: Allocator + Copy, C: Compiled<A>>(
+    alloc: A,
+    input: &mut Input,
+    source: &mut S,
+    sink: &mut W,
+    engine: &mut C,
+    name: &[u8],
+    priority: u32,
+    len: usize,
+) -> Result<Outcome, SessionFault>
+    requires { Fits (S.count source.old) input.old }
+    ensures ok { IfOk result (λ outcome. IsInstallOutcome outcome name.now priority len
+        (record { given = S.given source.old; count = S.count source.old; ended = S.ended source.old; held = input.old })
+        (record { given = S.given source.new; count = S.count source.new; ended = S.ended source.new; held = input.new })
+        (record { store = C.store engine.old; taken = W.taken sink.old }) (record { store = C.store engine.new; taken = W.taken sink.new })) }
+    ensures read { IsErrOf result SessionFault.Read → HasFailed (S.failures source.old) (S.failures source.new) }
+    ensures write { IsErrOf result SessionFault.Write → HasFailed (W.failures sink.old) (W.failures sink.new) }
+    ensures read_failures { S.failures source.old ≤ S.failures source.new }
+    ensures write_failures { W.failures sink.old ≤ W.failures sink.new }
+{
+    if let Err(fault) = check_install(name, priority, len) {
+        if !input.skip_text(source, len)? {
+            return Ok(Outcome::NoCommand);
+        }
+        write_store_fault(sink, fault, name, priority)?;
+        return Ok(Outcome::Refused);
+    }
+    let Ok(mut text) = Vec::with_capacity(alloc, len) else {
+        if !input.skip_text(source, len)? {
+            return Ok(Outcome::NoCommand);
+        }
+        reply::write_no_memory(sink)?;
+        return Ok(Outcome::Refused);
+    };
+    if !input.read_text(source, len, &mut text)? {
+        return Ok(Outcome::NoCommand);
+    }
+    let edit = Edit::Install {
+        name,
+        priority,
+        text: text.as_slice(),
+    };
+    Ok(answer_edit(sink, engine, edit)?)
+}
+
+/// Does what a line asks for and answers it. A line without its line feed is the last.
+fn answer_line<S: Source, W: Sink, A: Allocator + Copy, C: Compiled<A>>(
+    alloc: A,
+    input: &mut Input,
+    source: &mut S,
+    sink: &mut W,
+    engine: &mut C,
+    line: &[u8],
+    end: LineEnd,
+) -> Result<Outcome, SessionFault>
+    requires fits { Fits (S.count source.old) input.old }
+    requires last { end ≡ LastByte → IsTrue (S.ended source.old) × (input.old.bytes ≡ []) }
+    ensures ok { IfOk result (λ outcome. IsOutcome outcome end line.now
+        (record { given = S.given source.old; count = S.count source.old; ended = S.ended source.old; held = input.old })
+        (record { given = S.given source.new; count = S.count source.new; ended = S.ended source.new; held = input.new })
+        (record { store = C.store engine.old; taken = W.taken sink.old }) (record { store = C.store engine.new; taken = W.taken sink.new })) }
+    ensures read { IsErrOf result SessionFault.Read → HasFailed (S.failures source.old) (S.failures source.new) }
+    ensures write { IsErrOf result SessionFault.Write → HasFailed (W.failures sink.old) (W.failures sink.new) }
+    ensures read_failures { S.failures source.old ≤ S.failures source.new }
+    ensures write_failures { W.failures sink.old ≤ W.failures sink.new }
+{
+    if end.is_too_long() {
+        return Ok(Outcome::NoCommand);
+    }
+    let Some(asked) = script_line(line) else {
+        return Ok(Outcome::NoCommand);
+    };
+    match asked {
+        ScriptLine::Rules => Ok(answer_rows(sink, engine)?),
+        ScriptLine::Install {
+            name,
+            priority,
+            len,
+        } => {
+            if end.is_last() {
+                return Ok(Outcome::NoCommand);
+            }
+            answer_install(
+                alloc,
+                input,
+                source,
+                sink,
+                engine,
+                name,
+                priority,
+                len as usize,
+            )
+        }
+    }
+}
+
+/// Answers a script from its source to a sink, with an engine. Each answer is written before the next command is read, and
+/// nothing is read behind a line that is no command.
+///
+/// # Errors
+///
+/// `Read` or `Write` where the source or the sink failed. The engine keeps what it accepted before.
+pub fn session<S: Source, W: Sink, A: Allocator + Copy, C: Compiled<A>>(
+    alloc: A,
+    source: &mut S,
+    sink: &mut W,
+    engine: &mut C,
+) -> Result<Status, SessionFault>
+    ensures ok { IfOk result (λ status. (given : List ℕ) × (written : List ℕ) × Gains (S.given source.old) (S.given source.new) given
+        × Gains (W.taken sink.old) (W.taken sink.new) written
+        × IsSession given (S.ended source.new) (C.store engine.old) (C.store engine.new) written (status_of status)) }
+    ensures ended { IfOk result (λ status. status ≢ Script → IsTrue (S.ended source.new)) }
+    ensures read { IsErrOf result SessionFault.Read → HasFailed (S.failures source.old) (S.failures source.new) }
+    ensures write { IsErrOf result SessionFault.Write → HasFailed (W.failures sink.old) (W.failures sink.new) }
+{
+    let mut input = Input::new();
+    let mut line = Line::new();
+    let mut status = Status::Clean;
+    loop {
+        let before = input.line_feeds();
+        let end = input.read_line(source, &mut line)?;
+        let bytes = line.as_slice();
+        if end.is_last() && bytes.is_empty() {
+            return Ok(status);
+        }
+        match answer_line(alloc, &mut input, source, sink, engine, bytes, end)? {
+            Outcome::Accepted => {}
+            Outcome::Refused => status = Status::Refused,
+            Outcome::NoCommand => {
+                reply::write_script_line(sink, before)?;
+                return Ok(Status::Script);
+            }
+        }
+        if end.is_last() {
+            return Ok(status);
+        }
+    }
+}
