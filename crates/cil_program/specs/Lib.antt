@@ -1,1 +1,6 @@
 pub mod Image
+pub mod Names
+pub mod Flat
+pub mod Declarations
+pub mod Placed
+pub mod RuleWords

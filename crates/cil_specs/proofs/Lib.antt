@@ -6,3 +6,4 @@ pub mod Fronts
 pub mod Stuck
 pub mod OneReading
 pub mod Gaining
+pub mod NamesLemmas
