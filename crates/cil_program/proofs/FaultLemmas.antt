@@ -16,3 +16,8 @@ found-fault (Found kind module_name at word) P is = is
 
 pub memory-fault : (fault : PolicyFault) (P : spec.PolicyFault → Type 0) → fault ≡ Memory → PolicyFaultIs fault P
 memory-fault fault P is = subst (λ f. PolicyFaultIs f P) (sym is) tt
+
+-- what follows from what holds of a fault
+pub fault-weaker : (fault : PolicyFault) (P Q : spec.PolicyFault → Type 0) → ((f : spec.PolicyFault) → P f → Q f) → PolicyFaultIs fault P → PolicyFaultIs fault Q
+fault-weaker Memory P Q weaker is = tt
+fault-weaker (Found kind module_name at word) P Q weaker is = weaker _ is

@@ -6,3 +6,5 @@ pub mod TwiceLemmas
 pub mod MissingLemmas
 pub mod ClassEntries
 pub mod FaultLemmas
+pub mod NumberingLemmas
+pub mod ResolveLemmas

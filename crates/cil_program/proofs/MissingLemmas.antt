@@ -29,7 +29,7 @@ IsUnfound d (rule kind source (the_named target) the_class permissions) w =
     ((has_name d.types source.text ≡ false) × (source ≡ w)) ⊎ (((has_name d.types target.text ≡ false) × (target ≡ w)) ⊎ IsUnfoundPermission (permissions_of d the_class.text) the_class permissions w)
 IsUnfound d _ w = ⊥
 
-no-itself : (kind : RuleKind) (source the_class : Word) (permissions : List Word) → is_compiled_form (rule kind source itself the_class permissions) ≡ true → ⊥
+pub no-itself : (kind : RuleKind) (source the_class : Word) (permissions : List Word) → is_compiled_form (rule kind source itself the_class permissions) ≡ true → ⊥
 no-itself allow source the_class permissions c = true≢false (sym c)
 no-itself auditallow source the_class permissions c = true≢false (sym c)
 no-itself dontaudit source the_class permissions c = true≢false (sym c)
@@ -99,12 +99,12 @@ not-true false e = refl
 abbrev choice : Bool → Bool → Word → Word → Option Word → Option Word
 choice b c source target others = if not b then Some source else if not c then Some target else others
 
-record NoneChosen (b c : Bool) (others : Option Word) : Type 0 where
-  first : b ≡ true
-  second : c ≡ true
-  third : others ≡ None
+pub record NoneChosen (b c : Bool) (others : Option Word) : Type 0 where
+  pub first : b ≡ true
+  pub second : c ≡ true
+  pub third : others ≡ None
 
-choice-none : (b c : Bool) (source target : Word) (others : Option Word) → choice b c source target others ≡ None → NoneChosen b c others
+pub choice-none : (b c : Bool) (source target : Word) (others : Option Word) → choice b c source target others ≡ None → NoneChosen b c others
 choice-none true true source target others e = record { first = refl; second = refl; third = e }
 choice-none true false source target others e = absurd (none-some target (sym e))
 choice-none false c source target others e = absurd (none-some source (sym e))

@@ -4,3 +4,4 @@ pub mod Flat
 pub mod Declarations
 pub mod Placed
 pub mod RuleWords
+pub mod Numbering

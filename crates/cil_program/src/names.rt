@@ -1,9 +1,11 @@
 //! Names: the joined policy, and what its names lead to.
 
-pub mod declarations;
+mod declarations;
 pub mod fault;
 pub mod joined;
-pub mod name_set;
-pub mod placed;
+mod name_set;
+mod numbering;
+mod placed;
+pub mod resolve;
 pub mod resolved;
-pub mod rule_words;
+mod rule_words;

@@ -1,11 +1,16 @@
 //! What the statements of a joined policy declare.
 
-ghost use Rattle.std.specs.Prelude.{◌≡◌, map, None, IfOk};
+ghost use Rattle.std.specs.Prelude.{◌≡◌, map, None, IfOk, IfErr, OnOk};
 ghost use Rattle.std.specs.Option.{option_map};
 ghost use Rattle.cil_specs.specs.Statements.{type_name, class};
+ghost use Rattle.cil_specs.specs.PolicyFault.{IsTwice, IsMissing};
+ghost use Rattle.cil_specs.specs.Next.{every_optional};
 ghost use Rattle.cil_text.specs.Image.{word_of};
-ghost use Rattle.cil_program.specs.Declarations.{with_statement, declared_again};
-ghost use Rattle.cil_program.specs.Placed.{form_of};
+ghost use Rattle.cil_program.specs.Declarations.{with_statement, declared_again, Declares, permissions_of, missing_permission, missing_word, AllFound};
+ghost use Rattle.cil_program.specs.Flat.{AreFlat, IsLeast};
+ghost use Rattle.cil_program.specs.Image.{PolicyFaultIs, IsFoundFault};
+ghost use Rattle.cil_program.specs.Placed.{form_of, policy_of};
+ghost use Rattle.cil_program.specs.RuleWords.{form_of_words};
 
 use crate::names::fault::{PolicyFault, PolicyFaultKind};
 use crate::names::name_set::NameSet;
@@ -34,13 +39,6 @@ impl<'a, A: Allocator> Model for Declarations<'a, A> {
 }
 
 impl<'a, A: Allocator + Copy> Declarations<'a, A> {
-    ghost use Rattle.std.specs.Prelude.{IfErr};
-    ghost use Rattle.cil_specs.specs.PolicyFault.{IsTwice};
-    ghost use Rattle.cil_program.specs.Image.{PolicyFaultIs};
-    ghost use Rattle.cil_program.specs.Flat.{AreFlat, IsLeast};
-    ghost use Rattle.cil_program.specs.Declarations.{Declares};
-    ghost use Rattle.cil_program.specs.Placed.{policy_of};
-
     /// What the statements declare, or the first name that is declared twice.
     pub fn of(alloc: A, statements: &[PlacedStatement<'_, 'a, A>]) -> Result<Self, PolicyFault<'a>>
         requires flat { AreFlat (policy_of statements.now) }
@@ -107,17 +105,6 @@ impl<'a, A: Allocator + Copy> Declarations<'a, A> {
         self.classes.insert(id.text, names)?;
         Ok(None)
     }
-}
-
-impl<'a, A: Allocator> Declarations<'a, A> {
-    ghost use Rattle.std.specs.Prelude.{IfErr, OnOk};
-    ghost use Rattle.cil_specs.specs.PolicyFault.{IsMissing};
-    ghost use Rattle.cil_specs.specs.Next.{every_optional};
-    ghost use Rattle.cil_program.specs.Image.{IsFoundFault};
-    ghost use Rattle.cil_program.specs.Flat.{AreFlat, IsLeast};
-    ghost use Rattle.cil_program.specs.Declarations.{Declares, permissions_of, missing_permission, missing_word, AllFound};
-    ghost use Rattle.cil_program.specs.Placed.{policy_of};
-    ghost use Rattle.cil_program.specs.RuleWords.{form_of_words};
 
     /// Whether each word of the statements is declared, or the first that isn't.
     pub fn check(&self, statements: &[PlacedStatement<'_, 'a, A>]) -> Result<(), PolicyFault<'a>>

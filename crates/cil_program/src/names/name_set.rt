@@ -1,15 +1,17 @@
 //! Sets of names.
 
-ghost use Rattle.std.specs.Prelude.{◌≡◌, ◌<◌, IsTrue, not, length, map, [], IfOk, OnOk, slice_index_or};
-ghost use Rattle.std.specs.List.{find};
+ghost use Rattle.std.specs.Prelude.{◌≡◌, ◌<◌, IsTrue, not, length, nat_lt, map, [], IfOk, OnOk, slice_index_or};
+ghost use Rattle.std.specs.List.{find, list_all};
 ghost use Rattle.std.specs.Option.{option_map};
 ghost use Rattle.cil_specs.specs.Report.{names_rise};
 ghost use Rattle.cil_text.specs.Image.{word_of};
-ghost use Rattle.cil_program.specs.Names.{has_name, with_name, with_words};
+ghost use Rattle.cil_program.specs.Names.{has_name, with_name, with_words, texts_of};
+ghost use Rattle.cil_program.specs.Numbering.{HasWords};
 
+use crate::text::Text;
 use cil_text::Word;
 use indexmap::IndexSet;
-use std::alloc::{AllocError, AllocFailed, Allocator, Global};
+use std::alloc::{AllocError, Allocator, Global};
 use std::hash::{BuildHasherDefault, FoldHasher};
 use std::marker::Model;
 
@@ -38,11 +40,11 @@ impl<'a, A: Allocator + Copy> NameSet<'a, A> {
     }
 
     /// Puts a name in, last, if it is new; answers whether it is.
-    pub fn insert(&mut self, name: &'a [u8]) -> Result<bool, AllocFailed<&'a [u8]>>
+    pub fn insert(&mut self, name: &'a [u8]) -> Result<bool, AllocError>
         ensures new { IfOk result (λ new. new ≡ not (has_name self.old name.now)) }
         ensures ok { OnOk result (self.new ≡ with_name self.old name.now) }
     {
-        self.names.insert(name)
+        Ok(self.names.insert(name)?)
     }
 
     /// Puts in the names of words.
@@ -62,9 +64,7 @@ impl<'a, A: Allocator + Copy> NameSet<'a, A> {
     {
         self.names.sort_unstable()
     }
-}
 
-impl<'a, A: Allocator> NameSet<'a, A> {
     pub fn contains(&self, name: &'a [u8]) -> bool
         ensures { result ≡ has_name self.now name.now }
     {
@@ -92,10 +92,27 @@ impl<'a, A: Allocator> NameSet<'a, A> {
         self.names.get_index_of(name).unwrap()
     }
 
-    /// The names, in their order.
-    pub fn as_slice(&self) -> &[&'a [u8]]
-        ensures { map (λ name. name.now) result.now ≡ self.now }
+    /// The places of the names of words.
+    pub fn numbers(&self, alloc: A, words: &[Word<'a>]) -> Result<Vec<usize, A>, AllocError>
+        requires { HasWords self.now (map word_of words.now) }
+        ensures within { IfOk result (λ numbers. IsTrue (list_all (λ n. nat_lt n (length self.now)) numbers.items)) }
+        ensures named { IfOk result (λ numbers. map (λ n. slice_index_or self.now n []) numbers.items ≡ texts_of (map word_of words.now)) }
     {
-        self.names.as_slice()
+        let mut numbers = Vec::new(alloc);
+        for word in words {
+            numbers.push(self.number(word.text))?;
+        }
+        Ok(numbers)
+    }
+
+    /// Copies of the names, in their order.
+    pub fn to_texts(&self, alloc: A) -> Result<Vec<Text<A>, A>, AllocError>
+        ensures { IfOk result (λ texts. texts.items ≡ self.now) }
+    {
+        let mut texts = Vec::new(alloc);
+        for name in self.names.as_slice() {
+            texts.push(Text::of(alloc, *name)?)?;
+        }
+        Ok(texts)
     }
 }
