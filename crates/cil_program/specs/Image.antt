@@ -46,3 +46,8 @@ policy_kind_of Missing = missing
 abbrev pub PolicyFaultIs : PolicyFault → (spec_faults.PolicyFault → Type 0) → Type 0
 PolicyFaultIs Memory P = Unit {0}
 PolicyFaultIs (Found kind module_name at word) P = P (record { kind = policy_kind_of kind; module_name = module_name.now; at = place_of at; word = word.now })
+
+-- The fault isn't want of memory, and P holds of it.
+abbrev pub IsFoundFault : PolicyFault → (spec_faults.PolicyFault → Type 0) → Type 0
+IsFoundFault Memory P = ⊥
+IsFoundFault (Found kind module_name at word) P = P (record { kind = policy_kind_of kind; module_name = module_name.now; at = place_of at; word = word.now })

@@ -5,3 +5,9 @@ pub mod Edits
 pub mod Calls
 pub mod Replies
 pub mod Session
+pub mod Names
+pub mod Flat
+pub mod Declarations
+pub mod Placed
+pub mod RuleWords
+pub mod Numbering

@@ -7,3 +7,4 @@ pub mod Stuck
 pub mod OneReading
 pub mod Gaining
 pub mod RunLemmas
+pub mod NamesLemmas
