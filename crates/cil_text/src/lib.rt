@@ -3,7 +3,9 @@
 
 mod fault;
 mod forest;
+mod keyword;
 mod module;
+mod name;
 mod place;
 mod statement;
 mod tree;
