@@ -8,3 +8,11 @@ pub mod OneReading
 pub mod Gaining
 pub mod RunLemmas
 pub mod NamesLemmas
+pub mod ExprLemmas
+pub mod ExprSame
+pub mod FormLemmas
+pub mod FormSame
+pub mod OrderLemmas
+pub mod ShapeLemmas
+pub mod FaultOrder
+pub mod FaultSame

@@ -3,3 +3,16 @@ pub mod Reading
 pub mod Going
 pub mod Ends
 pub mod Pieces
+pub mod NameLemmas
+pub mod KeywordLemmas
+pub mod Rows
+pub mod Elements
+pub mod Spells
+pub mod FirstBad
+pub mod WordLists
+pub mod Fitting
+pub mod CheckLemmas
+pub mod Bodies
+pub mod HeadingLemmas
+pub mod WalkLemmas
+pub mod Depth

@@ -1,10 +1,12 @@
-//! Laws of the definitions: what makes a reading, and a fault, the only one.
+//! Laws of the definitions, which make the contracts of `read` and `shape` exact. They have no code.
 
-ghost use Rattle.std.specs.Prelude.{◌≡◌, ℕ, List, drop};
+ghost use Rattle.std.specs.Prelude.{◌≡◌, ℕ, false, List, drop, IsTrue};
 ghost use Rattle.cil_specs.specs.Parts.{Part, IsClean};
 ghost use Rattle.cil_specs.specs.Reading.{Stops, IsStuck, IsReadingFault};
+ghost use Rattle.cil_specs.specs.Shape.{Shapes, IsShapeFault, IsFirstShapeFault};
+ghost use Rattle.cil_specs.specs.Statements.{Statements};
 ghost use Rattle.cil_specs.specs.TextFault.{TextFaultKind, TextFault};
-ghost use Rattle.cil_specs.specs.Trees.{Trees, Reads};
+ghost use Rattle.cil_specs.specs.Trees.{Trees, Reads, in_order};
 
 /// A text spells one list of trees at most.
 pub fn one_reading()
@@ -28,5 +30,23 @@ pub fn one_reading_fault()
 pub fn faults_are_stuck()
     ensures { (bytes : List ℕ) (at : ℕ) (lists : List ℕ) (parts : List Part) (kind : TextFaultKind) (shown : List ℕ) →
         IsClean bytes at lists parts → Stops kind lists (drop at bytes) shown → IsStuck bytes at parts }
+{
+}
+
+/// Trees have not both statements and a shape fault.
+pub fn statements_have_no_fault()
+    ensures { (trees : Trees) (statements : Statements) (fault : TextFault) → Shapes false trees statements → IsShapeFault false trees fault → ⊥ }
+{
+}
+
+/// Trees spell one list of statements at most.
+pub fn statements_are_one()
+    ensures { (trees : Trees) (one other : Statements) → Shapes false trees one → Shapes false trees other → one ≡ other }
+{
+}
+
+/// Of trees in order the first shape fault is one.
+pub fn first_fault_is_one()
+    ensures { (trees : Trees) (high : ℕ) (one other : TextFault) → IsTrue (in_order 0 trees high) → IsFirstShapeFault trees one → IsFirstShapeFault trees other → one ≡ other }
 {
 }

@@ -1,24 +1,33 @@
 //! Reads CIL texts into trees, and recognises the statements that the trees spell.
 #![tactic(auto)]
 
+mod check;
+mod expr;
 mod fault;
 mod forest;
+mod form;
+mod keyword;
 mod laws;
 mod memory_sink;
 mod memory_source;
 mod module;
+mod name;
 mod place;
 mod reader;
 mod sink;
 mod source;
+mod split;
 mod statement;
 mod tree;
+mod walk;
 mod word;
+mod words;
 
 pub use fault::{ShownWord, TextFault, TextFaultKind};
 pub use forest::Forest;
 pub use laws::{
-    faults_are_stuck, no_fault_beside_a_reading, one_reading, one_reading_fault,
+    faults_are_stuck, first_fault_is_one, no_fault_beside_a_reading, one_reading, one_reading_fault, statements_are_one,
+    statements_have_no_fault,
 };
 pub use memory_sink::MemorySink;
 pub use memory_source::MemorySource;
@@ -29,4 +38,5 @@ pub use sink::{Sink, SinkFault, WriterSink, write_all};
 pub use source::{ReaderSource, Source, SourceFault};
 pub use statement::{Expr, RuleKind, Statement, Target};
 pub use tree::Tree;
+pub use walk::shape;
 pub use word::Word;

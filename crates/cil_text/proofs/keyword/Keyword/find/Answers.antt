@@ -1,0 +1,7 @@
+use Rattle.std.proofs.Common.{refl}
+use Rattle.cil_text.specs.Keyword.{spelling}
+use Rattle.cil_text.proofs.KeywordLemmas.{looked_up}
+use Rattle.cil_text.proofs.keyword.Keyword.find.Goals as goal
+
+pub returns : goal.returns
+returns c = looked_up spelling c.look_up.ensures refl

@@ -1,0 +1,104 @@
+//! How names are spelt, and the words that name nothing.
+
+ghost use Rattle.std.specs.Prelude.{◌≡◌, ◌==◌};
+ghost use Rattle.std.specs.List.{slice_split, list_all, list_any};
+ghost use Rattle.cil_specs.specs.Names.{begins_name, is_name_byte, is_name, is_reserved, is_reference, components, is_spelt, name_fault};
+ghost use Rattle.cil_text.specs.Name.{without_dot, role_of, kind_option};
+
+use crate::fault::TextFaultKind;
+
+/// The most bytes of a name.
+const NAME_MAX: usize = 2048;
+
+/// The words that stand for no declared thing.
+const RESERVED_WORDS: [&[u8]; 8] = [
+    b"self", b"notself", b"other", b"all", b"and", b"or", b"xor", b"not",
+];
+
+/// What stands in the place of a word.
+#[derive(Clone, Copy, Debug, PartialEq, Eq)]
+pub enum Role {
+    /// A name that is declared, or a permission.
+    Declared,
+    /// A reference to a declared name.
+    Referred,
+}
+
+fn begins_name(b: u8) -> bool
+    ensures { result ≡ begins_name b }
+{
+    b.is_ascii_alphabetic() || b == b'_'
+}
+
+fn is_name_byte(b: u8) -> bool
+    ensures { result ≡ is_name_byte b }
+{
+    begins_name(b) || b.is_ascii_digit() || b == b'-'
+}
+
+fn are_name_bytes(bytes: &[u8]) -> bool
+    ensures { result ≡ list_all is_name_byte bytes.now }
+{
+    bytes.iter().all(|b| is_name_byte(*b))
+}
+
+fn is_name(text: &[u8]) -> bool
+    ensures { result ≡ is_name text.now }
+{
+    match text {
+        [] => false,
+        [first, rest @ ..] => {
+            begins_name(*first) && are_name_bytes(rest) && text.len() <= NAME_MAX
+        }
+    }
+}
+
+fn is_reserved(name: &[u8]) -> bool
+    ensures { result ≡ is_reserved name.now }
+{
+    RESERVED_WORDS.iter().any(|word| name == *word)
+}
+
+/// The text behind a leading dot, if it has one.
+fn without_dot(text: &[u8]) -> &[u8]
+    ensures { result.now ≡ without_dot text.now }
+{
+    match text {
+        [b'.', rest @ ..] => rest,
+        _ => text,
+    }
+}
+
+fn is_reference(text: &[u8]) -> bool
+    ensures { result ≡ is_reference text.now }
+{
+    without_dot(text).split(|b| *b == b'.').all(is_name)
+}
+
+fn has_reserved(text: &[u8]) -> bool
+    ensures { result ≡ list_any is_reserved (components text.now) }
+{
+    without_dot(text).split(|b| *b == b'.').any(is_reserved)
+}
+
+fn is_spelt(role: Role, text: &[u8]) -> bool
+    ensures { result ≡ is_spelt (role_of role) text.now }
+{
+    match role {
+        Role::Declared => is_name(text),
+        Role::Referred => is_reference(text),
+    }
+}
+
+/// What is wrong with a word in such a place: its spelling, or else that it is a reserved word or has one between its dots.
+pub fn name_fault(role: Role, text: &[u8]) -> Option<TextFaultKind>
+    ensures { kind_option result ≡ name_fault (role_of role) text.now }
+{
+    if !is_spelt(role, text) {
+        Some(TextFaultKind::BadName)
+    } else if has_reserved(text) {
+        Some(TextFaultKind::Reserved)
+    } else {
+        None
+    }
+}
