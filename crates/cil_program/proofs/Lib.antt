@@ -1,0 +1,3 @@
+pub mod AtomLemmas
+pub mod DerivedOrder
+pub mod GivenLemmas

@@ -1,5 +1,5 @@
 -- The values of the definitions that those of the code stand for.
-use Rattle.std.specs.Prelude.{ℕ, List, [], ◌∷◌, map, slice_index_or}
+use Rattle.std.specs.Prelude.{ℕ, List, [], map, slice_index_or}
 use Rattle.cil_specs.specs.Joined as spec_joined
 use Rattle.cil_specs.specs.Rule as spec_rules
 use Rattle.cil_specs.specs.Rule.{a_type, at_element}
@@ -25,7 +25,7 @@ rule_of modules names r = record {
   source = a_type (slice_index_or names r.source []);
   target = at_element (a_type (slice_index_or names r.target []));
   the_class = slice_index_or names r.class [];
-  permissions = map (λ p. slice_index_or names p []) r.permissions.items
+  permissions = map (λ p. slice_index_or names p []) r.permissions.items;
 }
 
 -- the rules of a resolved policy

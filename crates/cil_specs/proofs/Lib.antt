@@ -6,3 +6,5 @@ pub mod Fronts
 pub mod Stuck
 pub mod OneReading
 pub mod Gaining
+pub mod ReportLemmasMembers
+pub mod ReportLemmas

@@ -1,0 +1,35 @@
+//! Accesses by numbers.
+
+ghost use Rattle.std.specs.Prelude.{◌≡◌, length};
+ghost use Rattle.cil_program.specs.Atoms.{atom_of, atom_at, IsWithin};
+
+use crate::rules::atom::Atom;
+use crate::text::Text;
+use cil_text::RuleKind;
+use std::alloc::Allocator;
+
+/// An access whose names are places in a list of names. Where the names ascend, the order of these is that of the accesses.
+#[derive(Clone, Copy, Debug, PartialEq, Eq, PartialOrd, Ord)]
+pub struct AtomNumbers {
+    pub kind: RuleKind,
+    pub source: usize,
+    pub target: usize,
+    pub class: usize,
+    pub permission: usize,
+}
+
+impl AtomNumbers {
+    /// The access by its names.
+    pub fn named<'t, A: Allocator>(&self, names: &'t [Text<A>]) -> Atom<'t>
+        requires { IsWithin (length names.now) self.now }
+        ensures { atom_of result ≡ atom_at names.now self.now }
+    {
+        Atom {
+            kind: self.kind,
+            source: names[self.source].as_slice(),
+            target: names[self.target].as_slice(),
+            class: names[self.class].as_slice(),
+            permission: names[self.permission].as_slice(),
+        }
+    }
+}
