@@ -1,2 +1,4 @@
 pub mod Atoms
+pub mod Difference
 pub mod Image
+pub mod Merge

@@ -1,9 +1,13 @@
 //! Rules: the access table, the changes between two tables, and the listing.
 
 mod atom;
+mod changes;
 mod collect;
+mod difference;
+mod merge;
 mod numbers;
 mod table;
 
 pub use atom::Atom;
+pub use changes::Changes;
 pub use table::Table;

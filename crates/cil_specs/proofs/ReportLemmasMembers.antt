@@ -1,12 +1,12 @@
 -- What stands in a list, by recursion on it, and strictly ascending lists.
-use Rattle.std.proofs.Common.{◌≡◌, ◌⊎◌, inl, inr, ℕ, zero, suc, ◌+◌, ◌<◌, Bool, true, false, cond, List, [], ◌∷◌, ◌++◌, map, refl, sym, ap, ◌∙◌, subst, arith}
+use Rattle.std.proofs.Common.{◌≡◌, ◌⊎◌, inl, inr, zero, suc, ◌+◌, ◌<◌, Bool, true, false, cond, List, [], ◌∷◌, ◌++◌, map, refl, sym, ap, ◌∙◌, subst, arith}
 use Rattle.std.specs.Bool.{IsTrue}
-use Rattle.std.specs.List.{Contains, All, AllByRecursion, flat_map, Any, list_any, count_by, sum_by}
+use Rattle.std.specs.List.{Contains, All, AllByRecursion, flat_map, filter, Any, list_any, count_by}
 use Rattle.std.specs.Prelude.{nat_lt}
 use Rattle.std.specs.List.Sorted.{IsStrictlySortedBy}
 use Rattle.std.specs.declared.cmp.Ordering.{Ordering}
 use Rattle.std.specs.declared.cmp.Ordering.TheVariants.{Less}
-use Rattle.std.proofs.lemmas.Bool.{ltb-true, lt-ltb}
+use Rattle.std.proofs.lemmas.Bool.{ltb-true, lt-ltb, true≢false}
 use Rattle.std.proofs.lemmas.List.{get_or_default}
 use Rattle.std.proofs.lemmas.List.Elements.{Contains-get_or}
 use Rattle.std.proofs.lemmas.List.Folds.{Any-from_list_any, list_any-from_Any}
@@ -70,6 +70,27 @@ any-flat_map f P (x ∷ xs) (inr later) = any-append_right P (f x) (flat_map f x
 pub any_from_flat_map : {X Y : Type 0} (f : X → List Y) (P : Y → Type 0) (xs : List X) → AnyByRecursion P (flat_map f xs) → AnyByRecursion (λ x. AnyByRecursion P (f x)) xs
 any_from_flat_map f P [] none = none
 any_from_flat_map f P (x ∷ xs) some = elim (any-append_cases P (f x) (flat_map f xs) some) [ inl here ↦ inl here | inr later ↦ inr (any_from_flat_map f P xs later) ]
+
+pub any-filter : {X : Type 0} (p : X → Bool) (P : X → Type 0) (xs : List X) → AnyByRecursion (λ x. P x × IsTrue (p x)) xs → AnyByRecursion P (filter p xs)
+any-filter p P [] none = none
+any-filter p P (x ∷ xs) some = by (any-filter p P xs) (p x) refl some
+  where
+    by : (AnyByRecursion (λ y. P y × IsTrue (p y)) xs → AnyByRecursion P (filter p xs)) → (b : Bool) → p x ≡ b → (P x × IsTrue (p x)) ⊎ AnyByRecursion (λ y. P y × IsTrue (p y)) xs
+        → AnyByRecursion P (cond b (x ∷ filter p xs) (filter p xs))
+    by rest true is (inl holds) = inl holds.0
+    by rest true is (inr later) = inr (rest later)
+    by rest false is (inl holds) = absurd (true≢false (sym holds.1 ∙ is))
+    by rest false is (inr later) = rest later
+
+pub any_from_filter : {X : Type 0} (p : X → Bool) (P : X → Type 0) (xs : List X) → AnyByRecursion P (filter p xs) → AnyByRecursion (λ x. P x × IsTrue (p x)) xs
+any_from_filter p P [] none = none
+any_from_filter p P (x ∷ xs) some = by (any_from_filter p P xs) (p x) refl some
+  where
+    by : (AnyByRecursion P (filter p xs) → AnyByRecursion (λ y. P y × IsTrue (p y)) xs) → (b : Bool) → p x ≡ b → AnyByRecursion P (cond b (x ∷ filter p xs) (filter p xs))
+        → (P x × IsTrue (p x)) ⊎ AnyByRecursion (λ y. P y × IsTrue (p y)) xs
+    by rest true is (inl holds) = inl (holds, is)
+    by rest true is (inr later) = inr (rest later)
+    by rest false is some' = inr (rest some')
 
 -- between a test of a list and the fact
 pub any_from_test : {X : Type 0} (p : X → Bool) (xs : List X) → IsTrue (list_any p xs) → AnyByRecursion (λ x. IsTrue (p x)) xs

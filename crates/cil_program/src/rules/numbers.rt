@@ -2,6 +2,7 @@
 
 ghost use Rattle.std.specs.Prelude.{◌≡◌, length};
 ghost use Rattle.cil_program.specs.Atoms.{atom_of, atom_at, IsWithin};
+ghost use Rattle.cil_program.specs.Difference.{renumbered};
 
 use crate::rules::atom::Atom;
 use crate::text::Text;
@@ -30,6 +31,20 @@ impl AtomNumbers {
             target: names[self.target].as_slice(),
             class: names[self.class].as_slice(),
             permission: names[self.permission].as_slice(),
+        }
+    }
+
+    /// With the numbers at the places of its own.
+    pub fn renumbered(&self, numbers: &[usize]) -> AtomNumbers
+        requires { IsWithin (length numbers.now) self.now }
+        ensures { result ≡ renumbered numbers.now self.now }
+    {
+        AtomNumbers {
+            kind: self.kind,
+            source: numbers[self.source],
+            target: numbers[self.target],
+            class: numbers[self.class],
+            permission: numbers[self.permission],
         }
     }
 }

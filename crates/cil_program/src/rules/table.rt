@@ -17,8 +17,8 @@ use std::marker::Model;
 /// The accesses that the rules of a policy give, each once, in order. Contracts see it as their list.
 #[derive(Debug, Drop)]
 pub struct Table<A: Allocator = Global> {
-    names: Vec<Text<A>, A>,
-    atoms: Vec<AtomNumbers, A>,
+    pub(super) names: Vec<Text<A>, A>,
+    pub(super) atoms: Vec<AtomNumbers, A>,
 }
 
 impl<A: Allocator> Model for Table<A> {
