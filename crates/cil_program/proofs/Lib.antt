@@ -4,3 +4,6 @@ pub mod DerivedOrder
 pub mod DifferenceLemmas
 pub mod GivenLemmas
 pub mod MergeLemmas
+pub mod RowLemmas
+pub mod ListingLemmas
+pub mod GroupLemmas

@@ -2,3 +2,4 @@ pub mod Atoms
 pub mod Difference
 pub mod Image
 pub mod Merge
+pub mod Rows

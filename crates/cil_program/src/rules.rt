@@ -4,6 +4,8 @@ mod atom;
 mod changes;
 mod collect;
 mod difference;
+mod first_row;
+mod listing;
 mod merge;
 mod numbers;
 mod table;

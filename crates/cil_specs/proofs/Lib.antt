@@ -8,3 +8,4 @@ pub mod OneReading
 pub mod Gaining
 pub mod ReportLemmasMembers
 pub mod ReportLemmas
+pub mod ReportLemmasGaining

@@ -1,8 +1,11 @@
 //! Accesses by numbers.
 
 ghost use Rattle.std.specs.Prelude.{◌≡◌, length};
+ghost use Rattle.cil_specs.specs.Report.{is_listed};
+ghost use Rattle.cil_text.specs.Image.{rule_kind_of};
 ghost use Rattle.cil_program.specs.Atoms.{atom_of, atom_at, IsWithin};
 ghost use Rattle.cil_program.specs.Difference.{renumbered};
+ghost use Rattle.cil_program.specs.Rows.{is_in_row_of};
 
 use crate::rules::atom::Atom;
 use crate::text::Text;
@@ -46,5 +49,22 @@ impl AtomNumbers {
             class: numbers[self.class],
             permission: numbers[self.permission],
         }
+    }
+
+    /// Whether it stands in the row of another.
+    pub fn is_in_row_of(&self, other: &AtomNumbers) -> bool
+        ensures { result ≡ is_in_row_of other.now self.now }
+    {
+        other.kind == self.kind
+            && other.source == self.source
+            && other.target == self.target
+            && other.class == self.class
+    }
+
+    /// Whether its row is listed.
+    pub fn is_listed(&self) -> bool
+        ensures { result ≡ is_listed (rule_kind_of self.now.kind) }
+    {
+        self.kind != RuleKind::NeverAllow
     }
 }

@@ -1,16 +1,21 @@
 //! The access table.
 
-ghost use Rattle.std.specs.Prelude.{◌≡◌, ◌==◌, [], length, slice_get, option_map, IfOk};
+ghost use Rattle.std.specs.Prelude.{◌≡◌, ◌≤◌, ◌==◌, Bool, List, [], length, slice_get, option_map, IfOk, OnErr};
+ghost use Rattle.std.specs.List.{flat_map};
+ghost use Rattle.cil_specs.specs.Rule as spec;
 ghost use Rattle.cil_specs.specs.Rule.{is_in_table};
-ghost use Rattle.cil_specs.specs.Report.{AreAtoms};
+ghost use Rattle.cil_specs.specs.Report.{AreAtoms, Row, AreRows, row_line};
+ghost use Rattle.cil_specs.specs.Device.{HasFailed, Gains, GainsFront};
 ghost use Rattle.cil_program.specs.Image.{rules_of};
 ghost use Rattle.cil_program.specs.Atoms.{atom_of};
 
 use crate::names::resolved::Resolved;
 use crate::rules::atom::Atom;
 use crate::rules::collect::{collect, sort_distinct};
+use crate::rules::listing::write_rows;
 use crate::rules::numbers::AtomNumbers;
 use crate::text::Text;
+use cil_text::{Sink, SinkFault};
 use std::alloc::{AllocError, Allocator, Global};
 use std::marker::Model;
 
@@ -80,5 +85,17 @@ impl<A: Allocator> Table<A> {
         } else {
             None
         }
+    }
+
+    /// Writes the lines of the rows of the listing, and tells how many there are.
+    pub fn write_listing<W: Sink>(&self, sink: &mut W) -> Result<usize, SinkFault>
+        ensures ok { IfOk result (λ n. (p : spec.Atom → Bool) → AreAtoms p self.now → (rows : List Row)
+            × AreRows p rows × (n ≡ length rows) × Gains (W.taken sink.old) (W.taken sink.new) (flat_map row_line rows)) }
+        ensures err { OnErr result ((p : spec.Atom → Bool) → AreAtoms p self.now → (rows : List Row)
+            × AreRows p rows × GainsFront (W.taken sink.old) (W.taken sink.new) (flat_map row_line rows)) }
+        ensures failed { OnErr result (HasFailed (W.failures sink.old) (W.failures sink.new)) }
+        ensures counted { W.failures sink.old ≤ W.failures sink.new }
+    {
+        write_rows(sink, &self.names, &self.atoms)
     }
 }
