@@ -12,3 +12,12 @@ pub mod ClassEntries
 pub mod FaultLemmas
 pub mod NumberingLemmas
 pub mod ResolveLemmas
+pub mod AtomLemmas
+pub mod ChangesLemmas
+pub mod DerivedOrder
+pub mod DifferenceLemmas
+pub mod GivenLemmas
+pub mod MergeLemmas
+pub mod RowLemmas
+pub mod ListingLemmas
+pub mod GroupLemmas

@@ -1,3 +1,5 @@
+pub mod Atoms
+pub mod Difference
 pub mod Image
 pub mod Input
 pub mod Command
@@ -11,3 +13,5 @@ pub mod Declarations
 pub mod Placed
 pub mod RuleWords
 pub mod Numbering
+pub mod Merge
+pub mod Rows

@@ -16,3 +16,6 @@ pub mod OrderLemmas
 pub mod ShapeLemmas
 pub mod FaultOrder
 pub mod FaultSame
+pub mod ReportLemmasMembers
+pub mod ReportLemmas
+pub mod ReportLemmasGaining

@@ -1,0 +1,52 @@
+//! Collects the accesses that rules give.
+
+ghost use Rattle.std.specs.Prelude.{◌≡◌, ◌++◌, ◌↔◌, Contains, IfOk, OnOk};
+ghost use Rattle.std.specs.List.{flat_map};
+ghost use Rattle.std.specs.List.Sorted.{IsStrictlySortedBy};
+ghost use Rattle.cil_program.specs.Atoms.{numbers_cmp, given};
+
+use crate::names::resolved::NumberedRule;
+use crate::rules::numbers::AtomNumbers;
+use std::alloc::{AllocError, Allocator};
+
+/// Appends the accesses that a rule gives.
+fn push_given<A: Allocator + Copy>(
+    atoms: &mut Vec<AtomNumbers, A>,
+    rule: &NumberedRule<A>,
+) -> Result<(), AllocError>
+    ensures { OnOk result (atoms.new.items ≡ atoms.old.items ++ given rule.now) }
+{
+    for permission in &rule.permissions {
+        atoms.push(AtomNumbers {
+            kind: rule.kind,
+            source: rule.source,
+            target: rule.target,
+            class: rule.class,
+            permission: *permission,
+        })?;
+    }
+    Ok(())
+}
+
+/// The accesses that rules give, each as often as it is given.
+pub fn collect<A: Allocator + Copy>(
+    alloc: A,
+    rules: &[NumberedRule<A>],
+) -> Result<Vec<AtomNumbers, A>, AllocError>
+    ensures { IfOk result (λ atoms. atoms.items ≡ flat_map given rules.now) }
+{
+    let mut atoms = Vec::new(alloc);
+    for rule in rules {
+        push_given(&mut atoms, rule)?;
+    }
+    Ok(atoms)
+}
+
+/// Puts accesses in order, and keeps each once.
+pub fn sort_distinct<A: Allocator>(atoms: &mut Vec<AtomNumbers, A>)
+    ensures ordered { IsStrictlySortedBy numbers_cmp atoms.new.items }
+    ensures same { (a : _) → Contains atoms.new.items a ↔ Contains atoms.old.items a }
+{
+    atoms.sort_unstable();
+    atoms.dedup();
+}

@@ -1,0 +1,85 @@
+-- The orders of names and accesses.
+use Rattle.std.proofs.Common.{◌≡◌, ℕ, zero, suc, List, [], ◌∷◌, true, refl, sym, ap, ◌∙◌}
+use Rattle.std.specs.Bool.{IsTrue}
+use Rattle.std.specs.List.Sorted.{IsStrictlySortedBy}
+use Rattle.std.specs.Ordering.{is_lt, ordering_then}
+use Rattle.std.specs.Cmp.{IsTotalOrder}
+use Rattle.std.specs.declared.cmp.Ordering.{Ordering}
+use Rattle.std.specs.declared.cmp.Ordering.TheVariants.{Less, Equal, Greater}
+use Rattle.std.proofs.lemmas.Bool.{and_parts, and_from, false≢true}
+use Rattle.std.proofs.lemmas.Cmp.{nat_cmp_total, on_total, then_total, nat_list_cmp_total}
+use Rattle.std.proofs.lemmas.Map.Lookups.{CmpEqualImpliesEq, exact_unsigned, exact_bytes}
+use Rattle.cil_specs.specs.Statements.{RuleKind, allow, auditallow, dontaudit, neverallow}
+use Rattle.cil_specs.specs.Rule.{kind_index}
+use Rattle.cil_specs.specs.Report.{name_cmp, atom_cmp, names_rise}
+use Rattle.cil_specs.proofs.ReportLemmasMembers.{all_weaker}
+
+pub name_total : IsTotalOrder name_cmp
+name_total = nat_list_cmp_total
+
+pub atom_total : IsTotalOrder atom_cmp
+atom_total =
+    then_total (on_total (λ a. kind_index a.kind) nat_cmp_total)
+    (then_total (on_total (λ a. a.source) name_total) (then_total (on_total (λ a. a.target) name_total)
+    (then_total (on_total (λ a. a.the_class) name_total) (on_total (λ a. a.permission) name_total))))
+
+-- a kind by its place in the order
+kind_at : ℕ → RuleKind
+kind_at zero = allow
+kind_at (suc zero) = auditallow
+kind_at (suc (suc zero)) = dontaudit
+kind_at (suc (suc (suc n))) = neverallow
+
+kind_at-kind_index : (k : RuleKind) → kind_at (kind_index k) ≡ k
+unfolding kind_at
+kind_at-kind_index allow = refl
+kind_at-kind_index auditallow = refl
+kind_at-kind_index dontaudit = refl
+kind_at-kind_index neverallow = refl
+
+-- kinds of one place are one
+pub same-kind : (k l : RuleKind) → kind_index k ≡ kind_index l → k ≡ l
+same-kind k l e = sym (kind_at-kind_index k) ∙ ap kind_at e ∙ kind_at-kind_index l
+
+-- two comparisons in turn that find no difference
+pub then_equal : (o p : Ordering) → ordering_then o p ≡ Equal → (o ≡ Equal) × (p ≡ Equal)
+then_equal Less p e = (e, cc)
+then_equal Equal p e = (refl, e)
+then_equal Greater p e = (e, cc)
+
+-- accesses that compare alike are one
+pub atom_exact : CmpEqualImpliesEq atom_cmp
+atom_exact a b e =
+    let kinds = then_equal _ _ e in
+    let sources = then_equal _ _ kinds.1 in
+    let targets = then_equal _ _ sources.1 in
+    let classes = then_equal _ _ targets.1 in
+    let kind = same-kind a.kind b.kind (exact_unsigned _ _ kinds.0) in
+    let source = exact_bytes _ _ sources.0 in
+    let target = exact_bytes _ _ targets.0 in
+    let the_class = exact_bytes _ _ classes.0 in
+    let permission = exact_bytes _ _ classes.1 in
+    λ i. record { kind = kind i; source = source i; target = target i; the_class = the_class i; permission = permission i }
+
+less-is : (o : Ordering) → is_lt o ≡ true → o ≡ Less
+less-is Less e = refl
+less-is Equal e = absurd (false≢true e)
+less-is Greater e = absurd (false≢true e)
+
+-- names that rise ascend strictly
+pub sorted_from_names_rise : (names : List (List ℕ)) → IsTrue (names_rise names) → IsStrictlySortedBy name_cmp names
+unfolding IsStrictlySortedBy
+sorted_from_names_rise [] rise = tt
+sorted_from_names_rise (a ∷ []) rise = (tt, tt)
+sorted_from_names_rise (a ∷ b ∷ names) rise =
+    let parts = and_parts (is_lt (name_cmp a b)) (names_rise (b ∷ names)) rise in
+    let less = less-is (name_cmp a b) parts.0 in
+    let rest = sorted_from_names_rise (b ∷ names) parts.1 in
+    ((less, all_weaker (λ y. name_cmp b y ≡ Less) (λ y. name_cmp a y ≡ Less) (λ y h. name_total.trans a b y less h) names rest.0), rest)
+
+-- and the other way round
+pub names_rise-from_sorted : (names : List (List ℕ)) → IsStrictlySortedBy name_cmp names → IsTrue (names_rise names)
+unfolding IsStrictlySortedBy
+names_rise-from_sorted [] sorted = refl
+names_rise-from_sorted (a ∷ []) sorted = refl
+names_rise-from_sorted (a ∷ b ∷ names) sorted = and_from (is_lt (name_cmp a b)) (names_rise (b ∷ names)) (ap is_lt sorted.0.0) (names_rise-from_sorted (b ∷ names) sorted.1)

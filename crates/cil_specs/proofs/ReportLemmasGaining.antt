@@ -1,0 +1,45 @@
+-- Texts that a sink takes one after the other, and fronts of them.
+use Rattle.std.proofs.Common.{◌≡◌, inl, inr, ℕ, ◌+◌, ◌<◌, ◌≤◌, List, [], ◌∷◌, ◌++◌, length, get_or, take, drop, Option, Result, Ok, Err, OnErr, sym, ap, ◌∙◌, subst, append-nil, arith, length-append}
+use Rattle.std.specs.List.{flat_map}
+use Rattle.std.proofs.lemmas.List.{take-append-le, take-append-drop, take_more}
+use Rattle.std.proofs.lemmas.List.Concat.{flat_map-append}
+use Rattle.std.proofs.Math.Seq.{take-append-add}
+use Rattle.cil_specs.specs.Device.{HasFailed, Gains, GainsFront}
+use Rattle.cil_specs.proofs.Gaining.{gains-both}
+
+-- a text and then a beginning of more
+pub gains-then_front : (old mid new : Option (List ℕ)) (first second : List ℕ) → Gains old mid first → GainsFront mid new second → GainsFront old new (first ++ second)
+gains-then_front old mid new first second gains (n, within, front) = (
+  length first + n,
+  (let whole = length-append first second in omega (arith, whole)),
+  subst (Gains old new) (sym (take-append-add first second n)) (gains-both old mid new first (take n second) gains front),
+)
+
+-- a beginning of a text begins what begins with the text
+pub front-longer : (old new : Option (List ℕ)) (first second : List ℕ) → GainsFront old new first → GainsFront old new (first ++ second)
+front-longer old new first second (n, within, front) = (
+  n,
+  (let whole = length-append first second in omega (arith, whole)),
+  subst (Gains old new) (sym (take-append-le n first second within)) front,
+)
+
+-- a failure after others
+pub failed-later : (old mid new : ℕ) → old ≤ mid → HasFailed mid new → HasFailed old new
+failed-later old mid new before (inl rose) = inl (omega arith)
+failed-later old mid new before (inr greatest) = inr greatest
+
+-- what is so, is so where there is an error
+pub on_err : {T E P : Type 0} (r : Result T E) → P → OnErr r P
+on_err (Ok x) holds = tt
+on_err (Err e) holds = holds
+
+-- the texts of some elements, and then a beginning of that of the next
+pub gains-pieces_front : {X : Type 0} (f : X → List ℕ) (old mid new : Option (List ℕ)) (xs : List X) (i : ℕ) (d : X) → i < length xs → Gains old mid (flat_map f (take i xs)) → GainsFront mid new (f (get_or xs i d))
+    → GainsFront old new (flat_map f xs)
+gains-pieces_front f old mid new xs i d within gains front =
+    let one_more : flat_map f (take i xs) ++ f (get_or xs i d) ≡ flat_map f (take (i + 1) xs) =
+        sym (ap (flat_map f) (take_more xs i d within) ∙ flat_map-append f (take i xs) (get_or xs i d ∷ []) ∙ ap (λ l. flat_map f (take i xs) ++ l) (append-nil (f (get_or xs i d)))) in
+    let whole : flat_map f (take (i + 1) xs) ++ flat_map f (drop (i + 1) xs) ≡ flat_map f xs = sym (flat_map-append f (take (i + 1) xs) (drop (i + 1) xs)) ∙ ap (flat_map f) (take-append-drop (i + 1) xs) in
+    subst (GainsFront old new) whole
+    (front-longer old new (flat_map f (take (i + 1) xs)) (flat_map f (drop (i + 1) xs))
+    (subst (GainsFront old new) one_more (gains-then_front old mid new (flat_map f (take i xs)) (f (get_or xs i d)) gains front)))
