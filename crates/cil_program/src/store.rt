@@ -3,11 +3,15 @@
 mod call;
 mod compiled;
 mod edit;
+mod entry;
+mod modules;
 mod refusal;
 mod runs;
 
 pub use call::{Call, Reply};
 pub use compiled::{Compiled, WriteFault};
 pub use edit::Edit;
+pub use entry::Entry;
+pub use modules::Store;
 pub use refusal::{Refusal, StoreFault, check_install};
 pub use runs::run;
