@@ -16,3 +16,4 @@ pub mod Numbering
 pub mod Merge
 pub mod Rows
 pub mod Stored
+pub mod Refusing

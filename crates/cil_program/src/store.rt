@@ -6,6 +6,7 @@ mod edit;
 mod entry;
 mod modules;
 mod refusal;
+mod refusing;
 mod runs;
 
 pub use call::{Call, Reply};

@@ -1,0 +1,23 @@
+-- Refusals by the faults that they tell.
+use Rattle.std.specs.Prelude.{◌≡◌, ◌⊎◌, ℕ, List}
+use Rattle.cil_specs.specs.Next.{Refusal, at_place, for_memory}
+use Rattle.cil_specs.specs.TextFault as text_fault
+use Rattle.cil_specs.specs.PolicyFault as policy_fault
+use Rattle.cil_text.specs.Image.{place_of, kind_of, shown}
+use Rattle.cil_text.specs.declared.fault.TextFault.{TextFault}
+use Rattle.cil_text.specs.declared.fault.TextFault.TheVariants as texts
+use Rattle.cil_program.specs.Image.{policy_kind_of}
+use Rattle.cil_program.specs.declared.names.fault.PolicyFault.{PolicyFault}
+use Rattle.cil_program.specs.declared.names.fault.PolicyFault.TheVariants as policies
+
+-- the refusal, or want of memory for its words
+abbrev pub IsRefusalOf : Refusal → Refusal → Type 0
+IsRefusalOf refusal meant = (refusal ≡ for_memory) ⊎ (refusal ≡ meant)
+
+abbrev pub IsTextRefusal : TextFault → List ℕ → Refusal → Type 0
+IsTextRefusal texts.Memory name refusal = refusal ≡ for_memory
+IsTextRefusal (texts.Found kind at word) name refusal = IsRefusalOf refusal (at_place (text_fault.code_of (kind_of kind)) name (place_of at) (shown word))
+
+abbrev pub IsPolicyRefusalOf : PolicyFault → Refusal → Type 0
+IsPolicyRefusalOf policies.Memory refusal = refusal ≡ for_memory
+IsPolicyRefusalOf (policies.Found kind module_name at word) refusal = IsRefusalOf refusal (at_place (policy_fault.code_of (policy_kind_of kind)) module_name.now (place_of at) word.now)
