@@ -1,5 +1,5 @@
 -- The entries of a store whose modules all have one priority.
-use Rattle.std.proofs.Common.{◌≡◌, ◌==◌, ◌&&◌, ℕ, zero, suc, ◌+◌, ◌≤◌, Bool, true, false, cond, not, nat_le, one-add, List, [], ◌∷◌, ◌++◌, map, filter, length, take, drop, slice_set, Option, None, Some, MatchOption, slice_get, IsTrue, refl, ap, sym, ◌∙◌, subst, true≢false, arith}
+use Rattle.std.proofs.Common.{◌≡◌, ◌==◌, ◌&&◌, ℕ, zero, suc, ◌+◌, ◌-◌, ◌≤◌, Bool, true, false, cond, not, nat_le, one-add, List, [], ◌∷◌, ◌++◌, map, filter, length, take, drop, slice_set, Option, None, Some, MatchOption, slice_get, IsTrue, refl, ap, sym, ◌∙◌, subst, true≢false, length-drop, arith}
 use Rattle.std.specs.List.{insert, list_all, prefix_len, AllByRecursion}
 use Rattle.std.specs.List.Sorted.{IsStrictlySortedBy}
 use Rattle.std.specs.Ordering.{nat_cmp, ordering_then, is_lt}
@@ -7,13 +7,14 @@ use Rattle.std.specs.declared.cmp.Ordering.{Ordering}
 use Rattle.std.specs.declared.cmp.Ordering.TheVariants.{Less, Equal, Greater}
 use Rattle.std.specs.Ordering.{ordering_reverse}
 use Rattle.std.proofs.lemmas.Bool.{eqb-true}
+use Rattle.std.proofs.lemmas.List.{take_all, map-append}
 use Rattle.std.proofs.lemmas.Cmp.{nat_list_cmp_total, tied_itself}
 use Rattle.std.proofs.lemmas.Map.Lookups.{exact_bytes}
 use Rattle.std.proofs.Common.{le-leb}
 use Rattle.cil_specs.specs.Report.{name_cmp}
 use Rattle.cil_specs.specs.Store.{Entry, entry_cmp, put}
 use Rattle.cil_specs.proofs.Runs.{both_true, first_true, second_true}
-use Rattle.cil_program.specs.Stored.{AreStored, IsNamedAt}
+use Rattle.cil_program.specs.Stored.{AreStored, IsNamedAt, IsSplit, entry_for}
 
 abbrev pub is_before : List ℕ → Entry → Bool
 is_before name o = is_lt (name_cmp o.name name)
@@ -196,3 +197,49 @@ set-put e entries k at p stored named =
 pub insert-put : (e : Entry) (entries : List Entry) (k : ℕ) → k ≡ prefix_len (is_before e.name) entries → e.priority ≡ 400 → AreStored entries → (IsNamedAt entries k e.name → ⊥) → insert entries k e ≡ put e entries
 insert-put e entries k at p stored other =
     sym (subst (λ n. (IsNamedAt entries n e.name → ⊥) → put e entries ≡ take n entries ++ e ∷ drop n entries) (sym at) (puts e entries p stored.one_priority stored.ordered).inserted other)
+
+-- what is left of a list behind a front
+rest-of : (xs : List Entry) (k : ℕ) → take (length xs - k) (drop k xs) ≡ drop k xs
+rest-of xs k = take_all (length xs - k) (drop k xs) (omega (arith, length-drop k xs))
+
+plus-one : (k : ℕ) → k + 1 ≡ suc k
+plus-one k = omega arith
+
+-- the names are in order where the list is that of an entry more
+names-ordered : (before after all : List Entry) (e : Entry) → before ++ e ∷ after ≡ all → IsStrictlySortedBy name_cmp (map (λ o. o.name) all) → IsStrictlySortedBy name_cmp (map (λ o. o.name) before ++ e.name ∷ map (λ o. o.name) after)
+names-ordered before after all e is sorted = subst (IsStrictlySortedBy name_cmp) (ap (map (λ o. o.name)) (sym is) ∙ map-append (λ o. o.name) before (e ∷ after)) sorted
+
+split-ordered : (entries before after : List Entry) (name : List ℕ) → ((text : List ℕ) → before ++ entry_for name text ∷ after ≡ put (entry_for name text) entries) → AreStored entries → IsStrictlySortedBy name_cmp (map (λ o. o.name) before ++ name ∷ map (λ o. o.name) after)
+split-ordered entries before after name whole stored = names-ordered before after (put (entry_for name []) entries) (entry_for name []) (whole []) (puts (entry_for name []) entries refl stored.one_priority stored.ordered).ordered
+
+pub split-named : (entries xs others : List Entry) (k : ℕ) (name : List ℕ) → xs ≡ entries → others ≡ entries → k ≡ prefix_len (is_before name) entries → AreStored entries → IsNamedAt entries k name
+    → IsSplit entries name (take k xs) (take (length others - (k + 1)) (drop (k + 1) others))
+split-named entries xs others k name same alike at stored named = record {
+  whole = whole;
+  ordered = split-ordered entries (take k xs) (take (length others - (k + 1)) (drop (k + 1) others)) name whole stored;
+  start = k;
+  is_before = ap (take k) same;
+  end = k + 1;
+  is_after = rest-of others (k + 1) ∙ ap (drop (k + 1)) alike;
+}
+  where
+    whole : (text : List ℕ) → take k xs ++ entry_for name text ∷ take (length others - (k + 1)) (drop (k + 1) others) ≡ put (entry_for name text) entries
+    whole text =
+          (λ i. take k (same i) ++ entry_for name text ∷ (rest-of others (k + 1) ∙ ap (drop (k + 1)) alike ∙ ap (λ n. drop n entries) (plus-one k)) i)
+          ∙ sym (subst (λ n. IsNamedAt entries n name → put (entry_for name text) entries ≡ take n entries ++ entry_for name text ∷ drop (suc n) entries) (sym at) (puts (entry_for name text) entries refl stored.one_priority stored.ordered).replaced named)
+
+pub split-unnamed : (entries xs others : List Entry) (k : ℕ) (name : List ℕ) → xs ≡ entries → others ≡ entries → k ≡ prefix_len (is_before name) entries → AreStored entries → (IsNamedAt entries k name → ⊥)
+    → IsSplit entries name (take k xs) (take (length others - k) (drop k others))
+split-unnamed entries xs others k name same alike at stored other = record {
+  whole = whole;
+  ordered = split-ordered entries (take k xs) (take (length others - k) (drop k others)) name whole stored;
+  start = k;
+  is_before = ap (take k) same;
+  end = k;
+  is_after = rest-of others k ∙ ap (drop k) alike;
+}
+  where
+    whole : (text : List ℕ) → take k xs ++ entry_for name text ∷ take (length others - k) (drop k others) ≡ put (entry_for name text) entries
+    whole text =
+          (λ i. take k (same i) ++ entry_for name text ∷ (rest-of others k ∙ ap (drop k) alike) i)
+          ∙ sym (subst (λ n. (IsNamedAt entries n name → ⊥) → put (entry_for name text) entries ≡ take n entries ++ entry_for name text ∷ drop n entries) (sym at) (puts (entry_for name text) entries refl stored.one_priority stored.ordered).inserted other)

@@ -1,6 +1,6 @@
 //! The modules of a store.
 
-ghost use Rattle.std.specs.Prelude.{◌≡◌, ◌↔◌, ◌≤◌, IsTrue, length, slice_get, option_map, OnOk, OnErr};
+ghost use Rattle.std.specs.Prelude.{◌≡◌, ◌↔◌, ◌<◌, ◌≤◌, IsTrue, length, slice_get, option_map, OnOk, OnErr};
 ghost use Rattle.std.specs.List.{prefix_len};
 ghost use Rattle.std.specs.Ordering.{is_lt};
 ghost use Rattle.cil_specs.specs.Report.{name_cmp};
@@ -48,7 +48,8 @@ impl<A: Allocator> Store<A> {
 
     /// How many entries have a name before this one.
     pub fn place(&self, name: &[u8]) -> usize
-        ensures { result ≡ prefix_len (λ e. is_lt (name_cmp e.name name.now)) self.now.entries }
+        ensures value { result ≡ prefix_len (λ e. is_lt (name_cmp e.name name.now)) self.now.entries }
+        ensures within { result ≤ length self.now.entries }
     {
         for (i, e) in self.entries.iter().enumerate() {
             if !e.is_before(name) {
@@ -60,12 +61,30 @@ impl<A: Allocator> Store<A> {
 
     /// Whether the entry at a place has this name.
     fn has_at(&self, place: usize, name: &[u8]) -> bool
-        ensures { IsTrue result ↔ IsNamedAt self.now.entries place name.now }
+        ensures value { IsTrue result ↔ IsNamedAt self.now.entries place name.now }
+        ensures within { IsTrue result → place < length self.now.entries }
     {
         let Some(e) = self.entries.get(place) else {
             return false;
         };
         e.is_named(name)
+    }
+}
+
+impl<A: Allocator> Store<A> {
+    ghost use Rattle.cil_program.specs.Stored.{IsSplit};
+
+    /// The entries before and after one of this name, which may be there or not.
+    pub fn split(&self, name: &[u8]) -> (&[StoredEntry<A>], &[StoredEntry<A>])
+        ensures { IsSplit self.now.entries name.now result.0.now result.1.now }
+    {
+        let place = self.place(name);
+        let before = &self.entries[..place];
+        if self.has_at(place, name) {
+            (before, &self.entries[place + 1..])
+        } else {
+            (before, &self.entries[place..])
+        }
     }
 }
 

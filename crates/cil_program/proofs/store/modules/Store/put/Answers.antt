@@ -23,30 +23,30 @@ all-stored store entries e same p short are = put-stored e store.entries p short
 pub invariant_of-self : goal.invariant_of-self
 invariant_of-self g c =
     let same : c.self.inside.entries.items ≡ c.args.self.now.entries = ap (λ s. s.entries) c.self.view_is in
-    let put_is = replaced c.args.self.now c.self.inside.entries.items c.place-place.result (entry_of c.args.entry) c.in_ok-stored.stored same c.place-place.ensures c.in_ok-stored.ensures c.requires.priority c.self.invariant (c.has_at.ensures.0 c.if-has_at.true) in
+    let put_is = replaced c.args.self.now c.self.inside.entries.items c.place-place.result (entry_of c.args.entry) c.in_ok-stored.stored same c.place-place.ensures.value c.in_ok-stored.ensures c.requires.priority c.self.invariant (c.has_at.ensures.value.0 c.if-has_at.true) in
     subst AreStored (sym put_is) (all-stored c.args.self.now c.self.inside.entries.items (entry_of c.args.entry) same c.requires.priority c.requires.short c.self.invariant)
 
 pub insert-requires : goal.insert-requires
 insert-requires g c =
     let same : c.self.inside.entries.items ≡ c.args.self.now.entries = ap (λ s. s.entries) c.self.view_is in
-    omega (arith, c.place-place.ensures, prefix_len-le-length (is_before c.args.entry.name.now) c.args.self.now.entries, ap length same)
+    omega (arith, c.place-place.ensures.within, ap length same)
 
 pub invariant_of-self-in-Continue-branch-2 : goal.invariant_of-self-in-Continue-branch-2
 invariant_of-self-in-Continue-branch-2 g c =
     let same : c.self.inside.entries.items ≡ c.args.self.now.entries = ap (λ s. s.entries) c.self.view_is in
-    let other : IsNamedAt c.args.self.now.entries c.place-place.result c.args.entry.name.now → ⊥ = λ named. true≢false (sym (c.has_at.ensures.1 named) ∙ c.if-has_at.false) in
-    let put_is = between c.args.self.now c.self.inside.entries.items c.place-place.result (entry_of c.args.entry) c.in_ok-stored.stored same c.place-place.ensures c.in_ok-stored.ensures c.requires.priority c.self.invariant other in
+    let other : IsNamedAt c.args.self.now.entries c.place-place.result c.args.entry.name.now → ⊥ = λ named. true≢false (sym (c.has_at.ensures.value.1 named) ∙ c.if-has_at.false) in
+    let put_is = between c.args.self.now c.self.inside.entries.items c.place-place.result (entry_of c.args.entry) c.in_ok-stored.stored same c.place-place.ensures.value c.in_ok-stored.ensures c.requires.priority c.self.invariant other in
     subst AreStored (sym (c.in_ok-insert.ensures.items ∙ put_is)) (all-stored c.args.self.now c.self.inside.entries.items (entry_of c.args.entry) same c.requires.priority c.requires.short c.self.invariant)
 
 pub returns-then-has_at-clause-ok : goal.returns-then-has_at-clause-ok
 returns-then-has_at-clause-ok g c =
     let same : c.self.inside.entries.items ≡ c.args.self.now.entries = ap (λ s. s.entries) c.self.view_is in
-    let put_is = replaced c.args.self.now c.self.inside.entries.items c.place-place.result (entry_of c.args.entry) c.in_ok-stored.stored same c.place-place.ensures c.in_ok-stored.ensures c.requires.priority c.self.invariant (c.has_at.ensures.0 c.if-has_at.true) in
+    let put_is = replaced c.args.self.now c.self.inside.entries.items c.place-place.result (entry_of c.args.entry) c.in_ok-stored.stored same c.place-place.ensures.value c.in_ok-stored.ensures c.requires.priority c.self.invariant (c.has_at.ensures.value.0 c.if-has_at.true) in
     λ i. record { entries = put_is i; disabled = (ap (λ s. s.disabled) c.self.view_is) i }
 
 pub returns-in_ok-insert-clause-ok : goal.returns-in_ok-insert-clause-ok
 returns-in_ok-insert-clause-ok g c =
     let same : c.self.inside.entries.items ≡ c.args.self.now.entries = ap (λ s. s.entries) c.self.view_is in
-    let other : IsNamedAt c.args.self.now.entries c.place-place.result c.args.entry.name.now → ⊥ = λ named. true≢false (sym (c.has_at.ensures.1 named) ∙ c.if-has_at.false) in
-    let put_is = between c.args.self.now c.self.inside.entries.items c.place-place.result (entry_of c.args.entry) c.in_ok-stored.stored same c.place-place.ensures c.in_ok-stored.ensures c.requires.priority c.self.invariant other in
+    let other : IsNamedAt c.args.self.now.entries c.place-place.result c.args.entry.name.now → ⊥ = λ named. true≢false (sym (c.has_at.ensures.value.1 named) ∙ c.if-has_at.false) in
+    let put_is = between c.args.self.now c.self.inside.entries.items c.place-place.result (entry_of c.args.entry) c.in_ok-stored.stored same c.place-place.ensures.value c.in_ok-stored.ensures c.requires.priority c.self.invariant other in
     λ i. record { entries = (c.in_ok-insert.ensures.items ∙ put_is) i; disabled = (ap (λ s. s.disabled) c.self.view_is) i }
