@@ -17,3 +17,4 @@ pub mod Merge
 pub mod Rows
 pub mod Stored
 pub mod Refusing
+pub mod Plain

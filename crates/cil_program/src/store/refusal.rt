@@ -8,7 +8,7 @@ ghost use Rattle.cil_program.specs.Edits.{store_refusal_of};
 use crate::names::fault::PolicyFaultKind;
 use crate::text;
 use cil_text::{Place, TextFaultKind};
-use std::alloc::{Allocator, Global};
+use std::alloc::{AllocError, Allocator, Global};
 
 /// The store's own refusals of an install. The codes and their order are this project's own; names and priorities are those
 /// of `semodule(8)`, as far as they go.
@@ -56,6 +56,17 @@ pub enum Refusal<A: Allocator = Global> {
         word: text::Text<A>,
     },
     Memory,
+}
+
+impl<A: Allocator> From<AllocError> for Refusal<A> {
+    ghost use Rattle.std.specs.Prelude.{◌≡◌};
+    ghost use Rattle.cil_program.specs.declared.store.refusal.Refusal.TheVariants.{Memory};
+
+    ghost from_gives = { λ _ e. e ≡ Memory };
+
+    fn from(_e: AllocError) -> Refusal<A> {
+        Refusal::Memory
+    }
 }
 
 /// The greatest length of a module's name, and of its text.
