@@ -7,3 +7,4 @@ pub mod MergeLemmas
 pub mod RowLemmas
 pub mod ListingLemmas
 pub mod GroupLemmas
+pub mod NumberedRowLemmas

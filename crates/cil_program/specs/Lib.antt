@@ -2,4 +2,5 @@ pub mod Atoms
 pub mod Difference
 pub mod Image
 pub mod Merge
+pub mod NumberedRows
 pub mod Rows
