@@ -23,3 +23,4 @@ pub mod ListingLemmas
 pub mod GroupLemmas
 pub mod StoredLemmas
 pub mod JoinLemmas
+pub mod NumberedRowLemmas

@@ -1,5 +1,5 @@
 -- The text of a row, written in pieces.
-use Rattle.std.proofs.Common.{◌≡◌, ℕ, Bool, List, ◌∷◌, ◌++◌, length, codes, Option, Result, Ok, Err, IfOk, OnOk, OnErr, sym, ap, ◌∙◌, subst, append_assoc}
+use Rattle.std.proofs.Common.{◌≡◌, ℕ, Bool, List, ◌∷◌, ◌++◌, length, map, codes, Option, Result, Ok, Err, IfOk, OnOk, OnErr, sym, ap, ◌∙◌, subst, append_assoc}
 use Rattle.std.specs.List.{flat_map}
 use Rattle.std.proofs.lemmas.Result.{on_err_weaker}
 use Rattle.std.proofs.lemmas.List.Folds.{flat_map-map}
@@ -8,17 +8,22 @@ use Rattle.cil_specs.specs.Report.{AreAtoms, Row, AreRows, row_line}
 use Rattle.cil_specs.specs.Device.{Gains, GainsFront}
 use Rattle.cil_specs.proofs.Gaining.{gains-both}
 use Rattle.cil_specs.proofs.ReportLemmasGaining.{gains-then_front, front-longer}
+use Rattle.cil_text.specs.Image.{rule_kind_of}
 use Rattle.cil_program.specs.declared.rules.numbers.AtomNumbers.{AtomNumbers}
-use Rattle.cil_program.specs.Atoms.{atom_at, name_at}
+use Rattle.cil_program.specs.Atoms.{name_at}
 use Rattle.cil_program.specs.Rows.{rows_of, row_head, row_at, permission_text}
 use Rattle.cil_program.proofs.RowLemmas.{are-rows}
 
 -- the line of a row is its head, its permissions and its end
+pub line-parts : (r : Row) → row_line r ≡ row_head r.kind r.source r.target r.the_class ++ (flat_map (λ p. p ++ codes " ") r.permissions ++ codes "};\n")
+line-parts r = append_assoc (row_head r.kind r.source r.target r.the_class) (flat_map (λ p. p ++ codes " ") r.permissions) (codes "};\n")
+
 pub line-is : (names : List (List ℕ)) (first : AtomNumbers) (atoms : List AtomNumbers)
-    → row_line (row_at names first atoms) ≡ row_head (atom_at names first) ++ (flat_map (permission_text names) atoms ++ codes "};\n")
+    → row_line (row_at names first atoms) ≡ row_head (rule_kind_of first.kind) (name_at names first.source) (name_at names first.target) (name_at names first.class) ++ (flat_map (permission_text names) atoms ++ codes "};\n")
 line-is names first atoms =
-    ap (λ l. row_head (atom_at names first) ++ l ++ codes "};\n") (flat_map-map (λ p. p ++ codes " ") (λ a. name_at names a.permission) atoms)
-    ∙ append_assoc (row_head (atom_at names first)) (flat_map (permission_text names) atoms) (codes "};\n")
+    line-parts (row_at names first atoms)
+    ∙ ap (λ l. row_head (rule_kind_of first.kind) (name_at names first.source) (name_at names first.target) (name_at names first.class) ++ (l ++ codes "};\n"))
+    (flat_map-map (λ p. p ++ codes " ") (λ a. name_at names a.permission) atoms)
 
 -- three texts, one after the other
 module _ (old mid near new : Option (List ℕ)) (first second third whole : List ℕ) (is : whole ≡ first ++ (second ++ third)) where
@@ -57,3 +62,7 @@ module _ {E : Type 0} (old new : Option (List ℕ)) (r : Result ℕ E) (written 
   pub listing-err : OnErr r (GainsFront old new (flat_map row_line (rows_of written)))
       → OnErr r ((p : spec.Atom → Bool) → AreAtoms p atoms → (rows : List Row) × AreRows p rows × GainsFront old new (flat_map row_line rows))
   listing-err front = on_err_weaker r (λ begun p are. (rows_of written, are-rows p written (subst (AreAtoms p) (sym is) are), begun)) front
+
+-- the texts of images
+pub mapped-text : {X Y : Type 0} (f : Y → List ℕ) (v : X → Y) (xs : List X) (ys : List Y) → map v xs ≡ ys → flat_map (λ x. f (v x)) xs ≡ flat_map f ys
+mapped-text f v xs ys is = sym (flat_map-map f v xs) ∙ ap (flat_map f) is

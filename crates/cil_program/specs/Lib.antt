@@ -14,6 +14,7 @@ pub mod Placed
 pub mod RuleWords
 pub mod Numbering
 pub mod Merge
+pub mod NumberedRows
 pub mod Rows
 pub mod Stored
 pub mod Refusing

@@ -3,7 +3,7 @@ use Rattle.std.specs.Prelude.{◌≡◌, ℕ, Bool, List, [], ◌∷◌, ◌++�
 use Rattle.std.specs.List.{filter, prefix_len}
 use Rattle.std.specs.Ordering.{eq_by_cmp, nat_cmp, on, then_cmp}
 use Rattle.std.specs.declared.cmp.Ordering.{Ordering}
-use Rattle.cil_specs.specs.Statements.{rule_word}
+use Rattle.cil_specs.specs.Statements.{RuleKind, rule_word}
 use Rattle.cil_specs.specs.Rule.{Atom, kind_index}
 use Rattle.cil_specs.specs.Report.{Row, row_cmp, is_listed}
 use Rattle.cil_text.specs.Image.{rule_kind_of}
@@ -28,9 +28,9 @@ groups_of (a ∷ atoms) = put_first a (groups_of atoms)
 abbrev pub rows_of : List Atom → List Row
 rows_of atoms = filter (λ r. is_listed r.kind) (groups_of atoms)
 
--- the line of an access's row up to its permissions
-abbrev pub row_head : Atom → List ℕ
-row_head a = rule_word a.kind ++ codes " " ++ a.source ++ codes " " ++ a.target ++ codes ":" ++ a.the_class ++ codes " { "
+-- the line of a row up to its permissions
+abbrev pub row_head : RuleKind → List ℕ → List ℕ → List ℕ → List ℕ
+row_head kind source target the_class = rule_word kind ++ codes " " ++ source ++ codes " " ++ target ++ codes ":" ++ the_class ++ codes " { "
 
 -- accesses by kind and then by the numbers of their source, target and class
 abbrev pub row_numbers_cmp : AtomNumbers → AtomNumbers → Ordering
@@ -44,9 +44,12 @@ is_in_row_of = eq_by_cmp row_numbers_cmp
 abbrev pub row_at : List (List ℕ) → AtomNumbers → List AtomNumbers → Row
 row_at names first atoms = row_with (atom_at names first) (map (λ a. name_at names a.permission) atoms)
 
--- the text of an access's permission in the line of its row
+-- the text of a permission in the line of a row
+abbrev pub name_text : List (List ℕ) → ℕ → List ℕ
+name_text names n = name_at names n ++ codes " "
+
 abbrev pub permission_text : List (List ℕ) → AtomNumbers → List ℕ
-permission_text names a = name_at names a.permission ++ codes " "
+permission_text names a = name_text names a.permission
 
 -- the first access, those from the front that stand in its row, and the others
 pub record IsFirstRow (atoms : List AtomNumbers) (first : AtomNumbers) (row later : List AtomNumbers) : Type 0 where

@@ -33,13 +33,20 @@ pub on_err : {T E P : Type 0} (r : Result T E) → P → OnErr r P
 on_err (Ok x) holds = tt
 on_err (Err e) holds = holds
 
--- the texts of some elements, and then a beginning of that of the next
+pieces-more : {X : Type 0} (f : X → List ℕ) (xs : List X) (i : ℕ) (d : X) → i < length xs → flat_map f (take i xs) ++ f (get_or xs i d) ≡ flat_map f (take (i + 1) xs)
+pieces-more f xs i d within =
+    sym (ap (flat_map f) (take_more xs i d within) ∙ flat_map-append f (take i xs) (get_or xs i d ∷ []) ∙ ap (λ l. flat_map f (take i xs) ++ l) (append-nil (f (get_or xs i d))))
+
+-- the texts of some elements, and then that of the next
+pub gains-pieces_more : {X : Type 0} (f : X → List ℕ) (old mid new : Option (List ℕ)) (xs : List X) (i : ℕ) (d : X) → i < length xs → Gains old mid (flat_map f (take i xs)) → Gains mid new (f (get_or xs i d))
+    → Gains old new (flat_map f (take (i + 1) xs))
+gains-pieces_more f old mid new xs i d within gains more = subst (Gains old new) (pieces-more f xs i d within) (gains-both old mid new (flat_map f (take i xs)) (f (get_or xs i d)) gains more)
+
+-- or a beginning of it
 pub gains-pieces_front : {X : Type 0} (f : X → List ℕ) (old mid new : Option (List ℕ)) (xs : List X) (i : ℕ) (d : X) → i < length xs → Gains old mid (flat_map f (take i xs)) → GainsFront mid new (f (get_or xs i d))
     → GainsFront old new (flat_map f xs)
 gains-pieces_front f old mid new xs i d within gains front =
-    let one_more : flat_map f (take i xs) ++ f (get_or xs i d) ≡ flat_map f (take (i + 1) xs) =
-        sym (ap (flat_map f) (take_more xs i d within) ∙ flat_map-append f (take i xs) (get_or xs i d ∷ []) ∙ ap (λ l. flat_map f (take i xs) ++ l) (append-nil (f (get_or xs i d)))) in
     let whole : flat_map f (take (i + 1) xs) ++ flat_map f (drop (i + 1) xs) ≡ flat_map f xs = sym (flat_map-append f (take (i + 1) xs) (drop (i + 1) xs)) ∙ ap (flat_map f) (take-append-drop (i + 1) xs) in
     subst (GainsFront old new) whole
     (front-longer old new (flat_map f (take (i + 1) xs)) (flat_map f (drop (i + 1) xs))
-    (subst (GainsFront old new) one_more (gains-then_front old mid new (flat_map f (take i xs)) (f (get_or xs i d)) gains front)))
+    (subst (GainsFront old new) (pieces-more f xs i d within) (gains-then_front old mid new (flat_map f (take i xs)) (f (get_or xs i d)) gains front)))

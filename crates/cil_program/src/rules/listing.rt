@@ -1,17 +1,18 @@
 //! Writes rows as lines.
 
-ghost use Rattle.std.specs.Prelude.{◌≡◌, ◌≤◌, ◌++◌, length, map, codes, OnOk, OnErr, IfOk};
+ghost use Rattle.std.specs.Prelude.{◌≡◌, ◌<◌, ◌≤◌, ◌++◌, length, map, codes, OnOk, OnErr, IfOk};
 ghost use Rattle.std.specs.List.{All, flat_map};
 ghost use Rattle.cil_specs.specs.Statements.{rule_word};
 ghost use Rattle.cil_specs.specs.Report.{row_line};
 ghost use Rattle.cil_specs.specs.Device.{HasFailed, Gains, GainsFront};
 ghost use Rattle.cil_text.specs.Image.{rule_kind_of};
-ghost use Rattle.cil_program.specs.Atoms.{atom_of, atom_at, IsWithin, AreNumbered};
-ghost use Rattle.cil_program.specs.Rows.{rows_of, row_head, permission_text, row_at};
+ghost use Rattle.cil_program.specs.Atoms.{atom_at, IsWithin, AreNumbered};
+ghost use Rattle.cil_program.specs.Rows.{rows_of, row_head, name_text, permission_text, row_at};
+ghost use Rattle.cil_program.specs.NumberedRows.{row_of};
 
-use crate::rules::atom::Atom;
 use crate::rules::first_row::split_row;
 use crate::rules::numbers::AtomNumbers;
+use crate::rules::row::Row;
 use crate::text::Text;
 use cil_text::{RuleKind, Sink, SinkFault, write_all};
 use std::alloc::Allocator;
@@ -41,31 +42,28 @@ fn write_pieces<W: Sink>(sink: &mut W, pieces: &[&[u8]]) -> Result<(), SinkFault
     Ok(())
 }
 
-/// Writes the line of an access's row up to its permissions.
-pub fn write_head<'t, W: Sink>(sink: &mut W, atom: Atom<'t>) -> Result<(), SinkFault>
-    ensures ok { OnOk result (Gains (W.taken sink.old) (W.taken sink.new) (row_head (atom_of atom.entry))) }
-    ensures err { OnErr result (GainsFront (W.taken sink.old) (W.taken sink.new) (row_head (atom_of atom.entry))) }
+/// Writes the line of a row up to its permissions.
+fn write_head<'t, W: Sink>(
+    sink: &mut W,
+    kind: RuleKind,
+    source: &'t [u8],
+    target: &'t [u8],
+    class: &'t [u8],
+) -> Result<(), SinkFault>
+    ensures ok { OnOk result (Gains (W.taken sink.old) (W.taken sink.new) (row_head (rule_kind_of kind) source.now target.now class.now)) }
+    ensures err { OnErr result (GainsFront (W.taken sink.old) (W.taken sink.new) (row_head (rule_kind_of kind) source.now target.now class.now)) }
     ensures failed { OnErr result (HasFailed (W.failures sink.old) (W.failures sink.new)) }
     ensures counted { W.failures sink.old ≤ W.failures sink.new }
 {
-    let word: &'t [u8] = kind_word(atom.kind);
+    let word: &'t [u8] = kind_word(kind);
     write_pieces(
         sink,
-        &[
-            word,
-            b" ",
-            atom.source,
-            b" ",
-            atom.target,
-            b":",
-            atom.class,
-            b" { ",
-        ],
+        &[word, b" ", source, b" ", target, b":", class, b" { "],
     )
 }
 
 /// Writes a permission of a row.
-pub fn write_permission<W: Sink>(sink: &mut W, name: &[u8]) -> Result<(), SinkFault>
+fn write_permission<W: Sink>(sink: &mut W, name: &[u8]) -> Result<(), SinkFault>
     ensures ok { OnOk result (Gains (W.taken sink.old) (W.taken sink.new) (name.now ++ codes " ")) }
     ensures err { OnErr result (GainsFront (W.taken sink.old) (W.taken sink.new) (name.now ++ codes " ")) }
     ensures failed { OnErr result (HasFailed (W.failures sink.old) (W.failures sink.new)) }
@@ -106,7 +104,8 @@ fn write_row<W: Sink, A: Allocator>(
     ensures failed { OnErr result (HasFailed (W.failures sink.old) (W.failures sink.new)) }
     ensures counted { W.failures sink.old ≤ W.failures sink.new }
 {
-    write_head(sink, first.named(names))?;
+    let atom = first.named(names);
+    write_head(sink, atom.kind, atom.source, atom.target, atom.class)?;
     write_permissions(sink, names, atoms)?;
     write_all(sink, b"};\n")
 }
@@ -134,4 +133,38 @@ pub fn write_rows<W: Sink, A: Allocator>(
         rest = later;
     }
     Ok(count)
+}
+
+/// Writes the names at numbers, with a space behind each.
+fn write_names<W: Sink, A: Allocator>(
+    sink: &mut W,
+    names: &[Text<A>],
+    numbers: &[usize],
+) -> Result<(), SinkFault>
+    requires { All (λ n. n < length names.now) numbers.now }
+    ensures ok { OnOk result (Gains (W.taken sink.old) (W.taken sink.new) (flat_map (name_text names.now) numbers.now)) }
+    ensures err { OnErr result (GainsFront (W.taken sink.old) (W.taken sink.new) (flat_map (name_text names.now) numbers.now)) }
+    ensures failed { OnErr result (HasFailed (W.failures sink.old) (W.failures sink.new)) }
+    ensures counted { W.failures sink.old ≤ W.failures sink.new }
+{
+    for number in numbers {
+        write_permission(sink, names[*number].as_slice())?;
+    }
+    Ok(())
+}
+
+/// Writes the line of a row.
+pub fn write_row_line<W: Sink, A: Allocator>(
+    sink: &mut W,
+    row: &Row<'_, A>,
+) -> Result<(), SinkFault>
+    ensures ok { OnOk result (Gains (W.taken sink.old) (W.taken sink.new) (row_line (row_of row.now))) }
+    ensures err { OnErr result (GainsFront (W.taken sink.old) (W.taken sink.new) (row_line (row_of row.now))) }
+    ensures failed { OnErr result (HasFailed (W.failures sink.old) (W.failures sink.new)) }
+    ensures counted { W.failures sink.old ≤ W.failures sink.new }
+{
+    write_head(sink, row.kind, row.source, row.target, row.class)?;
+    let permissions = &row.permissions;
+    write_names(sink, permissions.names, permissions.numbers)?;
+    write_all(sink, b"};\n")
 }

@@ -14,6 +14,7 @@ use crate::rules::atom::Atom;
 use crate::rules::collect::{collect, sort_distinct};
 use crate::rules::listing::write_rows;
 use crate::rules::numbers::AtomNumbers;
+use crate::rules::rows::{Rows, copied};
 use crate::text::Text;
 use cil_text::{Sink, SinkFault};
 use std::alloc::{AllocError, Allocator, Global};
@@ -60,6 +61,14 @@ impl<A: Allocator + Copy> Table<A> {
             names: resolved.names,
             atoms,
         })
+    }
+
+    /// The rows of the listing. Those of `neverallow` aren't part of it.
+    pub fn rows(&self, alloc: A) -> Result<Rows<A>, AllocError>
+        ensures { IfOk result (λ rows. (p : spec.Atom → Bool) → AreAtoms p self.now → AreRows p rows) }
+    {
+        let names = copied(alloc, &self.names)?;
+        Rows::of(alloc, names, &self.atoms)
     }
 }
 

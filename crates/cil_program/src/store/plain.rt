@@ -113,7 +113,7 @@ impl<A: Allocator + Copy> Compiled<A> for Plain<A> {
     }
 
     fn rows(&self) -> Result<Rows<A>, AllocError> {
-        Rows::of(self.alloc, &self.table)
+        self.table.rows(self.alloc)
     }
 
     fn write_listing<W: Sink>(&self, sink: &mut W) -> Result<usize, WriteFault> {

@@ -1,7 +1,6 @@
 use Rattle.std.proofs.Common.{◌≡◌, ◌++◌, ◌∙◌, codes, List, ℕ, ap, subst, append_assoc}
 use Rattle.std.specs.Result.{OnErr}
 use Rattle.cil_specs.specs.Device.{GainsFront}
-use Rattle.cil_program.specs.Atoms.{atom_of}
 use Rattle.cil_program.proofs.rules.listing.write_head.Goals as goal
 
 head-is : (word source target the_class : List ℕ)
@@ -10,6 +9,5 @@ head-is word source target the_class = simp append_assoc
 
 pub returns-clause-err : goal.returns-clause-err
 returns-clause-err g c =
-    let a = atom_of c.args.atom in
     subst (λ t. OnErr c.write_pieces.result (GainsFront (g.W.Sink.taken c.args.sink.now) (g.W.Sink.taken c.write_pieces.new.sink) t))
-    (ap (λ w. w ++ (codes " " ++ (a.source ++ (codes " " ++ (a.target ++ (codes ":" ++ (a.the_class ++ codes " { "))))))) c.kind_word-word.ensures ∙ head-is _ a.source a.target a.the_class) c.write_pieces.ensures.err
+    (ap (λ w. w ++ (codes " " ++ (c.args.source.now ++ (codes " " ++ (c.args.target.now ++ (codes ":" ++ (c.args.class.now ++ codes " { "))))))) c.kind_word-word.ensures ∙ head-is _ c.args.source.now c.args.target.now c.args.class.now) c.write_pieces.ensures.err
