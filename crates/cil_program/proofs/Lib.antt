@@ -24,3 +24,4 @@ pub mod GroupLemmas
 pub mod StoredLemmas
 pub mod JoinLemmas
 pub mod NumberedRowLemmas
+pub mod PlainLemmas
