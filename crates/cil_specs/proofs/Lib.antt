@@ -1,2 +1,4 @@
 pub mod PlaceLemmas
 pub mod PartLemmas
+pub mod ExprLemmas
+pub mod ExprSame

@@ -1,3 +1,5 @@
 pub mod Image
 pub mod Name
 pub mod Keyword
+pub mod Words
+pub mod Expr

@@ -1,6 +1,7 @@
 //! The first words of statements.
 
 use crate::statement::RuleKind;
+use crate::words::look_up;
 
 /// The first word of a statement (CIL Reference Guide, "CIL Statements Quick Reference").
 #[derive(Clone, Copy, Debug, PartialEq, Eq)]
@@ -47,8 +48,7 @@ impl Keyword {
     pub fn find(text: &[u8]) -> Option<Keyword>
         ensures { MatchOption result (is_among keywords text.now ≡ false) (λ k. text.now ≡ spelling k) }
     {
-        let (_, keyword) = KEYWORDS.iter().find(|(word, _)| text == *word)?;
-        Some(*keyword)
+        look_up(&KEYWORDS, text)
     }
 
     /// Whether no optional may hold the statement.

@@ -1,6 +1,7 @@
 //! Reads CIL texts into trees, and recognises the statements that the trees spell.
 #![tactic(auto)]
 
+mod expr;
 mod fault;
 mod forest;
 mod keyword;
@@ -10,6 +11,7 @@ mod place;
 mod statement;
 mod tree;
 mod word;
+mod words;
 
 pub use fault::{ShownWord, TextFault, TextFaultKind};
 pub use forest::Forest;

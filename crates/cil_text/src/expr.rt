@@ -1,0 +1,161 @@
+//! Recognising set expressions.
+
+ghost use Rattle.std.specs.Prelude.{◌≡◌, ℕ, drop, IfOk, IfSome, MatchOption};
+ghost use Rattle.cil_specs.specs.Place.{Place as SpecPlace};
+ghost use Rattle.cil_specs.specs.Trees.{a_list};
+ghost use Rattle.cil_specs.specs.Expr.{HasNoOperator};
+ghost use Rattle.cil_text.specs.Image.{trees_of, tree_then};
+ghost use Rattle.cil_text.specs.Expr.{operator_word, SpellsExpr, SpellsElements, SpellsOperation, SpellsOne, SpellsTwo, BeginsOperation};
+
+use crate::statement::Expr;
+use crate::tree::Tree;
+use crate::words::look_up;
+use std::alloc::{AllocError, Allocator};
+
+/// The words that are operators where they stand first in a list.
+#[derive(Clone, Copy, Debug, PartialEq, Eq)]
+enum Operator {
+    And,
+    Or,
+    Xor,
+    Not,
+    All,
+}
+
+const OPERATORS: [(&[u8], Operator); 5] = [
+    (b"and", Operator::And),
+    (b"or", Operator::Or),
+    (b"xor", Operator::Xor),
+    (b"not", Operator::Not),
+    (b"all", Operator::All),
+];
+
+impl Operator {
+    ghost use Rattle.std.specs.Prelude.{◌≡◌, MatchOption, false};
+    ghost use Rattle.cil_specs.specs.Shape.{is_among};
+    ghost use Rattle.cil_specs.specs.Expr.{operators};
+    ghost use Rattle.cil_text.specs.Expr.{operator_word};
+
+    /// The operator that a word is.
+    fn find(text: &[u8]) -> Option<Operator>
+        ensures { MatchOption result (is_among operators text.now ≡ false) (λ operator. text.now ≡ operator_word operator) }
+    {
+        look_up(&OPERATORS, text)
+    }
+}
+
+/// The expression that a tree spells, if it spells one (CIL Reference Guide, "typeattributeset").
+#[cycle(expression)]
+pub fn expression<'a, A: Allocator + Copy>(alloc: A, tree: &Tree<'a, A>) -> Result<Option<Expr<'a, A>>, AllocError>
+    ensures { IfOk result (SpellsExpr (tree_then tree.now)) }
+{
+    match tree {
+        Tree::Word(word) => {
+            if word.text == b"all".as_slice() {
+                Ok(Some(Expr::All))
+            } else {
+                Ok(Some(Expr::Name(*word)))
+            }
+        }
+        Tree::String(_) => Ok(None),
+        Tree::List { items, .. } => list_expression(alloc, items),
+    }
+}
+
+/// The operator that stands first in a list, and its operands.
+fn split_operator<'t, 'a, A: Allocator + Copy>(items: &'t [Tree<'a, A>]) -> Option<(Operator, &'t [Tree<'a, A>])>
+    ensures operation { MatchOption result (HasNoOperator (trees_of items.now)) (λ found. BeginsOperation (trees_of items.now) found.0 (trees_of found.1.now)) }
+    ensures rest { IfSome result (λ found. found.1.now ≡ drop 1 items.now) }
+{
+    let [first, operands @ ..] = items else {
+        return None;
+    };
+    let Tree::Word(word) = first else {
+        return None;
+    };
+    Some((Operator::find(word.text)?, operands))
+}
+
+/// The expression that a list of these trees spells.
+#[cycle(expression)]
+fn list_expression<'a, A: Allocator + Copy>(alloc: A, items: &[Tree<'a, A>]) -> Result<Option<Expr<'a, A>>, AllocError>
+    ensures { IfOk result (λ found. (at : SpecPlace) (end : ℕ) → SpellsExpr (a_list at end (trees_of items.now)) found) }
+{
+    if let Some((operator, operands)) = split_operator(items) {
+        return operation(alloc, operator, operands);
+    }
+    match elements(alloc, items)? {
+        Some(elements) => Ok(Some(Expr::Union(elements))),
+        None => Ok(None),
+    }
+}
+
+/// The expressions that trees spell one after the other.
+#[cycle(expression)]
+fn elements<'a, A: Allocator + Copy>(alloc: A, trees: &[Tree<'a, A>]) -> Result<Option<Vec<Expr<'a, A>, A>>, AllocError>
+    ensures { IfOk result (SpellsElements (trees_of trees.now)) }
+{
+    let mut elements = Vec::new(alloc);
+    for tree in trees {
+        match expression(alloc, tree)? {
+            Some(element) => elements.push(element)?,
+            None => return Ok(None),
+        }
+    }
+    Ok(Some(elements))
+}
+
+/// The expression of an operator and these operands.
+#[cycle(expression)]
+fn operation<'a, A: Allocator + Copy>(alloc: A, operator: Operator, operands: &[Tree<'a, A>]) -> Result<Option<Expr<'a, A>>, AllocError>
+    ensures { IfOk result (SpellsOperation (operator_word operator) (trees_of operands.now)) }
+{
+    match operator {
+        Operator::All => Ok(operands.is_empty().then_some(Expr::All)),
+        Operator::Not => match one_operand(alloc, operands)? {
+            Some(x) => Ok(Some(Expr::Not(x))),
+            None => Ok(None),
+        },
+        Operator::And => match two_operands(alloc, operands)? {
+            Some((x, y)) => Ok(Some(Expr::And(x, y))),
+            None => Ok(None),
+        },
+        Operator::Or => match two_operands(alloc, operands)? {
+            Some((x, y)) => Ok(Some(Expr::Or(x, y))),
+            None => Ok(None),
+        },
+        Operator::Xor => match two_operands(alloc, operands)? {
+            Some((x, y)) => Ok(Some(Expr::Xor(x, y))),
+            None => Ok(None),
+        },
+    }
+}
+
+#[cycle(expression)]
+fn one_operand<'a, A: Allocator + Copy>(alloc: A, operands: &[Tree<'a, A>]) -> Result<Option<Box<Expr<'a, A>, A>>, AllocError>
+    ensures { IfOk result (SpellsOne (trees_of operands.now)) }
+{
+    let [x] = operands else {
+        return Ok(None);
+    };
+    match expression(alloc, x)? {
+        Some(x) => Ok(Some(Box::new(alloc, x)?)),
+        None => Ok(None),
+    }
+}
+
+#[cycle(expression)]
+fn two_operands<'a, A: Allocator + Copy>(alloc: A, operands: &[Tree<'a, A>]) -> Result<Option<(Box<Expr<'a, A>, A>, Box<Expr<'a, A>, A>)>, AllocError>
+    ensures { IfOk result (SpellsTwo (trees_of operands.now)) }
+{
+    let [x, y] = operands else {
+        return Ok(None);
+    };
+    let Some(x) = expression(alloc, x)? else {
+        return Ok(None);
+    };
+    let Some(y) = expression(alloc, y)? else {
+        return Ok(None);
+    };
+    Ok(Some((Box::new(alloc, x)?, Box::new(alloc, y)?)))
+}
