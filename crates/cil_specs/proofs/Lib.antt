@@ -2,3 +2,8 @@ pub mod PlaceLemmas
 pub mod PartLemmas
 pub mod ExprLemmas
 pub mod ExprSame
+pub mod FormLemmas
+pub mod FormSame
+pub mod OrderLemmas
+pub mod ShapeLemmas
+pub mod FaultOrder

@@ -1,6 +1,7 @@
 -- The elements of a set expression, one after the other.
-use Rattle.std.proofs.Common.{◌≡◌, ℕ, ◌+◌, ◌-◌, ◌<◌, ◌≤◌, List, [], ◌∷◌, ◌++◌, length, get_or, take, drop, suc, Option, Some, None, refl, sym, ◌∙◌, ap, subst, arith, add-one}
+use Rattle.std.proofs.Common.{◌≡◌, ℕ, ◌==◌, Bool, false, ◌+◌, ◌-◌, ◌<◌, ◌≤◌, List, [], ◌∷◌, ◌++◌, length, get_or, take, drop, suc, Option, Some, None, refl, sym, ◌∙◌, ap, subst, arith, add-one}
 use Rattle.std.proofs.Math.Seq.{drop-cons}
+use Rattle.std.proofs.lemmas.Bool.{true≢false}
 use Rattle.std.proofs.lemmas.List.{take_rest}
 use Rattle.cil_specs.specs.Trees.{Trees, none}
 use Rattle.cil_specs.specs.Expr as spec
@@ -31,6 +32,11 @@ pub tree_some : {A : Type 0} → (t : Tree A) (rest : Trees) → tree_then t res
 tree_some (trees.Word w) rest h = absurd cc
 tree_some (String w) rest h = absurd cc
 tree_some (List' at end shape items) rest h = absurd cc
+
+-- a list that is not empty is some trees
+pub some_trees : {A : Type 0} → (ts : List (Tree A)) (empty : Bool) → empty ≡ (length ts == 0) → empty ≡ false → trees_of ts ≡ none → ⊥
+some_trees [] empty is not h = true≢false (sym is ∙ not)
+some_trees (t ∷ ts) empty is not h = tree_some t (trees_of ts) h
 
 -- the elements, and then those of the expression
 abbrev pub joined : {A : Type 0} → List (Expr A) → spec.Expr → spec.Expr

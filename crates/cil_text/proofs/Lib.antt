@@ -3,3 +3,5 @@ pub mod KeywordLemmas
 pub mod Rows
 pub mod Elements
 pub mod Spells
+pub mod FirstBad
+pub mod WordLists

@@ -3,3 +3,5 @@ pub mod Name
 pub mod Keyword
 pub mod Words
 pub mod Expr
+pub mod Walk
+pub mod Split

@@ -8,6 +8,7 @@ mod keyword;
 mod module;
 mod name;
 mod place;
+mod split;
 mod statement;
 mod tree;
 mod word;
