@@ -5,3 +5,4 @@ pub mod Elements
 pub mod Spells
 pub mod FirstBad
 pub mod WordLists
+pub mod Fitting

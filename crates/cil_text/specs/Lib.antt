@@ -5,3 +5,4 @@ pub mod Words
 pub mod Expr
 pub mod Walk
 pub mod Split
+pub mod Form

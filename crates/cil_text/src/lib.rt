@@ -4,6 +4,7 @@
 mod expr;
 mod fault;
 mod forest;
+mod form;
 mod keyword;
 mod module;
 mod name;

@@ -1,0 +1,13 @@
+use Rattle.std.proofs.Common.{refl, sym, ◌∙◌}
+use Rattle.cil_specs.specs.Statements.{block}
+use Rattle.cil_specs.proofs.FormLemmas.{fits_from}
+use Rattle.cil_text.specs.Image.{trees_of, word_of}
+use Rattle.cil_text.specs.Form.{behind}
+use Rattle.cil_text.proofs.Fitting.{scope_operands}
+use Rattle.cil_text.proofs.form.block.Goals as goal
+
+pub returns : goal.returns
+returns g c =
+    let operands = trees_of c.args.operands.now in
+    let id = word_of c.in_ok-id.id in
+    (refl, λ place. fits_from place operands (block id) (behind operands) (scope_operands operands (trees_of c.in_ok-id.inner.now) id c.in_ok-id.ensures.word (sym c.are_lists.ensures ∙ c.if-not-are_lists.false)))

@@ -1,0 +1,12 @@
+use Rattle.std.proofs.Common.{subst, codes}
+use Rattle.cil_specs.proofs.FormLemmas.{fits_parts}
+use Rattle.cil_specs.proofs.FormSame.{no_class_order}
+use Rattle.cil_text.specs.Image.{trees_of}
+use Rattle.cil_text.specs.Form.{AreClasses}
+use Rattle.cil_text.proofs.form.class_order.Goals as goal
+
+pub returns-in-None : goal.returns-in-None
+returns-in-None g c place form inner h =
+    let operands = trees_of c.args.operands.now in
+    let p = fits_parts place (codes "classorder") operands form inner h in
+    no_class_order operands inner form (subst (AreClasses operands) c.in-None.is c.in_ok-classes.ensures) p.0 p.1

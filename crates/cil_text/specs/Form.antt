@@ -1,0 +1,92 @@
+-- Statements by their forms, and the forms that operands fit.
+use Rattle.std.specs.Prelude.{◌≡◌, ◌≢◌, ℕ, ◌⊎◌, List, map, Option, Some, None, Vec, codes}
+use Rattle.cil_specs.specs.Place as spec_place
+use Rattle.cil_specs.specs.Names as spec_names
+use Rattle.cil_specs.specs.Trees.{Trees, none, a_word, a_string, a_list}
+use Rattle.cil_specs.specs.Expr as spec_exprs
+use Rattle.cil_specs.specs.Expr.{Expresses}
+use Rattle.cil_specs.specs.Statements.{Form, block, optional, type_name, type_alias, alias_actual, type_attribute, attribute_set, common, class, class_common, class_order, rule}
+use Rattle.cil_specs.specs.Shape.{put_word, all_words, IsClassList, IsClassAndPermissions, Fits}
+use Rattle.cil_text.specs.Image.{place_of, word_of, expr_of, rule_kind_of, target_of}
+use Rattle.cil_text.specs.Keyword.{spelling}
+use Rattle.cil_text.specs.declared.keyword.Keyword.{Keyword}
+use Rattle.cil_text.specs.declared.word.Word.{Word}
+use Rattle.cil_text.specs.declared.statement.Expr.{Expr}
+use Rattle.cil_text.specs.declared.statement.Statement.{Statement, Block', Optional', TypeName, TypeAlias, TypeAliasActual, TypeAttribute, TypeAttributeSet, Common, Class, ClassCommon, ClassOrder, Rule}
+
+-- what a statement says, but for the statements inside it
+abbrev pub form_of : {A : Type 0} → Statement A → Form
+form_of (Block' at id shape body) = block (word_of id)
+form_of (Optional' at id shape body) = optional (word_of id)
+form_of (TypeName at id) = type_name (word_of id)
+form_of (TypeAlias at id) = type_alias (word_of id)
+form_of (TypeAliasActual at alias actual) = alias_actual (word_of alias) (word_of actual)
+form_of (TypeAttribute at id) = type_attribute (word_of id)
+form_of (TypeAttributeSet at attribute expr) = attribute_set (word_of attribute) (expr_of expr)
+form_of (Common at id permissions) = common (word_of id) (map word_of permissions.items)
+form_of (Class at id permissions) = class (word_of id) (map word_of permissions.items)
+form_of (ClassCommon at the_class the_common) = class_common (word_of the_class) (word_of the_common)
+form_of (ClassOrder at the_classes) = class_order (map word_of the_classes.items)
+form_of (Rule at kind source target the_class permissions) = rule (rule_kind_of kind) (word_of source) (target_of target) (word_of the_class) (map word_of permissions.items)
+
+-- the place of a statement's (
+abbrev pub at_of : {A : Type 0} → Statement A → spec_place.Place
+at_of (Block' at id shape body) = place_of at
+at_of (Optional' at id shape body) = place_of at
+at_of (TypeName at id) = place_of at
+at_of (TypeAlias at id) = place_of at
+at_of (TypeAliasActual at alias actual) = place_of at
+at_of (TypeAttribute at id) = place_of at
+at_of (TypeAttributeSet at attribute expr) = place_of at
+at_of (Common at id permissions) = place_of at
+at_of (Class at id permissions) = place_of at
+at_of (ClassCommon at the_class the_common) = place_of at
+at_of (ClassOrder at the_classes) = place_of at
+at_of (Rule at kind source target the_class permissions) = place_of at
+
+-- the trees behind the first
+abbrev pub behind : Trees → Trees
+behind none = none
+behind (a_word at text rest) = rest
+behind (a_string at text rest) = rest
+behind (a_list at end items rest) = rest
+
+-- the inner statements among the operands of a form
+abbrev pub inner_of : Form → Trees → Trees
+inner_of (block id) operands = behind operands
+inner_of (optional id) operands = behind operands
+inner_of (type_name id) operands = none
+inner_of (type_alias id) operands = none
+inner_of (alias_actual alias actual) operands = none
+inner_of (type_attribute id) operands = none
+inner_of (attribute_set attribute expr) operands = none
+inner_of (common id permissions) operands = none
+inner_of (class id permissions) operands = none
+inner_of (class_common the_class the_common) operands = none
+inner_of (class_order classes) operands = none
+inner_of (rule kind source target the_class permissions) operands = none
+
+-- the keyword and the operands fit the form of the statement, which stands there, or no form
+abbrev pub FitsAs : {A : Type 0} → spec_place.Place → Keyword → Trees → Option (Statement A) → Type 0
+FitsAs at keyword operands None = (place : spec_place.Place) (form : Form) (inner : Trees) → Fits (a_word place (spelling keyword) operands) form inner → ⊥
+FitsAs at keyword operands (Some s) = (at_of s ≡ at) × ((place : spec_place.Place) → Fits (a_word place (spelling keyword) operands) (form_of s) (inner_of (form_of s) operands))
+
+-- the trees are an attribute and an expression, or not
+abbrev pub IsAttributeAndSet : {A : Type 0} → Trees → Option (Word × Expr A) → Type 0
+IsAttributeAndSet trees None = (attribute : spec_names.Word) (set : Trees) (expr : spec_exprs.Expr) → trees ≡ put_word attribute set → Expresses set expr none → ⊥
+IsAttributeAndSet trees (Some (attribute, expr)) = (set : Trees) × (trees ≡ put_word (word_of attribute) set) × Expresses set (expr_of expr) none
+
+-- the trees without the keyword unordered
+abbrev pub IsWithoutUnordered : Trees → Trees → Type 0
+IsWithoutUnordered trees classes = ((at : spec_place.Place) × (trees ≡ a_word at (codes "unordered") classes))
+    ⊎ ((trees ≡ classes) × ((at : spec_place.Place) (rest : Trees) → trees ≢ a_word at (codes "unordered") rest))
+
+-- the trees are one list of these classes, or not
+abbrev pub AreClasses : {A : Type 0} → Trees → Option (Vec Word A) → Type 0
+AreClasses trees None = (classes : List spec_names.Word) → IsClassList trees classes → ⊥
+AreClasses trees (Some v) = IsClassList trees (map word_of v.items)
+
+-- the trees are one list of this class and of a list of these permissions, or not
+abbrev pub AreClassAndPermissions : {A : Type 0} → Trees → Option (Word × Vec Word A) → Type 0
+AreClassAndPermissions trees None = (the_class : spec_names.Word) (permissions : List spec_names.Word) → IsClassAndPermissions trees the_class permissions → ⊥
+AreClassAndPermissions trees (Some (the_class, v)) = IsClassAndPermissions trees (word_of the_class) (map word_of v.items)

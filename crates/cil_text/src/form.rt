@@ -1,0 +1,229 @@
+//! Fitting the operands of a statement's first word to its form (CIL Reference Guide, under the word of each).
+
+ghost use Rattle.std.specs.Prelude.{◌≡◌, ◌≢◌, IfOk};
+ghost use Rattle.cil_specs.specs.Trees.{Trees};
+ghost use Rattle.cil_specs.specs.Shape.{put_word, IsTargetThen};
+ghost use Rattle.cil_text.specs.Image.{place_of, word_of, trees_of, target_of};
+ghost use Rattle.cil_text.specs.Form.{FitsAs, IsWithoutUnordered, AreClasses, AreClassAndPermissions, IsAttributeAndSet};
+
+use crate::expr::expression;
+use crate::keyword::Keyword;
+use crate::place::Place;
+use crate::split::{are_lists, only_list, only_word, split_word, two_words, word_and_list, words};
+use crate::statement::{Expr, RuleKind, Statement, Target};
+use crate::tree::Tree;
+use crate::word::Word;
+use std::alloc::{AllocError, Allocator};
+
+fn block<'a, A: Allocator + Copy>(alloc: A, at: Place, operands: &[Tree<'a, A>]) -> Option<Statement<'a, A>>
+    ensures { FitsAs (place_of at) Keyword.Block (trees_of operands.now) result }
+{
+    let (id, inner) = split_word(operands)?;
+    if !are_lists(inner) {
+        return None;
+    }
+    Some(Statement::Block {
+        at,
+        id,
+        body: Vec::new(alloc),
+    })
+}
+
+fn optional<'a, A: Allocator + Copy>(alloc: A, at: Place, operands: &[Tree<'a, A>]) -> Option<Statement<'a, A>>
+    ensures { FitsAs (place_of at) Keyword.Optional (trees_of operands.now) result }
+{
+    let (id, inner) = split_word(operands)?;
+    if !are_lists(inner) {
+        return None;
+    }
+    Some(Statement::Optional {
+        at,
+        id,
+        body: Vec::new(alloc),
+    })
+}
+
+fn type_name<'a, A: Allocator>(at: Place, operands: &[Tree<'a, A>]) -> Option<Statement<'a, A>>
+    ensures { FitsAs (place_of at) Keyword.TypeName (trees_of operands.now) result }
+{
+    let id = only_word(operands)?;
+    Some(Statement::TypeName { at, id })
+}
+
+fn type_alias<'a, A: Allocator>(at: Place, operands: &[Tree<'a, A>]) -> Option<Statement<'a, A>>
+    ensures { FitsAs (place_of at) Keyword.TypeAlias (trees_of operands.now) result }
+{
+    let id = only_word(operands)?;
+    Some(Statement::TypeAlias { at, id })
+}
+
+fn type_alias_actual<'a, A: Allocator>(at: Place, operands: &[Tree<'a, A>]) -> Option<Statement<'a, A>>
+    ensures { FitsAs (place_of at) Keyword.TypeAliasActual (trees_of operands.now) result }
+{
+    let (alias, actual) = two_words(operands)?;
+    Some(Statement::TypeAliasActual { at, alias, actual })
+}
+
+fn type_attribute<'a, A: Allocator>(at: Place, operands: &[Tree<'a, A>]) -> Option<Statement<'a, A>>
+    ensures { FitsAs (place_of at) Keyword.TypeAttribute (trees_of operands.now) result }
+{
+    let id = only_word(operands)?;
+    Some(Statement::TypeAttribute { at, id })
+}
+
+/// An attribute and a set expression.
+fn attribute_and_set<'a, A: Allocator + Copy>(alloc: A, operands: &[Tree<'a, A>]) -> Result<Option<(Word<'a>, Expr<'a, A>)>, AllocError>
+    ensures { IfOk result (IsAttributeAndSet (trees_of operands.now)) }
+{
+    let Some((attribute, rest)) = split_word(operands) else {
+        return Ok(None);
+    };
+    let [set] = rest else {
+        return Ok(None);
+    };
+    match expression(alloc, set)? {
+        Some(expr) => Ok(Some((attribute, expr))),
+        None => Ok(None),
+    }
+}
+
+fn type_attribute_set<'a, A: Allocator + Copy>(alloc: A, at: Place, operands: &[Tree<'a, A>]) -> Result<Option<Statement<'a, A>>, AllocError>
+    ensures { IfOk result (FitsAs (place_of at) Keyword.TypeAttributeSet (trees_of operands.now)) }
+{
+    match attribute_and_set(alloc, operands)? {
+        Some((attribute, expr)) => Ok(Some(Statement::TypeAttributeSet {
+            at,
+            attribute,
+            expr,
+        })),
+        None => Ok(None),
+    }
+}
+
+fn common<'a, A: Allocator + Copy>(alloc: A, at: Place, operands: &[Tree<'a, A>]) -> Result<Option<Statement<'a, A>>, AllocError>
+    ensures { IfOk result (FitsAs (place_of at) Keyword.Common (trees_of operands.now)) }
+{
+    match word_and_list(alloc, operands)? {
+        Some((id, permissions)) => Ok(Some(Statement::Common {
+            at,
+            id,
+            permissions,
+        })),
+        None => Ok(None),
+    }
+}
+
+fn class<'a, A: Allocator + Copy>(alloc: A, at: Place, operands: &[Tree<'a, A>]) -> Result<Option<Statement<'a, A>>, AllocError>
+    ensures { IfOk result (FitsAs (place_of at) Keyword.Class (trees_of operands.now)) }
+{
+    match word_and_list(alloc, operands)? {
+        Some((id, permissions)) => Ok(Some(Statement::Class {
+            at,
+            id,
+            permissions,
+        })),
+        None => Ok(None),
+    }
+}
+
+fn class_common<'a, A: Allocator>(at: Place, operands: &[Tree<'a, A>]) -> Option<Statement<'a, A>>
+    ensures { FitsAs (place_of at) Keyword.ClassCommon (trees_of operands.now) result }
+{
+    let (class, common) = two_words(operands)?;
+    Some(Statement::ClassCommon { at, class, common })
+}
+
+/// The trees behind the keyword `unordered`, or all of them where another tree stands first.
+fn without_unordered<'t, 'a, A: Allocator>(trees: &'t [Tree<'a, A>]) -> &'t [Tree<'a, A>]
+    ensures { IsWithoutUnordered (trees_of trees.now) (trees_of result.now) }
+{
+    let Some((first, rest)) = split_word(trees) else {
+        return trees;
+    };
+    if first.text != b"unordered".as_slice() {
+        return trees;
+    }
+    rest
+}
+
+/// The classes of a list, with or without the keyword `unordered` in front.
+fn class_list<'a, A: Allocator + Copy>(alloc: A, operands: &[Tree<'a, A>]) -> Result<Option<Vec<Word<'a>, A>>, AllocError>
+    ensures { IfOk result (AreClasses (trees_of operands.now)) }
+{
+    match only_list(operands) {
+        Some(items) => words(alloc, without_unordered(items)),
+        None => Ok(None),
+    }
+}
+
+fn class_order<'a, A: Allocator + Copy>(alloc: A, at: Place, operands: &[Tree<'a, A>]) -> Result<Option<Statement<'a, A>>, AllocError>
+    ensures { IfOk result (FitsAs (place_of at) Keyword.ClassOrder (trees_of operands.now)) }
+{
+    match class_list(alloc, operands)? {
+        Some(classes) => Ok(Some(Statement::ClassOrder { at, classes })),
+        None => Ok(None),
+    }
+}
+
+/// A rule's target: each source itself, or what the word names.
+fn target_at(word: Word) -> Target
+    ensures { (rest : Trees) → IsTargetThen (put_word (word_of word.entry) rest) (target_of result) rest }
+{
+    if word.text == b"self".as_slice() {
+        Target::Itself
+    } else {
+        Target::Named(word)
+    }
+}
+
+/// The class and the permissions of a rule.
+fn class_and_permissions<'a, A: Allocator + Copy>(alloc: A, trees: &[Tree<'a, A>]) -> Result<Option<(Word<'a>, Vec<Word<'a>, A>)>, AllocError>
+    ensures { IfOk result (AreClassAndPermissions (trees_of trees.now)) }
+{
+    match only_list(trees) {
+        Some(items) => word_and_list(alloc, items),
+        None => Ok(None),
+    }
+}
+
+fn rule<'a, A: Allocator + Copy>(alloc: A, at: Place, kind: RuleKind, operands: &[Tree<'a, A>]) -> Result<Option<Statement<'a, A>>, AllocError>
+    ensures { IfOk result (FitsAs (place_of at) (Keyword.Rule kind) (trees_of operands.now)) }
+{
+    let Some((source, rest)) = split_word(operands) else {
+        return Ok(None);
+    };
+    let Some((target, rest)) = split_word(rest) else {
+        return Ok(None);
+    };
+    match class_and_permissions(alloc, rest)? {
+        Some((class, permissions)) => Ok(Some(Statement::Rule {
+            at,
+            kind,
+            source,
+            target: target_at(target),
+            class,
+            permissions,
+        })),
+        None => Ok(None),
+    }
+}
+
+/// The statement whose form the operands of a keyword fit, with no statements inside it yet.
+pub fn fit<'a, A: Allocator + Copy>(alloc: A, at: Place, keyword: Keyword, operands: &[Tree<'a, A>]) -> Result<Option<Statement<'a, A>>, AllocError>
+    ensures { IfOk result (FitsAs (place_of at) keyword (trees_of operands.now)) }
+{
+    match keyword {
+        Keyword::Block => Ok(block(alloc, at, operands)),
+        Keyword::Optional => Ok(optional(alloc, at, operands)),
+        Keyword::TypeName => Ok(type_name(at, operands)),
+        Keyword::TypeAlias => Ok(type_alias(at, operands)),
+        Keyword::TypeAliasActual => Ok(type_alias_actual(at, operands)),
+        Keyword::TypeAttribute => Ok(type_attribute(at, operands)),
+        Keyword::TypeAttributeSet => type_attribute_set(alloc, at, operands),
+        Keyword::Common => common(alloc, at, operands),
+        Keyword::Class => class(alloc, at, operands),
+        Keyword::ClassCommon => Ok(class_common(at, operands)),
+        Keyword::ClassOrder => class_order(alloc, at, operands),
+        Keyword::Rule(kind) => rule(alloc, at, kind, operands),
+    }
+}
