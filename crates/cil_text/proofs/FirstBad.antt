@@ -1,11 +1,14 @@
 -- The first word of a statement that is not good.
-use Rattle.std.proofs.Common.{◌≡◌, ℕ, ◌+◌, ◌≤◌, List, [], ◌∷◌, get_or, map, zero, suc, Option, Some, None, MatchOption, inl, sym, ◌∙◌, ap, refl, Contains, arith}
+use Rattle.std.proofs.Common.{◌≡◌, ℕ, ◌+◌, ◌≤◌, List, [], ◌∷◌, ◌++◌, get_or, map, zero, suc, Option, Some, None, MatchOption, Result, Ok, Err, IsErrAnd, inl, sym, ◌∙◌, ap, subst, refl, Contains, arith}
 use Rattle.cil_specs.specs.TextFault.{TextFaultKind, code_of, TextFault, IsNoLater}
 use Rattle.cil_specs.specs.Names.{Word, Role, name_fault}
 use Rattle.cil_specs.specs.Shape.{IsAtWord}
 use Rattle.cil_specs.proofs.OrderLemmas.{RiseTo, role_offset}
 use Rattle.cil_specs.proofs.FaultOrder.{at-offset, word_within, no_later-here}
-use Rattle.cil_text.specs.Walk.{IsFirstBad}
+use Rattle.cil_text.specs.Image.{place_of, kind_of, shown}
+use Rattle.cil_text.specs.Walk.{AreGood, IsFirstBad, IsFoundAs, Checks}
+use Rattle.cil_text.specs.declared.fault.TextFault as code
+use Rattle.cil_text.specs.declared.fault.TextFault.TheVariants.{Memory, Found}
 
 -- a word that is not good, and its fault
 pub record IsBad (words : List (Role × Word)) (fault : TextFault) : Type 0 where
@@ -75,3 +78,54 @@ first_bad_first ((role, word) ∷ words) low high fault other rises h bad = by (
         let one : None ≡ Some bad.kind = sym is ∙ ap (λ w. name_fault w.0 w.1.text) same ∙ bad.bad in
         absurd cc
     by None is first (suc k) here next = next first k here
+
+-- What is found of the rest of the words is found of all.
+pub record GoesOn (all rest : List (Role × Word)) : Type 0 where
+  pub good : AreGood rest → AreGood all
+  pub bad : (fault : TextFault) → IsFirstBad rest fault → IsFirstBad all fault
+
+pub goes_first : (all : List (Role × Word)) → GoesOn all all
+goes_first all = record { good = λ h. h; bad = λ fault h. h }
+
+good-more : (words rest : List (Role × Word)) → AreGood words → AreGood rest → AreGood (words ++ rest)
+good-more [] rest h k = k
+good-more (w ∷ ws) rest h k = (h.0, good-more ws rest h.1 k)
+
+bad-behind : (words rest : List (Role × Word)) (fault : TextFault) → AreGood words → IsFirstBad rest fault → IsFirstBad (words ++ rest) fault
+bad-behind [] rest fault h k = k
+bad-behind ((role, word) ∷ ws) rest fault h k = subst (λ o. MatchOption o (IsFirstBad (ws ++ rest) fault) (λ kind. IsAtWord fault kind word)) (sym h.0) (bad-behind ws rest fault h.1 k)
+
+bad-front : (words rest : List (Role × Word)) (fault : TextFault) → IsFirstBad words fault → IsFirstBad (words ++ rest) fault
+bad-front [] rest fault h = absurd h
+bad-front ((role, word) ∷ ws) rest fault h = by (name_fault role word.text) h (bad-front ws rest fault)
+  where
+    by : (o : Option TextFaultKind) → MatchOption o (IsFirstBad ws fault) (λ kind. IsAtWord fault kind word) → (IsFirstBad ws fault → IsFirstBad (ws ++ rest) fault)
+        → MatchOption o (IsFirstBad (ws ++ rest) fault) (λ kind. IsAtWord fault kind word)
+    by (Some kind) at more = at
+    by None bad more = more bad
+
+-- behind good words
+pub goes_more : (all words rest : List (Role × Word)) → GoesOn all (words ++ rest) → AreGood words → GoesOn all rest
+goes_more all words rest goes good = record {
+  good = λ h. goes.good (good-more words rest good h);
+  bad = λ fault h. goes.bad fault (bad-behind words rest fault good h);
+}
+
+found-as : (P Q : TextFault → Type 0) (fault : code.TextFault) → ((f : TextFault) → P f → Q f) → IsFoundAs P fault → IsFoundAs Q fault
+found-as P Q Memory more h = absurd h
+found-as P Q (Found kind at word) more h = more (record { kind = kind_of kind; at = place_of at; word = shown word }) h
+
+-- the first bad word of words in front of the rest
+pub found_front : (all words rest : List (Role × Word)) (fault : code.TextFault) → GoesOn all (words ++ rest) → IsFoundAs (IsFirstBad words) fault → IsFoundAs (IsFirstBad all) fault
+found_front all words rest fault goes h = found-as (IsFirstBad words) (IsFirstBad all) fault (λ f k. goes.bad f (bad-front words rest f k)) h
+
+-- what the rest is checked as
+pub checks_rest : {T : Type 0} → (all rest : List (Role × Word)) (result : Result T code.TextFault) → GoesOn all rest → Checks rest result → Checks all result
+checks_rest all rest (Ok x) goes h = goes.good h
+checks_rest all rest (Err e) goes h = found-as (IsFirstBad rest) (IsFirstBad all) e goes.bad h
+
+-- the error of words in front of the rest, handed on
+pub checks_error : {T : Type 0} → (all words rest : List (Role × Word)) (result : Result T code.TextFault) (fault : code.TextFault) → GoesOn all (words ++ rest) → IsFoundAs (IsFirstBad words) fault
+    → IsErrAnd result (λ given. given ≡ fault) → Checks all result
+checks_error all words rest (Ok x) fault goes h given = absurd given
+checks_error all words rest (Err e) fault goes h given = subst (IsFoundAs (IsFirstBad all)) (sym given) (found_front all words rest fault goes h)

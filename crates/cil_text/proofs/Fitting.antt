@@ -18,26 +18,6 @@ scope_operands operands inner id is lists =
     let same : inner ≡ behind operands = ap behind (sym is) in
     (is ∙ ap (put_word id) same, subst (λ trees. IsTrue (are_lists trees)) same lists)
 
--- the classes of a list
-pub class_list_is : (trees items classes : Trees) (words : List spec.Word) → IsListThen trees items none → IsWithoutUnordered items classes → classes ≡ all_words words → IsClassList trees words
-class_list_is trees items classes words list (inl h) same = (items, list, inl (h.0, h.1 ∙ ap (a_word h.0 (codes "unordered")) same))
-class_list_is trees items classes words list (inr h) same = (items, list, inr (h.0 ∙ same, h.1))
-
--- a list without classes
-pub no_class_list : (trees items classes : Trees) → IsListThen trees items none → IsWithoutUnordered items classes → ((words : List spec.Word) → classes ≢ all_words words) → (words : List spec.Word) → IsClassList trees words → ⊥
-no_class_list trees items classes list (inl h) other words (others, again, inl k) =
-    let same : items ≡ others = (list_same trees items others none none list again).0 in
-    other words (cc (h.1, k.1))
-no_class_list trees items classes list (inl h) other words (others, again, inr k) =
-    let same : items ≡ others = (list_same trees items others none none list again).0 in
-    k.1 h.0 classes (sym same ∙ h.1)
-no_class_list trees items classes list (inr h) other words (others, again, inl k) =
-    let same : items ≡ others = (list_same trees items others none none list again).0 in
-    h.1 k.0 (all_words words) (same ∙ k.1)
-no_class_list trees items classes list (inr h) other words (others, again, inr k) =
-    let same : items ≡ others = (list_same trees items others none none list again).0 in
-    other words (sym h.0 ∙ same ∙ k.0)
-
 -- a word and a list in a list
 pub in_a_list : {A : Type 0} → (trees items : Trees) → IsListThen trees items none → (found : Option (Word × Vec Word A)) → AreWordAndList items found → AreClassAndPermissions trees found
 in_a_list trees items list None h = λ the_class permissions k. h the_class k.1 permissions ((list_same trees items k.0 none none list k.2).0 ∙ k.3) k.4

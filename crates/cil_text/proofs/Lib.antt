@@ -6,3 +6,4 @@ pub mod Spells
 pub mod FirstBad
 pub mod WordLists
 pub mod Fitting
+pub mod CheckLemmas

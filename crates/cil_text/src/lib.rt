@@ -1,6 +1,7 @@
 //! Reads CIL texts into trees, and recognises the statements that the trees spell.
 #![tactic(auto)]
 
+mod check;
 mod expr;
 mod fault;
 mod forest;

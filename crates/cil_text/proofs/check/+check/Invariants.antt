@@ -1,0 +1,19 @@
+use Rattle.std.proofs.Common.{◌+◌, ◌*◌, max, map, drop}
+use Rattle.cil_specs.specs.Expr.{named_words}
+use Rattle.cil_specs.specs.Statements.{as_referred}
+use Rattle.cil_text.specs.Expr.{exprs_of}
+use Rattle.cil_text.specs.declared.statement.Expr.TheViews.{size-Expr}
+use Rattle.cil_text.proofs.FirstBad.{GoesOn}
+use Rattle.cil_text.proofs.check.+check.Given as goal
+
+abbrev pub decreases-check_expr : goal.decreases-check_expr
+decreases-check_expr g l = 2 * goal.size-check_expr g l
+
+abbrev pub decreases-check_elements : goal.decreases-check_elements
+decreases-check_elements g l = 2 * goal.size-check_elements g l + 1
+
+abbrev pub decreases-check_operands : goal.decreases-check_operands
+decreases-check_operands g l = 2 * max (size-Expr g.row.A.Denot l.x.now) (size-Expr g.row.A.Denot l.y.now) + 1
+
+abbrev pub invariant-check_elements-loop-element : goal.invariant-check_elements-loop-element
+invariant-check_elements-loop-element g l = GoesOn (map as_referred (named_words (exprs_of l.elements))) (map as_referred (named_words (exprs_of (drop l.element-index l.elements))))

@@ -1,0 +1,11 @@
+use Rattle.std.proofs.Common.{[], ◌∷◌, map}
+use Rattle.cil_specs.specs.Statements.{as_declared}
+use Rattle.cil_text.specs.Image.{word_of}
+use Rattle.cil_text.proofs.FirstBad.{goes_first, checks_error}
+use Rattle.cil_text.proofs.check.check_permissions.Goals as goal
+
+pub returns-in_err-check_word : goal.returns-in_err-check_word
+returns-in_err-check_word c =
+    let first = as_declared (word_of c.args.id) in
+    let rest = map as_declared (map word_of c.args.permissions.now) in
+    checks_error (first ∷ rest) (first ∷ []) rest c.from_residual.result c.in_err-check_word.field-0.0 (goes_first (first ∷ rest)) c.in_err-check_word.ensures c.from_residual.ensures.1

@@ -1,0 +1,8 @@
+use Rattle.std.proofs.Common.{map, drop}
+use Rattle.cil_text.specs.Image.{word_of}
+use Rattle.cil_text.specs.Name.{role_of}
+use Rattle.cil_text.proofs.FirstBad.{GoesOn}
+use Rattle.cil_text.proofs.check.check_words.Given as goal
+
+abbrev pub invariant-loop-word : goal.invariant-loop-word
+invariant-loop-word l = GoesOn (map (λ word. (role_of l.role, word)) (map word_of l.words)) (map (λ word. (role_of l.role, word)) (map word_of (drop l.word-index l.words)))

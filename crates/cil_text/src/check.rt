@@ -1,0 +1,150 @@
+//! Whether the words of a statement are spelt and free as their places ask.
+
+ghost use Rattle.std.specs.Prelude.{◌≡◌, [], ◌∷◌, ◌++◌, map};
+ghost use Rattle.cil_specs.specs.Expr.{named_words};
+ghost use Rattle.cil_specs.specs.Statements.{as_declared, as_referred, target_words, words_of};
+ghost use Rattle.cil_text.specs.Image.{word_of, expr_of, target_of};
+ghost use Rattle.cil_text.specs.Name.{role_of};
+ghost use Rattle.cil_text.specs.Expr.{exprs_of};
+ghost use Rattle.cil_text.specs.Form.{form_of};
+ghost use Rattle.cil_text.specs.Walk.{Checks};
+
+use crate::fault::{ShownWord, TextFault, TextFaultKind};
+use crate::name::{Role, name_fault};
+use crate::statement::{Expr, Statement, Target};
+use crate::word::Word;
+use std::alloc::Allocator;
+
+/// The fault of this kind at a word.
+pub fn fault_at(kind: TextFaultKind, word: Word) -> TextFault
+    ensures { result ≡ TextFault.Found kind word.entry.at (ShownWord.Text word.entry.text) }
+{
+    TextFault::Found {
+        kind,
+        at: word.at,
+        word: ShownWord::Text(word.text),
+    }
+}
+
+fn check_word(role: Role, word: Word) -> Result<(), TextFault>
+    ensures { Checks ((role_of role, word_of word.entry) ∷ []) result }
+{
+    match name_fault(role, word.text) {
+        Some(kind) => Err(fault_at(kind, word)),
+        None => Ok(()),
+    }
+}
+
+fn check_words<'a>(role: Role, words: &[Word<'a>]) -> Result<(), TextFault<'a>>
+    ensures { Checks (map (λ word. (role_of role, word)) (map word_of words.now)) result }
+{
+    for word in words {
+        check_word(role, *word)?;
+    }
+    Ok(())
+}
+
+#[cycle(check)]
+fn check_elements<'a, A: Allocator>(elements: &[Expr<'a, A>]) -> Result<(), TextFault<'a>>
+    ensures { Checks (map as_referred (named_words (exprs_of elements.now))) result }
+{
+    for element in elements {
+        check_expr(element)?;
+    }
+    Ok(())
+}
+
+#[cycle(check)]
+fn check_operands<'a, A: Allocator>(x: &Expr<'a, A>, y: &Expr<'a, A>) -> Result<(), TextFault<'a>>
+    ensures { Checks (map as_referred (named_words (expr_of x.now) ++ named_words (expr_of y.now))) result }
+{
+    check_expr(x)?;
+    check_expr(y)
+}
+
+#[cycle(check)]
+fn check_expr<'a, A: Allocator>(expr: &Expr<'a, A>) -> Result<(), TextFault<'a>>
+    ensures { Checks (map as_referred (named_words (expr_of expr.now))) result }
+{
+    match expr {
+        Expr::All => Ok(()),
+        Expr::Name(word) => check_word(Role::Referred, *word),
+        Expr::Not(x) => check_expr(x),
+        Expr::And(x, y) => check_operands(x, y),
+        Expr::Or(x, y) => check_operands(x, y),
+        Expr::Xor(x, y) => check_operands(x, y),
+        Expr::Union(elements) => check_elements(elements),
+    }
+}
+
+fn check_target(target: Target) -> Result<(), TextFault>
+    ensures { Checks (map as_referred (target_words (target_of target.entry))) result }
+{
+    match target {
+        Target::Itself => Ok(()),
+        Target::Named(word) => check_word(Role::Referred, word),
+    }
+}
+
+fn check_pair<'a>(first: Word<'a>, second: Word<'a>) -> Result<(), TextFault<'a>>
+    ensures { Checks (as_referred (word_of first.entry) ∷ as_referred (word_of second.entry) ∷ []) result }
+{
+    check_word(Role::Referred, first)?;
+    check_word(Role::Referred, second)
+}
+
+fn check_set<'a, A: Allocator>(attribute: Word<'a>, expr: &Expr<'a, A>) -> Result<(), TextFault<'a>>
+    ensures { Checks (as_referred (word_of attribute.entry) ∷ map as_referred (named_words (expr_of expr.now))) result }
+{
+    check_word(Role::Referred, attribute)?;
+    check_expr(expr)
+}
+
+fn check_permissions<'a>(id: Word<'a>, permissions: &[Word<'a>]) -> Result<(), TextFault<'a>>
+    ensures { Checks (as_declared (word_of id.entry) ∷ map as_declared (map word_of permissions.now)) result }
+{
+    check_word(Role::Declared, id)?;
+    check_words(Role::Declared, permissions)
+}
+
+fn check_rule<'a>(source: Word<'a>, target: Target<'a>, class: Word<'a>, permissions: &[Word<'a>]) -> Result<(), TextFault<'a>>
+    ensures { Checks (as_referred (word_of source.entry) ∷ (map as_referred (target_words (target_of target.entry))
+        ++ (as_referred (word_of class.entry) ∷ map as_declared (map word_of permissions.now)))) result }
+{
+    check_word(Role::Referred, source)?;
+    check_target(target)?;
+    check_word(Role::Referred, class)?;
+    check_words(Role::Declared, permissions)
+}
+
+/// The first word of a statement that is not as its place asks, but for those of the statements inside it.
+pub fn check_statement<'a, A: Allocator>(statement: &Statement<'a, A>) -> Result<(), TextFault<'a>>
+    ensures { Checks (words_of (form_of statement.now)) result }
+{
+    match statement {
+        Statement::Block { id, .. } => check_word(Role::Declared, *id),
+        Statement::Optional { id, .. } => check_word(Role::Declared, *id),
+        Statement::TypeName { id, .. } => check_word(Role::Declared, *id),
+        Statement::TypeAlias { id, .. } => check_word(Role::Declared, *id),
+        Statement::TypeAttribute { id, .. } => check_word(Role::Declared, *id),
+        Statement::TypeAliasActual { alias, actual, .. } => check_pair(*alias, *actual),
+        Statement::TypeAttributeSet {
+            attribute, expr, ..
+        } => check_set(*attribute, expr),
+        Statement::Common {
+            id, permissions, ..
+        } => check_permissions(*id, permissions),
+        Statement::Class {
+            id, permissions, ..
+        } => check_permissions(*id, permissions),
+        Statement::ClassCommon { class, common, .. } => check_pair(*class, *common),
+        Statement::ClassOrder { classes, .. } => check_words(Role::Referred, classes),
+        Statement::Rule {
+            source,
+            target,
+            class,
+            permissions,
+            ..
+        } => check_rule(*source, *target, *class, permissions),
+    }
+}
