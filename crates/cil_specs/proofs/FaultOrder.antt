@@ -129,6 +129,18 @@ mutual
   body_within (a_string at text rest) inside low high fault order h = absurd h
   body_within (a_list at end items rest) inside low high fault order h = absurd h
 
+-- the faults of a list stand before its end
+pub list_within : (inside : Bool) (at : Place) (end : ℕ) (parts rest : Trees) (low high : ℕ) (fault : TextFault) → IsTrue (in_order low (a_list at end parts rest) high)
+    → IsListFault inside at parts fault ⊎ IsInnerFault inside parts fault → IsWithin low end fault.at.offset
+list_within inside at end parts rest low high fault order (inl h) =
+    let p = order_list low at end parts rest high order in
+    let q = list_fault_within inside at parts end fault p.1 p.2 h in
+    (omega (arith, p.0, q.0), q.1)
+list_within inside at end parts rest low high fault order (inr h) =
+    let p = order_list low at end parts rest high order in
+    let q = inner_within parts inside (at.offset + 1) (end - 1) fault p.2 h in
+    (omega (arith, p.0, q.0), omega (arith, q.1))
+
 -- The first of the faults of a list.
 
 -- a fault at a word is no later than others at it with no lesser code

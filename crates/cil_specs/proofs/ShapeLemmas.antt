@@ -157,3 +157,13 @@ shapes_rise (statement at form body more) inside trees low high h order =
     rise_join low (map role_offset (words_of form)) w.0 (word_offsets body ++ word_offsets more) high
     (rise_wide low from (map role_offset (words_of form)) w.0 w.0 (omega (arith, p.0, q.0, q.1)) w.1 (omega arith))
     (rise_join w.0 (word_offsets body) (h.0 - 1) (word_offsets more) high inner (rise_wide (h.0 - 1) h.0 (word_offsets more) high high (omega arith) behind (omega arith)))
+
+-- the inner statements of operands that fit are lists
+operands_lists : (form : Form) (operands inner : Trees) → OperandsFit operands form inner → IsTrue (are_lists inner)
+operands_lists (block id) operands inner h = h.1
+operands_lists (optional id) operands inner h = h.1
+operands_lists _ operands inner h = subst (λ trees. IsTrue (are_lists trees)) (sym h.1) refl
+
+-- those of a list that fits are
+pub fits_lists : (form : Form) (parts inner : Trees) → Fits parts form inner → IsTrue (are_lists inner)
+fits_lists form parts inner h = let b = fits_begin parts form inner h in operands_lists form b.1 inner b.3

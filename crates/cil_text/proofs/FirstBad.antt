@@ -1,11 +1,11 @@
 -- The first word of a statement that is not good.
-use Rattle.std.proofs.Common.{◌≡◌, ℕ, ◌+◌, ◌≤◌, List, [], ◌∷◌, ◌++◌, get_or, map, zero, suc, Option, Some, None, MatchOption, Result, Ok, Err, IsErrAnd, inl, sym, ◌∙◌, ap, subst, refl, Contains, arith}
+use Rattle.std.proofs.Common.{◌≡◌, ℕ, ◌+◌, ◌≤◌, List, [], ◌∷◌, ◌++◌, get_or, map, zero, suc, Option, Some, None, MatchOption, Result, Ok, Err, IsErrAnd, IfErr, inl, sym, ◌∙◌, ap, subst, refl, Contains, arith}
 use Rattle.cil_specs.specs.TextFault.{TextFaultKind, code_of, TextFault, IsNoLater}
 use Rattle.cil_specs.specs.Names.{Word, Role, name_fault}
 use Rattle.cil_specs.specs.Shape.{IsAtWord}
 use Rattle.cil_specs.proofs.OrderLemmas.{RiseTo, role_offset}
 use Rattle.cil_specs.proofs.FaultOrder.{at-offset, word_within, no_later-here}
-use Rattle.cil_text.specs.Image.{place_of, kind_of, shown}
+use Rattle.cil_text.specs.Image.{place_of, kind_of, shown, FaultIs}
 use Rattle.cil_text.specs.Walk.{AreGood, IsFirstBad, IsFoundAs, Checks}
 use Rattle.cil_text.specs.declared.fault.TextFault as code
 use Rattle.cil_text.specs.declared.fault.TextFault.TheVariants.{Memory, Found}
@@ -129,3 +129,18 @@ pub checks_error : {T : Type 0} → (all words rest : List (Role × Word)) (resu
     → IsErrAnd result (λ given. given ≡ fault) → Checks all result
 checks_error all words rest (Ok x) fault goes h given = absurd given
 checks_error all words rest (Err e) fault goes h given = subst (IsFoundAs (IsFirstBad all)) (sym given) (found_front all words rest fault goes h)
+
+-- a fault that is found is one that is answered
+pub found_is : (P Q : TextFault → Type 0) (fault : code.TextFault) → ((f : TextFault) → P f → Q f) → IsFoundAs P fault → FaultIs fault Q
+found_is P Q Memory more h = absurd h
+found_is P Q (Found kind at word) more h = more (record { kind = kind_of kind; at = place_of at; word = shown word }) h
+
+-- an error that is handed on
+pub handed_on : {T : Type 0} → (Q : TextFault → Type 0) (result : Result T code.TextFault) (fault : code.TextFault) → IsErrAnd result (λ given. given ≡ fault) → FaultIs fault Q → IfErr result (λ f. FaultIs f Q)
+handed_on Q (Ok x) fault given h = absurd given
+handed_on Q (Err e) fault given h = subst (λ f. FaultIs f Q) (sym given) h
+
+-- a fault of which more is known
+pub fault_weaker : (P Q : TextFault → Type 0) (fault : code.TextFault) → ((f : TextFault) → P f → Q f) → FaultIs fault P → FaultIs fault Q
+fault_weaker P Q Memory more h = h
+fault_weaker P Q (Found kind at word) more h = more (record { kind = kind_of kind; at = place_of at; word = shown word }) h

@@ -7,3 +7,7 @@ pub mod FirstBad
 pub mod WordLists
 pub mod Fitting
 pub mod CheckLemmas
+pub mod Bodies
+pub mod HeadingLemmas
+pub mod WalkLemmas
+pub mod Depth

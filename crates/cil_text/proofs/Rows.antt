@@ -2,15 +2,20 @@
 use Rattle.std.proofs.Common.{◌≡◌, ℕ, List, Vec, refl, ap, ◌∙◌}
 use Rattle.cil_specs.specs.Trees.{Trees, a_list}
 use Rattle.cil_specs.specs.Expr.{elements}
-use Rattle.cil_text.specs.Image.{place_of, tree_then, row_trees, trees_of, expr_of, row_expr}
+use Rattle.cil_specs.specs.Statements.{block, optional, Statements, statement}
+use Rattle.cil_text.specs.Image.{place_of, tree_then, row_trees, trees_of, expr_of, row_expr, word_of, statement_then, row_statements, statements_of}
 use Rattle.cil_text.specs.Expr.{exprs_of}
 use Rattle.cil_text.specs.declared.place.Place.{Place}
+use Rattle.cil_text.specs.declared.word.Word.{Word}
 use Rattle.cil_text.specs.declared.tree.Tree.{Tree, Row_of-Tree, end_of-Tree, more_of-Tree}
 use Rattle.cil_text.specs.declared.tree.Tree.TheVariants.{List as list}
 use Rattle.cil_text.specs.declared.tree.Tree.TheBlock.{items-the_row-Tree, hidden-the_row-Tree-0, items_hidden-the_row-Tree-0}
 use Rattle.cil_text.specs.declared.statement.Expr.{Expr, Row_of-Expr, end_of-Expr, more_of-Expr}
 use Rattle.cil_text.specs.declared.statement.Expr.TheVariants.{Union}
 use Rattle.cil_text.specs.declared.statement.Expr.TheBlock.{items-the_row-Expr, hidden-the_row-Expr-0, items_hidden-the_row-Expr-0}
+use Rattle.cil_text.specs.declared.statement.Statement.{Statement, Row_of-Statement, end_of-Statement, more_of-Statement}
+use Rattle.cil_text.specs.declared.statement.Statement.TheVariants.{Block, Optional}
+use Rattle.cil_text.specs.declared.statement.Statement.TheBlock.{items-the_row-Statement, hidden-the_row-Statement-0, items_hidden-the_row-Statement-0}
 
 row-trees : {A : Type 0} {n : _} → (k : Row_of-Tree A n) → row_trees k ≡ trees_of (items-the_row-Tree A n k)
 row-trees end_of-Tree = refl
@@ -27,3 +32,16 @@ row-exprs (more_of-Expr x rest) = ap (elements (expr_of x)) (row-exprs rest)
 -- a union is its elements
 pub union_of : {A : Type 0} → (v : Vec (Expr A) A) → expr_of (Union v) ≡ exprs_of v.items
 union_of {A} v = row-exprs (hidden-the_row-Expr-0 A v) ∙ ap exprs_of (items_hidden-the_row-Expr-0 A v)
+
+row-statements : {A : Type 0} {n : _} → (k : Row_of-Statement A n) → row_statements k ≡ statements_of (items-the_row-Statement A n k)
+row-statements end_of-Statement = refl
+row-statements (more_of-Statement s rest) = ap (statement_then s) (row-statements rest)
+
+-- a block and an optional are their places and names and the statements inside them
+pub block_then : {A : Type 0} → (at : Place) (id : Word) (v : Vec (Statement A) A) (more : Statements) → statement_then (Block at id v) more ≡ statement (place_of at) (block (word_of id)) (statements_of v.items) more
+block_then {A} at id v more =
+    ap (λ body. statement (place_of at) (block (word_of id)) body more) (row-statements (hidden-the_row-Statement-0 A v) ∙ ap statements_of (items_hidden-the_row-Statement-0 A v))
+
+pub optional_then : {A : Type 0} → (at : Place) (id : Word) (v : Vec (Statement A) A) (more : Statements) → statement_then (Optional at id v) more ≡ statement (place_of at) (optional (word_of id)) (statements_of v.items) more
+optional_then {A} at id v more =
+    ap (λ body. statement (place_of at) (optional (word_of id)) body more) (row-statements (hidden-the_row-Statement-0 A v) ∙ ap statements_of (items_hidden-the_row-Statement-0 A v))

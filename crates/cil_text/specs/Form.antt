@@ -1,13 +1,13 @@
 -- Statements by their forms, and the forms that operands fit.
-use Rattle.std.specs.Prelude.{◌≡◌, ◌≢◌, ℕ, ◌⊎◌, List, map, Option, Some, None, Vec, codes}
+use Rattle.std.specs.Prelude.{◌≡◌, ◌≢◌, ℕ, ◌⊎◌, Bool, true, false, if◌then◌else◌, List, map, Option, Some, None, Vec, codes}
 use Rattle.cil_specs.specs.Place as spec_place
 use Rattle.cil_specs.specs.Names as spec_names
 use Rattle.cil_specs.specs.Trees.{Trees, none, a_word, a_string, a_list}
 use Rattle.cil_specs.specs.Expr as spec_exprs
 use Rattle.cil_specs.specs.Expr.{Expresses}
-use Rattle.cil_specs.specs.Statements.{Form, block, optional, type_name, type_alias, alias_actual, type_attribute, attribute_set, common, class, class_common, class_order, rule}
+use Rattle.cil_specs.specs.Statements.{Form, block, optional, type_name, type_alias, alias_actual, type_attribute, attribute_set, common, class, class_common, class_order, rule, Statements, no_more, statement}
 use Rattle.cil_specs.specs.Shape.{put_word, all_words, IsClassList, IsClassAndPermissions, Fits}
-use Rattle.cil_text.specs.Image.{place_of, word_of, expr_of, rule_kind_of, target_of}
+use Rattle.cil_text.specs.Image.{place_of, word_of, expr_of, rule_kind_of, target_of, statement_then, statements_of}
 use Rattle.cil_text.specs.Keyword.{spelling}
 use Rattle.cil_text.specs.declared.keyword.Keyword.{Keyword}
 use Rattle.cil_text.specs.declared.word.Word.{Word}
@@ -44,6 +44,21 @@ at_of (ClassCommon at the_class the_common) = place_of at
 at_of (ClassOrder at the_classes) = place_of at
 at_of (Rule at kind source target the_class permissions) = place_of at
 
+-- whether statements may stand inside a statement of the form
+abbrev pub has_body : Form → Bool
+has_body (block id) = true
+has_body (optional id) = true
+has_body (type_name id) = false
+has_body (type_alias id) = false
+has_body (alias_actual alias actual) = false
+has_body (type_attribute id) = false
+has_body (attribute_set attribute expr) = false
+has_body (common id permissions) = false
+has_body (class id permissions) = false
+has_body (class_common the_class the_common) = false
+has_body (class_order classes) = false
+has_body (rule kind source target the_class permissions) = false
+
 -- the trees behind the first
 abbrev pub behind : Trees → Trees
 behind none = none
@@ -53,18 +68,7 @@ behind (a_list at end items rest) = rest
 
 -- the inner statements among the operands of a form
 abbrev pub inner_of : Form → Trees → Trees
-inner_of (block id) operands = behind operands
-inner_of (optional id) operands = behind operands
-inner_of (type_name id) operands = none
-inner_of (type_alias id) operands = none
-inner_of (alias_actual alias actual) operands = none
-inner_of (type_attribute id) operands = none
-inner_of (attribute_set attribute expr) operands = none
-inner_of (common id permissions) operands = none
-inner_of (class id permissions) operands = none
-inner_of (class_common the_class the_common) operands = none
-inner_of (class_order classes) operands = none
-inner_of (rule kind source target the_class permissions) operands = none
+inner_of form operands = if has_body form then behind operands else none
 
 -- the keyword and the operands fit the form of the statement, which stands there, or no form
 abbrev pub FitsAs : {A : Type 0} → spec_place.Place → Keyword → Trees → Option (Statement A) → Type 0
@@ -90,3 +94,11 @@ AreClasses trees (Some v) = IsClassList trees (map word_of v.items)
 abbrev pub AreClassAndPermissions : {A : Type 0} → Trees → Option (Word × Vec Word A) → Type 0
 AreClassAndPermissions trees None = (the_class : spec_names.Word) (permissions : List spec_names.Word) → IsClassAndPermissions trees the_class permissions → ⊥
 AreClassAndPermissions trees (Some (the_class, v)) = IsClassAndPermissions trees (word_of the_class) (map word_of v.items)
+
+-- the inner statements of a form that may have some
+abbrev pub body_of : Form → Statements → Statements
+body_of form body = if has_body form then body else no_more
+
+-- the new statement is the old one with these inside it, where its form may have some
+abbrev pub HasBody : {A : Type 0} → Statement A → List (Statement A) → Statement A → Type 0
+HasBody old body new = (more : Statements) → statement_then new more ≡ statement (at_of old) (form_of old) (body_of (form_of old) (statements_of body)) more

@@ -3,6 +3,6 @@ pub mod Name
 pub mod Keyword
 pub mod Words
 pub mod Expr
-pub mod Walk
 pub mod Split
 pub mod Form
+pub mod Walk

@@ -1,12 +1,19 @@
 -- What the walk over trees finds.
-use Rattle.std.specs.Prelude.{List, [], ◌∷◌, MatchOption, Result, MatchResult}
+use Rattle.std.specs.Prelude.{◌≡◌, ℕ, ◌⊎◌, Bool, ◌||◌, List, [], ◌∷◌, IsTrue, MatchOption, Result, MatchResult}
 use Rattle.std.specs.List.{AllByRecursion}
+use Rattle.cil_specs.specs.Place.{Place}
 use Rattle.cil_specs.specs.TextFault as spec
+use Rattle.cil_specs.specs.TextFault.{IsNoLater}
 use Rattle.cil_specs.specs.Names.{Word, Role, name_fault}
-use Rattle.cil_specs.specs.Shape.{IsAtWord, IsGoodWord}
-use Rattle.cil_text.specs.Image.{place_of, kind_of, shown}
+use Rattle.cil_specs.specs.Trees.{Trees, in_order}
+use Rattle.cil_specs.specs.Statements as spec_statements
+use Rattle.cil_specs.specs.Statements.{Form, words_of, is_optional, Statements}
+use Rattle.cil_specs.specs.Shape.{Fits, IsAllowed, Shapes, IsAtWord, IsGoodWord, IsListFault, IsInnerFault, IsShapeFault}
+use Rattle.cil_text.specs.Image.{place_of, kind_of, shown, statement_then}
+use Rattle.cil_text.specs.Form.{form_of, at_of}
 use Rattle.cil_text.specs.declared.fault.TextFault.{TextFault}
 use Rattle.cil_text.specs.declared.fault.TextFault.TheVariants.{Memory, Found}
+use Rattle.cil_text.specs.declared.statement.Statement.{Statement}
 
 -- each word is spelt and free as its place asks
 abbrev pub AreGood : List (Role × Word) → Type 0
@@ -25,3 +32,36 @@ IsFoundAs P (Found kind at word) = P (record { kind = kind_of kind; at = place_o
 -- the words are good, or the error is the fault of the first that is not
 abbrev pub Checks : {T : Type 0} → List (Role × Word) → Result T TextFault → Type 0
 Checks words result = MatchResult result (λ _. AreGood words) (IsFoundAs (IsFirstBad words))
+
+-- A list of the parts fits the form of the statement, which may stand there, and the words that are its own are good. Its inner
+-- statements are left.
+pub record IsHeading {A : Type 0} (inside : Bool) (at : Place) (parts : Trees) (s : Statement A) (inner : Trees) : Type 0 where
+  pub place : at_of s ≡ at
+  pub fits : Fits parts (form_of s) inner
+  pub allowed : IsAllowed inside parts
+  pub good : AreGood (words_of (form_of s))
+
+-- a list of the parts spells the statement
+pub record IsStatement {A : Type 0} (inside : Bool) (at : Place) (parts : Trees) (s : Statement A) : Type 0 where
+  pub form : Form
+  pub inner : Trees
+  pub body : Statements
+  pub is : (more : Statements) → statement_then s more ≡ spec_statements.statement at form body more
+  pub fits : Fits parts form inner
+  pub allowed : IsAllowed inside parts
+  pub good : AreGood (words_of form)
+  pub holds : Shapes (inside || is_optional form) inner body
+
+-- a fault of a list of the parts, or of the statements inside it
+abbrev pub IsFaultOf : Bool → Place → Trees → spec.TextFault → Type 0
+IsFaultOf inside at parts fault = IsListFault inside at parts fault ⊎ IsInnerFault inside parts fault
+
+-- the first of these, where the parts stand in order
+pub record IsFirstOf (inside : Bool) (at : Place) (parts : Trees) (fault : spec.TextFault) : Type 0 where
+  pub is : IsFaultOf inside at parts fault
+  pub first : (low high : ℕ) → IsTrue (in_order low parts high) → (other : spec.TextFault) → IsFaultOf inside at parts other → IsNoLater fault other
+
+-- the first of the shape faults of trees, where these stand in order
+pub record IsFirstAmong (inside : Bool) (trees : Trees) (fault : spec.TextFault) : Type 0 where
+  pub is : IsShapeFault inside trees fault
+  pub first : (low high : ℕ) → IsTrue (in_order low trees high) → (other : spec.TextFault) → IsShapeFault inside trees other → IsNoLater fault other

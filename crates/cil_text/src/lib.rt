@@ -13,6 +13,7 @@ mod place;
 mod split;
 mod statement;
 mod tree;
+mod walk;
 mod word;
 mod words;
 
@@ -20,6 +21,8 @@ pub use fault::{ShownWord, TextFault, TextFaultKind};
 pub use forest::Forest;
 pub use module::Module;
 pub use place::Place;
+
 pub use statement::{Expr, RuleKind, Statement, Target};
 pub use tree::Tree;
+pub use walk::shape;
 pub use word::Word;

@@ -1,0 +1,57 @@
+-- The statements inside a statement.
+use Rattle.std.proofs.Common.{◌≡◌, ℕ, ◌-◌, ◌≤◌, false, List, [], ◌∷◌, Vec, length, take, drop, refl, sym, ap, ◌∙◌, arith}
+use Rattle.std.proofs.lemmas.List.{take_rest}
+use Rattle.cil_specs.specs.Trees.{Trees}
+use Rattle.cil_specs.specs.Statements.{Statements, statement}
+use Rattle.cil_text.specs.Image.{tree_then, trees_of, statement_then}
+use Rattle.cil_text.specs.Form.{form_of, at_of, has_body, behind, body_of}
+use Rattle.cil_text.specs.declared.place.Place.{Place}
+use Rattle.cil_text.specs.declared.word.Word.{Word}
+use Rattle.cil_text.specs.declared.tree.Tree.{Tree, String, List'}
+use Rattle.cil_text.specs.declared.tree.Tree as trees
+use Rattle.cil_text.specs.declared.statement.Statement.{Statement, Statement-F, out-Statement, roll-Statement, roll-out-Statement, Block', Optional', TypeName, TypeAlias, TypeAliasActual, TypeAttribute, TypeAttributeSet, Common, Class, ClassCommon, ClassOrder, Rule}
+use Rattle.cil_text.specs.declared.statement.Statement.TheOpen as opened
+use Rattle.cil_text.specs.declared.statement.Statement.TheVariants.{Block, Optional, rolls-Block, rolls-Optional, rolls-TypeName, rolls-TypeAlias, rolls-TypeAliasActual, rolls-TypeAttribute, rolls-TypeAttributeSet, rolls-Common, rolls-Class, rolls-ClassCommon, rolls-ClassOrder, rolls-Rule}
+
+behind-tree : {A : Type 0} → (t : Tree A) (rest : Trees) → behind (tree_then t rest) ≡ rest
+behind-tree (trees.Word w) rest = refl
+behind-tree (String w) rest = refl
+behind-tree (List' at end shape items) rest = refl
+
+-- the trees behind the first
+pub behind_first : {A : Type 0} → (ts : List (Tree A)) → 1 ≤ length ts → trees_of (take (length ts - 1) (drop 1 ts)) ≡ behind (trees_of ts)
+behind_first [] some = absurd (omega arith)
+behind_first (t ∷ ts) some = ap trees_of (take_rest (t ∷ ts) 1) ∙ sym (behind-tree t (trees_of ts))
+
+-- a statement that may have none inside it
+pub leaf_then : {A : Type 0} → (s : Statement A) (body more : Statements) → has_body (form_of s) ≡ false → statement_then s more ≡ statement (at_of s) (form_of s) (body_of (form_of s) body) more
+leaf_then (Block' at id shape row) body more leaf = absurd cc
+leaf_then (Optional' at id shape row) body more leaf = absurd cc
+leaf_then (TypeName at id) body more leaf = refl
+leaf_then (TypeAlias at id) body more leaf = refl
+leaf_then (TypeAliasActual at alias actual) body more leaf = refl
+leaf_then (TypeAttribute at id) body more leaf = refl
+leaf_then (TypeAttributeSet at attribute expr) body more leaf = refl
+leaf_then (Common at id permissions) body more leaf = refl
+leaf_then (Class at id permissions) body more leaf = refl
+leaf_then (ClassCommon at the_class the_common) body more leaf = refl
+leaf_then (ClassOrder at the_classes) body more leaf = refl
+leaf_then (Rule at kind source target the_class permissions) body more leaf = refl
+
+-- a statement that is neither a block nor an optional may have none inside it
+pub leaf_form : {A : Type 0} → (s : Statement A) → ((at : Place) (id : Word) (v : Vec (Statement A) A) → s ≡ Block at id v → ⊥) → ((at : Place) (id : Word) (v : Vec (Statement A) A) → s ≡ Optional at id v → ⊥) → has_body (form_of s) ≡ false
+leaf_form {A} s no_block no_optional = by (out-Statement A s) (sym (roll-out-Statement A s))
+  where
+    by : (o : Statement-F A (Statement A)) → s ≡ roll-Statement A o → has_body (form_of s) ≡ false
+    by (opened.Block at id v) is = absurd (no_block at id v (is ∙ rolls-Block at id v))
+    by (opened.Optional at id v) is = absurd (no_optional at id v (is ∙ rolls-Optional at id v))
+    by (opened.TypeName at id) is = ap (λ s. has_body (form_of s)) (is ∙ rolls-TypeName at id)
+    by (opened.TypeAlias at id) is = ap (λ s. has_body (form_of s)) (is ∙ rolls-TypeAlias at id)
+    by (opened.TypeAliasActual at alias actual) is = ap (λ s. has_body (form_of s)) (is ∙ rolls-TypeAliasActual at alias actual)
+    by (opened.TypeAttribute at id) is = ap (λ s. has_body (form_of s)) (is ∙ rolls-TypeAttribute at id)
+    by (opened.TypeAttributeSet at attribute expr) is = ap (λ s. has_body (form_of s)) (is ∙ rolls-TypeAttributeSet at attribute expr)
+    by (opened.Common at id permissions) is = ap (λ s. has_body (form_of s)) (is ∙ rolls-Common at id permissions)
+    by (opened.Class at id permissions) is = ap (λ s. has_body (form_of s)) (is ∙ rolls-Class at id permissions)
+    by (opened.ClassCommon at the_class the_common) is = ap (λ s. has_body (form_of s)) (is ∙ rolls-ClassCommon at the_class the_common)
+    by (opened.ClassOrder at the_classes) is = ap (λ s. has_body (form_of s)) (is ∙ rolls-ClassOrder at the_classes)
+    by (opened.Rule at kind source target the_class permissions) is = ap (λ s. has_body (form_of s)) (is ∙ rolls-Rule at kind source target the_class permissions)

@@ -1,0 +1,139 @@
+-- Statements one after the other, and the first fault among them.
+use Rattle.std.proofs.Common.{◌≡◌, ℕ, ◌+◌, ◌-◌, ◌<◌, ◌≤◌, ◌⊎◌, inl, inr, Bool, true, false, cond, ◌&&◌, ◌||◌, List, [], ◌∷◌, ◌++◌, Vec, refl, sym, ◌∙◌, ap, subst, IsTrue, arith}
+use Rattle.std.proofs.lemmas.Bool.{true≢false}
+use Rattle.cil_specs.specs.Place.{Place}
+use Rattle.cil_specs.specs.TextFault.{TextFault, IsNoLater}
+use Rattle.cil_specs.specs.Trees.{Trees, none, a_word, a_list, are_lists, in_order}
+use Rattle.cil_specs.specs.Statements as spec
+use Rattle.cil_specs.specs.Statements.{Form, words_of, is_optional, Statements, no_more}
+use Rattle.cil_specs.specs.Shape.{Fits, Shapes, IsListFault, IsShapeFault, IsInnerFault}
+use Rattle.cil_specs.proofs.FormLemmas.{first_word, OperandsFit, fits_begin}
+use Rattle.cil_specs.proofs.OrderLemmas.{order_list}
+use Rattle.cil_specs.proofs.ShapeLemmas.{inner_fault_is, list_no_fault, inner_of_list, shapes_no_fault}
+use Rattle.cil_specs.proofs.FaultOrder.{fits_rise, fault_within, list_within}
+use Rattle.cil_text.specs.Image.{tree_then, statement_then, statements_of}
+use Rattle.cil_text.specs.Form.{form_of, at_of, has_body, body_of, HasBody}
+use Rattle.cil_text.specs.Walk.{IsHeading, IsStatement, IsFaultOf, IsFirstOf, IsFirstAmong}
+use Rattle.cil_text.specs.declared.place.Place as code_place
+use Rattle.cil_text.specs.declared.tree.Tree.{Tree, Tree-F, out-Tree, roll-Tree, roll-out-Tree}
+use Rattle.cil_text.specs.declared.tree.Tree.TheOpen as opened
+use Rattle.cil_text.specs.declared.tree.Tree.TheVariants.{List as list, rolls-Word, rolls-String, rolls-List}
+use Rattle.cil_text.specs.declared.statement.Statement.{Statement}
+
+-- only blocks and optionals have inner statements
+body-is : (form : Form) (operands inner : Trees) (inside : Bool) (body : Statements) → OperandsFit operands form inner → Shapes inside inner body → body_of form body ≡ body
+body-is (spec.block id) operands inner inside body fits h = refl
+body-is (spec.optional id) operands inner inside body fits h = refl
+body-is _ operands inner inside no_more fits h = refl
+body-is _ operands inner inside (spec.statement at form more rest) fits h = absurd (let e : none ≡ a_list at h.0 h.1 h.3 = sym fits.1 ∙ h.4 in cc)
+
+-- a heading with the statements inside it is a statement
+pub statement_is : {A : Type 0} → (inside : Bool) (at : Place) (parts inner : Trees) (s new : Statement A) (body : List (Statement A)) → IsHeading inside at parts s inner
+    → Shapes (inside || is_optional (form_of s)) inner (statements_of body) → HasBody s body new → IsStatement inside at parts new
+statement_is inside at parts inner s new body heading holds has =
+    let form = form_of s in
+    let b = fits_begin parts form inner heading.fits in
+    record {
+      form = form;
+      inner = inner;
+      body = statements_of body;
+      is = λ more. has more ∙ λ i. spec.statement (heading.place i) form (body-is form b.1 inner (inside || is_optional form) (statements_of body) b.3 holds i) more;
+      fits = heading.fits;
+      allowed = heading.allowed;
+      good = heading.good;
+      holds = holds;
+    }
+
+-- the first fault of the inner statements is that of the list
+pub inner_first : {A : Type 0} → (inside : Bool) (at : Place) (parts inner : Trees) (s : Statement A) (fault : TextFault) → IsHeading inside at parts s inner
+    → IsFirstAmong (inside || is_optional (form_of s)) inner fault → IsFirstOf inside at parts fault
+inner_first inside at parts inner s fault heading is =
+    let form = form_of s in
+    let b = fits_begin parts form inner heading.fits in
+    record {
+      is = inr (subst (λ parts. IsInnerFault inside parts fault) (sym b.2) (inner_fault_is form b.0 b.1 inner inside fault b.3 is.is));
+      first = λ low high order other h.
+          let rises = fits_rise b.0 (first_word form) b.1 form inner low high (subst (λ parts. Fits parts form inner) b.2 heading.fits) (subst (λ parts. IsTrue (in_order low parts high)) b.2 order) in
+          by rises.0 high rises.2 other h;
+    }
+  where
+    by : (low high : ℕ) → IsTrue (in_order low inner high) → (other : TextFault) → IsFaultOf inside at parts other → IsNoLater fault other
+    by low high order other (inl h) = absurd (list_no_fault inside at parts inner (form_of s) other heading.fits heading.allowed heading.good h)
+    by low high order other (inr h) = is.first low high order other (inner_of_list inside parts inner (form_of s) other heading.fits h)
+
+-- the statements, and then the others
+abbrev pub statements_then : {A : Type 0} → List (Statement A) → Statements → Statements
+statements_then [] more = more
+statements_then (s ∷ ss) more = statement_then s (statements_then ss more)
+
+-- the found statements are those of all the trees in front of the rest, which have no fault
+pub record AreFound {A : Type 0} (inside : Bool) (all rest : Trees) (found : List (Statement A)) : Type 0 where
+  pub lists : IsTrue (are_lists rest)
+  pub shapes : (more : Statements) → Shapes inside rest more → Shapes inside all (statements_then found more)
+  pub faults : (fault : TextFault) → IsShapeFault inside all fault → IsShapeFault inside rest fault
+  pub up : (fault : TextFault) → IsShapeFault inside rest fault → IsShapeFault inside all fault
+  pub order : (low high : ℕ) → IsTrue (in_order low all high) → (mid : ℕ) × IsTrue (in_order mid rest high)
+
+pub found_start : {A : Type 0} → (inside : Bool) (all : Trees) → IsTrue (are_lists all) → AreFound {A = A} inside all all []
+found_start inside all lists = record {
+  lists = lists;
+  shapes = λ more h. h;
+  faults = λ fault h. h;
+  up = λ fault h. h;
+  order = λ low high order. (low, order);
+}
+
+then-push : {A : Type 0} → (ss : List (Statement A)) (s : Statement A) (more : Statements) → statements_then (ss ++ s ∷ []) more ≡ statements_then ss (statement_then s more)
+then-push [] s more = refl
+then-push (t ∷ ts) s more = ap (statement_then t) (then-push ts s more)
+
+then-none : {A : Type 0} → (ss : List (Statement A)) → statements_then ss no_more ≡ statements_of ss
+then-none [] = refl
+then-none (s ∷ ss) = ap (statement_then s) (then-none ss)
+
+-- a statement has no fault
+statement_faults : {A : Type 0} → (inside : Bool) (at : Place) (end : ℕ) (parts rest : Trees) (s : Statement A) (fault : TextFault) → IsStatement inside at parts s → IsShapeFault inside (a_list at end parts rest) fault → IsShapeFault inside rest fault
+statement_faults inside at end parts rest s fault is (inl h) = absurd (list_no_fault inside at parts is.inner is.form fault is.fits is.allowed is.good h)
+statement_faults inside at end parts rest s fault is (inr (inl h)) = absurd (shapes_no_fault is.body (inside || is_optional is.form) is.inner is.holds fault (inner_of_list inside parts is.inner is.form fault is.fits h))
+statement_faults inside at end parts rest s fault is (inr (inr h)) = h
+
+pub found_more : {A : Type 0} → (inside : Bool) (all : Trees) (at : Place) (end : ℕ) (parts rest : Trees) (found : List (Statement A)) (s : Statement A) → AreFound inside all (a_list at end parts rest) found
+    → IsStatement inside at parts s → AreFound inside all rest (found ++ s ∷ [])
+found_more inside all at end parts rest found s so_far is = record {
+  lists = so_far.lists;
+  shapes = λ more h.
+      subst (Shapes inside all) (sym (then-push found s more)) (so_far.shapes (statement_then s more)
+      (subst (Shapes inside (a_list at end parts rest)) (sym (is.is more)) (end, parts, is.inner, rest, refl, is.fits, is.allowed, is.good, is.holds, h)));
+  faults = λ fault h. statement_faults inside at end parts rest s fault is (so_far.faults fault h);
+  up = λ fault h. so_far.up fault (inr (inr h));
+  order = λ low high order. let o = so_far.order low high order in (end, (order_list o.0 at end parts rest high o.1).3);
+}
+
+pub found_end : {A : Type 0} → (inside : Bool) (all : Trees) (found : List (Statement A)) → AreFound inside all none found → Shapes inside all (statements_of found)
+found_end inside all found so_far = subst (Shapes inside all) (then-none found) (so_far.shapes no_more refl)
+
+-- the first fault of a list is the first of all behind those that have none
+pub found_fault : {A : Type 0} → (inside : Bool) (all : Trees) (at : Place) (end : ℕ) (parts rest : Trees) (found : List (Statement A)) (fault : TextFault) → AreFound inside all (a_list at end parts rest) found
+    → IsFirstOf inside at parts fault → IsFirstAmong inside all fault
+found_fault inside all at end parts rest found fault so_far is = record {
+  is = so_far.up fault (in-list is.is);
+  first = λ low high order other h. let o = so_far.order low high order in by o.0 high o.1 other (so_far.faults other h);
+}
+  where
+    in-list : IsFaultOf inside at parts fault → IsShapeFault inside (a_list at end parts rest) fault
+    in-list (inl h) = inl h
+    in-list (inr h) = inr (inl h)
+
+    by : (low high : ℕ) → IsTrue (in_order low (a_list at end parts rest) high) → (other : TextFault) → IsShapeFault inside (a_list at end parts rest) other → IsNoLater fault other
+    by low high order other (inl h) = is.first (at.offset + 1) (end - 1) (order_list low at end parts rest high order).2 other (inl h)
+    by low high order other (inr (inl h)) = is.first (at.offset + 1) (end - 1) (order_list low at end parts rest high order).2 other (inr h)
+    by low high order other (inr (inr h)) = inl (omega (arith, (list_within inside at end parts rest low high fault order is.is).1, (fault_within rest inside end high other (order_list low at end parts rest high order).3 h).0))
+
+-- a tree among lists is one
+pub no_other : {A : Type 0} → (tree : Tree A) (rest : Trees) → ((at : code_place.Place) (end : ℕ) (v : Vec (Tree A) A) → tree ≡ list at end v → ⊥) → IsTrue (are_lists (tree_then tree rest)) → ⊥
+no_other {A} tree rest not_list lists = by (out-Tree A tree) (sym (roll-out-Tree A tree))
+  where
+    by : (o : Tree-F A (Tree A)) → tree ≡ roll-Tree A o → ⊥
+    by (opened.Word w) is = true≢false (sym lists ∙ ap (λ tree. are_lists (tree_then tree rest)) (is ∙ rolls-Word w))
+    by (opened.String w) is = true≢false (sym lists ∙ ap (λ tree. are_lists (tree_then tree rest)) (is ∙ rolls-String w))
+    by (opened.List at end v) is = not_list at end v (is ∙ rolls-List at end v)

@@ -1,0 +1,147 @@
+//! Recognising the statements that trees spell.
+
+ghost use Rattle.std.specs.Prelude.{◌≡◌, ℕ, ◌&&◌, ◌||◌, false, not, drop, IfOk, IfErr, IsTrue};
+ghost use Rattle.cil_specs.specs.Trees.{are_lists};
+ghost use Rattle.cil_specs.specs.Statements.{is_optional};
+ghost use Rattle.cil_specs.specs.Shape.{is_among, outside_optionals, Shapes, IsFirstShapeFault};
+ghost use Rattle.cil_text.specs.Image.{place_of, trees_of, statements_of, FaultIs};
+ghost use Rattle.cil_text.specs.Keyword.{spelling};
+ghost use Rattle.cil_text.specs.Form.{form_of, has_body, inner_of, HasBody};
+ghost use Rattle.cil_text.specs.Walk.{IsHeading, IsStatement, IsFirstOf, IsFirstAmong};
+
+use crate::check::{check_statement, fault_at};
+use crate::fault::{ShownWord, TextFault, TextFaultKind};
+use crate::forest::Forest;
+use crate::form::fit;
+use crate::keyword::Keyword;
+use crate::module::Module;
+use crate::place::Place;
+use crate::split::split_word;
+use crate::statement::Statement;
+use crate::tree::Tree;
+use std::alloc::Allocator;
+
+fn holds_others<A: Allocator>(statement: &Statement<A>) -> bool
+    ensures { result ≡ has_body (form_of statement.now) }
+{
+    matches!(
+        statement,
+        Statement::Block { .. } | Statement::Optional { .. }
+    )
+}
+
+/// The trees of the statements inside a statement, among its operands.
+fn inner_trees<'t, 'a, A: Allocator>(statement: &Statement<'a, A>, operands: &'t [Tree<'a, A>]) -> &'t [Tree<'a, A>]
+    ensures trees { trees_of result.now ≡ inner_of (form_of statement.now) (trees_of operands.now) }
+    ensures part { (k : ℕ) × (result.now ≡ drop k operands.now) }
+{
+    if !holds_others(statement) {
+        return &operands[operands.len()..];
+    }
+    match operands {
+        [_, inner @ ..] => inner,
+        [] => operands,
+    }
+}
+
+/// Whether the statements inside a statement stand in an optional, at whatever depth.
+fn is_inside<A: Allocator>(inside: bool, statement: &Statement<A>) -> bool
+    ensures { result ≡ (inside || is_optional (form_of statement.now)) }
+{
+    inside || matches!(statement, Statement::Optional { .. })
+}
+
+/// A block or an optional with these statements inside it, or another statement as it is.
+fn with_body<'a, A: Allocator>(statement: Statement<'a, A>, body: Vec<Statement<'a, A>, A>) -> Statement<'a, A>
+    ensures { HasBody statement.entry body.entry.items result }
+{
+    match statement {
+        Statement::Block {
+            at,
+            id,
+            body: _empty,
+        } => Statement::Block { at, id, body },
+        Statement::Optional {
+            at,
+            id,
+            body: _empty,
+        } => Statement::Optional { at, id, body },
+        other => other,
+    }
+}
+
+/// Whether a statement with this first word may stand there.
+fn may_stand(inside: bool, keyword: Keyword) -> bool
+    ensures { result ≡ not (inside && is_among outside_optionals (spelling keyword)) }
+{
+    !(inside && keyword.stands_outside_optionals())
+}
+
+/// A statement with no statements inside it yet, and the trees of these.
+fn heading<'t, 'a, A: Allocator + Copy>(alloc: A, inside: bool, at: Place, items: &'t [Tree<'a, A>]) -> Result<(Statement<'a, A>, &'t [Tree<'a, A>]), TextFault<'a>>
+    ensures ok { IfOk result (λ found. IsHeading inside (place_of at) (trees_of items.now) found.0 (trees_of found.1.now)) }
+    ensures part { IfOk result (λ found. (k : ℕ) × (found.1.now ≡ drop k items.now)) }
+    ensures err { IfErr result (λ fault. FaultIs fault (IsFirstOf inside (place_of at) (trees_of items.now))) }
+{
+    let Some((first, operands)) = split_word(items) else {
+        return Err(TextFault::Found {
+            kind: TextFaultKind::Misshapen,
+            at,
+            word: ShownWord::Text(b"("),
+        });
+    };
+    let Some(keyword) = Keyword::find(first.text) else {
+        return Err(fault_at(TextFaultKind::Unsupported, first));
+    };
+    let Some(statement) = fit(alloc, at, keyword, operands)? else {
+        return Err(fault_at(TextFaultKind::Misshapen, first));
+    };
+    if !may_stand(inside, keyword) {
+        return Err(fault_at(TextFaultKind::NotInOptional, first));
+    }
+    check_statement(&statement)?;
+    let inner = inner_trees(&statement, operands);
+    Ok((statement, inner))
+}
+
+/// The statement that a list of these trees spells.
+#[cycle(walk)]
+fn statement<'a, A: Allocator + Copy>(alloc: A, inside: bool, at: Place, items: &[Tree<'a, A>]) -> Result<Statement<'a, A>, TextFault<'a>>
+    ensures ok { IfOk result (IsStatement inside (place_of at) (trees_of items.now)) }
+    ensures err { IfErr result (λ fault. FaultIs fault (IsFirstOf inside (place_of at) (trees_of items.now))) }
+{
+    let (statement, inner) = heading(alloc, inside, at, items)?;
+    let body = statements(alloc, is_inside(inside, &statement), inner)?;
+    Ok(with_body(statement, body))
+}
+
+/// The statements that lists spell one after the other, inside an optional or not.
+#[cycle(walk)]
+fn statements<'a, A: Allocator + Copy>(alloc: A, inside: bool, trees: &[Tree<'a, A>]) -> Result<Vec<Statement<'a, A>, A>, TextFault<'a>>
+    requires lists { IsTrue (are_lists (trees_of trees.now)) }
+    ensures ok { IfOk result (λ found. Shapes inside (trees_of trees.now) (statements_of found.items)) }
+    ensures err { IfErr result (λ fault. FaultIs fault (IsFirstAmong inside (trees_of trees.now))) }
+{
+    let mut found = Vec::with_capacity(alloc, trees.len())?;
+    for tree in trees {
+        let Tree::List { at, items, .. } = tree else {
+            unreachable!("a tree that is no list");
+        };
+        found.push(statement(alloc, inside, *at, items)?)?;
+    }
+    Ok(found)
+}
+
+/// The statements that the trees spell, or the first shape fault.
+///
+/// The forms are those of the CIL Reference Guide for the fifteen words of a `Keyword`; the faults and their order
+/// are this project's own choice: a list without a first word, a first word that is no keyword, a list that doesn't
+/// fit its form, a block, class, common, `classcommon` or `classorder` inside an optional, a word that isn't spelt
+/// as a name, and a reserved word. Of several the one at the least offset is answered.
+pub fn shape<'a, A: Allocator + Copy>(alloc: A, forest: Forest<'a, A>) -> Result<Module<'a, A>, TextFault<'a>>
+    ensures ok { IfOk result (λ found. Shapes false (trees_of forest.entry.trees.items) (statements_of found.statements.items)) }
+    ensures err { IfErr result (λ fault. FaultIs fault (IsFirstShapeFault (trees_of forest.entry.trees.items))) }
+{
+    let statements = statements(alloc, false, &forest.trees)?;
+    Ok(Module { statements })
+}
