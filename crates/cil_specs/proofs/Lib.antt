@@ -7,3 +7,4 @@ pub mod FormSame
 pub mod OrderLemmas
 pub mod ShapeLemmas
 pub mod FaultOrder
+pub mod FaultSame

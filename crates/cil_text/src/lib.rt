@@ -7,6 +7,7 @@ mod fault;
 mod forest;
 mod form;
 mod keyword;
+mod laws;
 mod module;
 mod name;
 mod place;
@@ -19,6 +20,7 @@ mod words;
 
 pub use fault::{ShownWord, TextFault, TextFaultKind};
 pub use forest::Forest;
+pub use laws::{first_fault_is_one, statements_are_one, statements_have_no_fault};
 pub use module::Module;
 pub use place::Place;
 
