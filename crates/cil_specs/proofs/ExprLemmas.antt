@@ -1,12 +1,11 @@
 -- Set expressions in lists.
-use Rattle.std.proofs.Common.{◌≡◌, ℕ, inl, inr, true, false, List, [], ◌∷◌, sym, ◌∙◌, subst, refl, codes, bytes_eq}
+use Rattle.std.proofs.Common.{◌≡◌, ℕ, inl, inr, true, false, List, [], sym, ◌∙◌, subst, refl, codes, bytes_eq}
 use Rattle.std.proofs.lemmas.Bool.{true≢false}
 use Rattle.std.proofs.lemmas.Slice.Eq.{bytes_eq-Decides}
 use Rattle.std.specs.List.{list_any}
 use Rattle.cil_specs.specs.Place.{Place}
-use Rattle.cil_specs.specs.Names.{Word}
 use Rattle.cil_specs.specs.Trees.{Trees, none, a_word, a_string, a_list}
-use Rattle.cil_specs.specs.Expr.{Expr, every, named, opposite, both, either, one_of, nothing, elements, operators, HasNoOperator, IsListThen, IsOperationThen, Expresses, Lists}
+use Rattle.cil_specs.specs.Expr.{Expr, every, named, opposite, both, either, one_of, nothing, elements, operators, HasNoOperator, IsOperationThen, Expresses, Lists}
 
 -- the word of an operation, and of none
 abbrev pub operator_of : Expr → List ℕ
@@ -57,7 +56,7 @@ operation_is at place end word operands rest after (one_of x y) is h =
     let p = operation-parts at place end word (codes "xor") operands h.0 rest after h.2 in
     (p.0, (h.1, subst (λ o. Expresses o x h.1) (sym p.1) h.3, h.4))
 operation_is at place end word operands rest after nothing is h = absurd cc
-operation_is at place end word operands rest after (elements x more) is h = 
+operation_is at place end word operands rest after (elements x more) is h =
     let free : list_any (bytes_eq word) operators ≡ false = subst HasNoOperator (let e : h.0 ≡ a_word place word operands = cc in e) h.3 in absurd cc
 
 -- two words that differ

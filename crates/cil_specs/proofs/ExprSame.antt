@@ -1,5 +1,5 @@
 -- Trees spell one set expression at most.
-use Rattle.std.proofs.Common.{◌≡◌, ◌≢◌, ℕ, inl, inr, List, [], ◌∷◌, sym, ◌∙◌, ap, subst, refl, true, codes, bytes_eq}
+use Rattle.std.proofs.Common.{◌≡◌, ◌≢◌, ℕ, inl, inr, List, sym, ◌∙◌, ap, subst, refl, true, codes, bytes_eq}
 use Rattle.std.specs.List.{list_any}
 use Rattle.cil_specs.specs.Place.{Place}
 use Rattle.cil_specs.specs.Names.{Word}

@@ -1,18 +1,14 @@
 -- Where the shape faults stand in trees in order, and which is the first.
-use Rattle.std.proofs.Common.{◌≡◌, ◌≢◌, ℕ, ◌+◌, ◌-◌, ◌<◌, ◌≤◌, ◌⊎◌, inl, inr, Bool, true, false, ◌||◌, List, [], ◌∷◌, ◌++◌, length, map, get_or, zero, suc, Option, Some, None, MatchOption, sym, ◌∙◌, ap, subst, refl, codes, bytes_eq, IsTrue, Contains, arith}
-use Rattle.std.specs.List.{AllByRecursion}
-use Rattle.std.proofs.lemmas.Bool.{true≢false}
+use Rattle.std.proofs.Common.{◌≡◌, ℕ, ◌+◌, ◌-◌, ◌<◌, ◌≤◌, ◌⊎◌, inl, inr, Bool, false, ◌||◌, List, [], ◌∷◌, length, map, get_or, sym, ◌∙◌, ap, codes, bytes_eq, IsTrue, Contains, arith}
 use Rattle.std.proofs.lemmas.List.{get_or-map, length-map}
 use Rattle.cil_specs.specs.Place.{Place}
 use Rattle.cil_specs.specs.TextFault.{TextFaultKind, unsupported, misshapen, not_in_optional, code_of, TextFault, IsNoLater}
-use Rattle.cil_specs.specs.Names.{Word, Role, name_fault}
-use Rattle.cil_specs.specs.Trees.{Trees, none, a_word, a_string, a_list, are_lists, in_order}
-use Rattle.cil_specs.specs.Statements.{Form, words_of, is_optional}
-use Rattle.cil_specs.specs.Shape.{put_word, Fits, keywords, outside_optionals, is_among, IsGoodWord, IsAllowed, IsAtWord, IsWordFault, no_keyword, no_fit, in_optional, no_name, IsListFault, holds_others, IsShapeFault, IsInnerFault, IsBodyFault}
-use Rattle.cil_specs.proofs.FormLemmas.{first_word, OperandsFit, fits_begin, fits_parts}
-use Rattle.cil_specs.proofs.FormSame.{fits_same}
-use Rattle.cil_specs.proofs.OrderLemmas.{RiseTo, RiseThen, rise_le, rise_within, role_offset, order_word, order_list, order_le, words_rise}
-use Rattle.cil_specs.proofs.ShapeLemmas.{fits_keyword, outside_keyword, list_no_fault, inner_of_list}
+use Rattle.cil_specs.specs.Names.{Word, Role}
+use Rattle.cil_specs.specs.Trees.{Trees, none, a_word, a_string, a_list, in_order}
+use Rattle.cil_specs.specs.Statements.{Form, words_of}
+use Rattle.cil_specs.specs.Shape.{Fits, keywords, is_among, IsAtWord, IsWordFault, no_keyword, no_fit, in_optional, no_name, IsListFault, IsShapeFault, IsInnerFault, IsBodyFault}
+use Rattle.cil_specs.proofs.FormLemmas.{fits_parts}
+use Rattle.cil_specs.proofs.OrderLemmas.{RiseTo, RiseThen, rise_within, role_offset, order_word, order_list, order_le, words_rise}
 
 -- the fault at the ( of a list
 abbrev pub at_bracket : Place → TextFault
@@ -146,8 +142,10 @@ list_within inside at end parts rest low high fault order (inr h) =
 -- a fault at a word is no later than others at it with no lesser code
 pub no_later-here : (fault other : TextFault) (kind kind' : TextFaultKind) (word : Word) → IsAtWord fault kind word → IsAtWord other kind' word → code_of kind ≤ code_of kind' → IsNoLater fault other
 no_later-here fault other kind kind' word here there less =
-    inr (at-offset fault kind word here ∙ sym (at-offset other kind' word there),
-        omega (arith, less, ap (λ f. code_of f.kind) here, ap (λ f. code_of f.kind) there))
+    inr (
+      at-offset fault kind word here ∙ sym (at-offset other kind' word there),
+      omega (arith, less, ap (λ f. code_of f.kind) here, ap (λ f. code_of f.kind) there),
+    )
 
 -- a fault at the first word comes before those that stand behind it, and is first where its code is the least at the word
 pub front_first : (inside : Bool) (place : Place) (text : List ℕ) (operands : Trees) (low high : ℕ) (kind : TextFaultKind) (fault other : TextFault) → IsAtWord fault kind (word_at place text)

@@ -1,5 +1,5 @@
 -- In trees in order no two shape faults of one kind stand at one place.
-use Rattle.std.proofs.Common.{◌≡◌, ℕ, ◌+◌, ◌-◌, ◌<◌, ◌≤◌, ◌⊎◌, inl, inr, Bool, false, ◌||◌, ◌&&◌, List, [], ◌∷◌, length, map, get_or, zero, suc, sym, ◌∙◌, ap, subst, codes, bytes_eq, IsTrue, Contains, refl, ◌==◌, if◌then◌else◌, nat_le, nat_lt, arith}
+use Rattle.std.proofs.Common.{◌≡◌, ℕ, ◌+◌, ◌-◌, ◌<◌, ◌⊎◌, inl, inr, Bool, false, ◌||◌, ◌&&◌, List, [], ◌∷◌, length, map, get_or, zero, suc, sym, ◌∙◌, ap, subst, codes, bytes_eq, IsTrue, Contains, refl, ◌==◌, if◌then◌else◌, nat_le, nat_lt, arith}
 use Rattle.std.proofs.lemmas.Bool.{and_parts, and_from, le-leb}
 use Rattle.cil_specs.specs.Place.{Place}
 use Rattle.cil_specs.specs.TextFault.{TextFaultKind, unsupported, misshapen, not_in_optional, bad_byte, unbalanced, unclosed, unclosed_string, too_deep, bare_word, bad_name, reserved, code_of, TextFault, IsNoLater}

@@ -1,13 +1,11 @@
 -- How the operands of a statement's first word fit its form.
-use Rattle.std.proofs.Common.{◌≡◌, ◌≢◌, ℕ, ◌⊎◌, inl, inr, List, [], ◌∷◌, sym, ◌∙◌, ap, subst, refl, false, codes, bytes_eq, IsTrue}
+use Rattle.std.proofs.Common.{◌≡◌, ℕ, List, ap, subst, refl, codes, IsTrue}
 use Rattle.cil_specs.specs.Place.{Place}
 use Rattle.cil_specs.specs.Names.{Word}
-use Rattle.cil_specs.specs.Trees.{Trees, none, a_word, a_list, are_lists}
-use Rattle.cil_specs.specs.Expr.{Expr, IsListThen, Expresses}
-use Rattle.cil_specs.specs.Statements.{RuleKind, allow, auditallow, dontaudit, neverallow, rule_word, Target, itself, the_named, Form, block, optional, type_name, type_alias, alias_actual, type_attribute, attribute_set, common, class, class_common, class_order, rule}
-use Rattle.cil_specs.specs.Shape.{put_word, all_words, Begins, IsWordList, IsTargetThen, IsClassList, IsClassAndPermissions, Fits}
-use Rattle.cil_specs.proofs.ExprLemmas.{apart}
-use Rattle.cil_specs.proofs.ExprSame.{same_word, expresses_same}
+use Rattle.cil_specs.specs.Trees.{Trees, none, a_word, are_lists}
+use Rattle.cil_specs.specs.Expr.{Expresses}
+use Rattle.cil_specs.specs.Statements.{rule_word, Form, block, optional, type_name, type_alias, alias_actual, type_attribute, attribute_set, common, class, class_common, class_order, rule}
+use Rattle.cil_specs.specs.Shape.{put_word, Begins, IsWordList, IsTargetThen, IsClassList, IsClassAndPermissions, Fits}
 
 -- the first word of a statement of the form
 abbrev pub first_word : Form → List ℕ

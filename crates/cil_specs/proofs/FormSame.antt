@@ -1,8 +1,7 @@
 -- A list fits one form at most.
-use Rattle.std.proofs.Common.{◌≡◌, ◌≢◌, ℕ, inl, inr, List, [], ◌∷◌, sym, ◌∙◌, ap, subst, refl, false, codes, bytes_eq}
-use Rattle.cil_specs.specs.Place.{Place}
+use Rattle.std.proofs.Common.{◌≡◌, ℕ, inl, inr, List, [], ◌∷◌, sym, ◌∙◌, ap, subst, refl, false, codes, bytes_eq}
 use Rattle.cil_specs.specs.Names.{Word}
-use Rattle.cil_specs.specs.Trees.{Trees, none, a_word, a_list}
+use Rattle.cil_specs.specs.Trees.{Trees, none}
 use Rattle.cil_specs.specs.Expr.{Expr, IsListThen, Expresses}
 use Rattle.cil_specs.specs.Statements.{RuleKind, allow, auditallow, dontaudit, neverallow, rule_word, Target, itself, the_named, Form, block, optional, type_name, type_alias, alias_actual, type_attribute, attribute_set, common, class, class_common, class_order, rule}
 use Rattle.cil_specs.specs.Shape.{put_word, all_words, IsWordList, IsTargetThen, IsClassList, IsClassAndPermissions, Fits}

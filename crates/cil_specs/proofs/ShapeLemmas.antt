@@ -1,17 +1,17 @@
 -- Statements and shape faults: trees have not both, and where the faults stand.
-use Rattle.std.proofs.Common.{◌≡◌, ◌≢◌, ℕ, ◌+◌, ◌-◌, ◌<◌, ◌≤◌, ◌⊎◌, inl, inr, Bool, true, false, ◌||◌, List, [], ◌∷◌, ◌++◌, length, map, get_or, zero, suc, Some, None, sym, ◌∙◌, ap, subst, refl, codes, bytes_eq, IsTrue, Contains, arith}
+use Rattle.std.proofs.Common.{◌≡◌, ℕ, ◌+◌, ◌-◌, ◌<◌, ◌⊎◌, inl, inr, Bool, true, false, ◌||◌, List, [], ◌∷◌, ◌++◌, length, map, get_or, zero, suc, Some, sym, ◌∙◌, ap, subst, refl, codes, bytes_eq, IsTrue, Contains, arith}
 use Rattle.std.specs.List.{list_any, AllByRecursion}
 use Rattle.std.proofs.lemmas.Bool.{true≢false, or_cases}
 use Rattle.std.proofs.lemmas.Slice.Eq.{bytes_eq-Decides}
 use Rattle.cil_specs.specs.Place.{Place}
-use Rattle.cil_specs.specs.TextFault.{TextFaultKind, unsupported, misshapen, not_in_optional, TextFault}
+use Rattle.cil_specs.specs.TextFault.{TextFaultKind, TextFault}
 use Rattle.cil_specs.specs.Names.{Word, Role, name_fault}
-use Rattle.cil_specs.specs.Trees.{Trees, none, a_word, a_string, a_list, are_lists, in_order}
-use Rattle.cil_specs.specs.Statements.{RuleKind, allow, auditallow, dontaudit, neverallow, rule_word, Form, block, optional, type_name, type_alias, alias_actual, type_attribute, attribute_set, common, class, class_common, class_order, rule, words_of, is_optional, Statements, no_more, statement, word_offsets}
-use Rattle.cil_specs.specs.Shape.{put_word, Fits, keywords, outside_optionals, is_among, IsGoodWord, IsAllowed, Shapes, IsAtWord, IsWordFault, no_keyword, no_fit, in_optional, no_name, IsListFault, holds_others, IsShapeFault, IsInnerFault, IsBodyFault}
+use Rattle.cil_specs.specs.Trees.{Trees, none, a_word, a_list, are_lists, in_order}
+use Rattle.cil_specs.specs.Statements.{allow, auditallow, dontaudit, neverallow, Form, block, optional, type_name, type_alias, alias_actual, type_attribute, attribute_set, common, class, class_common, class_order, rule, words_of, is_optional, Statements, no_more, statement, word_offsets}
+use Rattle.cil_specs.specs.Shape.{Fits, keywords, outside_optionals, is_among, IsGoodWord, IsAllowed, Shapes, IsWordFault, no_keyword, no_fit, in_optional, no_name, IsListFault, holds_others, IsShapeFault, IsInnerFault, IsBodyFault}
 use Rattle.cil_specs.proofs.FormLemmas.{first_word, OperandsFit, fits_begin, fits_parts}
-use Rattle.cil_specs.proofs.FormSame.{put_same, fits_same}
-use Rattle.cil_specs.proofs.OrderLemmas.{RiseTo, RiseThen, rise_le, rise_join, rise_within, rise_wide, role_offset, order_none, order_word, order_list, order_le, words_rise}
+use Rattle.cil_specs.proofs.FormSame.{fits_same}
+use Rattle.cil_specs.proofs.OrderLemmas.{RiseTo, rise_join, rise_wide, role_offset, order_none, order_word, order_list, words_rise}
 
 -- a fact of each element is one of the element at a place
 pub all_at : {X : Type 0} (P : X → Type 0) (xs : List X) (k : ℕ) (d : X) → k < length xs → AllByRecursion P xs → P (get_or xs k d)

@@ -1,5 +1,5 @@
 -- The statements inside a statement.
-use Rattle.std.proofs.Common.{◌≡◌, ℕ, ◌-◌, ◌≤◌, false, List, [], ◌∷◌, Vec, length, take, drop, refl, sym, ap, ◌∙◌, arith}
+use Rattle.std.proofs.Common.{◌≡◌, ◌-◌, ◌≤◌, false, List, [], ◌∷◌, Vec, length, take, drop, refl, sym, ap, ◌∙◌, arith}
 use Rattle.std.proofs.lemmas.List.{take_rest}
 use Rattle.cil_specs.specs.Trees.{Trees}
 use Rattle.cil_specs.specs.Statements.{Statements, statement}

@@ -1,5 +1,5 @@
 -- The first word of a statement that is not good.
-use Rattle.std.proofs.Common.{◌≡◌, ℕ, ◌+◌, ◌≤◌, List, [], ◌∷◌, ◌++◌, get_or, map, zero, suc, Option, Some, None, MatchOption, Result, Ok, Err, IsErrAnd, IfErr, inl, sym, ◌∙◌, ap, subst, refl, Contains, arith}
+use Rattle.std.proofs.Common.{◌≡◌, ℕ, ◌+◌, List, [], ◌∷◌, ◌++◌, get_or, map, zero, suc, Option, Some, None, MatchOption, Result, Ok, Err, IsErrAnd, IfErr, inl, sym, ◌∙◌, ap, subst, refl, Contains, arith}
 use Rattle.cil_specs.specs.TextFault.{TextFaultKind, code_of, TextFault, IsNoLater}
 use Rattle.cil_specs.specs.Names.{Word, Role, name_fault}
 use Rattle.cil_specs.specs.Shape.{IsAtWord}

@@ -1,14 +1,13 @@
 -- Operands that fit a form.
-use Rattle.std.proofs.Common.{◌≡◌, ◌≢◌, List, Option, Some, None, Vec, IsTrue, inl, inr, refl, sym, ◌∙◌, ap, subst, codes}
-use Rattle.cil_specs.specs.Place.{Place}
+use Rattle.std.proofs.Common.{◌≡◌, List, Option, Some, None, Vec, IsTrue, sym, ◌∙◌, ap, subst, codes}
 use Rattle.cil_specs.specs.Names as spec
-use Rattle.cil_specs.specs.Trees.{Trees, none, a_word, are_lists}
+use Rattle.cil_specs.specs.Trees.{Trees, none, are_lists}
 use Rattle.cil_specs.specs.Expr.{IsListThen}
 use Rattle.cil_specs.specs.Statements.{RuleKind, Target, itself, the_named, rule}
-use Rattle.cil_specs.specs.Shape.{put_word, all_words, IsClassList, IsTargetThen, IsClassAndPermissions}
+use Rattle.cil_specs.specs.Shape.{put_word, IsTargetThen, IsClassAndPermissions}
 use Rattle.cil_specs.proofs.FormSame.{put_same, list_same}
 use Rattle.cil_specs.proofs.FormLemmas.{OperandsFit}
-use Rattle.cil_text.specs.Form.{behind, IsWithoutUnordered, AreClassAndPermissions}
+use Rattle.cil_text.specs.Form.{behind, AreClassAndPermissions}
 use Rattle.cil_text.specs.Split.{AreWordAndList}
 use Rattle.cil_text.specs.declared.word.Word.{Word}
 

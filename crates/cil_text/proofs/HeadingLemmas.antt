@@ -1,14 +1,13 @@
 -- The first of the faults of a list, but for those of its inner statements.
-use Rattle.std.proofs.Common.{◌≡◌, ◌≢◌, ℕ, ◌+◌, ◌<◌, ◌≤◌, ◌⊎◌, inl, inr, Bool, true, false, not, ◌&&◌, ◌||◌, List, [], ◌∷◌, map, refl, sym, ◌∙◌, ap, subst, IsTrue, Contains, arith}
-use Rattle.std.proofs.lemmas.Bool.{true≢false, and_parts, not-true, not-false}
+use Rattle.std.proofs.Common.{◌≡◌, ◌≢◌, ℕ, ◌+◌, ◌≤◌, ◌⊎◌, inl, inr, Bool, true, false, not, ◌&&◌, ◌||◌, [], ◌∷◌, refl, sym, ◌∙◌, subst, IsTrue, Contains, arith}
+use Rattle.std.proofs.lemmas.Bool.{true≢false, and_parts, not-false}
 use Rattle.cil_specs.specs.Place.{Place}
 use Rattle.cil_specs.specs.TextFault.{TextFaultKind, unsupported, misshapen, not_in_optional, code_of, TextFault, IsNoLater}
 use Rattle.cil_specs.specs.Names.{Word}
 use Rattle.cil_specs.specs.Trees.{Trees, none, a_word, a_string, a_list, in_order}
 use Rattle.cil_specs.specs.Statements.{Form, words_of, is_optional}
-use Rattle.cil_specs.specs.Shape.{put_word, Fits, keywords, outside_optionals, is_among, IsAllowed, IsAtWord, IsWordFault, no_keyword, no_fit, in_optional, no_name, IsListFault, IsShapeFault, IsInnerFault}
+use Rattle.cil_specs.specs.Shape.{put_word, Fits, keywords, outside_optionals, is_among, IsAllowed, IsAtWord, IsWordFault, no_keyword, no_fit, in_optional, no_name, IsInnerFault}
 use Rattle.cil_specs.proofs.FormSame.{fits_same}
-use Rattle.cil_specs.proofs.OrderLemmas.{role_offset}
 use Rattle.cil_specs.proofs.ShapeLemmas.{fits_keyword, outside_keyword, inner_of_list}
 use Rattle.cil_specs.proofs.FaultOrder.{at_bracket, word_at, at-offset, word_within, fits_rise, fault_within, no_later-here, front_first}
 use Rattle.cil_text.specs.Keyword.{spelling}
@@ -16,7 +15,7 @@ use Rattle.cil_text.specs.Walk.{IsFirstBad, IsFaultOf, IsFirstOf}
 use Rattle.cil_text.specs.declared.statement.RuleKind.TheVariants.{Allow, AuditAllow, DontAudit, NeverAllow}
 use Rattle.cil_text.specs.declared.keyword.Keyword.{Keyword}
 use Rattle.cil_text.specs.declared.keyword.Keyword.TheVariants.{Rule}
-use Rattle.cil_text.proofs.FirstBad.{IsBad, first_bad_is, first_bad_first}
+use Rattle.cil_text.proofs.FirstBad.{first_bad_is, first_bad_first}
 
 -- each keyword is one
 pub spelling_is : (keyword : Keyword) → is_among keywords (spelling keyword) ≡ true

@@ -1,5 +1,5 @@
 -- The parts of a reference.
-use Rattle.std.proofs.Common.{◌≡◌, ℕ, ◌==◌, Bool, true, false, cond, List, [], ◌∷◌, refl}
+use Rattle.std.proofs.Common.{◌≡◌, ℕ, ◌==◌, true, false, cond, List, [], ◌∷◌, refl}
 use Rattle.std.specs.List.{slice_split}
 use Rattle.cil_specs.specs.Names.{components}
 use Rattle.cil_text.specs.Name.{without_dot}

@@ -1,5 +1,5 @@
 -- The lists in trees, expressions and statements.
-use Rattle.std.proofs.Common.{◌≡◌, ℕ, List, Vec, refl, ap, ◌∙◌}
+use Rattle.std.proofs.Common.{◌≡◌, ℕ, Vec, refl, ap, ◌∙◌}
 use Rattle.cil_specs.specs.Trees.{Trees, a_list}
 use Rattle.cil_specs.specs.Expr.{elements}
 use Rattle.cil_specs.specs.Statements.{block, optional, Statements, statement}

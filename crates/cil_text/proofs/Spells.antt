@@ -1,5 +1,5 @@
 -- What the front of trees spells, as the code finds it.
-use Rattle.std.proofs.Common.{◌≡◌, ℕ, ◌≤◌, ◌==◌, Bool, true, false, List, [], ◌∷◌, length, take, drop, get_or, Option, Some, None, refl, sym, ◌∙◌, ap, subst, codes, bytes_eq, arith, rules, tests}
+use Rattle.std.proofs.Common.{◌≡◌, ℕ, ◌≤◌, ◌==◌, Bool, true, false, List, [], ◌∷◌, length, drop, Option, refl, sym, ◌∙◌, ap, subst, bytes_eq, arith, rules, tests}
 use denote.Param.Weighed.{most}
 use Rattle.std.specs.List.{list_any}
 use Rattle.cil_specs.specs.Place.{Place}
@@ -7,8 +7,8 @@ use Rattle.cil_specs.specs.Trees.{Trees, none, a_word, a_list}
 use Rattle.cil_specs.specs.Expr as spec
 use Rattle.cil_specs.specs.Expr.{every, operators, Expresses, Lists}
 use Rattle.cil_specs.proofs.ExprLemmas.{operator_of, AreOperands, operation_spelt, operation_is, no_all}
-use Rattle.cil_text.specs.Image.{place_of, tree_then, trees_of, expr_of}
-use Rattle.cil_text.specs.Expr.{operator_word, SpellsExpr, SpellsElements, SpellsOperation}
+use Rattle.cil_text.specs.Image.{trees_of}
+use Rattle.cil_text.specs.Expr.{operator_word, SpellsOperation}
 use Rattle.cil_text.specs.declared.expr.Operator.{Operator}
 use Rattle.cil_text.specs.declared.expr.Operator.TheVariants.{And, Or, Xor, Not, All}
 use Rattle.cil_text.specs.declared.tree.Tree.{Tree}

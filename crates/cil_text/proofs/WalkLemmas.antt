@@ -1,18 +1,18 @@
 -- Statements one after the other, and the first fault among them.
-use Rattle.std.proofs.Common.{◌≡◌, ℕ, ◌+◌, ◌-◌, ◌<◌, ◌≤◌, ◌⊎◌, inl, inr, Bool, true, false, cond, ◌&&◌, ◌||◌, List, [], ◌∷◌, ◌++◌, Vec, refl, sym, ◌∙◌, ap, subst, IsTrue, arith}
+use Rattle.std.proofs.Common.{◌≡◌, ℕ, ◌+◌, ◌-◌, inl, inr, Bool, ◌||◌, List, [], ◌∷◌, ◌++◌, Vec, refl, sym, ◌∙◌, ap, subst, IsTrue, arith}
 use Rattle.std.proofs.lemmas.Bool.{true≢false}
 use Rattle.cil_specs.specs.Place.{Place}
 use Rattle.cil_specs.specs.TextFault.{TextFault, IsNoLater}
-use Rattle.cil_specs.specs.Trees.{Trees, none, a_word, a_list, are_lists, in_order}
+use Rattle.cil_specs.specs.Trees.{Trees, none, a_list, are_lists, in_order}
 use Rattle.cil_specs.specs.Statements as spec
 use Rattle.cil_specs.specs.Statements.{Form, words_of, is_optional, Statements, no_more}
-use Rattle.cil_specs.specs.Shape.{Fits, Shapes, IsListFault, IsShapeFault, IsInnerFault}
+use Rattle.cil_specs.specs.Shape.{Fits, Shapes, IsShapeFault, IsInnerFault}
 use Rattle.cil_specs.proofs.FormLemmas.{first_word, OperandsFit, fits_begin}
 use Rattle.cil_specs.proofs.OrderLemmas.{order_list}
 use Rattle.cil_specs.proofs.ShapeLemmas.{inner_fault_is, list_no_fault, inner_of_list, shapes_no_fault}
 use Rattle.cil_specs.proofs.FaultOrder.{fits_rise, fault_within, list_within}
 use Rattle.cil_text.specs.Image.{tree_then, statement_then, statements_of}
-use Rattle.cil_text.specs.Form.{form_of, at_of, has_body, body_of, HasBody}
+use Rattle.cil_text.specs.Form.{form_of, body_of, HasBody}
 use Rattle.cil_text.specs.Walk.{IsHeading, IsStatement, IsFaultOf, IsFirstOf, IsFirstAmong}
 use Rattle.cil_text.specs.declared.place.Place as code_place
 use Rattle.cil_text.specs.declared.tree.Tree.{Tree, Tree-F, out-Tree, roll-Tree, roll-out-Tree}

@@ -1,12 +1,12 @@
 -- Statements by their forms, and the forms that operands fit.
-use Rattle.std.specs.Prelude.{◌≡◌, ◌≢◌, ℕ, ◌⊎◌, Bool, true, false, if◌then◌else◌, List, map, Option, Some, None, Vec, codes}
+use Rattle.std.specs.Prelude.{◌≡◌, ◌≢◌, ◌⊎◌, Bool, true, false, if◌then◌else◌, List, map, Option, Some, None, Vec, codes}
 use Rattle.cil_specs.specs.Place as spec_place
 use Rattle.cil_specs.specs.Names as spec_names
 use Rattle.cil_specs.specs.Trees.{Trees, none, a_word, a_string, a_list}
 use Rattle.cil_specs.specs.Expr as spec_exprs
 use Rattle.cil_specs.specs.Expr.{Expresses}
 use Rattle.cil_specs.specs.Statements.{Form, block, optional, type_name, type_alias, alias_actual, type_attribute, attribute_set, common, class, class_common, class_order, rule, Statements, no_more, statement}
-use Rattle.cil_specs.specs.Shape.{put_word, all_words, IsClassList, IsClassAndPermissions, Fits}
+use Rattle.cil_specs.specs.Shape.{put_word, IsClassList, IsClassAndPermissions, Fits}
 use Rattle.cil_text.specs.Image.{place_of, word_of, expr_of, rule_kind_of, target_of, statement_then, statements_of}
 use Rattle.cil_text.specs.Keyword.{spelling}
 use Rattle.cil_text.specs.declared.keyword.Keyword.{Keyword}

@@ -1,5 +1,5 @@
 -- The definitions' values that the roles of words stand for.
-use Rattle.std.specs.Prelude.{ℕ, ◌==◌, List, [], ◌∷◌, Option, Some, None, option_map, if◌then◌else◌}
+use Rattle.std.specs.Prelude.{ℕ, ◌==◌, List, [], ◌∷◌, Option, option_map, if◌then◌else◌}
 use Rattle.cil_specs.specs.Names as spec_names
 use Rattle.cil_specs.specs.Names.{declared, referred}
 use Rattle.cil_specs.specs.TextFault as spec_faults

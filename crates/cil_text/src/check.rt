@@ -107,7 +107,12 @@ fn check_permissions<'a>(id: Word<'a>, permissions: &[Word<'a>]) -> Result<(), T
     check_words(Role::Declared, permissions)
 }
 
-fn check_rule<'a>(source: Word<'a>, target: Target<'a>, class: Word<'a>, permissions: &[Word<'a>]) -> Result<(), TextFault<'a>>
+fn check_rule<'a>(
+    source: Word<'a>,
+    target: Target<'a>,
+    class: Word<'a>,
+    permissions: &[Word<'a>],
+) -> Result<(), TextFault<'a>>
     ensures { Checks (as_referred (word_of source.entry) ∷ (map as_referred (target_words (target_of target.entry))
         ++ (as_referred (word_of class.entry) ∷ map as_declared (map word_of permissions.now)))) result }
 {
@@ -129,13 +134,19 @@ pub fn check_statement<'a, A: Allocator>(statement: &Statement<'a, A>) -> Result
         Statement::TypeAttribute { id, .. } => check_word(Role::Declared, *id),
         Statement::TypeAliasActual { alias, actual, .. } => check_pair(*alias, *actual),
         Statement::TypeAttributeSet {
-            attribute, expr, ..
+            attribute,
+            expr,
+            ..
         } => check_set(*attribute, expr),
         Statement::Common {
-            id, permissions, ..
+            id,
+            permissions,
+            ..
         } => check_permissions(*id, permissions),
         Statement::Class {
-            id, permissions, ..
+            id,
+            permissions,
+            ..
         } => check_permissions(*id, permissions),
         Statement::ClassCommon { class, common, .. } => check_pair(*class, *common),
         Statement::ClassOrder { classes, .. } => check_words(Role::Referred, classes),

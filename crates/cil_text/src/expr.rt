@@ -46,7 +46,10 @@ impl Operator {
 
 /// The expression that a tree spells, if it spells one (CIL Reference Guide, "typeattributeset").
 #[cycle(expression)]
-pub fn expression<'a, A: Allocator + Copy>(alloc: A, tree: &Tree<'a, A>) -> Result<Option<Expr<'a, A>>, AllocError>
+pub fn expression<'a, A: Allocator + Copy>(
+    alloc: A,
+    tree: &Tree<'a, A>,
+) -> Result<Option<Expr<'a, A>>, AllocError>
     ensures { IfOk result (SpellsExpr (tree_then tree.now)) }
 {
     match tree {
@@ -63,7 +66,9 @@ pub fn expression<'a, A: Allocator + Copy>(alloc: A, tree: &Tree<'a, A>) -> Resu
 }
 
 /// The operator that stands first in a list, and its operands.
-fn split_operator<'t, 'a, A: Allocator + Copy>(items: &'t [Tree<'a, A>]) -> Option<(Operator, &'t [Tree<'a, A>])>
+fn split_operator<'t, 'a, A: Allocator + Copy>(
+    items: &'t [Tree<'a, A>],
+) -> Option<(Operator, &'t [Tree<'a, A>])>
     ensures operation { MatchOption result (HasNoOperator (trees_of items.now)) (λ found. BeginsOperation (trees_of items.now) found.0 (trees_of found.1.now)) }
     ensures rest { IfSome result (λ found. found.1.now ≡ drop 1 items.now) }
 {
@@ -78,7 +83,10 @@ fn split_operator<'t, 'a, A: Allocator + Copy>(items: &'t [Tree<'a, A>]) -> Opti
 
 /// The expression that a list of these trees spells.
 #[cycle(expression)]
-fn list_expression<'a, A: Allocator + Copy>(alloc: A, items: &[Tree<'a, A>]) -> Result<Option<Expr<'a, A>>, AllocError>
+fn list_expression<'a, A: Allocator + Copy>(
+    alloc: A,
+    items: &[Tree<'a, A>],
+) -> Result<Option<Expr<'a, A>>, AllocError>
     ensures { IfOk result (λ found. (at : SpecPlace) (end : ℕ) → SpellsExpr (a_list at end (trees_of items.now)) found) }
 {
     if let Some((operator, operands)) = split_operator(items) {
@@ -92,7 +100,10 @@ fn list_expression<'a, A: Allocator + Copy>(alloc: A, items: &[Tree<'a, A>]) -> 
 
 /// The expressions that trees spell one after the other.
 #[cycle(expression)]
-fn elements<'a, A: Allocator + Copy>(alloc: A, trees: &[Tree<'a, A>]) -> Result<Option<Vec<Expr<'a, A>, A>>, AllocError>
+fn elements<'a, A: Allocator + Copy>(
+    alloc: A,
+    trees: &[Tree<'a, A>],
+) -> Result<Option<Vec<Expr<'a, A>, A>>, AllocError>
     ensures { IfOk result (SpellsElements (trees_of trees.now)) }
 {
     let mut elements = Vec::new(alloc);
@@ -107,7 +118,11 @@ fn elements<'a, A: Allocator + Copy>(alloc: A, trees: &[Tree<'a, A>]) -> Result<
 
 /// The expression of an operator and these operands.
 #[cycle(expression)]
-fn operation<'a, A: Allocator + Copy>(alloc: A, operator: Operator, operands: &[Tree<'a, A>]) -> Result<Option<Expr<'a, A>>, AllocError>
+fn operation<'a, A: Allocator + Copy>(
+    alloc: A,
+    operator: Operator,
+    operands: &[Tree<'a, A>],
+) -> Result<Option<Expr<'a, A>>, AllocError>
     ensures { IfOk result (SpellsOperation (operator_word operator) (trees_of operands.now)) }
 {
     match operator {
@@ -132,7 +147,10 @@ fn operation<'a, A: Allocator + Copy>(alloc: A, operator: Operator, operands: &[
 }
 
 #[cycle(expression)]
-fn one_operand<'a, A: Allocator + Copy>(alloc: A, operands: &[Tree<'a, A>]) -> Result<Option<Box<Expr<'a, A>, A>>, AllocError>
+fn one_operand<'a, A: Allocator + Copy>(
+    alloc: A,
+    operands: &[Tree<'a, A>],
+) -> Result<Option<Box<Expr<'a, A>, A>>, AllocError>
     ensures { IfOk result (SpellsOne (trees_of operands.now)) }
 {
     let [x] = operands else {
@@ -145,7 +163,10 @@ fn one_operand<'a, A: Allocator + Copy>(alloc: A, operands: &[Tree<'a, A>]) -> R
 }
 
 #[cycle(expression)]
-fn two_operands<'a, A: Allocator + Copy>(alloc: A, operands: &[Tree<'a, A>]) -> Result<Option<(Box<Expr<'a, A>, A>, Box<Expr<'a, A>, A>)>, AllocError>
+fn two_operands<'a, A: Allocator + Copy>(
+    alloc: A,
+    operands: &[Tree<'a, A>],
+) -> Result<Option<(Box<Expr<'a, A>, A>, Box<Expr<'a, A>, A>)>, AllocError>
     ensures { IfOk result (SpellsTwo (trees_of operands.now)) }
 {
     let [x, y] = operands else {

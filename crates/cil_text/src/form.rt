@@ -15,7 +15,11 @@ use crate::tree::Tree;
 use crate::word::Word;
 use std::alloc::{AllocError, Allocator};
 
-fn block<'a, A: Allocator + Copy>(alloc: A, at: Place, operands: &[Tree<'a, A>]) -> Option<Statement<'a, A>>
+fn block<'a, A: Allocator + Copy>(
+    alloc: A,
+    at: Place,
+    operands: &[Tree<'a, A>],
+) -> Option<Statement<'a, A>>
     ensures { FitsAs (place_of at) Keyword.Block (trees_of operands.now) result }
 {
     let (id, inner) = split_word(operands)?;
@@ -29,7 +33,11 @@ fn block<'a, A: Allocator + Copy>(alloc: A, at: Place, operands: &[Tree<'a, A>])
     })
 }
 
-fn optional<'a, A: Allocator + Copy>(alloc: A, at: Place, operands: &[Tree<'a, A>]) -> Option<Statement<'a, A>>
+fn optional<'a, A: Allocator + Copy>(
+    alloc: A,
+    at: Place,
+    operands: &[Tree<'a, A>],
+) -> Option<Statement<'a, A>>
     ensures { FitsAs (place_of at) Keyword.Optional (trees_of operands.now) result }
 {
     let (id, inner) = split_word(operands)?;
@@ -57,7 +65,10 @@ fn type_alias<'a, A: Allocator>(at: Place, operands: &[Tree<'a, A>]) -> Option<S
     Some(Statement::TypeAlias { at, id })
 }
 
-fn type_alias_actual<'a, A: Allocator>(at: Place, operands: &[Tree<'a, A>]) -> Option<Statement<'a, A>>
+fn type_alias_actual<'a, A: Allocator>(
+    at: Place,
+    operands: &[Tree<'a, A>],
+) -> Option<Statement<'a, A>>
     ensures { FitsAs (place_of at) Keyword.TypeAliasActual (trees_of operands.now) result }
 {
     let (alias, actual) = two_words(operands)?;
@@ -72,7 +83,10 @@ fn type_attribute<'a, A: Allocator>(at: Place, operands: &[Tree<'a, A>]) -> Opti
 }
 
 /// An attribute and a set expression.
-fn attribute_and_set<'a, A: Allocator + Copy>(alloc: A, operands: &[Tree<'a, A>]) -> Result<Option<(Word<'a>, Expr<'a, A>)>, AllocError>
+fn attribute_and_set<'a, A: Allocator + Copy>(
+    alloc: A,
+    operands: &[Tree<'a, A>],
+) -> Result<Option<(Word<'a>, Expr<'a, A>)>, AllocError>
     ensures { IfOk result (IsAttributeAndSet (trees_of operands.now)) }
 {
     let Some((attribute, rest)) = split_word(operands) else {
@@ -87,7 +101,11 @@ fn attribute_and_set<'a, A: Allocator + Copy>(alloc: A, operands: &[Tree<'a, A>]
     }
 }
 
-fn type_attribute_set<'a, A: Allocator + Copy>(alloc: A, at: Place, operands: &[Tree<'a, A>]) -> Result<Option<Statement<'a, A>>, AllocError>
+fn type_attribute_set<'a, A: Allocator + Copy>(
+    alloc: A,
+    at: Place,
+    operands: &[Tree<'a, A>],
+) -> Result<Option<Statement<'a, A>>, AllocError>
     ensures { IfOk result (FitsAs (place_of at) Keyword.TypeAttributeSet (trees_of operands.now)) }
 {
     match attribute_and_set(alloc, operands)? {
@@ -100,7 +118,11 @@ fn type_attribute_set<'a, A: Allocator + Copy>(alloc: A, at: Place, operands: &[
     }
 }
 
-fn common<'a, A: Allocator + Copy>(alloc: A, at: Place, operands: &[Tree<'a, A>]) -> Result<Option<Statement<'a, A>>, AllocError>
+fn common<'a, A: Allocator + Copy>(
+    alloc: A,
+    at: Place,
+    operands: &[Tree<'a, A>],
+) -> Result<Option<Statement<'a, A>>, AllocError>
     ensures { IfOk result (FitsAs (place_of at) Keyword.Common (trees_of operands.now)) }
 {
     match word_and_list(alloc, operands)? {
@@ -113,7 +135,11 @@ fn common<'a, A: Allocator + Copy>(alloc: A, at: Place, operands: &[Tree<'a, A>]
     }
 }
 
-fn class<'a, A: Allocator + Copy>(alloc: A, at: Place, operands: &[Tree<'a, A>]) -> Result<Option<Statement<'a, A>>, AllocError>
+fn class<'a, A: Allocator + Copy>(
+    alloc: A,
+    at: Place,
+    operands: &[Tree<'a, A>],
+) -> Result<Option<Statement<'a, A>>, AllocError>
     ensures { IfOk result (FitsAs (place_of at) Keyword.Class (trees_of operands.now)) }
 {
     match word_and_list(alloc, operands)? {
@@ -147,7 +173,10 @@ fn without_unordered<'t, 'a, A: Allocator>(trees: &'t [Tree<'a, A>]) -> &'t [Tre
 }
 
 /// The classes of a list, with or without the keyword `unordered` in front.
-fn class_list<'a, A: Allocator + Copy>(alloc: A, operands: &[Tree<'a, A>]) -> Result<Option<Vec<Word<'a>, A>>, AllocError>
+fn class_list<'a, A: Allocator + Copy>(
+    alloc: A,
+    operands: &[Tree<'a, A>],
+) -> Result<Option<Vec<Word<'a>, A>>, AllocError>
     ensures { IfOk result (AreClasses (trees_of operands.now)) }
 {
     match only_list(operands) {
@@ -156,7 +185,11 @@ fn class_list<'a, A: Allocator + Copy>(alloc: A, operands: &[Tree<'a, A>]) -> Re
     }
 }
 
-fn class_order<'a, A: Allocator + Copy>(alloc: A, at: Place, operands: &[Tree<'a, A>]) -> Result<Option<Statement<'a, A>>, AllocError>
+fn class_order<'a, A: Allocator + Copy>(
+    alloc: A,
+    at: Place,
+    operands: &[Tree<'a, A>],
+) -> Result<Option<Statement<'a, A>>, AllocError>
     ensures { IfOk result (FitsAs (place_of at) Keyword.ClassOrder (trees_of operands.now)) }
 {
     match class_list(alloc, operands)? {
@@ -177,7 +210,10 @@ fn target_at(word: Word) -> Target
 }
 
 /// The class and the permissions of a rule.
-fn class_and_permissions<'a, A: Allocator + Copy>(alloc: A, trees: &[Tree<'a, A>]) -> Result<Option<(Word<'a>, Vec<Word<'a>, A>)>, AllocError>
+fn class_and_permissions<'a, A: Allocator + Copy>(
+    alloc: A,
+    trees: &[Tree<'a, A>],
+) -> Result<Option<(Word<'a>, Vec<Word<'a>, A>)>, AllocError>
     ensures { IfOk result (AreClassAndPermissions (trees_of trees.now)) }
 {
     match only_list(trees) {
@@ -186,7 +222,12 @@ fn class_and_permissions<'a, A: Allocator + Copy>(alloc: A, trees: &[Tree<'a, A>
     }
 }
 
-fn rule<'a, A: Allocator + Copy>(alloc: A, at: Place, kind: RuleKind, operands: &[Tree<'a, A>]) -> Result<Option<Statement<'a, A>>, AllocError>
+fn rule<'a, A: Allocator + Copy>(
+    alloc: A,
+    at: Place,
+    kind: RuleKind,
+    operands: &[Tree<'a, A>],
+) -> Result<Option<Statement<'a, A>>, AllocError>
     ensures { IfOk result (FitsAs (place_of at) (Keyword.Rule kind) (trees_of operands.now)) }
 {
     let Some((source, rest)) = split_word(operands) else {
@@ -209,7 +250,12 @@ fn rule<'a, A: Allocator + Copy>(alloc: A, at: Place, kind: RuleKind, operands: 
 }
 
 /// The statement whose form the operands of a keyword fit, with no statements inside it yet.
-pub fn fit<'a, A: Allocator + Copy>(alloc: A, at: Place, keyword: Keyword, operands: &[Tree<'a, A>]) -> Result<Option<Statement<'a, A>>, AllocError>
+pub fn fit<'a, A: Allocator + Copy>(
+    alloc: A,
+    at: Place,
+    keyword: Keyword,
+    operands: &[Tree<'a, A>],
+) -> Result<Option<Statement<'a, A>>, AllocError>
     ensures { IfOk result (FitsAs (place_of at) keyword (trees_of operands.now)) }
 {
     match keyword {

@@ -57,7 +57,11 @@ impl Keyword {
     {
         matches!(
             self,
-            Keyword::Block | Keyword::Class | Keyword::Common | Keyword::ClassCommon | Keyword::ClassOrder
+            Keyword::Block
+                | Keyword::Class
+                | Keyword::Common
+                | Keyword::ClassCommon
+                | Keyword::ClassOrder
         )
     }
 }

@@ -23,7 +23,6 @@ pub use forest::Forest;
 pub use laws::{first_fault_is_one, statements_are_one, statements_have_no_fault};
 pub use module::Module;
 pub use place::Place;
-
 pub use statement::{Expr, RuleKind, Statement, Target};
 pub use tree::Tree;
 pub use walk::shape;

@@ -12,14 +12,7 @@ const NAME_MAX: usize = 2048;
 
 /// The words that stand for no declared thing.
 const RESERVED_WORDS: [&[u8]; 8] = [
-    b"self",
-    b"notself",
-    b"other",
-    b"all",
-    b"and",
-    b"or",
-    b"xor",
-    b"not",
+    b"self", b"notself", b"other", b"all", b"and", b"or", b"xor", b"not",
 ];
 
 /// What stands in the place of a word.

@@ -13,7 +13,9 @@ use crate::word::Word;
 use std::alloc::{AllocError, Allocator};
 
 /// The word in front, and the trees behind it.
-pub fn split_word<'t, 'a, A: Allocator>(trees: &'t [Tree<'a, A>]) -> Option<(Word<'a>, &'t [Tree<'a, A>])>
+pub fn split_word<'t, 'a, A: Allocator>(
+    trees: &'t [Tree<'a, A>],
+) -> Option<(Word<'a>, &'t [Tree<'a, A>])>
     ensures word { MatchOption result ((word : SpecWord) (rest : Trees) → trees_of trees.now ≢ put_word word rest)
         (λ found. trees_of trees.now ≡ put_word (word_of found.0) (trees_of found.1.now)) }
     ensures rest { IfSome result (λ found. found.1.now ≡ drop 1 trees.now) }
@@ -28,7 +30,9 @@ pub fn split_word<'t, 'a, A: Allocator>(trees: &'t [Tree<'a, A>]) -> Option<(Wor
 }
 
 /// The trees of the list in front, and the trees behind it.
-fn split_list<'t, 'a, A: Allocator>(trees: &'t [Tree<'a, A>]) -> Option<(&'t [Tree<'a, A>], &'t [Tree<'a, A>])>
+fn split_list<'t, 'a, A: Allocator>(
+    trees: &'t [Tree<'a, A>],
+) -> Option<(&'t [Tree<'a, A>], &'t [Tree<'a, A>])>
     ensures { MatchOption result ((items rest : Trees) → IsListThen (trees_of trees.now) items rest → ⊥)
         (λ found. IsListThen (trees_of trees.now) (trees_of found.0.now) (trees_of found.1.now)) }
 {
@@ -86,7 +90,10 @@ pub fn are_lists<A: Allocator>(trees: &[Tree<A>]) -> bool
 }
 
 /// Words and nothing else.
-pub fn words<'a, A: Allocator + Copy>(alloc: A, trees: &[Tree<'a, A>]) -> Result<Option<Vec<Word<'a>, A>>, AllocError>
+pub fn words<'a, A: Allocator + Copy>(
+    alloc: A,
+    trees: &[Tree<'a, A>],
+) -> Result<Option<Vec<Word<'a>, A>>, AllocError>
     ensures { IfOk result (AreWords (trees_of trees.now)) }
 {
     let mut words = Vec::with_capacity(alloc, trees.len())?;
@@ -100,7 +107,10 @@ pub fn words<'a, A: Allocator + Copy>(alloc: A, trees: &[Tree<'a, A>]) -> Result
 }
 
 /// A list of words and nothing else.
-pub fn word_list<'a, A: Allocator + Copy>(alloc: A, trees: &[Tree<'a, A>]) -> Result<Option<Vec<Word<'a>, A>>, AllocError>
+pub fn word_list<'a, A: Allocator + Copy>(
+    alloc: A,
+    trees: &[Tree<'a, A>],
+) -> Result<Option<Vec<Word<'a>, A>>, AllocError>
     ensures { IfOk result (AreWordList (trees_of trees.now)) }
 {
     match only_list(trees) {
@@ -110,7 +120,10 @@ pub fn word_list<'a, A: Allocator + Copy>(alloc: A, trees: &[Tree<'a, A>]) -> Re
 }
 
 /// A word, a list of words and nothing else.
-pub fn word_and_list<'a, A: Allocator + Copy>(alloc: A, trees: &[Tree<'a, A>]) -> Result<Option<(Word<'a>, Vec<Word<'a>, A>)>, AllocError>
+pub fn word_and_list<'a, A: Allocator + Copy>(
+    alloc: A,
+    trees: &[Tree<'a, A>],
+) -> Result<Option<(Word<'a>, Vec<Word<'a>, A>)>, AllocError>
     ensures { IfOk result (AreWordAndList (trees_of trees.now)) }
 {
     let Some((word, rest)) = split_word(trees) else {

@@ -31,7 +31,10 @@ fn holds_others<A: Allocator>(statement: &Statement<A>) -> bool
 }
 
 /// The trees of the statements inside a statement, among its operands.
-fn inner_trees<'t, 'a, A: Allocator>(statement: &Statement<'a, A>, operands: &'t [Tree<'a, A>]) -> &'t [Tree<'a, A>]
+fn inner_trees<'t, 'a, A: Allocator>(
+    statement: &Statement<'a, A>,
+    operands: &'t [Tree<'a, A>],
+) -> &'t [Tree<'a, A>]
     ensures trees { trees_of result.now ≡ inner_of (form_of statement.now) (trees_of operands.now) }
     ensures part { (k : ℕ) × (result.now ≡ drop k operands.now) }
 {
@@ -52,7 +55,10 @@ fn is_inside<A: Allocator>(inside: bool, statement: &Statement<A>) -> bool
 }
 
 /// A block or an optional with these statements inside it, or another statement as it is.
-fn with_body<'a, A: Allocator>(statement: Statement<'a, A>, body: Vec<Statement<'a, A>, A>) -> Statement<'a, A>
+fn with_body<'a, A: Allocator>(
+    statement: Statement<'a, A>,
+    body: Vec<Statement<'a, A>, A>,
+) -> Statement<'a, A>
     ensures { HasBody statement.entry body.entry.items result }
 {
     match statement {
@@ -78,7 +84,12 @@ fn may_stand(inside: bool, keyword: Keyword) -> bool
 }
 
 /// A statement with no statements inside it yet, and the trees of these.
-fn heading<'t, 'a, A: Allocator + Copy>(alloc: A, inside: bool, at: Place, items: &'t [Tree<'a, A>]) -> Result<(Statement<'a, A>, &'t [Tree<'a, A>]), TextFault<'a>>
+fn heading<'t, 'a, A: Allocator + Copy>(
+    alloc: A,
+    inside: bool,
+    at: Place,
+    items: &'t [Tree<'a, A>],
+) -> Result<(Statement<'a, A>, &'t [Tree<'a, A>]), TextFault<'a>>
     ensures ok { IfOk result (λ found. IsHeading inside (place_of at) (trees_of items.now) found.0 (trees_of found.1.now)) }
     ensures part { IfOk result (λ found. (k : ℕ) × (found.1.now ≡ drop k items.now)) }
     ensures err { IfErr result (λ fault. FaultIs fault (IsFirstOf inside (place_of at) (trees_of items.now))) }
@@ -106,7 +117,12 @@ fn heading<'t, 'a, A: Allocator + Copy>(alloc: A, inside: bool, at: Place, items
 
 /// The statement that a list of these trees spells.
 #[cycle(walk)]
-fn statement<'a, A: Allocator + Copy>(alloc: A, inside: bool, at: Place, items: &[Tree<'a, A>]) -> Result<Statement<'a, A>, TextFault<'a>>
+fn statement<'a, A: Allocator + Copy>(
+    alloc: A,
+    inside: bool,
+    at: Place,
+    items: &[Tree<'a, A>],
+) -> Result<Statement<'a, A>, TextFault<'a>>
     ensures ok { IfOk result (IsStatement inside (place_of at) (trees_of items.now)) }
     ensures err { IfErr result (λ fault. FaultIs fault (IsFirstOf inside (place_of at) (trees_of items.now))) }
 {
@@ -117,7 +133,11 @@ fn statement<'a, A: Allocator + Copy>(alloc: A, inside: bool, at: Place, items: 
 
 /// The statements that lists spell one after the other, inside an optional or not.
 #[cycle(walk)]
-fn statements<'a, A: Allocator + Copy>(alloc: A, inside: bool, trees: &[Tree<'a, A>]) -> Result<Vec<Statement<'a, A>, A>, TextFault<'a>>
+fn statements<'a, A: Allocator + Copy>(
+    alloc: A,
+    inside: bool,
+    trees: &[Tree<'a, A>],
+) -> Result<Vec<Statement<'a, A>, A>, TextFault<'a>>
     requires lists { IsTrue (are_lists (trees_of trees.now)) }
     ensures ok { IfOk result (λ found. Shapes inside (trees_of trees.now) (statements_of found.items)) }
     ensures err { IfErr result (λ fault. FaultIs fault (IsFirstAmong inside (trees_of trees.now))) }
@@ -138,7 +158,10 @@ fn statements<'a, A: Allocator + Copy>(alloc: A, inside: bool, trees: &[Tree<'a,
 /// are this project's own choice: a list without a first word, a first word that is no keyword, a list that doesn't
 /// fit its form, a block, class, common, `classcommon` or `classorder` inside an optional, a word that isn't spelt
 /// as a name, and a reserved word. Of several the one at the least offset is answered.
-pub fn shape<'a, A: Allocator + Copy>(alloc: A, forest: Forest<'a, A>) -> Result<Module<'a, A>, TextFault<'a>>
+pub fn shape<'a, A: Allocator + Copy>(
+    alloc: A,
+    forest: Forest<'a, A>,
+) -> Result<Module<'a, A>, TextFault<'a>>
     ensures ok { IfOk result (λ found. Shapes false (trees_of forest.entry.trees.items) (statements_of found.statements.items)) }
     ensures err { IfErr result (λ fault. FaultIs fault (IsFirstShapeFault (trees_of forest.entry.trees.items))) }
 {

@@ -1,10 +1,10 @@
-use Rattle.std.proofs.Common.{◌≡◌, ◌∙◌, ◌+◌, ◌≤◌, length, drop, ap, sym, subst, refl, inl, rules, arith, codes, bytes_eq}
+use Rattle.std.proofs.Common.{◌≡◌, ◌∙◌, ◌+◌, ◌≤◌, length, drop, ap, sym, subst, refl, inl, rules, arith, codes}
 use denote.Param.Weighed.{most}
 use Rattle.std.proofs.lemmas.Result.{IfOk-weaker}
 use Rattle.std.proofs.lemmas.Slice.Eq.{bytes_eq-Decides}
 use Rattle.std.proofs.lemmas.List.{drop_all}
 use Rattle.cil_specs.specs.Trees.{none, a_word, a_list}
-use Rattle.cil_specs.specs.Expr.{opposite, both, either, one_of, HasNoOperator, Lists, Expresses}
+use Rattle.cil_specs.specs.Expr.{opposite, both, either, one_of, Expresses}
 use Rattle.cil_specs.proofs.ExprLemmas.{string_spells, union_spelt, union_is, no_not, no_and, no_or, no_xor}
 use Rattle.cil_text.specs.Image.{place_of, trees_of, tree_then, expr_of}
 use Rattle.cil_text.specs.Expr.{operator_word, exprs_of, SpellsExpr, SpellsElements, SpellsOperation, SpellsOne, SpellsTwo}
@@ -89,7 +89,7 @@ pub one_operand-returns-in_default : goal.one_operand-returns-in_default
 one_operand-returns-in_default g t c e h =
     let one : length c.args.operands.now ≡ 1 = one_tree c.args.operands.now e h in
     elim c.in_default.branch [
-        one_operand-in_default-via-then-operands-lt1 w ↦ absurd (grind arith)
+      | one_operand-in_default-via-then-operands-lt1 w ↦ absurd (grind arith)
       | one_operand-in_default-via-else-operands-lt1+else-operands-lt2 w ↦ absurd (grind arith)
     ]
 
@@ -151,7 +151,7 @@ pub two_operands-returns-in_default : goal.two_operands-returns-in_default
 two_operands-returns-in_default g t c x y second h k =
     let two : length c.args.operands.now ≡ 2 = two_trees c.args.operands.now x y second h k in
     elim c.in_default.branch [
-        two_operands-in_default-via-then-operands-lt2 w ↦ absurd (grind arith)
+      | two_operands-in_default-via-then-operands-lt2 w ↦ absurd (grind arith)
       | two_operands-in_default-via-else-operands-lt2+else-operands-lt3 w ↦ absurd (grind arith)
     ]
 
@@ -170,11 +170,12 @@ two_operands-returns g t c =
     let last = c.y-item.result in
     let two = pair_trees c.args.operands.now first last (omega arith) c.x-item.is c.y-item.is in
     let x = subst (SpellsExpr (tree_then first)) c.in-Some.is c.in_ok-x.ensures in
-    let y = subst (SpellsExpr (tree_then last)) c.in-Some-2.is c.in_ok-y.ensures in
-    (tree_then last none,
-        subst (λ x. Expresses (trees_of c.args.operands.now) (expr_of x) (tree_then last none)) (sym c.in_ok-new.ensures.ok)
-        (subst (λ trees. Expresses trees (expr_of c.in-Some.x) (tree_then last none)) (sym two) (x (tree_then last none))),
-        subst (λ y. Expresses (tree_then last none) (expr_of y) none) (sym c.in_ok-new-2.ensures.ok) (y none))
+    let y = subst (SpellsExpr (tree_then last)) c.in-Some-2.is c.in_ok-y.ensures in (
+      tree_then last none,
+      subst (λ x. Expresses (trees_of c.args.operands.now) (expr_of x) (tree_then last none)) (sym c.in_ok-new.ensures.ok)
+          (subst (λ trees. Expresses trees (expr_of c.in-Some.x) (tree_then last none)) (sym two) (x (tree_then last none))),
+      subst (λ y. Expresses (tree_then last none) (expr_of y) none) (sym c.in_ok-new-2.ensures.ok) (y none),
+    )
 
 pub list_expression-returns-in-Some-2 : goal.list_expression-returns-in-Some-2
 list_expression-returns-in-Some-2 g t c at end rest =

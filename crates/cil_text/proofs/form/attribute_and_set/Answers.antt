@@ -1,4 +1,4 @@
-use Rattle.std.proofs.Common.{◌≡◌, ◌∙◌, sym, subst, refl, length, arith}
+use Rattle.std.proofs.Common.{◌≡◌, ◌∙◌, sym, subst, length, arith}
 use Rattle.cil_specs.specs.Trees.{none}
 use Rattle.cil_specs.specs.Expr.{Expresses}
 use Rattle.cil_specs.proofs.FormSame.{put_same}
@@ -14,7 +14,7 @@ returns-in_default-rest g c attribute set expr h k =
     let same = put_same (word_of c.in-Some.attribute) attribute (trees_of rest) set (sym c.in-Some.ensures.word ∙ h) in
     let one : length rest ≡ 1 = one_tree rest expr (subst (λ set. Expresses set expr none) (sym same.1) k) in
     elim c.in_default-rest.branch [
-        in_default-rest-via-then-rest-lt1 w ↦ absurd (grind arith)
+      | in_default-rest-via-then-rest-lt1 w ↦ absurd (grind arith)
       | in_default-rest-via-else-rest-lt1+else-rest-lt2 w ↦ absurd (grind arith)
     ]
 

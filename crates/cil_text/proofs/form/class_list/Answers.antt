@@ -1,4 +1,3 @@
-use Rattle.cil_text.specs.Image.{trees_of}
 use Rattle.cil_text.proofs.form.class_list.Goals as goal
 
 pub returns-in-None : goal.returns-in-None

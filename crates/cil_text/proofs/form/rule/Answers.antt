@@ -16,8 +16,8 @@ returns-in_default-split_word g c place form inner h =
     let p = fits_parts place (rule_word kind) operands form inner h in
     no_rule kind operands inner form
     (λ source target the_class permissions k.
-        let last = rule_last operands (trees_of c.in-Some.rest.now) (word_of c.in-Some.source) source target the_class permissions kind c.in-Some.ensures.word k in
-        c.in_default-split_word.ensures.word last.0 last.1 last.2) p.0 p.1
+    let last = rule_last operands (trees_of c.in-Some.rest.now) (word_of c.in-Some.source) source target the_class permissions kind c.in-Some.ensures.word k in
+    c.in_default-split_word.ensures.word last.0 last.1 last.2) p.0 p.1
 
 pub returns-in-Some-2 : goal.returns-in-Some-2
 returns-in-Some-2 g c =
@@ -25,11 +25,20 @@ returns-in-Some-2 g c =
     let last = trees_of c.in-Some-split_word.rest.now in
     let targets = trees_of c.in-Some.rest.now in
     let named = c.in-Some-split_word.ensures.word in
-    let found = c.in-Some-2 in
-    (refl, λ place. fits_from place operands
-        (rule (rule_kind_of c.args.kind) (word_of c.in-Some.source) (target_of c.target_at.result) (word_of found.class) (map word_of found.permissions.items)) none
-        ((targets, last, c.in-Some.ensures.word, subst (λ trees. IsTargetThen trees (target_of c.target_at.result) last) (sym named) (c.target_at.ensures last),
-        subst (AreClassAndPermissions last) found.is c.in_ok-class.ensures), refl))
+    let found = c.in-Some-2 in (
+      refl,
+      λ place. fits_from place operands
+          (rule (rule_kind_of c.args.kind) (word_of c.in-Some.source) (target_of c.target_at.result) (word_of found.class) (map word_of found.permissions.items)) none (
+            (
+              targets,
+              last,
+              c.in-Some.ensures.word,
+              subst (λ trees. IsTargetThen trees (target_of c.target_at.result) last) (sym named) (c.target_at.ensures last),
+              subst (AreClassAndPermissions last) found.is c.in_ok-class.ensures,
+            ),
+            refl,
+          ),
+    )
 
 pub returns-in-None : goal.returns-in-None
 returns-in-None g c place form inner h =
@@ -40,6 +49,6 @@ returns-in-None g c place form inner h =
     let other = subst (AreClassAndPermissions behind) c.in-None.is c.in_ok-class.ensures in
     no_rule kind operands inner form
     (λ source target the_class permissions k.
-        let last = rule_last operands (trees_of c.in-Some.rest.now) (word_of c.in-Some.source) source target the_class permissions kind c.in-Some.ensures.word k in
-        let same = put_same last.0 (word_of c.in-Some-split_word.target) last.1 behind (sym last.2 ∙ c.in-Some-split_word.ensures.word) in
-        other the_class permissions (subst (λ trees. IsClassAndPermissions trees the_class permissions) same.1 last.3)) p.0 p.1
+    let last = rule_last operands (trees_of c.in-Some.rest.now) (word_of c.in-Some.source) source target the_class permissions kind c.in-Some.ensures.word k in
+    let same = put_same last.0 (word_of c.in-Some-split_word.target) last.1 behind (sym last.2 ∙ c.in-Some-split_word.ensures.word) in
+    other the_class permissions (subst (λ trees. IsClassAndPermissions trees the_class permissions) same.1 last.3)) p.0 p.1

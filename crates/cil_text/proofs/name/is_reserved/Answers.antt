@@ -1,7 +1,6 @@
-use Rattle.std.proofs.Common.{◌≡◌, bytes_eq, rules, tests}
+use Rattle.std.proofs.Common.{bytes_eq, rules, tests}
 use Rattle.std.proofs.lemmas.Iterator.Search.{any_from_yields_List}
 use Rattle.std.proofs.lemmas.Iterator.{YieldsList-from_slice}
-use Rattle.cil_specs.specs.Names.{reserved_words}
 use Rattle.cil_text.proofs.name.is_reserved.Goals as goal
 
 pub returns : goal.returns

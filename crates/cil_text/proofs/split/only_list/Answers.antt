@@ -1,4 +1,4 @@
-use Rattle.std.proofs.Common.{◌≡◌, sym, subst, MatchOption}
+use Rattle.std.proofs.Common.{sym, subst, MatchOption}
 use Rattle.cil_specs.specs.Trees.{Trees, none}
 use Rattle.cil_specs.specs.Expr.{IsListThen}
 use Rattle.cil_specs.proofs.FormSame.{list_same}

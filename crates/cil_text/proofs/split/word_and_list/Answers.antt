@@ -1,4 +1,4 @@
-use Rattle.std.proofs.Common.{◌≡◌, ◌∙◌, sym, subst}
+use Rattle.std.proofs.Common.{◌∙◌, sym, subst}
 use Rattle.cil_specs.specs.Shape.{IsWordList}
 use Rattle.cil_specs.proofs.FormSame.{put_same}
 use Rattle.cil_text.specs.Image.{trees_of, word_of}

@@ -1,4 +1,4 @@
-use Rattle.std.proofs.Common.{◌≡◌, ◌+◌, drop, sym, subst}
+use Rattle.std.proofs.Common.{◌+◌, drop, sym, subst}
 use Rattle.std.proofs.lemmas.List.{drop_all}
 use Rattle.cil_text.specs.Image.{trees_of, tree_then}
 use Rattle.cil_text.proofs.Elements.{at_tree}

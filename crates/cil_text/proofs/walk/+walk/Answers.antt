@@ -1,4 +1,4 @@
-use Rattle.std.proofs.Common.{◌≡◌, ◌∙◌, ◌+◌, ◌≤◌, ◌<◌, ◌||◌, IsTrue, drop, sym, ap, subst, arith}
+use Rattle.std.proofs.Common.{◌≡◌, ◌∙◌, ◌+◌, ◌≤◌, ◌||◌, IsTrue, drop, sym, ap, subst, arith}
 use denote.Param.Weighed.{most}
 use Rattle.std.proofs.lemmas.List.{drop_all}
 use Rattle.cil_specs.specs.Trees.{are_lists}
@@ -75,7 +75,7 @@ statements-returns-in_err-statement-clause-err g t c =
     handed_on (IsFirstAmong c.args.inside (trees_of trees)) c.from_residual-in_err-statement.result c.in_err-statement.field-0.0 c.from_residual-in_err-statement.ensures.1
     (fault_weaker (IsFirstOf c.args.inside (place_of list.at) parts) (IsFirstAmong c.args.inside (trees_of trees)) c.in_err-statement.field-0.0
     (λ fault h. found_fault c.args.inside (trees_of trees) (place_of list.at) list.end parts rest c.loop-tree.found.items fault
-        (subst (λ rest. AreFound c.args.inside (trees_of trees) rest c.loop-tree.found.items) front c.loop-tree.invariant) h) found)
+    (subst (λ rest. AreFound c.args.inside (trees_of trees) rest c.loop-tree.found.items) front c.loop-tree.invariant) h) found)
 
 pub statements-loop-tree-preserved : goal.statements-loop-tree-preserved
 statements-loop-tree-preserved g t c =

@@ -1,8 +1,5 @@
-use Rattle.std.proofs.Common.{◌≡◌, ◌+◌, ◌∙◌, ◌&&◌, not, sym, ap, subst, refl, true, false, drop, IsTrue}
-use Rattle.std.proofs.lemmas.Bool.{and_parts, not-false}
+use Rattle.std.proofs.Common.{◌+◌, ◌∙◌, sym, ap, subst, drop, IsTrue}
 use Rattle.std.proofs.lemmas.List.{drop-drop}
-use Rattle.std.proofs.lemmas.Result.{err_from_is_err_and}
-use Rattle.cil_specs.specs.TextFault.{misshapen, not_in_optional}
 use Rattle.cil_specs.specs.Statements.{words_of}
 use Rattle.cil_specs.specs.Shape.{is_among, keywords, outside_optionals, put_word, Fits, IsAllowed}
 use Rattle.cil_text.specs.Image.{place_of, word_of, trees_of, FaultIs}
@@ -63,11 +60,11 @@ returns-in_err-check_statement-clause-err g c =
     let form = form_of c.in-Some-2.statement in
     let fits = subst (FitsAs at keyword operands) c.in-Some-2.is c.in_ok-statement.ensures in
     let allowed = λ (within : IsTrue c.args.inside).
-        ap (is_among outside_optionals) spelt ∙ allowed_by c.args.inside (is_among outside_optionals (spelling keyword)) c.may_stand.result c.may_stand.ensures c.if-not-may_stand.false within in
+    ap (is_among outside_optionals) spelt ∙ allowed_by c.args.inside (is_among outside_optionals (spelling keyword)) c.may_stand.result c.may_stand.ensures c.if-not-may_stand.false within in
     handed_on (IsFirstOf c.args.inside at parts) c.from_residual-in_err-check_statement.result c.in_err-check_statement.field-0.0 c.from_residual-in_err-check_statement.ensures.1
     (found_is (IsFirstBad (words_of form)) (IsFirstOf c.args.inside at parts) c.in_err-check_statement.field-0.0
     (λ fault bad. bad_word_first c.args.inside at parts first operands form (inner_of form operands) fault c.in-Some.ensures.word
-        (fits_word first operands keyword form (inner_of form operands) spelt (fits.1 first.at)) allowed bad) c.in_err-check_statement.ensures)
+    (fits_word first operands keyword form (inner_of form operands) spelt (fits.1 first.at)) allowed bad) c.in_err-check_statement.ensures)
 
 pub returns-clause-ok : goal.returns-clause-ok
 returns-clause-ok g c =
@@ -80,7 +77,7 @@ returns-clause-ok g c =
     let form = form_of c.in-Some-2.statement in
     let fits = subst (FitsAs at keyword operands) c.in-Some-2.is c.in_ok-statement.ensures in
     let allowed = λ (within : IsTrue c.args.inside).
-        ap (is_among outside_optionals) spelt ∙ allowed_by c.args.inside (is_among outside_optionals (spelling keyword)) c.may_stand.result c.may_stand.ensures c.if-not-may_stand.false within in
+    ap (is_among outside_optionals) spelt ∙ allowed_by c.args.inside (is_among outside_optionals (spelling keyword)) c.may_stand.result c.may_stand.ensures c.if-not-may_stand.false within in
     record {
       place = fits.0;
       fits =

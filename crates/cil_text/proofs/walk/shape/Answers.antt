@@ -1,4 +1,4 @@
-use Rattle.std.proofs.Common.{subst, sym, ◌∙◌, ap, false}
+use Rattle.std.proofs.Common.{subst, false}
 use Rattle.cil_specs.specs.Statements.{word_offsets}
 use Rattle.cil_specs.specs.Shape.{Shapes, IsFirstShapeFault}
 use Rattle.cil_specs.proofs.OrderLemmas.{rise_from_is}
