@@ -1,5 +1,5 @@
 pub mod NameLemmas
-pub mod KeywordLemmas
+pub mod Tables
 pub mod Rows
 pub mod Elements
 pub mod Spells
