@@ -2,7 +2,7 @@
 use Rattle.std.proofs.Common.{◌≡◌, ℕ, inl, inr, List, [], ◌∷◌, sym, ◌∙◌, ap, subst, refl, false, codes, bytes_eq}
 use Rattle.cil_specs.specs.Names.{Word}
 use Rattle.cil_specs.specs.Trees.{Trees, none}
-use Rattle.cil_specs.specs.Expr.{Expr, IsListThen, Expresses}
+use Rattle.cil_specs.specs.Expr.{IsListThen, Expresses}
 use Rattle.cil_specs.specs.Statements.{RuleKind, allow, auditallow, dontaudit, neverallow, rule_word, Target, itself, the_named, Form, block, optional, type_name, type_alias, alias_actual, type_attribute, attribute_set, common, class, class_common, class_order, rule}
 use Rattle.cil_specs.specs.Shape.{put_word, all_words, IsWordList, IsTargetThen, IsClassList, IsClassAndPermissions, Fits}
 use Rattle.cil_specs.proofs.ExprLemmas.{apart}
@@ -94,32 +94,6 @@ no_optional operands inner (optional id) other is h = other id inner h
 no_optional operands inner (rule kind source target the_class permissions) other is h = not_rule _ kind refl refl refl refl is
 no_optional operands inner _ other is h = apart _ _ refl is
 
-pub no_type : (operands inner : Trees) (form : Form) → ((id : Word) → operands ≡ put_word id none → ⊥) → codes "type" ≡ first_word form → OperandsFit operands form inner → ⊥
-no_type operands inner (type_name id) other is h = other id h.0
-no_type operands inner (rule kind source target the_class permissions) other is h = not_rule _ kind refl refl refl refl is
-no_type operands inner _ other is h = apart _ _ refl is
-
-pub no_type_alias : (operands inner : Trees) (form : Form) → ((id : Word) → operands ≡ put_word id none → ⊥) → codes "typealias" ≡ first_word form → OperandsFit operands form inner → ⊥
-no_type_alias operands inner (type_alias id) other is h = other id h.0
-no_type_alias operands inner (rule kind source target the_class permissions) other is h = not_rule _ kind refl refl refl refl is
-no_type_alias operands inner _ other is h = apart _ _ refl is
-
-pub no_alias_actual : (operands inner : Trees) (form : Form) → ((v w : Word) → operands ≡ put_word v (put_word w none) → ⊥) → codes "typealiasactual" ≡ first_word form → OperandsFit operands form inner → ⊥
-no_alias_actual operands inner (alias_actual v w) other is h = other v w h.0
-no_alias_actual operands inner (rule kind source target the_class permissions) other is h = not_rule _ kind refl refl refl refl is
-no_alias_actual operands inner _ other is h = apart _ _ refl is
-
-pub no_type_attribute : (operands inner : Trees) (form : Form) → ((id : Word) → operands ≡ put_word id none → ⊥) → codes "typeattribute" ≡ first_word form → OperandsFit operands form inner → ⊥
-no_type_attribute operands inner (type_attribute id) other is h = other id h.0
-no_type_attribute operands inner (rule kind source target the_class permissions) other is h = not_rule _ kind refl refl refl refl is
-no_type_attribute operands inner _ other is h = apart _ _ refl is
-
-pub no_attribute_set : (operands inner : Trees) (form : Form) → ((attribute : Word) (expr : Expr) → OperandsFit operands (attribute_set attribute expr) none → ⊥) → codes "typeattributeset" ≡ first_word form
-    → OperandsFit operands form inner → ⊥
-no_attribute_set operands inner (attribute_set attribute expr) other is h = other attribute expr (h.0, refl)
-no_attribute_set operands inner (rule kind source target the_class permissions) other is h = not_rule _ kind refl refl refl refl is
-no_attribute_set operands inner _ other is h = apart _ _ refl is
-
 pub no_common : (operands inner : Trees) (form : Form) → ((id : Word) (permissions : List Word) → IsNameAndList operands id permissions → ⊥) → codes "common" ≡ first_word form → OperandsFit operands form inner → ⊥
 no_common operands inner (common id permissions) other is h = other id permissions h.0
 no_common operands inner (rule kind source target the_class permissions) other is h = not_rule _ kind refl refl refl refl is
@@ -129,11 +103,6 @@ pub no_class : (operands inner : Trees) (form : Form) → ((id : Word) (permissi
 no_class operands inner (class id permissions) other is h = other id permissions h.0
 no_class operands inner (rule kind source target the_class permissions) other is h = not_rule _ kind refl refl refl refl is
 no_class operands inner _ other is h = apart _ _ refl is
-
-pub no_class_common : (operands inner : Trees) (form : Form) → ((v w : Word) → operands ≡ put_word v (put_word w none) → ⊥) → codes "classcommon" ≡ first_word form → OperandsFit operands form inner → ⊥
-no_class_common operands inner (class_common v w) other is h = other v w h.0
-no_class_common operands inner (rule kind source target the_class permissions) other is h = not_rule _ kind refl refl refl refl is
-no_class_common operands inner _ other is h = apart _ _ refl is
 
 pub no_class_order : (operands inner : Trees) (form : Form) → ((classes : List Word) → IsClassList operands classes → ⊥) → codes "classorder" ≡ first_word form → OperandsFit operands form inner → ⊥
 no_class_order operands inner (class_order classes) other is h = other classes h.0

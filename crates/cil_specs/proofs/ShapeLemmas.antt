@@ -1,5 +1,5 @@
 -- Statements and shape faults: trees have not both, and where the faults stand.
-use Rattle.std.proofs.Common.{◌≡◌, ℕ, ◌+◌, ◌-◌, ◌<◌, ◌⊎◌, inl, inr, Bool, true, false, ◌||◌, List, [], ◌∷◌, ◌++◌, length, map, get_or, zero, suc, Some, sym, ◌∙◌, ap, subst, refl, codes, bytes_eq, IsTrue, Contains, arith}
+use Rattle.std.proofs.Common.{◌≡◌, ℕ, ◌+◌, ◌-◌, ◌<◌, ◌⊎◌, inl, inr, Bool, true, false, ◌||◌, List, [], ◌∷◌, ◌++◌, length, map, get_or, zero, suc, Some, sym, ◌∙◌, ap, subst, refl, bytes_eq, IsTrue, Contains, arith}
 use Rattle.std.specs.List.{list_any, AllByRecursion}
 use Rattle.std.proofs.lemmas.Bool.{true≢false, or_cases}
 use Rattle.std.proofs.lemmas.Slice.Eq.{bytes_eq-Decides}
@@ -8,7 +8,7 @@ use Rattle.cil_specs.specs.TextFault.{TextFaultKind, TextFault}
 use Rattle.cil_specs.specs.Names.{Word, Role, name_fault}
 use Rattle.cil_specs.specs.Trees.{Trees, none, a_word, a_list, are_lists, in_order}
 use Rattle.cil_specs.specs.Statements.{allow, auditallow, dontaudit, neverallow, Form, block, optional, type_name, type_alias, alias_actual, type_attribute, attribute_set, common, class, class_common, class_order, rule, words_of, is_optional, Statements, no_more, statement, word_offsets}
-use Rattle.cil_specs.specs.Shape.{Fits, keywords, outside_optionals, is_among, IsGoodWord, IsAllowed, Shapes, IsWordFault, no_keyword, no_fit, in_optional, no_name, IsListFault, holds_others, IsShapeFault, IsInnerFault, IsBodyFault}
+use Rattle.cil_specs.specs.Shape.{Fits, keywords, outside_optionals, is_among, IsGoodWord, IsAllowed, Shapes, IsWordFault, no_keyword, no_fit, in_optional, no_name, IsListFault, IsShapeFault, IsInnerFault, IsBodyFault}
 use Rattle.cil_specs.proofs.FormLemmas.{first_word, OperandsFit, fits_begin, fits_parts}
 use Rattle.cil_specs.proofs.FormSame.{fits_same}
 use Rattle.cil_specs.proofs.OrderLemmas.{RiseTo, rise_join, rise_wide, role_offset, order_none, order_word, order_list, words_rise}
@@ -52,14 +52,6 @@ among_both (word ∷ words) others text all h = by (or_cases (bytes_eq text word
 -- the words that no optional may hold are keywords
 pub outside_keyword : (text : List ℕ) → is_among outside_optionals text ≡ true → is_among keywords text ≡ true
 outside_keyword text h = among_both outside_optionals keywords text (refl, (refl, (refl, (refl, (refl, tt))))) h
-
--- so are those of statements that hold others
-pub holder_keyword : (text : List ℕ) → IsTrue (holds_others text) → is_among keywords text ≡ true
-holder_keyword text h = by (or_cases (bytes_eq text (codes "block")) (bytes_eq text (codes "optional")) h)
-  where
-    by : (bytes_eq text (codes "block") ≡ true) ⊎ (bytes_eq text (codes "optional") ≡ true) → is_among keywords text ≡ true
-    by (inl same) = ap (is_among keywords) ((bytes_eq-Decides text (codes "block")).0 same)
-    by (inr same) = ap (is_among keywords) ((bytes_eq-Decides text (codes "optional")).0 same)
 
 -- a good word has no fault
 good_word : (role : Role) (word : Word) (kind : TextFaultKind) → IsGoodWord (role, word) → name_fault role word.text ≡ Some kind → ⊥

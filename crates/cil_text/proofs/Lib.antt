@@ -4,7 +4,7 @@ pub mod Going
 pub mod Ends
 pub mod Pieces
 pub mod NameLemmas
-pub mod KeywordLemmas
+pub mod Tables
 pub mod Rows
 pub mod Elements
 pub mod Spells

@@ -1,11 +1,13 @@
 -- What the front of trees spells, as the code finds it.
-use Rattle.std.proofs.Common.{◌≡◌, ℕ, ◌≤◌, ◌==◌, Bool, true, false, List, [], ◌∷◌, length, drop, Option, refl, sym, ◌∙◌, ap, subst, bytes_eq, arith, rules, tests}
+use Rattle.std.proofs.Common.{◌≡◌, ◌≢◌, ℕ, ◌≤◌, ◌==◌, Bool, true, false, List, [], ◌∷◌, length, drop, Option, refl, sym, ◌∙◌, ap, subst, bytes_eq, arith, rules, tests}
 use denote.Param.Weighed.{most}
 use Rattle.std.specs.List.{list_any}
 use Rattle.cil_specs.specs.Place.{Place}
-use Rattle.cil_specs.specs.Trees.{Trees, none, a_word, a_list}
+use Rattle.cil_specs.specs.Trees.{Trees, none, a_word, a_string, a_list}
+use Rattle.cil_specs.specs.Names.{Word}
+use Rattle.cil_specs.specs.Shape.{put_word}
 use Rattle.cil_specs.specs.Expr as spec
-use Rattle.cil_specs.specs.Expr.{every, operators, Expresses, Lists}
+use Rattle.cil_specs.specs.Expr.{every, operators, Expresses, Lists, HasNoOperator}
 use Rattle.cil_specs.proofs.ExprLemmas.{operator_of, AreOperands, operation_spelt, operation_is, no_all}
 use Rattle.cil_text.specs.Image.{trees_of}
 use Rattle.cil_text.specs.Expr.{operator_word, SpellsOperation}
@@ -21,6 +23,13 @@ use Rattle.cil_text.specs.declared.statement.Expr.{Expr}
 pub most-tail : {X : Type 0} (μ : X → ℕ) (xs : List X) → most μ (drop 1 xs) ≤ most μ xs
 most-tail μ [] = omega arith
 most-tail μ (x ∷ xs) = omega arith
+
+-- where no word stands first, no operator does
+pub no_word_first : (trees : Trees) → ((word : Word) (rest : Trees) → trees ≢ put_word word rest) → HasNoOperator trees
+no_word_first none no_word = tt
+no_word_first (a_word at text rest) no_word = absurd (no_word (record { at = at; text = text }) rest refl)
+no_word_first (a_string at text rest) no_word = tt
+no_word_first (a_list at end items rest) no_word = tt
 
 is_operator : (o : Operator) → list_any (bytes_eq (operator_word o)) operators ≡ true
 is_operator And = refl

@@ -28,9 +28,6 @@ words_then-none : (ws : List spec.Word) → words_then ws none ≡ all_words ws
 words_then-none [] = refl
 words_then-none (w ∷ ws) = ap (put_word w) (words_then-none ws)
 
-pub words_first : (all : Trees) → AreSoFar all all []
-words_first all = record { front = refl }
-
 pub words_next : {A : Type 0} → (all rest : Trees) (found : List Word) (tree : Tree A) (w : Word) → tree ≡ trees.Word w → AreSoFar all (tree_then tree rest) found → AreSoFar all rest (found ++ w ∷ [])
 words_next all rest found tree w is so_far = record {
   front =

@@ -26,6 +26,7 @@ pub fn fault_at(kind: TextFaultKind, word: Word) -> TextFault
     }
 }
 
+/// Finds what is wrong with a word in this role.
 fn check_word(role: Role, word: Word) -> Result<(), TextFault>
     ensures { Checks ((role_of role, word_of word.entry) ∷ []) result }
 {
@@ -56,7 +57,8 @@ fn check_elements<'a, A: Allocator>(elements: &[Expr<'a, A>]) -> Result<(), Text
 
 #[cycle(check)]
 fn check_operands<'a, A: Allocator>(x: &Expr<'a, A>, y: &Expr<'a, A>) -> Result<(), TextFault<'a>>
-    ensures { Checks (map as_referred (named_words (expr_of x.now) ++ named_words (expr_of y.now))) result }
+    ensures { Checks (map as_referred (named_words (expr_of x.now) ++ named_words (expr_of y.now)))
+        result }
 {
     check_expr(x)?;
     check_expr(y)
@@ -87,21 +89,24 @@ fn check_target(target: Target) -> Result<(), TextFault>
 }
 
 fn check_pair<'a>(first: Word<'a>, second: Word<'a>) -> Result<(), TextFault<'a>>
-    ensures { Checks (as_referred (word_of first.entry) ∷ as_referred (word_of second.entry) ∷ []) result }
+    ensures { Checks (as_referred (word_of first.entry) ∷ as_referred (word_of second.entry) ∷ [])
+        result }
 {
     check_word(Role::Referred, first)?;
     check_word(Role::Referred, second)
 }
 
 fn check_set<'a, A: Allocator>(attribute: Word<'a>, expr: &Expr<'a, A>) -> Result<(), TextFault<'a>>
-    ensures { Checks (as_referred (word_of attribute.entry) ∷ map as_referred (named_words (expr_of expr.now))) result }
+    ensures { Checks (as_referred (word_of attribute.entry)
+        ∷ map as_referred (named_words (expr_of expr.now))) result }
 {
     check_word(Role::Referred, attribute)?;
     check_expr(expr)
 }
 
 fn check_permissions<'a>(id: Word<'a>, permissions: &[Word<'a>]) -> Result<(), TextFault<'a>>
-    ensures { Checks (as_declared (word_of id.entry) ∷ map as_declared (map word_of permissions.now)) result }
+    ensures { Checks (as_declared (word_of id.entry)
+        ∷ map as_declared (map word_of permissions.now)) result }
 {
     check_word(Role::Declared, id)?;
     check_words(Role::Declared, permissions)
@@ -113,8 +118,10 @@ fn check_rule<'a>(
     class: Word<'a>,
     permissions: &[Word<'a>],
 ) -> Result<(), TextFault<'a>>
-    ensures { Checks (as_referred (word_of source.entry) ∷ (map as_referred (target_words (target_of target.entry))
-        ++ (as_referred (word_of class.entry) ∷ map as_declared (map word_of permissions.now)))) result }
+    ensures { Checks (as_referred (word_of source.entry)
+        ∷ (map as_referred (target_words (target_of target.entry))
+        ++ (as_referred (word_of class.entry)
+        ∷ map as_declared (map word_of permissions.now)))) result }
 {
     check_word(Role::Referred, source)?;
     check_target(target)?;
@@ -122,7 +129,8 @@ fn check_rule<'a>(
     check_words(Role::Declared, permissions)
 }
 
-/// The first word of a statement that is not as its place asks, but for those of the statements inside it.
+/// Finds the first word of a statement that is not as its place asks, but for those of the
+/// statements inside it.
 pub fn check_statement<'a, A: Allocator>(statement: &Statement<'a, A>) -> Result<(), TextFault<'a>>
     ensures { Checks (words_of (form_of statement.now)) result }
 {

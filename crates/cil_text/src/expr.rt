@@ -7,6 +7,7 @@ ghost use Rattle.cil_specs.specs.Expr.{HasNoOperator};
 ghost use Rattle.cil_text.specs.Image.{trees_of, tree_then};
 ghost use Rattle.cil_text.specs.Expr.{operator_word, SpellsExpr, SpellsElements, SpellsOperation, SpellsOne, SpellsTwo, BeginsOperation};
 
+use crate::split::split_word;
 use crate::statement::Expr;
 use crate::tree::Tree;
 use crate::words::look_up;
@@ -38,13 +39,15 @@ impl Operator {
 
     /// The operator that a word is.
     fn find(text: &[u8]) -> Option<Operator>
-        ensures { MatchOption result (is_among operators text.now ≡ false) (λ operator. text.now ≡ operator_word operator) }
+        ensures { MatchOption result (is_among operators text.now ≡ false)
+            (λ operator. text.now ≡ operator_word operator) }
     {
         look_up(&OPERATORS, text)
     }
 }
 
-/// The expression that a tree spells, if it spells one (CIL Reference Guide, "typeattributeset").
+/// The expression that a tree spells, if it spells one (CIL Reference Guide, "Expressions" and
+/// "typeattributeset"). That `all` and `()` are expressions too is this project's own choice.
 #[cycle(expression)]
 pub fn expression<'a, A: Allocator + Copy>(
     alloc: A,
@@ -69,15 +72,11 @@ pub fn expression<'a, A: Allocator + Copy>(
 fn split_operator<'t, 'a, A: Allocator + Copy>(
     items: &'t [Tree<'a, A>],
 ) -> Option<(Operator, &'t [Tree<'a, A>])>
-    ensures operation { MatchOption result (HasNoOperator (trees_of items.now)) (λ found. BeginsOperation (trees_of items.now) found.0 (trees_of found.1.now)) }
+    ensures operation { MatchOption result (HasNoOperator (trees_of items.now))
+        (λ found. BeginsOperation (trees_of items.now) found.0 (trees_of found.1.now)) }
     ensures rest { IfSome result (λ found. found.1.now ≡ drop 1 items.now) }
 {
-    let [first, operands @ ..] = items else {
-        return None;
-    };
-    let Tree::Word(word) = first else {
-        return None;
-    };
+    let (word, operands) = split_word(items)?;
     Some((Operator::find(word.text)?, operands))
 }
 
@@ -87,7 +86,8 @@ fn list_expression<'a, A: Allocator + Copy>(
     alloc: A,
     items: &[Tree<'a, A>],
 ) -> Result<Option<Expr<'a, A>>, AllocError>
-    ensures { IfOk result (λ found. (at : SpecPlace) (end : ℕ) → SpellsExpr (a_list at end (trees_of items.now)) found) }
+    ensures { IfOk result (λ found. (at : SpecPlace) (end : ℕ)
+        → SpellsExpr (a_list at end (trees_of items.now)) found) }
 {
     if let Some((operator, operands)) = split_operator(items) {
         return operation(alloc, operator, operands);
@@ -106,7 +106,7 @@ fn elements<'a, A: Allocator + Copy>(
 ) -> Result<Option<Vec<Expr<'a, A>, A>>, AllocError>
     ensures { IfOk result (SpellsElements (trees_of trees.now)) }
 {
-    let mut elements = Vec::new(alloc);
+    let mut elements = Vec::with_capacity(alloc, trees.len())?;
     for tree in trees {
         match expression(alloc, tree)? {
             Some(element) => elements.push(element)?,

@@ -1,4 +1,5 @@
-//! Fitting the operands of a statement's first word to its form (CIL Reference Guide, under the word of each).
+//! Fitting the operands of a statement's first word to its form (CIL Reference Guide, under the
+//! word of each).
 
 ghost use Rattle.std.specs.Prelude.{◌≡◌, ◌≢◌, IfOk};
 ghost use Rattle.cil_specs.specs.Trees.{Trees};
@@ -200,7 +201,8 @@ fn class_order<'a, A: Allocator + Copy>(
 
 /// A rule's target: each source itself, or what the word names.
 fn target_at(word: Word) -> Target
-    ensures { (rest : Trees) → IsTargetThen (put_word (word_of word.entry) rest) (target_of result) rest }
+    ensures { (rest : Trees)
+        → IsTargetThen (put_word (word_of word.entry) rest) (target_of result) rest }
 {
     if word.text == b"self".as_slice() {
         Target::Itself

@@ -3,7 +3,8 @@
 use crate::statement::RuleKind;
 use crate::words::look_up;
 
-/// The first word of a statement (CIL Reference Guide, "CIL Statements Quick Reference").
+/// The first word of a statement (CIL Reference Guide, "Container Statements", "Type Statements",
+/// "Class and Permission Statements" and "Access Vector Rules").
 #[derive(Clone, Copy, Debug, PartialEq, Eq)]
 pub enum Keyword {
     Block,
@@ -46,7 +47,8 @@ impl Keyword {
 
     /// The keyword that a word is.
     pub fn find(text: &[u8]) -> Option<Keyword>
-        ensures { MatchOption result (is_among keywords text.now ≡ false) (λ k. text.now ≡ spelling k) }
+        ensures { MatchOption result (is_among keywords text.now ≡ false)
+            (λ keyword. text.now ≡ spelling keyword) }
     {
         look_up(&KEYWORDS, text)
     }

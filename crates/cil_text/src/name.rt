@@ -1,4 +1,5 @@
-//! How names are spelt, and the words that name nothing.
+//! How names are spelt, and the words that name nothing. Names are narrower than in the CIL
+//! Reference Guide ("Declarations"): this is this project's own choice.
 
 ghost use Rattle.std.specs.Prelude.{◌≡◌, ◌==◌};
 ghost use Rattle.std.specs.List.{slice_split, list_all, list_any};
@@ -90,7 +91,8 @@ fn is_spelt(role: Role, text: &[u8]) -> bool
     }
 }
 
-/// What is wrong with a word in such a place: its spelling, or else that it is a reserved word or has one between its dots.
+/// What is wrong with a word in such a place: its spelling, or else that it is a reserved word or
+/// has one between its dots.
 pub fn name_fault(role: Role, text: &[u8]) -> Option<TextFaultKind>
     ensures { kind_option result ≡ name_fault (role_of role) text.now }
 {

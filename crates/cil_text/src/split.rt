@@ -16,7 +16,8 @@ use std::alloc::{AllocError, Allocator};
 pub fn split_word<'t, 'a, A: Allocator>(
     trees: &'t [Tree<'a, A>],
 ) -> Option<(Word<'a>, &'t [Tree<'a, A>])>
-    ensures word { MatchOption result ((word : SpecWord) (rest : Trees) → trees_of trees.now ≢ put_word word rest)
+    ensures word { MatchOption result
+        ((word : SpecWord) (rest : Trees) → trees_of trees.now ≢ put_word word rest)
         (λ found. trees_of trees.now ≡ put_word (word_of found.0) (trees_of found.1.now)) }
     ensures rest { IfSome result (λ found. found.1.now ≡ drop 1 trees.now) }
 {
@@ -33,7 +34,8 @@ pub fn split_word<'t, 'a, A: Allocator>(
 fn split_list<'t, 'a, A: Allocator>(
     trees: &'t [Tree<'a, A>],
 ) -> Option<(&'t [Tree<'a, A>], &'t [Tree<'a, A>])>
-    ensures { MatchOption result ((items rest : Trees) → IsListThen (trees_of trees.now) items rest → ⊥)
+    ensures { MatchOption result
+        ((items rest : Trees) → IsListThen (trees_of trees.now) items rest → ⊥)
         (λ found. IsListThen (trees_of trees.now) (trees_of found.0.now) (trees_of found.1.now)) }
 {
     let [first, rest @ ..] = trees else {
@@ -47,7 +49,8 @@ fn split_list<'t, 'a, A: Allocator>(
 
 /// A word and nothing else.
 pub fn only_word<'a, A: Allocator>(trees: &[Tree<'a, A>]) -> Option<Word<'a>>
-    ensures { MatchOption result ((word : SpecWord) → trees_of trees.now ≢ put_word word none) (λ word. trees_of trees.now ≡ put_word (word_of word) none) }
+    ensures { MatchOption result ((word : SpecWord) → trees_of trees.now ≢ put_word word none)
+        (λ word. trees_of trees.now ≡ put_word (word_of word) none) }
 {
     let (word, rest) = split_word(trees)?;
     if !rest.is_empty() {
@@ -58,8 +61,10 @@ pub fn only_word<'a, A: Allocator>(trees: &[Tree<'a, A>]) -> Option<Word<'a>>
 
 /// Two words and nothing else.
 pub fn two_words<'a, A: Allocator>(trees: &[Tree<'a, A>]) -> Option<(Word<'a>, Word<'a>)>
-    ensures { MatchOption result ((first second : SpecWord) → trees_of trees.now ≢ put_word first (put_word second none))
-        (λ found. trees_of trees.now ≡ put_word (word_of found.0) (put_word (word_of found.1) none)) }
+    ensures { MatchOption result
+        ((first second : SpecWord) → trees_of trees.now ≢ put_word first (put_word second none))
+        (λ found.
+        trees_of trees.now ≡ put_word (word_of found.0) (put_word (word_of found.1) none)) }
 {
     let (first, rest) = split_word(trees)?;
     Some((first, only_word(rest)?))
@@ -67,7 +72,8 @@ pub fn two_words<'a, A: Allocator>(trees: &[Tree<'a, A>]) -> Option<(Word<'a>, W
 
 /// The trees of a list, with nothing behind it.
 pub fn only_list<'t, 'a, A: Allocator>(trees: &'t [Tree<'a, A>]) -> Option<&'t [Tree<'a, A>]>
-    ensures { MatchOption result ((items : Trees) → IsListThen (trees_of trees.now) items none → ⊥)
+    ensures { MatchOption result
+        ((items : Trees) → IsListThen (trees_of trees.now) items none → ⊥)
         (λ items. IsListThen (trees_of trees.now) (trees_of items.now) none) }
 {
     let (items, rest) = split_list(trees)?;
@@ -83,6 +89,7 @@ fn is_list<A: Allocator>(tree: &Tree<A>) -> bool
     matches!(tree, Tree::List { .. })
 }
 
+/// Whether each of the trees is a list.
 pub fn are_lists<A: Allocator>(trees: &[Tree<A>]) -> bool
     ensures { result ≡ are_lists (trees_of trees.now) }
 {

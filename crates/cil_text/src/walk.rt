@@ -35,7 +35,8 @@ fn inner_trees<'t, 'a, A: Allocator>(
     statement: &Statement<'a, A>,
     operands: &'t [Tree<'a, A>],
 ) -> &'t [Tree<'a, A>]
-    ensures trees { trees_of result.now ≡ inner_of (form_of statement.now) (trees_of operands.now) }
+    ensures trees { trees_of result.now
+        ≡ inner_of (form_of statement.now) (trees_of operands.now) }
     ensures part { (k : ℕ) × (result.now ≡ drop k operands.now) }
 {
     if !holds_others(statement) {
@@ -90,9 +91,11 @@ fn heading<'t, 'a, A: Allocator + Copy>(
     at: Place,
     items: &'t [Tree<'a, A>],
 ) -> Result<(Statement<'a, A>, &'t [Tree<'a, A>]), TextFault<'a>>
-    ensures ok { IfOk result (λ found. IsHeading inside (place_of at) (trees_of items.now) found.0 (trees_of found.1.now)) }
+    ensures ok { IfOk result
+        (λ found. IsHeading inside (place_of at) (trees_of items.now) found.0 (trees_of found.1.now)) }
     ensures part { IfOk result (λ found. (k : ℕ) × (found.1.now ≡ drop k items.now)) }
-    ensures err { IfErr result (λ fault. FaultIs fault (IsFirstOf inside (place_of at) (trees_of items.now))) }
+    ensures err { IfErr result
+        (λ fault. FaultIs fault (IsFirstOf inside (place_of at) (trees_of items.now))) }
 {
     let Some((first, operands)) = split_word(items) else {
         return Err(TextFault::Found {
@@ -124,7 +127,8 @@ fn statement<'a, A: Allocator + Copy>(
     items: &[Tree<'a, A>],
 ) -> Result<Statement<'a, A>, TextFault<'a>>
     ensures ok { IfOk result (IsStatement inside (place_of at) (trees_of items.now)) }
-    ensures err { IfErr result (λ fault. FaultIs fault (IsFirstOf inside (place_of at) (trees_of items.now))) }
+    ensures err { IfErr result
+        (λ fault. FaultIs fault (IsFirstOf inside (place_of at) (trees_of items.now))) }
 {
     let (statement, inner) = heading(alloc, inside, at, items)?;
     let body = statements(alloc, is_inside(inside, &statement), inner)?;
@@ -139,8 +143,10 @@ fn statements<'a, A: Allocator + Copy>(
     trees: &[Tree<'a, A>],
 ) -> Result<Vec<Statement<'a, A>, A>, TextFault<'a>>
     requires lists { IsTrue (are_lists (trees_of trees.now)) }
-    ensures ok { IfOk result (λ found. Shapes inside (trees_of trees.now) (statements_of found.items)) }
-    ensures err { IfErr result (λ fault. FaultIs fault (IsFirstAmong inside (trees_of trees.now))) }
+    ensures ok { IfOk result
+        (λ found. Shapes inside (trees_of trees.now) (statements_of found.items)) }
+    ensures err { IfErr result
+        (λ fault. FaultIs fault (IsFirstAmong inside (trees_of trees.now))) }
 {
     let mut found = Vec::with_capacity(alloc, trees.len())?;
     for tree in trees {
@@ -154,16 +160,20 @@ fn statements<'a, A: Allocator + Copy>(
 
 /// The statements that the trees spell, or the first shape fault.
 ///
-/// The forms are those of the CIL Reference Guide for the fifteen words of a `Keyword`; the faults and their order
-/// are this project's own choice: a list without a first word, a first word that is no keyword, a list that doesn't
-/// fit its form, a block, class, common, `classcommon` or `classorder` inside an optional, a word that isn't spelt
-/// as a name, and a reserved word. Of several the one at the least offset is answered.
+/// The forms are those of the CIL Reference Guide under the fifteen words that it knows. The faults
+/// are this project's own choice: `Misshapen` at a list without a first word, `Unsupported` at a
+/// first word that is none of the fifteen, `Misshapen` at that of a list that doesn't fit its form,
+/// `NotInOptional` at a `block`, `class`, `common`, `classcommon` or `classorder` inside an optional
+/// at any depth, `BadName` and `Reserved` at a word in the place of a name. Of several faults the one
+/// at the least offset is answered, and of two there the one of lesser code.
 pub fn shape<'a, A: Allocator + Copy>(
     alloc: A,
     forest: Forest<'a, A>,
 ) -> Result<Module<'a, A>, TextFault<'a>>
-    ensures ok { IfOk result (λ found. Shapes false (trees_of forest.entry.trees.items) (statements_of found.statements.items)) }
-    ensures err { IfErr result (λ fault. FaultIs fault (IsFirstShapeFault (trees_of forest.entry.trees.items))) }
+    ensures ok { IfOk result (λ found.
+        Shapes false (trees_of forest.entry.trees.items) (statements_of found.statements.items)) }
+    ensures err { IfErr result
+        (λ fault. FaultIs fault (IsFirstShapeFault (trees_of forest.entry.trees.items))) }
 {
     let statements = statements(alloc, false, &forest.trees)?;
     Ok(Module { statements })

@@ -20,7 +20,7 @@ use Rattle.cil_text.proofs.expr.+expression.Goals.{one_operand-in_default-via-th
 pub elements-loop-tree-init : goal.elements-loop-tree-init
 elements-loop-tree-init g t c =
     let all = trees_of c.args.trees.now in
-    subst (HasFound all all) (sym c.new-elements.ensures.items) (found_first all)
+    subst (HasFound all all) (sym c.in_ok-elements.ensures.items) (found_first all)
 
 pub elements-returns-in-None : goal.elements-returns-in-None
 elements-returns-in-None g t c =

@@ -1,12 +1,9 @@
 -- Looking a word up in a table.
-use Rattle.std.proofs.Common.{◌≡◌, ℕ, Bool, true, false, cond, ◌&&◌, ◌||◌, List, [], ◌∷◌, map, Bor, refl, sym, ap, subst, ◌∙◌, Option, Some, None, option_map, MatchOption, bytes_eq}
+use Rattle.std.proofs.Common.{◌≡◌, ℕ, Bool, true, false, cond, ◌||◌, List, [], ◌∷◌, map, Bor, refl, sym, ap, subst, ◌∙◌, Option, Some, None, option_map, MatchOption, bytes_eq}
 use Rattle.std.specs.List.{find, list_all, list_any}
+use Rattle.std.proofs.lemmas.Bool.{and_parts}
 use Rattle.std.proofs.lemmas.Slice.Eq.{bytes_eq-Decides}
 use Rattle.cil_text.specs.Words.{LooksUp}
-
-and-parts : (a b : Bool) → (a && b) ≡ true → (a ≡ true) × (b ≡ true)
-and-parts true b h = (refl, h)
-and-parts false b h = absurd cc
 
 -- a word and what it stands for
 abbrev pub Row : Type 0 → Type 0
@@ -30,7 +27,7 @@ module _ {K : Type 0} (spelling : K → List ℕ) where
   finds : (text : List ℕ) (rows : List (Row K)) → are_spelt_so rows ≡ true → Finds text rows (find (λ row. bytes_eq text row.0.now) rows)
   finds text [] spelt = refl
   finds text (row ∷ rows) spelt =
-      let parts = and-parts (bytes_eq row.0.now (spelling row.1)) (are_spelt_so rows) spelt in
+      let parts = and_parts (bytes_eq row.0.now (spelling row.1)) (are_spelt_so rows) spelt in
       finds-next text row rows (find (λ row. bytes_eq text row.0.now) rows) parts.0 (finds text rows parts.1) (bytes_eq text row.0.now) refl
 
   -- what a table holds for a word is spelt so, and where it has nothing the word is none of its words
