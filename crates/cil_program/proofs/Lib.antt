@@ -21,3 +21,4 @@ pub mod MergeLemmas
 pub mod RowLemmas
 pub mod ListingLemmas
 pub mod GroupLemmas
+pub mod LaterLemmas

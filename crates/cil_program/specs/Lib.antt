@@ -15,3 +15,4 @@ pub mod RuleWords
 pub mod Numbering
 pub mod Merge
 pub mod Rows
+pub mod Later
