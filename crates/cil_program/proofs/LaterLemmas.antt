@@ -1,12 +1,15 @@
 -- Statements that are not compiled yet.
-use Rattle.std.proofs.Common.{◌≡◌, ℕ, ◌+◌, ◌-◌, ◌<◌, ◌≤◌, ◌||◌, inl, inr, Bool, true, false, if◌then◌else◌, List, [], ◌∷◌, length, get_or, take, drop, Option, Some, None, Vec, IsTrue, ap, sym, subst, ◌∙◌, refl, arith}
+use Rattle.std.proofs.Common.{◌≡◌, ℕ, ◌+◌, ◌-◌, ◌<◌, ◌≤◌, ◌||◌, inl, inr, Bool, true, false, if◌then◌else◌, List, [], ◌∷◌, length, get_or, take, drop, Option, Some, None, Vec, IsTrue, codes, bytes_eq, ap, sym, subst, ◌∙◌, refl, arith}
 use Rattle.std.proofs.Math.Bool.{or-false}
-use Rattle.std.proofs.lemmas.Bool.{true≢false}
+use Rattle.std.proofs.lemmas.Bool.{true≢false, or_right, and_from, true_from_ne_false}
 use Rattle.cil_specs.specs.Place as spec_place
 use Rattle.cil_specs.specs.Names as spec_names
 use Rattle.cil_specs.specs.TextFault.{TextFault, IsNoLater}
 use Rattle.cil_specs.specs.Trees.{Trees, none, a_word, a_string, a_list, in_order}
-use Rattle.cil_specs.specs.Next.{has_later_word, is_later, IsLaterFault, IsFirstLaterFault}
+use Rattle.cil_specs.specs.Statements.{allow, auditallow, dontaudit, neverallow, itself, the_named, Form, type_name, class, rule, is_optional, Statements, no_more, statement}
+use Rattle.cil_specs.specs.Shape.{Shapes}
+use Rattle.cil_specs.specs.Next.{is_dotted, has_later_word, is_later, IsLaterFault, IsFirstLaterFault, is_compiled_form, is_compiled}
+use Rattle.cil_specs.proofs.FormLemmas.{first_word, OperandsFit, fits_begin}
 use Rattle.cil_specs.proofs.OrderLemmas.{order_word, order_list, order_le}
 use Rattle.cil_text.specs.Image.{place_of, word_of, row_trees, tree_then, trees_of}
 use Rattle.cil_text.specs.declared.place.Place.{Place}
@@ -186,3 +189,45 @@ later_first (a_list at end (a_list place last items more) rest) low high word ot
 -- the word that is found is that of the first fault
 pub first_is : (trees : Trees) (high : ℕ) (word : spec_names.Word) → IsTrue (in_order 0 trees high) → later_word trees ≡ Some word → IsFirstLaterFault trees (fault_at word)
 first_is trees high word order h = record { is = later_is trees word h; first = λ other bad. later_first trees 0 high word other order h bad }
+
+-- a statement that is no class, type or allow rule between two names has a first word or operands that aren't compiled yet
+later_form : (form : Form) (operands inner : Trees) → OperandsFit operands form inner → is_compiled_form form ≡ false → is_later (first_word form) operands ≡ true
+later_form (type_name id) operands inner fits h = absurd (true≢false h)
+later_form (class id permissions) operands inner fits h = absurd (true≢false h)
+later_form (rule allow source (the_named target) the_class permissions) operands inner fits h = absurd (true≢false h)
+later_form (rule allow source itself the_class permissions) operands inner fits h =
+    let targets = fits.0.0 in
+    let has : has_later_word targets ≡ true = ap has_later_word fits.0.3.1 in
+    ap has_later_word fits.0.2 ∙ ap (λ b. (bytes_eq source.text (codes "self") || is_dotted source.text) || b) has ∙ or_right (bytes_eq source.text (codes "self") || is_dotted source.text) true refl
+later_form (rule auditallow source target the_class permissions) operands inner fits h = refl
+later_form (rule dontaudit source target the_class permissions) operands inner fits h = refl
+later_form (rule neverallow source target the_class permissions) operands inner fits h = refl
+later_form _ operands inner fits h = refl
+
+-- statements that are compiled hold no others
+inner_none : (form : Form) (operands inner : Trees) → OperandsFit operands form inner → is_compiled_form form ≡ true → inner ≡ none
+inner_none (type_name id) operands inner fits h = fits.1
+inner_none (class id permissions) operands inner fits h = fits.1
+inner_none (rule allow source (the_named target) the_class permissions) operands inner fits h = fits.1
+inner_none _ operands inner fits h = absurd (true≢false (sym h))
+
+compiled_more : (at : spec_place.Place) (form : Form) (body more : Statements) (inside : Bool) (inner : Trees) → is_compiled_form form ≡ true → inner ≡ none → Shapes inside inner body → is_compiled more ≡ true
+    → is_compiled (statement at form body more) ≡ true
+compiled_more at form no_more more inside inner here empty shapes rest = and_from (is_compiled_form form) (is_compiled more) here rest
+compiled_more at form (statement to other body others) more inside inner here empty shapes rest =
+    absurd (let e : none ≡ a_list to shapes.0 shapes.1 shapes.3 = sym empty ∙ shapes.4 in cc)
+
+-- the statements of trees without a later fault are compiled
+compiled-from : (inside : Bool) (trees : Trees) (statements : Statements) → Shapes inside trees statements → ((fault : TextFault) → IsLaterFault trees fault → ⊥) → is_compiled statements ≡ true
+compiled-from inside trees no_more shapes never = refl
+compiled-from inside trees (statement at form body more) shapes never =
+    let b = fits_begin shapes.1 form shapes.2 shapes.5 in
+    let path : trees ≡ a_list at shapes.0 (a_word b.0 (first_word form) b.1) shapes.3 = shapes.4 ∙ ap (λ parts. a_list at shapes.0 parts shapes.3) b.2 in
+    let never' : (fault : TextFault) → IsLaterFault (a_list at shapes.0 (a_word b.0 (first_word form) b.1) shapes.3) fault → ⊥ = λ fault bad. never fault (subst (λ trees. IsLaterFault trees fault) (sym path) bad) in
+    let here : is_compiled_form form ≡ true = true_from_ne_false (is_compiled_form form)
+    (λ h. never' (fault_at (record { at = b.0; text = first_word form })) (inl (later_form form b.1 shapes.2 b.3 h, refl))) in
+    let rest : is_compiled more ≡ true = compiled-from inside shapes.3 more shapes.9 (λ fault bad. never' fault (inr bad)) in
+    compiled_more at form body more (inside || is_optional form) shapes.2 here (inner_none form b.1 shapes.2 b.3 here) shapes.8 rest
+
+pub compiled_statements : (trees : Trees) (statements : Statements) → Shapes false trees statements → ((fault : TextFault) → IsLaterFault trees fault → ⊥) → is_compiled statements ≡ true
+compiled_statements trees statements shapes never = compiled-from false trees statements shapes never
