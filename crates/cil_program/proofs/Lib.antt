@@ -22,3 +22,4 @@ pub mod RowLemmas
 pub mod ListingLemmas
 pub mod GroupLemmas
 pub mod LaterLemmas
+pub mod ParseLemmas

@@ -3,6 +3,7 @@
 mod call;
 mod compiled;
 mod edit;
+mod parse;
 mod refusal;
 mod runs;
 
