@@ -25,3 +25,5 @@ pub mod StoredLemmas
 pub mod JoinLemmas
 pub mod NumberedRowLemmas
 pub mod PlainLemmas
+pub mod LaterLemmas
+pub mod ParseLemmas

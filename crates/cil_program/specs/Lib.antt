@@ -19,3 +19,4 @@ pub mod Rows
 pub mod Stored
 pub mod Refusing
 pub mod Plain
+pub mod Later

@@ -3,6 +3,7 @@
 mod declarations;
 pub mod fault;
 pub mod joined;
+pub mod later;
 mod name_set;
 mod numbering;
 mod placed;

@@ -8,6 +8,7 @@ mod join;
 mod modules;
 mod parse;
 mod plain;
+mod parse;
 mod refusal;
 mod refusing;
 mod runs;
