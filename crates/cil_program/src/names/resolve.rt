@@ -76,7 +76,7 @@ fn module_names<'a, A: Allocator + Copy>(
 ) -> Result<Vec<Text<A>, A>, AllocError>
     ensures { IfOk result (λ names. names.items ≡ map (λ m. m.name.now) joined.now.modules.items) }
 {
-    let mut names = Vec::new(alloc);
+    let mut names = Vec::with_capacity(alloc, joined.modules.len())?;
     for named in &joined.modules {
         names.push(Text::of(alloc, named.name)?)?;
     }
