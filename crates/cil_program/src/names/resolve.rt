@@ -11,6 +11,9 @@ ghost use Rattle.cil_program.specs.Image.{modules_of, rules_of, PolicyFaultIs};
 ghost use Rattle.cil_program.specs.Numbering.{worded_rules};
 ghost use Rattle.cil_program.specs.Placed.{policy_of, AreNumbered};
 
+#[cfg(test)]
+mod tests;
+
 use crate::names::declarations::Declarations;
 use crate::names::fault::PolicyFault;
 use crate::names::joined::Joined;
