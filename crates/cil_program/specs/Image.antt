@@ -1,5 +1,5 @@
 -- The values of the definitions that those of the code stand for.
-use Rattle.std.specs.Prelude.{ℕ, List, [], ◌∷◌, map, slice_index_or}
+use Rattle.std.specs.Prelude.{ℕ, List, [], map, slice_index_or}
 use Rattle.cil_specs.specs.Joined as spec_joined
 use Rattle.cil_specs.specs.PolicyFault as spec_faults
 use Rattle.cil_specs.specs.PolicyFault.{twice, missing}
