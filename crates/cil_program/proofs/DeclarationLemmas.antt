@@ -1,19 +1,18 @@
 -- What the statements of a flat policy declare is what the definitions find there.
-use Rattle.std.proofs.Common.{◌≡◌, ◌⊎◌, inl, inr, ℕ, Bool, true, false, not, ◌&&◌, ◌||◌, List, [], ◌∷◌, ◌++◌, map, fold, Option, Some, None, is_some, bytes_eq, cond, if◌then◌else◌, refl, sym, ap, ◌∙◌, subst, true≢false, Contains}
-use Rattle.std.specs.List.{list_any, list_all, AllByRecursion}
+use Rattle.std.proofs.Common.{◌≡◌, ℕ, Bool, true, false, ◌&&◌, ◌||◌, List, [], ◌∷◌, ◌++◌, Option, Some, None, is_some, bytes_eq, cond, if◌then◌else◌, refl, sym, ap, ◌∙◌, true≢false}
+use Rattle.std.specs.List.{list_any, list_all}
 use Rattle.std.specs.Map.{lookup}
 use Rattle.std.proofs.lemmas.List.Folds.{list_any-append}
 use Rattle.std.proofs.lemmas.Cmp.{nat_list_eq_equiv}
 use Rattle.cil_specs.specs.Names.{Word}
-use Rattle.cil_specs.specs.Expr.{Expr}
-use Rattle.cil_specs.specs.Statements.{RuleKind, allow, auditallow, dontaudit, neverallow, Target, itself, the_named, Form, block, optional, type_name, type_alias, alias_actual, type_attribute, attribute_set, common, class, class_common, class_order, rule}
+use Rattle.cil_specs.specs.Statements.{Form, block, optional, type_name, type_alias, alias_actual, type_attribute, attribute_set, common, class, class_common, class_order, rule}
 use Rattle.cil_specs.specs.Joined.{Placed}
 use Rattle.cil_specs.specs.Lookup.{Table, types, classes, commons, scopes, declared_in, is_within, same_namespace, is_word, declares, is_declared, leads, own_permissions, is_class, has_permission, has_full_name}
 use Rattle.cil_specs.specs.Next.{every_optional, is_compiled_form}
 use Rattle.cil_program.specs.Names.{has_name, with_name, with_words, distinct_texts}
-use Rattle.cil_program.specs.Flat.{IsPlain, IsBefore, AreFlat}
-use Rattle.cil_program.specs.Declarations.{Declared, nothing_declared, permissions_of, with_statement, declared_again, declared_by, NoneAgain, Declares}
-use Rattle.cil_program.proofs.NameSets.{bytes_eq-refl, bytes_eq-true}
+use Rattle.cil_program.specs.Flat.{IsPlain, AreFlat}
+use Rattle.cil_program.specs.Declarations.{Declared, nothing_declared, permissions_of, with_statement, declared_again, declared_by, NoneAgain}
+use Rattle.cil_program.proofs.NameSets.{bytes_eq-true}
 
 pub or-false : (b : Bool) → (b || false) ≡ b
 or-false true = refl

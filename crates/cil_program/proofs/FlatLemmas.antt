@@ -1,17 +1,17 @@
 -- The joined policy of modules whose statements are compiled is flat.
-use Rattle.std.proofs.Common.{◌≡◌, ◌≢◌, ◌⊎◌, inl, inr, ℕ, ◌+◌, ◌<◌, ◌≤◌, zero, suc, Bool, true, false, ◌&&◌, List, [], ◌∷◌, ◌++◌, map, flat_map, Contains, IsTrue, refl, sym, ap, ◌∙◌, subst, arith, true≢false}
+use Rattle.std.proofs.Common.{◌≡◌, inl, inr, ℕ, ◌<◌, ◌≤◌, true, List, [], ◌∷◌, ◌++◌, map, refl, sym, ap, ◌∙◌, subst, arith, true≢false}
 use Rattle.std.specs.List.{AllByRecursion, list_all}
 use Rattle.std.specs.Ordering.{is_lt}
 use Rattle.std.specs.declared.cmp.Ordering.{Ordering}
 use Rattle.std.specs.declared.cmp.Ordering.TheVariants.{Less, Equal, Greater}
 use Rattle.std.proofs.lemmas.Cmp.{nat_list_cmp_total}
 use Rattle.cil_specs.specs.Place.{Place}
-use Rattle.cil_specs.specs.Statements.{Form, words_of, word_offsets, rise_from, Statements, no_more, statement}
+use Rattle.cil_specs.specs.Statements.{Form, word_offsets, rise_from, Statements, no_more, statement}
 use Rattle.cil_specs.specs.Joined.{Module, Placed, placed, joined}
 use Rattle.cil_specs.specs.Next.{is_compiled_form, is_compiled}
 use Rattle.cil_specs.specs.Report.{name_cmp, names_rise}
 use Rattle.cil_specs.proofs.Runs.{first_true, second_true}
-use Rattle.cil_specs.proofs.NamesLemmas.{all-weaker, all-append, all-first, all-contained, rises-low, rises-less, RiseOn, rises-append}
+use Rattle.cil_specs.proofs.NamesLemmas.{all-weaker, all-append, all-first, all-contained, rises-low, rises-less, rises-append}
 use Rattle.cil_program.specs.Flat.{offsets_of, IsPlain, IsBefore, AreFlat}
 
 -- flat lists one after the other

@@ -1,6 +1,6 @@
 -- Words that lead nowhere, and the first of them.
-use Rattle.std.proofs.Common.{◌≡◌, ◌⊎◌, inl, inr, ℕ, ◌+◌, ◌≤◌, ◌<◌, zero, suc, Bool, true, false, not, ◌&&◌, nat_le, List, [], ◌∷◌, ◌++◌, map, Option, Some, None, is_some, cond, if◌then◌else◌, refl, sym, ap, ◌∙◌, subst, true≢false, Contains, IsTrue, arith}
-use Rattle.std.specs.List.{list_any, find, AllByRecursion}
+use Rattle.std.proofs.Common.{◌≡◌, ◌⊎◌, inl, inr, ℕ, ◌+◌, ◌≤◌, Bool, true, false, not, nat_le, List, [], ◌∷◌, ◌++◌, map, Option, Some, None, is_some, cond, if◌then◌else◌, refl, sym, ap, ◌∙◌, subst, true≢false, Contains, arith}
+use Rattle.std.specs.List.{find, AllByRecursion}
 use Rattle.std.proofs.lemmas.Option.{same_Some, none-some}
 use Rattle.cil_specs.specs.Names.{Word}
 use Rattle.cil_specs.specs.Statements.{RuleKind, allow, auditallow, dontaudit, neverallow, itself, the_named, Form, block, optional, type_name, type_alias, alias_actual, type_attribute, attribute_set, common, class, class_common, class_order, rule, rise_from, as_declared}
@@ -10,11 +10,11 @@ use Rattle.cil_specs.specs.PolicyFault.{PolicyFault, missing, IsMissing, no_name
 use Rattle.cil_specs.specs.Next.{every_optional, is_compiled_form}
 use Rattle.cil_specs.proofs.Runs.{second_true}
 use Rattle.cil_specs.proofs.PartLemmas.{all-middle}
-use Rattle.cil_specs.proofs.NamesLemmas.{all-contained, contains-cases, contains-first, contains-other, contains-map, contains-mapped, contains-middle, rises-low, around, Stands, same_place, later, earlier, stands}
+use Rattle.cil_specs.proofs.NamesLemmas.{all-contained, contains-cases, contains-first, contains-other, contains-map, contains-mapped, contains-middle, rises-low, around, same_place, later, earlier, stands}
 use Rattle.cil_program.specs.Names.{has_name}
-use Rattle.cil_program.specs.Flat.{offsets_in, offsets_of, IsPlain, IsBefore, AreFlat, IsLeast}
+use Rattle.cil_program.specs.Flat.{offsets_in, IsPlain, IsBefore, AreFlat, IsLeast}
 use Rattle.cil_program.specs.Declarations.{Declared, nothing_declared, permissions_of, declared_by, NoneAgain, Declares, missing_permission, missing_word, AllFound}
-use Rattle.cil_program.proofs.FlatLemmas.{IsAmidst, flat-amidst}
+use Rattle.cil_program.proofs.FlatLemmas.{flat-amidst}
 use Rattle.cil_program.proofs.DeclarationLemmas.{has_in, has_permission_in, leads-has_in, permission-has_permission}
 use Rattle.cil_program.proofs.TwiceLemmas.{fault_at, no-later, no-later-same}
 

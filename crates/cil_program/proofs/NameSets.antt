@@ -1,6 +1,6 @@
 -- Sets of borrowed names, seen as lists of names.
-use Rattle.std.proofs.Common.{◌≡◌, ℕ, ◌+◌, ◌<◌, ◌≤◌, suc, zero, Bool, true, false, ◌||◌, ◌&&◌, not, List, [], ◌∷◌, ◌++◌, length, get_or, map, Bor, Option, Some, None, is_some, position, bytes_eq, refl, sym, ap, ◌∙◌, subst, arith, add-one, true≢false, if◌then◌else◌, IsTrue}
-use Rattle.std.specs.List.{list_any, IsDistinct, AllByRecursion}
+use Rattle.std.proofs.Common.{◌≡◌, ℕ, ◌+◌, ◌<◌, suc, Bool, true, false, ◌||◌, List, [], ◌∷◌, ◌++◌, length, get_or, map, Bor, Some, position, bytes_eq, refl, sym, ap, ◌∙◌, arith, add-one, true≢false, if◌then◌else◌, IsTrue}
+use Rattle.std.specs.List.{list_any, IsDistinct}
 use Rattle.std.specs.List.Sorted.{IsSorted}
 use Rattle.std.specs.Ordering.{nat_cmp, is_lt, is_eq, ordering_reverse}
 use Rattle.std.specs.declared.cmp.Ordering.{Ordering}

@@ -1,5 +1,5 @@
 -- Names that are used, and rules by their numbers.
-use Rattle.std.proofs.Common.{◌≡◌, ℕ, ◌<◌, zero, suc, Bool, true, false, ◌||◌, List, [], ◌∷◌, ◌++◌, length, get_or, map, flat_map, bytes_eq, IsTrue, refl, sym, ap, ◌∙◌, subst, arith, append-nil, true≢false}
+use Rattle.std.proofs.Common.{◌≡◌, ℕ, ◌<◌, zero, suc, Bool, true, false, ◌||◌, List, [], ◌∷◌, ◌++◌, length, get_or, map, bytes_eq, IsTrue, refl, sym, ap, ◌∙◌, subst, arith, append-nil, true≢false}
 use Rattle.std.specs.List.{list_any, list_all, AllByRecursion}
 use Rattle.std.proofs.lemmas.List.{map-append}
 use Rattle.std.proofs.lemmas.Grind.{flat_map-append}
@@ -33,10 +33,12 @@ has-word-at names (w ∷ words) (suc i) d has within = has-word-at names words i
 -- the names of words are there once they are put in
 pub has-words : (names : List (List ℕ)) (words : List spec.Word) → HasWords (with_words names words) words
 has-words names [] = tt
-has-words names (w ∷ words) =
-    (has_name-with_words names (w ∷ words) w.text
-    ∙ ap (λ b. has_name names w.text || (b || list_any (λ v. bytes_eq v.text w.text) words)) (bytes_eq-refl w.text)
-    ∙ or-true (has_name names w.text), has-words (with_name names w.text) words)
+has-words names (w ∷ words) = (
+  has_name-with_words names (w ∷ words) w.text
+      ∙ ap (λ b. has_name names w.text || (b || list_any (λ v. bytes_eq v.text w.text) words)) (bytes_eq-refl w.text)
+      ∙ or-true (has_name names w.text),
+  has-words (with_name names w.text) words,
+)
 
 -- the names are still there in another order
 pub has-words-same : (old new : List (List ℕ)) (words : List spec.Word) → ((name : List ℕ) → has_name new name ≡ has_name old name) → HasWords old words → HasWords new words

@@ -1,5 +1,5 @@
 -- The statements of the code, one after the other, are those of the joined policy.
-use Rattle.std.proofs.Common.{◌≡◌, ℕ, ◌+◌, ◌<◌, Bool, true, false, ◌&&◌, List, [], ◌∷◌, ◌++◌, length, get_or, take, drop, map, refl, sym, ap, ◌∙◌, true≢false, append_assoc, append-nil, subst}
+use Rattle.std.proofs.Common.{◌≡◌, ℕ, ◌+◌, ◌<◌, true, List, [], ◌∷◌, ◌++◌, length, get_or, take, drop, map, refl, sym, ap, ◌∙◌, true≢false, append_assoc, append-nil, subst}
 use Rattle.std.specs.List.{list_all}
 use Rattle.std.proofs.lemmas.List.{map-append, take_more, take-append-drop, at_drop_more}
 use Rattle.std.proofs.lemmas.List.Folds.{list_all-map}
@@ -7,7 +7,7 @@ use Rattle.std.proofs.lemmas.List.Recursion.{and_at}
 use Rattle.std.proofs.lemmas.Grind.{flat_map-append}
 use Rattle.cil_specs.specs.Place.{Place}
 use Rattle.cil_specs.specs.Names.{Word}
-use Rattle.cil_specs.specs.Statements.{Form, block, optional, Statements, no_more, statement}
+use Rattle.cil_specs.specs.Statements.{block, optional, Statements, no_more, statement}
 use Rattle.cil_specs.specs.Joined.{Placed, placed, joined}
 use Rattle.cil_specs.specs.Next.{is_compiled_form, is_compiled}
 use Rattle.cil_specs.proofs.Runs.{second_true}

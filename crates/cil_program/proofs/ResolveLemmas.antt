@@ -1,16 +1,16 @@
 -- The first fault of a policy, and its rules where it compiles.
-use Rattle.std.proofs.Common.{◌≡◌, ◌⊎◌, inl, inr, ℕ, ◌<◌, ◌≤◌, Bool, true, false, List, [], ◌∷◌, ◌++◌, map, flat_map, Option, Some, None, is_some, unwrap_or, if◌then◌else◌, refl, sym, ap, ◌∙◌, subst, true≢false, IsTrue, arith}
+use Rattle.std.proofs.Common.{◌≡◌, inl, inr, ℕ, true, List, [], ◌∷◌, ◌++◌, map, flat_map, Option, Some, None, is_some, unwrap_or, if◌then◌else◌, refl, sym, ap, ◌∙◌, subst, arith}
 use Rattle.std.specs.List.{list_all, AllByRecursion}
 use Rattle.std.proofs.lemmas.Option.{none-some}
 use Rattle.cil_specs.specs.Names.{Word}
-use Rattle.cil_specs.specs.Statements.{RuleKind, Target, itself, the_named, Form, block, optional, type_name, type_alias, alias_actual, type_attribute, attribute_set, common, class, class_common, class_order, rule}
+use Rattle.cil_specs.specs.Statements.{itself, the_named, Form, block, optional, type_name, type_alias, alias_actual, type_attribute, attribute_set, common, class, class_common, class_order, rule}
 use Rattle.cil_specs.specs.Joined.{Placed, joined}
 use Rattle.cil_specs.specs.Lookup.{Table, types, classes, leads, is_within}
-use Rattle.cil_specs.specs.PolicyFault.{PolicyFault, twice, missing, code_of, IsTwice, declared_twice, IsMissing, no_name, no_permission, IsPolicyFault, IsNoLater, IsFirst, Compiles}
+use Rattle.cil_specs.specs.PolicyFault.{PolicyFault, code_of, IsTwice, declared_twice, IsMissing, no_name, no_permission, IsFirst, Compiles}
 use Rattle.cil_specs.specs.Next.{every_optional, is_compiled_form, is_compiled}
 use Rattle.cil_specs.specs.Rule.{a_type, at_element, name_of, rule_of, rules_of}
 use Rattle.cil_specs.specs.Report.{names_rise}
-use Rattle.cil_program.specs.Flat.{IsPlain, AreFlat, IsLeast}
+use Rattle.cil_program.specs.Flat.{AreFlat, IsLeast}
 use Rattle.cil_program.specs.Image.{module_of, modules_of}
 use Rattle.cil_program.specs.Declarations.{Declared, nothing_declared, permissions_of, declared_by, Declares, missing_permission, missing_word, AllFound}
 use Rattle.cil_program.specs.Numbering.{worded_rule, worded_rules}
@@ -19,7 +19,7 @@ use Rattle.cil_program.specs.declared.names.joined.Joined.{Joined}
 use Rattle.cil_program.proofs.FlatLemmas.{IsRising, joined-flat}
 use Rattle.cil_program.proofs.DeclarationLemmas.{has_in, leads-has_in}
 use Rattle.cil_program.proofs.TwiceLemmas.{none-twice}
-use Rattle.cil_program.proofs.MissingLemmas.{no-itself, NoneChosen, choice-none, none-missing-in}
+use Rattle.cil_program.proofs.MissingLemmas.{no-itself, choice-none, none-missing-in}
 
 module-names : {A : Type 0} (modules : List (NamedModule A)) → map (λ m. m.name) (map module_of modules) ≡ map (λ m. m.name.now) modules
 module-names [] = refl

@@ -1,20 +1,20 @@
 -- Names that are declared twice, and the first of them.
-use Rattle.std.proofs.Common.{◌≡◌, ◌⊎◌, inl, inr, ℕ, ◌≤◌, ◌<◌, Bool, true, false, not, ◌&&◌, ◌||◌, List, [], ◌∷◌, ◌++◌, map, Option, Some, None, is_some, if◌then◌else◌, refl, sym, ap, ◌∙◌, subst, true≢false, Contains, IsTrue, arith}
+use Rattle.std.proofs.Common.{◌≡◌, inl, inr, ◌≤◌, ◌<◌, Bool, true, false, not, ◌&&◌, ◌||◌, List, [], ◌∷◌, ◌++◌, Some, None, is_some, if◌then◌else◌, refl, sym, ap, ◌∙◌, subst, true≢false, Contains, arith}
 use Rattle.std.specs.List.{list_any, list_all, AllByRecursion}
 use Rattle.std.proofs.lemmas.Option.{same_Some, none-some}
 use Rattle.cil_specs.specs.Names.{Word}
 use Rattle.cil_specs.specs.Statements.{Form, block, optional, type_name, type_alias, alias_actual, type_attribute, attribute_set, common, class, class_common, class_order, rule, is_optional}
 use Rattle.cil_specs.specs.Joined.{Placed}
 use Rattle.cil_specs.specs.Lookup.{Table, types, classes, commons, scopes, declared_in, is_within, declares, is_declared}
-use Rattle.cil_specs.specs.PolicyFault.{PolicyFaultKind, PolicyFault, twice, code_of, IsTwice, declared_twice, is_again, IsAtWordOf, IsNoLater}
+use Rattle.cil_specs.specs.PolicyFault.{PolicyFaultKind, PolicyFault, twice, IsTwice, declared_twice, is_again, IsNoLater}
 use Rattle.cil_specs.specs.Next.{every_optional, is_compiled_form}
 use Rattle.cil_specs.proofs.PartLemmas.{all-middle}
-use Rattle.cil_specs.proofs.NamesLemmas.{contains-first, Stands, same_place, later, earlier, stands}
+use Rattle.cil_specs.proofs.NamesLemmas.{contains-first, same_place, later, earlier, stands}
 use Rattle.cil_program.specs.Names.{has_name}
 use Rattle.cil_program.specs.Flat.{offsets_in, offsets_of, IsPlain, IsBefore, AreFlat, IsLeast}
 use Rattle.cil_program.specs.Declarations.{Declared, nothing_declared, permissions_of, with_statement, declared_again, declared_by, NoneAgain, Declares}
 use Rattle.cil_program.proofs.FlatLemmas.{IsAmidst, flat-amidst, flat-front}
-use Rattle.cil_program.proofs.DeclarationLemmas.{and-true, has_in, has_in-is_declared}
+use Rattle.cil_program.proofs.DeclarationLemmas.{has_in, has_in-is_declared}
 
 -- a fault of this kind at a word of a statement
 abbrev pub fault_at : PolicyFaultKind → Placed → Word → PolicyFault

@@ -1,5 +1,5 @@
 -- The names of rules, and their numbers.
-use Rattle.std.specs.Prelude.{◌≡◌, ℕ, Bool, ◌&&◌, nat_lt, List, [], ◌∷◌, flat_map, IsTrue}
+use Rattle.std.specs.Prelude.{ℕ, Bool, ◌&&◌, nat_lt, List, [], ◌∷◌, flat_map, IsTrue}
 use Rattle.std.specs.List.{list_all, AllByRecursion}
 use Rattle.cil_specs.specs.Place.{Place}
 use Rattle.cil_specs.specs.Names.{Word}

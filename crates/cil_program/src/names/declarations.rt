@@ -57,7 +57,7 @@ impl<'a, A: Allocator + Copy> Declarations<'a, A> {
         Ok(declarations)
     }
 
-    /// Takes up what a statement declares. If its name is declared already, answers its word.
+    // Takes up what a statement declares. If its name is declared already, answers its word.
     fn add(
         &mut self,
         alloc: A,

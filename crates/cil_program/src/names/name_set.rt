@@ -1,6 +1,6 @@
 //! Sets of names.
 
-ghost use Rattle.std.specs.Prelude.{◌≡◌, ◌<◌, IsTrue, not, length, nat_lt, map, [], IfOk, OnOk, slice_index_or};
+ghost use Rattle.std.specs.Prelude.{◌≡◌, ℕ, ◌<◌, IsTrue, not, List, [], length, map, nat_lt, slice_index_or, IfOk, OnOk, OnErr};
 ghost use Rattle.std.specs.List.{find, list_all};
 ghost use Rattle.std.specs.Option.{option_map};
 ghost use Rattle.cil_specs.specs.Report.{names_rise};
@@ -15,7 +15,8 @@ use std::alloc::{AllocError, Allocator, Global};
 use std::hash::{BuildHasherDefault, FoldHasher};
 use std::marker::Model;
 
-/// Distinct names, in the order in which they came. It borrows them. Contracts see it as their list.
+/// Distinct names, in the order in which they came or, once sorted, in that of their bytes. It borrows them. Contracts see
+/// it as their list.
 #[derive(Drop)]
 pub struct NameSet<'a, A: Allocator = Global> {
     names: IndexSet<&'a [u8], BuildHasherDefault<FoldHasher>, A>,
@@ -39,15 +40,16 @@ impl<'a, A: Allocator + Copy> NameSet<'a, A> {
         }
     }
 
-    /// Puts a name in, last, if it is new; answers whether it is.
+    /// Puts a name in if it is new, behind the others, and answers whether it is.
     pub fn insert(&mut self, name: &'a [u8]) -> Result<bool, AllocError>
         ensures new { IfOk result (λ new. new ≡ not (has_name self.old name.now)) }
         ensures ok { OnOk result (self.new ≡ with_name self.old name.now) }
+        ensures err { OnErr result (self.new ≡ self.old) }
     {
         Ok(self.names.insert(name)?)
     }
 
-    /// Puts in the names of words.
+    /// Puts in the names of words. On failure some of them are in.
     pub fn insert_words(&mut self, words: &[Word<'a>]) -> Result<(), AllocError>
         ensures { OnOk result (self.new ≡ with_words self.old (map word_of words.now)) }
     {
@@ -60,7 +62,7 @@ impl<'a, A: Allocator + Copy> NameSet<'a, A> {
     /// Puts the names in the order of their bytes.
     pub fn sort(&mut self) -> Result<(), AllocError>
         ensures ordered { OnOk result (IsTrue (names_rise self.new)) }
-        ensures same { (name : _) → has_name self.new name ≡ has_name self.old name }
+        ensures same { (name : List ℕ) → has_name self.new name ≡ has_name self.old name }
     {
         self.names.sort_unstable()
     }
@@ -98,7 +100,7 @@ impl<'a, A: Allocator + Copy> NameSet<'a, A> {
         ensures within { IfOk result (λ numbers. IsTrue (list_all (λ n. nat_lt n (length self.now)) numbers.items)) }
         ensures named { IfOk result (λ numbers. map (λ n. slice_index_or self.now n []) numbers.items ≡ texts_of (map word_of words.now)) }
     {
-        let mut numbers = Vec::new(alloc);
+        let mut numbers = Vec::with_capacity(alloc, words.len())?;
         for word in words {
             numbers.push(self.number(word.text))?;
         }
@@ -109,7 +111,7 @@ impl<'a, A: Allocator + Copy> NameSet<'a, A> {
     pub fn to_texts(&self, alloc: A) -> Result<Vec<Text<A>, A>, AllocError>
         ensures { IfOk result (λ texts. texts.items ≡ self.now) }
     {
-        let mut texts = Vec::new(alloc);
+        let mut texts = Vec::with_capacity(alloc, self.names.len())?;
         for name in self.names.as_slice() {
             texts.push(Text::of(alloc, *name)?)?;
         }

@@ -30,9 +30,10 @@ impl<'j, 'a, A: Allocator> PlacedStatement<'j, 'a, A> {
     pub fn fault(&self, kind: PolicyFaultKind, word: Word<'a>) -> PolicyFault<'a>
         ensures { IsFoundFault result (λ fault. IsAtWordOf fault (policy_kind_of kind) (placed_of self.now) (word_of word.entry)) }
     {
+        let module = self.module_name;
         PolicyFault::Found {
             kind,
-            module: self.module_name,
+            module,
             at: word.at,
             word: word.text,
         }

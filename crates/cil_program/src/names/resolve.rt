@@ -11,6 +11,9 @@ ghost use Rattle.cil_program.specs.Image.{modules_of, rules_of, PolicyFaultIs};
 ghost use Rattle.cil_program.specs.Numbering.{worded_rules};
 ghost use Rattle.cil_program.specs.Placed.{policy_of, AreNumbered};
 
+#[cfg(test)]
+mod tests;
+
 use crate::names::declarations::Declarations;
 use crate::names::fault::PolicyFault;
 use crate::names::joined::Joined;
@@ -76,7 +79,7 @@ fn module_names<'a, A: Allocator + Copy>(
 ) -> Result<Vec<Text<A>, A>, AllocError>
     ensures { IfOk result (λ names. names.items ≡ map (λ m. m.name.now) joined.now.modules.items) }
 {
-    let mut names = Vec::new(alloc);
+    let mut names = Vec::with_capacity(alloc, joined.modules.len())?;
     for named in &joined.modules {
         names.push(Text::of(alloc, named.name)?)?;
     }

@@ -1,4 +1,4 @@
-use Rattle.std.proofs.Common.{◌≡◌, ◌∙◌, sym, ap, subst, length, IsTrue, rules}
+use Rattle.std.proofs.Common.{◌∙◌, ap, length}
 use Rattle.std.specs.List.{list_all}
 use Rattle.cil_specs.specs.Report.{names_rise}
 use Rattle.cil_program.specs.Numbering.{is_numbered_below}

@@ -1,4 +1,4 @@
-use Rattle.std.proofs.Common.{◌≡◌, ◌∙◌}
+use Rattle.std.proofs.Common.{◌∙◌}
 use Rattle.std.proofs.lemmas.Result.{err_from_is_err_and}
 use Rattle.cil_specs.specs.PolicyFault.{IsTwice, IsMissing, IsFirst}
 use Rattle.cil_specs.specs.Next.{every_optional}

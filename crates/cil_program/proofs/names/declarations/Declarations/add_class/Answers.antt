@@ -1,7 +1,7 @@
-use Rattle.std.proofs.Common.{◌≡◌, Bool, true, false, Some, None, is_some, [], ◌∷◌, ◌++◌, map, if◌then◌else◌, refl, sym, ap, ◌∙◌}
+use Rattle.std.proofs.Common.{◌≡◌, true, false, Some, None, is_some, [], ◌∷◌, ◌++◌, map, if◌then◌else◌, sym, ap, ◌∙◌}
 use Rattle.cil_text.specs.Image.{word_of}
 use Rattle.cil_program.specs.Names.{with_words, distinct_texts}
-use Rattle.cil_program.specs.Declarations.{Declared, permissions_of}
+use Rattle.cil_program.specs.Declarations.{permissions_of}
 use Rattle.cil_program.proofs.ClassEntries.{seen, lookup-seen, insert-seen}
 use Rattle.cil_program.proofs.names.declarations.Declarations.add_class.Goals as goal
 

@@ -1,4 +1,4 @@
-use Rattle.std.proofs.Common.{◌≡◌, ◌∙◌, Some, None, ◌+◌, sym, ap, subst, take, drop, get_or, rules}
+use Rattle.std.proofs.Common.{◌∙◌, ◌+◌, sym, ap, subst, take, drop, rules}
 use Rattle.std.specs.Option.{option_map}
 use Rattle.cil_text.specs.Image.{word_of}
 use Rattle.cil_specs.specs.PolicyFault.{twice, IsTwice}

@@ -1,4 +1,4 @@
-use Rattle.std.proofs.Common.{◌≡◌, ◌∙◌, ap}
+use Rattle.std.proofs.Common.{◌∙◌, ap}
 use Rattle.cil_program.specs.Names.{has_name}
 use Rattle.cil_program.proofs.NameSets.{has_name-texts}
 use Rattle.cil_program.proofs.names.name_set.NameSet.contains.Goals as goal

@@ -1,4 +1,4 @@
-use Rattle.std.proofs.Common.{◌≡◌, ◌∙◌, not, ap}
+use Rattle.std.proofs.Common.{◌∙◌, not, ap}
 use Rattle.cil_program.specs.Names.{has_name, with_name}
 use Rattle.cil_program.proofs.NameSets.{texts, has_name-texts, with_name-texts}
 use Rattle.cil_program.proofs.names.name_set.NameSet.insert.Goals as goal

@@ -1,4 +1,4 @@
-use Rattle.std.proofs.Common.{◌≡◌, ◌∙◌, [], ap, sym, get_or}
+use Rattle.std.proofs.Common.{◌∙◌, [], ap, sym, get_or}
 use Rattle.cil_program.specs.Names.{has_name}
 use Rattle.cil_program.proofs.NameSets.{has_name-texts, found-name}
 use Rattle.cil_program.proofs.names.name_set.NameSet.number.Goals as goal
