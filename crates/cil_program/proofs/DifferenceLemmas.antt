@@ -6,12 +6,13 @@ use Rattle.std.specs.List.Sorted.{IsStrictlySortedBy}
 use Rattle.std.specs.Ordering.{eq_by_cmp, is_eq, is_lt, ordering_reverse, partial_lt, is_some_and}
 use Rattle.std.specs.declared.cmp.Ordering.{Ordering}
 use Rattle.std.specs.declared.cmp.Ordering.TheVariants.{Less, Equal, Greater}
-use Rattle.std.proofs.lemmas.Bool.{cases_lt, cases_order, true≢false, false≢true}
+use Rattle.std.proofs.lemmas.Bool.{cases_lt, cases_order, true≢false}
 use Rattle.std.proofs.lemmas.Cmp.{eq_by_cmp_equiv}
 use Rattle.std.proofs.lemmas.List.{get_or_default}
 use Rattle.std.proofs.lemmas.List.Elements.{filter_more}
 use Rattle.std.proofs.lemmas.List.Folds.{list_any_none, list_any_at}
 use Rattle.std.proofs.lemmas.Map.Keys.{Less-from_sorted}
+use Rattle.cil_specs.proofs.ReportLemmas.{less-is}
 use Rattle.cil_text.specs.declared.statement.RuleKind.TheVariants.{Allow}
 use Rattle.cil_program.specs.declared.rules.numbers.AtomNumbers.{AtomNumbers}
 use Rattle.cil_program.specs.Atoms.{numbers_cmp}
@@ -20,11 +21,6 @@ use Rattle.cil_program.specs.contracts.rules.numbers.AtomNumbersPartialOrd.TheIm
 use Rattle.cil_program.specs.contracts.rules.numbers.AtomNumbersPartialEq.TheImpl as numbers_eq
 use Rattle.cil_program.specs.contracts.rules.numbers.AtomNumbersOrd.TheImpl.Laws as numbers_laws
 use Rattle.cil_program.proofs.DerivedOrder.{derived-cmp, derived-eq, numbers_total}
-
-less-is : (o : Ordering) → is_lt o ≡ true → o ≡ Less
-less-is Less e = refl
-less-is Equal e = absurd (false≢true e)
-less-is Greater e = absurd (false≢true e)
 
 greater-is : (o : Ordering) → (o ≡ Less → ⊥) → is_eq o ≡ false → o ≡ Greater
 greater-is Less not_less e = absurd (not_less refl)

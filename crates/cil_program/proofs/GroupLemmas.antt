@@ -1,18 +1,18 @@
 -- The first row of numbered accesses, and those after it.
-use Rattle.std.proofs.Common.{◌≡◌, ℕ, ◌+◌, ◌≤◌, List, [], ◌∷◌, ◌++◌, length, map, take, drop, Bool, true, false, cond, refl, sym, ap, ◌∙◌, subst, one-add, arith}
+use Rattle.std.proofs.Common.{◌≡◌, ℕ, suc, ◌+◌, ◌≤◌, List, [], ◌∷◌, ◌++◌, length, map, take, drop, Bool, true, false, cond, refl, sym, ap, ◌∙◌, subst, one-add, Some, None, arith}
 use Rattle.std.specs.Bool.{IsTrue}
 use Rattle.std.specs.List.{All, AllByRecursion, filter, prefix_len}
 use Rattle.std.specs.Ordering.{eq_by_cmp, is_eq, nat_cmp, ordering_then}
 use Rattle.std.specs.Cmp.{IsTotalOrder}
 use Rattle.std.specs.declared.cmp.Ordering.{Ordering}
-use Rattle.std.specs.declared.cmp.Ordering.TheVariants.{Less, Equal, Greater}
-use Rattle.std.proofs.lemmas.Bool.{false≢true}
 use Rattle.std.proofs.lemmas.Cmp.{nat_cmp_total, on_total, then_total, tied_itself}
-use Rattle.std.proofs.lemmas.List.{take_at, drop_at, length-append}
+use Rattle.std.specs.Prelude.{slice_get}
+use Rattle.std.proofs.lemmas.List.{take_at, drop_at, take-append-drop, length-append}
 use Rattle.std.proofs.lemmas.List.Elements.{All-from_recursion, recursion_from_All}
 use Rattle.cil_specs.specs.Rule as spec
 use Rattle.cil_specs.specs.Rule.{kind_index}
 use Rattle.cil_specs.specs.Report.{names_rise, Row, row_cmp, is_listed}
+use Rattle.cil_specs.proofs.ReportLemmas.{equal-is}
 use Rattle.cil_text.specs.Image.{rule_kind_of}
 use Rattle.cil_program.specs.declared.rules.numbers.AtomNumbers.{AtomNumbers}
 use Rattle.cil_program.specs.Atoms.{name_at, atom_at, IsWithin}
@@ -27,11 +27,6 @@ row_numbers_total =
 
 pub in_own_row : (x : AtomNumbers) → is_in_row_of x x ≡ true
 in_own_row x = ap is_eq (tied_itself row_numbers_total x)
-
-equal-is : (o : Ordering) → is_eq o ≡ true → o ≡ Equal
-equal-is Less e = absurd (false≢true e)
-equal-is Equal e = refl
-equal-is Greater e = absurd (false≢true e)
 
 -- accesses of one row have the same accesses in their row
 same-row : (x y : AtomNumbers) → is_in_row_of x y ≡ true → is_in_row_of x ≡ is_in_row_of y
@@ -134,3 +129,21 @@ module _ (atoms : List AtomNumbers) (first : AtomNumbers) (row later : List Atom
       ap (λ l. rows_of (map (atom_at names) l)) is
       ∙ rows-front names rise first tail (recursion_from_All (IsWithin (length names)) (first ∷ tail) (subst (All (IsWithin (length names))) is within))
       ∙ (λ i. cond (is_listed (rule_kind_of first.kind)) (row_at names first (front i) ∷ rows_of (map (atom_at names) (back i))) (rows_of (map (atom_at names) (back i))))
+
+-- the accesses from the front that stand in the row of the first, and the others
+pub first-row-front : (atoms : List AtomNumbers) (first : AtomNumbers) (n : ℕ) (row later : List AtomNumbers) → Some first ≡ slice_get atoms 0 → n ≡ prefix_len (is_in_row_of first) atoms → row ≡ take n atoms → later ≡ drop n atoms → length row ≡ n
+    → IsFirstRow atoms first row later
+first-row-front atoms first n row later is count front back long = record {
+  whole = sym (take-append-drop n atoms) ∙ (λ i. sym front i ++ sym back i);
+  some = by atoms is count front;
+  all = long ∙ count;
+}
+  where
+    by : (xs : List AtomNumbers) → Some first ≡ slice_get xs 0 → n ≡ prefix_len (is_in_row_of first) xs → row ≡ take n xs → (rest : List AtomNumbers) × (row ≡ first ∷ rest)
+    by [] is count front = absurd (let none : Some first ≡ None = is in cc)
+    by (x ∷ xs) is count front =
+        let same : first ≡ x = cc in
+        let own : is_in_row_of first x ≡ true = ap (is_in_row_of first) (sym same) ∙ in_own_row first in
+        let k : ℕ = prefix_len (is_in_row_of first) xs in
+        let more : n ≡ suc k = count ∙ ap (λ b. cond b (1 + k) 0) own ∙ one-add k in
+        (take k xs, front ∙ ap (λ m. take m (x ∷ xs)) more ∙ ap (λ y. y ∷ take k xs) (sym same))

@@ -7,13 +7,13 @@ use Rattle.std.specs.Ordering.{eq_by_cmp, is_eq, nat_cmp, ordering_then}
 use Rattle.std.specs.Cmp.{IsTotalOrder}
 use Rattle.std.specs.declared.cmp.Ordering.{Ordering}
 use Rattle.std.specs.declared.cmp.Ordering.TheVariants.{Less, Equal, Greater}
-use Rattle.std.proofs.lemmas.Bool.{and_parts, and_from, true≢false, false≢true}
+use Rattle.std.proofs.lemmas.Bool.{and_parts, and_from, true≢false}
 use Rattle.std.proofs.lemmas.Cmp.{nat_cmp_total, on_total, then_total, tied_itself}
 use Rattle.std.proofs.lemmas.List.Kept.{IsStrictlySortedBy-filter}
 use Rattle.std.proofs.lemmas.Map.Lookups.{exact_unsigned, exact_bytes}
 use Rattle.cil_specs.specs.Rule.{Atom, kind_index}
 use Rattle.cil_specs.specs.Report.{name_cmp, atom_cmp, AreAtoms, Row, row_cmp, is_listed, IsRow, Has, AreRows}
-use Rattle.cil_specs.proofs.ReportLemmas.{name_total, same-kind, then_equal}
+use Rattle.cil_specs.proofs.ReportLemmas.{name_total, same-kind, then_equal, equal-is}
 use Rattle.cil_specs.proofs.ReportLemmasMembers.{AnyByRecursion, any_to, any_from, contains_to, contains_from, any_weaker, any-map, any_from_map, any-filter, any_from_filter, any-flat_map, any_from_flat_map, all_weaker, sorted_unmap}
 use Rattle.cil_program.specs.Rows.{row_with, put_first, groups_of, rows_of}
 
@@ -40,11 +40,6 @@ same-atoms r s e p =
     let target = exact_bytes _ _ targets.0 in
     let the_class = exact_bytes _ _ targets.1 in
     λ i. record { kind = kind i; source = source i; target = target i; the_class = the_class i; permission = p }
-
-equal-is : (o : Ordering) → is_eq o ≡ true → o ≡ Equal
-equal-is Less e = absurd (false≢true e)
-equal-is Equal e = refl
-equal-is Greater e = absurd (false≢true e)
 
 -- rows give back the accesses that they were put together from
 flat-put_first : (a : Atom) (rows : List Row) → flat_map atoms_in (put_first a rows) ≡ a ∷ flat_map atoms_in rows

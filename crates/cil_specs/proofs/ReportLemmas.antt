@@ -2,7 +2,7 @@
 use Rattle.std.proofs.Common.{◌≡◌, ℕ, zero, suc, List, [], ◌∷◌, true, refl, sym, ap, ◌∙◌}
 use Rattle.std.specs.Bool.{IsTrue}
 use Rattle.std.specs.List.Sorted.{IsStrictlySortedBy}
-use Rattle.std.specs.Ordering.{is_lt, ordering_then}
+use Rattle.std.specs.Ordering.{is_lt, is_eq, ordering_then}
 use Rattle.std.specs.Cmp.{IsTotalOrder}
 use Rattle.std.specs.declared.cmp.Ordering.{Ordering}
 use Rattle.std.specs.declared.cmp.Ordering.TheVariants.{Less, Equal, Greater}
@@ -61,10 +61,16 @@ atom_exact a b e =
     let permission = exact_bytes _ _ classes.1 in
     λ i. record { kind = kind i; source = source i; target = target i; the_class = the_class i; permission = permission i }
 
-less-is : (o : Ordering) → is_lt o ≡ true → o ≡ Less
+-- what a test of an answer says
+pub less-is : (o : Ordering) → is_lt o ≡ true → o ≡ Less
 less-is Less e = refl
 less-is Equal e = absurd (false≢true e)
 less-is Greater e = absurd (false≢true e)
+
+pub equal-is : (o : Ordering) → is_eq o ≡ true → o ≡ Equal
+equal-is Less e = absurd (false≢true e)
+equal-is Equal e = refl
+equal-is Greater e = absurd (false≢true e)
 
 -- names that rise ascend strictly
 pub sorted_from_names_rise : (names : List (List ℕ)) → IsTrue (names_rise names) → IsStrictlySortedBy name_cmp names
