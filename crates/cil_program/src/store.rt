@@ -8,7 +8,6 @@ mod join;
 mod modules;
 mod parse;
 mod plain;
-mod parse;
 mod refusal;
 mod refusing;
 mod runs;
