@@ -1,25 +1,24 @@
 -- What the plain engine keeps, and what its steps lead to.
-use Rattle.std.proofs.Common.{◌≡◌, ◌==◌, ◌||◌, ◌&&◌, ◌≤◌, ◌⊎◌, inl, inr, ℕ, Bool, true, false, not, cond, nat_le, nat_lt, if◌then◌else◌, List, [], ◌∷◌, ◌++◌, filter, length, bytes_eq, Option, Some, None, is_some, decimal, IsTrue, refl, ap, sym, ◌∙◌, subst, true≢false, length-append, arith}
+use Rattle.std.proofs.Common.{◌≡◌, ◌==◌, ◌||◌, ◌&&◌, ◌≤◌, inl, inr, ℕ, Bool, true, false, not, cond, nat_le, nat_lt, if◌then◌else◌, List, [], ◌∷◌, filter, length, bytes_eq, Option, Some, None, is_some, decimal, refl, ap, sym, ◌∙◌, subst, true≢false, length-append, arith}
 use Rattle.std.specs.List.{list_all, list_any, AllByRecursion}
 use Rattle.std.proofs.lemmas.Bool.{eqb-true, leb-true, ltb-false}
-use Rattle.cil_specs.specs.Joined.{Module, Placed, joined}
+use Rattle.cil_specs.specs.Joined.{Module, joined}
 use Rattle.cil_specs.specs.PolicyFault as policy_faults
 use Rattle.cil_specs.specs.PolicyFault.{Compiles, IsFirst, declared_twice, no_name, no_permission}
 use Rattle.std.specs.List.Sorted.{IsStrictlySortedBy}
 use Rattle.cil_specs.specs.Rule.{Atom, Rule, is_in_table, rules_of}
-use Rattle.cil_specs.specs.Report.{AreAtoms, Changes, AreChanges, Row, AreRows}
+use Rattle.cil_specs.specs.Report.{AreAtoms, Changes, AreChanges}
 use Rattle.cil_specs.specs.Store.{Entry, Store, empty, is_highest, active, put}
-use Rattle.cil_specs.specs.Next.{every_optional, IsModuleText, AreModules, IsPolicyOf, AreRulesOf, install, Refusal, for_memory, by_store, is_module_name, changed, install_refusal, IsEditFault, HasGoodText, IsPolicyRefusal, accepts, refuses, Next, bad_store, bad_text, bad_policy, good}
-use Rattle.cil_specs.specs.Run.{an_edit, changed_by, refused, IsAccepted, Step}
+use Rattle.cil_specs.specs.Next.{every_optional, AreModules, IsPolicyOf, install, Refusal, by_store, is_module_name, changed, install_refusal, HasGoodText, IsPolicyRefusal, accepts, Next, bad_store, bad_text, bad_policy, good}
+use Rattle.cil_specs.specs.Run.{an_edit, changed_by, refused, Step}
 use Rattle.cil_specs.proofs.Runs.{both_true, first_true, second_true}
-use Rattle.cil_program.specs.Calls.{AreRowsOf}
 use Rattle.cil_program.specs.Image.{PolicyFaultIs}
 use Rattle.cil_program.specs.Refusing.{IsRefusalOf, IsPolicyRefusalOf}
-use Rattle.cil_program.specs.Stored.{AreStored, IsGood, entry_for}
+use Rattle.cil_program.specs.Stored.{IsGood, entry_for}
 use Rattle.cil_program.specs.Plain.{IsTableOf, IsKept, IsRefused}
 use Rattle.cil_program.specs.declared.names.fault.PolicyFault.{PolicyFault}
 use Rattle.cil_program.specs.declared.names.fault.PolicyFault.TheVariants.{Memory, Found}
-use Rattle.cil_program.proofs.StoredLemmas.{none-stored, puts, put-stored}
+use Rattle.cil_program.proofs.StoredLemmas.{none-stored, put-stored}
 
 filter-every : (p : Entry → Bool) (xs : List Entry) → AllByRecursion (λ x. p x ≡ true) xs → filter p xs ≡ xs
 filter-every p [] all = refl
@@ -41,12 +40,11 @@ highest (o ∷ entries) e p all =
 each-active : (disabled : List (List ℕ)) (entries some : List Entry) → disabled ≡ [] → list_all (λ o. o.priority == 400) entries ≡ true → list_all (λ o. o.priority == 400) some ≡ true
     → AllByRecursion (λ e. (not (list_any (bytes_eq e.name) disabled) && is_highest entries e) ≡ true) some
 each-active disabled entries [] none all passes = tt
-each-active disabled entries (e ∷ some) none all passes =
-    (
-      both_true (not (list_any (bytes_eq e.name) disabled)) (is_highest entries e) (ap (λ names. not (list_any (bytes_eq e.name) names)) none)
+each-active disabled entries (e ∷ some) none all passes = (
+  both_true (not (list_any (bytes_eq e.name) disabled)) (is_highest entries e) (ap (λ names. not (list_any (bytes_eq e.name) names)) none)
       (highest entries e (eqb-true e.priority 400 (first_true (e.priority == 400) _ passes)) all),
-      each-active disabled entries some none all (second_true (e.priority == 400) _ passes),
-    )
+  each-active disabled entries some none all (second_true (e.priority == 400) _ passes),
+)
 
 -- all entries are active
 pub active-all : (store : Store) → store.disabled ≡ [] → list_all (λ o. o.priority == 400) store.entries ≡ true → active store ≡ store.entries
@@ -56,11 +54,10 @@ good-entries : (entries : List Entry) (modules : List Module) → list_all (λ e
 good-entries [] [] short are = tt
 good-entries [] (m ∷ modules) short are = absurd are
 good-entries (e ∷ entries) [] short are = absurd are
-good-entries (e ∷ entries) (m ∷ modules) short are =
-    (
-      record { short = leb-true (length e.text) 16777216 (first_true (nat_le (length e.text) 16777216) _ short); statements = m.statements; is_text = are.1 },
-      good-entries entries modules (second_true (nat_le (length e.text) 16777216) _ short) are.2,
-    )
+good-entries (e ∷ entries) (m ∷ modules) short are = (
+  record { short = leb-true (length e.text) 16777216 (first_true (nat_le (length e.text) 16777216) _ short); statements = m.statements; is_text = are.1 },
+  good-entries entries modules (second_true (nat_le (length e.text) 16777216) _ short) are.2,
+)
 
 pub kept-good : (store : Store) (table : List Atom) → IsKept store table → AllByRecursion IsGood store.entries
 kept-good store table kept =

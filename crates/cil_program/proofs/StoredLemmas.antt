@@ -1,5 +1,5 @@
 -- The entries of a store whose modules all have one priority.
-use Rattle.std.proofs.Common.{◌≡◌, ◌==◌, ◌&&◌, ℕ, zero, suc, ◌+◌, ◌-◌, ◌≤◌, Bool, true, false, cond, not, nat_le, one-add, List, [], ◌∷◌, ◌++◌, map, filter, length, take, drop, slice_set, Option, None, Some, MatchOption, slice_get, IsTrue, refl, ap, sym, ◌∙◌, subst, true≢false, length-drop, arith}
+use Rattle.std.proofs.Common.{◌≡◌, ◌==◌, ℕ, zero, suc, ◌+◌, ◌-◌, ◌≤◌, Bool, true, false, cond, nat_le, one-add, List, [], ◌∷◌, ◌++◌, map, filter, length, take, drop, slice_set, refl, ap, sym, ◌∙◌, subst, true≢false, length-drop, arith}
 use Rattle.std.specs.List.{insert, list_all, prefix_len, AllByRecursion}
 use Rattle.std.specs.List.Sorted.{IsStrictlySortedBy}
 use Rattle.std.specs.Ordering.{nat_cmp, ordering_then, is_lt}
@@ -225,8 +225,8 @@ split-named entries xs others k name same alike at stored named = record {
   where
     whole : (text : List ℕ) → take k xs ++ entry_for name text ∷ take (length others - (k + 1)) (drop (k + 1) others) ≡ put (entry_for name text) entries
     whole text =
-          (λ i. take k (same i) ++ entry_for name text ∷ (rest-of others (k + 1) ∙ ap (drop (k + 1)) alike ∙ ap (λ n. drop n entries) (plus-one k)) i)
-          ∙ sym (subst (λ n. IsNamedAt entries n name → put (entry_for name text) entries ≡ take n entries ++ entry_for name text ∷ drop (suc n) entries) (sym at) (puts (entry_for name text) entries refl stored.one_priority stored.ordered).replaced named)
+        (λ i. take k (same i) ++ entry_for name text ∷ (rest-of others (k + 1) ∙ ap (drop (k + 1)) alike ∙ ap (λ n. drop n entries) (plus-one k)) i)
+        ∙ sym (subst (λ n. IsNamedAt entries n name → put (entry_for name text) entries ≡ take n entries ++ entry_for name text ∷ drop (suc n) entries) (sym at) (puts (entry_for name text) entries refl stored.one_priority stored.ordered).replaced named)
 
 pub split-unnamed : (entries xs others : List Entry) (k : ℕ) (name : List ℕ) → xs ≡ entries → others ≡ entries → k ≡ prefix_len (is_before name) entries → AreStored entries → (IsNamedAt entries k name → ⊥)
     → IsSplit entries name (take k xs) (take (length others - k) (drop k others))
@@ -241,5 +241,5 @@ split-unnamed entries xs others k name same alike at stored other = record {
   where
     whole : (text : List ℕ) → take k xs ++ entry_for name text ∷ take (length others - k) (drop k others) ≡ put (entry_for name text) entries
     whole text =
-          (λ i. take k (same i) ++ entry_for name text ∷ (rest-of others k ∙ ap (drop k) alike) i)
-          ∙ sym (subst (λ n. (IsNamedAt entries n name → ⊥) → put (entry_for name text) entries ≡ take n entries ++ entry_for name text ∷ drop n entries) (sym at) (puts (entry_for name text) entries refl stored.one_priority stored.ordered).inserted other)
+        (λ i. take k (same i) ++ entry_for name text ∷ (rest-of others k ∙ ap (drop k) alike) i)
+        ∙ sym (subst (λ n. (IsNamedAt entries n name → ⊥) → put (entry_for name text) entries ≡ take n entries ++ entry_for name text ∷ drop n entries) (sym at) (puts (entry_for name text) entries refl stored.one_priority stored.ordered).inserted other)

@@ -124,4 +124,3 @@ begins bytes (p ∷ ps) (q ∷ qs) r s f g le =
     let same = same-first p q bytes f.0 g.0 f.2 g.2 f.1 g.1 f.3 g.3 class in
     let more = begins f.0 ps qs r s f.4 (subst (λ b. Splits b qs s) (sym same.1) g.4) le in
     (more.0, (λ i. sym same.0 i ∷ more.1 i), more.2)
-

@@ -22,13 +22,12 @@ gains-none (Some bytes) = ap Some (sym (append-nil bytes))
 
 -- one text and then a front of what follows
 pub gains-part : (old mid new : Option (List ℕ)) (first part rest : List ℕ) → Gains old mid first → GainsFront mid new part → GainsFront old new (first ++ (part ++ rest))
-gains-part old mid new first part rest a b =
-    (
-      length first + b.0,
-      omega (arith, b.1, length-append first (part ++ rest), length-append part rest),
-      gains-both old mid new first (take b.0 part) a b.2
+gains-part old mid new first part rest a b = (
+  length first + b.0,
+  omega (arith, b.1, length-append first (part ++ rest), length-append part rest),
+  gains-both old mid new first (take b.0 part) a b.2
       ∙ ap (λ t. option_map (λ bytes. bytes ++ t) old) (ap (λ t. first ++ t) (sym (take-append-le b.0 part rest b.1)) ∙ sym (take-append-add first (part ++ rest) b.0)),
-    )
+)
 
 -- the next of the pieces, and a front of it
 pub gains-next : {X : Type 0} (old mid new : Option (List ℕ)) (f : X → List ℕ) (xs : List X) (i : ℕ) (d : X) → i < length xs → Gains old mid (flat_map f (take i xs)) → Gains mid new (f (get_or xs i d))
@@ -41,7 +40,7 @@ pub gains-next-front : {X : Type 0} (old mid new : Option (List ℕ)) (f : X →
     → GainsFront old new (flat_map f xs)
 gains-next-front old mid new f xs i d within a b =
     let split : xs ≡ take i xs ++ get_or xs i d ∷ drop (i + 1) xs =
-        sym (take-append-drop (i + 1) xs) ∙ ap (λ l. l ++ drop (i + 1) xs) (take_more xs i d within) ∙ append_assoc (take i xs) (get_or xs i d ∷ []) (drop (i + 1) xs)
+    sym (take-append-drop (i + 1) xs) ∙ ap (λ l. l ++ drop (i + 1) xs) (take_more xs i d within) ∙ append_assoc (take i xs) (get_or xs i d ∷ []) (drop (i + 1) xs)
     in
     subst (GainsFront old new) (sym (ap (flat_map f) split ∙ flat_map-append f (take i xs) (get_or xs i d ∷ drop (i + 1) xs)))
     (gains-part old mid new (flat_map f (take i xs)) (f (get_or xs i d)) (flat_map f (drop (i + 1) xs)) a b)

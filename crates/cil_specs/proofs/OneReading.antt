@@ -38,7 +38,7 @@ same-trees (a_list at end items rest) (a_list to close inside more) m n e f g =
     let place : at ≡ to = cc in
     let tails : (marks items ++ closing_before end ∷ marks rest) ++ m ≡ (marks inside ++ closing_before close ∷ marks more) ++ n = ap (drop 1) e in
     let grouped : marks items ++ (closing_before end ∷ (marks rest ++ m)) ≡ marks inside ++ (closing_before close ∷ (marks more ++ n)) =
-        sym (append_assoc (marks items) (closing_before end ∷ marks rest) m) ∙ tails ∙ append_assoc (marks inside) (closing_before close ∷ marks more) n in
+    sym (append_assoc (marks items) (closing_before end ∷ marks rest) m) ∙ tails ∙ append_assoc (marks inside) (closing_before close ∷ marks more) n in
     let within = same-trees items inside (closing_before end ∷ (marks rest ++ m)) (closing_before close ∷ (marks more ++ n)) grouped tt tt in
     let behind = same-trees rest more m n (ap (drop 1) within.1) f g in
     let closes : closing_before end ≡ closing_before close = cc within.1 in

@@ -1,5 +1,5 @@
 -- A run goes on by one call.
-use Rattle.std.proofs.Common.{◌≡◌, List, [], ◌∷◌, ◌++◌, refl, subst}
+use Rattle.std.proofs.Common.{List, [], ◌∷◌, ◌++◌, refl, subst}
 use Rattle.cil_specs.specs.Store.{Store}
 use Rattle.cil_specs.specs.Run.{Call, Reply, Step, Run}
 

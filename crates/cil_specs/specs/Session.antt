@@ -1,5 +1,5 @@
 -- What a session over a script leaves behind.
-use Rattle.std.specs.Prelude.{◌≡◌, ℕ, Bool, true, false, List, [], ◌∷◌, ◌++◌, IsTrue, if◌then◌else◌}
+use Rattle.std.specs.Prelude.{◌≡◌, ℕ, Bool, List, [], ◌++◌, IsTrue, if◌then◌else◌}
 use Rattle.std.specs.List.{list_any}
 use Rattle.cil_specs.specs.Store.{Store}
 use Rattle.cil_specs.specs.Run.{Call, Reply, Run}

@@ -1,14 +1,14 @@
 -- The reader from step to step, and at the end of the text.
-use Rattle.std.proofs.Common.{◌≡◌, ℕ, ◌+◌, ◌-◌, ◌<◌, ◌≤◌, List, [], ◌∷◌, ◌++◌, length, drop, map, reverse, refl, ap, sym, ◌∙◌, subst, inr, append_assoc, length-append, length-drop, arith}
+use Rattle.std.proofs.Common.{◌≡◌, ℕ, ◌<◌, ◌≤◌, List, [], ◌∷◌, ◌++◌, length, drop, map, reverse, ap, sym, ◌∙◌, subst, inr, append_assoc, length-append, length-drop, arith}
 use Rattle.std.specs.List.{AllByRecursion}
-use Rattle.cil_specs.specs.Place.{Place, place_at}
+use Rattle.cil_specs.specs.Place.{place_at}
 use Rattle.cil_specs.specs.Parts.{Part, spelling, IsClean}
 use Rattle.cil_specs.specs.Reading.{IsReadingFault, IsUnclosed}
-use Rattle.cil_specs.specs.TextFault.{TextFault, unclosed}
+use Rattle.cil_specs.specs.TextFault.{unclosed}
 use Rattle.cil_specs.specs.Trees.{Mark, opening_at, marks, told, Reads}
 use Rattle.cil_specs.proofs.PartLemmas.{size-some, clean-push, told-clean, IsRightMark, told-right, all-middle}
 use Rattle.cil_text.specs.Image.{place_of, trees_of}
-use Rattle.cil_text.specs.Reader.{IsPlaced, GoesOver, HasRead, open_lists, open_marks, read_marks}
+use Rattle.cil_text.specs.Reader.{IsPlaced, GoesOver, HasRead, open_lists, open_marks}
 use Rattle.cil_text.specs.declared.reader.Open.{Open}
 use Rattle.cil_text.specs.declared.reader.Reader.{Reader}
 use Rattle.cil_text.proofs.Marks.{open_marks-push, open_lists-push}
@@ -60,10 +60,10 @@ reads-unclosed r parts os o placed had end opened =
     let inside : open_lists r ≡ o.at.offset ∷ reverse (map (λ o. o.at.offset) os) = ap (λ l. reverse (map (λ o. o.at.offset) l)) opened ∙ open_lists-push os o in
     let before : List Mark = open_marks os ++ marks (trees_of o.before.items) in
     let seen : told r.text.now 0 parts ≡ before ++ opening_at (place_of o.at) ∷ marks (trees_of r.current.items) =
-        had.same ∙ ap (λ l. l ++ marks (trees_of r.current.items)) (ap open_marks opened ∙ open_marks-push os o ∙ sym (append_assoc (open_marks os) (marks (trees_of o.before.items)) (opening_at (place_of o.at) ∷ [])))
-        ∙ append_assoc before (opening_at (place_of o.at) ∷ []) (marks (trees_of r.current.items)) in
+    had.same ∙ ap (λ l. l ++ marks (trees_of r.current.items)) (ap open_marks opened ∙ open_marks-push os o ∙ sym (append_assoc (open_marks os) (marks (trees_of o.before.items)) (opening_at (place_of o.at) ∷ [])))
+    ∙ append_assoc before (opening_at (place_of o.at) ∷ []) (marks (trees_of r.current.items)) in
     let right : place_of o.at ≡ place_at r.text.now o.at.offset =
-        all-middle (IsRightMark r.text.now) before (opening_at (place_of o.at)) (marks (trees_of r.current.items)) (subst (AllByRecursion (IsRightMark r.text.now)) seen (told-right r.text.now 0 parts)) in
+    all-middle (IsRightMark r.text.now) before (opening_at (place_of o.at)) (marks (trees_of r.current.items)) (subst (AllByRecursion (IsRightMark r.text.now)) seen (told-right r.text.now 0 parts)) in
     let unclosed_there : IsUnclosed r.text.now (record { kind = unclosed; at = place_of o.at; word = 40 ∷ [] }) = (
       o.at.offset,
       reverse (map (λ o. o.at.offset) os),

@@ -1,5 +1,5 @@
 -- One step of the reader for each part.
-use Rattle.std.proofs.Common.{suc, ◌≡◌, ◌≢◌, ℕ, ◌+◌, ◌-◌, ◌<◌, ◌≤◌, ◌&&◌, Bool, true, false, not, cond, List, [], ◌∷◌, ◌++◌, length, take, drop, get_or, map, reverse, refl, ap, sym, ◌∙◌, subst, Vec, Bor, append_assoc, append-nil, true≢false, length-append, length-drop, get_or-drop, IsTrue, inl, inr, arith}
+use Rattle.std.proofs.Common.{suc, ◌≡◌, ◌≢◌, ℕ, ◌+◌, ◌<◌, ◌&&◌, Bool, true, false, not, cond, List, [], ◌∷◌, ◌++◌, length, take, drop, get_or, map, reverse, refl, ap, sym, ◌∙◌, subst, Vec, Bor, append_assoc, append-nil, true≢false, length-append, length-drop, get_or-drop, IsTrue, inr, arith}
 use Rattle.std.specs.List.{list_all, prefix_len}
 use Rattle.std.proofs.lemmas.Bool.{eqb-true}
 use Rattle.std.proofs.lemmas.List.{length-take-le, length-map, length-reverse, drop-drop, take-append-drop}
@@ -8,9 +8,8 @@ use Rattle.std.proofs.lemmas.List.Sums.{prefix_len-le-length}
 use Rattle.std.proofs.Math.Dec.{eqb}
 use Rattle.std.proofs.Math.Seq.{drop-cons, take-append_seam}
 use Rattle.cil_specs.specs.Bytes.{is_word_byte, is_string_byte, is_comment_byte}
-use Rattle.cil_specs.specs.Place.{Place}
-use Rattle.cil_specs.specs.Parts.{Part, comment, word, string, opening, closing, spelling, IsPart, EndsBefore, Moves}
-use Rattle.cil_specs.specs.Trees.{Mark, word_at, string_at, opening_at, closing_before, told, marks}
+use Rattle.cil_specs.specs.Parts.{Part, comment, word, string, opening, closing}
+use Rattle.cil_specs.specs.Trees.{Mark, word_at, string_at, opening_at, closing_before, marks}
 use Rattle.cil_specs.specs.Reading.{Stops}
 use Rattle.cil_specs.specs.TextFault.{bare_word}
 use Rattle.cil_specs.proofs.PlaceLemmas.{to_right}
@@ -65,8 +64,7 @@ goes-comment old new n placed within byte run at outer current same =
     let free : list_all is_comment_byte text ≡ true = ap (λ k. list_all is_comment_byte (take k rest)) run ∙ run-passes is_comment_byte rest in
     let size : length text ≡ n = length-take-le n rest (omega (arith, run, prefix_len-le-length is_comment_byte rest)) in
     let behind : drop (old.at.offset + length (59 ∷ text)) bytes ≡ drop (prefix_len is_comment_byte rest) rest =
-        ap (λ k. drop k bytes) (let e : old.at.offset + length (59 ∷ text) ≡ (old.at.offset + 1) + n = omega (arith, size) in e) ∙ sym (drop-drop n (old.at.offset + 1) bytes) ∙ ap (λ k. drop k rest) run in
-    (
+    ap (λ k. drop k bytes) (let e : old.at.offset + length (59 ∷ text) ≡ (old.at.offset + 1) + n = omega (arith, size) in e) ∙ sym (drop-drop n (old.at.offset + 1) bytes) ∙ ap (λ k. drop k rest) run in (
       comment text,
       goes-right old new (comment text) placed free free (byte-run is_comment_byte bytes old.at.offset 59 n within byte run)
           (ends-comment text _ (subst (StopsBefore is_comment_byte) (sym behind) (run-stops is_comment_byte rest)))
@@ -87,8 +85,7 @@ goes-word old new n w placed within byte run is listed at outer current same =
     let size : length text ≡ n = length-take-le n rest (omega (arith, run, prefix_len-le-length is_word_byte rest)) in
     let some : 0 < n = omega (arith, run, run-some is_word_byte bytes old.at.offset within byte) in
     let there : (k : ℕ) → k ≡ n → drop (old.at.offset + k) bytes ≡ drop (prefix_len is_word_byte rest) rest =
-        λ k e. ap (λ m. drop (old.at.offset + m) bytes) e ∙ sym (drop-drop n old.at.offset bytes) ∙ ap (λ m. drop m rest) run in
-    (
+    λ k e. ap (λ m. drop (old.at.offset + m) bytes) e ∙ sym (drop-drop n old.at.offset bytes) ∙ ap (λ m. drop m rest) run in (
       word text,
       goes-right old new (word text) placed (not_none text (omega (arith, size, some)), passes) (all-weaker is_word_byte is_comment_byte word-on-line text passes)
           (front-rest bytes old.at.offset n ∙ ap (λ k. text ++ drop (old.at.offset + k) bytes) (sym size))
@@ -126,8 +123,7 @@ goes-string old new n w placed within byte run room quote is listed at outer cur
     let passes : list_all is_string_byte text ≡ true = ap (λ k. list_all is_string_byte (take k rest)) run ∙ run-passes is_string_byte rest in
     let whole : length (34 ∷ (text ++ 34 ∷ [])) ≡ n + 2 = omega (arith, length-append text (34 ∷ []), length-take-le n rest (omega (arith, room))) in
     let here : drop old.at.offset bytes ≡ (34 ∷ (text ++ 34 ∷ [])) ++ drop (old.at.offset + (n + 2)) bytes = string-here bytes old.at.offset n within byte room quote in
-    let spelt : w.now ≡ 34 ∷ (text ++ 34 ∷ []) = is ∙ ap (take (n + 2)) here ∙ ap (λ k. take k ((34 ∷ (text ++ 34 ∷ [])) ++ drop (old.at.offset + (n + 2)) bytes)) (sym whole) ∙ take-append_seam (34 ∷ (text ++ 34 ∷ [])) (drop (old.at.offset + (n + 2)) bytes) in
-    (
+    let spelt : w.now ≡ 34 ∷ (text ++ 34 ∷ []) = is ∙ ap (take (n + 2)) here ∙ ap (λ k. take k ((34 ∷ (text ++ 34 ∷ [])) ++ drop (old.at.offset + (n + 2)) bytes)) (sym whole) ∙ take-append_seam (34 ∷ (text ++ 34 ∷ [])) (drop (old.at.offset + (n + 2)) bytes) in (
       string text,
       goes-right old new (string text) placed passes (string-free text passes)
           (here ∙ ap (λ k. (34 ∷ (text ++ 34 ∷ [])) ++ drop (old.at.offset + k) bytes) (sym whole))
@@ -146,12 +142,12 @@ pub goes-open : {A : Type 0} (old new : Reader A) (o : Open A) → IsPlaced old 
 goes-open old new o placed within byte room here before at outer current same =
     let os = old.outer.items in
     goes-right old new opening placed tt refl (byte-rest old.text.now old.at.offset 40 within byte) (ends-opening _)
-        (omega (arith, room, length-reverse (map (λ o. o.at.offset) os), length-map os (λ o. o.at.offset)), ap (λ l. reverse (map (λ o. o.at.offset) l)) outer ∙ open_lists-push os o ∙ ap (λ p. p.offset ∷ open_lists old) here)
-        (ap (λ l. open_marks l ++ marks (trees_of new.current.items)) outer ∙ ap (λ l. open_marks (os ++ o ∷ []) ++ marks (trees_of l)) current ∙ append-nil _ ∙ open_marks-push os o
-        ∙ sym (append_assoc (open_marks os) (marks (trees_of o.before.items)) (opening_at (place_of o.at) ∷ []))
-        ∙ ap (λ l. (open_marks os ++ marks (trees_of l)) ++ opening_at (place_of o.at) ∷ []) before ∙ ap (λ p. read_marks old ++ opening_at (place_of p) ∷ []) here
-        ∙ ap (λ p. read_marks old ++ opening_at p ∷ []) placed.place)
-        at same
+    (omega (arith, room, length-reverse (map (λ o. o.at.offset) os), length-map os (λ o. o.at.offset)), ap (λ l. reverse (map (λ o. o.at.offset) l)) outer ∙ open_lists-push os o ∙ ap (λ p. p.offset ∷ open_lists old) here)
+    (ap (λ l. open_marks l ++ marks (trees_of new.current.items)) outer ∙ ap (λ l. open_marks (os ++ o ∷ []) ++ marks (trees_of l)) current ∙ append-nil _ ∙ open_marks-push os o
+    ∙ sym (append_assoc (open_marks os) (marks (trees_of o.before.items)) (opening_at (place_of o.at) ∷ []))
+    ∙ ap (λ l. (open_marks os ++ marks (trees_of l)) ++ opening_at (place_of o.at) ∷ []) before ∙ ap (λ p. read_marks old ++ opening_at (place_of p) ∷ []) here
+    ∙ ap (λ p. read_marks old ++ opening_at p ∷ []) placed.place)
+    at same
 
 regroup : (P B V C : List Mark) (a : Mark) → P ++ (B ++ (a ∷ (V ++ C))) ≡ ((P ++ (B ++ a ∷ [])) ++ V) ++ C
 regroup P B V C a = simp append_assoc
@@ -167,13 +163,13 @@ goes-close old new o items placed within byte outer inside at current same =
     let V = marks (trees_of items.items) in
     let end : new.at.offset ≡ old.at.offset + 1 = ap (λ p. p.offset) at in
     goes-right old new closing placed tt refl (byte-rest old.text.now old.at.offset 41 within byte) (ends-closing _)
-        (o.at.offset, ap (λ l. reverse (map (λ o. o.at.offset) l)) outer ∙ open_lists-push os o)
-        (ap (λ l. P ++ marks (trees_of l)) current ∙ ap (λ l. P ++ l) (marks-push o.before.items (a_tree_list o.at new.at.offset items) ∙ ap (λ l. B ++ l) (marks-list o.at new.at.offset items))
-        ∙ regroup P B V (closing_before new.at.offset ∷ []) (opening_at (place_of o.at))
-        ∙ ap (λ l. (l ++ V) ++ closing_before new.at.offset ∷ []) (sym (open_marks-push os o) ∙ ap open_marks (sym outer))
-        ∙ ap (λ l. (open_marks old.outer.items ++ marks (trees_of l)) ++ closing_before new.at.offset ∷ []) inside
-        ∙ ap (λ n. read_marks old ++ closing_before n ∷ []) end)
-        at same
+    (o.at.offset, ap (λ l. reverse (map (λ o. o.at.offset) l)) outer ∙ open_lists-push os o)
+    (ap (λ l. P ++ marks (trees_of l)) current ∙ ap (λ l. P ++ l) (marks-push o.before.items (a_tree_list o.at new.at.offset items) ∙ ap (λ l. B ++ l) (marks-list o.at new.at.offset items))
+    ∙ regroup P B V (closing_before new.at.offset ∷ []) (opening_at (place_of o.at))
+    ∙ ap (λ l. (l ++ V) ++ closing_before new.at.offset ∷ []) (sym (open_marks-push os o) ∙ ap open_marks (sym outer))
+    ∙ ap (λ l. (open_marks old.outer.items ++ marks (trees_of l)) ++ closing_before new.at.offset ∷ []) inside
+    ∙ ap (λ n. read_marks old ++ closing_before n ∷ []) end)
+    at same
 
 -- where no " stands behind the longest run of other bytes, the string isn't closed
 pub not-closed : (inside : List ℕ) (n : ℕ) → n ≡ prefix_len is_string_byte inside → (n < length inside → get_or inside n 0 ≡ 34 → ⊥) → (text more : List ℕ) → IsTrue (list_all is_string_byte text) → inside ≡ text ++ 34 ∷ more → ⊥

@@ -1,7 +1,7 @@
 -- The marks of trees and of open lists.
-use Rattle.std.proofs.Common.{◌≡◌, ℕ, ◌+◌, ◌-◌, List, [], ◌∷◌, ◌++◌, map, reverse, Vec, refl, ap, sym, ◌∙◌, append_assoc, append-nil}
+use Rattle.std.proofs.Common.{◌≡◌, ℕ, List, [], ◌∷◌, ◌++◌, map, reverse, Vec, refl, ap, sym, ◌∙◌, append_assoc}
 use Rattle.std.proofs.lemmas.List.{map-append, reverse-append}
-use Rattle.cil_specs.specs.Trees.{Trees, none, a_list, Mark, word_at, string_at, opening_at, closing_before, marks}
+use Rattle.cil_specs.specs.Trees.{Trees, none, opening_at, closing_before, marks}
 use Rattle.cil_text.specs.Image.{place_of, tree_then, row_trees, trees_of}
 use Rattle.cil_text.specs.Reader.{open_marks}
 use Rattle.cil_text.specs.declared.place.Place.{Place}

@@ -1,5 +1,5 @@
 -- Steps of the reader.
-use Rattle.std.proofs.Common.{suc, ◌≡◌, ℕ, ◌+◌, ◌-◌, ◌<◌, ◌≤◌, Bool, true, false, not, List, [], ◌∷◌, ◌++◌, length, take, drop, get_or, refl, ap, sym, ◌∙◌, subst, true≢false, length-append, length-drop, length-take, get_or-drop, arith}
+use Rattle.std.proofs.Common.{suc, ◌≡◌, ℕ, ◌+◌, ◌<◌, ◌≤◌, Bool, true, false, not, List, [], ◌∷◌, ◌++◌, length, take, drop, get_or, refl, ap, sym, ◌∙◌, subst, true≢false, length-append, length-drop, get_or-drop, arith}
 use Rattle.std.specs.List.{list_all, prefix_len}
 use Rattle.std.proofs.Math.Seq.{drop-cons}
 use Rattle.std.proofs.lemmas.List.{get_or_append_left, take-append-drop, drop-drop, length-take-le}
@@ -9,7 +9,7 @@ use Rattle.cil_specs.specs.Place.{is_line_feed, place_at}
 use Rattle.cil_specs.specs.Parts.{Part, spelling, IsPart, EndsBefore, Moves}
 use Rattle.cil_specs.specs.Trees.{told}
 use Rattle.cil_specs.proofs.PlaceLemmas.{to_right, place_at-run, place_at-small}
-use Rattle.cil_specs.proofs.Runs.{all-at, run-passes, run-stops, StopsBefore}
+use Rattle.cil_specs.proofs.Runs.{all-at}
 use Rattle.cil_text.specs.Image.{place_of}
 use Rattle.cil_text.specs.Reader.{IsPlaced, GoesOver, open_lists, read_marks}
 use Rattle.cil_text.specs.declared.reader.Reader.{Reader}

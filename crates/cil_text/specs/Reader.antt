@@ -1,10 +1,9 @@
 -- What the reader has gone over.
-use Rattle.std.specs.Prelude.{◌≡◌, ℕ, ◌+◌, ◌≤◌, List, [], ◌∷◌, ◌++◌, length, drop, map, reverse}
+use Rattle.std.specs.Prelude.{◌≡◌, ℕ, ◌≤◌, List, [], ◌∷◌, ◌++◌, length, drop, map, reverse}
 use Rattle.cil_specs.specs.Place.{place_at}
 use Rattle.cil_specs.specs.Parts.{Part, spelling, IsPart, EndsBefore, Moves, IsClean}
 use Rattle.cil_specs.specs.Trees.{Mark, opening_at, marks, told}
 use Rattle.cil_specs.specs.Reading.{Stops}
-use Rattle.cil_specs.specs.TextFault as spec
 use Rattle.cil_text.specs.Image.{place_of, trees_of, FaultIs}
 use Rattle.cil_text.specs.declared.reader.Open.{Open}
 use Rattle.cil_text.specs.declared.reader.Reader.{Reader}

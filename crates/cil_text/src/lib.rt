@@ -26,8 +26,8 @@ mod words;
 pub use fault::{ShownWord, TextFault, TextFaultKind};
 pub use forest::Forest;
 pub use laws::{
-    faults_are_stuck, first_fault_is_one, no_fault_beside_a_reading, one_reading, one_reading_fault, statements_are_one,
-    statements_have_no_fault,
+    faults_are_stuck, first_fault_is_one, no_fault_beside_a_reading, one_reading,
+    one_reading_fault, statements_are_one, statements_have_no_fault,
 };
 pub use memory_sink::MemorySink;
 pub use memory_source::MemorySource;

@@ -310,7 +310,9 @@ fn read_parts<'a, A: Allocator + Copy>(
         reader.step(alloc)?;
     }
     let Reader {
-        mut outer, current, ..
+        mut outer,
+        current,
+        ..
     } = reader;
     match outer.pop() {
         Some(innermost) => Err(TextFault::Found {

@@ -73,12 +73,7 @@ impl<A: Allocator + Copy> Plain<A> {
         Ok(Table::of(self.alloc, resolved)?)
     }
 
-    fn install(
-        &mut self,
-        name: &[u8],
-        priority: u32,
-        text: &[u8],
-    ) -> Result<Changes<A>, Refusal<A>>
+    fn install(&mut self, name: &[u8], priority: u32, text: &[u8]) -> Result<Changes<A>, Refusal<A>>
         ensures { Step self.old (an_edit (install name.now priority text.now)) (edit_reply result) self.new }
     {
         if let Err(fault) = check_install(name, priority, text.len()) {

@@ -53,11 +53,7 @@ pub fn refuse_install<A: Allocator + Copy>(
 }
 
 /// The refusal of an install by the fault of its text.
-pub fn refuse_text<A: Allocator + Copy>(
-    alloc: A,
-    name: &[u8],
-    fault: TextFault<'_>,
-) -> Refusal<A>
+pub fn refuse_text<A: Allocator + Copy>(alloc: A, name: &[u8], fault: TextFault<'_>) -> Refusal<A>
     ensures { IsTextRefusal fault.entry name.now (refusal_of result) }
 {
     let TextFault::Found { kind, at, word } = fault else {

@@ -1,4 +1,4 @@
-use Rattle.std.proofs.Common.{◌≡◌, ◌∙◌, ◌<◌, ◌≤◌, ◌++◌, ◌∷◌, [], length, subst, sym, ap, rules, arith}
+use Rattle.std.proofs.Common.{◌≡◌, ◌∙◌, ◌++◌, ◌∷◌, [], length, subst, ap, rules, arith}
 use Rattle.cil_specs.specs.Reading.{IsReadingFault}
 use Rattle.cil_specs.specs.TextFault.{unclosed}
 use Rattle.cil_specs.specs.Trees.{Reads}
@@ -27,7 +27,7 @@ pub returns-in-Some-clause-err : goal.returns-in-Some-clause-err
 returns-in-Some-clause-err g c =
     let was = c.loop-reader.invariant in
     subst (λ l. IsReadingFault l (record { kind = unclosed; at = place_of c.in-Some.innermost.at; word = 40 ∷ [] })) was.same
-        (reads-unclosed c.loop-reader.reader was.read.0 c.pop.new.self.items c.in-Some.innermost was.placed was.read.1 (omega (arith, ap length was.same)) c.in-Some.ensures.items)
+    (reads-unclosed c.loop-reader.reader was.read.0 c.pop.new.self.items c.in-Some.innermost was.placed was.read.1 (omega (arith, ap length was.same)) c.in-Some.ensures.items)
 
 pub invariant_of-result : goal.invariant_of-result
 invariant_of-result g c =

@@ -1,11 +1,11 @@
-use Rattle.std.proofs.Common.{◌≡◌, ◌∙◌, ◌++◌, ◌∷◌, [], List, ℕ, map, refl, ap, sym, subst, IsTrue}
+use Rattle.std.proofs.Common.{◌≡◌, ◌∙◌, ◌++◌, ◌∷◌, [], List, map, refl, ap, sym, subst, IsTrue}
 use Rattle.std.specs.List.{list_all, AllByRecursion}
 use Rattle.std.specs.List.Sorted.{IsStrictlySortedBy}
 use Rattle.std.proofs.lemmas.List.{map-append}
 use Rattle.cil_specs.specs.Joined.{Module}
-use Rattle.cil_specs.specs.Next.{AreModules, IsModuleText, is_compiled}
+use Rattle.cil_specs.specs.Next.{AreModules, is_compiled}
 use Rattle.cil_specs.specs.Store.{put}
-use Rattle.cil_specs.specs.Report.{name_cmp, names_rise}
+use Rattle.cil_specs.specs.Report.{name_cmp}
 use Rattle.cil_specs.proofs.ReportLemmas.{names_rise-from_sorted}
 use Rattle.cil_program.specs.Image.{module_of}
 use Rattle.cil_program.specs.Stored.{IsGood, entry_for}
@@ -35,8 +35,8 @@ invariant_of-result g c =
     let more = c.in_ok-push_modules-2.ensures in
     let m : Module = module_of (record { name = c.args.name; «module» = c.args.parsed }) in
     let modules : map module_of c.push_modules-2.new.modules.items ≡ (found.0 ++ m ∷ []) ++ more.0 =
-        all-modules c.new-modules.result.items c.push_modules.new.modules.items c.push.new.self.items c.push_modules-2.new.modules.items (record { name = c.args.name; «module» = c.args.parsed }) found.0 more.0 c.new-modules.ensures.items found.3
-        c.in_ok-push.ensures.items more.3
+    all-modules c.new-modules.result.items c.push_modules.new.modules.items c.push.new.self.items c.push_modules-2.new.modules.items (record { name = c.args.name; «module» = c.args.parsed }) found.0 more.0 c.new-modules.ensures.items found.3
+    c.in_ok-push.ensures.items more.3
     in
     let names = names-map c.push_modules-2.new.modules.items ∙ ap (map (λ m. m.name)) modules ∙ sym (names-around c.split.result.0.now c.split.result.1.now found.0 more.0 m found.1 more.1) in
     record { ordered = names_rise-from_sorted _ (subst (IsStrictlySortedBy name_cmp) (sym names) c.split.ensures.ordered) }
@@ -47,8 +47,8 @@ returns-clause-modules g c text is =
     let more = c.in_ok-push_modules-2.ensures in
     let m : Module = module_of (record { name = c.args.name; «module» = c.args.parsed }) in
     let modules : map module_of c.push_modules-2.new.modules.items ≡ (found.0 ++ m ∷ []) ++ more.0 =
-        all-modules c.new-modules.result.items c.push_modules.new.modules.items c.push.new.self.items c.push_modules-2.new.modules.items (record { name = c.args.name; «module» = c.args.parsed }) found.0 more.0 c.new-modules.ensures.items found.3
-        c.in_ok-push.ensures.items more.3
+    all-modules c.new-modules.result.items c.push_modules.new.modules.items c.push.new.self.items c.push_modules-2.new.modules.items (record { name = c.args.name; «module» = c.args.parsed }) found.0 more.0 c.new-modules.ensures.items found.3
+    c.in_ok-push.ensures.items more.3
     in
     subst (AreModules (put (entry_for c.args.name.now text) c.args.store.now.entries)) (sym modules)
     (subst (λ es. AreModules es ((found.0 ++ m ∷ []) ++ more.0)) (c.split.ensures.whole text) (modules-around c.split.result.0.now c.split.result.1.now (entry_for c.args.name.now text) found.0 more.0 m found.1 more.1 refl is))
@@ -59,7 +59,7 @@ returns-clause-all_compiled g c =
     let more = c.in_ok-push_modules-2.ensures in
     let m : Module = module_of (record { name = c.args.name; «module» = c.args.parsed }) in
     let modules : map module_of c.push_modules-2.new.modules.items ≡ (found.0 ++ m ∷ []) ++ more.0 =
-        all-modules c.new-modules.result.items c.push_modules.new.modules.items c.push.new.self.items c.push_modules-2.new.modules.items (record { name = c.args.name; «module» = c.args.parsed }) found.0 more.0 c.new-modules.ensures.items found.3
-        c.in_ok-push.ensures.items more.3
+    all-modules c.new-modules.result.items c.push_modules.new.modules.items c.push.new.self.items c.push_modules-2.new.modules.items (record { name = c.args.name; «module» = c.args.parsed }) found.0 more.0 c.new-modules.ensures.items found.3
+    c.in_ok-push.ensures.items more.3
     in
     subst (λ ms. IsTrue (list_all (λ m. is_compiled m.statements) ms)) (sym modules) (compiled-both (found.0 ++ m ∷ []) more.0 (compiled-more found.0 m found.2 c.requires.compiled) more.2)

@@ -1,4 +1,4 @@
-use Rattle.std.proofs.Common.{Result, Ok, Err, IsOk, OnOk, rules, true≢false, ◌≡◌, ◌∙◌, ◌<◌, ◌/◌, ◌%◌, ◌∷◌, ℕ, zero, suc, [], refl, ap, sym, arith, slice_index, codes}
+use Rattle.std.proofs.Common.{Result, Ok, Err, IsOk, OnOk, rules, true≢false, ◌≡◌, ◌∙◌, ◌<◌, ◌/◌, ◌%◌, ◌∷◌, ℕ, zero, suc, [], refl, sym, arith, slice_index}
 use Rattle.cil_specs.specs.Bytes.{hex, hex_digit}
 use Rattle.hex.specs.Hex.{lower_digits, encode_lower, encode_with}
 use Rattle.cil_program.proofs.store.refusing.byte_text.Goals as goal
@@ -34,7 +34,7 @@ written (Err _) P ok is = absurd (true≢false (sym ok))
 pub returns : goal.returns
 returns g c =
     let bytes : c.encode_to_slice-fits.new.output ≡ hex c.args.b =
-        written c.encode_to_slice-fits.result (c.encode_to_slice-fits.new.output ≡ encode_lower (c.args.b ∷ [])) (c.encode_to_slice-fits.ensures.fits.1 refl) c.encode_to_slice-fits.ensures.written
-        ∙ two-digits c.args.b c.ranges.b.fits
+    written c.encode_to_slice-fits.result (c.encode_to_slice-fits.new.output ≡ encode_lower (c.args.b ∷ [])) (c.encode_to_slice-fits.ensures.fits.1 refl) c.encode_to_slice-fits.ensures.written
+    ∙ two-digits c.args.b c.ranges.b.fits
     in
     search (rules, bytes)

@@ -1,4 +1,4 @@
-use Rattle.std.proofs.Common.{◌≡◌, ◌≤◌, ◌∙◌, ◌++◌, ◌+◌, ℕ, List, Some, length, take, drop, ap, sym, rules, arith}
+use Rattle.std.proofs.Common.{◌≤◌, ◌∙◌, ◌++◌, Some, length, take, drop, ap, arith}
 use Rattle.cil_specs.specs.Device.{Reel}
 use Rattle.cil_text.proofs.Pieces.{piece-given}
 use Rattle.cil_text.proofs.memory_source.MemorySourceSource.take.Goals as goal

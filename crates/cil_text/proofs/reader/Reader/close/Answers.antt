@@ -1,4 +1,4 @@
-use Rattle.std.proofs.Common.{◌≡◌, ◌∙◌, ◌++◌, ◌∷◌, [], ap, refl, sym, rules, arith}
+use Rattle.std.proofs.Common.{◌∙◌, ◌++◌, ◌∷◌, [], ap, refl, arith}
 use Rattle.cil_specs.specs.Parts.{closing}
 use Rattle.cil_text.specs.declared.tree.Tree.TheVariants.{List as a_tree_list}
 use Rattle.cil_text.proofs.Reading.{placed-column}

@@ -1,4 +1,4 @@
-use Rattle.std.proofs.Common.{◌≡◌, ◌∙◌, ap, refl, sym, rules, arith}
+use Rattle.std.proofs.Common.{◌∙◌, ap, refl, rules, arith}
 use Rattle.cil_specs.specs.Parts.{opening}
 use Rattle.cil_text.proofs.Reading.{placed-column}
 use Rattle.cil_text.proofs.Going.{goes-open}

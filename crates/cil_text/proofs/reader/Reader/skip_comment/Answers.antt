@@ -1,4 +1,4 @@
-use Rattle.std.proofs.Common.{◌≡◌, ◌+◌, ◌≤◌, ◌∙◌, List, ℕ, length, drop, refl, ap, length-drop, rules, arith}
+use Rattle.std.proofs.Common.{◌+◌, ◌∙◌, List, ℕ, length, refl, ap, length-drop, arith}
 use Rattle.std.specs.List.{prefix_len}
 use Rattle.std.proofs.lemmas.List.Sums.{prefix_len-le-length}
 use Rattle.cil_specs.specs.Bytes.{is_comment_byte}

@@ -1,5 +1,5 @@
 use Rattle.std.proofs.Common.{arith}
-use Rattle.cil_text.proofs.Reading.{placed-column, placed-line}
+use Rattle.cil_text.proofs.Reading.{placed-column}
 use Rattle.cil_text.proofs.reader.Reader.skip_white.Goals as goal
 
 pub to_right-self-requires-clause-column : goal.to_right-self-requires-clause-column

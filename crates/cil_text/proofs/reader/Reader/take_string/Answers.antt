@@ -1,4 +1,4 @@
-use Rattle.std.proofs.Common.{◌≡◌, ◌<◌, ◌+◌, ◌∙◌, ◌∷◌, [], List, ℕ, length, take, drop, get_or, refl, ap, sym, subst, add-zero, length-drop, rules, arith}
+use Rattle.std.proofs.Common.{◌≡◌, ◌<◌, ◌+◌, ◌∙◌, List, ℕ, length, take, drop, get_or, refl, ap, sym, subst, add-zero, length-drop, rules, arith}
 use Rattle.std.specs.List.{prefix_len}
 use Rattle.cil_specs.specs.Bytes.{is_string_byte}
 use Rattle.cil_text.specs.Reader.{IsStopped, open_lists}
@@ -11,9 +11,11 @@ returns-then-is_empty-clause-err g c =
     let inside = c.rest-inside.ensures in
     let found = c.in-Some.ensures.some in
     let none : length c.args.self.now.outer.items ≡ 0 = search rules in
-    subst (IsStopped c.args.self.now) (sym c.fault-then-is_empty.ensures)
-        (bare-string c.args.self.now.text.now (open_lists c.args.self.now) c.args.self.now.at.offset c.in-Some.len (open-none c.args.self.now.outer.items none) c.requires.within c.requires.byte
-        (found.0 ∙ ap (prefix_len is_string_byte) inside) (subst (λ (l : List ℕ). c.in-Some.len < length l) inside found.1) (sym (ap (λ l. get_or l c.in-Some.len 0) inside) ∙ found.2), refl)
+    subst (IsStopped c.args.self.now) (sym c.fault-then-is_empty.ensures) (
+      bare-string c.args.self.now.text.now (open_lists c.args.self.now) c.args.self.now.at.offset c.in-Some.len (open-none c.args.self.now.outer.items none) c.requires.within c.requires.byte
+          (found.0 ∙ ap (prefix_len is_string_byte) inside) (subst (λ (l : List ℕ). c.in-Some.len < length l) inside found.1) (sym (ap (λ l. get_or l c.in-Some.len 0) inside) ∙ found.2),
+      refl,
+    )
 
 pub to_right-self-requires-clause-column : goal.to_right-self-requires-clause-column
 to_right-self-requires-clause-column g c =

@@ -1,6 +1,5 @@
-use Rattle.std.proofs.Common.{◌≡◌, ◌∙◌, ◌≤◌, ℕ, List, [], slice_set, ap, sym, subst, true≢false, length, arith}
+use Rattle.std.proofs.Common.{◌≡◌, ◌∙◌, ◌≤◌, ℕ, List, slice_set, ap, sym, subst, true≢false, length, arith}
 use Rattle.std.specs.List.{insert, prefix_len}
-use Rattle.std.proofs.lemmas.List.Sums.{prefix_len-le-length}
 use Rattle.cil_specs.specs.Store.{Entry, Store, put}
 use Rattle.cil_program.specs.Stored.{AreStored, IsNamedAt, entry_of}
 use Rattle.cil_program.proofs.StoredLemmas.{is_before, set-put, insert-put, put-stored}

@@ -1,5 +1,4 @@
 use Rattle.std.proofs.Common.{subst}
-use Rattle.cil_specs.specs.Rule.{Atom}
 use Rattle.cil_specs.specs.Store.{Store}
 use Rattle.cil_program.specs.Image.{modules_of, rules_of}
 use Rattle.cil_specs.specs.Next.{install, changed}

@@ -1,10 +1,10 @@
-use Rattle.std.proofs.Common.{◌≡◌, ◌∙◌, ap, sym, subst, length, rules}
+use Rattle.std.proofs.Common.{◌≡◌, ◌∙◌, sym, subst, length}
 use Rattle.std.proofs.lemmas.Result.{err_from_is_err_and}
-use Rattle.cil_specs.specs.Next.{install, install_refusal, changed}
-use Rattle.cil_specs.specs.Run.{Step, an_edit, refused, changed_by}
+use Rattle.cil_specs.specs.Next.{install, changed}
+use Rattle.cil_specs.specs.Run.{Step, an_edit, changed_by}
 use Rattle.cil_specs.specs.Store.{Store}
 use Rattle.cil_program.specs.Edits.{refusal_of, store_refusal_of}
-use Rattle.cil_program.specs.Plain.{IsKept, IsTableOf, IsRefused}
+use Rattle.cil_program.specs.Plain.{IsKept}
 use Rattle.cil_program.proofs.PlainLemmas.{line-step, refused-step, accepted-step, kept-changed, taken-priority, taken-short}
 use Rattle.cil_program.proofs.store.plain.Plain.install.Goals as goal
 
@@ -22,7 +22,7 @@ invariant_of-self-2 g c =
     let store : Store = c.args.self.now in
     let kept : IsKept store c.self.inside.table = subst (λ s. IsKept s c.self.inside.table) c.self.view_is c.self.invariant in
     let put_is : c.put.new.self ≡ changed store (install c.args.name.now 400 c.args.text.now) =
-        c.in_ok-put.ensures.ok ∙ (λ i. changed (c.self.view_is i) (install c.args.name.now (taken-priority c.args.name.now c.args.priority (length c.args.text.now) c.in_default.ensures i) c.args.text.now))
+    c.in_ok-put.ensures.ok ∙ (λ i. changed (c.self.view_is i) (install c.args.name.now (taken-priority c.args.name.now c.args.priority (length c.args.text.now) c.in_default.ensures i) c.args.text.now))
     in
     subst (λ s. IsKept s c.in_ok-table.table) (sym put_is) (kept-changed store c.self.inside.table c.in_ok-table.table c.args.name.now c.args.text.now (taken-short c.args.name.now c.args.priority (length c.args.text.now) c.in_default.ensures) kept c.in_ok-table.ensures.table)
 
@@ -31,7 +31,7 @@ returns g c =
     let store : Store = c.args.self.now in
     let kept : IsKept store c.self.inside.table = subst (λ s. IsKept s c.self.inside.table) c.self.view_is c.self.invariant in
     let put_is : c.put.new.self ≡ changed store (install c.args.name.now 400 c.args.text.now) =
-        c.in_ok-put.ensures.ok ∙ (λ i. changed (c.self.view_is i) (install c.args.name.now (taken-priority c.args.name.now c.args.priority (length c.args.text.now) c.in_default.ensures i) c.args.text.now))
+    c.in_ok-put.ensures.ok ∙ (λ i. changed (c.self.view_is i) (install c.args.name.now (taken-priority c.args.name.now c.args.priority (length c.args.text.now) c.in_default.ensures i) c.args.text.now))
     in
     subst (λ s. Step store (an_edit (install c.args.name.now c.args.priority c.args.text.now)) (changed_by c.in_ok-changes.changes) s) (sym put_is)
     (accepted-step store c.self.inside.table c.in_ok-table.table c.args.name.now c.args.text.now c.args.priority c.in_ok-changes.changes c.in_default.ensures c.in_ok-table.ensures.good kept c.in_ok-table.ensures.table c.in_ok-changes.ensures)
