@@ -1,12 +1,21 @@
 -- The modules of entries, one list of them after another.
-use Rattle.std.proofs.Common.{◌≡◌, ◌+◌, ◌<◌, List, ℕ, [], ◌∷◌, ◌++◌, length, get_or, map, take, drop, Bool, true, false, ◌&&◌, IsTrue, refl, ap, sym, ◌∙◌, subst, append_assoc}
-use Rattle.std.specs.List.{list_all, AllByRecursion}
+use Rattle.std.proofs.Common.{◌≡◌, inl, inr, ◌+◌, ◌<◌, List, ℕ, [], ◌∷◌, ◌++◌, length, get_or, map, take, drop, Bool, true, false, ◌&&◌, IsTrue, bytes_eq, true≢false, refl, ap, sym, ◌∙◌, subst, append_assoc}
+use Rattle.std.specs.List.{list_all, AllByRecursion, IsDistinct}
+use Rattle.std.specs.List.Sorted.{IsStrictlySortedBy, IsPermutation}
+use Rattle.std.specs.Ordering.{is_lt, ordering_reverse}
+use Rattle.std.specs.declared.cmp.Ordering.TheVariants.{Less}
+use Rattle.std.specs.Cmp.Lexicographic.{bytes_decides}
+use Rattle.std.proofs.lemmas.Cmp.{tied_itself}
+use Rattle.std.proofs.lemmas.List.Sorted.{Contains-permutation, IsPermutation-sym}
 use Rattle.std.proofs.lemmas.List.{take-append-drop, take_more, map-append}
 use Rattle.std.proofs.lemmas.List.Folds.{list_all-append}
 use Rattle.cil_specs.proofs.Runs.{both_true}
 use Rattle.cil_specs.specs.Joined.{Module}
 use Rattle.cil_specs.specs.Next.{IsModuleText, AreModules, is_compiled}
+use Rattle.cil_specs.specs.Report.{name_cmp, names_rise}
 use Rattle.cil_specs.specs.Store.{Entry}
+use Rattle.cil_specs.proofs.ReportLemmas.{name_total, sorted_from_names_rise}
+use Rattle.cil_specs.proofs.ReportLemmasMembers.{AnyByRecursion, contains_to, contains_from}
 use Rattle.cil_specs.proofs.NamesLemmas.{all-first, all-second}
 
 pub modules-append : (es fs : List Entry) (ms ns : List Module) → AreModules es ms → AreModules fs ns → AreModules (es ++ fs) (ms ++ ns)
@@ -54,3 +63,63 @@ pub names-around : (before after : List Entry) (first second : List Module) (m :
 names-around before after first second m a b =
     (λ i. sym (modules-names before first a) i ++ m.name ∷ sym (modules-names after second b) i)
     ∙ sym (ap (map (λ m. m.name)) (append_assoc first (m ∷ []) second) ∙ map-append (λ m. m.name) first (m ∷ second))
+
+-- names that rise differ
+unequal : (a b : List ℕ) → name_cmp a b ≡ Less → bytes_eq a b ≡ false
+unequal a b less = by (bytes_eq a b) refl
+  where
+    by : (same : Bool) → bytes_eq a b ≡ same → same ≡ false
+    by true is = absurd (true≢false (ap is_lt (sym less ∙ ap (name_cmp a) (sym ((bytes_decides a b).0 is)) ∙ tied_itself name_total a)))
+    by false is = refl
+
+unequal-all : {X : Type 0} (f : X → List ℕ) (a : List ℕ) (xs : List X) → AllByRecursion (λ b. name_cmp a b ≡ Less) (map f xs) → AllByRecursion (λ x. bytes_eq a (f x) ≡ false) xs
+unequal-all f a [] all = tt
+unequal-all f a (x ∷ xs) all = (unequal a (f x) all.0, unequal-all f a xs all.1)
+
+pub distinct-from_sorted : {X : Type 0} (f : X → List ℕ) (xs : List X) → IsStrictlySortedBy name_cmp (map f xs) → IsDistinct (λ x y. bytes_eq (f x) (f y)) xs
+unfolding IsStrictlySortedBy IsDistinct
+distinct-from_sorted f [] sorted = tt
+distinct-from_sorted f (x ∷ xs) sorted = (unequal-all f (f x) xs sorted.0, distinct-from_sorted f xs sorted.1)
+
+abbrev IsIn : {X : Type 0} → X → List X → Type 0
+IsIn x xs = AnyByRecursion (λ y. y ≡ x) xs
+
+less-member : {X : Type 0} (f : X → List ℕ) (a : List ℕ) (xs : List X) (x : X) → AllByRecursion (λ b. name_cmp a b ≡ Less) (map f xs) → IsIn x xs → name_cmp a (f x) ≡ Less
+less-member f a [] x all is = absurd is
+less-member f a (y ∷ xs) x all (inl is) = ap (λ y. name_cmp a (f y)) (sym is) ∙ all.0
+less-member f a (y ∷ xs) x all (inr is) = less-member f a xs x all.1 is
+
+not-itself : (a : List ℕ) → name_cmp a a ≡ Less → ⊥
+not-itself a less = true≢false (ap is_lt (sym less ∙ tied_itself name_total a))
+
+not-both : (a b : List ℕ) → name_cmp a b ≡ Less → name_cmp b a ≡ Less → ⊥
+not-both a b less more = true≢false (ap is_lt (sym more ∙ name_total.antisymm b a ∙ ap ordering_reverse less))
+
+-- the members of the tails of two lists of one first element
+tail-in : {X : Type 0} (f : X → List ℕ) (x y z : X) (xs ys : List X) → x ≡ y → AllByRecursion (λ b. name_cmp (f x) b ≡ Less) (map f xs) → IsIn z xs → IsIn z (y ∷ ys) → IsIn z ys
+tail-in f x y z xs ys same above is (inl first) = absurd (not-itself (f x) (ap (λ w. name_cmp (f x) (f w)) (same ∙ first) ∙ less-member f (f x) xs z above is))
+tail-in f x y z xs ys same above is (inr later) = later
+
+first-same : {X : Type 0} (f : X → List ℕ) (x y : X) (xs ys : List X) → AllByRecursion (λ b. name_cmp (f x) b ≡ Less) (map f xs) → AllByRecursion (λ b. name_cmp (f y) b ≡ Less) (map f ys)
+    → IsIn x (y ∷ ys) → IsIn y (x ∷ xs) → x ≡ y
+first-same f x y xs ys above beyond (inl is) there = sym is
+first-same f x y xs ys above beyond (inr later) (inl is) = is
+first-same f x y xs ys above beyond (inr later) (inr more) = absurd (not-both (f x) (f y) (less-member f (f x) xs y above more) (less-member f (f y) ys x beyond later))
+
+-- two lists whose names rise and that have the same elements are one
+pub sorted-one : {X : Type 0} (f : X → List ℕ) (xs ys : List X) → IsStrictlySortedBy name_cmp (map f xs) → IsStrictlySortedBy name_cmp (map f ys) → ((x : X) → IsIn x xs → IsIn x ys) → ((x : X) → IsIn x ys → IsIn x xs) → xs ≡ ys
+unfolding IsStrictlySortedBy
+sorted-one f [] [] sorted rising to back = refl
+sorted-one f [] (y ∷ ys) sorted rising to back = absurd (back y (inl refl))
+sorted-one f (x ∷ xs) [] sorted rising to back = absurd (to x (inl refl))
+sorted-one f (x ∷ xs) (y ∷ ys) sorted rising to back =
+    let same = first-same f x y xs ys sorted.0 rising.0 (to x (inl refl)) (back y (inl refl)) in
+    let tails = sorted-one f xs ys sorted.1 rising.1 (λ z is. tail-in f x y z xs ys same sorted.0 is (to z (inr is))) (λ z is. tail-in f y x z ys xs (sym same) rising.0 is (back z (inr is))) in
+    λ i. same i ∷ tails i
+
+-- a list whose names rise is its only permutation whose names rise
+pub permutation-one : {X : Type 0} (f : X → List ℕ) (xs ys : List X) → IsStrictlySortedBy name_cmp (map f xs) → IsTrue (names_rise (map f ys)) → IsPermutation xs ys → ys ≡ xs
+permutation-one f xs ys sorted rise moved =
+    sym (sorted-one f xs ys sorted (sorted_from_names_rise (map f ys) rise)
+    (λ x is. contains_to ys x (Contains-permutation xs ys x moved (contains_from xs x is)))
+    (λ x is. contains_to xs x (Contains-permutation ys xs x (IsPermutation-sym xs ys moved) (contains_from ys x is))))

@@ -2,16 +2,6 @@ pub mod InputLemmas
 pub mod CommandLemmas
 pub mod EndLemmas
 pub mod SessionLemmas
-pub mod NameSets
-pub mod FlatLemmas
-pub mod PlacedLemmas
-pub mod DeclarationLemmas
-pub mod TwiceLemmas
-pub mod MissingLemmas
-pub mod ClassEntries
-pub mod FaultLemmas
-pub mod NumberingLemmas
-pub mod ResolveLemmas
 pub mod AtomLemmas
 pub mod ChangesLemmas
 pub mod DerivedOrder

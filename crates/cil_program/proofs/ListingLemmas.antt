@@ -7,7 +7,7 @@ use Rattle.cil_specs.specs.Rule as spec
 use Rattle.cil_specs.specs.Report.{AreAtoms, Row, AreRows, row_line}
 use Rattle.cil_specs.specs.Device.{Gains, GainsFront}
 use Rattle.cil_specs.proofs.Gaining.{gains-both}
-use Rattle.cil_specs.proofs.ReportLemmasGaining.{gains-then_front, front-longer}
+use Rattle.cil_specs.proofs.Gaining.{gains-then_front, front-longer}
 use Rattle.cil_text.specs.Image.{rule_kind_of}
 use Rattle.cil_program.specs.declared.rules.numbers.AtomNumbers.{AtomNumbers}
 use Rattle.cil_program.specs.Atoms.{name_at}

@@ -3,21 +3,19 @@ use Rattle.std.proofs.Common.{◌≡◌, ◌==◌, ◌||◌, ◌&&◌, ◌≤◌
 use Rattle.std.specs.List.{list_all, list_any, AllByRecursion}
 use Rattle.std.proofs.lemmas.Bool.{eqb-true, leb-true, ltb-false}
 use Rattle.cil_specs.specs.Joined.{Module, joined}
-use Rattle.cil_specs.specs.PolicyFault as policy_faults
-use Rattle.cil_specs.specs.PolicyFault.{Compiles, IsFirst, declared_twice, no_name, no_permission}
 use Rattle.std.specs.List.Sorted.{IsStrictlySortedBy}
 use Rattle.cil_specs.specs.Rule.{Atom, Rule, is_in_table, rules_of}
 use Rattle.cil_specs.specs.Report.{AreAtoms, Changes, AreChanges}
 use Rattle.cil_specs.specs.Store.{Entry, Store, empty, is_highest, active, put}
-use Rattle.cil_specs.specs.Next.{every_optional, AreModules, IsPolicyOf, install, Refusal, by_store, is_module_name, changed, install_refusal, HasGoodText, IsPolicyRefusal, accepts, Next, bad_store, bad_text, bad_policy, good}
+use Rattle.cil_specs.specs.Next.{every_optional, AreModules, IsPolicyOf, IsCompiledWhole, IsRefusedFor, install, Refusal, by_store, is_module_name, changed, install_refusal, HasGoodText, IsPolicyRefusal, accepts, Next, bad_store, bad_text, bad_policy, good}
 use Rattle.cil_specs.specs.Run.{an_edit, changed_by, refused, Step}
 use Rattle.cil_specs.proofs.Runs.{both_true, first_true, second_true}
-use Rattle.cil_program.specs.Image.{PolicyFaultIs}
+use Rattle.cil_names.specs.Image.{PolicyFaultIs}
 use Rattle.cil_program.specs.Refusing.{IsRefusalOf, IsPolicyRefusalOf}
 use Rattle.cil_program.specs.Stored.{IsGood, entry_for}
 use Rattle.cil_program.specs.Plain.{IsTableOf, IsKept, IsRefused}
-use Rattle.cil_program.specs.declared.names.fault.PolicyFault.{PolicyFault}
-use Rattle.cil_program.specs.declared.names.fault.PolicyFault.TheVariants.{Memory, Found}
+use Rattle.cil_names.specs.declared.fault.PolicyFault.{PolicyFault}
+use Rattle.cil_names.specs.declared.fault.PolicyFault.TheVariants.{Memory, Found}
 use Rattle.cil_program.proofs.StoredLemmas.{none-stored, put-stored}
 
 filter-every : (p : Entry → Bool) (xs : List Entry) → AllByRecursion (λ x. p x ≡ true) xs → filter p xs ≡ xs
@@ -75,17 +73,18 @@ pub changed-policy : (store : Store) (table : List Atom) (name text : List ℕ) 
 changed-policy store table name text modules short kept are = (modules, subst (λ es. AreModules es modules) (sym (changed-active store table name text short kept)) are, refl)
 
 pub policy-refused : (fault : PolicyFault) (refusal : Refusal) (store : Store) (table : List Atom) (name text : List ℕ) (modules : List Module) → length text ≤ 16777216 → IsKept store table → AreModules (put (entry_for name text) store.entries) modules
-    → HasGoodText (install name 400 text) → PolicyFaultIs fault (IsFirst every_optional (joined modules)) → IsPolicyRefusalOf fault refusal → IsRefused store name text refusal
+    → HasGoodText (install name 400 text) → PolicyFaultIs fault (IsRefusedFor every_optional (joined modules)) → IsPolicyRefusalOf fault refusal → IsRefused store name text refusal
 policy-refused Memory refusal store table name text modules short kept are is_good first is = inl is
 policy-refused (Found kind module_name at word) refusal store table name text modules short kept are is_good first (inl is) = inl is
 policy-refused (Found kind module_name at word) refusal store table name text modules short kept are is_good first (inr is) =
     inr (inr (is_good, (joined modules, _, changed-policy store table name text modules short kept are, first, is)))
 
 -- a policy of no statements has no fault
-none-missing : (fault : policy_faults.PolicyFault) → policy_faults.IsPolicyFault every_optional [] fault → ⊥
-none-missing fault (inl (declared_twice before after s table id split declared again at)) = omega (arith, ap length split, length-append before (s ∷ after))
-none-missing fault (inr (no_name s table word contains outside refers leads at)) = omega (arith, contains.1)
-none-missing fault (inr (no_permission s the_class word name contains outside named leads lacks at)) = omega (arith, contains.1)
+none-wrong : IsCompiledWhole every_optional []
+none-wrong = (
+  λ fault h. absurd (omega (arith, ap length h.split, length-append h.before (h.s ∷ h.after))),
+  λ fault h. absurd (omega (arith, h.is_in.1)),
+)
 
 no-atoms : AreAtoms (is_in_table []) []
 unfolding IsStrictlySortedBy
@@ -97,13 +96,13 @@ kept-empty table none = record {
   enabled = refl;
   is_table = record {
     rules = [];
-    are_rules = record { policy = []; is_policy = ([], tt, refl); compiles = none-missing; are_rules = refl };
+    are_rules = record { policy = []; is_policy = ([], tt, refl); compiles = none-wrong; are_rules = refl };
     are_atoms = subst (AreAtoms (is_in_table [])) (sym none) no-atoms;
   };
 }
 
 pub table-of : (store : Store) (table atoms : List Atom) (name text : List ℕ) (modules : List Module) (rules : List Rule) → length text ≤ 16777216 → IsKept store table → AreModules (put (entry_for name text) store.entries) modules
-    → Compiles every_optional (joined modules) → rules ≡ rules_of every_optional (joined modules) → AreAtoms (is_in_table rules) atoms → IsTableOf (changed store (install name 400 text)) atoms
+    → IsCompiledWhole every_optional (joined modules) → rules ≡ rules_of every_optional (joined modules) → AreAtoms (is_in_table rules) atoms → IsTableOf (changed store (install name 400 text)) atoms
 table-of store table atoms name text modules rules short kept are compiles are_rules are_atoms = record {
   rules = rules;
   are_rules = record { policy = joined modules; is_policy = changed-policy store table name text modules short kept are; compiles = compiles; are_rules = are_rules };

@@ -8,7 +8,9 @@ use Rattle.cil_specs.specs.Rule as spec
 use Rattle.cil_specs.specs.Rule.{kind_index}
 use Rattle.cil_specs.specs.Report.{names_rise}
 use Rattle.cil_text.specs.Image.{rule_kind_of}
-use Rattle.cil_program.specs.declared.names.resolved.NumberedRule.{NumberedRule}
+use Rattle.cil_names.specs.declared.numbered.Element.{Element}
+use Rattle.cil_names.specs.declared.numbered.Element.TheVariants.{«Type», Attribute}
+use Rattle.cil_names.specs.declared.numbered.NumberedRule.{NumberedRule}
 use Rattle.cil_program.specs.declared.rules.atom.Atom.{Atom}
 use Rattle.cil_program.specs.declared.rules.numbers.AtomNumbers.{AtomNumbers}
 
@@ -48,10 +50,16 @@ pub record AreNumbered (names : List (List ℕ)) (atoms : List AtomNumbers) : Ty
   pub ordered : IsStrictlySortedBy numbers_cmp atoms
   pub within : All (IsWithin (length names)) atoms
 
--- what a rule gives for a permission
-abbrev pub given_for : {A : Type 0} → NumberedRule A → ℕ → AtomNumbers
-given_for r p = record { kind = r.kind; source = r.source; target = r.target; class = r.class; permission = p }
+-- what a rule gives between two types for a permission
+abbrev pub given_for : {A : Type 0} → NumberedRule A → ℕ → ℕ → ℕ → AtomNumbers
+given_for r source target p = record { kind = r.kind; source = source; target = target; class = r.class; permission = p }
 
--- the accesses that a rule gives, one for each permission
+-- what a rule gives between two elements: one access for each permission where both are types
+abbrev pub given_between : {A : Type 0} → NumberedRule A → Element → Element → List AtomNumbers
+given_between r («Type» source) («Type» target) = map (given_for r source target) r.permissions.items
+given_between r («Type» source) (Attribute target) = []
+given_between r (Attribute source) target = []
+
+-- the accesses that a rule gives
 abbrev pub given : {A : Type 0} → NumberedRule A → List AtomNumbers
-given r = map (given_for r) r.permissions.items
+given r = given_between r r.source r.target

@@ -1,10 +1,6 @@
 //! The store of modules, its compiler, and the session over a script.
 #![tactic(auto)]
 
-pub mod names;
 pub mod rules;
 pub mod script;
 pub mod store;
-mod text;
-
-pub use text::Text;

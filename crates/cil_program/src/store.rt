@@ -5,6 +5,7 @@ mod compiled;
 mod edit;
 mod entry;
 mod join;
+mod later;
 mod modules;
 mod parse;
 mod plain;

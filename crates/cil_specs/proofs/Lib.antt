@@ -18,4 +18,3 @@ pub mod FaultOrder
 pub mod FaultSame
 pub mod ReportLemmasMembers
 pub mod ReportLemmas
-pub mod ReportLemmasGaining

@@ -1,17 +1,17 @@
 -- What an edit of the store leads to.
-use Rattle.std.specs.Prelude.{◌≡◌, ◌⊎◌, ℕ, Bool, true, false, not, ◌&&◌, ◌||◌, ◌==◌, nat_le, nat_lt, List, [], ◌∷◌, length, codes, bytes_eq, decimal, Option, Some, None, IsTrue, if◌then◌else◌}
+use Rattle.std.specs.Prelude.{◌≡◌, ◌⊎◌, ℕ, Bool, true, false, not, ◌&&◌, ◌||◌, ◌==◌, nat_le, nat_lt, List, [], ◌∷◌, length, codes, bytes_eq, decimal, Option, Some, None, Contains, IsTrue, if◌then◌else◌}
 use Rattle.std.specs.List.{list_all, list_any}
 use Rattle.cil_specs.specs.Place.{Place}
 use Rattle.cil_specs.specs.TextFault.{TextFault, unsupported, IsNoLater}
 use Rattle.cil_specs.specs.TextFault as text_fault
 use Rattle.cil_specs.specs.Trees.{Trees, none, a_word, a_string, a_list, Reads}
 use Rattle.cil_specs.specs.Reading.{IsReadingFault}
-use Rattle.cil_specs.specs.Names.{is_letter, is_digit}
-use Rattle.cil_specs.specs.Statements.{allow, the_named, Form, type_name, class, rule, Statements, no_more, statement}
+use Rattle.cil_specs.specs.Names.{Word, is_letter, is_digit}
+use Rattle.cil_specs.specs.Statements.{allow, the_named, Form, optional, attribute_set, rule, target_words, Statements, no_more, statement}
 use Rattle.cil_specs.specs.Shape.{Shapes, IsFirstShapeFault}
 use Rattle.cil_specs.specs.Joined.{Module, Placed, joined}
-use Rattle.cil_specs.specs.Lookup.{Optionals}
-use Rattle.cil_specs.specs.PolicyFault.{PolicyFault, IsFirst, Compiles}
+use Rattle.cil_specs.specs.Lookup.{types, Optionals, is_within, leads, holds_of, is_attribute}
+use Rattle.cil_specs.specs.PolicyFault.{PolicyFault, wrong_kind, IsAtWordOf, IsFirst, Compiles}
 use Rattle.cil_specs.specs.PolicyFault as policy_fault
 use Rattle.cil_specs.specs.Rule.{Rule, rules_of}
 use Rattle.cil_specs.specs.Store.{Entry, Store, put, active}
@@ -22,30 +22,29 @@ every_optional module_name offset = true
 
 -- the words of the statements that are compiled so far
 abbrev pub compiled_words : List (List ℕ)
-compiled_words = codes "class" ∷ codes "type" ∷ codes "allow" ∷ []
+compiled_words = codes "block" ∷ codes "type" ∷ codes "typealias" ∷ codes "typealiasactual" ∷ codes "typeattribute" ∷ codes "common" ∷ codes "class" ∷ codes "classcommon"
+    ∷ codes "classorder" ∷ codes "allow" ∷ []
 
-abbrev pub is_dotted : List ℕ → Bool
-is_dotted text = list_any (λ b. b == 46) text
-
--- whether one of the words is self or has a dot
-abbrev pub has_later_word : Trees → Bool
-has_later_word none = false
-has_later_word (a_word at text rest) = (bytes_eq text (codes "self") || is_dotted text) || has_later_word rest
-has_later_word (a_string at text rest) = has_later_word rest
-has_later_word (a_list at end items rest) = has_later_word items || has_later_word rest
+-- whether one of the words is self
+abbrev pub has_self : Trees → Bool
+has_self none = false
+has_self (a_word at text rest) = bytes_eq text (codes "self") || has_self rest
+has_self (a_string at text rest) = has_self rest
+has_self (a_list at end items rest) = has_self rest
 
 -- whether a statement that begins with this word is one that isn't compiled yet
 abbrev pub is_later : List ℕ → Trees → Bool
-is_later keyword operands = not (list_any (bytes_eq keyword) compiled_words) || has_later_word operands
+is_later keyword operands = not (list_any (bytes_eq keyword) compiled_words) || (bytes_eq keyword (codes "allow") && has_self operands)
 
--- a statement that isn't compiled yet is a fault at its first word
+-- a statement that isn't compiled yet is a fault at its first word, in a block too
 abbrev pub IsLaterFault : Trees → TextFault → Type 0
 IsLaterFault none fault = ⊥
 IsLaterFault (a_word at text rest) fault = IsLaterFault rest fault
 IsLaterFault (a_string at text rest) fault = IsLaterFault rest fault
 IsLaterFault (a_list at end none rest) fault = IsLaterFault rest fault
 IsLaterFault (a_list at end (a_word place text operands) rest) fault =
-    (IsTrue (is_later text operands) × (fault ≡ record { kind = unsupported; at = place; word = text })) ⊎ IsLaterFault rest fault
+    (IsTrue (is_later text operands) × (fault ≡ record { kind = unsupported; at = place; word = text }))
+    ⊎ ((IsTrue (bytes_eq text (codes "block")) × IsLaterFault operands fault) ⊎ IsLaterFault rest fault)
 IsLaterFault (a_list at end (a_string place text more) rest) fault = IsLaterFault rest fault
 IsLaterFault (a_list at end (a_list place last items more) rest) fault = IsLaterFault rest fault
 
@@ -54,18 +53,18 @@ pub record IsFirstLaterFault (trees : Trees) (fault : TextFault) : Type 0 where
   pub is : IsLaterFault trees fault
   pub first : (other : TextFault) → IsLaterFault trees other → IsNoLater fault other
 
--- whether a statement says what is compiled so far: a class, a type, or an allow rule between two names
+-- whether a statement says what is compiled so far: no optional, no set and no rule but an allow rule between two names
 abbrev pub is_compiled_form : Form → Bool
-is_compiled_form (type_name id) = true
-is_compiled_form (class id permissions) = true
+is_compiled_form (optional id) = false
+is_compiled_form (attribute_set attribute expr) = false
 is_compiled_form (rule allow source (the_named target) the_class permissions) = true
-is_compiled_form _ = false
+is_compiled_form (rule _ source target the_class permissions) = false
+is_compiled_form _ = true
 
--- whether all statements do, none of which holds others
+-- whether all statements do, those inside blocks too
 abbrev pub is_compiled : Statements → Bool
 is_compiled no_more = true
-is_compiled (statement at form no_more more) = is_compiled_form form && is_compiled more
-is_compiled (statement at form (statement to inner body others) more) = false
+is_compiled (statement at form body more) = is_compiled_form form && (is_compiled body && is_compiled more)
 
 -- the text spells the statements, all of which are compiled
 pub record IsModuleText (bytes : List ℕ) (statements : Statements) : Type 0 where
@@ -91,11 +90,44 @@ AreModules (e ∷ entries) [] = ⊥
 abbrev pub IsPolicyOf : Store → List Placed → Type 0
 IsPolicyOf store policy = (modules : List Module) × AreModules (active store) modules × (policy ≡ joined modules)
 
+-- whether a word leads to an attribute
+abbrev pub is_attribute_word : Optionals → List Placed → List (List ℕ) → Word → Bool
+is_attribute_word kept policy namespace word = holds_of (λ s. is_attribute s.form) (leads kept policy types namespace word.text)
+
+-- the words of a rule's source and target
+abbrev pub rule_elements : Form → List Word
+rule_elements (rule kind source target the_class permissions) = source ∷ target_words target
+rule_elements _ = []
+
+-- Until attributes have members, a rule's source or target that leads to one is a fault of the code of another kind.
+pub record IsAttributeFault (kept : Optionals) (policy : List Placed) (fault : PolicyFault) : Type 0 where
+  pub s : Placed
+  pub word : Word
+  pub is_in : Contains policy s
+  pub is_kept : IsTrue (is_within kept s)
+  pub is_word : Contains (rule_elements s.form) word
+  pub is_attribute : IsTrue (is_attribute_word kept policy s.namespace word)
+  pub is_at : IsAtWordOf fault wrong_kind s word
+
+-- the first of them, by module name and then by offset
+pub record IsFirstAttributeFault (kept : Optionals) (policy : List Placed) (fault : PolicyFault) : Type 0 where
+  pub is : IsAttributeFault kept policy fault
+  pub first : (other : PolicyFault) → IsAttributeFault kept policy other → policy_fault.IsNoLater fault other
+
+-- a policy that compiles and has none of these
+abbrev pub IsCompiledWhole : Optionals → List Placed → Type 0
+IsCompiledWhole kept policy = Compiles kept policy × ((fault : PolicyFault) → IsAttributeFault kept policy fault → ⊥)
+
+-- the fault that a policy is refused for: its first; or else the first of a rule of an attribute
+pub data IsRefusedFor (kept : Optionals) (policy : List Placed) (fault : PolicyFault) : Type 0 where
+  first_fault : IsFirst kept policy fault → IsRefusedFor kept policy fault
+  first_attribute : Compiles kept policy → IsFirstAttributeFault kept policy fault → IsRefusedFor kept policy fault
+
 -- the rules of a store, whose policy compiles
 pub record AreRulesOf (store : Store) (rules : List Rule) : Type 0 where
   pub policy : List Placed
   pub is_policy : IsPolicyOf store policy
-  pub compiles : Compiles every_optional policy
+  pub compiles : IsCompiledWhole every_optional policy
   pub are_rules : rules ≡ rules_of every_optional policy
 
 pub data Edit : Type 0 where
@@ -140,9 +172,9 @@ IsEditFault (install name priority text) refusal = (fault : TextFault) × IsText
 abbrev pub HasGoodText : Edit → Type 0
 HasGoodText (install name priority text) = (statements : Statements) × IsModuleText text statements
 
--- the policy of a store has a first fault
+-- the policy of a store is refused
 abbrev pub IsPolicyRefusal : Store → Refusal → Type 0
-IsPolicyRefusal store refusal = (policy : List Placed) × (fault : PolicyFault) × IsPolicyOf store policy × IsFirst every_optional policy fault
+IsPolicyRefusal store refusal = (policy : List Placed) × (fault : PolicyFault) × IsPolicyOf store policy × IsRefusedFor every_optional policy fault
     × (refusal ≡ at_place (policy_fault.code_of fault.kind) fault.module_name fault.at fault.word)
 
 -- an edit is accepted, and leads to another store; or it is refused

@@ -1,23 +1,35 @@
 -- The faults of a joined policy, and the first of them.
-use Rattle.std.specs.Prelude.{◌≡◌, ℕ, ◌<◌, ◌≤◌, ◌⊎◌, Bool, false, not, ◌&&◌, List, [], ◌∷◌, ◌++◌, Some, None, Contains, IsTrue}
+use Rattle.std.specs.Prelude.{◌≡◌, ℕ, ◌<◌, ◌≤◌, ◌⊎◌, Bool, true, false, not, ◌&&◌, nat_lt, List, [], ◌∷◌, ◌++◌, map, filter, flat_map, length, bytes_eq, is_some, Contains, if◌then◌else◌}
 use Rattle.std.specs.List.{list_any}
+use Rattle.std.specs.Option.{option_to_list}
 use Rattle.std.specs.Ordering.{nat_cmp}
 use Rattle.std.specs.declared.cmp.Ordering.TheVariants.{Less}
 use Rattle.std.specs.Cmp.Lexicographic.{slice_cmp}
 use Rattle.cil_specs.specs.Place.{Place}
 use Rattle.cil_specs.specs.Names.{Word}
-use Rattle.cil_specs.specs.Statements.{is_optional}
+use Rattle.cil_specs.specs.Expr.{named_words}
+use Rattle.cil_specs.specs.Statements.{Form, alias_actual, attribute_set, class_common, rule, target_words, is_optional}
 use Rattle.cil_specs.specs.Joined.{Placed}
-use Rattle.cil_specs.specs.Lookup.{Table, classes, Optionals, declared_in, declares, leads, references, named_permissions, has_permission}
+use Rattle.cil_specs.specs.Lookup.{Table, types, classes, commons, scopes, Optionals, declared_in, declares, is_within, leads, holds_of, references, named_permissions, permissions_of, distinct, gives_common, gives_actual, actual_statement, is_type, is_alias, is_attribute}
 
 pub data PolicyFaultKind : Type 0 where
   twice : PolicyFaultKind
   missing : PolicyFaultKind
+  wrong_kind : PolicyFaultKind
+  alias_twice : PolicyFaultKind
+  alias_unset : PolicyFaultKind
+  second_common : PolicyFaultKind
+  too_many_permissions : PolicyFaultKind
 
 -- the code in a reply
 abbrev pub code_of : PolicyFaultKind → ℕ
 code_of twice = 41
 code_of missing = 42
+code_of wrong_kind = 43
+code_of alias_twice = 44
+code_of alias_unset = 45
+code_of second_common = 46
+code_of too_many_permissions = 47
 
 -- what is wrong, in which module, where, and the word that a reply shows
 pub record PolicyFault : Type 0 where
@@ -26,28 +38,120 @@ pub record PolicyFault : Type 0 where
   pub at : Place
   pub word : List ℕ
 
--- a fault of this kind at a word of a statement
-abbrev pub IsAtWordOf : PolicyFault → PolicyFaultKind → Placed → Word → Type 0
-IsAtWordOf fault kind s word = fault ≡ record { kind = kind; module_name = s.module_name; at = word.at; word = word.text }
-
 -- whether an earlier statement declares the name in the same table and namespace, where the two aren't both optionals
 abbrev pub is_again : Table → Placed → Word → Placed → Bool
 is_again table s id earlier = declares table s.namespace id.text earlier && not (is_optional s.form && is_optional earlier.form)
 
--- A declaration has an earlier one of the same name, in an optional that drops too. Earlier is what stands before it in the joined policy.
-pub data IsTwice (policy : List Placed) (fault : PolicyFault) : Type 0 where
-  declared_twice : (before after : List Placed) (s : Placed) (table : Table) (id : Word) → policy ≡ before ++ s ∷ after
-      → declared_in table s.form ≡ Some id → IsTrue (list_any (is_again table s id) before) → IsAtWordOf fault twice s id → IsTwice policy fault
+abbrev pub tables : List Table
+tables = types ∷ classes ∷ commons ∷ scopes ∷ []
 
--- A statement outside all optionals has a reference that leads nowhere, or a permission that its class lacks.
-pub data IsMissing (kept : Optionals) (policy : List Placed) (fault : PolicyFault) : Type 0 where
-  no_name : (s : Placed) (table : Table) (word : Word) → Contains policy s → s.optionals ≡ [] → Contains (references s.form) (table, word)
-      → leads kept policy table s.namespace word.text ≡ None → IsAtWordOf fault missing s word → IsMissing kept policy fault
-  no_permission : (s : Placed) (the_class word : Word) (name : List ℕ) → Contains policy s → s.optionals ≡ [] → Contains (named_permissions s.form) (the_class, word)
-      → leads kept policy classes s.namespace the_class.text ≡ Some name → has_permission kept policy name word.text ≡ false → IsAtWordOf fault missing s word → IsMissing kept policy fault
+-- the name that a statement declares and that a statement before it declares already, in an optional that drops too
+abbrev pub twice_words : List Placed → Placed → List Word
+twice_words before s = flat_map (λ table. filter (λ id. list_any (is_again table s id) before) (option_to_list (declared_in table s.form))) tables
+
+abbrev pub is_unfound : Optionals → List Placed → List (List ℕ) → Table × Word → Bool
+is_unfound kept policy namespace (table, word) = not (is_some (leads kept policy table namespace word.text))
+
+-- whether a class that is found lacks a permission
+abbrev pub is_lacking : Optionals → List Placed → List (List ℕ) → Word × Word → Bool
+is_lacking kept policy namespace (the_class, word) =
+    holds_of (λ s. not (list_any (bytes_eq word.text) (permissions_of kept policy s))) (leads kept policy classes namespace the_class.text)
+
+-- the references of a statement that lead nowhere, and the permissions that their class lacks
+abbrev pub missing_words : Optionals → List Placed → Placed → List Word
+missing_words kept policy s = map (λ r. r.1) (filter (is_unfound kept policy s.namespace) (references s.form))
+    ++ map (λ p. p.1) (filter (is_lacking kept policy s.namespace) (named_permissions s.form))
+
+-- the references of a statement that have to lead to a type, an alias or an attribute, each with the test of it
+abbrev pub kinds_asked : Form → List ((Form → Bool) × Word)
+kinds_asked (alias_actual alias actual) = (is_alias, alias) ∷ (is_type, actual) ∷ []
+kinds_asked (attribute_set attribute expr) = (is_attribute, attribute) ∷ []
+kinds_asked _ = []
+
+abbrev pub is_of_another_kind : Optionals → List Placed → List (List ℕ) → (Form → Bool) × Word → Bool
+is_of_another_kind kept policy namespace (test, word) = holds_of (λ s. not (test s.form)) (leads kept policy types namespace word.text)
+
+-- the references of a statement that lead to a thing of another kind
+abbrev pub wrong_kind_words : Optionals → List Placed → Placed → List Word
+wrong_kind_words kept policy s = map (λ r. r.1) (filter (is_of_another_kind kept policy s.namespace) (kinds_asked s.form))
+
+-- the alias of a statement that gives it an actual type
+abbrev pub alias_words : Form → List Word
+alias_words (alias_actual alias actual) = alias ∷ []
+alias_words _ = []
+
+-- whether a kept statement before gives an actual type to the alias that a word leads to
+abbrev pub has_earlier_actual : Optionals → List Placed → List Placed → List (List ℕ) → Word → Bool
+has_earlier_actual kept policy before namespace word =
+    holds_of (λ s. list_any (λ t. is_within kept t && gives_actual kept policy s t.namespace t.form) before) (leads kept policy types namespace word.text)
+
+abbrev pub alias_twice_words : Optionals → List Placed → List Placed → Placed → List Word
+alias_twice_words kept policy before s = filter (has_earlier_actual kept policy before s.namespace) (alias_words s.form)
+
+-- the words of a rule's source and target, and those of a set expression
+abbrev pub element_words : Form → List Word
+element_words (rule kind source target the_class permissions) = source ∷ target_words target
+element_words (attribute_set attribute expr) = named_words expr
+element_words _ = []
+
+-- whether a word leads to an alias without an actual type
+abbrev pub is_unset : Optionals → List Placed → List (List ℕ) → Word → Bool
+is_unset kept policy namespace word = holds_of (λ s. is_alias s.form && not (is_some (actual_statement kept policy s))) (leads kept policy types namespace word.text)
+
+abbrev pub alias_unset_words : Optionals → List Placed → Placed → List Word
+alias_unset_words kept policy s = filter (is_unset kept policy s.namespace) (element_words s.form)
+
+-- the class of a statement that gives it a common
+abbrev pub common_words : Form → List Word
+common_words (class_common the_class the_common) = the_class ∷ []
+common_words _ = []
+
+-- whether a statement before gives a common to the class that a word leads to
+abbrev pub has_earlier_common : Optionals → List Placed → List Placed → List (List ℕ) → Word → Bool
+has_earlier_common kept policy before namespace word =
+    holds_of (λ s. list_any (λ t. is_within kept t && gives_common kept policy s t.namespace t.form) before) (leads kept policy classes namespace word.text)
+
+abbrev pub second_common_words : Optionals → List Placed → List Placed → Placed → List Word
+second_common_words kept policy before s = filter (has_earlier_common kept policy before s.namespace) (common_words s.form)
+
+-- whether a class has more than 32 permissions, its common's included, each counted once
+abbrev pub has_too_many : Optionals → List Placed → Placed → Bool
+has_too_many kept policy s = nat_lt 32 (length (distinct (permissions_of kept policy s)))
+
+abbrev pub too_many_words : Optionals → List Placed → Placed → List Word
+too_many_words kept policy s = filter (λ id. has_too_many kept policy s) (option_to_list (declared_in classes s.form))
+
+abbrev pub is_outside : List ℕ → Bool
+is_outside [] = true
+is_outside (at ∷ optionals) = false
+
+-- The words of a statement at which it has a fault of a kind, in the order of the text; before are the statements in front of it
+-- in the policy. A name is missing outside optionals alone, and all but the first two kinds look at kept statements.
+abbrev pub faulty_words : PolicyFaultKind → Optionals → List Placed → List Placed → Placed → List Word
+faulty_words twice kept policy before s = twice_words before s
+faulty_words missing kept policy before s = if is_outside s.optionals then missing_words kept policy s else []
+faulty_words wrong_kind kept policy before s = if is_within kept s then wrong_kind_words kept policy s else []
+faulty_words alias_twice kept policy before s = if is_within kept s then alias_twice_words kept policy before s else []
+faulty_words alias_unset kept policy before s = if is_within kept s then alias_unset_words kept policy s else []
+faulty_words second_common kept policy before s = if is_within kept s then second_common_words kept policy before s else []
+faulty_words too_many_permissions kept policy before s = if is_within kept s then too_many_words kept policy s else []
+
+-- a fault of this kind at a word of a statement
+abbrev pub IsAtWordOf : PolicyFault → PolicyFaultKind → Placed → Word → Type 0
+IsAtWordOf fault kind s word = fault ≡ record { kind = kind; module_name = s.module_name; at = word.at; word = word.text }
+
+-- a fault of a policy, at a word of one of its statements
+pub record IsFaultOf (kind : PolicyFaultKind) (kept : Optionals) (policy : List Placed) (fault : PolicyFault) : Type 0 where
+  pub before : List Placed
+  pub s : Placed
+  pub after : List Placed
+  pub word : Word
+  pub split : policy ≡ before ++ s ∷ after
+  pub is_faulty : Contains (faulty_words kind kept policy before s) word
+  pub is_at : IsAtWordOf fault kind s word
 
 abbrev pub IsPolicyFault : Optionals → List Placed → PolicyFault → Type 0
-IsPolicyFault kept policy fault = IsTwice policy fault ⊎ IsMissing kept policy fault
+IsPolicyFault kept policy fault = IsFaultOf fault.kind kept policy fault
 
 -- the one has the lesser code; or the same and the lesser module name; or the same and no greater offset
 abbrev pub IsNoLater : PolicyFault → PolicyFault → Type 0

@@ -43,7 +43,7 @@ abbrev pub MayLackItsEnd : Call → Type 0
 MayLackItsEnd (an_edit edit) = ⊥
 MayLackItsEnd ask_rows = Unit {0}
 
--- no command begins with these bytes, not even one that lacks its line feed
+-- these bytes begin with no command, and are none that lacks its line feed
 abbrev pub IsNoCommand : List ℕ → Type 0
 IsNoCommand bytes = ((call : Call) (rest : List ℕ) → IsCommand call → bytes ≡ command call ++ rest → ⊥)
     × ((call : Call) → IsCommand call → MayLackItsEnd call → bytes ≡ line_of call → ⊥)

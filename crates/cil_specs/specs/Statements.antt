@@ -84,7 +84,7 @@ is_optional (class_common the_class the_common) = false
 is_optional (class_order classes) = false
 is_optional (rule kind source target the_class permissions) = false
 
--- the offsets of all words of statements, in the order of the text
+-- the offsets of the words in the place of a name, a reference or a permission, in the order of the text
 abbrev pub word_offsets : Statements → List ℕ
 word_offsets no_more = []
 word_offsets (statement at form body more) = map (λ (role, word). word.at.offset) (words_of form) ++ (word_offsets body ++ word_offsets more)

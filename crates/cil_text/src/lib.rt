@@ -34,7 +34,7 @@ pub use memory_source::MemorySource;
 pub use module::Module;
 pub use place::Place;
 pub use reader::read;
-pub use sink::{Sink, SinkFault, WriterSink, write_all};
+pub use sink::{Sink, SinkFault, WriterSink, write_all, write_pieces};
 pub use source::{ReaderSource, Source, SourceFault};
 pub use statement::{Expr, RuleKind, Statement, Target};
 pub use tree::Tree;

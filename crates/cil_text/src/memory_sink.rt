@@ -26,12 +26,14 @@ impl<A: Allocator> Model for MemorySink<A> {
 }
 
 impl<A: Allocator> MemorySink<A> {
-    ghost use Rattle.std.specs.Prelude.{◌≡◌, ◌≤◌, []};
+    ghost use Rattle.std.specs.Prelude.{◌≡◌, ◌-◌, ◌≤◌, ◌^◌, []};
     ghost use Rattle.cil_specs.specs.Device.{HasFailed};
 
     /// A sink that takes all that memory holds.
     pub fn new(alloc: A) -> Self
         ensures bytes { result.bytes ≡ [] }
+        ensures greatest { result.greatest ≡ 2 ^ 64 - 1 }
+        ensures limit { result.limit ≡ 2 ^ 64 - 1 }
         ensures failures { result.failures ≡ 0 }
     {
         MemorySink::with_limits(alloc, usize::MAX, usize::MAX)
@@ -58,6 +60,8 @@ impl<A: Allocator> MemorySink<A> {
 
     fn fail(&mut self) -> SinkFault
         ensures bytes { self.new.bytes ≡ self.old.bytes }
+        ensures greatest { self.new.greatest ≡ self.old.greatest }
+        ensures limit { self.new.limit ≡ self.old.limit }
         ensures failed { HasFailed self.old.failures self.new.failures }
         ensures counted { self.old.failures ≤ self.new.failures }
     {

@@ -29,13 +29,15 @@ impl<'a> Model for MemorySource<'a> {
 }
 
 impl<'a> MemorySource<'a> {
-    ghost use Rattle.std.specs.Prelude.{◌≡◌, ◌≤◌, false};
+    ghost use Rattle.std.specs.Prelude.{◌≡◌, ◌-◌, ◌≤◌, ◌^◌, false};
     ghost use Rattle.cil_specs.specs.Device.{HasFailed};
 
     /// A source that gives the whole text and tells its end.
     pub fn new(text: &'a [u8]) -> Self
         ensures text { result.text ≡ text.now }
         ensures at { result.at ≡ 0 }
+        ensures greatest { result.greatest ≡ 2 ^ 64 - 1 }
+        ensures limit { result.limit ≡ 2 ^ 64 - 1 }
         ensures ended { result.ended ≡ false }
         ensures failures { result.failures ≡ 0 }
     {

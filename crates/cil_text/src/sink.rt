@@ -1,6 +1,6 @@
 //! Sinks, which take bytes.
 
-ghost use Rattle.std.specs.Prelude.{◌≡◌, ◌<◌, ◌≤◌, ℕ, List, Option, None, take, length, OnOk, OnErr, IfOk};
+ghost use Rattle.std.specs.Prelude.{◌≡◌, ◌<◌, ◌≤◌, ℕ, List, Option, None, take, length, flat_map, OnOk, OnErr, IfOk};
 ghost use Rattle.cil_specs.specs.Device.{HasFailed, Gains, GainsFront};
 
 use std::io::Write;
@@ -43,6 +43,19 @@ pub fn write_all<W: Sink>(sink: &mut W, text: &[u8]) -> Result<(), SinkFault>
     Ok(())
 }
 
+/// Has a sink take several texts, one after another. After a fault it took a beginning of them.
+pub fn write_pieces<W: Sink>(sink: &mut W, pieces: &[&[u8]]) -> Result<(), SinkFault>
+    ensures ok { OnOk result (Gains (W.taken sink.old) (W.taken sink.new) (flat_map (λ p. p.now) pieces.now)) }
+    ensures err { OnErr result (GainsFront (W.taken sink.old) (W.taken sink.new) (flat_map (λ p. p.now) pieces.now)) }
+    ensures failed { OnErr result (HasFailed (W.failures sink.old) (W.failures sink.new)) }
+    ensures counted { W.failures sink.old ≤ W.failures sink.new }
+{
+    for piece in pieces {
+        write_all(sink, piece)?;
+    }
+    Ok(())
+}
+
 /// A sink over a writer of std. It tells no bytes.
 #[derive(Drop)]
 pub struct WriterSink<W: Write + Drop> {
@@ -51,7 +64,10 @@ pub struct WriterSink<W: Write + Drop> {
 }
 
 impl<W: Write + Drop> WriterSink<W> {
-    pub fn new(writer: W) -> Self {
+    /// A sink that didn't fail yet.
+    pub fn new(writer: W) -> Self
+        ensures { result.failures ≡ 0 }
+    {
         WriterSink {
             writer,
             failures: 0,

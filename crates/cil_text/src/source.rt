@@ -1,6 +1,6 @@
 //! Sources, which give bytes.
 
-ghost use Rattle.std.specs.Prelude.{◌≡◌, ◌+◌, ◌<◌, ◌≤◌, ◌^◌, ℕ, Bool, List, Option, None, take, length, IsTrue, OnErr, IfOk};
+ghost use Rattle.std.specs.Prelude.{◌≡◌, ◌+◌, ◌<◌, ◌≤◌, ◌^◌, ℕ, Bool, false, List, Option, None, take, length, IsTrue, OnErr, IfOk};
 ghost use Rattle.cil_specs.specs.Device.{HasFailed, Gains};
 
 use std::io::Read;
@@ -32,6 +32,10 @@ pub trait Source {
         ensures given { IfOk result (λ n. Gains (given self.old) (given self.new) (take n buffer.new)) }
         ensures count { IfOk result (λ n. count self.new ≡ count self.old + n) }
         ensures ended { IfOk result (λ n. 0 < length buffer.old → n ≡ 0 → IsTrue (ended self.new)) }
+        // Such a call alone tells it.
+        ensures same_end { IfOk result (λ n. 0 < n → ended self.new ≡ ended self.old) }
+        ensures no_end { IfOk result (λ n. length buffer.old ≡ 0 → ended self.new ≡ ended self.old) }
+        ensures err_end { OnErr result (ended self.new ≡ ended self.old) }
         ensures err { OnErr result (given self.new ≡ given self.old) }
         ensures err_count { OnErr result (count self.new ≡ count self.old) }
         ensures failed { OnErr result (HasFailed (failures self.old) (failures self.new)) }
@@ -49,7 +53,12 @@ pub struct ReaderSource<R: Read + Drop> {
 }
 
 impl<R: Read + Drop> ReaderSource<R> {
-    pub fn new(reader: R) -> Self {
+    /// A source that gave nothing yet.
+    pub fn new(reader: R) -> Self
+        ensures count { result.count ≡ 0 }
+        ensures ended { result.ended ≡ false }
+        ensures failures { result.failures ≡ 0 }
+    {
         ReaderSource {
             reader,
             count: 0,
@@ -62,6 +71,7 @@ impl<R: Read + Drop> ReaderSource<R> {
         ensures failed { HasFailed self.old.failures self.new.failures }
         ensures counted { self.old.failures ≤ self.new.failures }
         ensures count { self.new.count ≡ self.old.count }
+        ensures ended { self.new.ended ≡ self.old.ended }
     {
         self.failures = self.failures.saturating_add(1);
         SourceFault

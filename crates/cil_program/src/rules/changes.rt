@@ -10,7 +10,7 @@ use crate::rules::difference::{missing, renumber};
 use crate::rules::merge::merge;
 use crate::rules::numbers::AtomNumbers;
 use crate::rules::table::Table;
-use crate::text::Text;
+use cil_names::Text;
 use std::alloc::{AllocError, Allocator, Global};
 use std::marker::Model;
 

@@ -5,22 +5,28 @@ ghost use Rattle.std.specs.List.{flat_map};
 ghost use Rattle.std.specs.List.Sorted.{IsStrictlySortedBy};
 ghost use Rattle.cil_program.specs.Atoms.{numbers_cmp, given};
 
-use crate::names::resolved::NumberedRule;
 use crate::rules::numbers::AtomNumbers;
+use cil_names::{Element, NumberedRule};
 use std::alloc::{AllocError, Allocator};
 
-/// Appends the accesses that a rule gives.
+/// Appends the accesses that a rule gives. One with an attribute gives none.
 fn push_given<A: Allocator + Copy>(
     atoms: &mut Vec<AtomNumbers, A>,
     rule: &NumberedRule<A>,
 ) -> Result<(), AllocError>
     ensures { OnOk result (atoms.new.items ≡ atoms.old.items ++ given rule.now) }
 {
+    let Element::Type(source) = rule.source else {
+        return Ok(());
+    };
+    let Element::Type(target) = rule.target else {
+        return Ok(());
+    };
     for permission in &rule.permissions {
         atoms.push(AtomNumbers {
             kind: rule.kind,
-            source: rule.source,
-            target: rule.target,
+            source,
+            target,
             class: rule.class,
             permission: *permission,
         })?;

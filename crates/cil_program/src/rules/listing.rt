@@ -13,8 +13,8 @@ ghost use Rattle.cil_program.specs.NumberedRows.{row_of};
 use crate::rules::first_row::split_row;
 use crate::rules::numbers::AtomNumbers;
 use crate::rules::row::Row;
-use crate::text::Text;
-use cil_text::{RuleKind, Sink, SinkFault, write_all};
+use cil_names::Text;
+use cil_text::{RuleKind, Sink, SinkFault, write_all, write_pieces};
 use std::alloc::Allocator;
 
 /// The word that a rule of this kind begins with.
@@ -27,19 +27,6 @@ fn kind_word(kind: RuleKind) -> &'static [u8]
         RuleKind::DontAudit => b"dontaudit",
         RuleKind::NeverAllow => b"neverallow",
     }
-}
-
-/// Writes pieces one after the other.
-fn write_pieces<W: Sink>(sink: &mut W, pieces: &[&[u8]]) -> Result<(), SinkFault>
-    ensures ok { OnOk result (Gains (W.taken sink.old) (W.taken sink.new) (flat_map (λ p. p.now) pieces.now)) }
-    ensures err { OnErr result (GainsFront (W.taken sink.old) (W.taken sink.new) (flat_map (λ p. p.now) pieces.now)) }
-    ensures failed { OnErr result (HasFailed (W.failures sink.old) (W.failures sink.new)) }
-    ensures counted { W.failures sink.old ≤ W.failures sink.new }
-{
-    for piece in pieces {
-        write_all(sink, piece)?;
-    }
-    Ok(())
 }
 
 /// Writes the line of a row up to its permissions.

@@ -4,7 +4,7 @@ ghost use Rattle.std.specs.Prelude.{◌≡◌, ◌+◌, ◌<◌, ◌≤◌, [], 
 ghost use Rattle.cil_specs.specs.Report.{names_rise};
 ghost use Rattle.cil_program.specs.Merge.{IsMerged, IsNext};
 
-use crate::text::Text;
+use cil_names::Text;
 use std::alloc::{AllocError, Allocator};
 use std::cmp::Ordering;
 

@@ -8,7 +8,7 @@ ghost use Rattle.cil_program.specs.Difference.{renumbered};
 ghost use Rattle.cil_program.specs.Rows.{is_in_row_of};
 
 use crate::rules::atom::Atom;
-use crate::text::Text;
+use cil_names::Text;
 use cil_text::RuleKind;
 use std::alloc::Allocator;
 

@@ -12,7 +12,7 @@ use crate::rules::first_row::split_row;
 use crate::rules::listing::write_row_line;
 use crate::rules::numbers::AtomNumbers;
 use crate::rules::row::{Names, Row};
-use crate::text::Text;
+use cil_names::Text;
 use cil_text::{RuleKind, Sink, SinkFault};
 use std::alloc::{AllocError, Allocator, Global};
 use std::marker::Model;

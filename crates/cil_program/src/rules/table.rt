@@ -6,16 +6,15 @@ ghost use Rattle.cil_specs.specs.Rule as spec;
 ghost use Rattle.cil_specs.specs.Rule.{is_in_table};
 ghost use Rattle.cil_specs.specs.Report.{AreAtoms, Row, AreRows, row_line};
 ghost use Rattle.cil_specs.specs.Device.{HasFailed, Gains, GainsFront};
-ghost use Rattle.cil_program.specs.Image.{rules_of};
+ghost use Rattle.cil_names.specs.Resolved.{rules_in};
 ghost use Rattle.cil_program.specs.Atoms.{atom_of};
 
-use crate::names::resolved::Resolved;
 use crate::rules::atom::Atom;
 use crate::rules::collect::{collect, sort_distinct};
 use crate::rules::listing::write_rows;
 use crate::rules::numbers::AtomNumbers;
 use crate::rules::rows::{Rows, copied};
-use crate::text::Text;
+use cil_names::{Resolved, Text};
 use cil_text::{Sink, SinkFault};
 use std::alloc::{AllocError, Allocator, Global};
 use std::marker::Model;
@@ -53,12 +52,12 @@ impl<A: Allocator + Copy> Table<A> {
 
     /// The table of the rules of a policy, whose names it keeps.
     pub fn of(alloc: A, resolved: Resolved<A>) -> Result<Self, AllocError>
-        ensures { IfOk result (λ table. AreAtoms (is_in_table (rules_of resolved)) table) }
+        ensures { IfOk result (λ table. AreAtoms (is_in_table (rules_in resolved)) table) }
     {
-        let mut atoms = collect(alloc, &resolved.rules)?;
+        let mut atoms = collect(alloc, resolved.rules())?;
         sort_distinct(&mut atoms);
         Ok(Table {
-            names: resolved.names,
+            names: resolved.into_names(),
             atoms,
         })
     }

@@ -11,22 +11,9 @@ ghost use Rattle.cil_program.specs.Replies.{end_line};
 
 use crate::rules::Changes;
 use crate::store::Refusal;
-use cil_text::{Place, Sink, SinkFault};
+use cil_text::{Place, Sink, SinkFault, write_all, write_pieces};
 use itoa::Buffer;
 use std::alloc::Allocator;
-
-/// Writes the pieces of a line, one after another.
-fn write_pieces<W: Sink>(sink: &mut W, pieces: &[&[u8]]) -> Result<(), SinkFault>
-    ensures ok { OnOk result (Gains (W.taken sink.old) (W.taken sink.new) (flat_map (λ p. p.now) pieces.now)) }
-    ensures err { OnErr result (GainsFront (W.taken sink.old) (W.taken sink.new) (flat_map (λ p. p.now) pieces.now)) }
-    ensures failed { OnErr result (HasFailed (W.failures sink.old) (W.failures sink.new)) }
-    ensures counted { W.failures sink.old ≤ W.failures sink.new }
-{
-    for piece in pieces {
-        cil_text::write_all(sink, piece)?;
-    }
-    Ok(())
-}
 
 /// Writes how many accesses came and went with an accepted edit.
 pub fn write_changes<W: Sink, A: Allocator>(
@@ -136,7 +123,7 @@ pub fn write_no_memory<W: Sink>(sink: &mut W) -> Result<(), SinkFault>
     ensures failed { OnErr result (HasFailed (W.failures sink.old) (W.failures sink.new)) }
     ensures counted { W.failures sink.old ≤ W.failures sink.new }
 {
-    cil_text::write_all(sink, b"refused 60 memory\n")
+    write_all(sink, b"refused 60 memory\n")
 }
 
 /// Writes a refusal.

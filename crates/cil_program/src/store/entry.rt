@@ -4,7 +4,7 @@ ghost use Rattle.std.specs.Prelude.{◌≡◌, ◌↔◌, IsTrue, IfOk};
 ghost use Rattle.std.specs.Ordering.{is_lt};
 ghost use Rattle.cil_specs.specs.Report.{name_cmp};
 
-use crate::text::Text;
+use cil_names::Text;
 use std::alloc::{AllocError, Allocator, Global};
 use std::marker::Model;
 

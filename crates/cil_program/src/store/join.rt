@@ -6,13 +6,13 @@ ghost use Rattle.cil_specs.specs.Joined.{Module as SpecModule};
 ghost use Rattle.cil_specs.specs.Next.{IsModuleText, AreModules, is_compiled};
 ghost use Rattle.cil_specs.specs.Store.{put};
 ghost use Rattle.cil_text.specs.Image.{statements_of};
-ghost use Rattle.cil_program.specs.Image.{module_of, modules_of};
+ghost use Rattle.cil_names.specs.Image.{module_of, modules_of};
 ghost use Rattle.cil_program.specs.Stored.{IsGood, entry_for};
 
-use crate::names::joined::{Joined, NamedModule};
 use crate::store::entry::StoredEntry;
 use crate::store::modules::Store;
 use crate::store::parse::parse;
+use cil_names::{Joined, NamedModule};
 use cil_text::{Module, TextFault};
 use std::alloc::{AllocError, Allocator};
 
@@ -75,5 +75,5 @@ pub fn join<'s, A: Allocator + Copy>(
         module: parsed,
     })?;
     push_modules(alloc, after, &mut modules)?;
-    Ok(Joined { modules })
+    Ok(cil_names::join(modules))
 }

@@ -5,7 +5,7 @@ ghost use Rattle.cil_specs.specs.Statements.{Statements};
 ghost use Rattle.cil_specs.specs.Next.{is_compiled, IsModuleText, IsTextFault};
 ghost use Rattle.cil_text.specs.Image.{statements_of, FaultIs, IsMemory};
 
-use crate::names::later::first_later;
+use crate::store::later::first_later;
 use cil_text::{Module, ShownWord, TextFault, TextFaultKind};
 use std::alloc::Allocator;
 

@@ -8,7 +8,6 @@ ghost use Rattle.cil_program.specs.Calls.{edit_reply};
 ghost use Rattle.cil_program.specs.Edits.{refusal_of};
 ghost use Rattle.cil_program.specs.Plain.{IsTableOf, IsRefused};
 
-use crate::names::resolve::resolve;
 use crate::rules::{Changes, Rows, Table};
 use crate::store::compiled::{Compiled, WriteFault};
 use crate::store::edit::Edit;
@@ -18,6 +17,7 @@ use crate::store::modules::Store;
 use crate::store::parse::parse;
 use crate::store::refusal::{Refusal, check_install};
 use crate::store::refusing::{refuse_install, refuse_policy, refuse_text};
+use cil_names::resolve_types;
 use cil_text::Sink;
 use std::alloc::{AllocError, Allocator, Global};
 use std::marker::Model;
@@ -66,7 +66,7 @@ impl<A: Allocator + Copy> Plain<A> {
             Err(fault) => return Err(refuse_text(self.alloc, name, fault)),
         };
         let joined = join(self.alloc, &self.store, name, parsed)?;
-        let resolved = match resolve(self.alloc, &joined) {
+        let resolved = match resolve_types(self.alloc, &joined) {
             Ok(resolved) => resolved,
             Err(fault) => return Err(refuse_policy(self.alloc, fault)),
         };

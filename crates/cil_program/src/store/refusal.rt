@@ -5,8 +5,7 @@ ghost use Rattle.std.specs.List.{list_all};
 ghost use Rattle.cil_specs.specs.Next.{begins_module_name as front_byte, is_module_name as module_name, install_refusal};
 ghost use Rattle.cil_program.specs.Edits.{store_refusal_of};
 
-use crate::names::fault::PolicyFaultKind;
-use crate::text;
+use cil_names::PolicyFaultKind;
 use cil_text::{Place, TextFaultKind};
 use std::alloc::{AllocError, Allocator, Global};
 
@@ -41,19 +40,19 @@ impl StoreFault {
 pub enum Refusal<A: Allocator = Global> {
     Store {
         fault: StoreFault,
-        word: text::Text<A>,
+        word: cil_names::Text<A>,
     },
     Text {
-        module: text::Text<A>,
+        module: cil_names::Text<A>,
         kind: TextFaultKind,
         at: Place,
-        word: text::Text<A>,
+        word: cil_names::Text<A>,
     },
     Policy {
-        module: text::Text<A>,
+        module: cil_names::Text<A>,
         kind: PolicyFaultKind,
         at: Place,
-        word: text::Text<A>,
+        word: cil_names::Text<A>,
     },
     Memory,
 }

@@ -2,7 +2,7 @@ use Rattle.std.proofs.Common.{◌++◌, codes, subst}
 use Rattle.std.specs.List.{flat_map}
 use Rattle.std.proofs.lemmas.Result.{on_ok_weaker, on_err_weaker}
 use Rattle.cil_specs.specs.Device.{Gains, GainsFront}
-use Rattle.cil_specs.proofs.ReportLemmasGaining.{on_err}
+use Rattle.cil_specs.proofs.Gaining.{on_err}
 use Rattle.cil_program.specs.Atoms.{name_at}
 use Rattle.cil_program.specs.Rows.{row_head}
 use Rattle.cil_program.specs.NumberedRows.{row_of}

@@ -2,7 +2,7 @@ use Rattle.std.proofs.Common.{◌≡◌, ◌∙◌, ◌++◌, ◌∷◌, map, le
 use Rattle.std.specs.List.{flat_map}
 use Rattle.cil_specs.specs.Report.{row_line, is_listed}
 use Rattle.cil_specs.proofs.Gaining.{gains-both}
-use Rattle.cil_specs.proofs.ReportLemmasGaining.{on_err}
+use Rattle.cil_specs.proofs.Gaining.{on_err}
 use Rattle.cil_text.specs.Image.{rule_kind_of}
 use Rattle.cil_program.specs.Atoms.{atom_at, IsWithin}
 use Rattle.cil_program.specs.Rows.{rows_of, row_at}

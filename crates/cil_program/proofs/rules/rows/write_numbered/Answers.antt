@@ -1,7 +1,7 @@
 use Rattle.std.proofs.Common.{subst, rules}
 use Rattle.cil_specs.specs.Report.{row_line}
 use Rattle.cil_specs.specs.Device.{Gains, GainsFront}
-use Rattle.cil_specs.proofs.ReportLemmasGaining.{on_err, gains-pieces_more, gains-pieces_front}
+use Rattle.cil_specs.proofs.Gaining.{on_err, gains-pieces_more, gains-pieces_front}
 use Rattle.cil_program.specs.NumberedRows.{line_by}
 use Rattle.cil_program.proofs.NumberedRowLemmas.{no_row}
 use Rattle.cil_program.proofs.rules.rows.write_numbered.Goals as goal

@@ -1,7 +1,7 @@
 use Rattle.std.proofs.Common.{◌≡◌, ◌∙◌, ◌++◌, ◌∷◌, [], map, ap, append_assoc}
 use Rattle.std.proofs.lemmas.List.{map-append}
 use Rattle.cil_specs.specs.Joined.{Module}
-use Rattle.cil_program.specs.Image.{module_of}
+use Rattle.cil_names.specs.Image.{module_of}
 use Rattle.cil_program.proofs.JoinLemmas.{module-more, compiled-more}
 use Rattle.cil_program.proofs.store.join.push_modules.Goals as goal
 

@@ -2,7 +2,7 @@ use Rattle.std.proofs.Common.{◌≡◌, ◌++◌, List, map, take, IsTrue}
 use Rattle.std.specs.List.{list_all}
 use Rattle.cil_specs.specs.Joined.{Module}
 use Rattle.cil_specs.specs.Next.{AreModules, is_compiled}
-use Rattle.cil_program.specs.Image.{module_of}
+use Rattle.cil_names.specs.Image.{module_of}
 use Rattle.cil_program.proofs.store.join.push_modules.Given as goal
 
 abbrev pub invariant-loop-entry : goal.invariant-loop-entry

@@ -2,7 +2,7 @@ use Rattle.std.proofs.Common.{◌∙◌, subst}
 use Rattle.std.specs.List.{flat_map}
 use Rattle.cil_specs.specs.Report.{row_line}
 use Rattle.cil_specs.specs.Device.{Gains, GainsFront}
-use Rattle.cil_specs.proofs.ReportLemmasGaining.{on_err}
+use Rattle.cil_specs.proofs.Gaining.{on_err}
 use Rattle.cil_program.specs.NumberedRows.{row_by, line_by}
 use Rattle.cil_program.proofs.ListingLemmas.{mapped-text}
 use Rattle.cil_program.proofs.rules.rows.Rows.write.Goals as goal

@@ -1,0 +1,119 @@
+-- The first fault of a policy, kind by kind.
+use Rattle.std.proofs.Common.{◌≡◌, inl, inr, ℕ, ◌+◌, ◌<◌, zero, suc, ◌==◌, List, [], ◌∷◌, get_or, Some, None, slice_get, refl, sym, ap, ◌∙◌, subst, arith, if◌then◌else◌}
+use Rattle.std.proofs.lemmas.Option.{none-some, same_Some}
+use Rattle.std.proofs.lemmas.Bool.{cases_order}
+use Rattle.cil_specs.specs.Names.{Word}
+use Rattle.cil_specs.specs.Joined.{Placed}
+use Rattle.cil_specs.specs.PolicyFault as spec
+use Rattle.cil_specs.specs.PolicyFault.{twice, missing, wrong_kind, alias_twice, alias_unset, second_common, too_many_permissions, code_of, IsAtWordOf, IsFaultOf, IsNoLater, IsFirst, Compiles}
+use Rattle.cil_specs.specs.Next.{every_optional}
+use Rattle.cil_names.specs.Image.{policy_kind_of, IsFoundFault}
+use Rattle.cil_names.specs.Flat.{IsLeast}
+use Rattle.cil_names.specs.Placed.{placed_of}
+use Rattle.cil_names.specs.declared.fault.PolicyFaultKind.{PolicyFaultKind}
+use Rattle.cil_names.specs.declared.fault.PolicyFaultKind.TheVariants.{Twice, Missing, WrongKind, AliasTwice, AliasUnset, SecondCommon, TooManyPermissions}
+use Rattle.cil_names.specs.declared.fault.PolicyFault.{PolicyFault}
+use Rattle.cil_names.specs.declared.fault.PolicyFault.TheVariants.{Memory, Found}
+use Rattle.cil_names.specs.declared.placed.PlacedStatement.{PlacedStatement}
+use Rattle.cil_names.proofs.LeastLemmas.{fault_at}
+
+-- what holds of the fault at a word of a statement holds of the one that is made there
+pub found-at : {A : Type 0} (fault : PolicyFault) (P : spec.PolicyFault → Type 0) (kind : spec.PolicyFaultKind) (p : PlacedStatement A) (word : Word) (spaces : List (List (List ℕ)))
+    → IsFoundFault fault (λ f. (around : List (List (List ℕ))) → IsAtWordOf f kind (placed_of around p) word) → P (fault_at kind (placed_of spaces p) word) → IsFoundFault fault P
+found-at Memory P kind p word spaces is holds = is
+found-at (Found code module_name at text) P kind p word spaces is holds = subst P (sym (is spaces)) holds
+
+pub found-weaker : (fault : PolicyFault) (P Q : spec.PolicyFault → Type 0) → ((f : spec.PolicyFault) → P f → Q f) → IsFoundFault fault P → IsFoundFault fault Q
+found-weaker Memory P Q weaker is = is
+found-weaker (Found kind module_name at word) P Q weaker is = weaker _ is
+
+pub first-some : (words : List Word) (word : Word) → Some word ≡ slice_get words 0 → (more : List Word) × (words ≡ word ∷ more)
+first-some [] word is = absurd (none-some word (sym is))
+first-some (w ∷ words) word is = (words, ap (λ v. v ∷ words) (sym (same_Some word w is)))
+
+pub first-none : (words : List Word) → None ≡ slice_get words 0 → words ≡ []
+first-none [] is = refl
+first-none (w ∷ words) is = absurd (none-some w is)
+
+-- no fault of a code below 42 and some
+abbrev pub NoneBelow : List Placed → ℕ → Type 0
+NoneBelow policy n = (fault : spec.PolicyFault) → IsFaultOf fault.kind every_optional policy fault → code_of fault.kind < 42 + n → ⊥
+
+-- a kind by its code
+abbrev kind_at : ℕ → spec.PolicyFaultKind
+kind_at n = if n == 41 then twice else if n == 42 then missing else if n == 43 then wrong_kind else if n == 44 then alias_twice else if n == 45 then alias_unset else if n == 46 then second_common else too_many_permissions
+
+at-code : (kind : spec.PolicyFaultKind) → kind_at (code_of kind) ≡ kind
+at-code twice = refl
+at-code missing = refl
+at-code wrong_kind = refl
+at-code alias_twice = refl
+at-code alias_unset = refl
+at-code second_common = refl
+at-code too_many_permissions = refl
+
+same-code : (a b : spec.PolicyFaultKind) → code_of a ≡ code_of b → a ≡ b
+same-code a b e = sym (at-code a) ∙ ap kind_at e ∙ at-code b
+
+pub none-first : (policy : List Placed) → ((fault : spec.PolicyFault) → IsFaultOf twice every_optional policy fault → ⊥) → NoneBelow policy 0
+none-first policy once fault is less = once fault (subst (λ k. IsFaultOf k every_optional policy fault) (below fault.kind less) is)
+  where
+    below : (kind : spec.PolicyFaultKind) → code_of kind < 42 + 0 → kind ≡ twice
+    below twice less = refl
+    below missing less = absurd (omega (arith, less))
+    below wrong_kind less = absurd (omega (arith, less))
+    below alias_twice less = absurd (omega (arith, less))
+    below alias_unset less = absurd (omega (arith, less))
+    below second_common less = absurd (omega (arith, less))
+    below too_many_permissions less = absurd (omega (arith, less))
+
+abbrev pub checked : List PolicyFaultKind
+checked = Missing ∷ WrongKind ∷ AliasTwice ∷ AliasUnset ∷ SecondCommon ∷ TooManyPermissions ∷ []
+
+pub checked-code : (n : ℕ) → n < 6 → code_of (policy_kind_of (get_or checked n Twice)) ≡ 42 + n
+checked-code zero less = refl
+checked-code (suc zero) less = refl
+checked-code (suc (suc zero)) less = refl
+checked-code (suc (suc (suc zero))) less = refl
+checked-code (suc (suc (suc (suc zero)))) less = refl
+checked-code (suc (suc (suc (suc (suc zero))))) less = refl
+checked-code (suc (suc (suc (suc (suc (suc n)))))) less = absurd (omega (arith, less))
+
+pub checked-once : (n : ℕ) → n < 6 → get_or checked n Twice ≡ Twice → ⊥
+checked-once n less e = let code : 41 ≡ 42 + n = sym (ap (λ k. code_of (policy_kind_of k)) e) ∙ checked-code n less in omega (arith, code)
+
+pub none-next : (policy : List Placed) (n : ℕ) (kind : spec.PolicyFaultKind) → code_of kind ≡ 42 + n → ((fault : spec.PolicyFault) → IsFaultOf kind every_optional policy fault → ⊥)
+    → NoneBelow policy n → NoneBelow policy (n + 1)
+none-next policy n kind code none so_far fault is less = elim (cases_order (code_of fault.kind) (42 + n)) [
+  | inl same ↦ none fault (subst (λ k. IsFaultOf k every_optional policy fault) (same-code fault.kind kind (same ∙ sym code)) is)
+  | inr other ↦ elim other [ inl lesser ↦ so_far fault is lesser | inr greater ↦ omega (arith, less, greater) ]
+]
+
+pub none-all : (policy : List Placed) (n : ℕ) → 5 < n → NoneBelow policy n → Compiles every_optional policy
+none-all policy n all none fault is = none fault is (let le : code_of fault.kind < 48 = below fault.kind in omega (arith, le, all))
+  where
+    below : (kind : spec.PolicyFaultKind) → code_of kind < 48
+    below twice = omega arith
+    below missing = omega arith
+    below wrong_kind = omega arith
+    below alias_twice = omega arith
+    below alias_unset = omega arith
+    below second_common = omega arith
+    below too_many_permissions = omega arith
+
+-- the least fault of the first kind with one is the first
+pub first-least : (policy : List Placed) (n : ℕ) (kind : spec.PolicyFaultKind) → code_of kind ≡ 42 + n → NoneBelow policy n → (fault : spec.PolicyFault)
+    → IsLeast (IsFaultOf kind every_optional policy) fault → IsFirst every_optional policy fault
+first-least policy n kind code none fault least = record {
+  is = subst (λ k. IsFaultOf k every_optional policy fault) (sym own) least.is;
+  first = λ other is. elim (cases_order (code_of other.kind) (42 + n)) [
+    | inl same ↦ least.first other (subst (λ k. IsFaultOf k every_optional policy other) (same-code other.kind kind (same ∙ sym code)) is)
+    | inr unlike ↦ elim unlike [
+      | inl lesser ↦ absurd (none other is lesser)
+      | inr greater ↦ (let c : code_of fault.kind ≡ 42 + n = ap code_of own ∙ code in inl (omega (arith, c, greater)))
+    ]
+  ];
+}
+  where
+    own : fault.kind ≡ kind
+    own = ap (λ f. f.kind) least.is.is_at

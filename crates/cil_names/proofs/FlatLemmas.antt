@@ -1,0 +1,179 @@
+-- The joined policy of modules whose statements are compiled is flat.
+use Rattle.std.proofs.Common.{◌≡◌, inl, inr, ℕ, ◌<◌, ◌≤◌, true, List, [], ◌∷◌, ◌++◌, ◌&&◌, map, refl, sym, ap, ◌∙◌, subst, arith, true≢false}
+use Rattle.std.specs.List.{AllByRecursion, list_all}
+use Rattle.std.specs.Ordering.{is_lt}
+use Rattle.std.specs.declared.cmp.Ordering.{Ordering}
+use Rattle.std.specs.declared.cmp.Ordering.TheVariants.{Less, Equal, Greater}
+use Rattle.std.proofs.lemmas.Cmp.{nat_list_cmp_total}
+use Rattle.cil_specs.specs.Place.{Place}
+use Rattle.cil_specs.specs.Statements.{Form, block, optional, type_name, type_alias, alias_actual, type_attribute, attribute_set, common, class, class_common, class_order, rule, word_offsets, rise_from, Statements, no_more, statement}
+use Rattle.cil_specs.specs.Joined.{Module, Placed, namespace_inside, optionals_inside, placed, joined}
+use Rattle.cil_specs.specs.Next.{is_compiled_form, is_compiled}
+use Rattle.cil_specs.specs.Report.{name_cmp, names_rise}
+use Rattle.cil_specs.proofs.Runs.{first_true, second_true}
+use Rattle.cil_specs.proofs.NamesLemmas.{all-weaker, all-append, all-first, all-second, all-contained, rises-low, rises-less, rises-append}
+use Rattle.cil_names.specs.Flat.{offsets_of, IsPlain, IsBefore, AreFlat}
+
+-- flat lists one after the other
+flat-append : (xs ys : List Placed) → AreFlat xs → AreFlat ys → AllByRecursion (λ s. AllByRecursion (IsBefore s) ys) xs → AreFlat (xs ++ ys)
+flat-append [] ys flat more before = more
+flat-append (s ∷ xs) ys flat more before = (flat.0, all-append (IsBefore s) xs ys flat.1 before.0, flat-append xs ys flat.2 more before.1)
+
+-- the statement stands in this module, and P holds of the offsets of its words
+record StandsIn (name : List ℕ) (P : ℕ → Type 0) (s : Placed) : Type 0 where
+  here : s.module_name ≡ name
+  each : AllByRecursion P (offsets_of s)
+
+-- the statements of one module
+record IsModuleFlat (name : List ℕ) (P : ℕ → Type 0) (policy : List Placed) : Type 0 where
+  flat : AreFlat policy
+  inside : AllByRecursion (StandsIn name P) policy
+
+stands-weaker : (name : List ℕ) (P Q : ℕ → Type 0) → ((n : ℕ) → P n → Q n) → (policy : List Placed) → AllByRecursion (StandsIn name P) policy → AllByRecursion (StandsIn name Q) policy
+stands-weaker name P Q f policy all =
+    all-weaker (StandsIn name P) (StandsIn name Q) (λ t stands. record { here = stands.here; each = all-weaker P Q f (offsets_of t) stands.each }) policy all
+
+all-both : (P Q : ℕ → Type 0) (ns : List ℕ) → AllByRecursion P ns → AllByRecursion Q ns → AllByRecursion (λ n. P n × Q n) ns
+all-both P Q [] ps qs = tt
+all-both P Q (n ∷ ns) ps qs = ((ps.0, qs.0), all-both P Q ns ps.1 qs.1)
+
+-- a statement with its words below a number stands before those of its module with theirs from there on
+stands-before : (name : List ℕ) (Q : ℕ → Type 0) (s : Placed) (high : ℕ) → s.module_name ≡ name → AllByRecursion (λ m. m < high) (offsets_of s) → ((n : ℕ) → Q n → high ≤ n)
+    → (policy : List Placed) → AllByRecursion (StandsIn name Q) policy → AllByRecursion (IsBefore s) policy
+stands-before name Q s high here below least policy all =
+    all-weaker (StandsIn name Q) (IsBefore s)
+    (λ t stands. inr (
+      here ∙ sym stands.here,
+      λ m n c d.
+          let less : m < high = all-contained (λ k. k < high) (offsets_of s) m below c in
+          let more : high ≤ n = least n (all-contained Q (offsets_of t) n stands.each d) in
+          omega arith,
+    ))
+    policy all
+
+-- no statement that is compiled is an optional
+none-inside : (form : Form) (at : Place) → is_compiled_form form ≡ true → optionals_inside form at [] ≡ []
+none-inside (block id) at compiled = refl
+none-inside (optional id) at compiled = absurd (true≢false (sym compiled))
+none-inside (type_name id) at compiled = refl
+none-inside (type_alias id) at compiled = refl
+none-inside (alias_actual alias actual) at compiled = refl
+none-inside (type_attribute id) at compiled = refl
+none-inside (attribute_set attribute expr) at compiled = refl
+none-inside (common id permissions) at compiled = refl
+none-inside (class id permissions) at compiled = refl
+none-inside (class_common the_class the_common) at compiled = refl
+none-inside (class_order the_classes) at compiled = refl
+none-inside (rule kind source target the_class permissions) at compiled = refl
+
+-- numbers of which P holds, from one on, and below another
+abbrev From : (ℕ → Type 0) → ℕ → ℕ → Type 0
+From P low n = P n × (low ≤ n)
+
+abbrev Between : (ℕ → Type 0) → ℕ → ℕ → ℕ → Type 0
+Between P low high n = P n × ((low ≤ n) × (n < high))
+
+-- a statement, those inside it and those behind it
+flat-more : (name : List ℕ) (P : ℕ → Type 0) (s : Placed) (low high : ℕ) (inner others : List Placed) → s.module_name ≡ name → IsPlain s → AllByRecursion (λ m. m < low) (offsets_of s)
+    → AllByRecursion P (offsets_of s) → low ≤ high → IsModuleFlat name (Between P low high) inner → IsModuleFlat name (From P high) others → IsModuleFlat name P (s ∷ (inner ++ others))
+flat-more name P s low high inner others here plain below each le inner_flat others_flat = record {
+  flat = (
+    plain,
+    all-append (IsBefore s) inner others
+        (stands-before name (Between P low high) s low here below (λ n between. between.1.0) inner inner_flat.inside)
+        (stands-before name (From P high) s low here below (λ n from. (let from_high : high ≤ n = from.1 in omega arith)) others others_flat.inside),
+    flat-append inner others inner_flat.flat others_flat.flat
+        (all-weaker (StandsIn name (Between P low high)) (λ t. AllByRecursion (IsBefore t) others)
+        (λ t stands. stands-before name (From P high) t high stands.here (all-weaker (Between P low high) (λ m. m < high) (λ m between. between.1.1) (offsets_of t) stands.each) (λ n from. from.1) others others_flat.inside)
+        inner inner_flat.inside),
+  );
+  inside = (
+    record { here = here; each = each },
+    all-append (StandsIn name P) inner others (stands-weaker name (Between P low high) P (λ n between. between.0) inner inner_flat.inside) (stands-weaker name (From P high) P (λ n from. from.0) others others_flat.inside),
+  );
+}
+
+placed-at : List ℕ → List (List ℕ) → Place → Form → Placed
+placed-at name namespace at form = record { module_name = name; at = at; form = form; namespace = namespace; optionals = [] }
+
+-- the statements of a module or a block, in the order of the text
+module-flat : (name : List ℕ) (namespace : List (List ℕ)) (low : ℕ) (P : ℕ → Type 0) (statements : Statements) → is_compiled statements ≡ true → rise_from low (word_offsets statements) ≡ true
+    → AllByRecursion P (word_offsets statements) → IsModuleFlat name P (placed name namespace [] statements)
+unfolding placed-at
+module-flat name namespace low P no_more compiled rising each = record { flat = tt; inside = tt }
+module-flat name namespace low P (statement at form body more) compiled rising each =
+    let s = placed-at name namespace at form in
+    let compiled_form = first_true (is_compiled_form form) (is_compiled body && is_compiled more) compiled in
+    let compiled_others = second_true (is_compiled_form form) (is_compiled body && is_compiled more) compiled in
+    let parts = rises-append low (offsets_of s) (word_offsets body ++ word_offsets more) rising in
+    let others = rises-append parts.high (word_offsets body) (word_offsets more) parts.second in
+    let each_others = all-second P (offsets_of s) (word_offsets body ++ word_offsets more) each in
+    let inner = module-flat name (namespace_inside form namespace) parts.high (Between P parts.high others.high) body
+    (first_true (is_compiled body) (is_compiled more) compiled_others) others.first
+    (all-both P (λ n. (parts.high ≤ n) × (n < others.high)) (word_offsets body) (all-first P (word_offsets body) (word_offsets more) each_others)
+    (all-both (λ n. parts.high ≤ n) (λ n. n < others.high) (word_offsets body) (rises-low parts.high (word_offsets body) others.first) others.below)) in
+    let rest = module-flat name namespace others.high (From P others.high) more
+    (second_true (is_compiled body) (is_compiled more) compiled_others) others.second
+    (all-both P (λ n. others.high ≤ n) (word_offsets more) (all-second P (word_offsets body) (word_offsets more) each_others) (rises-low others.high (word_offsets more) others.second)) in
+    let plain : IsPlain s = record { compiled = compiled_form; optionals = refl; rising = rises-less low 0 (offsets_of s) (omega arith) parts.first } in
+    subst (λ o. IsModuleFlat name P (s ∷ (placed name (namespace_inside form namespace) o body ++ placed name namespace [] more))) (sym (none-inside form at compiled_form))
+    (flat-more name P s parts.high others.high (placed name (namespace_inside form namespace) [] body) (placed name namespace [] more) refl plain parts.below
+    (all-first P (offsets_of s) (word_offsets body ++ word_offsets more) each) others.no_less inner rest)
+
+-- a name that comes first is less than all others
+names_rise-first : (name : List ℕ) (names : List (List ℕ)) → names_rise (name ∷ names) ≡ true → AllByRecursion (λ n. name_cmp name n ≡ Less) names
+names_rise-first name [] rise = tt
+names_rise-first name (n ∷ names) rise =
+    let less : name_cmp name n ≡ Less = is_less (name_cmp name n) (first_true (is_lt (name_cmp name n)) (names_rise (n ∷ names)) rise) in
+    let others = names_rise-first n names (second_true (is_lt (name_cmp name n)) (names_rise (n ∷ names)) rise) in
+    (less, all-weaker (λ m. name_cmp n m ≡ Less) (λ m. name_cmp name m ≡ Less) (λ m e. nat_list_cmp_total.trans name n m less e) names others)
+  where
+    is_less : (o : Ordering) → is_lt o ≡ true → o ≡ Less
+    is_less Less e = refl
+    is_less Equal e = absurd (true≢false (sym e))
+    is_less Greater e = absurd (true≢false (sym e))
+
+names_rise-others : (name : List ℕ) (names : List (List ℕ)) → names_rise (name ∷ names) ≡ true → names_rise names ≡ true
+names_rise-others name [] rise = refl
+names_rise-others name (n ∷ names) rise = second_true (is_lt (name_cmp name n)) (names_rise (n ∷ names)) rise
+
+-- the module's words stand one behind the other
+abbrev pub IsRising : Module → Type 0
+IsRising m = rise_from 0 (word_offsets m.statements) ≡ true
+
+module-top : (m : Module) → is_compiled m.statements ≡ true → IsRising m → IsModuleFlat m.name (λ n. 0 ≤ n) (placed m.name [] [] m.statements)
+module-top m compiled rising = module-flat m.name [] 0 (λ n. 0 ≤ n) m.statements compiled rising (rises-low 0 (word_offsets m.statements) rising)
+
+-- what holds of each module's name holds of the module name of each statement
+joined-names : (P : List ℕ → Type 0) (modules : List Module) → list_all (λ m. is_compiled m.statements) modules ≡ true → AllByRecursion IsRising modules
+    → AllByRecursion P (map (λ m. m.name) modules) → AllByRecursion (λ s. P s.module_name) (joined modules)
+joined-names P [] compiled rising all = tt
+joined-names P (m ∷ modules) compiled rising all =
+    let flat = module-top m (first_true (is_compiled m.statements) (list_all (λ m. is_compiled m.statements) modules) compiled) rising.0 in
+    all-append (λ s. P s.module_name) (placed m.name [] [] m.statements) (joined modules)
+    (all-weaker (StandsIn m.name (λ n. 0 ≤ n)) (λ s. P s.module_name) (λ s stands. subst P (sym stands.here) all.0) (placed m.name [] [] m.statements) flat.inside)
+    (joined-names P modules (second_true (is_compiled m.statements) (list_all (λ m. is_compiled m.statements) modules) compiled) rising.1 all.1)
+
+pub joined-flat : (modules : List Module) → names_rise (map (λ m. m.name) modules) ≡ true → list_all (λ m. is_compiled m.statements) modules ≡ true → AllByRecursion IsRising modules
+    → AreFlat (joined modules)
+joined-flat [] ordered compiled rising = tt
+joined-flat (m ∷ modules) ordered compiled rising =
+    let flat = module-top m (first_true (is_compiled m.statements) (list_all (λ m. is_compiled m.statements) modules) compiled) rising.0 in
+    let others = second_true (is_compiled m.statements) (list_all (λ m. is_compiled m.statements) modules) compiled in
+    let greater = joined-names (λ n. name_cmp m.name n ≡ Less) modules others rising.1 (names_rise-first m.name (map (λ m. m.name) modules) ordered) in
+    flat-append (placed m.name [] [] m.statements) (joined modules) flat.flat
+    (joined-flat modules (names_rise-others m.name (map (λ m. m.name) modules) ordered) others rising.1)
+    (all-weaker (StandsIn m.name (λ n. 0 ≤ n)) (λ s. AllByRecursion (IsBefore s) (joined modules))
+    (λ s stands. all-weaker (λ t. name_cmp m.name t.module_name ≡ Less) (IsBefore s) (λ t less. inl (ap (λ n. name_cmp n t.module_name) stands.here ∙ less)) (joined modules) greater)
+    (placed m.name [] [] m.statements) flat.inside)
+
+-- a statement among flat ones
+pub record IsAmidst (before : List Placed) (s : Placed) (after : List Placed) : Type 0 where
+  pub plain : IsPlain s
+  pub in_front : AllByRecursion (IsBefore s) after
+
+pub flat-amidst : (before : List Placed) (s : Placed) (after : List Placed) → AreFlat (before ++ s ∷ after) → IsAmidst before s after
+flat-amidst [] s after flat = record { plain = flat.0; in_front = flat.1 }
+flat-amidst (t ∷ before) s after flat =
+    let more = flat-amidst before s after flat.2 in
+    record { plain = more.plain; in_front = more.in_front }

@@ -1,0 +1,428 @@
+-- The statements of the code, one after the other, are those of the joined policy.
+use Rattle.std.proofs.Common.{◌≡◌, ◌⊎◌, inl, inr, ℕ, zero, suc, ◌+◌, ◌<◌, true, ◌&&◌, ◌||◌, List, [], ◌∷◌, ◌++◌, length, get_or, slice_get, take, drop, map, Some, None, Contains, Vec, refl, sym, ap, ◌∙◌, true≢false, append_assoc, append-nil, subst, IsTrue, arith, bytes_eq}
+use Rattle.std.specs.Prelude.{◌↔◌, option_map}
+use Rattle.std.specs.List.{list_all, AllByRecursion, IsDistinct}
+use Rattle.std.proofs.lemmas.Bool.{or_right, or_cases}
+use Rattle.std.proofs.lemmas.List.{map-append, length-append, get_or_append_left, get_or_default, get_or-map, take_more, take-map}
+use Rattle.std.proofs.lemmas.List.Elements.{Contains-append_left}
+use Rattle.std.proofs.lemmas.List.Folds.{list_any-append, list_all-map}
+use Rattle.std.proofs.lemmas.List.Recursion.{and_at}
+use Rattle.std.proofs.lemmas.Grind.{flat_map-append}
+use Rattle.std.proofs.lemmas.Option.{none-some, same_Some, slice_get-map}
+use Rattle.std.proofs.Math.Bool.{or-false}
+use Rattle.cil_specs.specs.Names as names
+use Rattle.cil_specs.specs.Statements.{Statements, no_more, statement}
+use Rattle.cil_specs.specs.Joined.{Placed, placed, joined, namespace_inside, optionals_inside}
+use Rattle.cil_specs.specs.Lookup.{same_namespace, has_block, is_block, block_name, is_word}
+use Rattle.cil_specs.specs.Next.{is_compiled_form, is_compiled}
+use Rattle.cil_specs.proofs.Runs.{both_true, first_true, second_true}
+use Rattle.cil_specs.proofs.NamesLemmas.{all-append, all-weaker, contains-first, contains-cases}
+use Rattle.cil_text.specs.Image.{word_of, statement_then, statements_of, row_statements}
+use Rattle.cil_text.specs.declared.place.Place as code
+use Rattle.cil_text.specs.declared.word.Word.{Word}
+use Rattle.cil_text.specs.declared.statement.Statement.{Statement, Statement-F, out-Statement, roll-Statement, roll-out-Statement, Block', Optional', TypeName, TypeAlias, TypeAliasActual, TypeAttribute, TypeAttributeSet, Common, Class, ClassCommon, ClassOrder, Rule}
+use Rattle.cil_text.specs.declared.statement.Statement.TheOpen as opened
+use Rattle.cil_text.specs.declared.statement.Statement.TheVariants.{Block, rolls-Block, rolls-Optional, rolls-TypeName, rolls-TypeAlias, rolls-TypeAliasActual, rolls-TypeAttribute, rolls-TypeAttributeSet, rolls-Common, rolls-Class, rolls-ClassCommon, rolls-ClassOrder, rolls-Rule}
+use Rattle.cil_text.specs.declared.statement.Statement.TheViews.{size-Statement, sized-Block}
+use denote.Param.Weighed.{most, at_most}
+use Rattle.cil_text.proofs.Rows.{block_then}
+use Rattle.cil_specs.specs.Report.{names_rise}
+use Rattle.cil_names.specs.Image.{module_of, modules_of}
+use Rattle.cil_names.specs.Flat.{AreFlat}
+use Rattle.cil_names.specs.declared.joined.Joined.{Joined}
+use Rattle.cil_names.proofs.FlatLemmas.{IsRising, joined-flat}
+use Rattle.cil_names.specs.Placed.{form_of, at_of, placed_of, policy_of, AreNumbered, AreIn, AreBlocks, Extends}
+use Rattle.cil_names.specs.Spaces.{Namespace}
+use Rattle.cil_names.specs.declared.joined.NamedModule.{NamedModule}
+use Rattle.cil_names.specs.declared.placed.PlacedStatement.{PlacedStatement}
+use Rattle.cil_names.specs.declared.placed.Flat.{Flat}
+use Rattle.cil_names.proofs.SpaceLemmas.{same_namespace-refl, same_namespace-true}
+use Rattle.cil_names.proofs.NameSets.{bytes_eq-refl, bytes_eq-true}
+
+-- the statements inside one
+inside_of : {A : Type 0} → Statement A → Statements
+inside_of (Block' at id shape body) = row_statements body
+inside_of (Optional' at id shape body) = row_statements body
+inside_of _ = no_more
+
+statement-is : {A : Type 0} (s : Statement A) (more : Statements) → statement_then s more ≡ statement (at_of s) (form_of s) (inside_of s) more
+unfolding inside_of
+statement-is (Block' at id shape body) more = refl
+statement-is (Optional' at id shape body) more = refl
+statement-is (TypeName at id) more = refl
+statement-is (TypeAlias at id) more = refl
+statement-is (TypeAliasActual at alias actual) more = refl
+statement-is (TypeAttribute at id) more = refl
+statement-is (TypeAttributeSet at attribute expr) more = refl
+statement-is (Common at id permissions) more = refl
+statement-is (Class at id permissions) more = refl
+statement-is (ClassCommon at the_class the_common) more = refl
+statement-is (ClassOrder at the_classes) more = refl
+statement-is (Rule at kind source target the_class permissions) more = refl
+
+-- statements one after the other
+placed-then : {A : Type 0} (name : List ℕ) (namespace : Namespace) (s : Statement A) (more : Statements)
+    → placed name namespace [] (statement_then s more) ≡ placed name namespace [] (statement_then s no_more) ++ placed name namespace [] more
+placed-then name namespace s more =
+    let first : Placed = record { module_name = name; at = at_of s; form = form_of s; namespace = namespace; optionals = [] } in
+    let inner = placed name (namespace_inside (form_of s) namespace) (optionals_inside (form_of s) (at_of s) []) (inside_of s) in
+    ap (placed name namespace []) (statement-is s more)
+    ∙ ap (λ l. first ∷ (l ++ placed name namespace [] more)) (sym (append-nil inner))
+    ∙ ap (λ l. l ++ placed name namespace [] more) (sym (ap (placed name namespace []) (statement-is s no_more)))
+
+pub placed-append : {A : Type 0} (name : List ℕ) (namespace : Namespace) (xs ys : List (Statement A))
+    → placed name namespace [] (statements_of (xs ++ ys)) ≡ placed name namespace [] (statements_of xs) ++ placed name namespace [] (statements_of ys)
+placed-append name namespace [] ys = refl
+placed-append name namespace (x ∷ xs) ys =
+    placed-then name namespace x (statements_of (xs ++ ys))
+    ∙ ap (λ l. placed name namespace [] (statement_then x no_more) ++ l) (placed-append name namespace xs ys)
+    ∙ sym (append_assoc (placed name namespace [] (statement_then x no_more)) (placed name namespace [] (statements_of xs)) (placed name namespace [] (statements_of ys)))
+    ∙ ap (λ l. l ++ placed name namespace [] (statements_of ys)) (sym (placed-then name namespace x (statements_of xs)))
+
+-- a statement of a module in a namespace
+abbrev pub top : {A : Type 0} → List ℕ → Namespace → Statement A → Placed
+top name namespace s = record { module_name = name; at = at_of s; form = form_of s; namespace = namespace; optionals = [] }
+
+-- a statement that is no block has none inside it
+pub placed-leaf : {A : Type 0} (name : List ℕ) (namespace : Namespace) (s : Statement A) → is_compiled (statement_then s no_more) ≡ true → block_name (form_of s) ≡ None
+    → placed name namespace [] (statement_then s no_more) ≡ top name namespace s ∷ []
+placed-leaf name namespace (Block' at id shape body) compiled leaf = absurd (none-some (word_of id) (sym leaf))
+placed-leaf name namespace (Optional' at id shape body) compiled leaf = absurd (true≢false (sym compiled))
+placed-leaf name namespace (TypeName at id) compiled leaf = refl
+placed-leaf name namespace (TypeAlias at id) compiled leaf = refl
+placed-leaf name namespace (TypeAliasActual at alias actual) compiled leaf = refl
+placed-leaf name namespace (TypeAttribute at id) compiled leaf = refl
+placed-leaf name namespace (TypeAttributeSet at attribute expr) compiled leaf = refl
+placed-leaf name namespace (Common at id permissions) compiled leaf = refl
+placed-leaf name namespace (Class at id permissions) compiled leaf = refl
+placed-leaf name namespace (ClassCommon at the_class the_common) compiled leaf = refl
+placed-leaf name namespace (ClassOrder at the_classes) compiled leaf = refl
+placed-leaf name namespace (Rule at kind source target the_class permissions) compiled leaf = refl
+
+pub placed-block : {A : Type 0} (name : List ℕ) (namespace : Namespace) (s : Statement A) (at : code.Place) (id : Word) (body : Vec (Statement A) A) → s ≡ Block at id body
+    → placed name namespace [] (statement_then s no_more) ≡ top name namespace s ∷ placed name (id.text.now ∷ namespace) [] (statements_of body.items)
+placed-block name namespace s at id body is =
+    ap (λ r. placed name namespace [] (statement_then r no_more)) is ∙ ap (placed name namespace []) (block_then at id body no_more) ∙ ap (λ l. top name namespace (Block at id body) ∷ l) (append-nil _)
+    ∙ ap (λ r. top name namespace r ∷ placed name (id.text.now ∷ namespace) [] (statements_of body.items)) (sym is)
+
+-- the statements inside a block that is compiled are
+pub block-compiled : {A : Type 0} (s : Statement A) (at : code.Place) (id : Word) (body : Vec (Statement A) A) → s ≡ Block at id body → is_compiled (statement_then s no_more) ≡ true → is_compiled (statements_of body.items) ≡ true
+block-compiled s at id body is compiled =
+    first_true (is_compiled (statements_of body.items)) true (sym (ap is_compiled (ap (λ r. statement_then r no_more) is ∙ block_then at id body no_more)) ∙ compiled)
+
+-- each of statements that are compiled is
+pub each-compiled : {A : Type 0} (statements : List (Statement A)) (i : ℕ) (s : Statement A) → is_compiled (statements_of statements) ≡ true → slice_get statements i ≡ Some s
+    → is_compiled (statement_then s no_more) ≡ true
+each-compiled [] i s compiled at = absurd (none-some s at)
+each-compiled (x ∷ xs) i s compiled at =
+    let parts : (is_compiled_form (form_of x) && (is_compiled (inside_of x) && is_compiled (statements_of xs))) ≡ true = sym (ap is_compiled (statement-is x (statements_of xs))) ∙ compiled in
+    let form = first_true (is_compiled_form (form_of x)) (is_compiled (inside_of x) && is_compiled (statements_of xs)) parts in
+    let others = second_true (is_compiled_form (form_of x)) (is_compiled (inside_of x) && is_compiled (statements_of xs)) parts in
+    by i at
+    (ap is_compiled (statement-is x no_more) ∙ both_true (is_compiled_form (form_of x)) (is_compiled (inside_of x) && true) form (both_true (is_compiled (inside_of x)) true (first_true (is_compiled (inside_of x)) (is_compiled (statements_of xs)) others) refl))
+    (λ k. each-compiled xs k s (second_true (is_compiled (inside_of x)) (is_compiled (statements_of xs)) others))
+  where
+    by : (k : ℕ) → slice_get (x ∷ xs) k ≡ Some s → is_compiled (statement_then x no_more) ≡ true → ((l : ℕ) → slice_get xs l ≡ Some s → is_compiled (statement_then s no_more) ≡ true)
+        → is_compiled (statement_then s no_more) ≡ true
+    by zero e here more = subst (λ t. is_compiled (statement_then t no_more) ≡ true) (same_Some x s e) here
+    by (suc k) e here more = more k e
+
+-- later namespaces change no statement whose own is there
+pub placed-more : {A : Type 0} (spaces more : List Namespace) (p : PlacedStatement A) → p.namespace < length spaces → placed_of (spaces ++ more) p ≡ placed_of spaces p
+placed-more spaces more p within =
+    ap (λ n. record { module_name = p.module_name.now; at = at_of p.statement.now; form = form_of p.statement.now; namespace = n; optionals = [] }) (get_or_append_left spaces more [] p.namespace within)
+
+pub policy-more : {A : Type 0} (spaces more : List Namespace) (statements : List (PlacedStatement A)) → AreIn (length spaces) statements → policy_of (spaces ++ more) statements ≡ policy_of spaces statements
+policy-more spaces more [] within = refl
+policy-more spaces more (p ∷ ps) within = λ i. placed-more spaces more p within.0 i ∷ policy-more spaces more ps within.1 i
+
+-- the blocks of a policy with one more statement
+has_block-push : (policy : List Placed) (s : Placed) (namespace : Namespace) (name : List ℕ) → has_block (policy ++ s ∷ []) namespace name ≡ (has_block policy namespace name || is_block namespace name s)
+has_block-push policy s namespace name = list_any-append (is_block namespace name) policy (s ∷ []) ∙ ap (λ b. has_block policy namespace name || b) (or-false (is_block namespace name s))
+
+-- a namespace stands among the new ones if it is one from before, or this statement opens it
+abbrev pub Opens : List Namespace → List Namespace → Placed → Type 0
+Opens old new s = (namespace : Namespace) (name : List ℕ) → Contains new (name ∷ namespace) ↔ (Contains old (name ∷ namespace) ⊎ IsTrue (is_block namespace name s))
+
+blocks-push : (old new : List Namespace) (policy : List Placed) (s : Placed) → Contains new [] → Opens old new s → AreBlocks old policy → AreBlocks new (policy ++ s ∷ [])
+blocks-push old new policy s global opens blocks = (global, λ namespace name. (to namespace name, from namespace name))
+  where
+    to : (namespace : Namespace) (name : List ℕ) → Contains new (name ∷ namespace) → IsTrue (has_block (policy ++ s ∷ []) namespace name)
+    to namespace name c = has_block-push policy s namespace name ∙ elim ((opens namespace name).0 c) [
+      | inl known ↦ ap (λ b. b || is_block namespace name s) ((blocks.1 namespace name).0 known)
+      | inr here ↦ or_right (has_block policy namespace name) (is_block namespace name s) here
+    ]
+
+    from : (namespace : Namespace) (name : List ℕ) → IsTrue (has_block (policy ++ s ∷ []) namespace name) → Contains new (name ∷ namespace)
+    from namespace name has =
+        elim (or_cases (has_block policy namespace name) (is_block namespace name s) (sym (has_block-push policy s namespace name) ∙ has)) [
+          | inl known ↦ (opens namespace name).1 (inl ((blocks.1 namespace name).1 known))
+          | inr here ↦ (opens namespace name).1 (inr here)
+        ]
+
+-- one more statement
+pub extends-one : {A : Type 0} (old new : Flat A) (number : ℕ) (name : List ℕ) (p : PlacedStatement A) (more : List Namespace) → new.spaces ≡ old.spaces ++ more → new.modules.items ≡ old.modules.items
+    → new.statements.items ≡ old.statements.items ++ p ∷ [] → p.«module» ≡ number → p.module_name.now ≡ name → p.namespace < length old.spaces
+    → Opens old.spaces new.spaces (placed_of old.spaces p) → (IsDistinct same_namespace old.spaces → IsDistinct same_namespace new.spaces) → Extends old new number name (placed_of old.spaces p ∷ [])
+extends-one old new number name p more spaces modules pushed is_number is_name within opens distinct = record {
+  more = more;
+  spaces = spaces;
+  policy = policy;
+  modules = modules;
+  numbered = λ names is all. subst (AreNumbered names) (sym pushed) (all-append (λ q. get_or names q.«module» [] ≡ q.module_name.now) old.statements.items (p ∷ []) all
+      (ap (λ n. get_or names n []) is_number ∙ is ∙ sym is_name, tt));
+  within = λ all. subst (AreIn (length new.spaces)) (sym pushed) (all-append (λ q. q.namespace < length new.spaces) old.statements.items (p ∷ [])
+      (all-weaker (λ q. q.namespace < length old.spaces) (λ q. q.namespace < length new.spaces) (λ q less. omega (arith, less, longer)) old.statements.items all) (omega (arith, within, longer), tt));
+  blocks = λ all blocks. subst (AreBlocks new.spaces) (sym (whole all))
+      (blocks-push old.spaces new.spaces (policy_of old.spaces old.statements.items) (placed_of old.spaces p) (subst (λ s. Contains s []) (sym spaces) (Contains-append_left old.spaces more [] blocks.0)) opens blocks);
+  distinct = distinct;
+}
+  where
+    longer : length new.spaces ≡ length old.spaces + length more
+    longer = ap length spaces ∙ length-append old.spaces more
+
+    policy : (later : List Namespace) → policy_of (new.spaces ++ later) new.statements.items ≡ policy_of (new.spaces ++ later) old.statements.items ++ placed_of old.spaces p ∷ []
+    policy later =
+        ap (policy_of (new.spaces ++ later)) pushed ∙ map-append (placed_of (new.spaces ++ later)) old.statements.items (p ∷ [])
+        ∙ ap (λ q. policy_of (new.spaces ++ later) old.statements.items ++ q ∷ [])
+        (ap (λ s. placed_of s p) (ap (λ s. s ++ later) spaces ∙ append_assoc old.spaces more later) ∙ placed-more old.spaces (more ++ later) p within)
+
+    whole : AreIn (length old.spaces) old.statements.items → policy_of new.spaces new.statements.items ≡ policy_of old.spaces old.statements.items ++ placed_of old.spaces p ∷ []
+    whole all =
+        ap (λ s. policy_of s new.statements.items) (sym (append-nil new.spaces)) ∙ policy []
+        ∙ ap (λ s. policy_of s old.statements.items ++ placed_of old.spaces p ∷ []) (append-nil new.spaces ∙ spaces)
+        ∙ ap (λ l. l ++ placed_of old.spaces p ∷ []) (policy-more old.spaces more old.statements.items all)
+
+-- nothing
+pub extends-none : {A : Type 0} (old : Flat A) (number : ℕ) (name : List ℕ) → Extends old old number name []
+extends-none old number name = record {
+  more = [];
+  spaces = sym (append-nil old.spaces);
+  policy = λ later. sym (append-nil _);
+  modules = refl;
+  numbered = λ modules is all. all;
+  within = λ all. all;
+  blocks = λ all blocks. blocks;
+  distinct = λ distinct. distinct;
+}
+
+-- one thing after the other
+pub extends-then : {A : Type 0} (old mid new : Flat A) (number : ℕ) (name : List ℕ) (first second : List Placed) → Extends old mid number name first → Extends mid new number name second
+    → Extends old new number name (first ++ second)
+extends-then old mid new number name first second a b = record {
+  more = a.more ++ b.more;
+  spaces = b.spaces ∙ ap (λ s. s ++ b.more) a.spaces ∙ append_assoc old.spaces a.more b.more;
+  policy = λ later.
+      (let here : new.spaces ++ later ≡ mid.spaces ++ (b.more ++ later) = ap (λ s. s ++ later) b.spaces ∙ append_assoc mid.spaces b.more later in
+      b.policy later ∙ ap (λ s. policy_of s mid.statements.items ++ second) here ∙ ap (λ l. l ++ second) (a.policy (b.more ++ later))
+      ∙ ap (λ s. (policy_of s old.statements.items ++ first) ++ second) (sym here) ∙ append_assoc (policy_of (new.spaces ++ later) old.statements.items) first second);
+  modules = b.modules ∙ a.modules;
+  numbered = λ modules is all. b.numbered modules is (a.numbered modules is all);
+  within = λ all. b.within (a.within all);
+  blocks = λ all blocks. b.blocks (a.within all) (a.blocks all blocks);
+  distinct = λ distinct. b.distinct (a.distinct distinct);
+}
+
+-- the namespace of a number that was there
+pub extends-namespace : {A : Type 0} (old new : Flat A) (number : ℕ) (name : List ℕ) (brought : List Placed) (n : ℕ) → Extends old new number name brought → n < length old.spaces
+    → (n < length new.spaces) × (get_or new.spaces n [] ≡ get_or old.spaces n [])
+extends-namespace old new number name brought n extends within =
+    let longer : length new.spaces ≡ length old.spaces + length extends.more = ap length extends.spaces ∙ length-append old.spaces extends.more in
+    (omega (arith, within, longer), ap (λ s. get_or s n []) extends.spaces ∙ get_or_append_left old.spaces extends.more [] n within)
+
+-- what opens nothing
+pub opens-nothing : (spaces : List Namespace) (s : Placed) → block_name s.form ≡ None → Opens spaces spaces s
+opens-nothing spaces s leaf namespace name = (
+  λ c. inl c,
+  λ c. elim c [ inl known ↦ known | inr here ↦ absurd (true≢false (sym here ∙ ap (λ w. is_word name w && same_namespace s.namespace namespace) leaf)) ],
+)
+
+-- what a block opens
+pub opens-block : (old new more : List Namespace) (s : Placed) (id : names.Word) (n : ℕ) → new ≡ old ++ more → block_name s.form ≡ Some id → n < length new → get_or new n [] ≡ id.text ∷ s.namespace
+    → ((space : Namespace) → Contains new space → Contains old space ⊎ (space ≡ id.text ∷ s.namespace)) → Opens old new s
+opens-block old new more s id n kept is within opened exact namespace name = (
+  λ c. elim (exact (name ∷ namespace) c) [
+    | inl known ↦ inl known
+    | inr same ↦ inr (ap (λ w. is_word name w && same_namespace s.namespace namespace) is ∙ both_true (bytes_eq id.text name) (same_namespace s.namespace namespace)
+        (subst (λ m. bytes_eq id.text m ≡ true) (ap (λ l. get_or l 0 []) (sym same)) (bytes_eq-refl id.text)) (subst (λ m. same_namespace s.namespace m ≡ true) (ap (drop 1) (sym same)) (same_namespace-refl s.namespace)))
+  ],
+  λ c. elim c [
+    | inl known ↦ subst (λ l. Contains l (name ∷ namespace)) (sym kept) (Contains-append_left old more (name ∷ namespace) known)
+    | inr here ↦
+        let both : (bytes_eq id.text name && same_namespace s.namespace namespace) ≡ true = sym (ap (λ w. is_word name w && same_namespace s.namespace namespace) is) ∙ here in
+        let first : id.text ≡ name = bytes_eq-true id.text name (first_true (bytes_eq id.text name) (same_namespace s.namespace namespace) both) in
+        let second : s.namespace ≡ namespace = same_namespace-true s.namespace namespace (second_true (bytes_eq id.text name) (same_namespace s.namespace namespace) both) in
+        (n, within, get_or_default new n (name ∷ namespace) [] within ∙ opened ∙ (λ i. first i ∷ second i))
+  ],
+)
+
+-- a list of which one more element is taken
+take-next : {X : Type 0} (xs : List X) (i : ℕ) (x : X) → i < length xs → x ≡ get_or xs i x → take (i + 1) xs ≡ take i xs ++ x ∷ []
+take-next xs i x within is = take_more xs i x within ∙ ap (λ y. take i xs ++ y ∷ []) (sym is)
+
+-- one more statement of statements
+pub placed-next : {A : Type 0} (name : List ℕ) (namespace : Namespace) (statements : List (Statement A)) (i : ℕ) (s : Statement A) → i < length statements → s ≡ get_or statements i s
+    → placed name namespace [] (statements_of (take (i + 1) statements)) ≡ placed name namespace [] (statements_of (take i statements)) ++ placed name namespace [] (statement_then s no_more)
+placed-next name namespace statements i s within is =
+    ap (λ l. placed name namespace [] (statements_of l)) (take-next statements i s within is) ∙ placed-append name namespace (take i statements) (s ∷ [])
+
+-- a statement that is no block names none
+pub leaf-name : {A : Type 0} (s : Statement A) → ((at : code.Place) (id : Word) (body : Vec (Statement A) A) → s ≡ Block at id body → ⊥) → block_name (form_of s) ≡ None
+leaf-name {A} s no_block = by (out-Statement A s) (sym (roll-out-Statement A s))
+  where
+    by : (o : Statement-F A (Statement A)) → s ≡ roll-Statement A o → block_name (form_of s) ≡ None
+    by (opened.Block at id v) is = absurd (no_block at id v (is ∙ rolls-Block at id v))
+    by (opened.Optional at id v) is = ap (λ s. block_name (form_of s)) (is ∙ rolls-Optional at id v)
+    by (opened.TypeName at id) is = ap (λ s. block_name (form_of s)) (is ∙ rolls-TypeName at id)
+    by (opened.TypeAlias at id) is = ap (λ s. block_name (form_of s)) (is ∙ rolls-TypeAlias at id)
+    by (opened.TypeAliasActual at alias actual) is = ap (λ s. block_name (form_of s)) (is ∙ rolls-TypeAliasActual at alias actual)
+    by (opened.TypeAttribute at id) is = ap (λ s. block_name (form_of s)) (is ∙ rolls-TypeAttribute at id)
+    by (opened.TypeAttributeSet at attribute expr) is = ap (λ s. block_name (form_of s)) (is ∙ rolls-TypeAttributeSet at attribute expr)
+    by (opened.Common at id permissions) is = ap (λ s. block_name (form_of s)) (is ∙ rolls-Common at id permissions)
+    by (opened.Class at id permissions) is = ap (λ s. block_name (form_of s)) (is ∙ rolls-Class at id permissions)
+    by (opened.ClassCommon at the_class the_common) is = ap (λ s. block_name (form_of s)) (is ∙ rolls-ClassCommon at the_class the_common)
+    by (opened.ClassOrder at the_classes) is = ap (λ s. block_name (form_of s)) (is ∙ rolls-ClassOrder at the_classes)
+    by (opened.Rule at kind source target the_class permissions) is = ap (λ s. block_name (form_of s)) (is ∙ rolls-Rule at kind source target the_class permissions)
+
+-- the statements inside a block among statements are less deep than these
+pub body-depth : {A : Type 0} → (statements : List (Statement A)) (i : ℕ) (s : Statement A) (at : code.Place) (id : Word) (v : Vec (Statement A) A) → i < length statements → s ≡ get_or statements i s → s ≡ Block at id v
+    → most (size-Statement A) v.items < most (size-Statement A) statements
+body-depth {A} statements i s at id v within is made =
+    let size : size-Statement A (Block at id v) ≡ most (size-Statement A) v.items + 1 = omega (arith, sized-Block A at id v) in
+    let here : size-Statement A (get_or statements i s) ≡ size-Statement A (Block at id v) = ap (size-Statement A) (sym is ∙ made) in
+    omega (arith, at_most (size-Statement A) statements i s within, here, size)
+
+-- what the next statement brings
+pub extends-next : {A : Type 0} (old mid new : Flat A) (number : ℕ) (name : List ℕ) (namespace : ℕ) (statements : List (Statement A)) (i : ℕ) (s : Statement A) → i < length statements → s ≡ get_or statements i s
+    → namespace < length old.spaces → Extends old mid number name (placed name (get_or old.spaces namespace []) [] (statements_of (take i statements)))
+    → Extends mid new number name (placed name (get_or mid.spaces namespace []) [] (statement_then s no_more))
+    → Extends old new number name (placed name (get_or old.spaces namespace []) [] (statements_of (take (i + 1) statements)))
+extends-next old mid new number name namespace statements i s within is inside a b =
+    let here = get_or old.spaces namespace [] in
+    let so_far = placed name here [] (statements_of (take i statements)) in
+    subst (Extends old new number name) (sym (placed-next name here statements i s within is))
+    (extends-then old mid new number name so_far (placed name here [] (statement_then s no_more)) a
+    (subst (λ n. Extends mid new number name (placed name n [] (statement_then s no_more))) (extends-namespace old mid number name so_far namespace a inside).1 b))
+
+-- what a block brings
+pub extends-block : {A : Type 0} (mid between new : Flat A) (number : ℕ) (name : List ℕ) (namespace : Namespace) (inner : ℕ) (s : Statement A) (at : code.Place) (id : Word) (body : Vec (Statement A) A) → s ≡ Block at id body
+    → Extends mid between number name (top name namespace s ∷ []) → get_or between.spaces inner [] ≡ id.text.now ∷ namespace
+    → Extends between new number name (placed name (get_or between.spaces inner []) [] (statements_of body.items)) → Extends mid new number name (placed name namespace [] (statement_then s no_more))
+extends-block mid between new number name namespace inner s at id body is a opened b =
+    subst (Extends mid new number name) (sym (placed-block name namespace s at id body is))
+    (extends-then mid between new number name (top name namespace s ∷ []) (placed name (id.text.now ∷ namespace) [] (statements_of body.items)) a
+    (subst (λ n. Extends between new number name (placed name n [] (statements_of body.items))) opened b))
+
+-- one more module
+pub joined-next : {A : Type 0} (modules : List (NamedModule A)) (i : ℕ) (m : NamedModule A) → i < length modules → m ≡ get_or modules i m
+    → joined (map module_of (take (i + 1) modules)) ≡ joined (map module_of (take i modules)) ++ placed m.name.now [] [] (statements_of m.«module».statements.items)
+joined-next modules i m within is =
+    ap (λ l. joined (map module_of l)) (take-next modules i m within is) ∙ ap joined (map-append module_of (take i modules) (m ∷ []))
+    ∙ flat_map-append (λ n. placed n.name [] [] n.statements) (map module_of (take i modules)) (module_of m ∷ [])
+    ∙ ap (λ l. joined (map module_of (take i modules)) ++ l) (append-nil _)
+
+-- what is brought, by the namespaces alone
+extends-policy : {A : Type 0} (old new : Flat A) (number : ℕ) (name : List ℕ) (brought : List Placed) → Extends old new number name brought → AreIn (length old.spaces) old.statements.items
+    → policy_of new.spaces new.statements.items ≡ policy_of old.spaces old.statements.items ++ brought
+extends-policy old new number name brought extends within =
+    ap (λ s. policy_of s new.statements.items) (sym (append-nil new.spaces)) ∙ extends.policy []
+    ∙ ap (λ s. policy_of s old.statements.items ++ brought) (append-nil new.spaces ∙ extends.spaces)
+    ∙ ap (λ l. l ++ brought) (policy-more old.spaces extends.more old.statements.items within)
+
+-- The first modules are placed, and the global namespace stands first.
+pub record IsPlaced {A : Type 0} (modules : List (NamedModule A)) (i : ℕ) (flat : Flat A) : Type 0 where
+  pub policy : policy_of flat.spaces flat.statements.items ≡ joined (map module_of (take i modules))
+  pub names : map (λ m. m.now) flat.modules.items ≡ map (λ m. m.name.now) (take i modules)
+  pub numbered : AreNumbered (map (λ m. m.name.now) modules) flat.statements.items
+  pub within : AreIn (length flat.spaces) flat.statements.items
+  pub blocks : AreBlocks flat.spaces (policy_of flat.spaces flat.statements.items)
+  pub distinct : IsDistinct same_namespace flat.spaces
+  pub some : 0 < length flat.spaces
+  pub global : get_or flat.spaces 0 [] ≡ []
+
+global-alone : AreBlocks ([] ∷ []) []
+global-alone = (
+  contains-first [] [],
+  λ namespace name. (
+    λ c. elim (contains-cases [] [] (name ∷ namespace) c) [ inl same ↦ absurd (omega (arith, ap length same)) | inr others ↦ absurd (omega (arith, others.1)) ],
+    λ has. absurd (true≢false (sym has)),
+  ),
+)
+
+pub placed-first : {A : Type 0} (modules : List (NamedModule A)) (flat : Flat A) → flat.modules.items ≡ [] → flat.spaces ≡ [] ∷ [] → flat.statements.items ≡ [] → IsPlaced modules 0 flat
+unfolding IsDistinct
+placed-first modules flat no_modules global no_statements = record {
+  policy = ap (policy_of flat.spaces) no_statements;
+  names = ap (map (λ m. m.now)) no_modules;
+  numbered = subst (AreNumbered (map (λ m. m.name.now) modules)) (sym no_statements) tt;
+  within = subst (AreIn (length flat.spaces)) (sym no_statements) tt;
+  blocks = subst (λ l. AreBlocks flat.spaces (policy_of flat.spaces l)) (sym no_statements) (subst (λ s. AreBlocks s []) (sym global) global-alone);
+  distinct = subst (IsDistinct same_namespace) (sym global) single;
+  some = subst (λ s. 0 < length s) (sym global) (omega arith);
+  global = ap (λ s. get_or s 0 []) global;
+}
+  where
+    single : IsDistinct same_namespace ([] ∷ [])
+    single = (tt, tt)
+
+pub placed-module : {A : Type 0} (modules : List (NamedModule A)) (i : ℕ) (m : NamedModule A) (old mid new : Flat A) → i < length modules → m ≡ get_or modules i m → IsPlaced modules i old
+    → mid.modules.items ≡ old.modules.items ++ m.name ∷ [] → mid.spaces ≡ old.spaces → mid.statements.items ≡ old.statements.items
+    → Extends mid new i m.name.now (placed m.name.now (get_or mid.spaces 0 []) [] (statements_of m.«module».statements.items)) → IsPlaced modules (i + 1) new
+placed-module modules i m old mid new within is so_far pushed spaces statements extends = record {
+  policy =
+      extends-policy mid new i m.name.now brought extends inside ∙ ap (λ l. l ++ brought) (before ∙ so_far.policy)
+      ∙ ap (λ n. joined (map module_of (take i modules)) ++ placed m.name.now n [] (statements_of m.«module».statements.items)) (ap (λ s. get_or s 0 []) spaces ∙ so_far.global) ∙ sym (joined-next modules i m within is);
+  names =
+      ap (map (λ n. n.now)) (extends.modules ∙ pushed) ∙ map-append (λ n. n.now) old.modules.items (m.name ∷ []) ∙ ap (λ l. l ++ m.name.now ∷ []) so_far.names
+      ∙ sym (ap (map (λ n. n.name.now)) (take-next modules i m within is) ∙ map-append (λ n. n.name.now) (take i modules) (m ∷ []));
+  numbered = extends.numbered (map (λ n. n.name.now) modules) (get_or-map (λ n. n.name.now) modules i m [] within ∙ ap (λ n. n.name.now) (sym is)) (subst (AreNumbered (map (λ n. n.name.now) modules)) (sym statements) so_far.numbered);
+  within = extends.within inside;
+  blocks = extends.blocks inside (subst (AreBlocks mid.spaces) (sym before) (subst (λ s. AreBlocks s (policy_of old.spaces old.statements.items)) (sym spaces) so_far.blocks));
+  distinct = extends.distinct (subst (IsDistinct same_namespace) (sym spaces) so_far.distinct);
+  some = namespace.0;
+  global = namespace.1 ∙ ap (λ s. get_or s 0 []) spaces ∙ so_far.global;
+}
+  where
+    brought : List Placed
+    brought = placed m.name.now (get_or mid.spaces 0 []) [] (statements_of m.«module».statements.items)
+
+    inside : AreIn (length mid.spaces) mid.statements.items
+    inside = subst (AreIn (length mid.spaces)) (sym statements) (subst (λ s. AreIn (length s) old.statements.items) (sym spaces) so_far.within)
+
+    before : policy_of mid.spaces mid.statements.items ≡ policy_of old.spaces old.statements.items
+    before = ap (policy_of mid.spaces) statements ∙ ap (λ s. policy_of s old.statements.items) spaces
+
+    namespace : (0 < length new.spaces) × (get_or new.spaces 0 [] ≡ get_or mid.spaces 0 [])
+    namespace = extends-namespace mid new i m.name.now brought 0 extends (subst (λ s. 0 < length s) (sym spaces) so_far.some)
+
+module-names : {A : Type 0} (modules : List (NamedModule A)) → map (λ m. m.name) (map module_of modules) ≡ map (λ m. m.name.now) modules
+module-names [] = refl
+module-names (m ∷ modules) = ap (λ l. m.name.now ∷ l) (module-names modules)
+
+modules-rising : {A : Type 0} (modules : List (NamedModule A)) → AllByRecursion IsRising (map module_of modules)
+modules-rising [] = tt
+modules-rising (m ∷ modules) = (m.«module».ordered, modules-rising modules)
+
+-- a joined policy is flat, where its modules are compiled
+pub policy-flat : {A : Type 0} (j : Joined A) → list_all (λ m. is_compiled m.statements) (modules_of j) ≡ true → AreFlat (joined (modules_of j))
+policy-flat j compiled = joined-flat (modules_of j) (ap names_rise (module-names j.modules.items) ∙ j.ordered) compiled (modules-rising j.modules.items)
+
+-- each module of modules that are compiled is
+pub module-compiled : {A : Type 0} (modules : List (NamedModule A)) (i : ℕ) (m : NamedModule A) → list_all (λ n. is_compiled n.statements) (map module_of modules) ≡ true → i < length modules → m ≡ get_or modules i m
+    → is_compiled (statements_of m.«module».statements.items) ≡ true
+module-compiled modules i m compiled within is =
+    ap (λ n. is_compiled (module_of n).statements) is
+    ∙ and_at (list_all (λ n. is_compiled (module_of n).statements)) (λ n. is_compiled (module_of n).statements) refl (λ _ _. refl) modules i m within
+    (sym (list_all-map (λ n. is_compiled n.statements) module_of modules) ∙ compiled)
+
+-- a statement of the policy, by its place
+pub policy-get : {A : Type 0} (spaces : List Namespace) (statements : List (PlacedStatement A)) (i : ℕ) (p : PlacedStatement A) → slice_get statements i ≡ Some p
+    → slice_get (policy_of spaces statements) i ≡ Some (placed_of spaces p)
+policy-get spaces statements i p at = slice_get-map (placed_of spaces) statements i ∙ ap (option_map (placed_of spaces)) at
+
+pub policy-next : {A : Type 0} (spaces : List Namespace) (statements : List (PlacedStatement A)) (i : ℕ) (p : PlacedStatement A) → i < length statements → p ≡ get_or statements i p
+    → policy_of spaces (take (i + 1) statements) ≡ policy_of spaces (take i statements) ++ placed_of spaces p ∷ []
+policy-next spaces statements i p within is = ap (policy_of spaces) (take-next statements i p within is) ∙ map-append (placed_of spaces) (take i statements) (p ∷ [])
+
+pub policy-take : {A : Type 0} (spaces : List Namespace) (statements : List (PlacedStatement A)) (i : ℕ) → take i (policy_of spaces statements) ≡ policy_of spaces (take i statements)
+policy-take spaces statements i = take-map (placed_of spaces) i statements

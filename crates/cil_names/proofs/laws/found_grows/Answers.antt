@@ -1,0 +1,5 @@
+use Rattle.cil_names.proofs.GrowsLemmas.{leads-grows}
+use Rattle.cil_names.proofs.laws.found_grows.Goals as goal
+
+pub returns : goal.returns
+returns g = λ kept more policy table namespace text within found. leads-grows kept more policy table namespace text within found

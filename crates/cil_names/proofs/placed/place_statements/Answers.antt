@@ -1,0 +1,37 @@
+use Rattle.std.proofs.Common.{◌∙◌, ◌≤◌, [], length, get_or, map, ap, sym, subst, refl, rules}
+use Rattle.std.proofs.lemmas.List.{take_all}
+use Rattle.cil_specs.specs.Joined.{placed, joined}
+use Rattle.cil_specs.specs.Next.{is_compiled}
+use Rattle.cil_text.specs.Image.{statements_of}
+use Rattle.cil_names.specs.Flat.{AreFlat}
+use Rattle.cil_names.specs.Image.{module_of}
+use Rattle.cil_names.specs.Placed.{Extends}
+use Rattle.cil_names.specs.declared.placed.Flat.{Flat}
+use Rattle.cil_names.proofs.PlacedLemmas.{module-compiled, placed-module, policy-flat}
+use Rattle.cil_names.proofs.placed.place_statements.Goals as goal
+
+pub place-requires-clause-compiled : goal.place-requires-clause-compiled
+place-requires-clause-compiled g c =
+    let modules = c.args.joined.now.modules.items in
+    let i = c.loop-number.number in
+    let m = c.named-item.result in
+    ap (λ l. is_compiled (statements_of l)) c.deref.ensures.value
+    ∙ module-compiled modules i m c.requires.compiled (search rules) (c.named-item.is ∙ ap (λ l. get_or l i m) c.deref-named-items.ensures.value)
+
+pub loop-number-preserved : goal.loop-number-preserved
+loop-number-preserved g c =
+    let modules = c.args.joined.now.modules.items in
+    let i = c.loop-number.number in
+    let m = c.named-item.result in
+    let flat = c.loop-number.flat in
+    let mid : Flat g.row.A.Denot = record { modules = c.push.new.self; spaces = flat.spaces; statements = flat.statements } in
+    placed-module modules i m flat mid c.place.new.self (search rules) (c.named-item.is ∙ ap (λ l. get_or l i m) c.deref-named-items.ensures.value) c.loop-number.invariant
+    c.in_ok-push.ensures.items refl refl
+    (subst (λ l. Extends mid c.place.new.self i m.name.now (placed m.name.now (get_or flat.spaces 0 []) [] (statements_of l))) c.deref.ensures.value c.in_ok-place.ensures)
+
+pub returns-clause-flat : goal.returns-clause-flat
+returns-clause-flat g c =
+    let modules = c.args.joined.now.modules.items in
+    let i = c.loop-number.number in
+    let past : length modules ≤ i = search rules in
+    subst AreFlat (sym (c.loop-number.invariant.policy ∙ ap (λ l. joined (map module_of l)) (take_all i modules past))) (policy-flat c.args.joined.now c.requires.compiled)

@@ -1,0 +1,37 @@
+-- Policies as lists of statements: none stands in an optional, each says what is compiled so far, and they stand in order.
+use Rattle.std.specs.Prelude.{◌≡◌, ◌⊎◌, ℕ, ◌<◌, List, [], ◌∷◌, map, Contains, IsTrue}
+use Rattle.std.specs.List.{AllByRecursion}
+use Rattle.std.specs.declared.cmp.Ordering.TheVariants.{Less}
+use Rattle.cil_specs.specs.Statements.{Form, words_of, rise_from}
+use Rattle.cil_specs.specs.Joined.{Placed}
+use Rattle.cil_specs.specs.Next.{is_compiled_form}
+use Rattle.cil_specs.specs.PolicyFault.{PolicyFault, IsNoLater}
+use Rattle.cil_specs.specs.Report.{name_cmp}
+
+-- the offsets of a statement's words
+abbrev pub offsets_in : Form → List ℕ
+offsets_in form = map (λ (role, word). word.at.offset) (words_of form)
+
+abbrev pub offsets_of : Placed → List ℕ
+offsets_of s = offsets_in s.form
+
+-- a statement in no optional, of a form that is compiled, whose words stand one behind the other
+pub record IsPlain (s : Placed) : Type 0 where
+  pub compiled : IsTrue (is_compiled_form s.form)
+  pub optionals : s.optionals ≡ []
+  pub rising : IsTrue (rise_from 0 (offsets_of s))
+
+-- the one stands in a module of lesser name, or in the same and with each of its words in front of each of the other's
+abbrev pub IsBefore : Placed → Placed → Type 0
+IsBefore s t = (name_cmp s.module_name t.module_name ≡ Less)
+    ⊎ ((s.module_name ≡ t.module_name) × ((m n : ℕ) → Contains (offsets_of s) m → Contains (offsets_of t) n → m < n))
+
+-- the statements are plain and stand in order
+abbrev pub AreFlat : List Placed → Type 0
+AreFlat [] = Unit {0}
+AreFlat (s ∷ policy) = IsPlain s × AllByRecursion (IsBefore s) policy × AreFlat policy
+
+-- the fault is one of these, and none of them is earlier
+pub record IsLeast (Is : PolicyFault → Type 0) (fault : PolicyFault) : Type 0 where
+  pub is : Is fault
+  pub first : (other : PolicyFault) → Is other → IsNoLater fault other

@@ -1,0 +1,16 @@
+pub mod Image
+pub mod Names
+pub mod Flat
+pub mod Placed
+pub mod Spaces
+pub mod First
+pub mod Policy
+pub mod Classes
+pub mod Gifts
+pub mod Resolution
+pub mod Below
+pub mod Resolved
+pub mod FullNames
+pub mod Numbering
+pub mod Views
+pub mod Grows

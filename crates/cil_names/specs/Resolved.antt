@@ -1,0 +1,60 @@
+-- What the numbers of a resolved policy stand for.
+use Rattle.std.specs.Prelude.{◌≡◌, ℕ, List, [], map, slice_index_or}
+use Rattle.cil_specs.specs.Joined.{Placed}
+use Rattle.cil_specs.specs.Lookup.{Optionals}
+use Rattle.cil_specs.specs.Rule as spec
+use Rattle.cil_specs.specs.Rule.{a_type, an_attribute, at_element, types_of, attributes_of, classes_of, rules_of}
+use Rattle.cil_text.specs.Image.{place_of, rule_kind_of}
+use Rattle.cil_names.specs.declared.numbered.Element.{Element}
+use Rattle.cil_names.specs.declared.numbered.Element.TheVariants.{«Type», Attribute}
+use Rattle.cil_names.specs.declared.numbered.NumberedName.{NumberedName}
+use Rattle.cil_names.specs.declared.numbered.NumberedClass.{NumberedClass}
+use Rattle.cil_names.specs.declared.numbered.NumberedRule.{NumberedRule}
+use Rattle.cil_names.specs.declared.resolved.Resolved.{Resolved}
+
+abbrev pub element_of : List (List ℕ) → Element → spec.Element
+element_of names («Type» i) = a_type (slice_index_or names i [])
+element_of names (Attribute i) = an_attribute (slice_index_or names i [])
+
+abbrev pub declared_of : List (List ℕ) → List (List ℕ) → NumberedName → spec.Declared
+declared_of modules names d = record { module_name = slice_index_or modules d.module []; at = place_of d.at; name = slice_index_or names d.name [] }
+
+abbrev pub class_of : {A : Type 0} → List (List ℕ) → List (List ℕ) → NumberedClass A → spec.ClassOf
+class_of modules names c = record {
+  module_name = slice_index_or modules c.module [];
+  at = place_of c.at;
+  name = slice_index_or names c.name [];
+  permissions = map (λ p. slice_index_or names p []) c.permissions.items;
+}
+
+-- a rule, by the names at its numbers
+abbrev pub rule_of : {A : Type 0} → List (List ℕ) → List (List ℕ) → NumberedRule A → spec.Rule
+rule_of modules names r = record {
+  module_name = slice_index_or modules r.module [];
+  at = place_of r.at;
+  kind = rule_kind_of r.kind;
+  source = element_of names r.source;
+  target = at_element (element_of names r.target);
+  the_class = slice_index_or names r.class [];
+  permissions = map (λ p. slice_index_or names p []) r.permissions.items;
+}
+
+-- the types, attributes, classes and rules of a resolved policy
+abbrev pub types_in : {A : Type 0} → Resolved A → List spec.Declared
+types_in r = map (declared_of r.modules.items r.names.items) r.types.items
+
+abbrev pub attributes_in : {A : Type 0} → Resolved A → List spec.Declared
+attributes_in r = map (declared_of r.modules.items r.names.items) r.attributes.items
+
+abbrev pub classes_in : {A : Type 0} → Resolved A → List spec.ClassOf
+classes_in r = map (class_of r.modules.items r.names.items) r.classes.items
+
+abbrev pub rules_in : {A : Type 0} → Resolved A → List spec.Rule
+rules_in r = map (rule_of r.modules.items r.names.items) r.rules.items
+
+-- it is what the policy resolves to
+pub record IsPolicy {A : Type 0} (kept : Optionals) (policy : List Placed) (r : Resolved A) : Type 0 where
+  pub types : types_in r ≡ types_of kept policy
+  pub attributes : attributes_in r ≡ attributes_of kept policy
+  pub classes : classes_in r ≡ classes_of kept policy
+  pub rules : rules_in r ≡ rules_of kept policy

@@ -1,0 +1,30 @@
+//! The joined policy of several modules, and what its names lead to.
+#![tactic(auto)]
+
+mod classes;
+mod fault;
+mod firsts;
+mod full_names;
+mod joined;
+mod kinds;
+mod laws;
+mod name_set;
+mod numbered;
+mod numbering;
+mod placed;
+mod policy;
+mod resolution;
+mod resolved;
+mod resolver;
+mod spaces;
+mod text;
+mod views;
+
+pub use fault::{PolicyFault, PolicyFaultKind};
+pub use joined::{Joined, NamedModule, join};
+pub use laws::found_grows;
+pub use numbered::{Element, NumberedClass, NumberedName, NumberedRule};
+pub use resolved::Resolved;
+pub use resolver::{resolve, resolve_types};
+pub use text::Text;
+pub use views::{ClassView, ElementView, NameView, RuleView};

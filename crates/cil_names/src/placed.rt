@@ -1,0 +1,158 @@
+//! The statements of a joined policy, one after the other.
+
+ghost use Rattle.std.specs.Prelude.{◌≡◌, ◌<◌, ◌++◌, ℕ, List, [], map, length, slice_index_or, IfOk, OnOk, IsTrue};
+ghost use Rattle.std.specs.List.{list_all, IsDistinct};
+ghost use Rattle.cil_specs.specs.Joined.{placed as placed_in, joined as joined_policy};
+ghost use Rattle.cil_specs.specs.Lookup.{same_namespace};
+ghost use Rattle.cil_specs.specs.Next.{is_compiled};
+ghost use Rattle.cil_text.specs.Image.{statements_of};
+ghost use Rattle.cil_names.specs.Image.{modules_of};
+ghost use Rattle.cil_names.specs.Flat.{AreFlat};
+ghost use Rattle.cil_names.specs.Placed.{policy_of, AreNumbered, AreIn, AreBlocks, Extends};
+ghost use Rattle.cil_names.specs.Spaces.{Namespace};
+
+use crate::fault::{PolicyFault, PolicyFaultKind};
+use crate::joined::Joined;
+use crate::kinds::Table;
+use crate::spaces::Spaces;
+use cil_text::{Place, Statement, Word};
+use std::alloc::{AllocError, Allocator, Global};
+
+/// A statement of a joined policy, with its module's number and name, and the number of its namespace.
+#[derive(Debug, Drop)]
+pub struct PlacedStatement<'j, 'a, A: Allocator = Global> {
+    pub module: usize,
+    pub module_name: &'a [u8],
+    pub namespace: usize,
+    pub statement: &'j Statement<'a, A>,
+}
+
+impl<'j, 'a, A: Allocator> PlacedStatement<'j, 'a, A> {
+    ghost use Rattle.cil_specs.specs.PolicyFault.{IsAtWordOf};
+    ghost use Rattle.cil_text.specs.Image.{word_of};
+    ghost use Rattle.cil_names.specs.Image.{policy_kind_of, IsFoundFault};
+    ghost use Rattle.cil_names.specs.Placed.{placed_of};
+
+    /// A fault at a word of the statement.
+    pub fn fault(&self, kind: PolicyFaultKind, word: Word<'a>) -> PolicyFault<'a>
+        ensures { IsFoundFault result (λ fault. (spaces : List Namespace) → IsAtWordOf fault (policy_kind_of kind) (placed_of spaces self.now) (word_of word.entry)) }
+    {
+        let module = self.module_name;
+        PolicyFault::Found {
+            kind,
+            module,
+            at: word.at,
+            word: word.text,
+        }
+    }
+}
+
+impl<'j, 'a, A: Allocator> PlacedStatement<'j, 'a, A> {
+    ghost use Rattle.std.specs.Prelude.{Some, None, IfSome, IfNone};
+    ghost use Rattle.cil_specs.specs.Lookup.{declared_in};
+    ghost use Rattle.cil_text.specs.Image.{word_of, place_of};
+    ghost use Rattle.cil_names.specs.Placed.{form_of, at_of};
+    ghost use Rattle.cil_names.specs.Policy.{table_of};
+
+    /// The name that the statement declares, and its table.
+    pub fn declared(&self) -> Option<(Table, Word<'a>)>
+        ensures some { IfSome result (λ found. declared_in (table_of found.0) (form_of self.now.statement.now) ≡ Some (word_of found.1)) }
+        ensures none { IfNone result ((table : _) → declared_in table (form_of self.now.statement.now) ≡ None) }
+    {
+        match self.statement {
+            Statement::Block { id, .. } | Statement::Optional { id, .. } => Some((
+                Table::Scopes,
+                *id,
+            )),
+            Statement::TypeName { id, .. }
+            | Statement::TypeAlias { id, .. }
+            | Statement::TypeAttribute { id, .. } => Some((Table::Types, *id)),
+            Statement::Common { id, .. } => Some((Table::Commons, *id)),
+            Statement::Class { id, .. } => Some((Table::Classes, *id)),
+            _ => None,
+        }
+    }
+
+    /// The place of its `(`.
+    pub fn at(&self) -> Place
+        ensures { place_of result ≡ at_of self.now.statement.now }
+    {
+        match self.statement {
+            Statement::Block { at, .. }
+            | Statement::Optional { at, .. }
+            | Statement::TypeName { at, .. }
+            | Statement::TypeAlias { at, .. }
+            | Statement::TypeAliasActual { at, .. }
+            | Statement::TypeAttribute { at, .. }
+            | Statement::TypeAttributeSet { at, .. }
+            | Statement::Common { at, .. }
+            | Statement::Class { at, .. }
+            | Statement::ClassCommon { at, .. }
+            | Statement::ClassOrder { at, .. }
+            | Statement::Rule { at, .. } => *at,
+        }
+    }
+}
+
+/// Statements one after the other, the names of their modules, and their namespaces.
+#[derive(Drop)]
+pub struct Flat<'j, 'a, A: Allocator = Global> {
+    pub modules: Vec<&'a [u8], A>,
+    pub spaces: Spaces<'a, A>,
+    pub statements: Vec<PlacedStatement<'j, 'a, A>, A>,
+}
+
+/// The statements of the modules, one module after the other, those inside a block behind it.
+pub fn place_statements<'j, 'a, A: Allocator + Copy>(
+    alloc: A,
+    joined: &'j Joined<'a, A>,
+) -> Result<Flat<'j, 'a, A>, AllocError>
+    requires compiled { IsTrue (list_all (λ m. is_compiled m.statements) (modules_of joined.now)) }
+    ensures policy { IfOk result (λ flat. policy_of flat.spaces flat.statements.items ≡ joined_policy (modules_of joined.now)) }
+    ensures numbered { IfOk result (λ flat. AreNumbered (map (λ m. m.now) flat.modules.items) flat.statements.items) }
+    ensures flat { IfOk result (λ flat. AreFlat (policy_of flat.spaces flat.statements.items)) }
+    ensures within { IfOk result (λ flat. AreIn (length flat.spaces) flat.statements.items) }
+    ensures blocks { IfOk result (λ flat. AreBlocks flat.spaces (policy_of flat.spaces flat.statements.items)) }
+    ensures distinct { IfOk result (λ flat. IsDistinct same_namespace flat.spaces) }
+{
+    let mut flat = Flat {
+        modules: Vec::new(alloc),
+        spaces: Spaces::new(alloc),
+        statements: Vec::new(alloc),
+    };
+    for (number, named) in joined.modules.iter().enumerate() {
+        flat.modules.push(named.name)?;
+        flat.place(number, named.name, 0, &named.module.statements)?;
+    }
+    Ok(flat)
+}
+
+impl<'j, 'a, A: Allocator + Copy> Flat<'j, 'a, A> {
+    /// Puts statements of a module behind the others, and those inside blocks.
+    fn place(
+        &mut self,
+        number: usize,
+        module_name: &'a [u8],
+        namespace: usize,
+        statements: &'j [Statement<'a, A>],
+    ) -> Result<(), AllocError>
+        requires within { namespace < length self.old.spaces }
+        requires compiled { IsTrue (is_compiled (statements_of statements.now)) }
+        ensures { OnOk result (Extends self.old self.new number module_name.now
+            (placed_in module_name.now (slice_index_or self.old.spaces namespace []) [] (statements_of statements.now))) }
+    {
+        for statement in statements {
+            self.statements.push(PlacedStatement {
+                module: number,
+                module_name,
+                namespace,
+                statement,
+            })?;
+            if let Statement::Block { id, body, .. } = statement {
+                let inner = self.spaces.open(namespace, id.text)?;
+                self.place(number, module_name, inner, body)?;
+            }
+        }
+        Ok(())
+    }
+}
