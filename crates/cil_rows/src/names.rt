@@ -5,7 +5,9 @@ ghost use Rattle.cil_specs.specs.Next.{is_compiled};
 ghost use Rattle.cil_text.specs.Image.{statements_of};
 
 use crate::answers::shown;
-use cil_names::{Element, ElementView, Joined, NamedModule, PolicyFault, Resolved, resolve, resolve_types};
+use cil_names::{
+    Element, ElementView, Joined, NamedModule, PolicyFault, Resolved, resolve, resolve_types,
+};
 use cil_program::rules::{Changes, Table};
 use cil_text::{MemorySink, Module, Place, RuleKind, Statement, Target, Word};
 use std::alloc::{AllocError, Global};
@@ -186,7 +188,10 @@ fn what_a_policy_resolves_to(rt: HostRuntime) -> Result<(), Fail> {
     let Some(a) = policy.type_at(0) else {
         return Err(Fail::new("no type"));
     };
-    assert_eq!(rt; (shown(a.module), shown(a.name), a.at.offset), ("m", "a", 15));
+    assert_eq!(rt;
+        (shown(a.module), shown(a.name), a.at.offset),
+        ("m", "a", 15)
+    );
     assert!(rt; policy.type_at(1).is_none());
     assert!(rt; policy.attribute_at(0).is_none());
     let Some(p) = policy.class_at(0) else {
@@ -203,7 +208,10 @@ fn a_rule_as_resolved(rt: HostRuntime) -> Result<(), Fail> {
     let Some(found) = policy.rule_at(0) else {
         return Err(Fail::new("no rule"));
     };
-    assert_eq!(rt; (shown(found.module), shown(found.class), found.permissions), ("n", "p", 1));
+    assert_eq!(rt;
+        (shown(found.module), shown(found.class), found.permissions),
+        ("n", "p", 1)
+    );
     assert_eq!(rt; found.kind, RuleKind::Allow);
     assert!(rt; is_type_a(found.source) && is_type_a(found.target));
     assert_eq!(rt; policy.rule_permission(0, 0).map(shown), Some("use"));

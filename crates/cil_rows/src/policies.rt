@@ -12,29 +12,59 @@ fn faults_of_one_policy(rt: HostRuntime) -> Result<(), Fail> {
     let alloc = rt.alloc();
     for (text, want) in [
         // Types, aliases and attributes share a table, and blocks another.
-        ("(type a)(block a)(typeattribute a)", "refused 41 m:1:33 a\n"),
+        (
+            "(type a)(block a)(typeattribute a)",
+            "refused 41 m:1:33 a\n",
+        ),
         ("(type a)(typealias a)", "refused 41 m:1:20 a\n"),
         ("(block a)(block b)(block a)", "refused 41 m:1:26 a\n"),
-        ("(block b (type a))(type a)(block c (type a)(type a))", "refused 41 m:1:50 a\n"),
+        (
+            "(block b (type a))(type a)(block c (type a)(type a))",
+            "refused 41 m:1:50 a\n",
+        ),
         ("(classorder (j))", "refused 42 m:1:14 j\n"),
         ("(typealiasactual x a)", "refused 42 m:1:18 x\n"),
-        ("(typealias x)(typealiasactual x q)", "refused 42 m:1:33 q\n"),
+        (
+            "(typealias x)(typealiasactual x q)",
+            "refused 42 m:1:33 q\n",
+        ),
         ("(class k ())(classcommon k c)", "refused 42 m:1:28 c\n"),
         ("(common c ())(classcommon k c)", "refused 42 m:1:27 k\n"),
         // A permission of another class is none of this one's.
-        ("(class k ())(class l (q))(type a)(allow a a (k (q)))", "refused 42 m:1:49 q\n"),
+        (
+            "(class k ())(class l (q))(type a)(allow a a (k (q)))",
+            "refused 42 m:1:49 q\n",
+        ),
         // There is no way back outward once a block is found.
         (
             "(class p (use))(block k (type t))(block j (block k)(allow k.t .k.t (p (use))))",
             "refused 42 m:1:59 k.t\n",
         ),
         ("(type a)(typealiasactual a a)", "refused 43 m:1:26 a\n"),
-        ("(typealias x)(typealias y)(typealiasactual x y)", "refused 43 m:1:46 y\n"),
-        ("(type a)(typeattribute s)(typealias x)(typealiasactual x s)", "refused 43 m:1:58 s\n"),
-        ("(typeattribute s)(class p (use))(type a)(allow a s (p (use)))", "refused 43 m:1:50 s\n"),
-        ("(type a)(typealias x)(typealiasactual x a)(typealiasactual x a)", "refused 44 m:1:60 x\n"),
-        ("(class p (use))(type a)(typealias x)(allow x a (p (use)))", "refused 45 m:1:44 x\n"),
-        ("(common c (u))(class k ())(classcommon k c)(classcommon k c)", "refused 46 m:1:57 k\n"),
+        (
+            "(typealias x)(typealias y)(typealiasactual x y)",
+            "refused 43 m:1:46 y\n",
+        ),
+        (
+            "(type a)(typeattribute s)(typealias x)(typealiasactual x s)",
+            "refused 43 m:1:58 s\n",
+        ),
+        (
+            "(typeattribute s)(class p (use))(type a)(allow a s (p (use)))",
+            "refused 43 m:1:50 s\n",
+        ),
+        (
+            "(type a)(typealias x)(typealiasactual x a)(typealiasactual x a)",
+            "refused 44 m:1:60 x\n",
+        ),
+        (
+            "(class p (use))(type a)(typealias x)(allow x a (p (use)))",
+            "refused 45 m:1:44 x\n",
+        ),
+        (
+            "(common c (u))(class k ())(classcommon k c)(classcommon k c)",
+            "refused 46 m:1:57 k\n",
+        ),
     ] {
         assert_install(&rt, alloc, text.as_bytes(), want)?;
     }
@@ -138,14 +168,35 @@ fn policies_of_several_modules(rt: HostRuntime) -> Result<(), Fail> {
             (Install("z", "(type y)"), "ok 0 0\n"),
             (Install("b", "(allow a y (p (use)))"), "ok 1 0\n"),
             (Install("z", "(class w ())"), "refused 42 b:1:10 y\n"),
-            (Install("c", "(typealias x)(typealiasactual a x)(allow x q (p (use)))"), "refused 42 c:1:44 q\n"),
-            (Install("c", "(typealias x)(typealiasactual a x)(allow x a (p (use)))"), "refused 43 c:1:31 a\n"),
-            (Install("c", "(typealias x)(allow x a (p (use)))"), "refused 45 c:1:21 x\n"),
-            (Install("c", "(typealias x)(typealiasactual x y)"), "ok 0 0\n"),
+            (
+                Install(
+                    "c",
+                    "(typealias x)(typealiasactual a x)(allow x q (p (use)))",
+                ),
+                "refused 42 c:1:44 q\n",
+            ),
+            (
+                Install(
+                    "c",
+                    "(typealias x)(typealiasactual a x)(allow x a (p (use)))",
+                ),
+                "refused 43 c:1:31 a\n",
+            ),
+            (
+                Install("c", "(typealias x)(allow x a (p (use)))"),
+                "refused 45 c:1:21 x\n",
+            ),
+            (
+                Install("c", "(typealias x)(typealiasactual x y)"),
+                "ok 0 0\n",
+            ),
             // An alias of a later module is seen.
             (Install("a", "(allow a x (p (use)))"), "ok 0 0\n"),
             (Install("a", "(allow x a (p (use)))"), "ok 1 0\n"),
-            (Install("d", "(typealiasactual x a)"), "refused 44 d:1:18 x\n"),
+            (
+                Install("d", "(typealiasactual x a)"),
+                "refused 44 d:1:18 x\n",
+            ),
             (Rules, "allow a y:p { use };\nallow y a:p { use };\nend 2\n"),
         ],
         Status::Refused,
@@ -160,9 +211,18 @@ fn rules_of_attributes(rt: HostRuntime) -> Result<(), Fail> {
         &rt,
         alloc,
         &[
-            (Install("m", "(class p (use))(typeattribute s)(type a)"), "ok 0 0\n"),
-            (Install("n", "(allow a s (p (use)))(allow s q (p (use)))"), "refused 42 n:1:31 q\n"),
-            (Install("n", "(allow a a (p (use)))(allow a s (p (use)))"), "refused 43 n:1:31 s\n"),
+            (
+                Install("m", "(class p (use))(typeattribute s)(type a)"),
+                "ok 0 0\n",
+            ),
+            (
+                Install("n", "(allow a s (p (use)))(allow s q (p (use)))"),
+                "refused 42 n:1:31 q\n",
+            ),
+            (
+                Install("n", "(allow a a (p (use)))(allow a s (p (use)))"),
+                "refused 43 n:1:31 s\n",
+            ),
             (Rules, "end 0\n"),
         ],
         Status::Refused,

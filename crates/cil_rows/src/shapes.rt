@@ -66,14 +66,29 @@ fn statements_that_are_not_compiled_yet(rt: HostRuntime) -> Result<(), Fail> {
     let alloc = rt.alloc();
     for (text, want) in [
         ("(optional b)", "refused 20 m:1:2 optional\n"),
-        ("(typeattributeset b (c))", "refused 20 m:1:2 typeattributeset\n"),
-        ("(auditallow a a (p (use)))", "refused 20 m:1:2 auditallow\n"),
+        (
+            "(typeattributeset b (c))",
+            "refused 20 m:1:2 typeattributeset\n",
+        ),
+        (
+            "(auditallow a a (p (use)))",
+            "refused 20 m:1:2 auditallow\n",
+        ),
         ("(dontaudit a a (p (use)))", "refused 20 m:1:2 dontaudit\n"),
-        ("(neverallow a a (p (use)))", "refused 20 m:1:2 neverallow\n"),
-        ("(type a)(allow a self (p (use)))", "refused 20 m:1:10 allow\n"),
+        (
+            "(neverallow a a (p (use)))",
+            "refused 20 m:1:2 neverallow\n",
+        ),
+        (
+            "(type a)(allow a self (p (use)))",
+            "refused 20 m:1:10 allow\n",
+        ),
         // Inside a block too, and the first of several.
         ("(block b (optional o))", "refused 20 m:1:11 optional\n"),
-        ("(block b (block c (optional o)))(neverallow a a (p ()))", "refused 20 m:1:20 optional\n"),
+        (
+            "(block b (block c (optional o)))(neverallow a a (p ()))",
+            "refused 20 m:1:20 optional\n",
+        ),
     ] {
         assert_install(&rt, alloc, text.as_bytes(), want)?;
     }
