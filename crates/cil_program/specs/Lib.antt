@@ -1,15 +1,4 @@
-pub mod Atoms
-pub mod Difference
 pub mod Input
 pub mod Command
-pub mod Edits
-pub mod Calls
 pub mod Replies
 pub mod Session
-pub mod Merge
-pub mod NumberedRows
-pub mod Rows
-pub mod Stored
-pub mod Refusing
-pub mod Plain
-pub mod Later

@@ -1,6 +1,4 @@
-//! The store of modules, its compiler, and the session over a script.
+//! The session that answers a script.
 #![tactic(auto)]
 
-pub mod rules;
 pub mod script;
-pub mod store;

@@ -1,7 +1,7 @@
 //! What a session over memory answers.
 
 use cil_program::script::session::{Status, session};
-use cil_program::store::Plain;
+use cil_store::Plain;
 use cil_text::{MemorySink, MemorySource};
 use std::alloc::{AllocError, Global};
 use std::process::Abort;

@@ -2,7 +2,7 @@
 
 use crate::answers::{FIRST_ANSWER, FIRST_SCRIPT, repeated, shown};
 use cil_program::script::session::{SessionFault, Status, session};
-use cil_program::store::{Compiled, Plain};
+use cil_store::{Compiled, Plain};
 use cil_text::{MemorySink, MemorySource};
 use std::test::Fail;
 

@@ -5,7 +5,7 @@ ghost use Rattle.std.specs.Prelude.{◌≡◌, ◌≤◌, length};
 use crate::answers::{FIRST_TEXT, shown};
 use cil_names::{PolicyFault, PolicyFaultKind, Text};
 use cil_program::script::session::SessionFault;
-use cil_program::store::{
+use cil_store::{
     Call, Compiled, Edit, Entry, Plain, Refusal, Reply, Store, StoreFault, WriteFault,
     check_install, run,
 };

@@ -5,7 +5,7 @@ use cil_program::script::command::{ScriptLine, script_line};
 use cil_program::script::input::{Input, LineEnd};
 use cil_program::script::line::Line;
 use cil_program::script::reply;
-use cil_program::store::{Compiled, Edit, Plain, Refusal};
+use cil_store::{Compiled, Edit, Plain, Refusal};
 use cil_text::{MemorySink, MemorySource};
 use std::test::Fail;
 

@@ -8,7 +8,7 @@ use crate::answers::shown;
 use cil_names::{
     Element, ElementView, Joined, NamedModule, PolicyFault, Resolved, resolve, resolve_types,
 };
-use cil_program::rules::{Changes, Table};
+use cil_rules::{Changes, Table};
 use cil_text::{MemorySink, Module, Place, RuleKind, Statement, Target, Word};
 use std::alloc::{AllocError, Global};
 use std::test::*;

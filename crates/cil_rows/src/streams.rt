@@ -2,7 +2,7 @@
 
 use crate::answers::{FIRST_ANSWER, FIRST_SCRIPT, shown};
 use cil_program::script::session::{SessionFault, Status, session};
-use cil_program::store::Plain;
+use cil_store::Plain;
 use cil_text::{
     MemorySink, MemorySource, ReaderSource, Sink, SinkFault, Source, SourceFault, WriterSink,
     write_all, write_pieces,

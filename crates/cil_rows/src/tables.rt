@@ -1,8 +1,8 @@
 //! Tables of accesses, their changes and their rows, by calls.
 
 use crate::answers::shown;
-use cil_program::rules::{Atom, Changes, Row, Rows, write_row_line};
-use cil_program::store::{Compiled, Edit, Plain, Refusal};
+use cil_rules::{Atom, Changes, Row, Rows, write_row_line};
+use cil_store::{Compiled, Edit, Plain, Refusal};
 use cil_text::{MemorySink, RuleKind, SinkFault};
 use std::alloc::Global;
 use std::process::Abort;

@@ -2,7 +2,7 @@
 #![tactic(auto)]
 
 use cil_program::script::session::{SessionFault, Status, session};
-use cil_program::store::Plain;
+use cil_store::Plain;
 use cil_text::{ReaderSource, WriterSink, write_all};
 use std::io::LineWriter;
 use std::process::ExitCode;

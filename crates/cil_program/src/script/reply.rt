@@ -6,11 +6,11 @@ ghost use Rattle.cil_specs.specs.Next.{by_store, at_place, for_memory};
 ghost use Rattle.cil_specs.specs.Script.{refusal_line, answer, last_line, stops};
 ghost use Rattle.cil_specs.specs.Run.{changed_by};
 ghost use Rattle.cil_text.specs.Image.{place_of};
-ghost use Rattle.cil_program.specs.Edits.{refusal_of};
+ghost use Rattle.cil_store.specs.Edits.{refusal_of};
 ghost use Rattle.cil_program.specs.Replies.{end_line};
 
-use crate::rules::Changes;
-use crate::store::Refusal;
+use cil_rules::Changes;
+use cil_store::Refusal;
 use cil_text::{Place, Sink, SinkFault, write_all, write_pieces};
 use itoa::Buffer;
 use std::alloc::Allocator;

@@ -1,7 +1,7 @@
 use Rattle.std.proofs.Common.{◌∙◌, inl, inr, refl, ap, subst}
 use Rattle.cil_specs.specs.Next.{for_memory, install_refusal, bad_store}
 use Rattle.cil_specs.specs.Run.{refused}
-use Rattle.cil_program.specs.Edits.{store_refusal_of}
+use Rattle.cil_store.specs.Edits.{store_refusal_of}
 use Rattle.cil_program.specs.Input.{HasRead}
 use Rattle.cil_program.proofs.script.session.answer_install.Goals as goal
 

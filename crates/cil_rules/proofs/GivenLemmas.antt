@@ -1,0 +1,145 @@
+-- The accesses that numbered rules give, against those that the rules give by names.
+use Rattle.std.proofs.Common.{◌≡◌, ℕ, ◌<◌, ◌&&◌, ◌==◌, List, [], ◌∷◌, length, map, Bool, false, true≢false, refl, sym, subst, eq-eqb}
+use Rattle.std.specs.Bool.{IsTrue}
+use Rattle.std.specs.Prelude.{nat_lt, bytes_eq, ◌↔◌}
+use Rattle.std.specs.List.{All, AllByRecursion, Contains, flat_map, list_all, list_any}
+use Rattle.std.specs.List.Sorted.{IsStrictlySortedBy}
+use Rattle.std.specs.Cmp.Lexicographic.{bytes_decides}
+use Rattle.std.proofs.lemmas.Bool.{and_parts, and_from, ltb-true, eqb-true}
+use Rattle.std.proofs.lemmas.List.Elements.{All-from_recursion, All-contains, All-append}
+use Rattle.cil_specs.specs.Rule as spec
+use Rattle.cil_specs.specs.Rule.{kind_index, holds, gives, is_in_table}
+use Rattle.cil_specs.specs.Report.{AreAtoms, names_rise}
+use Rattle.cil_specs.proofs.ReportLemmas.{same-kind}
+use Rattle.cil_specs.proofs.ReportLemmasMembers.{AnyByRecursion, any_to, any_from, contains_to, contains_from, any_weaker, any-map, any_from_map, any-flat_map, any_from_flat_map, any_from_test, test_from_any, counted_from_any, any_from_counted, any_along, all_from_contains}
+use Rattle.cil_text.specs.Image.{rule_kind_of}
+use Rattle.cil_names.specs.declared.numbered.NumberedRule.{NumberedRule}
+use Rattle.cil_rules.specs.declared.numbers.AtomNumbers.{AtomNumbers}
+use Rattle.cil_names.specs.Resolved.{rule_of, element_of}
+use Rattle.cil_names.specs.declared.numbered.Element.{Element}
+use Rattle.cil_names.specs.declared.numbered.Element.TheVariants.{«Type», Attribute}
+use Rattle.cil_names.specs.Below.{is_element_below, is_rule_below}
+use Rattle.cil_rules.specs.Atoms.{atom_at, name_at, IsWithin, numbers_cmp, given_for, given_between, given, AreNumbered}
+use Rattle.cil_rules.proofs.AtomLemmas.{atoms-ordered}
+
+permissions-within : {A : Type 0} (n : ℕ) (r : NumberedRule A) (source target : ℕ) (ps : List ℕ) → source < n → target < n → r.class < n → IsTrue (list_all (λ p. nat_lt p n) ps)
+    → All (IsWithin n) (map (given_for r source target) ps)
+permissions-within n r source target ps source_below target_below the_class within = All-from_recursion (IsWithin n) (map (given_for r source target) ps) (each ps within)
+  where
+    each : (qs : List ℕ) → IsTrue (list_all (λ p. nat_lt p n) qs) → AllByRecursion (IsWithin n) (map (given_for r source target) qs)
+    each [] h = tt
+    each (q ∷ qs) h =
+        let parts = and_parts (nat_lt q n) (list_all (λ p. nat_lt p n) qs) h in
+        (record { source = source_below; target = target_below; the_class = the_class; permission = ltb-true q n parts.0 }, each qs parts.1)
+
+none-within : (n : ℕ) → All (IsWithin n) []
+none-within n = All-from_recursion (IsWithin n) [] tt
+
+between-within : {A : Type 0} (n : ℕ) (r : NumberedRule A) (source target : Element)
+    → IsTrue (is_element_below n source && (is_element_below n target && (nat_lt r.class n && list_all (λ p. nat_lt p n) r.permissions.items))) → All (IsWithin n) (given_between r source target)
+between-within n r («Type» source) («Type» target) within =
+    let sources = and_parts (nat_lt source n) _ within in
+    let targets = and_parts (nat_lt target n) _ sources.1 in
+    let classes = and_parts (nat_lt r.class n) _ targets.1 in
+    permissions-within n r source target r.permissions.items (ltb-true _ _ sources.0) (ltb-true _ _ targets.0) (ltb-true _ _ classes.0) classes.1
+between-within n r («Type» source) (Attribute target) within = none-within n
+between-within n r (Attribute source) target within = none-within n
+
+-- what rules whose numbers are below n give, is below n
+pub given-within : {A : Type 0} (n : ℕ) (rules : List (NumberedRule A)) → IsTrue (list_all (is_rule_below n) rules) → All (IsWithin n) (flat_map given rules)
+given-within n [] within = none-within n
+given-within n (r ∷ rules) within =
+    let parts = and_parts (is_rule_below n r) (list_all (is_rule_below n) rules) within in
+    All-append (IsWithin n) (given r) (flat_map given rules) (between-within n r r.source r.target parts.0) (given-within n rules parts.1)
+
+bytes-same : (xs : List ℕ) → IsTrue (bytes_eq xs xs)
+bytes-same xs = (bytes_decides xs xs).1 refl
+
+-- whether a rule gives an access between two elements
+abbrev gives_between : {A : Type 0} → List (List ℕ) → NumberedRule A → Element → Element → spec.Atom → Bool
+gives_between names r source target a =
+    (kind_index (rule_kind_of r.kind) == kind_index a.kind) && (holds (element_of names source) a.source && (holds (element_of names target) a.target
+    && (bytes_eq (name_at names r.class) a.the_class && list_any (bytes_eq a.permission) (map (name_at names) r.permissions.items))))
+
+-- it gives the accesses that its numbers stand for
+gives-types : {A : Type 0} (names : List (List ℕ)) (r : NumberedRule A) (source target : ℕ) (a : spec.Atom) → AnyByRecursion (λ p. atom_at names (given_for r source target p) ≡ a) r.permissions.items
+    → IsTrue (gives_between names r («Type» source) («Type» target) a)
+gives-types names r source target a here =
+    let (k, p, within, is, same) = any_from (λ p. atom_at names (given_for r source target p) ≡ a) r.permissions.items here in
+    let held : AnyByRecursion (λ q. IsTrue (bytes_eq (name_at names p) q)) (map (name_at names) r.permissions.items) =
+    any-map (name_at names) (λ q. IsTrue (bytes_eq (name_at names p) q)) r.permissions.items
+    (any_to (λ q. IsTrue (bytes_eq (name_at names p) (name_at names q))) r.permissions.items (k, p, within, is, bytes-same (name_at names p))) in
+    subst (λ x. IsTrue (gives_between names r («Type» source) («Type» target) x)) same
+    (and_from _ _ (eq-eqb (kind_index (rule_kind_of r.kind)) (kind_index (rule_kind_of r.kind)) refl)
+    (and_from _ _ (bytes-same (name_at names source))
+    (and_from _ _ (bytes-same (name_at names target))
+    (and_from _ _ (bytes-same (name_at names r.class)) (test_from_any (bytes_eq (name_at names p)) (map (name_at names) r.permissions.items) held)))))
+
+gives-between : {A : Type 0} (names : List (List ℕ)) (r : NumberedRule A) (source target : Element) (a : spec.Atom) → AnyByRecursion (λ n. atom_at names n ≡ a) (given_between r source target)
+    → IsTrue (gives_between names r source target a)
+gives-between names r («Type» source) («Type» target) a some =
+    gives-types names r source target a (any_from_map (given_for r source target) (λ n. atom_at names n ≡ a) r.permissions.items some)
+gives-between names r («Type» source) (Attribute target) a some = absurd some
+gives-between names r (Attribute source) target a some = absurd some
+
+gives-from_given : {A : Type 0} (modules names : List (List ℕ)) (r : NumberedRule A) (a : spec.Atom) → AnyByRecursion (λ n. atom_at names n ≡ a) (given r) → IsTrue (gives (rule_of modules names r) a)
+gives-from_given modules names r a some = gives-between names r r.source r.target a some
+
+-- and no other
+given-types : {A : Type 0} (names : List (List ℕ)) (r : NumberedRule A) (from to : ℕ) (a : spec.Atom) → IsTrue (gives_between names r («Type» from) («Type» to) a)
+    → AnyByRecursion (λ n. atom_at names n ≡ a) (map (given_for r from to) r.permissions.items)
+given-types names r from to a h =
+    let kinds = and_parts (kind_index (rule_kind_of r.kind) == kind_index a.kind) _ h in
+    let sources = and_parts (bytes_eq (name_at names from) a.source) _ kinds.1 in
+    let targets = and_parts (bytes_eq (name_at names to) a.target) _ sources.1 in
+    let classes = and_parts (bytes_eq (name_at names r.class) a.the_class) _ targets.1 in
+    let kind : rule_kind_of r.kind ≡ a.kind = same-kind (rule_kind_of r.kind) a.kind (eqb-true _ _ kinds.0) in
+    let source : name_at names from ≡ a.source = (bytes_decides (name_at names from) a.source).0 sources.0 in
+    let target : name_at names to ≡ a.target = (bytes_decides (name_at names to) a.target).0 targets.0 in
+    let the_class : name_at names r.class ≡ a.the_class = (bytes_decides (name_at names r.class) a.the_class).0 classes.0 in
+    let held : AnyByRecursion (λ p. IsTrue (bytes_eq a.permission (name_at names p))) r.permissions.items =
+    any_from_map (name_at names) (λ q. IsTrue (bytes_eq a.permission q)) r.permissions.items (any_from_test (bytes_eq a.permission) (map (name_at names) r.permissions.items) classes.1) in
+    any-map (given_for r from to) (λ n. atom_at names n ≡ a) r.permissions.items
+    (any_weaker (λ p. IsTrue (bytes_eq a.permission (name_at names p))) (λ p. atom_at names (given_for r from to p) ≡ a)
+    (λ p e. let permission : name_at names p ≡ a.permission = sym ((bytes_decides a.permission (name_at names p)).0 e) in
+    λ i. record { kind = kind i; source = source i; target = target i; the_class = the_class i; permission = permission i }) r.permissions.items held)
+
+given-between : {A : Type 0} (names : List (List ℕ)) (r : NumberedRule A) (source target : Element) (a : spec.Atom) → IsTrue (gives_between names r source target a)
+    → AnyByRecursion (λ n. atom_at names n ≡ a) (given_between r source target)
+given-between names r («Type» source) («Type» target) a h = given-types names r source target a h
+given-between names r («Type» source) (Attribute target) a h =
+    let sources = and_parts (kind_index (rule_kind_of r.kind) == kind_index a.kind) _ h in
+    absurd (true≢false (sym (and_parts (bytes_eq (name_at names source) a.source) false sources.1).1))
+given-between names r (Attribute source) target a h = absurd (true≢false (sym (and_parts (kind_index (rule_kind_of r.kind) == kind_index a.kind) false h).1))
+
+given-from_gives : {A : Type 0} (modules names : List (List ℕ)) (r : NumberedRule A) (a : spec.Atom) → IsTrue (gives (rule_of modules names r) a) → AnyByRecursion (λ n. atom_at names n ≡ a) (given r)
+given-from_gives modules names r a h = given-between names r r.source r.target a h
+
+-- the accesses of rules, each once and in order, are the table of the rules
+pub table-from_given : {A : Type 0} (modules names : List (List ℕ)) (rules : List (NumberedRule A)) (atoms : List AtomNumbers) → ((n : AtomNumbers) → Contains atoms n ↔ Contains (flat_map given rules) n)
+    → AreNumbered names atoms → AreAtoms (is_in_table (map (rule_of modules names) rules)) (map (atom_at names) atoms)
+table-from_given modules names rules atoms same are = record {
+  ordered = atoms-ordered names atoms are;
+  exact = λ a. (
+    λ h.
+        let numbered = any_from_map (atom_at names) (λ b. b ≡ a) atoms (contains_to (map (atom_at names) atoms) a h) in
+        let given' = any_along (λ n. atom_at names n ≡ a) atoms (flat_map given rules) (λ n. (same n).0) numbered in
+        let by_rule = any_from_flat_map given (λ n. atom_at names n ≡ a) rules given' in
+        counted_from_any (λ r. gives r a) (map (rule_of modules names) rules)
+        (any-map (rule_of modules names) (λ r. IsTrue (gives r a)) rules
+        (any_weaker (λ r. AnyByRecursion (λ n. atom_at names n ≡ a) (given r)) (λ r. IsTrue (gives (rule_of modules names r) a)) (λ r. gives-from_given modules names r a) rules by_rule)),
+    λ h.
+        let by_rule = any_from_map (rule_of modules names) (λ r. IsTrue (gives r a)) rules (any_from_counted (λ r. gives r a) (map (rule_of modules names) rules) h) in
+        let given' = any_weaker (λ r. IsTrue (gives (rule_of modules names r) a)) (λ r. AnyByRecursion (λ n. atom_at names n ≡ a) (given r)) (λ r. given-from_gives modules names r a) rules by_rule in
+        let numbered = any_along (λ n. atom_at names n ≡ a) (flat_map given rules) atoms (λ n. (same n).1) (any-flat_map given (λ n. atom_at names n ≡ a) rules given') in
+        contains_from (map (atom_at names) atoms) a (any-map (atom_at names) (λ b. b ≡ a) atoms numbered),
+  );
+}
+
+pub numbered-from_given : {A : Type 0} (names : List (List ℕ)) (rules : List (NumberedRule A)) (atoms : List AtomNumbers) → IsTrue (names_rise names) → IsTrue (list_all (is_rule_below (length names)) rules)
+    → IsStrictlySortedBy numbers_cmp atoms → ((n : AtomNumbers) → Contains atoms n ↔ Contains (flat_map given rules) n) → AreNumbered names atoms
+numbered-from_given names rules atoms rise within ordered same = record {
+  names_ordered = rise;
+  ordered = ordered;
+  within = all_from_contains (IsWithin (length names)) atoms (λ n h. All-contains (IsWithin (length names)) (flat_map given rules) n (given-within (length names) rules within) ((same n).0 h));
+}

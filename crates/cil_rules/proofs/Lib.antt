@@ -1,0 +1,10 @@
+pub mod AtomLemmas
+pub mod ChangesLemmas
+pub mod DerivedOrder
+pub mod DifferenceLemmas
+pub mod GivenLemmas
+pub mod MergeLemmas
+pub mod RowLemmas
+pub mod ListingLemmas
+pub mod GroupLemmas
+pub mod NumberedRowLemmas

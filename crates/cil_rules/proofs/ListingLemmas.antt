@@ -1,0 +1,68 @@
+-- The text of a row, written in pieces.
+use Rattle.std.proofs.Common.{◌≡◌, ℕ, Bool, List, ◌∷◌, ◌++◌, length, map, codes, Option, Result, Ok, Err, IfOk, OnOk, OnErr, sym, ap, ◌∙◌, subst, append_assoc}
+use Rattle.std.specs.List.{flat_map}
+use Rattle.std.proofs.lemmas.Result.{on_err_weaker}
+use Rattle.std.proofs.lemmas.List.Folds.{flat_map-map}
+use Rattle.cil_specs.specs.Rule as spec
+use Rattle.cil_specs.specs.Report.{AreAtoms, Row, AreRows, row_line}
+use Rattle.cil_specs.specs.Device.{Gains, GainsFront}
+use Rattle.cil_specs.proofs.Gaining.{gains-both}
+use Rattle.cil_specs.proofs.Gaining.{gains-then_front, front-longer}
+use Rattle.cil_text.specs.Image.{rule_kind_of}
+use Rattle.cil_rules.specs.declared.numbers.AtomNumbers.{AtomNumbers}
+use Rattle.cil_rules.specs.Atoms.{name_at}
+use Rattle.cil_rules.specs.Rows.{rows_of, row_head, row_at, permission_text}
+use Rattle.cil_rules.proofs.RowLemmas.{are-rows}
+
+-- the line of a row is its head, its permissions and its end
+pub line-parts : (r : Row) → row_line r ≡ row_head r.kind r.source r.target r.the_class ++ (flat_map (λ p. p ++ codes " ") r.permissions ++ codes "};\n")
+line-parts r = append_assoc (row_head r.kind r.source r.target r.the_class) (flat_map (λ p. p ++ codes " ") r.permissions) (codes "};\n")
+
+pub line-is : (names : List (List ℕ)) (first : AtomNumbers) (atoms : List AtomNumbers)
+    → row_line (row_at names first atoms) ≡ row_head (rule_kind_of first.kind) (name_at names first.source) (name_at names first.target) (name_at names first.class) ++ (flat_map (permission_text names) atoms ++ codes "};\n")
+line-is names first atoms =
+    line-parts (row_at names first atoms)
+    ∙ ap (λ l. row_head (rule_kind_of first.kind) (name_at names first.source) (name_at names first.target) (name_at names first.class) ++ (l ++ codes "};\n"))
+    (flat_map-map (λ p. p ++ codes " ") (λ a. name_at names a.permission) atoms)
+
+-- three texts, one after the other
+module _ (old mid near new : Option (List ℕ)) (first second third whole : List ℕ) (is : whole ≡ first ++ (second ++ third)) where
+  pub front-in_first : GainsFront old new first → GainsFront old new whole
+  front-in_first front = subst (GainsFront old new) (sym is) (front-longer old new first (second ++ third) front)
+
+  pub front-in_second : Gains old mid first → GainsFront mid new second → GainsFront old new whole
+  front-in_second gains front = subst (GainsFront old new) (sym is) (gains-then_front old mid new first (second ++ third) gains (front-longer mid new second third front))
+
+  pub front-in_third : Gains old mid first → Gains mid near second → GainsFront near new third → GainsFront old new whole
+  front-in_third gains more front = subst (GainsFront old new) (sym is) (gains-then_front old mid new first (second ++ third) gains (gains-then_front mid near new second third more front))
+
+  pub gains-three : Gains old mid first → Gains mid near second → Gains near new third → Gains old new whole
+  gains-three gains more most = subst (Gains old new) (sym is) (gains-both old mid new first (second ++ third) gains (gains-both mid near new second third more most))
+
+-- the line of the next row
+module _ (text whole : List ℕ) (row : Row) (rows later : List Row) (is : rows ≡ row ∷ later) (rest : text ++ flat_map row_line rows ≡ whole) where
+  pub text-more : (text ++ row_line row) ++ flat_map row_line later ≡ whole
+  text-more = append_assoc text (row_line row) (flat_map row_line later) ∙ ap (λ l. text ++ flat_map row_line l) (sym is) ∙ rest
+
+  pub front-in_row : (old mid new : Option (List ℕ)) → Gains old mid text → GainsFront mid new (row_line row) → GainsFront old new whole
+  front-in_row old mid new gains front =
+      subst (GainsFront old new) text-more (front-longer old new (text ++ row_line row) (flat_map row_line later) (gains-then_front old mid new text (row_line row) gains front))
+
+-- the rows of the listing were written
+module _ {E : Type 0} (old new : Option (List ℕ)) (r : Result ℕ E) (written atoms : List spec.Atom) (is : written ≡ atoms) where
+  pub listing-ok : IfOk r (λ n. n ≡ length (rows_of written)) → OnOk r (Gains old new (flat_map row_line (rows_of written)))
+      → IfOk r (λ n. (p : spec.Atom → Bool) → AreAtoms p atoms → (rows : List Row) × AreRows p rows × (n ≡ length rows) × Gains old new (flat_map row_line rows))
+  listing-ok count gains = by r count gains
+    where
+      by : (s : Result ℕ E) → IfOk s (λ n. n ≡ length (rows_of written)) → OnOk s (Gains old new (flat_map row_line (rows_of written)))
+          → IfOk s (λ n. (p : spec.Atom → Bool) → AreAtoms p atoms → (rows : List Row) × AreRows p rows × (n ≡ length rows) × Gains old new (flat_map row_line rows))
+      by (Ok n) count gains = λ p are. (rows_of written, are-rows p written (subst (AreAtoms p) (sym is) are), count, gains)
+      by (Err e) count gains = tt
+
+  pub listing-err : OnErr r (GainsFront old new (flat_map row_line (rows_of written)))
+      → OnErr r ((p : spec.Atom → Bool) → AreAtoms p atoms → (rows : List Row) × AreRows p rows × GainsFront old new (flat_map row_line rows))
+  listing-err front = on_err_weaker r (λ begun p are. (rows_of written, are-rows p written (subst (AreAtoms p) (sym is) are), begun)) front
+
+-- the texts of images
+pub mapped-text : {X Y : Type 0} (f : Y → List ℕ) (v : X → Y) (xs : List X) (ys : List Y) → map v xs ≡ ys → flat_map (λ x. f (v x)) xs ≡ flat_map f ys
+mapped-text f v xs ys is = sym (flat_map-map f v xs) ∙ ap (flat_map f) is

@@ -1,0 +1,14 @@
+use Rattle.std.proofs.Common.{◌≡◌, ◌∙◌, map, sym, subst}
+use Rattle.std.proofs.lemmas.Result.{IfOk-weaker}
+use Rattle.cil_specs.specs.Report.{AreAtoms, AreRows}
+use Rattle.cil_rules.specs.Atoms.{atom_at}
+use Rattle.cil_rules.specs.Rows.{rows_of}
+use Rattle.cil_rules.proofs.RowLemmas.{are-rows}
+use Rattle.cil_rules.proofs.table.Table.rows.Goals as goal
+
+pub returns : goal.returns
+returns g c =
+    let written = map (atom_at c.in_ok-names.names.items) c.deref-2.result.now in
+    let is = (λ i. map (atom_at ((c.in_ok-names.ensures ∙ c.deref.ensures.value) i)) (c.deref-2.ensures.value i)) ∙ c.self.view_is in
+    IfOk-weaker c.of.result (λ rows. rows ≡ rows_of written) _
+    (λ rows e p are. subst (AreRows p) (sym e) (are-rows p written (subst (AreAtoms p) (sym is) are))) c.of.ensures

@@ -1,0 +1,5 @@
+pub mod Atoms
+pub mod Difference
+pub mod Merge
+pub mod NumberedRows
+pub mod Rows

@@ -1,0 +1,58 @@
+//! Collects the accesses that rules give.
+
+ghost use Rattle.std.specs.Prelude.{◌≡◌, ◌++◌, ◌↔◌, Contains, IfOk, OnOk};
+ghost use Rattle.std.specs.List.{flat_map};
+ghost use Rattle.std.specs.List.Sorted.{IsStrictlySortedBy};
+ghost use Rattle.cil_rules.specs.Atoms.{numbers_cmp, given};
+
+use crate::numbers::AtomNumbers;
+use cil_names::{Element, NumberedRule};
+use std::alloc::{AllocError, Allocator};
+
+/// Appends the accesses that a rule gives. One with an attribute gives none.
+fn push_given<A: Allocator + Copy>(
+    atoms: &mut Vec<AtomNumbers, A>,
+    rule: &NumberedRule<A>,
+) -> Result<(), AllocError>
+    ensures { OnOk result (atoms.new.items ≡ atoms.old.items ++ given rule.now) }
+{
+    let Element::Type(source) = rule.source else {
+        return Ok(());
+    };
+    let Element::Type(target) = rule.target else {
+        return Ok(());
+    };
+    for permission in &rule.permissions {
+        atoms.push(AtomNumbers {
+            kind: rule.kind,
+            source,
+            target,
+            class: rule.class,
+            permission: *permission,
+        })?;
+    }
+    Ok(())
+}
+
+/// The accesses that rules give, each as often as it is given.
+pub fn collect<A: Allocator + Copy>(
+    alloc: A,
+    rules: &[NumberedRule<A>],
+) -> Result<Vec<AtomNumbers, A>, AllocError>
+    ensures { IfOk result (λ atoms. atoms.items ≡ flat_map given rules.now) }
+{
+    let mut atoms = Vec::new(alloc);
+    for rule in rules {
+        push_given(&mut atoms, rule)?;
+    }
+    Ok(atoms)
+}
+
+/// Puts accesses in order, and keeps each once.
+pub fn sort_distinct<A: Allocator>(atoms: &mut Vec<AtomNumbers, A>)
+    ensures ordered { IsStrictlySortedBy numbers_cmp atoms.new.items }
+    ensures same { (a : _) → Contains atoms.new.items a ↔ Contains atoms.old.items a }
+{
+    atoms.sort_unstable();
+    atoms.dedup();
+}

@@ -1,0 +1,193 @@
+//! The rows of the listing, owned.
+
+ghost use Rattle.std.specs.Prelude.{◌≡◌, ◌<◌, ◌≤◌, ◌==◌, [], ◌∷◌, ◌++◌, length, map, slice_get, option_map, IfOk, OnOk, OnErr};
+ghost use Rattle.std.specs.List.{All, flat_map};
+ghost use Rattle.cil_specs.specs.Report.{row_line};
+ghost use Rattle.cil_specs.specs.Device.{HasFailed, Gains, GainsFront};
+ghost use Rattle.cil_rules.specs.Atoms.{atom_at, AreNumbered};
+ghost use Rattle.cil_rules.specs.Rows.{rows_of};
+ghost use Rattle.cil_rules.specs.NumberedRows.{row_of, row_by, numbered_row, line_by, IsNumberedRow, AreNumberedRows};
+
+use crate::first_row::split_row;
+use crate::listing::write_row_line;
+use crate::numbers::AtomNumbers;
+use crate::row::{Names, Row};
+use cil_names::Text;
+use cil_text::{RuleKind, Sink, SinkFault};
+use std::alloc::{AllocError, Allocator, Global};
+use std::marker::Model;
+
+/// A row by numbers. Its permissions stand in a range of those of all rows.
+#[derive(Clone, Copy, Debug)]
+pub struct RowNumbers {
+    pub kind: RuleKind,
+    pub source: usize,
+    pub target: usize,
+    pub class: usize,
+    pub start: usize,
+    pub end: usize,
+}
+
+impl RowNumbers {
+    /// The row by its names.
+    fn named<'t, A: Allocator>(&self, names: &'t [Text<A>], permissions: &'t [usize]) -> Row<'t, A>
+        requires row { IsNumberedRow (length names.now) (length permissions.now) self.now }
+        requires within { All (λ n. n < length names.now) permissions.now }
+        ensures { row_of result ≡ row_by names.now permissions.now self.now }
+    {
+        Row {
+            kind: self.kind,
+            source: names[self.source].as_slice(),
+            target: names[self.target].as_slice(),
+            class: names[self.class].as_slice(),
+            permissions: Names {
+                names,
+                numbers: &permissions[self.start..self.end],
+            },
+        }
+    }
+}
+
+/// The rows of the listing of a table, with names of their own. Contracts see them as their list.
+#[derive(Debug, Drop)]
+pub struct Rows<A: Allocator = Global> {
+    names: Vec<Text<A>, A>,
+    rows: Vec<RowNumbers, A>,
+    permissions: Vec<usize, A>,
+}
+
+impl<A: Allocator> Model for Rows<A> {
+    ghost use Rattle.std.specs.Prelude.{◌<◌, List, length, map};
+    ghost use Rattle.std.specs.List.{All};
+    ghost use Rattle.cil_specs.specs.Report.{Row};
+
+    ghost Value = { List Row };
+
+    ghost use Rattle.cil_rules.specs.NumberedRows.{row_by, AreNumberedRows};
+
+    ghost view = { λ r. map (row_by r.names.items r.permissions.items) r.rows.items };
+
+    ghost invariant = { λ r. AreNumberedRows r.names.items r.permissions.items r.rows.items };
+}
+
+/// Copies of names.
+pub fn copied<A: Allocator + Copy>(
+    alloc: A,
+    names: &[Text<A>],
+) -> Result<Vec<Text<A>, A>, AllocError>
+    ensures { IfOk result (λ v. v.items ≡ names.now) }
+{
+    let mut copies = Vec::with_capacity(alloc, names.len())?;
+    for name in names {
+        copies.push(Text::of(alloc, name.as_slice())?)?;
+    }
+    Ok(copies)
+}
+
+/// Appends a row and its permissions.
+fn push_row<A: Allocator>(
+    rows: &mut Vec<RowNumbers, A>,
+    permissions: &mut Vec<usize, A>,
+    first: &AtomNumbers,
+    row: &[AtomNumbers],
+) -> Result<(), AllocError>
+    ensures permissions { OnOk result (permissions.new.items ≡ permissions.old.items ++ map (λ a. a.permission) row.now) }
+    ensures rows { OnOk result (rows.new.items ≡ rows.old.items ++ numbered_row first.now (length permissions.old.items) (length permissions.new.items) ∷ []) }
+{
+    let start = permissions.len();
+    for atom in row {
+        permissions.push(atom.permission)?;
+    }
+    rows.push(RowNumbers {
+        kind: first.kind,
+        source: first.source,
+        target: first.target,
+        class: first.class,
+        start,
+        end: permissions.len(),
+    })?;
+    Ok(())
+}
+
+/// Writes the lines of rows.
+fn write_numbered<W: Sink, A: Allocator>(
+    sink: &mut W,
+    names: &[Text<A>],
+    permissions: &[usize],
+    rows: &[RowNumbers],
+) -> Result<(), SinkFault>
+    requires { AreNumberedRows names.now permissions.now rows.now }
+    ensures ok { OnOk result (Gains (W.taken sink.old) (W.taken sink.new) (flat_map (line_by names.now permissions.now) rows.now)) }
+    ensures err { OnErr result (GainsFront (W.taken sink.old) (W.taken sink.new) (flat_map (line_by names.now permissions.now) rows.now)) }
+    ensures failed { OnErr result (HasFailed (W.failures sink.old) (W.failures sink.new)) }
+    ensures counted { W.failures sink.old ≤ W.failures sink.new }
+{
+    for row in rows {
+        write_row_line(sink, &row.named(names, permissions))?;
+    }
+    Ok(())
+}
+
+impl<A: Allocator + Copy> Rows<A> {
+    /// The rows of accesses that stand in order.
+    pub(super) fn of(
+        alloc: A,
+        names: Vec<Text<A>, A>,
+        atoms: &[AtomNumbers],
+    ) -> Result<Self, AllocError>
+        requires { AreNumbered names.items atoms.now }
+        ensures { IfOk result (λ rows. rows ≡ rows_of (map (atom_at names.items) atoms.now)) }
+    {
+        let mut rows = Vec::new(alloc);
+        let mut permissions = Vec::new(alloc);
+        let mut rest = atoms;
+        while let Some((first, row, later)) = split_row(rest) {
+            if first.is_listed() {
+                push_row(&mut rows, &mut permissions, first, row)?;
+            }
+            rest = later;
+        }
+        Ok(Rows {
+            names,
+            rows,
+            permissions,
+        })
+    }
+}
+
+impl<A: Allocator> Rows<A> {
+    pub fn len(&self) -> usize
+        ensures { result ≡ length self.now }
+    {
+        self.rows.len()
+    }
+
+    pub fn is_empty(&self) -> bool
+        ensures { result ≡ (length self.now == 0) }
+    {
+        self.rows.is_empty()
+    }
+
+    /// The row at a place of the order.
+    pub fn get(&self, i: usize) -> Option<Row<'_, A>>
+        ensures { option_map row_of result ≡ slice_get self.now i }
+    {
+        if i < self.rows.len() {
+            Some(self.rows[i].named(&self.names, &self.permissions))
+        } else {
+            None
+        }
+    }
+
+    /// Writes the lines of the rows, and tells how many there are.
+    pub fn write<W: Sink>(&self, sink: &mut W) -> Result<usize, SinkFault>
+        ensures rows { IfOk result (λ n. n ≡ length self.now) }
+        ensures ok { OnOk result (Gains (W.taken sink.old) (W.taken sink.new) (flat_map row_line self.now)) }
+        ensures err { OnErr result (GainsFront (W.taken sink.old) (W.taken sink.new) (flat_map row_line self.now)) }
+        ensures failed { OnErr result (HasFailed (W.failures sink.old) (W.failures sink.new)) }
+        ensures counted { W.failures sink.old ≤ W.failures sink.new }
+    {
+        write_numbered(sink, &self.names, &self.permissions, &self.rows)?;
+        Ok(self.rows.len())
+    }
+}

@@ -1,0 +1,109 @@
+//! The access table.
+
+ghost use Rattle.std.specs.Prelude.{◌≡◌, ◌≤◌, ◌==◌, Bool, List, [], length, slice_get, option_map, IfOk, OnErr};
+ghost use Rattle.std.specs.List.{flat_map};
+ghost use Rattle.cil_specs.specs.Rule as spec;
+ghost use Rattle.cil_specs.specs.Rule.{is_in_table};
+ghost use Rattle.cil_specs.specs.Report.{AreAtoms, Row, AreRows, row_line};
+ghost use Rattle.cil_specs.specs.Device.{HasFailed, Gains, GainsFront};
+ghost use Rattle.cil_names.specs.Resolved.{rules_in};
+ghost use Rattle.cil_rules.specs.Atoms.{atom_of};
+
+use crate::atom::Atom;
+use crate::collect::{collect, sort_distinct};
+use crate::listing::write_rows;
+use crate::numbers::AtomNumbers;
+use crate::rows::{Rows, copied};
+use cil_names::{Resolved, Text};
+use cil_text::{Sink, SinkFault};
+use std::alloc::{AllocError, Allocator, Global};
+use std::marker::Model;
+
+/// The accesses that the rules of a policy give, each once, in order. Contracts see it as their list.
+#[derive(Debug, Drop)]
+pub struct Table<A: Allocator = Global> {
+    pub(super) names: Vec<Text<A>, A>,
+    pub(super) atoms: Vec<AtomNumbers, A>,
+}
+
+impl<A: Allocator> Model for Table<A> {
+    ghost use Rattle.std.specs.Prelude.{List, map};
+    ghost use Rattle.cil_specs.specs.Rule.{Atom};
+
+    ghost Value = { List Atom };
+
+    ghost use Rattle.cil_rules.specs.Atoms.{atom_at, AreNumbered};
+
+    ghost view = { λ t. map (atom_at t.names.items) t.atoms.items };
+
+    ghost invariant = { λ t. AreNumbered t.names.items t.atoms.items };
+}
+
+impl<A: Allocator + Copy> Table<A> {
+    /// A table with no access.
+    pub fn empty(alloc: A) -> Self
+        ensures { result ≡ [] }
+    {
+        Table {
+            names: Vec::new(alloc),
+            atoms: Vec::new(alloc),
+        }
+    }
+
+    /// The table of the rules of a policy, whose names it keeps.
+    pub fn of(alloc: A, resolved: Resolved<A>) -> Result<Self, AllocError>
+        ensures { IfOk result (λ table. AreAtoms (is_in_table (rules_in resolved)) table) }
+    {
+        let mut atoms = collect(alloc, resolved.rules())?;
+        sort_distinct(&mut atoms);
+        Ok(Table {
+            names: resolved.into_names(),
+            atoms,
+        })
+    }
+
+    /// The rows of the listing. Those of `neverallow` aren't part of it.
+    pub fn rows(&self, alloc: A) -> Result<Rows<A>, AllocError>
+        ensures { IfOk result (λ rows. (p : spec.Atom → Bool) → AreAtoms p self.now → AreRows p rows) }
+    {
+        let names = copied(alloc, &self.names)?;
+        Rows::of(alloc, names, &self.atoms)
+    }
+}
+
+impl<A: Allocator> Table<A> {
+    pub fn len(&self) -> usize
+        ensures { result ≡ length self.now }
+    {
+        self.atoms.len()
+    }
+
+    pub fn is_empty(&self) -> bool
+        ensures { result ≡ (length self.now == 0) }
+    {
+        self.atoms.is_empty()
+    }
+
+    /// The access at a place of the order.
+    pub fn get(&self, i: usize) -> Option<Atom<'_>>
+        ensures { option_map atom_of result ≡ slice_get self.now i }
+    {
+        if i < self.atoms.len() {
+            Some(self.atoms[i].named(&self.names))
+        } else {
+            None
+        }
+    }
+
+    /// Writes the lines of the rows of the listing, and tells how many there are.
+    pub fn write_listing<W: Sink>(&self, sink: &mut W) -> Result<usize, SinkFault>
+        ensures ok { IfOk result (λ n. (p : spec.Atom → Bool) → AreAtoms p self.now → (rows : List Row)
+            × AreRows p rows × (n ≡ length rows) × Gains (W.taken sink.old) (W.taken sink.new) (flat_map row_line rows)) }
+        ensures err { OnErr result ((p : spec.Atom → Bool) → AreAtoms p self.now → (rows : List Row)
+            × AreRows p rows × GainsFront (W.taken sink.old) (W.taken sink.new) (flat_map row_line rows)) }
+        ensures failed { OnErr result (HasFailed (W.failures sink.old) (W.failures sink.new)) }
+        ensures counted { W.failures sink.old ≤ W.failures sink.new }
+    {
+        write_rows(sink, &self.names, &self.atoms)
+    }
+}

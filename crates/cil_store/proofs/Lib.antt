@@ -1,0 +1,5 @@
+pub mod StoredLemmas
+pub mod JoinLemmas
+pub mod PlainLemmas
+pub mod LaterLemmas
+pub mod ParseLemmas

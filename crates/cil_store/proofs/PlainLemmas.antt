@@ -1,0 +1,163 @@
+-- What the plain engine keeps, and what its steps lead to.
+use Rattle.std.proofs.Common.{◌≡◌, ◌==◌, ◌||◌, ◌&&◌, ◌≤◌, inl, inr, ℕ, Bool, true, false, not, cond, nat_le, nat_lt, if◌then◌else◌, List, [], ◌∷◌, filter, length, bytes_eq, Option, Some, None, is_some, decimal, refl, ap, sym, ◌∙◌, subst, true≢false, length-append, arith}
+use Rattle.std.specs.List.{list_all, list_any, AllByRecursion}
+use Rattle.std.proofs.lemmas.Bool.{eqb-true, leb-true, ltb-false}
+use Rattle.cil_specs.specs.Joined.{Module, joined}
+use Rattle.std.specs.List.Sorted.{IsStrictlySortedBy}
+use Rattle.cil_specs.specs.Rule.{Atom, Rule, is_in_table, rules_of}
+use Rattle.cil_specs.specs.Report.{AreAtoms, Changes, AreChanges}
+use Rattle.cil_specs.specs.Store.{Entry, Store, empty, is_highest, active, put}
+use Rattle.cil_specs.specs.Next.{every_optional, AreModules, IsPolicyOf, IsCompiledWhole, IsRefusedFor, install, Refusal, by_store, is_module_name, changed, install_refusal, HasGoodText, IsPolicyRefusal, accepts, Next, bad_store, bad_text, bad_policy, good}
+use Rattle.cil_specs.specs.Run.{an_edit, changed_by, refused, Step}
+use Rattle.cil_specs.proofs.Runs.{both_true, first_true, second_true}
+use Rattle.cil_names.specs.Image.{PolicyFaultIs}
+use Rattle.cil_store.specs.Refusing.{IsRefusalOf, IsPolicyRefusalOf}
+use Rattle.cil_store.specs.Stored.{IsGood, entry_for}
+use Rattle.cil_store.specs.Plain.{IsTableOf, IsKept, IsRefused}
+use Rattle.cil_names.specs.declared.fault.PolicyFault.{PolicyFault}
+use Rattle.cil_names.specs.declared.fault.PolicyFault.TheVariants.{Memory, Found}
+use Rattle.cil_store.proofs.StoredLemmas.{none-stored, put-stored}
+
+filter-every : (p : Entry → Bool) (xs : List Entry) → AllByRecursion (λ x. p x ≡ true) xs → filter p xs ≡ xs
+filter-every p [] all = refl
+filter-every p (x ∷ xs) all = ap (λ b. cond b (x ∷ filter p xs) (filter p xs)) all.0 ∙ ap (λ l. x ∷ l) (filter-every p xs all.1)
+
+or-true : (b : Bool) → (b || true) ≡ true
+or-true true = refl
+or-true false = refl
+
+-- of one priority each entry is of the highest
+highest : (entries : List Entry) (e : Entry) → e.priority ≡ 400 → list_all (λ o. o.priority == 400) entries ≡ true → is_highest entries e ≡ true
+highest [] e p all = refl
+highest (o ∷ entries) e p all =
+    let same = eqb-true o.priority 400 (first_true (o.priority == 400) _ all) in
+    both_true (not (bytes_eq o.name e.name) || nat_le o.priority e.priority) (is_highest entries e)
+    (ap (λ b. not (bytes_eq o.name e.name) || b) (λ i. nat_le (same i) (p i)) ∙ or-true (not (bytes_eq o.name e.name)))
+    (highest entries e p (second_true (o.priority == 400) _ all))
+
+each-active : (disabled : List (List ℕ)) (entries some : List Entry) → disabled ≡ [] → list_all (λ o. o.priority == 400) entries ≡ true → list_all (λ o. o.priority == 400) some ≡ true
+    → AllByRecursion (λ e. (not (list_any (bytes_eq e.name) disabled) && is_highest entries e) ≡ true) some
+each-active disabled entries [] none all passes = tt
+each-active disabled entries (e ∷ some) none all passes = (
+  both_true (not (list_any (bytes_eq e.name) disabled)) (is_highest entries e) (ap (λ names. not (list_any (bytes_eq e.name) names)) none)
+      (highest entries e (eqb-true e.priority 400 (first_true (e.priority == 400) _ passes)) all),
+  each-active disabled entries some none all (second_true (e.priority == 400) _ passes),
+)
+
+-- all entries are active
+pub active-all : (store : Store) → store.disabled ≡ [] → list_all (λ o. o.priority == 400) store.entries ≡ true → active store ≡ store.entries
+active-all store none all = filter-every (λ e. not (list_any (bytes_eq e.name) store.disabled) && is_highest store.entries e) store.entries (each-active store.disabled store.entries store.entries none all all)
+
+good-entries : (entries : List Entry) (modules : List Module) → list_all (λ e. nat_le (length e.text) 16777216) entries ≡ true → AreModules entries modules → AllByRecursion IsGood entries
+good-entries [] [] short are = tt
+good-entries [] (m ∷ modules) short are = absurd are
+good-entries (e ∷ entries) [] short are = absurd are
+good-entries (e ∷ entries) (m ∷ modules) short are = (
+  record { short = leb-true (length e.text) 16777216 (first_true (nat_le (length e.text) 16777216) _ short); statements = m.statements; is_text = are.1 },
+  good-entries entries modules (second_true (nat_le (length e.text) 16777216) _ short) are.2,
+)
+
+pub kept-good : (store : Store) (table : List Atom) → IsKept store table → AllByRecursion IsGood store.entries
+kept-good store table kept =
+    let policy = kept.is_table.are_rules.is_policy in
+    good-entries store.entries policy.0 kept.stored.short (subst (λ es. AreModules es policy.0) (active-all store kept.enabled kept.stored.one_priority) policy.1)
+
+-- the entries after an install are all active
+changed-active : (store : Store) (table : List Atom) (name text : List ℕ) → length text ≤ 16777216 → IsKept store table → active (changed store (install name 400 text)) ≡ put (entry_for name text) store.entries
+changed-active store table name text short kept =
+    active-all (changed store (install name 400 text)) kept.enabled (put-stored (entry_for name text) store.entries refl short kept.stored).one_priority
+
+-- the policy of the store after an install
+pub changed-policy : (store : Store) (table : List Atom) (name text : List ℕ) (modules : List Module) → length text ≤ 16777216 → IsKept store table → AreModules (put (entry_for name text) store.entries) modules
+    → IsPolicyOf (changed store (install name 400 text)) (joined modules)
+changed-policy store table name text modules short kept are = (modules, subst (λ es. AreModules es modules) (sym (changed-active store table name text short kept)) are, refl)
+
+pub policy-refused : (fault : PolicyFault) (refusal : Refusal) (store : Store) (table : List Atom) (name text : List ℕ) (modules : List Module) → length text ≤ 16777216 → IsKept store table → AreModules (put (entry_for name text) store.entries) modules
+    → HasGoodText (install name 400 text) → PolicyFaultIs fault (IsRefusedFor every_optional (joined modules)) → IsPolicyRefusalOf fault refusal → IsRefused store name text refusal
+policy-refused Memory refusal store table name text modules short kept are is_good first is = inl is
+policy-refused (Found kind module_name at word) refusal store table name text modules short kept are is_good first (inl is) = inl is
+policy-refused (Found kind module_name at word) refusal store table name text modules short kept are is_good first (inr is) =
+    inr (inr (is_good, (joined modules, _, changed-policy store table name text modules short kept are, first, is)))
+
+-- a policy of no statements has no fault
+none-wrong : IsCompiledWhole every_optional []
+none-wrong = (
+  λ fault h. absurd (omega (arith, ap length h.split, length-append h.before (h.s ∷ h.after))),
+  λ fault h. absurd (omega (arith, h.is_in.1)),
+)
+
+no-atoms : AreAtoms (is_in_table []) []
+unfolding IsStrictlySortedBy
+no-atoms = record { ordered = tt; exact = λ a. ((λ has. absurd (omega (arith, has.1))), λ e. absurd (true≢false (sym e))) }
+
+pub kept-empty : (table : List Atom) → table ≡ [] → IsKept empty table
+kept-empty table none = record {
+  stored = none-stored;
+  enabled = refl;
+  is_table = record {
+    rules = [];
+    are_rules = record { policy = []; is_policy = ([], tt, refl); compiles = none-wrong; are_rules = refl };
+    are_atoms = subst (AreAtoms (is_in_table [])) (sym none) no-atoms;
+  };
+}
+
+pub table-of : (store : Store) (table atoms : List Atom) (name text : List ℕ) (modules : List Module) (rules : List Rule) → length text ≤ 16777216 → IsKept store table → AreModules (put (entry_for name text) store.entries) modules
+    → IsCompiledWhole every_optional (joined modules) → rules ≡ rules_of every_optional (joined modules) → AreAtoms (is_in_table rules) atoms → IsTableOf (changed store (install name 400 text)) atoms
+table-of store table atoms name text modules rules short kept are compiles are_rules are_atoms = record {
+  rules = rules;
+  are_rules = record { policy = joined modules; is_policy = changed-policy store table name text modules short kept are; compiles = compiles; are_rules = are_rules };
+  are_atoms = are_atoms;
+}
+
+if-none : (b : Bool) (refusal : Refusal) (rest : Option Refusal) → (if b then Some refusal else rest) ≡ None → (b ≡ false) × (rest ≡ None)
+if-none true refusal rest e = absurd (true≢false (ap is_some e))
+if-none false refusal rest e = (refl, e)
+
+not-false : (b : Bool) → not b ≡ false → b ≡ true
+not-false true e = refl
+not-false false e = absurd (true≢false e)
+
+-- what the store takes has the one priority, and no text too long
+pub taken-priority : (name : List ℕ) (priority size : ℕ) → install_refusal name priority size ≡ None → priority ≡ 400
+taken-priority name priority size e =
+    let named = if-none (not (is_module_name name)) (by_store 30 name) _ e in
+    let one = if-none (not (priority == 400)) (by_store 31 (decimal priority)) _ named.1 in
+    eqb-true priority 400 (not-false (priority == 400) one.0)
+
+pub taken-short : (name : List ℕ) (priority size : ℕ) → install_refusal name priority size ≡ None → size ≤ 16777216
+taken-short name priority size e =
+    let named = if-none (not (is_module_name name)) (by_store 30 name) _ e in
+    let one = if-none (not (priority == 400)) (by_store 31 (decimal priority)) _ named.1 in
+    let short = if-none (nat_lt 16777216 size) (by_store 34 name) None one.1 in
+    ltb-false 16777216 size short.0
+
+-- the step of a refused install
+pub refused-step : (store : Store) (name text : List ℕ) (priority : ℕ) (refusal : Refusal) → install_refusal name priority (length text) ≡ None → IsRefused store name text refusal → Step store (an_edit (install name priority text)) (refused refusal) store
+refused-step store name text priority refusal taken (inl memory) = (inl memory, refl)
+refused-step store name text priority refusal taken (inr (inl fault)) = (inr (bad_text refusal taken fault refl), refl)
+refused-step store name text priority refusal taken (inr (inr policy)) =
+    (inr (bad_policy refusal taken policy.0 (subst (λ p. IsPolicyRefusal (changed store (install name p text)) refusal) (sym (taken-priority name priority (length text) taken)) policy.1) refl), refl)
+
+-- the step of an install that was made
+pub accepted-step : (store : Store) (old atoms : List Atom) (name text : List ℕ) (priority : ℕ) (changes : Changes) → install_refusal name priority (length text) ≡ None → HasGoodText (install name 400 text) → IsKept store old
+    → IsTableOf (changed store (install name 400 text)) atoms → ((p q : Atom → Bool) → AreAtoms p old → AreAtoms q atoms → AreChanges p q changes)
+    → Step store (an_edit (install name priority text)) (changed_by changes) (changed store (install name 400 text))
+accepted-step store old atoms name text priority changes taken good_text kept is_table between = record {
+  next = subst (λ p. Next store (install name p text) (accepts (changed store (install name 400 text)))) (sym at) (good is_table.rules (subst (λ p. install_refusal name p (length text) ≡ None) at taken) good_text is_table.are_rules refl);
+  before = kept.is_table.rules;
+  after = is_table.rules;
+  were_rules = kept.is_table.are_rules;
+  are_rules = is_table.are_rules;
+  are_changes = between (is_in_table kept.is_table.rules) (is_in_table is_table.rules) kept.is_table.are_atoms is_table.are_atoms;
+}
+  where
+    at : priority ≡ 400
+    at = taken-priority name priority (length text) taken
+
+pub kept-changed : (store : Store) (old atoms : List Atom) (name text : List ℕ) → length text ≤ 16777216 → IsKept store old → IsTableOf (changed store (install name 400 text)) atoms → IsKept (changed store (install name 400 text)) atoms
+kept-changed store old atoms name text short kept is_table = record { stored = put-stored (entry_for name text) store.entries refl short kept.stored; enabled = kept.enabled; is_table = is_table }
+
+-- an install that the store refuses by its line
+pub line-step : (store : Store) (name text : List ℕ) (priority : ℕ) (refusal meant : Refusal) → install_refusal name priority (length text) ≡ Some meant → IsRefusalOf refusal meant → Step store (an_edit (install name priority text)) (refused refusal) store
+line-step store name text priority refusal meant is (inl memory) = (inl memory, refl)
+line-step store name text priority refusal meant is (inr same) = (inr (bad_store refusal (is ∙ ap Some (sym same)) refl), refl)

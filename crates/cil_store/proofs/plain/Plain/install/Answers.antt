@@ -1,0 +1,37 @@
+use Rattle.std.proofs.Common.{◌≡◌, ◌∙◌, sym, subst, length}
+use Rattle.std.proofs.lemmas.Result.{err_from_is_err_and}
+use Rattle.cil_specs.specs.Next.{install, changed}
+use Rattle.cil_specs.specs.Run.{Step, an_edit, changed_by}
+use Rattle.cil_specs.specs.Store.{Store}
+use Rattle.cil_store.specs.Edits.{refusal_of, store_refusal_of}
+use Rattle.cil_store.specs.Plain.{IsKept}
+use Rattle.cil_store.proofs.PlainLemmas.{line-step, refused-step, accepted-step, kept-changed, taken-priority, taken-short}
+use Rattle.cil_store.proofs.plain.Plain.install.Goals as goal
+
+pub returns-in-Err : goal.returns-in-Err
+returns-in-Err g c =
+    line-step c.args.self.now c.args.name.now c.args.text.now c.args.priority (refusal_of c.refuse_install.result) (store_refusal_of c.in-Err.fault c.args.name.now c.args.priority) c.in-Err.ensures c.refuse_install.ensures
+
+pub returns-in_err-table : goal.returns-in_err-table
+returns-in_err-table g c =
+    let made = err_from_is_err_and c.from_residual.result c.from_residual.ensures.1 in
+    rw (made.1, made.2) (refused-step c.args.self.now c.args.name.now c.args.text.now c.args.priority (refusal_of c.in_err-table.field-0.0) c.in_default.ensures c.in_err-table.ensures.err)
+
+pub invariant_of-self-2 : goal.invariant_of-self-2
+invariant_of-self-2 g c =
+    let store : Store = c.args.self.now in
+    let kept : IsKept store c.self.inside.table = subst (λ s. IsKept s c.self.inside.table) c.self.view_is c.self.invariant in
+    let put_is : c.put.new.self ≡ changed store (install c.args.name.now 400 c.args.text.now) =
+    c.in_ok-put.ensures.ok ∙ (λ i. changed (c.self.view_is i) (install c.args.name.now (taken-priority c.args.name.now c.args.priority (length c.args.text.now) c.in_default.ensures i) c.args.text.now))
+    in
+    subst (λ s. IsKept s c.in_ok-table.table) (sym put_is) (kept-changed store c.self.inside.table c.in_ok-table.table c.args.name.now c.args.text.now (taken-short c.args.name.now c.args.priority (length c.args.text.now) c.in_default.ensures) kept c.in_ok-table.ensures.table)
+
+pub returns : goal.returns
+returns g c =
+    let store : Store = c.args.self.now in
+    let kept : IsKept store c.self.inside.table = subst (λ s. IsKept s c.self.inside.table) c.self.view_is c.self.invariant in
+    let put_is : c.put.new.self ≡ changed store (install c.args.name.now 400 c.args.text.now) =
+    c.in_ok-put.ensures.ok ∙ (λ i. changed (c.self.view_is i) (install c.args.name.now (taken-priority c.args.name.now c.args.priority (length c.args.text.now) c.in_default.ensures i) c.args.text.now))
+    in
+    subst (λ s. Step store (an_edit (install c.args.name.now c.args.priority c.args.text.now)) (changed_by c.in_ok-changes.changes) s) (sym put_is)
+    (accepted-step store c.self.inside.table c.in_ok-table.table c.args.name.now c.args.text.now c.args.priority c.in_ok-changes.changes c.in_default.ensures c.in_ok-table.ensures.good kept c.in_ok-table.ensures.table c.in_ok-changes.ensures)

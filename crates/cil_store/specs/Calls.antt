@@ -1,0 +1,34 @@
+-- Calls and replies, as the definitions see them.
+use Rattle.std.specs.Prelude.{List, Result, Ok, Err}
+use Rattle.cil_specs.specs.Report as report
+use Rattle.cil_specs.specs.Report.{Row, AreRows}
+use Rattle.cil_specs.specs.Rule as spec_rules
+use Rattle.cil_specs.specs.Rule.{is_in_table}
+use Rattle.cil_specs.specs.Store.{Store}
+use Rattle.cil_specs.specs.Next.{AreRulesOf}
+use Rattle.cil_specs.specs.Run as spec
+use Rattle.cil_specs.specs.Run.{an_edit, ask_rows, changed_by, refused, listed}
+use Rattle.cil_store.specs.Edits.{edit_of, refusal_of}
+use Rattle.cil_store.specs.declared.call.Call.{Call}
+use Rattle.cil_store.specs.declared.call.Call.TheVariants as calls
+use Rattle.cil_store.specs.declared.call.Reply.{Reply}
+use Rattle.cil_store.specs.declared.call.Reply.TheVariants as replies
+use Rattle.cil_store.specs.declared.refusal.Refusal.{Refusal}
+
+abbrev pub call_of : Call → spec.Call
+call_of (calls.Edit edit) = an_edit (edit_of edit)
+call_of calls.Rows = ask_rows
+
+abbrev pub reply_of : {A : Type 0} → Reply A → spec.Reply
+reply_of (replies.Changes changes) = changed_by changes
+reply_of (replies.Rows rows) = listed rows
+reply_of (replies.Refused refusal) = refused (refusal_of refusal)
+
+-- the reply to an edit
+abbrev pub edit_reply : {A : Type 0} → Result report.Changes (Refusal A) → spec.Reply
+edit_reply (Ok changes) = changed_by changes
+edit_reply (Err refusal) = refused (refusal_of refusal)
+
+-- the rows are the listing of a store
+abbrev pub AreRowsOf : Store → List Row → Type 0
+AreRowsOf store rows = (rules : List spec_rules.Rule) × AreRulesOf store rules × AreRows (is_in_table rules) rows

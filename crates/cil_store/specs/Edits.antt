@@ -1,0 +1,39 @@
+-- Edits and refusals, as the definitions see them.
+use Rattle.std.specs.Prelude.{ℕ, List, decimal}
+use Rattle.cil_specs.specs.Next as spec
+use Rattle.cil_specs.specs.Next.{install, by_store, at_place, for_memory}
+use Rattle.cil_specs.specs.TextFault as text_fault
+use Rattle.cil_specs.specs.PolicyFault as policy_fault
+use Rattle.cil_text.specs.Image.{place_of, kind_of}
+use Rattle.cil_names.specs.Image.{policy_kind_of}
+use Rattle.cil_store.specs.declared.edit.Edit.{Edit}
+use Rattle.cil_store.specs.declared.edit.Edit.TheVariants.{Install}
+use Rattle.cil_store.specs.declared.refusal.StoreFault.{StoreFault}
+use Rattle.cil_store.specs.declared.refusal.StoreFault.TheVariants.{BadModuleName, BadPriority, TextTooLong}
+use Rattle.cil_store.specs.declared.refusal.Refusal.{Refusal}
+use Rattle.cil_store.specs.declared.refusal.Refusal.TheVariants.{Store, Text, Policy, Memory}
+
+abbrev pub edit_of : Edit → spec.Edit
+edit_of (Install name priority text) = install name.now priority text.now
+
+-- the code of a refusal of the store
+abbrev pub store_code : StoreFault → ℕ
+store_code BadModuleName = 30
+store_code BadPriority = 31
+store_code TextTooLong = 34
+
+-- the word of a refusal of the store
+abbrev pub store_word : StoreFault → List ℕ → ℕ → List ℕ
+store_word BadModuleName name priority = name
+store_word BadPriority name priority = decimal priority
+store_word TextTooLong name priority = name
+
+-- the refusal of an install by the store
+abbrev pub store_refusal_of : StoreFault → List ℕ → ℕ → spec.Refusal
+store_refusal_of fault name priority = by_store (store_code fault) (store_word fault name priority)
+
+abbrev pub refusal_of : {A : Type 0} → Refusal A → spec.Refusal
+refusal_of (Store fault word) = by_store (store_code fault) word
+refusal_of (Text module_name kind at word) = at_place (text_fault.code_of (kind_of kind)) module_name (place_of at) word
+refusal_of (Policy module_name kind at word) = at_place (policy_fault.code_of (policy_kind_of kind)) module_name (place_of at) word
+refusal_of Memory = for_memory

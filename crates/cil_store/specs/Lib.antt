@@ -1,0 +1,6 @@
+pub mod Edits
+pub mod Calls
+pub mod Stored
+pub mod Refusing
+pub mod Plain
+pub mod Later

@@ -1,0 +1,50 @@
+//! Engines that keep a store compiled.
+
+ghost use Rattle.std.specs.Prelude.{◌≡◌, ◌≤◌, List, IfOk, OnErr, IsErrOf, length, flat_map};
+ghost use Rattle.cil_specs.specs.Device.{HasFailed, Gains, GainsFront};
+ghost use Rattle.cil_specs.specs.Report.{Row, row_line};
+ghost use Rattle.cil_specs.specs.Run.{Step, an_edit};
+ghost use Rattle.cil_specs.specs.Store.{Store};
+ghost use Rattle.cil_store.specs.Calls.{edit_reply, AreRowsOf};
+ghost use Rattle.cil_store.specs.Edits.{edit_of};
+
+use crate::edit::Edit;
+use crate::refusal::Refusal;
+use cil_rules::{Changes, Rows};
+use cil_text::Sink;
+use std::alloc::{AllocError, Allocator};
+use thiserror::Error;
+
+/// Why a report was not written as a whole.
+#[derive(Clone, Copy, Debug, PartialEq, Eq, Error)]
+pub enum WriteFault {
+    /// Memory ran out before the first byte.
+    #[error("out of memory")]
+    Memory,
+    /// The sink failed. It took a beginning.
+    #[error("the output failed")]
+    Sink,
+}
+
+/// An engine, whose meaning is its store: however it keeps what the store compiles to, its answers are those of the store.
+pub trait Compiled<A: Allocator + Copy> {
+    /// The store.
+    ghost store: { Self → Store };
+
+    /// Judges an edit, and makes it if nothing is against it. The reply tells the accesses that came and went; after a
+    /// refusal, for want of memory too, the store is as before.
+    fn edit(&mut self, edit: Edit<'_>) -> Result<Changes<A>, Refusal<A>>
+        ensures { Step (store self.old) (an_edit (edit_of edit.entry)) (edit_reply result) (store self.new) };
+
+    /// The listing, by rows.
+    fn rows(&self) -> Result<Rows<A>, AllocError>
+        ensures { IfOk result (AreRowsOf (store self.now)) };
+
+    /// Writes the listing, a line for each row, and tells how many there are.
+    fn write_listing<W: Sink>(&self, sink: &mut W) -> Result<usize, WriteFault>
+        ensures ok { IfOk result (λ n. (rows : List Row) × AreRowsOf (store self.now) rows × (n ≡ length rows) × Gains (W.taken sink.old) (W.taken sink.new) (flat_map row_line rows)) }
+        ensures err { OnErr result ((rows : List Row) × AreRowsOf (store self.now) rows × GainsFront (W.taken sink.old) (W.taken sink.new) (flat_map row_line rows)) }
+        ensures memory { IsErrOf result WriteFault.Memory → W.taken sink.new ≡ W.taken sink.old }
+        ensures failed { IsErrOf result WriteFault.Sink → HasFailed (W.failures sink.old) (W.failures sink.new) }
+        ensures counted { W.failures sink.old ≤ W.failures sink.new };
+}

@@ -1,0 +1,101 @@
+//! Statements that are not compiled yet.
+
+ghost use Rattle.std.specs.Prelude.{◌≡◌, IfSome, IfNone, bytes_eq};
+ghost use Rattle.std.specs.List.{list_any};
+ghost use Rattle.cil_specs.specs.TextFault.{TextFault, unsupported};
+ghost use Rattle.cil_specs.specs.Trees.{none};
+ghost use Rattle.cil_specs.specs.Next.{compiled_words, has_self, is_later, IsLaterFault, IsFirstLaterFault};
+ghost use Rattle.cil_text.specs.Image.{place_of, tree_then, trees_of};
+ghost use Rattle.cil_store.specs.Later.{later_word, word_option};
+
+use cil_text::{Forest, Tree, Word};
+use std::alloc::Allocator;
+
+fn is_compiled_word(text: &[u8]) -> bool
+    ensures { result ≡ list_any (bytes_eq text.now) compiled_words }
+{
+    text == b"block".as_slice()
+        || text == b"type".as_slice()
+        || text == b"typealias".as_slice()
+        || text == b"typealiasactual".as_slice()
+        || text == b"typeattribute".as_slice()
+        || text == b"common".as_slice()
+        || text == b"class".as_slice()
+        || text == b"classcommon".as_slice()
+        || text == b"classorder".as_slice()
+        || text == b"allow".as_slice()
+}
+
+fn is_self<A: Allocator>(tree: &Tree<A>) -> bool
+    ensures { result ≡ has_self (tree_then tree.now none) }
+{
+    match tree {
+        Tree::Word(word) => word.text == b"self".as_slice(),
+        Tree::String(_) | Tree::List { .. } => false,
+    }
+}
+
+/// Whether one of the trees is the word `self`.
+fn has_self<A: Allocator>(trees: &[Tree<A>]) -> bool
+    ensures { result ≡ has_self (trees_of trees.now) }
+{
+    for tree in trees {
+        if is_self(tree) {
+            return true;
+        }
+    }
+    false
+}
+
+/// Whether a statement of this first word and these operands isn't compiled yet.
+fn is_later<A: Allocator>(keyword: &[u8], operands: &[Tree<A>]) -> bool
+    ensures { result ≡ is_later keyword.now (trees_of operands.now) }
+{
+    !is_compiled_word(keyword) || (keyword == b"allow".as_slice() && has_self(operands))
+}
+
+/// The first word of a statement, if it isn't compiled yet; of a block also that of the first statement in it that isn't.
+#[cycle(later)]
+fn later_word<'a, A: Allocator>(tree: &Tree<'a, A>) -> Option<Word<'a>>
+    ensures { word_option result ≡ later_word (tree_then tree.now none) }
+{
+    let Tree::List { items, .. } = tree else {
+        return None;
+    };
+    let [first, operands @ ..] = items.as_slice() else {
+        return None;
+    };
+    let Tree::Word(keyword) = first else {
+        return None;
+    };
+    if is_later(keyword.text, operands) {
+        Some(*keyword)
+    } else if keyword.text == b"block".as_slice() {
+        first_later_word(operands)
+    } else {
+        None
+    }
+}
+
+/// The first of these words of trees.
+#[cycle(later)]
+fn first_later_word<'a, A: Allocator>(trees: &[Tree<'a, A>]) -> Option<Word<'a>>
+    ensures { word_option result ≡ later_word (trees_of trees.now) }
+{
+    for tree in trees {
+        if let Some(word) = later_word(tree) {
+            return Some(word);
+        }
+    }
+    None
+}
+
+/// The first word of the first statement that isn't compiled yet, in a block too. Compiled are blocks, types, aliases,
+/// attributes, commons, classes, and allow rules between two names; a list that is no statement is left to
+/// `cil_text::shape`.
+pub fn first_later<'a, A: Allocator>(forest: &Forest<'a, A>) -> Option<Word<'a>>
+    ensures some { IfSome result (λ w. IsFirstLaterFault (trees_of forest.now.trees.items) (record { kind = unsupported; at = place_of w.at; word = w.text.now })) }
+    ensures none { IfNone result ((fault : TextFault) → IsLaterFault (trees_of forest.now.trees.items) fault → ⊥) }
+{
+    first_later_word(&forest.trees)
+}

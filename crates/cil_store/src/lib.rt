@@ -1,0 +1,24 @@
+//! The store: edits, refusals, and the engines that keep a store compiled.
+#![tactic(auto)]
+
+mod call;
+mod compiled;
+mod edit;
+mod entry;
+mod join;
+mod later;
+mod modules;
+mod parse;
+mod plain;
+mod refusal;
+mod refusing;
+mod runs;
+
+pub use call::{Call, Reply};
+pub use compiled::{Compiled, WriteFault};
+pub use edit::Edit;
+pub use entry::Entry;
+pub use modules::Store;
+pub use plain::Plain;
+pub use refusal::{Refusal, StoreFault, check_install};
+pub use runs::run;

@@ -1,0 +1,120 @@
+//! The plain engine, which compiles its store anew at each edit.
+
+ghost use Rattle.std.specs.Prelude.{◌≡◌, ◌≤◌, length, IfOk, IfErr};
+ghost use Rattle.cil_specs.specs.Next.{install, changed, HasGoodText};
+ghost use Rattle.cil_specs.specs.Run.{Step, an_edit};
+ghost use Rattle.cil_specs.specs.Store.{empty};
+ghost use Rattle.cil_store.specs.Calls.{edit_reply};
+ghost use Rattle.cil_store.specs.Edits.{refusal_of};
+ghost use Rattle.cil_store.specs.Plain.{IsTableOf, IsRefused};
+
+use crate::compiled::{Compiled, WriteFault};
+use crate::edit::Edit;
+use crate::entry::Entry;
+use crate::join::join;
+use crate::modules::Store;
+use crate::parse::parse;
+use crate::refusal::{Refusal, check_install};
+use crate::refusing::{refuse_install, refuse_policy, refuse_text};
+use cil_names::resolve_types;
+use cil_rules::{Changes, Rows, Table};
+use cil_text::Sink;
+use std::alloc::{AllocError, Allocator, Global};
+use std::marker::Model;
+
+/// A store and the table of its accesses. At an edit the changed store is compiled anew, and its table put in place of the
+/// old one where nothing is against it.
+#[derive(Drop)]
+pub struct Plain<A: Allocator = Global> {
+    alloc: A,
+    store: Store<A>,
+    table: Table<A>,
+}
+
+impl<A: Allocator> Model for Plain<A> {
+    ghost use Rattle.cil_specs.specs.Store.{Store};
+    ghost use Rattle.cil_store.specs.Plain.{IsKept};
+
+    ghost Value = { Store };
+
+    ghost view = { λ p. p.store };
+
+    ghost invariant = { λ p. IsKept p.store p.table };
+}
+
+impl<A: Allocator + Copy> Plain<A> {
+    /// An engine of an empty store. It takes no memory.
+    pub fn new(alloc: A) -> Self
+        ensures { result ≡ empty }
+    {
+        Plain {
+            alloc,
+            store: Store::new(alloc),
+            table: Table::empty(alloc),
+        }
+    }
+
+    /// The table of the store with one more module.
+    fn compile(&self, name: &[u8], text: &[u8]) -> Result<Table<A>, Refusal<A>>
+        requires { length text.now ≤ 16777216 }
+        ensures good { IfOk result (λ table. HasGoodText (install name.now 400 text.now)) }
+        ensures table { IfOk result (λ table. IsTableOf (changed self.now (install name.now 400 text.now)) table) }
+        ensures err { IfErr result (λ refusal. IsRefused self.now name.now text.now (refusal_of refusal)) }
+    {
+        let parsed = match parse(self.alloc, text) {
+            Ok(parsed) => parsed,
+            Err(fault) => return Err(refuse_text(self.alloc, name, fault)),
+        };
+        let joined = join(self.alloc, &self.store, name, parsed)?;
+        let resolved = match resolve_types(self.alloc, &joined) {
+            Ok(resolved) => resolved,
+            Err(fault) => return Err(refuse_policy(self.alloc, fault)),
+        };
+        Ok(Table::of(self.alloc, resolved)?)
+    }
+
+    fn install(&mut self, name: &[u8], priority: u32, text: &[u8]) -> Result<Changes<A>, Refusal<A>>
+        ensures { Step self.old (an_edit (install name.now priority text.now)) (edit_reply result) self.new }
+    {
+        if let Err(fault) = check_install(name, priority, text.len()) {
+            return Err(refuse_install(self.alloc, fault, name, priority));
+        }
+        let table = self.compile(name, text)?;
+        let changes = Changes::between(self.alloc, &self.table, &table)?;
+        self.store.put(
+            self.alloc,
+            Entry {
+                name,
+                priority,
+                text,
+            },
+        )?;
+        self.table = table;
+        Ok(changes)
+    }
+}
+
+impl<A: Allocator + Copy> Compiled<A> for Plain<A> {
+    ghost store = { λ p. p };
+
+    fn edit(&mut self, edit: Edit<'_>) -> Result<Changes<A>, Refusal<A>> {
+        match edit {
+            Edit::Install {
+                name,
+                priority,
+                text,
+            } => self.install(name, priority, text),
+        }
+    }
+
+    fn rows(&self) -> Result<Rows<A>, AllocError> {
+        self.table.rows(self.alloc)
+    }
+
+    fn write_listing<W: Sink>(&self, sink: &mut W) -> Result<usize, WriteFault> {
+        match self.table.write_listing(sink) {
+            Ok(rows) => Ok(rows),
+            Err(_) => Err(WriteFault::Sink),
+        }
+    }
+}

@@ -1,0 +1,118 @@
+//! Why an edit is refused.
+
+ghost use Rattle.std.specs.Prelude.{◌≡◌, ◌||◌, ◌==◌, Some, None, MatchResult};
+ghost use Rattle.std.specs.List.{list_all};
+ghost use Rattle.cil_specs.specs.Next.{begins_module_name as front_byte, is_module_name as module_name, install_refusal};
+ghost use Rattle.cil_store.specs.Edits.{store_refusal_of};
+
+use cil_names::PolicyFaultKind;
+use cil_text::{Place, TextFaultKind};
+use std::alloc::{AllocError, Allocator, Global};
+
+/// The store's own refusals of an install. The codes and their order are this project's own; names and priorities are those
+/// of `semodule(8)`, as far as they go.
+#[derive(Clone, Copy, Debug, PartialEq, Eq)]
+pub enum StoreFault {
+    /// A module's name has other bytes than letters, digits, `_`, `-` and dots, begins with `-` or a dot, or is longer than
+    /// 255 bytes.
+    BadModuleName = 30,
+    /// A priority other than 400.
+    BadPriority = 31,
+    /// A text of more than 2^24 bytes.
+    TextTooLong = 34,
+}
+
+impl StoreFault {
+    ghost use Rattle.std.specs.Prelude.{◌≡◌};
+    ghost use Rattle.cil_store.specs.Edits.{store_code};
+
+    /// The number that a reply shows.
+    pub fn code(self) -> u8
+        ensures { result ≡ store_code self }
+    {
+        self as u8
+    }
+}
+
+/// Why an edit is refused: by the store; by the fault of its text; by the first fault of the policy that it would lead to;
+/// or for want of memory. It owns its words.
+#[derive(Debug, Drop)]
+pub enum Refusal<A: Allocator = Global> {
+    Store {
+        fault: StoreFault,
+        word: cil_names::Text<A>,
+    },
+    Text {
+        module: cil_names::Text<A>,
+        kind: TextFaultKind,
+        at: Place,
+        word: cil_names::Text<A>,
+    },
+    Policy {
+        module: cil_names::Text<A>,
+        kind: PolicyFaultKind,
+        at: Place,
+        word: cil_names::Text<A>,
+    },
+    Memory,
+}
+
+impl<A: Allocator> From<AllocError> for Refusal<A> {
+    ghost use Rattle.std.specs.Prelude.{◌≡◌};
+    ghost use Rattle.cil_store.specs.declared.refusal.Refusal.TheVariants.{Memory};
+
+    ghost from_gives = { λ _ e. e ≡ Memory };
+
+    fn from(_e: AllocError) -> Refusal<A> {
+        Refusal::Memory
+    }
+}
+
+/// The greatest length of a module's name, and of its text.
+const GREATEST_NAME: usize = 255;
+
+const GREATEST_TEXT: usize = 16_777_216;
+
+fn begins_module_name(b: u8) -> bool
+    ensures { result ≡ front_byte b }
+{
+    b.is_ascii_alphanumeric() || b == b'_'
+}
+
+fn is_in_module_name(b: u8) -> bool
+    ensures { result ≡ (front_byte b || (b == 45 || b == 46)) }
+{
+    begins_module_name(b) || b == b'-' || b == b'.'
+}
+
+fn all_in_module_name(bytes: &[u8]) -> bool
+    ensures { result ≡ list_all (λ b. front_byte b || (b == 45 || b == 46)) bytes.now }
+{
+    bytes.iter().all(|b| is_in_module_name(*b))
+}
+
+fn is_module_name(name: &[u8]) -> bool
+    ensures { result ≡ module_name name.now }
+{
+    let Some((first, rest)) = name.split_first() else {
+        return false;
+    };
+    begins_module_name(*first) && all_in_module_name(rest) && name.len() <= GREATEST_NAME
+}
+
+/// Whether the store takes an install of a text of this length, or its first refusal. It takes no memory.
+pub fn check_install(name: &[u8], priority: u32, len: usize) -> Result<(), StoreFault>
+    ensures { MatchResult result (λ _. install_refusal name.now priority len ≡ None)
+        (λ fault. install_refusal name.now priority len ≡ Some (store_refusal_of fault name.now priority)) }
+{
+    if !is_module_name(name) {
+        return Err(StoreFault::BadModuleName);
+    }
+    if priority != 400 {
+        return Err(StoreFault::BadPriority);
+    }
+    if len > GREATEST_TEXT {
+        return Err(StoreFault::TextTooLong);
+    }
+    Ok(())
+}

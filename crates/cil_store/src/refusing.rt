@@ -1,0 +1,100 @@
+//! Makes refusals, which own their words. Where there is no memory for the words the refusal is want of memory.
+
+ghost use Rattle.std.specs.Prelude.{◌≡◌, IfOk, IfSome};
+ghost use Rattle.cil_specs.specs.Bytes.{hex};
+ghost use Rattle.cil_text.specs.Image.{shown};
+ghost use Rattle.cil_store.specs.Edits.{refusal_of, store_refusal_of};
+ghost use Rattle.cil_store.specs.Refusing.{IsRefusalOf, IsTextRefusal, IsPolicyRefusalOf};
+
+use crate::refusal::{Refusal, StoreFault};
+use cil_names::PolicyFault;
+use cil_text::{ShownWord, TextFault};
+use itoa::Buffer;
+use std::alloc::{AllocError, Allocator};
+
+/// A byte as two hexadecimal digits.
+fn byte_text<A: Allocator>(alloc: A, b: u8) -> Result<cil_names::Text<A>, AllocError>
+    ensures { IfOk result (λ t. t ≡ hex b) }
+{
+    let mut digits = [0; 2];
+    let _fits = hex::encode_to_slice([b], &mut digits);
+    cil_names::Text::of(alloc, &digits)
+}
+
+/// The word that shows a fault.
+fn shown_text<A: Allocator>(alloc: A, word: ShownWord<'_>) -> Result<cil_names::Text<A>, AllocError>
+    ensures { IfOk result (λ t. t ≡ shown word.entry) }
+{
+    match word {
+        ShownWord::Byte(b) => byte_text(alloc, b),
+        ShownWord::Text(word) => cil_names::Text::of(alloc, word),
+    }
+}
+
+/// The refusal of an install by its name, its priority or the length of its text.
+pub fn refuse_install<A: Allocator + Copy>(
+    alloc: A,
+    fault: StoreFault,
+    name: &[u8],
+    priority: u32,
+) -> Refusal<A>
+    ensures { IsRefusalOf (refusal_of result) (store_refusal_of fault name.now priority) }
+{
+    let mut digits = Buffer::new();
+    let word = match fault {
+        StoreFault::BadPriority => digits.format(priority).as_bytes(),
+        StoreFault::BadModuleName | StoreFault::TextTooLong => name,
+    };
+    match cil_names::Text::of(alloc, word) {
+        Ok(word) => Refusal::Store { fault, word },
+        Err(_) => Refusal::Memory,
+    }
+}
+
+/// The refusal of an install by the fault of its text.
+pub fn refuse_text<A: Allocator + Copy>(alloc: A, name: &[u8], fault: TextFault<'_>) -> Refusal<A>
+    ensures { IsTextRefusal fault.entry name.now (refusal_of result) }
+{
+    let TextFault::Found { kind, at, word } = fault else {
+        return Refusal::Memory;
+    };
+    let Ok(name) = cil_names::Text::of(alloc, name) else {
+        return Refusal::Memory;
+    };
+    let Ok(word) = shown_text(alloc, word) else {
+        return Refusal::Memory;
+    };
+    Refusal::Text {
+        module: name,
+        kind,
+        at,
+        word,
+    }
+}
+
+/// The refusal of an edit by the first fault of the policy that it leads to.
+pub fn refuse_policy<A: Allocator + Copy>(alloc: A, fault: PolicyFault<'_>) -> Refusal<A>
+    ensures { IsPolicyRefusalOf fault.entry (refusal_of result) }
+{
+    let PolicyFault::Found {
+        kind,
+        module: name,
+        at,
+        word,
+    } = fault
+    else {
+        return Refusal::Memory;
+    };
+    let Ok(name) = cil_names::Text::of(alloc, name) else {
+        return Refusal::Memory;
+    };
+    let Ok(word) = cil_names::Text::of(alloc, word) else {
+        return Refusal::Memory;
+    };
+    Refusal::Policy {
+        module: name,
+        kind,
+        at,
+        word,
+    }
+}

@@ -1,0 +1,44 @@
+//! A list of calls, one after another.
+
+ghost use Rattle.std.specs.Prelude.{◌≡◌, map, IfOk, OnErr};
+ghost use Rattle.cil_specs.specs.Run.{Step, Run};
+ghost use Rattle.cil_store.specs.Calls.{call_of, reply_of};
+
+use crate::call::{Call, Reply};
+use crate::compiled::Compiled;
+use crate::refusal::Refusal;
+use std::alloc::{AllocError, Allocator};
+
+/// Makes one call.
+fn answer<A: Allocator + Copy, C: Compiled<A>>(engine: &mut C, call: Call<'_>) -> Reply<A>
+    ensures { Step (C.store engine.old) (call_of call.entry) (reply_of result) (C.store engine.new) }
+{
+    match call {
+        Call::Edit(edit) => match engine.edit(edit) {
+            Ok(changes) => Reply::Changes(changes),
+            Err(refusal) => Reply::Refused(refusal),
+        },
+        Call::Rows => match engine.rows() {
+            Ok(rows) => Reply::Rows(rows),
+            Err(_) => Reply::Refused(Refusal::Memory),
+        },
+    }
+}
+
+/// Makes the calls in order. The replies and the store after them are a run from the store before. After an error, which is
+/// want of memory for the list of replies, no call was made.
+pub fn run<A: Allocator + Copy, C: Compiled<A>>(
+    alloc: A,
+    engine: &mut C,
+    calls: &[Call<'_>],
+) -> Result<Vec<Reply<A>, A>, AllocError>
+    ensures run { IfOk result (λ replies. Run (C.store engine.old) (map call_of calls.now) (map reply_of replies.items) (C.store engine.new)) }
+    ensures err { OnErr result (C.store engine.new ≡ C.store engine.old) }
+{
+    let mut replies = Vec::with_capacity(alloc, calls.len())?;
+    for call in calls {
+        let reply = answer(engine, *call);
+        replies.push(reply).unwrap();
+    }
+    Ok(replies)
+}
