@@ -48,14 +48,7 @@ pub fn number_policy<A: Allocator + Copy>(
         full_names: &full_names,
         names: &names,
     };
-    Ok(Resolved {
-        modules: module_names(alloc, resolution)?,
-        names: names.to_texts(alloc)?,
-        types: numbering.declared(Kind::Type)?,
-        attributes: numbering.declared(Kind::Attribute)?,
-        classes: numbering.classes()?,
-        rules: numbering.rules()?,
-    })
+    numbering.resolved()
 }
 
 /// Copies of the modules' names, in their order.
@@ -226,6 +219,22 @@ impl<'n, 't, 'j, 'a: 't, A: Allocator + Copy> Numbering<'n, 't, 'j, 'a, A> {
             name: self.number(place),
             permissions: self.names.numbers_of(self.alloc, permissions)?,
         }))
+    }
+
+    /// The policy by its numbers.
+    fn resolved(&self) -> Result<Resolved<A>, AllocError>
+        requires ready { IsNumbering self.now }
+        requires ordered { IsTrue (names_rise self.now.names.now) }
+        ensures { IfOk result (IsPolicy every_optional (policy_in self.now.resolution.now.policy)) }
+    {
+        Ok(Resolved {
+            modules: module_names(self.alloc, self.resolution)?,
+            names: self.names.to_texts(self.alloc)?,
+            types: self.declared(Kind::Type)?,
+            attributes: self.declared(Kind::Attribute)?,
+            classes: self.classes()?,
+            rules: self.rules()?,
+        })
     }
 
     fn rules(&self) -> Result<Vec<NumberedRule<A>, A>, AllocError>

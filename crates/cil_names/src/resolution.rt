@@ -11,9 +11,11 @@ ghost use Rattle.cil_names.specs.Image.{policy_kind_of, IsFoundFault};
 ghost use Rattle.cil_names.specs.Placed.{form_of, placed_of};
 ghost use Rattle.cil_names.specs.Flat.{IsLeast};
 ghost use Rattle.cil_names.specs.Policy.{namespace_at, policy_in, table_of, IsSound};
+ghost use Rattle.cil_names.specs.Classes.{HasPermissions};
 ghost use Rattle.cil_names.specs.Gifts.{HasFirsts};
 ghost use Rattle.cil_names.specs.Resolution.{word_if, test_of, attribute_words, first_missing_permission, again_words, IsResolved};
 ghost use Rattle.cil_names.specs.declared.fault.PolicyFaultKind.TheVariants.{Twice};
+ghost use Rattle.cil_names.specs.declared.firsts.Gift.TheVariants.{Actual, Common};
 
 use crate::classes::Classes;
 use crate::fault::{PolicyFault, PolicyFaultKind};
@@ -46,15 +48,29 @@ const CHECKED: [PolicyFaultKind; 6] = [
     PolicyFaultKind::TooManyPermissions,
 ];
 
+/// The permissions of a policy's classes, and the first statements that give an actual type and a common.
+fn given<'a, A: Allocator + Copy>(
+    alloc: A,
+    policy: &Policy<'_, 'a, A>,
+) -> Result<(Classes<'a, A>, Firsts<A>, Firsts<A>), AllocError>
+    requires { IsSound policy.now }
+    ensures classes { IfOk result (λ found. HasPermissions (policy_in policy.now) found.0) }
+    ensures actuals { IfOk result (λ found. HasFirsts Actual (policy_in policy.now) found.1) }
+    ensures commons { IfOk result (λ found. HasFirsts Common (policy_in policy.now) found.2) }
+{
+    let classes = Classes::of(alloc, policy)?;
+    let actuals = Firsts::of(alloc, policy, Gift::Actual)?;
+    let commons = Firsts::of(alloc, policy, Gift::Common)?;
+    Ok((classes, actuals, commons))
+}
+
 impl<'j, 'a, A: Allocator + Copy> Resolution<'j, 'a, A> {
     pub fn of(alloc: A, policy: Policy<'j, 'a, A>) -> Result<Self, AllocError>
         requires { IsSound policy }
         ensures resolved { IfOk result IsResolved }
         ensures policy { IfOk result (λ r. r.policy ≡ policy.entry) }
     {
-        let classes = Classes::of(alloc, &policy)?;
-        let actuals = Firsts::of(alloc, &policy, Gift::Actual)?;
-        let commons = Firsts::of(alloc, &policy, Gift::Common)?;
+        let (classes, actuals, commons) = given(alloc, &policy)?;
         Ok(Resolution {
             policy,
             classes,

@@ -35,6 +35,35 @@ fn checked<'j, 'a, A: Allocator + Copy>(
     Ok(resolution)
 }
 
+/// What a policy without a fault resolves to. A fault is want of memory.
+fn numbered<'a, A: Allocator + Copy>(
+    alloc: A,
+    resolution: &Resolution<'_, 'a, A>,
+) -> Result<Resolved<A>, PolicyFault<'a>>
+    requires resolved { IsResolved resolution.now }
+    requires compiles { Compiles every_optional (policy_in resolution.now.policy) }
+    ensures compiles { OnOk result (Compiles every_optional (policy_in resolution.now.policy)) }
+    ensures policy { IfOk result (IsPolicy every_optional (policy_in resolution.now.policy)) }
+    ensures err { IfErr result (λ fault. PolicyFaultIs fault (IsFirst every_optional (policy_in resolution.now.policy))) }
+{
+    Ok(number_policy(alloc, resolution)?)
+}
+
+/// The same, or a fault where a rule has an attribute.
+fn numbered_types<'a, A: Allocator + Copy>(
+    alloc: A,
+    resolution: &Resolution<'_, 'a, A>,
+) -> Result<Resolved<A>, PolicyFault<'a>>
+    requires resolved { IsResolved resolution.now }
+    requires compiles { Compiles every_optional (policy_in resolution.now.policy) }
+    ensures compiles { OnOk result (IsCompiledWhole every_optional (policy_in resolution.now.policy)) }
+    ensures policy { IfOk result (IsPolicy every_optional (policy_in resolution.now.policy)) }
+    ensures err { IfErr result (λ fault. PolicyFaultIs fault (IsRefusedFor every_optional (policy_in resolution.now.policy))) }
+{
+    resolution.check_attributes()?;
+    Ok(number_policy(alloc, resolution)?)
+}
+
 /// The types, attributes, classes and rules of a policy by full names, or its first fault: that of the least code, then of the
 /// least module name by bytes, then of the least offset.
 pub fn resolve<'a, A: Allocator + Copy>(
@@ -47,7 +76,7 @@ pub fn resolve<'a, A: Allocator + Copy>(
     ensures err { IfErr result (λ fault. PolicyFaultIs fault (IsFirst every_optional (joined_policy (modules_of joined.now)))) }
 {
     let resolution = checked(alloc, joined)?;
-    Ok(number_policy(alloc, &resolution)?)
+    numbered(alloc, &resolution)
 }
 
 /// The same, but for a policy that compiles and has a rule whose source or target leads to an attribute: the first such word is
@@ -62,6 +91,5 @@ pub fn resolve_types<'a, A: Allocator + Copy>(
     ensures err { IfErr result (λ fault. PolicyFaultIs fault (IsRefusedFor every_optional (joined_policy (modules_of joined.now)))) }
 {
     let resolution = checked(alloc, joined)?;
-    resolution.check_attributes()?;
-    Ok(number_policy(alloc, &resolution)?)
+    numbered_types(alloc, &resolution)
 }

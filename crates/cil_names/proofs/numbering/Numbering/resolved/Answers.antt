@@ -2,11 +2,11 @@ use Rattle.std.proofs.Common.{◌∙◌, map}
 use Rattle.cil_names.specs.Policy.{policy_in}
 use Rattle.cil_names.specs.Resolved.{declared_of, class_of, rule_of}
 use Rattle.cil_names.proofs.MadeLemmas.{types-made, attributes-made}
-use Rattle.cil_names.proofs.numbering.number_policy.Goals as goal
+use Rattle.cil_names.proofs.numbering.Numbering.resolved.Goals as goal
 
 pub returns : goal.returns
 returns g c =
-    let policy = policy_in c.args.resolution.now.policy in
+    let policy = policy_in c.args.self.now.resolution.now.policy in
     let modules = c.in_ok-module_names.ensures in
     let names = c.in_ok-to_texts.ensures in
     record {
