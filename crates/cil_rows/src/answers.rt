@@ -4,6 +4,7 @@ use cil_program::script::session::{Status, session};
 use cil_store::Plain;
 use cil_text::{MemorySink, MemorySource};
 use std::alloc::{AllocError, Global};
+use std::fmt::Debug;
 use std::process::Abort;
 use std::test::Fail;
 
@@ -23,8 +24,21 @@ pub fn assert_answer(rt: &impl Abort, alloc: Global, script: &[u8], want: &str, 
     let mut sink = MemorySink::new(alloc);
     let mut engine = Plain::new(alloc);
     let end = session(alloc, &mut source, &mut sink, &mut engine);
-    assert_eq!(rt; shown(sink.bytes()), want);
-    assert_eq!(rt; end, Ok(status), "after {want}");
+    assert_eq!(rt; (shown(sink.bytes()), end), (want, Ok(status)));
+}
+
+/// Asserts what a session with an empty store answers to each script of a table, and that each ends so.
+pub fn assert_answers(rt: &impl Abort, alloc: Global, cases: &[(&[u8], &str)], status: Status) {
+    for (script, want) in cases {
+        assert_answer(rt, alloc, script, want, status);
+    }
+}
+
+/// Asserts that each script of a table has this answer, and ends so.
+pub fn assert_each(rt: &impl Abort, alloc: Global, scripts: &[&[u8]], want: &str, status: Status) {
+    for script in scripts {
+        assert_answer(rt, alloc, script, want, status);
+    }
 }
 
 /// Asserts the one line that answers an install of the module m with this text, in an empty store.
@@ -34,16 +48,22 @@ pub fn assert_install(rt: &impl Abort, alloc: Global, text: &[u8], want: &str) -
     } else {
         Status::Refused
     };
-    let script = install(alloc, text)?;
+    let mut script = Vec::new(alloc);
+    push_install(alloc, &mut script, "m", text)?;
     assert_answer(rt, alloc, script.as_slice(), want, status);
     Ok(())
 }
 
-/// The script that installs a text as the module m.
-pub fn install(alloc: Global, text: &[u8]) -> Result<Vec<u8>, AllocError> {
-    let mut script = Vec::new(alloc);
-    push_install(alloc, &mut script, "m", text)?;
-    Ok(script)
+/// Asserts the one line that answers an install of the module m, for each text of a table.
+pub fn assert_installs(
+    rt: &impl Abort,
+    alloc: Global,
+    cases: &[(&[u8], &str)],
+) -> Result<(), Fail> {
+    for (text, want) in cases {
+        assert_install(rt, alloc, text, want)?;
+    }
+    Ok(())
 }
 
 fn push_install(
@@ -67,13 +87,16 @@ pub enum Command<'a> {
     Rules,
 }
 
-/// Asserts what a session with an empty store answers to each of the commands.
-pub fn assert_dialogue(
+/// The commands of a script, each with its answer.
+pub type Dialogue<'a> = &'a [(Command<'a>, &'a str)];
+
+// Asserts what a session with an empty store answers to each of the commands.
+fn assert_dialogue(
     rt: &impl Abort,
     alloc: Global,
-    dialogue: &[(Command<'_>, &str)],
+    dialogue: Dialogue<'_>,
     status: Status,
-) -> Result<(), Fail> {
+) -> Result<(), AllocError> {
     let mut script = Vec::new(alloc);
     let mut want = String::new(alloc);
     for (command, answer) in dialogue {
@@ -89,12 +112,46 @@ pub fn assert_dialogue(
     Ok(())
 }
 
-/// One byte, so many times.
-pub fn repeated(alloc: Global, byte: u8, count: usize) -> Result<Vec<u8>, AllocError> {
-    vec![in alloc; byte; count]
+/// Asserts what a session with an empty store answers to each of the commands, for each dialogue of a table.
+pub fn assert_dialogues(
+    rt: &impl Abort,
+    alloc: Global,
+    dialogues: &[Dialogue<'_>],
+    status: Status,
+) -> Result<(), AllocError> {
+    for dialogue in dialogues {
+        assert_dialogue(rt, alloc, dialogue, status)?;
+    }
+    Ok(())
+}
+
+/// A piece of a long text: a text, or one byte so many times.
+#[derive(Clone, Copy)]
+pub enum Piece<'a> {
+    Text(&'a str),
+    Run(u8, usize),
+}
+
+/// Pieces one after the other.
+pub fn spelled(alloc: Global, pieces: &[Piece<'_>]) -> Result<Vec<u8>, AllocError> {
+    let mut text = Vec::new(alloc);
+    for piece in pieces {
+        match *piece {
+            Piece::Text(piece) => text.extend_from_slice(piece.as_bytes())?,
+            Piece::Run(byte, count) => {
+                text.extend_from_slice(vec![in alloc; byte; count]?.as_slice())?;
+            }
+        }
+    }
+    Ok(text)
 }
 
 /// The bytes of an answer as text.
 pub fn shown(bytes: &[u8]) -> &str {
     str::from_utf8(bytes).unwrap_or("no text")
+}
+
+/// Asserts that what was found is what was wanted.
+pub fn assert_same<T: PartialEq + Debug + Drop>(rt: &impl Abort, found: T, want: T) {
+    assert_eq!(rt; found, want);
 }

@@ -1,6 +1,8 @@
 //! The first script, cut off after each byte.
 
-use crate::answers::{FIRST_ANSWER, FIRST_SCRIPT, FIRST_TEXT, assert_answer, assert_install};
+use crate::answers::{
+    FIRST_ANSWER, FIRST_SCRIPT, FIRST_TEXT, assert_answer, assert_install, assert_same,
+};
 use cil_program::script::session::Status;
 use std::test::Fail;
 
@@ -17,7 +19,7 @@ fn answer_of_front(len: usize) -> (&'static str, Status) {
 
 #[test]
 fn a_script_cut_off_after_each_byte(rt: HostRuntime) {
-    assert_eq!(rt; FIRST_SCRIPT.len(), 96);
+    assert_same(&rt, FIRST_SCRIPT.len(), 96);
     for len in 0..97 {
         let (want, status) = answer_of_front(len);
         assert_answer(&rt, rt.alloc(), &FIRST_SCRIPT[..len], want, status);
@@ -44,7 +46,7 @@ fn answer_of_text(len: usize) -> &'static str {
 
 #[test]
 fn a_text_cut_off_after_each_byte(rt: HostRuntime) -> Result<(), Fail> {
-    assert_eq!(rt; FIRST_TEXT.len(), 72);
+    assert_same(&rt, FIRST_TEXT.len(), 72);
     for len in 0..73 {
         assert_install(&rt, rt.alloc(), &FIRST_TEXT[..len], answer_of_text(len))?;
     }

@@ -1,17 +1,29 @@
 //! The plain engine and its store, by calls.
 
-ghost use Rattle.std.specs.Prelude.{◌≡◌, ◌≤◌, length};
-
-use crate::answers::{FIRST_TEXT, shown};
-use cil_names::{PolicyFault, PolicyFaultKind, Text};
-use cil_program::script::session::SessionFault;
+use crate::answers::{FIRST_TEXT, assert_same, shown};
+use cil_names::Text;
 use cil_store::{
-    Call, Compiled, Edit, Entry, Plain, Refusal, Reply, Store, StoreFault, WriteFault,
-    check_install, run,
+    Call, Compiled, Edit, Plain, Refusal, Reply, StoreFault, WriteFault, check_install, run,
 };
-use cil_text::{MemorySink, Place, ShownWord, SinkFault, SourceFault, TextFault, TextFaultKind};
-use std::alloc::AllocError;
+use cil_text::{MemorySink, Place};
+use std::alloc::Global;
+use std::process::Abort;
 use std::test::Fail;
+
+// The line of an install, and what the store has against it.
+const LINES: &[(&str, u32, usize, Result<(), StoreFault>)] = &[
+    ("m", 400, 16_777_216, Ok(())),
+    ("", 400, 0, Err(StoreFault::BadModuleName)),
+    ("m", 399, 0, Err(StoreFault::BadPriority)),
+    ("m", 400, 16_777_217, Err(StoreFault::TextTooLong)),
+];
+
+#[test]
+fn what_the_store_refuses_by_the_line(rt: HostRuntime) {
+    for (name, priority, len, want) in LINES {
+        assert_same(&rt, check_install(name.as_bytes(), *priority, *len), *want);
+    }
+}
 
 // An install of the module m.
 fn install(text: &[u8]) -> Edit<'_> {
@@ -22,246 +34,172 @@ fn install(text: &[u8]) -> Edit<'_> {
     }
 }
 
-#[test]
-fn what_the_store_refuses_by_the_line(rt: HostRuntime) {
-    assert_eq!(rt; check_install(b"m", 400, 16_777_216), Ok(()));
-    assert_eq!(rt; check_install(b"", 400, 0), Err(StoreFault::BadModuleName));
-    assert_eq!(rt; check_install(b"m", 399, 0), Err(StoreFault::BadPriority));
-    assert_eq!(rt;
-        check_install(b"m", 400, 16_777_217),
-        Err(StoreFault::TextTooLong)
-    );
-}
-
-#[test]
-fn codes_of_refusals(rt: HostRuntime) {
-    assert_eq!(rt; StoreFault::BadModuleName.code(), 30);
-    assert_eq!(rt; StoreFault::BadPriority.code(), 31);
-    assert_eq!(rt; StoreFault::TextTooLong.code(), 34);
-    assert_eq!(rt; PolicyFaultKind::Twice.code(), 41);
-    assert_eq!(rt; PolicyFaultKind::Missing.code(), 42);
+// Asserts what an engine writes of its listing to a sink that takes so much.
+fn assert_listing(
+    rt: &impl Abort,
+    alloc: Global,
+    engine: &Plain,
+    limit: usize,
+    want: (Result<usize, WriteFault>, &str),
+) {
+    let mut sink = MemorySink::with_limits(alloc, 1000, limit);
+    let found = engine.write_listing(&mut sink);
+    assert_same(rt, (found, shown(sink.bytes())), want);
 }
 
 #[test]
 fn an_edit_and_its_listing(rt: HostRuntime) -> Result<(), Fail> {
-    let alloc = rt.alloc();
-    let mut engine = Plain::new(alloc);
-    assert!(rt; engine.rows()?.is_empty());
+    let mut engine = Plain::new(rt.alloc());
+    let before = engine.rows()?.is_empty();
     let changes = engine.edit(install(FIRST_TEXT))?;
-    assert_eq!(rt; (changes.added_len(), changes.removed_len()), (2, 0));
-    assert_eq!(rt; engine.rows()?.len(), 1);
-    let mut sink = MemorySink::new(alloc);
-    assert_eq!(rt; engine.write_listing(&mut sink), Ok(1));
-    assert_eq!(rt; shown(sink.bytes()), "allow a b:file { read write };\n");
-    let mut sink = MemorySink::with_limits(alloc, 1000, 11);
-    assert_eq!(rt; engine.write_listing(&mut sink), Err(WriteFault::Sink));
-    assert_eq!(rt; shown(sink.bytes()), "allow a b:f");
+    assert_same(
+        &rt,
+        (before, changes.added_len(), changes.removed_len()),
+        (true, 2, 0),
+    );
+    assert_same(&rt, engine.rows()?.len(), 1);
+    let whole = (Ok(1), "allow a b:file { read write };\n");
+    assert_listing(&rt, rt.alloc(), &engine, 1000, whole);
+    let front = (Err(WriteFault::Sink), "allow a b:f");
+    assert_listing(&rt, rt.alloc(), &engine, 11, front);
     Ok(())
 }
 
-#[test]
-fn a_refusal_by_the_store_has_its_word(rt: HostRuntime) -> Result<(), Fail> {
-    let mut engine = Plain::new(rt.alloc());
-    let edit = Edit::Install {
-        name: b"m",
-        priority: 7,
-        text: b"",
-    };
-    let Err(Refusal::Store { fault, word }) = engine.edit(edit) else {
-        return Err(Fail::new("not refused by the store"));
-    };
-    assert_eq!(rt; fault, StoreFault::BadPriority);
-    assert_eq!(rt; shown(word.as_slice()), "7");
-    Ok(())
+// A refusal: who refuses, the module, the code, the place by its offset, line and column, and the word.
+type Refused<'a> = (&'static str, &'a str, u8, (u32, u32, u32), &'a str);
+
+fn place(at: Place) -> (u32, u32, u32) {
+    (at.offset, at.line, at.column)
 }
 
-#[test]
-fn a_refusal_of_a_text_has_its_place(rt: HostRuntime) -> Result<(), Fail> {
-    let mut engine = Plain::new(rt.alloc());
-    let Err(
+fn refused(refusal: &Refusal) -> Refused<'_> {
+    match refusal {
+        Refusal::Store { fault, word } => {
+            ("store", "", fault.code(), (0, 0, 0), shown(word.as_slice()))
+        }
         Refusal::Text {
             module,
             kind,
             at,
             word,
-        },
-    ) = engine.edit(install(b"(type a)\n\x0c"))
-    else {
-        return Err(Fail::new("not refused for its text"));
-    };
-    assert_eq!(rt; shown(module.as_slice()), "m");
-    assert_eq!(rt; kind, TextFaultKind::BadByte);
-    assert_eq!(rt; (at.offset, at.line, at.column), (9, 2, 1));
-    assert_eq!(rt; shown(word.as_slice()), "0c");
-    Ok(())
-}
-
-#[test]
-fn a_refusal_of_a_policy_has_its_place(rt: HostRuntime) -> Result<(), Fail> {
-    let mut engine = Plain::new(rt.alloc());
-    let Err(
+        } => (
+            "text",
+            shown(module.as_slice()),
+            kind.code(),
+            place(*at),
+            shown(word.as_slice()),
+        ),
         Refusal::Policy {
             module,
             kind,
             at,
             word,
-        },
-    ) = engine.edit(install(b"(type a)\n(type a)"))
-    else {
-        return Err(Fail::new("not refused for the policy"));
-    };
-    assert_eq!(rt; shown(module.as_slice()), "m");
-    assert_eq!(rt; kind, PolicyFaultKind::Twice);
-    assert_eq!(rt; (at.offset, at.line, at.column), (15, 2, 7));
-    assert_eq!(rt; shown(word.as_slice()), "a");
-    Ok(())
+        } => (
+            "policy",
+            shown(module.as_slice()),
+            kind.code(),
+            place(*at),
+            shown(word.as_slice()),
+        ),
+        Refusal::Memory => ("memory", "", 60, (0, 0, 0), ""),
+    }
 }
+
+// Installs of the module m that are refused: the priority and the text.
+const REFUSED: &[(u32, &str, Refused<'static>)] = &[
+    // A refusal by the store has its word.
+    (7, "", ("store", "", 31, (0, 0, 0), "7")),
+    // A refusal of a text has its place, and so has one of a policy.
+    (400, "(type a)\n\x0c", ("text", "m", 10, (9, 2, 1), "0c")),
+    (
+        400,
+        "(type a)\n(type a)",
+        ("policy", "m", 41, (15, 2, 7), "a"),
+    ),
+];
+
+#[test]
+fn refusals_of_edits(rt: HostRuntime) {
+    let mut engine = Plain::new(rt.alloc());
+    for (priority, text, want) in REFUSED {
+        let edit = Edit::Install {
+            name: b"m",
+            priority: *priority,
+            text: text.as_bytes(),
+        };
+        match engine.edit(edit) {
+            Ok(_) => assert!(rt; false, "accepted: {text}"),
+            Err(refusal) => assert_same(&rt, refused(&refusal), *want),
+        }
+    }
+}
+
+// A reply: its form; the rows, the accesses that came, or the code of a refusal; and the accesses that went.
+fn seen(reply: &Reply) -> (&'static str, usize, usize) {
+    match reply {
+        Reply::Changes(changes) => ("changes", changes.added_len(), changes.removed_len()),
+        Reply::Rows(rows) => ("rows", rows.len(), 0),
+        Reply::Refused(refusal) => ("refused", usize::from(refused(refusal).2), 0),
+    }
+}
+
+const CALLS: &[Call<'static>] = &[
+    Call::Rows,
+    Call::Edit(Edit::Install {
+        name: b"m",
+        priority: 400,
+        text: FIRST_TEXT,
+    }),
+    Call::Edit(Edit::Install {
+        name: b"m",
+        priority: 400,
+        text: b"(type a",
+    }),
+    Call::Rows,
+    Call::Edit(Edit::Install {
+        name: b"m",
+        priority: 400,
+        text: b"",
+    }),
+    Call::Rows,
+];
 
 // An edit that is accepted, one that is refused, and the listing, of which the refused edit changed nothing.
+const REPLIES: &[(&str, usize, usize)] = &[
+    ("rows", 0, 0),
+    ("changes", 2, 0),
+    ("refused", 12, 0),
+    ("rows", 1, 0),
+    ("changes", 0, 2),
+    ("rows", 0, 0),
+];
+
 #[test]
 fn a_run_of_calls(rt: HostRuntime) -> Result<(), Fail> {
-    let alloc = rt.alloc();
-    let mut engine = Plain::new(alloc);
-    let calls = [
-        Call::Rows,
-        Call::Edit(install(FIRST_TEXT)),
-        Call::Edit(install(b"(type a")),
-        Call::Rows,
-        Call::Edit(install(b"")),
-    ];
-    let replies = run(alloc, &mut engine, &calls)?;
-    let [
-        Reply::Rows(none),
-        Reply::Changes(came),
-        Reply::Refused(Refusal::Text { kind, .. }),
-        Reply::Rows(one),
-        Reply::Changes(went),
-    ] = replies.as_slice()
-    else {
-        return Err(Fail::new("other replies"));
-    };
-    assert!(rt; none.is_empty());
-    assert_eq!(rt; (came.added_len(), came.removed_len()), (2, 0));
-    assert_eq!(rt; *kind, TextFaultKind::Unclosed);
-    assert_eq!(rt; one.len(), 1);
-    assert_eq!(rt; (went.added_len(), went.removed_len()), (0, 2));
-    assert!(rt; run(alloc, &mut engine, &[])?.is_empty());
-    assert!(rt; engine.rows()?.is_empty());
-    Ok(())
-}
-
-// The entry of a module.
-fn entry<'a>(name: &'a [u8], text: &'a [u8]) -> Entry<'a>
-    requires { length text.now ≤ 16777216 }
-    ensures priority { result.priority ≡ 400 }
-    ensures short { length result.text.now ≤ 16777216 }
-{
-    Entry {
-        name,
-        priority: 400,
-        text,
-    }
-}
-
-#[test]
-fn entries_stand_in_the_order_of_their_names(rt: HostRuntime) -> Result<(), Fail> {
-    let alloc = rt.alloc();
-    let mut store = Store::new(alloc);
-    assert!(rt; store.entry(0).is_none());
-    store.put(alloc, entry(b"n", b"1"))?;
-    store.put(alloc, entry(b"m", b"2"))?;
-    store.put(alloc, entry(b"n", b"3"))?;
-    for (i, name, text) in [(0, "m", "2"), (1, "n", "3")] {
-        let Some(found) = store.entry(i) else {
-            return Err(Fail::new("no entry"));
-        };
-        assert_eq!(rt; shown(found.name), name);
-        assert_eq!(rt; found.priority, 400);
-        assert_eq!(rt; shown(found.text), text);
-    }
-    assert!(rt; store.entry(2).is_none());
-    for (name, place) in [("a", 0), ("m", 0), ("m-", 1), ("n", 1), ("o", 2)] {
-        assert_eq!(rt; store.place(name.as_bytes()), place, "{name}");
+    let mut engine = Plain::new(rt.alloc());
+    let replies = run(rt.alloc(), &mut engine, CALLS)?;
+    for i in 0..7 {
+        assert_same(&rt, replies.get(i).map(seen), REPLIES.get(i).copied());
     }
     Ok(())
 }
 
 #[test]
-fn the_entries_beside_one(rt: HostRuntime) -> Result<(), Fail> {
-    let alloc = rt.alloc();
-    let mut store: Store = Store::new(alloc);
-    store.put(alloc, entry(b"a", b""))?;
-    store.put(alloc, entry(b"b", b"text"))?;
-    store.put(alloc, entry(b"c", b""))?;
-    let (before, after) = store.split(b"b");
-    assert_eq!(rt; (before.len(), after.len()), (1, 1));
-    let (before, after) = store.split(b"aa");
-    assert_eq!(rt; (before.len(), after.len()), (1, 2));
-    let [b, c] = after else {
-        return Err(Fail::new("not two entries"));
-    };
-    assert_eq!(rt; shown(b.name()), "b");
-    assert_eq!(rt; shown(b.as_entry().text), "text");
-    assert!(rt; b.is_named(b"b"));
-    assert!(rt; !c.is_named(b"b"));
-    assert!(rt; b.is_before(b"c"));
-    assert!(rt; !c.is_before(b"c"));
+fn a_run_of_no_calls(rt: HostRuntime) -> Result<(), Fail> {
+    let mut engine = Plain::new(rt.alloc());
+    let replies = run(rt.alloc(), &mut engine, &[])?;
+    assert_same(&rt, replies.is_empty(), true);
     Ok(())
 }
 
 #[test]
 fn bytes_that_are_owned(rt: HostRuntime) -> Result<(), Fail> {
-    let alloc = rt.alloc();
-    assert_eq!(rt; shown(Text::of(alloc, b"abc")?.as_slice()), "abc");
-    let text = Text::from_vec(Vec::from_slice(alloc, b"de")?);
-    assert_eq!(rt; shown(text.as_slice()), "de");
-    Ok(())
-}
-
-// How faults are printed for a programmer.
-#[test]
-fn printed_faults(rt: HostRuntime) -> Result<(), Fail> {
-    let alloc = rt.alloc();
-    let at = Place {
-        offset: 9,
-        line: 2,
-        column: 3,
-    };
-    let text = TextFault::Found {
-        kind: TextFaultKind::TooDeep,
-        at,
-        word: ShownWord::Text(b"("),
-    };
-    assert_eq!(rt; format!(in alloc; "{text}")?.as_str(), "TooDeep at 2:3");
-    let policy = PolicyFault::Found {
-        kind: PolicyFaultKind::Missing,
-        module: b"m",
-        at,
-        word: b"a",
-    };
-    assert_eq!(rt; format!(in alloc; "{policy}")?.as_str(), "Missing at 2:3");
-    let (none, report) = (TextFault::from(AllocError), PolicyFault::from(AllocError));
-    let printed = format!(in alloc; "{none}, {report}, {}", WriteFault::Memory)?;
-    assert_eq!(rt;
-        printed.as_str(),
-        "out of memory, out of memory, out of memory"
-    );
-    let refusal: Refusal = Refusal::from(AllocError);
-    assert!(rt; matches!(&refusal, Refusal::Memory));
-    Ok(())
-}
-
-#[test]
-fn printed_faults_of_devices(rt: HostRuntime) -> Result<(), Fail> {
-    let alloc = rt.alloc();
-    let read = SessionFault::from(SourceFault);
-    let write = SessionFault::from(SinkFault);
-    let printed = format!(in alloc; "{read}, {SourceFault}")?;
-    assert_eq!(rt; printed.as_str(), "the input failed, the input failed");
-    let printed = format!(in alloc; "{write}, {SinkFault}, {}", WriteFault::Sink)?;
-    assert_eq!(rt;
-        printed.as_str(),
-        "the output failed, the output failed, the output failed"
+    let copied = Text::of(rt.alloc(), b"abc")?;
+    let taken = Text::from_vec(Vec::from_slice(rt.alloc(), b"de")?);
+    assert_same(
+        &rt,
+        (shown(copied.as_slice()), shown(taken.as_slice())),
+        ("abc", "de"),
     );
     Ok(())
 }

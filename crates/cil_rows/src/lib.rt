@@ -12,6 +12,8 @@ mod devices;
 #[cfg(test)]
 mod engines;
 #[cfg(test)]
+mod faults;
+#[cfg(test)]
 mod limits;
 #[cfg(test)]
 mod lines;
@@ -25,6 +27,8 @@ mod reading;
 mod refusals;
 #[cfg(test)]
 mod shapes;
+#[cfg(test)]
+mod stores;
 #[cfg(test)]
 mod streams;
 #[cfg(test)]

@@ -1,6 +1,6 @@
 //! Lines of a script and of its answers, by calls.
 
-use crate::answers::{repeated, shown};
+use crate::answers::{Piece, assert_same, shown, spelled};
 use cil_program::script::command::{ScriptLine, script_line};
 use cil_program::script::input::{Input, LineEnd};
 use cil_program::script::line::Line;
@@ -9,120 +9,156 @@ use cil_store::{Compiled, Edit, Plain, Refusal};
 use cil_text::{MemorySink, MemorySource};
 use std::test::Fail;
 
-#[test]
-fn commands_of_lines(rt: HostRuntime) -> Result<(), Fail> {
-    assert!(rt; matches!(script_line(b"rules"), Some(ScriptLine::Rules)));
-    let Some(
-        ScriptLine::Install {
-            name,
-            priority,
-            len,
-        },
-    ) = script_line(b"install a( 0 999999999")
-    else {
-        return Err(Fail::new("no install"));
-    };
-    assert_eq!(rt; shown(name), "a(");
-    assert_eq!(rt; (priority, len), (0, 999_999_999));
-    for line in ["", "rule", "install", "install m 400", "install m 400 01"] {
-        assert!(rt; script_line(line.as_bytes()).is_none(), "{line}");
+// Lines, each with its command, and the name, the priority and the length of an install.
+const COMMANDS: &[(&str, &str, &str, u32, u32)] = &[
+    ("rules", "rules", "", 0, 0),
+    ("install a( 0 999999999", "install", "a(", 0, 999_999_999),
+    ("", "none", "", 0, 0),
+    ("rule", "none", "", 0, 0),
+    ("install", "none", "", 0, 0),
+    ("install m 400", "none", "", 0, 0),
+    ("install m 400 01", "none", "", 0, 0),
+];
+
+fn parts(line: &[u8]) -> (&str, &str, u32, u32) {
+    match script_line(line) {
+        Some(ScriptLine::Rules) => ("rules", "", 0, 0),
+        Some(
+            ScriptLine::Install {
+                name,
+                priority,
+                len,
+            },
+        ) => ("install", shown(name), priority, len),
+        None => ("none", "", 0, 0),
     }
-    Ok(())
+}
+
+#[test]
+fn commands_of_lines(rt: HostRuntime) {
+    for (line, command, name, priority, len) in COMMANDS {
+        assert_same(
+            &rt,
+            parts(line.as_bytes()),
+            (*command, *name, *priority, *len),
+        );
+    }
 }
 
 #[test]
 fn a_line_fills(rt: HostRuntime) {
     let mut line = Line::new();
-    assert!(rt; line.as_slice().is_empty());
+    assert_same(&rt, shown(line.as_slice()), "");
     line.push(b'a');
-    assert_eq!(rt; shown(line.as_slice()), "a");
+    assert_same(&rt, shown(line.as_slice()), "a");
     line.clear();
     for _ in 0..4096 {
         if !line.is_full() {
             line.push(b'b');
         }
     }
-    assert!(rt; line.is_full());
-    assert_eq!(rt; line.as_slice().len(), 4096);
+    assert_same(&rt, (line.is_full(), line.as_slice().len()), (true, 4096));
     line.clear();
-    assert!(rt; !line.is_full());
-    assert!(rt; line.as_slice().is_empty());
+    assert_same(&rt, (line.is_full(), line.as_slice().len()), (false, 0));
+}
+
+// The ends of lines, each with whether the line is the last, and whether it is too long.
+const ENDS: &[(LineEnd, bool, bool)] = &[
+    (LineEnd::LineFeed, false, false),
+    (LineEnd::LastByte, true, false),
+    (LineEnd::TooLong, false, true),
+];
+
+#[test]
+fn ends_of_lines(rt: HostRuntime) {
+    for (end, is_last, is_too_long) in ENDS {
+        assert_same(
+            &rt,
+            (end.is_last(), end.is_too_long()),
+            (*is_last, *is_too_long),
+        );
+    }
 }
 
 #[test]
 fn what_is_read_of_a_source(rt: HostRuntime) -> Result<(), Fail> {
+    let mut text = Vec::with_capacity(rt.alloc(), 4)?;
     let mut source = MemorySource::with_limits(b"ab\ntext\nmore\nlast", 3, 100);
     let mut input = Input::new();
     let mut line = Line::new();
-    assert!(rt; input.is_empty());
-    let end = input.read_line(&mut source, &mut line)?;
-    assert_eq!(rt; end, LineEnd::LineFeed);
-    assert!(rt; !end.is_last() && !end.is_too_long());
-    assert_eq!(rt; shown(line.as_slice()), "ab");
-    assert_eq!(rt; input.line_feeds(), 1);
-    let mut text = Vec::with_capacity(rt.alloc(), 4)?;
-    assert_eq!(rt; input.read_text(&mut source, 4, &mut text), Ok(true));
-    assert_eq!(rt; shown(text.as_slice()), "text");
-    assert_eq!(rt; input.skip_text(&mut source, 4), Ok(true));
-    assert_eq!(rt; input.line_feeds(), 3);
-    let end = input.read_line(&mut source, &mut line)?;
-    assert!(rt; end.is_last());
-    assert_eq!(rt; shown(line.as_slice()), "last");
-    assert_eq!(rt; input.skip_text(&mut source, 0), Ok(false));
+    let was_empty = input.is_empty();
+    let first = input.read_line(&mut source, &mut line)?;
+    assert_same(
+        &rt,
+        (was_empty, first, shown(line.as_slice()), input.line_feeds()),
+        (true, LineEnd::LineFeed, "ab", 1),
+    );
+    let read = input.read_text(&mut source, 4, &mut text)?;
+    assert_same(&rt, (read, shown(text.as_slice())), (true, "text"));
+    let skipped = input.skip_text(&mut source, 4)?;
+    assert_same(&rt, (skipped, input.line_feeds()), (true, 3));
+    let last = input.read_line(&mut source, &mut line)?;
+    assert_same(
+        &rt,
+        (last, shown(line.as_slice())),
+        (LineEnd::LastByte, "last"),
+    );
+    assert_same(&rt, input.skip_text(&mut source, 0)?, false);
     Ok(())
 }
 
 #[test]
 fn a_line_too_long(rt: HostRuntime) -> Result<(), Fail> {
-    let script = repeated(rt.alloc(), b'r', 5000)?;
+    let script = spelled(rt.alloc(), &[Piece::Run(b'r', 5000)])?;
     let mut source = MemorySource::new(script.as_slice());
     let mut input = Input::new();
     let mut line = Line::new();
-    let end = input.read_line(&mut source, &mut line)?;
-    assert!(rt; end.is_too_long());
-    assert!(rt; !end.is_last());
-    assert!(rt; !input.is_empty());
+    let end = input.read_line(&mut source, &mut line);
+    assert_same(&rt, (end, input.is_empty()), (Ok(LineEnd::TooLong), false));
     Ok(())
 }
 
 #[test]
 fn answers_of_one_line(rt: HostRuntime) {
     let mut sink = MemorySink::new(rt.alloc());
-    assert_eq!(rt; reply::write_end(&mut sink, 17), Ok(()));
-    assert_eq!(rt; reply::write_script_line(&mut sink, 0), Ok(()));
-    assert_eq!(rt; reply::write_script_line(&mut sink, u64::MAX), Ok(()));
-    assert_eq!(rt; reply::write_store_refusal(&mut sink, 31, b"7"), Ok(()));
-    assert_eq!(rt; reply::write_no_memory(&mut sink), Ok(()));
     let refusal: Refusal = Refusal::Memory;
-    assert_eq!(rt; reply::write_refusal(&mut sink, &refusal), Ok(()));
+    let written = [
+        reply::write_end(&mut sink, 17),
+        reply::write_script_line(&mut sink, 0),
+        reply::write_script_line(&mut sink, u64::MAX),
+        reply::write_store_refusal(&mut sink, 31, b"7"),
+        reply::write_no_memory(&mut sink),
+        reply::write_refusal(&mut sink, &refusal),
+    ];
     let want = "end 17\nscript 1\nscript 18446744073709551616\nrefused 31 7\n\
         refused 60 memory\nrefused 60 memory\n";
-    assert_eq!(rt; shown(sink.bytes()), want);
+    assert_same(&rt, (written, shown(sink.bytes())), ([Ok(()); 6], want));
 }
 
+// Texts that the module m gets one after the other.
+const TEXTS: &[&[u8]] = &[
+    b"(class p (use))(type a)(allow a a (p (use)))",
+    b"(type a)\n(type a)",
+    b"(type a",
+    b"",
+];
+
 #[test]
-fn answers_of_edits(rt: HostRuntime) -> Result<(), Fail> {
-    let alloc = rt.alloc();
-    let mut sink = MemorySink::new(alloc);
-    let mut engine = Plain::new(alloc);
-    for text in [
-        "(class p (use))(type a)(allow a a (p (use)))",
-        "(type a)\n(type a)",
-        "(type a",
-        "",
-    ] {
+fn answers_of_edits(rt: HostRuntime) {
+    let mut sink = MemorySink::new(rt.alloc());
+    let mut engine = Plain::new(rt.alloc());
+    for text in TEXTS {
         let edit = Edit::Install {
             name: b"m",
             priority: 400,
-            text: text.as_bytes(),
+            text,
         };
         let written = match engine.edit(edit) {
             Ok(changes) => reply::write_changes(&mut sink, &changes),
             Err(refusal) => reply::write_refusal(&mut sink, &refusal),
         };
-        assert_eq!(rt; written, Ok(()), "{text}");
+        assert_same(&rt, written, Ok(()));
     }
     let want = "ok 1 0\nrefused 41 m:2:7 a\nrefused 12 m:1:1 (\nok 0 1\n";
-    assert_eq!(rt; shown(sink.bytes()), want);
-    Ok(())
+    assert_same(&rt, shown(sink.bytes()), want);
 }

@@ -1,14 +1,18 @@
 //! Small policies by calls of `cil_names`: one that compiles, and some with a fault.
 
 ghost use Rattle.std.specs.Prelude.{◌≡◌, ◌+◌, ◌<◌, IsTrue, IfOk};
+ghost use Rattle.std.specs.List.{list_all};
 ghost use Rattle.cil_specs.specs.Next.{is_compiled};
 ghost use Rattle.cil_text.specs.Image.{statements_of};
+ghost use Rattle.cil_names.specs.Image.{modules_of};
 
-use crate::answers::shown;
+use crate::answers::{assert_same, shown};
+use crate::tables::assert_changes;
 use cil_names::{
-    Element, ElementView, Joined, NamedModule, PolicyFault, Resolved, resolve, resolve_types,
+    ClassView, Element, ElementView, Joined, NameView, NamedModule, PolicyFault, Resolved,
+    RuleView, resolve, resolve_types,
 };
-use cil_rules::{Changes, Table};
+use cil_rules::{Atom, Changes, Table};
 use cil_text::{MemorySink, Module, Place, RuleKind, Statement, Target, Word};
 use std::alloc::{AllocError, Global};
 use std::test::*;
@@ -95,14 +99,11 @@ fn rule<'a>(alloc: Global, target: &'a [u8], permission: &'a [u8]) -> Result<Mod
     Ok(Module { statements })
 }
 
-// The code, the module, the offset and the word of the fault of two modules m and n.
-fn fault_of<'a>(
-    alloc: Global,
-    m: Module<'a>,
-    n: Module<'a>,
-) -> Result<Option<(u8, &'a [u8], u32, &'a [u8])>, AllocError>
+// The modules m and n.
+fn joined<'a>(alloc: Global, m: Module<'a>, n: Module<'a>) -> Result<Joined<'a>, AllocError>
     requires m { IsTrue (is_compiled (statements_of m.statements.items)) }
     requires n { IsTrue (is_compiled (statements_of n.statements.items)) }
+    ensures { IfOk result (λ joined. IsTrue (list_all (λ m. is_compiled m.statements) (modules_of joined))) }
 {
     let modules = Vec::from_array(
         alloc,
@@ -117,7 +118,29 @@ fn fault_of<'a>(
             },
         ],
     )?;
-    Ok(match resolve(alloc, &Joined { modules }) {
+    Ok(Joined { modules })
+}
+
+// A class and a type, and a rule of this target and permission.
+fn with_rule(
+    alloc: Global,
+    target: &'static [u8],
+    permission: &'static [u8],
+) -> Result<Joined<'static>, AllocError>
+    ensures { IfOk result (λ joined. IsTrue (list_all (λ m. is_compiled m.statements) (modules_of joined))) }
+{
+    let front = class_and_type(alloc)?;
+    let rule = rule(alloc, target, permission)?;
+    joined(alloc, front, rule)
+}
+
+// A fault: its code, its module, its offset and its word.
+type Fault<'a> = Option<(u8, &'a str, u32, &'a str)>;
+
+fn fault_of<'a>(alloc: Global, joined: &Joined<'a>) -> Fault<'a>
+    requires { IsTrue (list_all (λ m. is_compiled m.statements) (modules_of joined.now)) }
+{
+    match resolve(alloc, joined) {
         Err(
             PolicyFault::Found {
                 kind,
@@ -125,100 +148,84 @@ fn fault_of<'a>(
                 at,
                 word,
             },
-        ) => Some((kind.code(), module, at.offset, word)),
+        ) => Some((kind.code(), shown(module), at.offset, shown(word))),
         _ => None,
-    })
+    }
 }
+
+// Targets and permissions of the rule, and the first fault.
+const RULES: &[(&str, &str, Fault<'static>)] = &[
+    ("c", "use", Some((42, "n", 9, "c"))),
+    ("a", "read", Some((42, "n", 15, "read"))),
+    ("a", "use", None),
+];
 
 #[test]
 fn finds_the_first_fault(rt: HostRuntime) -> Result<(), Fail> {
-    let alloc = rt.alloc();
-    let fault = fault_of(alloc, rule(alloc, b"c", b"use")?, twice(alloc)?)?;
-    assert!(rt; fault == Some((41, b"n".as_slice(), 14, b"b".as_slice())));
-    let fault = fault_of(alloc, class_and_type(alloc)?, rule(alloc, b"c", b"use")?)?;
-    assert!(rt; fault == Some((42, b"n".as_slice(), 9, b"c".as_slice())));
-    let fault = fault_of(alloc, class_and_type(alloc)?, rule(alloc, b"a", b"read")?)?;
-    assert!(rt; fault == Some((42, b"n".as_slice(), 15, b"read".as_slice())));
-    let fault = fault_of(alloc, class_and_type(alloc)?, rule(alloc, b"a", b"use")?)?;
-    assert!(rt; fault.is_none());
+    for (target, permission, want) in RULES {
+        let modules = with_rule(rt.alloc(), target.as_bytes(), permission.as_bytes())?;
+        assert_same(&rt, fault_of(rt.alloc(), &modules), *want);
+    }
+    Ok(())
+}
+
+#[test]
+fn finds_the_least_code(rt: HostRuntime) -> Result<(), Fail> {
+    let first = rule(rt.alloc(), b"c", b"use")?;
+    let second = twice(rt.alloc())?;
+    let modules = joined(rt.alloc(), first, second)?;
+    let found = fault_of(rt.alloc(), &modules);
+    assert_same(&rt, found, Some((41, "n", 14, "b")));
     Ok(())
 }
 
 // The accesses of one allow rule of a class and a type.
 fn table(alloc: Global) -> Result<Table, Fail> {
-    let modules = Vec::from_array(
-        alloc,
-        [
-            NamedModule {
-                name: b"m",
-                module: class_and_type(alloc)?,
-            },
-            NamedModule {
-                name: b"n",
-                module: rule(alloc, b"a", b"use")?,
-            },
-        ],
-    )?;
-    Ok(Table::of(alloc, resolve_types(alloc, &Joined { modules })?)?)
+    let modules = with_rule(alloc, b"a", b"use")?;
+    Ok(Table::of(alloc, resolve_types(alloc, &modules)?)?)
 }
 
 // (class p (use))(type a), and a rule of these.
 fn resolved(alloc: Global) -> Result<Resolved, Fail> {
-    let modules = Vec::from_array(
-        alloc,
-        [
-            NamedModule {
-                name: b"m",
-                module: class_and_type(alloc)?,
-            },
-            NamedModule {
-                name: b"n",
-                module: rule(alloc, b"a", b"use")?,
-            },
-        ],
-    )?;
-    Ok(resolve(alloc, &Joined { modules })?)
+    let modules = with_rule(alloc, b"a", b"use")?;
+    Ok(resolve(alloc, &modules)?)
+}
+
+// The module, the name and the offset of a type or an attribute.
+fn name_seen(view: Option<NameView<'_>>) -> Option<(&str, &str, u32)> {
+    let view = view?;
+    Some((shown(view.module), shown(view.name), view.at.offset))
+}
+
+// The name of a class, and how many permissions it has.
+fn class_seen(view: Option<ClassView<'_>>) -> Option<(&str, usize)> {
+    let view = view?;
+    Some((shown(view.name), view.permissions))
 }
 
 #[test]
 fn what_a_policy_resolves_to(rt: HostRuntime) -> Result<(), Fail> {
     let policy = resolved(rt.alloc())?;
-    assert_eq!(rt; (policy.types_len(), policy.attributes_len()), (1, 0));
-    assert_eq!(rt; (policy.classes_len(), policy.rules_len()), (1, 1));
-    let Some(a) = policy.type_at(0) else {
-        return Err(Fail::new("no type"));
-    };
-    assert_eq!(rt;
-        (shown(a.module), shown(a.name), a.at.offset),
-        ("m", "a", 15)
+    assert_same(
+        &rt,
+        [
+            policy.types_len(),
+            policy.attributes_len(),
+            policy.classes_len(),
+            policy.rules_len(),
+        ],
+        [1, 0, 1, 1],
     );
-    assert!(rt; policy.type_at(1).is_none());
-    assert!(rt; policy.attribute_at(0).is_none());
-    let Some(p) = policy.class_at(0) else {
-        return Err(Fail::new("no class"));
-    };
-    assert_eq!(rt; (shown(p.name), p.permissions), ("p", 1));
-    assert_eq!(rt; policy.class_permission(0, 0).map(shown), Some("use"));
-    Ok(())
-}
-
-#[test]
-fn a_rule_as_resolved(rt: HostRuntime) -> Result<(), Fail> {
-    let policy = resolved(rt.alloc())?;
-    let Some(found) = policy.rule_at(0) else {
-        return Err(Fail::new("no rule"));
-    };
-    assert_eq!(rt;
-        (shown(found.module), shown(found.class), found.permissions),
-        ("n", "p", 1)
+    let a = name_seen(policy.type_at(0));
+    assert_same(&rt, a, Some(("m", "a", 15)));
+    let others = (
+        name_seen(policy.type_at(1)),
+        name_seen(policy.attribute_at(0)),
     );
-    assert_eq!(rt; found.kind, RuleKind::Allow);
-    assert!(rt; is_type_a(found.source) && is_type_a(found.target));
-    assert_eq!(rt; policy.rule_permission(0, 0).map(shown), Some("use"));
-    // The names are a, p and use, and the rule's are numbers of these.
-    assert_eq!(rt; policy.rules().len(), 1);
-    assert_eq!(rt; policy.rules()[0].source, Element::Type(0));
-    assert_eq!(rt; policy.into_names().len(), 3);
+    assert_same(&rt, others, (None, None));
+    let p = class_seen(policy.class_at(0));
+    let used = policy.class_permission(0, 0).map(shown);
+    assert_same(&rt, (p, used), (Some(("p", 1)), Some("use")));
     Ok(())
 }
 
@@ -229,42 +236,71 @@ fn is_type_a(element: ElementView<'_>) -> bool {
     }
 }
 
+// A rule: its module, its kind, whether its source and its target are the type a, its class, and how many permissions it names.
+type Rule<'a> = (&'a str, RuleKind, bool, bool, &'a str, usize);
+
+fn rule_seen(view: Option<RuleView<'_>>) -> Option<Rule<'_>> {
+    let view = view?;
+    let source = is_type_a(view.source);
+    let target = is_type_a(view.target);
+    Some((
+        shown(view.module),
+        view.kind,
+        source,
+        target,
+        shown(view.class),
+        view.permissions,
+    ))
+}
+
+#[test]
+fn a_rule_as_resolved(rt: HostRuntime) -> Result<(), Fail> {
+    let policy = resolved(rt.alloc())?;
+    let want = ("n", RuleKind::Allow, true, true, "p", 1);
+    assert_same(&rt, rule_seen(policy.rule_at(0)), Some(want));
+    let used = policy.rule_permission(0, 0).map(shown);
+    assert_same(&rt, used, Some("use"));
+    // The names are a, p and use, and the rule's are numbers of these.
+    let [rule] = policy.rules() else {
+        return Err(Fail::new("not one rule"));
+    };
+    assert_same(&rt, rule.source, Element::Type(0));
+    assert_same(&rt, policy.into_names().len(), 3);
+    Ok(())
+}
+
+const ACCESS: Atom<'static> = Atom {
+    kind: RuleKind::Allow,
+    source: b"a",
+    target: b"a",
+    class: b"p",
+    permission: b"use",
+};
+
 #[test]
 fn the_table_of_a_policy(rt: HostRuntime) -> Result<(), Fail> {
-    let alloc = rt.alloc();
-    let table = table(alloc)?;
-    assert_eq!(rt; table.len(), 1);
-    assert!(rt; !table.is_empty());
-    let Some(atom) = table.get(0) else {
-        return Err(Fail::new("no access"));
-    };
-    assert_eq!(rt; atom.kind, RuleKind::Allow);
-    assert_eq!(rt; shown(atom.source), "a");
-    assert_eq!(rt; shown(atom.target), "a");
-    assert_eq!(rt; shown(atom.class), "p");
-    assert_eq!(rt; shown(atom.permission), "use");
-    assert!(rt; table.get(1).is_none());
-    assert_eq!(rt; table.rows(alloc)?.len(), 1);
-    let mut sink = MemorySink::new(alloc);
-    assert_eq!(rt; table.write_listing(&mut sink), Ok(1));
-    assert_eq!(rt; shown(sink.bytes()), "allow a a:p { use };\n");
+    let table = table(rt.alloc())?;
+    assert_same(&rt, (table.len(), table.is_empty()), (1, false));
+    assert_same(&rt, (table.get(0), table.get(1)), (Some(ACCESS), None));
+    assert_same(&rt, table.rows(rt.alloc())?.len(), 1);
+    let mut sink = MemorySink::new(rt.alloc());
+    let written = table.write_listing(&mut sink);
+    assert_same(
+        &rt,
+        (written, shown(sink.bytes())),
+        (Ok(1), "allow a a:p { use };\n"),
+    );
     Ok(())
 }
 
 #[test]
 fn changes_between_tables(rt: HostRuntime) -> Result<(), Fail> {
-    let alloc = rt.alloc();
-    let none = Table::empty(alloc);
-    assert_eq!(rt; none.len(), 0);
-    assert!(rt; none.is_empty());
-    let one = table(alloc)?;
-    let came = Changes::between(alloc, &none, &one)?;
-    assert_eq!(rt; (came.added_len(), came.removed_len()), (1, 0));
-    assert!(rt; came.added(0).is_some());
-    assert!(rt; came.removed(0).is_none());
-    let went = Changes::between(alloc, &one, &none)?;
-    assert_eq!(rt; (went.added_len(), went.removed_len()), (0, 1));
-    assert!(rt; went.added(0).is_none());
-    assert!(rt; went.removed(0).is_some());
+    let none = Table::empty(rt.alloc());
+    assert_same(&rt, (none.len(), none.is_empty()), (0, true));
+    let one = table(rt.alloc())?;
+    let came = Changes::between(rt.alloc(), &none, &one)?;
+    assert_changes(&rt, &came, &[("a", "a", "use")], &[]);
+    let went = Changes::between(rt.alloc(), &one, &none)?;
+    assert_changes(&rt, &went, &[], &[("a", "a", "use")]);
     Ok(())
 }

@@ -1,6 +1,6 @@
 //! Sources and sinks, by calls: over memory, and over the readers and writers of std.
 
-use crate::answers::{FIRST_ANSWER, FIRST_SCRIPT, shown};
+use crate::answers::{FIRST_ANSWER, FIRST_SCRIPT, assert_same, shown};
 use cil_program::script::session::{SessionFault, Status, session};
 use cil_store::Plain;
 use cil_text::{
@@ -9,41 +9,68 @@ use cil_text::{
 };
 use std::io;
 use std::io::{ErrorKind, Read, Write};
-use std::test::Fail;
+use std::process::Abort;
+
+// Calls of a source: the length of the buffer, how many bytes come, and a buffer of four dots behind the call.
+type Takes<'a> = &'a [(usize, Result<usize, SourceFault>, &'a str)];
+
+// Asserts what each call gives.
+fn assert_takes<S: Source>(rt: &impl Abort, source: &mut S, calls: Takes<'_>) {
+    for (len, want, text) in calls {
+        let mut buffer = [b'.'; 4];
+        let found = source.take(&mut buffer[..(*len).min(4)]);
+        assert_eq!(rt; (found, shown(&buffer)), (*want, *text));
+    }
+}
+
+const FROM_MEMORY: Takes<'static> = &[
+    (0, Ok(0), "...."),
+    (4, Ok(2), "ab.."),
+    (1, Ok(1), "c..."),
+    (3, Ok(2), "de.."),
+];
 
 #[test]
 fn a_source_over_memory(rt: HostRuntime) {
     let mut source = MemorySource::with_limits(b"abcdef", 2, 5);
-    let mut buffer = [b'.'; 4];
-    assert_eq!(rt; source.take(&mut buffer[..0]), Ok(0));
-    assert_eq!(rt; source.take(&mut buffer), Ok(2));
-    assert_eq!(rt; shown(&buffer), "ab..");
-    assert_eq!(rt; source.take(&mut buffer[..1]), Ok(1));
-    assert_eq!(rt; source.take(&mut buffer[1..]), Ok(2));
-    assert_eq!(rt; shown(&buffer), "cde.");
-    assert_eq!(rt; source.given(), 5);
-    assert_eq!(rt; source.take(&mut buffer), Err(SourceFault));
-    assert_eq!(rt; source.given(), 5);
+    assert_takes(&rt, &mut source, FROM_MEMORY);
+    assert_same(&rt, source.given(), 5);
+    assert_takes(&rt, &mut source, &[(4, Err(SourceFault), "....")]);
+    assert_same(&rt, source.given(), 5);
     let mut source = MemorySource::new(b"abc");
-    assert_eq!(rt; source.take(&mut buffer), Ok(3));
-    assert_eq!(rt; source.take(&mut buffer), Ok(0));
-    assert_eq!(rt; source.given(), 3);
+    assert_takes(&rt, &mut source, &[(4, Ok(3), "abc."), (4, Ok(0), "....")]);
+    assert_same(&rt, source.given(), 3);
 }
 
 #[test]
 fn a_sink_over_memory(rt: HostRuntime) {
     let mut sink = MemorySink::with_limits(rt.alloc(), 2, 5);
-    assert_eq!(rt; sink.put(b""), Ok(0));
-    assert_eq!(rt; sink.put(b"abc"), Ok(2));
-    assert_eq!(rt; write_all(&mut sink, b"cd"), Ok(()));
-    assert_eq!(rt; shown(sink.bytes()), "abcd");
-    assert_eq!(rt; write_pieces(&mut sink, &[b"", b"e", b"f"]), Err(SinkFault));
-    assert_eq!(rt; shown(sink.bytes()), "abcde");
-    assert_eq!(rt; sink.put(b"f"), Err(SinkFault));
+    let puts = (sink.put(b""), sink.put(b"abc"));
+    let all = write_all(&mut sink, b"cd");
+    assert_same(
+        &rt,
+        (puts, all, shown(sink.bytes())),
+        ((Ok(0), Ok(2)), Ok(()), "abcd"),
+    );
+    let pieces = write_pieces(&mut sink, &[b"", b"e", b"f"]);
+    let put = sink.put(b"f");
+    assert_same(
+        &rt,
+        (pieces, put, shown(sink.bytes())),
+        (Err(SinkFault), Err(SinkFault), "abcde"),
+    );
+}
+
+#[test]
+fn a_sink_over_memory_without_limits(rt: HostRuntime) {
     let mut sink = MemorySink::new(rt.alloc());
-    assert_eq!(rt; write_pieces(&mut sink, &[b"ab", b"", b"c"]), Ok(()));
-    assert_eq!(rt; sink.put(b"de"), Ok(2));
-    assert_eq!(rt; shown(sink.bytes()), "abcde");
+    let pieces = write_pieces(&mut sink, &[b"ab", b"", b"c"]);
+    let put = sink.put(b"de");
+    assert_same(
+        &rt,
+        (pieces, put, shown(sink.bytes())),
+        (Ok(()), Ok(2), "abcde"),
+    );
 }
 
 // A reader of memory, which fails once it gave so many bytes.
@@ -92,22 +119,18 @@ impl<'a> Write for Page<'a> {
 
 #[test]
 fn a_source_over_a_reader(rt: HostRuntime) {
+    let calls = [(4, Ok(4), "abcd"), (4, Ok(1), "e..."), (4, Ok(0), "....")];
     let mut source = ReaderSource::new(Tape {
         left: b"abcde",
         limit: 100,
     });
-    let mut buffer = [b'.'; 4];
-    assert_eq!(rt; source.take(&mut buffer), Ok(4));
-    assert_eq!(rt; shown(&buffer), "abcd");
-    assert_eq!(rt; source.take(&mut buffer), Ok(1));
-    assert_eq!(rt; shown(&buffer), "ebcd");
-    assert_eq!(rt; source.take(&mut buffer), Ok(0));
+    assert_takes(&rt, &mut source, &calls);
+    let calls = [(4, Ok(2), "ab.."), (4, Err(SourceFault), "....")];
     let mut source = ReaderSource::new(Tape {
         left: b"abcde",
         limit: 2,
     });
-    assert_eq!(rt; source.take(&mut buffer), Ok(2));
-    assert_eq!(rt; source.take(&mut buffer), Err(SourceFault));
+    assert_takes(&rt, &mut source, &calls);
 }
 
 #[test]
@@ -117,50 +140,38 @@ fn a_sink_over_a_writer(rt: HostRuntime) {
         written: &mut written,
         limit: 5,
     });
-    assert_eq!(rt; write_pieces(&mut sink, &[b"ab", b"cd"]), Ok(()));
-    assert_eq!(rt; sink.put(b""), Ok(0));
-    assert_eq!(rt; write_all(&mut sink, b"ef"), Err(SinkFault));
-    assert_eq!(rt; shown(written.as_slice()), "abcde");
+    let pieces = write_pieces(&mut sink, &[b"ab", b"cd"]);
+    let put = sink.put(b"");
+    let all = write_all(&mut sink, b"ef");
+    assert_same(
+        &rt,
+        (pieces, put, all, shown(written.as_slice())),
+        (Ok(()), Ok(0), Err(SinkFault), "abcde"),
+    );
 }
 
-#[test]
-fn a_session_over_a_reader_and_a_writer(rt: HostRuntime) {
-    let alloc = rt.alloc();
-    let mut written = Vec::new(alloc);
-    let mut source = ReaderSource::new(Tape {
-        left: FIRST_SCRIPT,
-        limit: 1000,
-    });
-    let mut sink = WriterSink::new(Page {
-        written: &mut written,
-        limit: 1000,
-    });
-    let mut engine = Plain::new(alloc);
-    let end = session(alloc, &mut source, &mut sink, &mut engine);
-    assert_eq!(rt; end, Ok(Status::Clean));
-    assert_eq!(rt; shown(written.as_slice()), FIRST_ANSWER);
-}
+// Limits of a reader and of a writer, and how a session over them ends and what it writes.
+const SESSIONS: &[(usize, usize, Result<Status, SessionFault>, &str)] = &[
+    (1000, 1000, Ok(Status::Clean), FIRST_ANSWER),
+    (92, 1000, Err(SessionFault::Read), "ok 2 0\n"),
+    (1000, 9, Err(SessionFault::Write), "ok 2 0\nal"),
+];
 
 #[test]
-fn a_reader_and_a_writer_that_fail(rt: HostRuntime) {
-    let alloc = rt.alloc();
-    for (read, write, want, fault) in [
-        (92, 1000, "ok 2 0\n", SessionFault::Read),
-        (1000, 9, "ok 2 0\nal", SessionFault::Write),
-    ] {
-        let mut written = Vec::new(alloc);
+fn sessions_over_a_reader_and_a_writer(rt: HostRuntime) {
+    for (read, write, want, text) in SESSIONS {
+        let mut written = Vec::new(rt.alloc());
         let mut source = ReaderSource::new(Tape {
             left: FIRST_SCRIPT,
-            limit: read,
+            limit: *read,
         });
         let mut sink = WriterSink::new(Page {
             written: &mut written,
-            limit: write,
+            limit: *write,
         });
-        let mut engine = Plain::new(alloc);
-        let end = session(alloc, &mut source, &mut sink, &mut engine);
-        assert_eq!(rt; end, Err(fault));
-        assert_eq!(rt; shown(written.as_slice()), want);
+        let mut engine = Plain::new(rt.alloc());
+        let end = session(rt.alloc(), &mut source, &mut sink, &mut engine);
+        assert_same(&rt, (end, shown(written.as_slice())), (*want, *text));
     }
 }
 
@@ -169,7 +180,8 @@ fn a_reader_and_a_writer_that_fail(rt: HostRuntime) {
 fn sources_and_sinks_over_the_streams_of_the_process(rt: HostRuntime) {
     let mut source = ReaderSource::new(rt.reader());
     let mut nothing = [0; 0];
-    assert_eq!(rt; source.take(&mut nothing), Ok(0));
+    let taken = source.take(&mut nothing);
     let mut sink = WriterSink::new(io::writer(&rt));
-    assert_eq!(rt; sink.put(b""), Ok(0));
+    let put = sink.put(b"");
+    assert_same(&rt, (taken, put), (Ok(0), Ok(0)));
 }

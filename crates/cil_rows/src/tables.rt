@@ -1,6 +1,6 @@
 //! Tables of accesses, their changes and their rows, by calls.
 
-use crate::answers::shown;
+use crate::answers::{assert_same, shown};
 use cil_rules::{Atom, Changes, Row, Rows, write_row_line};
 use cil_store::{Compiled, Edit, Plain, Refusal};
 use cil_text::{MemorySink, RuleKind, SinkFault};
@@ -28,11 +28,11 @@ fn rows_of(alloc: Global, text: &[u8]) -> Result<Rows, Fail> {
     Ok(engine.rows()?)
 }
 
-fn atom(
-    source: &'static str,
-    target: &'static str,
-    permission: &'static str,
-) -> Option<Atom<'static>> {
+/// An access of the class p: its source, its target and its permission.
+pub type Access = (&'static str, &'static str, &'static str);
+
+fn atom(access: Option<&Access>) -> Option<Atom<'static>> {
+    let (source, target, permission) = access?;
     Some(Atom {
         kind: RuleKind::Allow,
         source: source.as_bytes(),
@@ -42,74 +42,108 @@ fn atom(
     })
 }
 
+/// Asserts which accesses came and went, and that there are no more.
+pub fn assert_changes(rt: &impl Abort, changes: &Changes, added: &[Access], removed: &[Access]) {
+    let found = (changes.added_len(), changes.removed_len());
+    assert_same(rt, found, (added.len(), removed.len()));
+    for i in 0..4 {
+        let found = (changes.added(i), changes.removed(i));
+        assert_same(rt, found, (atom(added.get(i)), atom(removed.get(i))));
+    }
+}
+
 #[test]
 fn changes_by_place(rt: HostRuntime) -> Result<(), Fail> {
     let mut engine = Plain::new(rt.alloc());
+    let (see, used, back) = (("a", "b", "see"), ("a", "b", "use"), ("b", "a", "use"));
     let changes = install(&mut engine, TEXT)?;
-    assert_eq!(rt; (changes.added_len(), changes.removed_len()), (3, 0));
-    assert!(rt; changes.added(0) == atom("a", "b", "see"));
-    assert!(rt; changes.added(1) == atom("a", "b", "use"));
-    assert!(rt; changes.added(2) == atom("b", "a", "use"));
-    assert!(rt; changes.added(3).is_none());
-    assert!(rt; changes.removed(0).is_none());
+    assert_changes(&rt, &changes, &[see, used, back], &[]);
     let text = b"(class p (use see))(type a)(type b)(allow b a (p (see use)))";
     let changes = install(&mut engine, text)?;
-    assert_eq!(rt; (changes.added_len(), changes.removed_len()), (1, 2));
-    assert!(rt; changes.added(0) == atom("b", "a", "see"));
-    assert!(rt; changes.removed(0) == atom("a", "b", "see"));
-    assert!(rt; changes.removed(1) == atom("a", "b", "use"));
-    assert!(rt; changes.removed(2).is_none());
+    assert_changes(&rt, &changes, &[("b", "a", "see")], &[see, used]);
     Ok(())
 }
 
 // Asserts the names of a row of the class p.
 fn assert_row(rt: &impl Abort, row: &Row<'_>, source: &str, target: &str, permissions: &[&str]) {
-    assert_eq!(rt; row.kind, RuleKind::Allow);
-    assert_eq!(rt; shown(row.source), source);
-    assert_eq!(rt; shown(row.target), target);
-    assert_eq!(rt; shown(row.class), "p");
-    assert_eq!(rt; row.permissions.len(), permissions.len());
-    assert_eq!(rt; row.permissions.is_empty(), permissions.is_empty());
-    for (i, permission) in permissions.iter().enumerate() {
-        let found = row.permissions.get(i).unwrap_or(b"");
-        assert_eq!(rt; shown(found), *permission);
+    assert_same(
+        rt,
+        (
+            row.kind,
+            shown(row.source),
+            shown(row.target),
+            shown(row.class),
+        ),
+        (RuleKind::Allow, source, target, "p"),
+    );
+    assert_same(
+        rt,
+        (row.permissions.len(), row.permissions.is_empty()),
+        (permissions.len(), permissions.is_empty()),
+    );
+    for i in 0..3 {
+        let found = row.permissions.get(i).map(shown);
+        assert_same(rt, found, permissions.get(i).copied());
     }
-    assert!(rt; row.permissions.get(permissions.len()).is_none());
 }
 
 #[test]
 fn rows_by_place(rt: HostRuntime) -> Result<(), Fail> {
     let rows = rows_of(rt.alloc(), TEXT)?;
-    assert_eq!(rt; rows.len(), 2);
-    assert!(rt; !rows.is_empty());
     let (Some(first), Some(second)) = (rows.get(0), rows.get(1)) else {
         return Err(Fail::new("no two rows"));
     };
     assert_row(&rt, &first, "a", "b", &["see", "use"]);
     assert_row(&rt, &second, "b", "a", &["use"]);
-    assert!(rt; rows.get(2).is_none());
-    assert!(rt; rows_of(rt.alloc(), b"(type a)")?.is_empty());
+    assert_same(
+        &rt,
+        (rows.len(), rows.is_empty(), rows.get(2).is_none()),
+        (2, false, true),
+    );
     Ok(())
 }
 
 #[test]
+fn a_text_without_rows(rt: HostRuntime) -> Result<(), Fail> {
+    let rows = rows_of(rt.alloc(), b"(type a)")?;
+    assert_same(&rt, rows.is_empty(), true);
+    Ok(())
+}
+
+// What a sink takes a call and in all, how the rows are written to it, and the bytes it has.
+const WRITTEN: &[(usize, usize, Result<usize, SinkFault>, &str)] = &[
+    (
+        1000,
+        1000,
+        Ok(2),
+        "allow a b:p { see use };\nallow b a:p { use };\n",
+    ),
+    (3, 30, Err(SinkFault), "allow a b:p { see use };\nallow"),
+];
+
+#[test]
 fn written_rows(rt: HostRuntime) -> Result<(), Fail> {
-    let alloc = rt.alloc();
-    let rows = rows_of(alloc, TEXT)?;
-    let mut sink = MemorySink::new(alloc);
-    assert_eq!(rt; rows.write(&mut sink), Ok(2));
-    assert_eq!(rt;
-        shown(sink.bytes()),
-        "allow a b:p { see use };\nallow b a:p { use };\n"
-    );
-    let mut sink = MemorySink::with_limits(alloc, 3, 30);
-    assert_eq!(rt; rows.write(&mut sink), Err(SinkFault));
-    assert_eq!(rt; shown(sink.bytes()), "allow a b:p { see use };\nallow");
+    let rows = rows_of(rt.alloc(), TEXT)?;
+    for (greatest, limit, want, text) in WRITTEN {
+        let mut sink = MemorySink::with_limits(rt.alloc(), *greatest, *limit);
+        let found = rows.write(&mut sink);
+        assert_same(&rt, (found, shown(sink.bytes())), (*want, *text));
+    }
+    Ok(())
+}
+
+#[test]
+fn the_line_of_a_row(rt: HostRuntime) -> Result<(), Fail> {
+    let rows = rows_of(rt.alloc(), TEXT)?;
     let Some(second) = rows.get(1) else {
         return Err(Fail::new("no second row"));
     };
-    let mut sink = MemorySink::new(alloc);
-    assert_eq!(rt; write_row_line(&mut sink, &second), Ok(()));
-    assert_eq!(rt; shown(sink.bytes()), "allow b a:p { use };\n");
+    let mut sink = MemorySink::new(rt.alloc());
+    let written = write_row_line(&mut sink, &second);
+    assert_same(
+        &rt,
+        (written, shown(sink.bytes())),
+        (Ok(()), "allow b a:p { use };\n"),
+    );
     Ok(())
 }

@@ -1,52 +1,60 @@
 //! Texts that are read and recognised, by calls.
 
+use crate::answers::{assert_same, shown};
 use cil_text::{
     Expr, RuleKind, ShownWord, Statement, Target, TextFault, TextFaultKind, Tree, Word, read, shape,
 };
 use std::process::Abort;
 use std::test::Fail;
 
-// Asserts the text of a word, and where it begins.
-fn assert_word(rt: &impl Abort, word: &Word<'_>, text: &str, offset: u32) {
-    assert!(rt; word.text == text.as_bytes(), "{text}");
-    assert_eq!(rt; word.at.offset, offset, "{text}");
+// The text of a word, and where it begins.
+fn seen<'a>(word: &Word<'a>) -> (&'a str, u32) {
+    (shown(word.text), word.at.offset)
 }
 
-// Asserts the place of a list, its end, and how many trees it has.
-fn assert_list(rt: &impl Abort, tree: &Tree<'_>, offset: u32, line: u32, end: u32, len: usize) {
+// A tree: its form, the text of a word or a string, its place by the offset and the line, and the end of a list and how many
+// trees it has.
+type Shape<'a> = (&'static str, &'a str, u32, u32, u32, usize);
+
+fn tree_seen<'a>(tree: &Tree<'a>) -> Shape<'a> {
     match tree {
-        Tree::List {
-            at,
-            end: found,
-            items,
-        } => {
-            assert_eq!(rt; (at.offset, at.line, *found), (offset, line, end));
-            assert_eq!(rt; items.len(), len);
-        }
-        _ => assert!(rt; false, "no list"),
+        Tree::Word(word) => ("word", shown(word.text), word.at.offset, word.at.line, 0, 0),
+        Tree::String(word) => (
+            "string",
+            shown(word.text),
+            word.at.offset,
+            word.at.line,
+            0,
+            0,
+        ),
+        Tree::List { at, end, items } => ("list", "", at.offset, at.line, *end, items.len()),
     }
 }
+
+// Asserts the trees of a list.
+fn assert_trees(rt: &impl Abort, trees: &[Tree<'_>], want: &[Shape<'_>]) {
+    assert_same(rt, trees.len(), want.len());
+    for i in 0..want.len() {
+        assert_same(rt, trees.get(i).map(tree_seen), want.get(i).copied());
+    }
+}
+
+const TREES: &[Shape<'static>] = &[("list", "", 0, 1, 14, 3), ("list", "", 19, 3, 21, 0)];
+
+const OF_FIRST: &[Shape<'static>] = &[
+    ("word", "a", 1, 1, 0, 0),
+    ("string", "\"b c\"", 3, 1, 0, 0),
+    ("list", "", 10, 2, 13, 1),
+];
 
 #[test]
 fn trees_of_a_text(rt: HostRuntime) -> Result<(), Fail> {
     let forest = read(rt.alloc(), b"(a \"b c\"\n (d)) ; e\n()")?;
-    let [first, second] = forest.trees.as_slice() else {
-        return Err(Fail::new("not two trees"));
-    };
-    assert_list(&rt, first, 0, 1, 14, 3);
-    assert_list(&rt, second, 19, 3, 21, 0);
-    let Tree::List { items, .. } = first else {
+    assert_trees(&rt, forest.trees.as_slice(), TREES);
+    let Some(Tree::List { items, .. }) = forest.trees.get(0) else {
         return Err(Fail::new("no list"));
     };
-    let [word, string, list] = items.as_slice() else {
-        return Err(Fail::new("not three trees"));
-    };
-    let (Tree::Word(word), Tree::String(string)) = (word, string) else {
-        return Err(Fail::new("no word and string"));
-    };
-    assert_word(&rt, word, "a", 1);
-    assert_word(&rt, string, "\"b c\"", 3);
-    assert_list(&rt, list, 10, 2, 13, 1);
+    assert_trees(&rt, items.as_slice(), OF_FIRST);
     Ok(())
 }
 
@@ -77,46 +85,52 @@ fn form<'a>(statement: &Statement<'a>) -> (&'static str, Option<Word<'a>>) {
     }
 }
 
-// Asserts the form of a statement, and the first name in it.
-fn assert_form(rt: &impl Abort, statement: &Statement<'_>, want: &str, text: &str, offset: u32) {
-    let (found, word) = form(statement);
-    assert_eq!(rt; found, want);
-    match word {
-        Some(word) => assert_word(rt, &word, text, offset),
-        None => assert!(rt; false, "no name"),
+// The form of a statement, and its first name with the place of it.
+type Form<'a> = (&'static str, Option<(&'a str, u32)>);
+
+fn form_seen<'a>(statement: &Statement<'a>) -> Form<'a> {
+    let (form, word) = form(statement);
+    let Some(word) = word else {
+        return (form, None);
+    };
+    (form, Some(seen(&word)))
+}
+
+// Asserts the forms of statements, and their first names.
+fn assert_forms(rt: &impl Abort, statements: &[Statement<'_>], want: &[Form<'_>]) {
+    assert_same(rt, statements.len(), want.len());
+    for i in 0..want.len() {
+        assert_same(rt, statements.get(i).map(form_seen), want.get(i).copied());
     }
 }
 
+const TEXT: &[u8] =
+    b"(block a)(optional b)(type c)(typealias d)(typealiasactual e f)(typeattribute g)\n\
+    (typeattributeset h all)(common i ())(class j ())(classcommon k l)(classorder (unordered m))\n\
+    (allow n o (p ()))(auditallow .q r (s ()))(dontaudit t.u v (w ()))(neverallow x y (z ()))";
+
+const FORMS: &[Form<'static>] = &[
+    ("block", Some(("a", 7))),
+    ("optional", Some(("b", 19))),
+    ("type", Some(("c", 27))),
+    ("typealias", Some(("d", 40))),
+    ("typealiasactual", Some(("e", 59))),
+    ("typeattribute", Some(("g", 78))),
+    ("typeattributeset", Some(("h", 99))),
+    ("common", Some(("i", 113))),
+    ("class", Some(("j", 125))),
+    ("classcommon", Some(("k", 143))),
+    ("classorder", Some(("m", 170))),
+    ("allow", Some(("n", 181))),
+    ("auditallow", Some((".q", 204))),
+    ("dontaudit", Some(("t.u", 227))),
+    ("neverallow", Some(("x", 252))),
+];
+
 #[test]
 fn a_statement_of_each_form(rt: HostRuntime) -> Result<(), Fail> {
-    let text = b"(block a)(optional b)(type c)(typealias d)(typealiasactual e f)(typeattribute g)\n\
-        (typeattributeset h all)(common i ())(class j ())(classcommon k l)(classorder (unordered m))\n\
-        (allow n o (p ()))(auditallow .q r (s ()))(dontaudit t.u v (w ()))(neverallow x y (z ()))";
-    let module = shape(rt.alloc(), read(rt.alloc(), text)?)?;
-    let wanted = [
-        ("block", "a", 7),
-        ("optional", "b", 19),
-        ("type", "c", 27),
-        ("typealias", "d", 40),
-        ("typealiasactual", "e", 59),
-        ("typeattribute", "g", 78),
-        ("typeattributeset", "h", 99),
-        ("common", "i", 113),
-        ("class", "j", 125),
-        ("classcommon", "k", 143),
-        ("classorder", "m", 170),
-        ("allow", "n", 181),
-        ("auditallow", ".q", 204),
-        ("dontaudit", "t.u", 227),
-        ("neverallow", "x", 252),
-    ];
-    assert_eq!(rt; module.statements.len(), wanted.len());
-    for (i, (want, text, offset)) in wanted.iter().enumerate() {
-        match module.statements.get(i) {
-            Some(statement) => assert_form(&rt, statement, want, text, *offset),
-            None => assert!(rt; false, "no {want}"),
-        }
-    }
+    let module = shape(rt.alloc(), read(rt.alloc(), TEXT)?)?;
+    assert_forms(&rt, module.statements.as_slice(), FORMS);
     Ok(())
 }
 
@@ -137,61 +151,61 @@ fn the_names_of_a_rule(rt: HostRuntime) -> Result<(), Fail> {
     else {
         return Err(Fail::new("no rule"));
     };
-    assert_eq!(rt; (at.offset, at.line, at.column), (0, 1, 1));
-    assert_word(&rt, source, "a", 7);
-    assert_word(&rt, target, "b", 9);
-    assert_word(&rt, class, "c", 12);
-    assert_eq!(rt; permissions.len(), 2);
-    assert_word(&rt, &permissions[0], "d", 15);
-    assert_word(&rt, &permissions[1], "e", 17);
+    let [first, second] = permissions.as_slice() else {
+        return Err(Fail::new("not two permissions"));
+    };
+    assert_same(&rt, (at.offset, at.line, at.column), (0, 1, 1));
+    assert_same(
+        &rt,
+        [
+            seen(source),
+            seen(target),
+            seen(class),
+            seen(first),
+            seen(second),
+        ],
+        [("a", 7), ("b", 9), ("c", 12), ("d", 15), ("e", 17)],
+    );
     Ok(())
 }
 
 #[test]
 fn a_rule_to_itself(rt: HostRuntime) -> Result<(), Fail> {
     let module = shape(rt.alloc(), read(rt.alloc(), b"(auditallow a self (c ()))")?)?;
-    assert!(rt;
-        matches!(
-            module.statements.get(0),
-            Some(Statement::Rule {
-                target: Target::Itself,
-                ..
-            })
-        )
-    );
+    let Some(Statement::Rule { target, .. }) = module.statements.get(0) else {
+        return Err(Fail::new("no rule"));
+    };
+    assert_same(&rt, matches!(target, Target::Itself), true);
     Ok(())
 }
+
+// The second names of a statement: the last of them, and how many there are.
+fn second_names<'a>(statement: &Statement<'a>) -> (usize, Option<(&'a str, u32)>) {
+    match statement {
+        Statement::TypeAliasActual { actual, .. } => (1, Some(seen(actual))),
+        Statement::ClassCommon { common, .. } => (1, Some(seen(common))),
+        Statement::Common { permissions, .. } | Statement::Class { permissions, .. } => {
+            (permissions.len(), permissions.last().map(seen))
+        }
+        _ => (0, None),
+    }
+}
+
+const SECOND_NAMES: &[(usize, Option<(&str, u32)>)] = &[
+    (1, Some(("b", 19))),
+    (1, Some((".d", 36))),
+    (1, Some(("f", 50))),
+    (2, Some(("i", 65))),
+];
 
 #[test]
 fn the_second_names_of_statements(rt: HostRuntime) -> Result<(), Fail> {
     let text = b"(typealiasactual a b)(classcommon c .d)(common e (f))(class g (h i))";
     let module = shape(rt.alloc(), read(rt.alloc(), text)?)?;
-    let [first, second, third, fourth] = module.statements.as_slice() else {
-        return Err(Fail::new("not four statements"));
-    };
-    let (Statement::TypeAliasActual { actual, .. }, Statement::ClassCommon { common, .. }) = (
-        first, second,
-    ) else {
-        return Err(Fail::new("other statements"));
-    };
-    assert_word(&rt, actual, "b", 19);
-    assert_word(&rt, common, ".d", 36);
-    let (
-        Statement::Common {
-            permissions: of_e,
-            ..
-        },
-        Statement::Class {
-            permissions: of_g,
-            ..
-        },
-    ) = (third, fourth)
-    else {
-        return Err(Fail::new("other statements"));
-    };
-    assert_eq!(rt; (of_e.len(), of_g.len()), (1, 2));
-    assert_word(&rt, &of_e[0], "f", 50);
-    assert_word(&rt, &of_g[1], "i", 65);
+    for i in 0..5 {
+        let found = module.statements.get(i).map(second_names);
+        assert_same(&rt, found, SECOND_NAMES.get(i).copied());
+    }
     Ok(())
 }
 
@@ -199,29 +213,28 @@ fn the_second_names_of_statements(rt: HostRuntime) -> Result<(), Fail> {
 fn statements_within_statements(rt: HostRuntime) -> Result<(), Fail> {
     let text = b"(block a (optional b (type c)) (type d))";
     let module = shape(rt.alloc(), read(rt.alloc(), text)?)?;
-    let Some(Statement::Block { body, .. }) = module.statements.get(0) else {
+    let Some(Statement::Block { body: outer, .. }) = module.statements.get(0) else {
         return Err(Fail::new("no block"));
     };
-    let [first, second] = body.as_slice() else {
-        return Err(Fail::new("not two statements"));
-    };
-    assert_form(&rt, first, "optional", "b", 19);
-    assert_form(&rt, second, "type", "d", 37);
-    let Statement::Optional { body, .. } = first else {
+    let want = [("optional", Some(("b", 19))), ("type", Some(("d", 37)))];
+    assert_forms(&rt, outer.as_slice(), &want);
+    let Some(Statement::Optional { body: inner, .. }) = outer.get(0) else {
         return Err(Fail::new("no optional"));
     };
-    let [inner] = body.as_slice() else {
-        return Err(Fail::new("not one statement"));
-    };
-    assert_form(&rt, inner, "type", "c", 27);
+    assert_forms(&rt, inner.as_slice(), &[("type", Some(("c", 27)))]);
     Ok(())
 }
 
-// Asserts that an expression is this name.
-fn assert_name(rt: &impl Abort, expr: &Expr<'_>, text: &str, offset: u32) {
+// The operator of an expression, and the name that it is.
+fn operator<'a>(expr: &Expr<'a>) -> (&'static str, Option<(&'a str, u32)>) {
     match expr {
-        Expr::Name(word) => assert_word(rt, word, text, offset),
-        _ => assert!(rt; false, "no name"),
+        Expr::All => ("all", None),
+        Expr::Name(word) => ("name", Some(seen(word))),
+        Expr::Not(_) => ("not", None),
+        Expr::And(_, _) => ("and", None),
+        Expr::Or(_, _) => ("or", None),
+        Expr::Xor(_, _) => ("xor", None),
+        Expr::Union(_) => ("union", None),
     }
 }
 
@@ -238,66 +251,51 @@ fn an_expression_with_each_operator(rt: HostRuntime) -> Result<(), Fail> {
     let (Expr::Or(b, all), Expr::Xor(not, union)) = (&**or, &**xor) else {
         return Err(Fail::new("no or and xor"));
     };
-    assert_name(&rt, b, "b", 29);
-    assert!(rt; matches!(&**all, Expr::All));
+    assert_same(
+        &rt,
+        [operator(b), operator(all)],
+        [("name", Some(("b", 29))), ("all", None)],
+    );
     let (Expr::Not(c), Expr::Union(elements)) = (&**not, &**union) else {
         return Err(Fail::new("no not and union"));
     };
-    assert_name(&rt, c, "c", 46);
+    assert_same(&rt, operator(c), ("name", Some(("c", 46))));
     let [every, d] = elements.as_slice() else {
         return Err(Fail::new("not two elements"));
     };
-    assert!(rt; matches!(every, Expr::All));
-    assert_name(&rt, d, "d", 56);
+    assert_same(
+        &rt,
+        [operator(every), operator(d)],
+        [("all", None), ("name", Some(("d", 56)))],
+    );
     Ok(())
 }
 
-#[test]
-fn codes_of_text_faults(rt: HostRuntime) {
-    for (kind, code) in [
-        (TextFaultKind::BadByte, 10),
-        (TextFaultKind::Unbalanced, 11),
-        (TextFaultKind::Unclosed, 12),
-        (TextFaultKind::UnclosedString, 13),
-        (TextFaultKind::TooDeep, 14),
-        (TextFaultKind::BareWord, 15),
-        (TextFaultKind::Unsupported, 20),
-        (TextFaultKind::Misshapen, 21),
-        (TextFaultKind::BadName, 22),
-        (TextFaultKind::Reserved, 23),
-        (TextFaultKind::NotInOptional, 24),
-    ] {
-        assert_eq!(rt; kind.code(), code);
+// A fault: its kind, its place by the offset, the line and the column, and the byte or the word that shows it.
+type Fault<'a> = (TextFaultKind, (u32, u32, u32), u8, &'a str);
+
+fn fault_seen<T: Drop>(read: Result<T, TextFault<'_>>) -> Option<Fault<'_>> {
+    match read {
+        Err(TextFault::Found { kind, at, word }) => {
+            let (byte, text) = match word {
+                ShownWord::Byte(byte) => (byte, ""),
+                ShownWord::Text(text) => (0, shown(text)),
+            };
+            Some((kind, (at.offset, at.line, at.column), byte, text))
+        }
+        _ => None,
     }
 }
 
 #[test]
 fn faults_by_calls(rt: HostRuntime) -> Result<(), Fail> {
-    let alloc = rt.alloc();
-    let Err(
-        TextFault::Found {
-            kind,
-            at,
-            word: ShownWord::Byte(byte),
-        },
-    ) = read(alloc, b"\n(\x01)")
-    else {
-        return Err(Fail::new("no bad byte"));
-    };
-    assert_eq!(rt; (kind, byte), (TextFaultKind::BadByte, 1));
-    assert_eq!(rt; (at.offset, at.line, at.column), (2, 2, 2));
-    let Err(
-        TextFault::Found {
-            kind,
-            at,
-            word: ShownWord::Text(word),
-        },
-    ) = shape(alloc, read(alloc, b"(type all)")?)
-    else {
-        return Err(Fail::new("no reserved name"));
-    };
-    assert_eq!(rt; kind, TextFaultKind::Reserved);
-    assert_eq!(rt; at.offset, 6);
-    assert!(rt; word == b"all".as_slice());
+    let found = fault_seen(read(rt.alloc(), b"\n(\x01)"));
+    assert_same(&rt, found, Some((TextFaultKind::BadByte, (2, 2, 2), 1, "")));
+    let found = fault_seen(shape(rt.alloc(), read(rt.alloc(), b"(type all)")?));
+    assert_same(
+        &rt,
+        found,
+        Some((TextFaultKind::Reserved, (6, 1, 7), 0, "all")),
+    );
     Ok(())
 }
