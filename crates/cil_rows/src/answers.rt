@@ -3,10 +3,9 @@
 use cil_program::script::session::{Status, session};
 use cil_store::Plain;
 use cil_text::{MemorySink, MemorySource};
-use std::alloc::{AllocError, Global};
+use std::alloc::Global;
 use std::fmt::Debug;
 use std::process::Abort;
-use std::test::Fail;
 
 /// The script of the first listing, and its answer.
 pub const FIRST_SCRIPT: &[u8] =
@@ -42,42 +41,34 @@ pub fn assert_each(rt: &impl Abort, alloc: Global, scripts: &[&[u8]], want: &str
 }
 
 /// Asserts the one line that answers an install of the module m with this text, in an empty store.
-pub fn assert_install(rt: &impl Abort, alloc: Global, text: &[u8], want: &str) -> Result<(), Fail> {
+pub fn assert_install(rt: &impl Abort, alloc: Global, text: &[u8], want: &str) {
     let status = if want.starts_with("ok ") {
         Status::Clean
     } else {
         Status::Refused
     };
     let mut script = Vec::new(alloc);
-    push_install(alloc, &mut script, "m", text)?;
+    push_install(rt, alloc, &mut script, "m", text);
     assert_answer(rt, alloc, script.as_slice(), want, status);
-    Ok(())
 }
 
 /// Asserts the one line that answers an install of the module m, for each text of a table.
-pub fn assert_installs(
-    rt: &impl Abort,
-    alloc: Global,
-    cases: &[(&[u8], &str)],
-) -> Result<(), Fail> {
+pub fn assert_installs(rt: &impl Abort, alloc: Global, cases: &[(&[u8], &str)]) {
     for (text, want) in cases {
-        assert_install(rt, alloc, text, want)?;
+        assert_install(rt, alloc, text, want);
     }
-    Ok(())
 }
 
-fn push_install(
-    alloc: Global,
-    script: &mut Vec<u8>,
-    name: &str,
-    text: &[u8],
-) -> Result<(), AllocError> {
+fn push_install(rt: &impl Abort, alloc: Global, script: &mut Vec<u8>, name: &str, text: &[u8]) {
     let len = text.len();
-    let line = format!(in alloc; "install {name} 400 {len}\n")?;
-    script.extend_from_slice(line.as_bytes())?;
-    script.extend_from_slice(text)?;
-    script.push(b'\n')?;
-    Ok(())
+    let line = format!(in alloc; "install {name} 400 {len}\n").expect(rt, "memory");
+    push(rt, script, line.as_bytes());
+    push(rt, script, text);
+    push(rt, script, b"\n");
+}
+
+fn push(rt: &impl Abort, script: &mut Vec<u8>, piece: &[u8]) {
+    script.extend_from_slice(piece).expect(rt, "memory");
 }
 
 /// A command of a script: an install of a module with a text, or the question for the listing.
@@ -91,25 +82,19 @@ pub enum Command<'a> {
 pub type Dialogue<'a> = &'a [(Command<'a>, &'a str)];
 
 // Asserts what a session with an empty store answers to each of the commands.
-fn assert_dialogue(
-    rt: &impl Abort,
-    alloc: Global,
-    dialogue: Dialogue<'_>,
-    status: Status,
-) -> Result<(), AllocError> {
+fn assert_dialogue(rt: &impl Abort, alloc: Global, dialogue: Dialogue<'_>, status: Status) {
     let mut script = Vec::new(alloc);
     let mut want = String::new(alloc);
     for (command, answer) in dialogue {
         match *command {
             Command::Install(name, text) => {
-                push_install(alloc, &mut script, name, text.as_bytes())?;
+                push_install(rt, alloc, &mut script, name, text.as_bytes());
             }
-            Command::Rules => script.extend_from_slice(b"rules\n")?,
+            Command::Rules => push(rt, &mut script, b"rules\n"),
         }
-        want.push_str(answer)?;
+        want.push_str(answer).expect(rt, "memory");
     }
     assert_answer(rt, alloc, script.as_slice(), want.as_str(), status);
-    Ok(())
 }
 
 /// Asserts what a session with an empty store answers to each of the commands, for each dialogue of a table.
@@ -118,11 +103,10 @@ pub fn assert_dialogues(
     alloc: Global,
     dialogues: &[Dialogue<'_>],
     status: Status,
-) -> Result<(), AllocError> {
+) {
     for dialogue in dialogues {
-        assert_dialogue(rt, alloc, dialogue, status)?;
+        assert_dialogue(rt, alloc, dialogue, status);
     }
-    Ok(())
 }
 
 /// A piece of a long text: a text, or one byte so many times.
@@ -133,17 +117,18 @@ pub enum Piece<'a> {
 }
 
 /// Pieces one after the other.
-pub fn spelled(alloc: Global, pieces: &[Piece<'_>]) -> Result<Vec<u8>, AllocError> {
+pub fn spelled(rt: &impl Abort, alloc: Global, pieces: &[Piece<'_>]) -> Vec<u8> {
     let mut text = Vec::new(alloc);
     for piece in pieces {
         match *piece {
-            Piece::Text(piece) => text.extend_from_slice(piece.as_bytes())?,
+            Piece::Text(piece) => push(rt, &mut text, piece.as_bytes()),
             Piece::Run(byte, count) => {
-                text.extend_from_slice(vec![in alloc; byte; count]?.as_slice())?;
+                let run = vec![in alloc; byte; count].expect(rt, "memory");
+                push(rt, &mut text, run.as_slice());
             }
         }
     }
-    Ok(text)
+    text
 }
 
 /// The bytes of an answer as text.

@@ -4,7 +4,7 @@ use crate::answers::{FIRST_ANSWER, FIRST_SCRIPT, Piece, assert_same, shown, spel
 use cil_program::script::session::{SessionFault, Status, session};
 use cil_store::{Compiled, Plain};
 use cil_text::{MemorySink, MemorySource};
-use std::alloc::{AllocError, Global};
+use std::alloc::Global;
 use std::process::Abort;
 
 // How much devices give and take: the source a call and in all, and the sink a call and in all.
@@ -129,8 +129,8 @@ fn pieces_behind_what_is_no_command(rt: HostRuntime) {
 
 // A line that is too long is known as soon as it has a byte too many.
 #[test]
-fn nothing_is_read_behind_a_line_too_long(rt: HostRuntime) -> Result<(), AllocError> {
-    let script = spelled(rt.alloc(), &[Piece::Run(b'r', 5000)])?;
+fn nothing_is_read_behind_a_line_too_long(rt: HostRuntime) {
+    let script = spelled(&rt, rt.alloc(), &[Piece::Run(b'r', 5000)]);
     let limits = Limits {
         give: 1,
         given: 10_000,
@@ -139,7 +139,6 @@ fn nothing_is_read_behind_a_line_too_long(rt: HostRuntime) -> Result<(), AllocEr
     };
     let want = (Ok(Status::Script), "script 1\n", 4097, Some(0));
     assert_outcome(&rt, rt.alloc(), script.as_slice(), limits, want);
-    Ok(())
 }
 
 // What a session has written when its source fails after so many bytes, and how many rows its engine has: it keeps what it

@@ -52,15 +52,9 @@ fn codes_of_refusals(rt: HostRuntime) {
 }
 
 // Asserts how a fault is printed.
-fn assert_printed<T: Display>(
-    rt: &impl Abort,
-    alloc: Global,
-    fault: &T,
-    want: &str,
-) -> Result<(), AllocError> {
-    let printed = format!(in alloc; "{fault}")?;
+fn assert_printed<T: Display>(rt: &impl Abort, alloc: Global, fault: &T, want: &str) {
+    let printed = format!(in alloc; "{fault}").expect(rt, "memory");
     assert_same(rt, printed.as_str(), want);
-    Ok(())
 }
 
 const AT: Place = Place {
@@ -70,29 +64,29 @@ const AT: Place = Place {
 };
 
 #[test]
-fn printed_faults_of_texts(rt: HostRuntime) -> Result<(), AllocError> {
+fn printed_faults_of_texts(rt: HostRuntime) {
     let alloc = rt.alloc();
     let text = TextFault::Found {
         kind: TextFaultKind::TooDeep,
         at: AT,
         word: ShownWord::Text(b"("),
     };
-    assert_printed(&rt, alloc, &text, "TooDeep at 2:3")?;
+    assert_printed(&rt, alloc, &text, "TooDeep at 2:3");
     let policy = PolicyFault::Found {
         kind: PolicyFaultKind::Missing,
         module: b"m",
         at: AT,
         word: b"a",
     };
-    assert_printed(&rt, alloc, &policy, "Missing at 2:3")
+    assert_printed(&rt, alloc, &policy, "Missing at 2:3");
 }
 
 #[test]
-fn printed_wants_of_memory(rt: HostRuntime) -> Result<(), AllocError> {
+fn printed_wants_of_memory(rt: HostRuntime) {
     let alloc = rt.alloc();
-    assert_printed(&rt, alloc, &TextFault::from(AllocError), "out of memory")?;
-    assert_printed(&rt, alloc, &PolicyFault::from(AllocError), "out of memory")?;
-    assert_printed(&rt, alloc, &WriteFault::Memory, "out of memory")
+    assert_printed(&rt, alloc, &TextFault::from(AllocError), "out of memory");
+    assert_printed(&rt, alloc, &PolicyFault::from(AllocError), "out of memory");
+    assert_printed(&rt, alloc, &WriteFault::Memory, "out of memory");
 }
 
 #[test]
@@ -102,15 +96,15 @@ fn a_refusal_for_want_of_memory(rt: HostRuntime) {
 }
 
 #[test]
-fn printed_faults_of_devices(rt: HostRuntime) -> Result<(), AllocError> {
+fn printed_faults_of_devices(rt: HostRuntime) {
     let alloc = rt.alloc();
     let (read, write) = (
         SessionFault::from(SourceFault),
         SessionFault::from(SinkFault),
     );
-    assert_printed(&rt, alloc, &read, "the input failed")?;
-    assert_printed(&rt, alloc, &SourceFault, "the input failed")?;
-    assert_printed(&rt, alloc, &write, "the output failed")?;
-    assert_printed(&rt, alloc, &SinkFault, "the output failed")?;
-    assert_printed(&rt, alloc, &WriteFault::Sink, "the output failed")
+    assert_printed(&rt, alloc, &read, "the input failed");
+    assert_printed(&rt, alloc, &SourceFault, "the input failed");
+    assert_printed(&rt, alloc, &write, "the output failed");
+    assert_printed(&rt, alloc, &SinkFault, "the output failed");
+    assert_printed(&rt, alloc, &WriteFault::Sink, "the output failed");
 }

@@ -5,23 +5,16 @@ use crate::answers::{Piece, assert_answer, shown, spelled};
 use cil_program::script::session::Status;
 use std::alloc::Global;
 use std::process::Abort;
-use std::test::Fail;
 
 type Pieces = &'static [Piece<'static>];
 
 // Asserts the answer of each script.
-fn assert_limits(
-    rt: &impl Abort,
-    alloc: Global,
-    cases: &[(Pieces, Pieces)],
-    status: Status,
-) -> Result<(), Fail> {
+fn assert_limits(rt: &impl Abort, alloc: Global, cases: &[(Pieces, Pieces)], status: Status) {
     for (script, want) in cases {
-        let script = spelled(alloc, script)?;
-        let want = spelled(alloc, want)?;
+        let script = spelled(rt, alloc, script);
+        let want = spelled(rt, alloc, want);
         assert_answer(rt, alloc, script.as_slice(), shown(want.as_slice()), status);
     }
-    Ok(())
 }
 
 const TAKEN: &[(Pieces, Pieces)] = &[
@@ -42,8 +35,8 @@ const TAKEN: &[(Pieces, Pieces)] = &[
 ];
 
 #[test]
-fn what_is_just_taken(rt: HostRuntime) -> Result<(), Fail> {
-    assert_limits(&rt, rt.alloc(), TAKEN, Status::Clean)
+fn what_is_just_taken(rt: HostRuntime) {
+    assert_limits(&rt, rt.alloc(), TAKEN, Status::Clean);
 }
 
 // A text has 16777216 bytes at the most. This one is a comment, with a question behind it.
@@ -57,8 +50,8 @@ const GREATEST: &[(Pieces, Pieces)] = &[(
 )];
 
 #[test]
-fn a_text_of_16777216_bytes(rt: HostRuntime) -> Result<(), Fail> {
-    assert_limits(&rt, rt.alloc(), GREATEST, Status::Clean)
+fn a_text_of_16777216_bytes(rt: HostRuntime) {
+    assert_limits(&rt, rt.alloc(), GREATEST, Status::Clean);
 }
 
 const REFUSED: &[(Pieces, Pieces)] = &[
@@ -138,8 +131,8 @@ const REFUSED: &[(Pieces, Pieces)] = &[
 ];
 
 #[test]
-fn what_is_refused(rt: HostRuntime) -> Result<(), Fail> {
-    assert_limits(&rt, rt.alloc(), REFUSED, Status::Refused)
+fn what_is_refused(rt: HostRuntime) {
+    assert_limits(&rt, rt.alloc(), REFUSED, Status::Refused);
 }
 
 // A text of one byte more than the greatest.
@@ -153,8 +146,8 @@ const TOO_LONG: &[(Pieces, Pieces)] = &[(
 )];
 
 #[test]
-fn a_text_of_one_byte_more(rt: HostRuntime) -> Result<(), Fail> {
-    assert_limits(&rt, rt.alloc(), TOO_LONG, Status::Refused)
+fn a_text_of_one_byte_more(rt: HostRuntime) {
+    assert_limits(&rt, rt.alloc(), TOO_LONG, Status::Refused);
 }
 
 // The name and the priority are judged before the length.
@@ -178,8 +171,8 @@ const TOO_LONG_UNDER_A_BAD_NAME: &[(Pieces, Pieces)] = &[
 ];
 
 #[test]
-fn a_text_too_long_under_a_bad_name(rt: HostRuntime) -> Result<(), Fail> {
-    assert_limits(&rt, rt.alloc(), TOO_LONG_UNDER_A_BAD_NAME, Status::Refused)
+fn a_text_too_long_under_a_bad_name(rt: HostRuntime) {
+    assert_limits(&rt, rt.alloc(), TOO_LONG_UNDER_A_BAD_NAME, Status::Refused);
 }
 
 const NO_COMMANDS: &[(Pieces, Pieces)] = &[
@@ -195,6 +188,6 @@ const NO_COMMANDS: &[(Pieces, Pieces)] = &[
 ];
 
 #[test]
-fn what_is_no_command(rt: HostRuntime) -> Result<(), Fail> {
-    assert_limits(&rt, rt.alloc(), NO_COMMANDS, Status::Script)
+fn what_is_no_command(rt: HostRuntime) {
+    assert_limits(&rt, rt.alloc(), NO_COMMANDS, Status::Script);
 }

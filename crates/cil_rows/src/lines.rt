@@ -7,7 +7,6 @@ use cil_program::script::line::Line;
 use cil_program::script::reply;
 use cil_store::{Compiled, Edit, Plain, Refusal};
 use cil_text::{MemorySink, MemorySource};
-use std::test::Fail;
 
 // Lines, each with its command, and the name, the priority and the length of an install.
 const COMMANDS: &[(&str, &str, &str, u32, u32)] = &[
@@ -81,41 +80,46 @@ fn ends_of_lines(rt: HostRuntime) {
 }
 
 #[test]
-fn what_is_read_of_a_source(rt: HostRuntime) -> Result<(), Fail> {
-    let mut text = Vec::with_capacity(rt.alloc(), 4)?;
+fn what_is_read_of_a_source(rt: HostRuntime) {
+    let mut text = Vec::with_capacity(rt.alloc(), 4).expect(&rt, "memory");
     let mut source = MemorySource::with_limits(b"ab\ntext\nmore\nlast", 3, 100);
     let mut input = Input::new();
     let mut line = Line::new();
     let was_empty = input.is_empty();
-    let first = input.read_line(&mut source, &mut line)?;
+    let first = input
+        .read_line(&mut source, &mut line)
+        .expect(&rt, "a read");
     assert_same(
         &rt,
         (was_empty, first, shown(line.as_slice()), input.line_feeds()),
         (true, LineEnd::LineFeed, "ab", 1),
     );
-    let read = input.read_text(&mut source, 4, &mut text)?;
+    let read = input
+        .read_text(&mut source, 4, &mut text)
+        .expect(&rt, "a read");
     assert_same(&rt, (read, shown(text.as_slice())), (true, "text"));
-    let skipped = input.skip_text(&mut source, 4)?;
+    let skipped = input.skip_text(&mut source, 4).expect(&rt, "a read");
     assert_same(&rt, (skipped, input.line_feeds()), (true, 3));
-    let last = input.read_line(&mut source, &mut line)?;
+    let last = input
+        .read_line(&mut source, &mut line)
+        .expect(&rt, "a read");
     assert_same(
         &rt,
         (last, shown(line.as_slice())),
         (LineEnd::LastByte, "last"),
     );
-    assert_same(&rt, input.skip_text(&mut source, 0)?, false);
-    Ok(())
+    let skipped = input.skip_text(&mut source, 0).expect(&rt, "a read");
+    assert_same(&rt, skipped, false);
 }
 
 #[test]
-fn a_line_too_long(rt: HostRuntime) -> Result<(), Fail> {
-    let script = spelled(rt.alloc(), &[Piece::Run(b'r', 5000)])?;
+fn a_line_too_long(rt: HostRuntime) {
+    let script = spelled(&rt, rt.alloc(), &[Piece::Run(b'r', 5000)]);
     let mut source = MemorySource::new(script.as_slice());
     let mut input = Input::new();
     let mut line = Line::new();
     let end = input.read_line(&mut source, &mut line);
     assert_same(&rt, (end, input.is_empty()), (Ok(LineEnd::TooLong), false));
-    Ok(())
 }
 
 #[test]

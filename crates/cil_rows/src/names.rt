@@ -15,7 +15,7 @@ use cil_names::{
 use cil_rules::{Atom, Changes, Table};
 use cil_text::{MemorySink, Module, Place, RuleKind, Statement, Target, Word};
 use std::alloc::{AllocError, Global};
-use std::test::*;
+use std::process::Abort;
 
 // A place in the first line.
 fn place(offset: u32) -> Place
@@ -161,34 +161,35 @@ const RULES: &[(&str, &str, Fault<'static>)] = &[
 ];
 
 #[test]
-fn finds_the_first_fault(rt: HostRuntime) -> Result<(), Fail> {
+fn finds_the_first_fault(rt: HostRuntime) {
     for (target, permission, want) in RULES {
-        let modules = with_rule(rt.alloc(), target.as_bytes(), permission.as_bytes())?;
+        let modules = with_rule(rt.alloc(), target.as_bytes(), permission.as_bytes()).expect(
+            &rt, "memory",
+        );
         assert_same(&rt, fault_of(rt.alloc(), &modules), *want);
     }
-    Ok(())
 }
 
 #[test]
-fn finds_the_least_code(rt: HostRuntime) -> Result<(), Fail> {
-    let first = rule(rt.alloc(), b"c", b"use")?;
-    let second = twice(rt.alloc())?;
-    let modules = joined(rt.alloc(), first, second)?;
+fn finds_the_least_code(rt: HostRuntime) {
+    let first = rule(rt.alloc(), b"c", b"use").expect(&rt, "memory");
+    let second = twice(rt.alloc()).expect(&rt, "memory");
+    let modules = joined(rt.alloc(), first, second).expect(&rt, "memory");
     let found = fault_of(rt.alloc(), &modules);
     assert_same(&rt, found, Some((41, "n", 14, "b")));
-    Ok(())
 }
 
 // The accesses of one allow rule of a class and a type.
-fn table(alloc: Global) -> Result<Table, Fail> {
-    let modules = with_rule(alloc, b"a", b"use")?;
-    Ok(Table::of(alloc, resolve_types(alloc, &modules)?)?)
+fn table(rt: &impl Abort, alloc: Global) -> Table {
+    let modules = with_rule(alloc, b"a", b"use").expect(rt, "memory");
+    let policy = resolve_types(alloc, &modules).expect(rt, "a policy");
+    Table::of(alloc, policy).expect(rt, "memory")
 }
 
 // (class p (use))(type a), and a rule of these.
-fn resolved(alloc: Global) -> Result<Resolved, Fail> {
-    let modules = with_rule(alloc, b"a", b"use")?;
-    Ok(resolve(alloc, &modules)?)
+fn resolved(rt: &impl Abort, alloc: Global) -> Resolved {
+    let modules = with_rule(alloc, b"a", b"use").expect(rt, "memory");
+    resolve(alloc, &modules).expect(rt, "a policy")
 }
 
 // The module, the name and the offset of a type or an attribute.
@@ -204,8 +205,8 @@ fn class_seen(view: Option<ClassView<'_>>) -> Option<(&str, usize)> {
 }
 
 #[test]
-fn what_a_policy_resolves_to(rt: HostRuntime) -> Result<(), Fail> {
-    let policy = resolved(rt.alloc())?;
+fn what_a_policy_resolves_to(rt: HostRuntime) {
+    let policy = resolved(&rt, rt.alloc());
     assert_same(
         &rt,
         [
@@ -226,7 +227,6 @@ fn what_a_policy_resolves_to(rt: HostRuntime) -> Result<(), Fail> {
     let p = class_seen(policy.class_at(0));
     let used = policy.class_permission(0, 0).map(shown);
     assert_same(&rt, (p, used), (Some(("p", 1)), Some("use")));
-    Ok(())
 }
 
 fn is_type_a(element: ElementView<'_>) -> bool {
@@ -254,19 +254,20 @@ fn rule_seen(view: Option<RuleView<'_>>) -> Option<Rule<'_>> {
 }
 
 #[test]
-fn a_rule_as_resolved(rt: HostRuntime) -> Result<(), Fail> {
-    let policy = resolved(rt.alloc())?;
+fn a_rule_as_resolved(rt: HostRuntime) {
+    let policy = resolved(&rt, rt.alloc());
     let want = ("n", RuleKind::Allow, true, true, "p", 1);
     assert_same(&rt, rule_seen(policy.rule_at(0)), Some(want));
     let used = policy.rule_permission(0, 0).map(shown);
     assert_same(&rt, used, Some("use"));
     // The names are a, p and use, and the rule's are numbers of these.
-    let [rule] = policy.rules() else {
-        return Err(Fail::new("not one rule"));
-    };
-    assert_same(&rt, rule.source, Element::Type(0));
+    let rule = policy.rules().first().expect(&rt, "a rule");
+    assert_same(
+        &rt,
+        (policy.rules().len(), rule.source),
+        (1, Element::Type(0)),
+    );
     assert_same(&rt, policy.into_names().len(), 3);
-    Ok(())
 }
 
 const ACCESS: Atom<'static> = Atom {
@@ -278,11 +279,11 @@ const ACCESS: Atom<'static> = Atom {
 };
 
 #[test]
-fn the_table_of_a_policy(rt: HostRuntime) -> Result<(), Fail> {
-    let table = table(rt.alloc())?;
+fn the_table_of_a_policy(rt: HostRuntime) {
+    let table = table(&rt, rt.alloc());
     assert_same(&rt, (table.len(), table.is_empty()), (1, false));
     assert_same(&rt, (table.get(0), table.get(1)), (Some(ACCESS), None));
-    assert_same(&rt, table.rows(rt.alloc())?.len(), 1);
+    assert_same(&rt, table.rows(rt.alloc()).expect(&rt, "memory").len(), 1);
     let mut sink = MemorySink::new(rt.alloc());
     let written = table.write_listing(&mut sink);
     assert_same(
@@ -290,17 +291,15 @@ fn the_table_of_a_policy(rt: HostRuntime) -> Result<(), Fail> {
         (written, shown(sink.bytes())),
         (Ok(1), "allow a a:p { use };\n"),
     );
-    Ok(())
 }
 
 #[test]
-fn changes_between_tables(rt: HostRuntime) -> Result<(), Fail> {
+fn changes_between_tables(rt: HostRuntime) {
     let none = Table::empty(rt.alloc());
     assert_same(&rt, (none.len(), none.is_empty()), (0, true));
-    let one = table(rt.alloc())?;
-    let came = Changes::between(rt.alloc(), &none, &one)?;
+    let one = table(&rt, rt.alloc());
+    let came = Changes::between(rt.alloc(), &none, &one).expect(&rt, "memory");
     assert_changes(&rt, &came, &[("a", "a", "use")], &[]);
-    let went = Changes::between(rt.alloc(), &one, &none)?;
+    let went = Changes::between(rt.alloc(), &one, &none).expect(&rt, "memory");
     assert_changes(&rt, &went, &[], &[("a", "a", "use")]);
-    Ok(())
 }

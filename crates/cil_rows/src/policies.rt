@@ -3,8 +3,6 @@
 use crate::answers::Command::{Install, Rules};
 use crate::answers::{Dialogue, assert_answers, assert_dialogues, assert_installs};
 use cil_program::script::session::Status;
-use std::alloc::AllocError;
-use std::test::Fail;
 
 // The first fault of one module, by its code, its place and its word.
 const FAULTS: &[(&[u8], &str)] = &[
@@ -65,8 +63,8 @@ const FAULTS: &[(&[u8], &str)] = &[
 ];
 
 #[test]
-fn faults_of_one_policy(rt: HostRuntime) -> Result<(), Fail> {
-    assert_installs(&rt, rt.alloc(), FAULTS)
+fn faults_of_one_policy(rt: HostRuntime) {
+    assert_installs(&rt, rt.alloc(), FAULTS);
 }
 
 const COMPILING: &[(&[u8], &str)] = &[
@@ -81,8 +79,8 @@ const COMPILING: &[(&[u8], &str)] = &[
 ];
 
 #[test]
-fn policies_that_compile(rt: HostRuntime) -> Result<(), Fail> {
-    assert_installs(&rt, rt.alloc(), COMPILING)
+fn policies_that_compile(rt: HostRuntime) {
+    assert_installs(&rt, rt.alloc(), COMPILING);
 }
 
 // A class has 32 permissions at the most, its common's included, each counted once.
@@ -165,8 +163,8 @@ const RULES: &[Dialogue<'static>] = &[
 ];
 
 #[test]
-fn rules_in_blocks_and_by_other_names(rt: HostRuntime) -> Result<(), AllocError> {
-    assert_dialogues(&rt, rt.alloc(), RULES, Status::Clean)
+fn rules_in_blocks_and_by_other_names(rt: HostRuntime) {
+    assert_dialogues(&rt, rt.alloc(), RULES, Status::Clean);
 }
 
 const BASE: &str = "(class p (use))(type a)";
@@ -227,7 +225,7 @@ const OF_ATTRIBUTES: Dialogue<'static> = &[
 ];
 
 #[test]
-fn policies_with_refused_edits(rt: HostRuntime) -> Result<(), AllocError> {
+fn policies_with_refused_edits(rt: HostRuntime) {
     let dialogues = [SEVERAL_MODULES, OF_ATTRIBUTES];
-    assert_dialogues(&rt, rt.alloc(), &dialogues, Status::Refused)
+    assert_dialogues(&rt, rt.alloc(), &dialogues, Status::Refused);
 }

@@ -2,7 +2,6 @@
 
 use crate::answers::{assert_answer, assert_installs};
 use cil_program::script::session::Status;
-use std::test::Fail;
 
 const FAULTS: &[(&[u8], &str)] = &[
     (b"a", "refused 15 m:1:1 a\n"),
@@ -24,8 +23,8 @@ const FAULTS: &[(&[u8], &str)] = &[
 ];
 
 #[test]
-fn faults_of_reading(rt: HostRuntime) -> Result<(), Fail> {
-    assert_installs(&rt, rt.alloc(), FAULTS)
+fn faults_of_reading(rt: HostRuntime) {
+    assert_installs(&rt, rt.alloc(), FAULTS);
 }
 
 // Comments and white space stand between parts.
@@ -42,8 +41,8 @@ const SPACED: &[(&[u8], &str)] = &[
 ];
 
 #[test]
-fn comments_and_white_space_stand_between_parts(rt: HostRuntime) -> Result<(), Fail> {
-    assert_installs(&rt, rt.alloc(), SPACED)
+fn comments_and_white_space_stand_between_parts(rt: HostRuntime) {
+    assert_installs(&rt, rt.alloc(), SPACED);
 }
 
 // Lines are those of the text, whatever line of the script it begins on.

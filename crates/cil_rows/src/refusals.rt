@@ -3,7 +3,6 @@
 use crate::answers::Command::{Install, Rules};
 use crate::answers::{Dialogue, assert_answers, assert_dialogues, assert_each};
 use cil_program::script::session::Status;
-use std::alloc::AllocError;
 
 // Refusals by the line of an install.
 const LINES: &[(&[u8], &str)] = &[
@@ -179,12 +178,12 @@ const TOO_EARLY: Dialogue<'static> = &[
 ];
 
 #[test]
-fn a_store_behind_accepted_edits(rt: HostRuntime) -> Result<(), AllocError> {
-    assert_dialogues(&rt, rt.alloc(), &[REPLACED, STAYING], Status::Clean)
+fn a_store_behind_accepted_edits(rt: HostRuntime) {
+    assert_dialogues(&rt, rt.alloc(), &[REPLACED, STAYING], Status::Clean);
 }
 
 #[test]
-fn a_store_behind_refused_edits(rt: HostRuntime) -> Result<(), AllocError> {
+fn a_store_behind_refused_edits(rt: HostRuntime) {
     let dialogues = [NOTHING_CHANGED, FIRST_FAULTS, MISSED, TOO_EARLY];
-    assert_dialogues(&rt, rt.alloc(), &dialogues, Status::Refused)
+    assert_dialogues(&rt, rt.alloc(), &dialogues, Status::Refused);
 }

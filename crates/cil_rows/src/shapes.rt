@@ -1,7 +1,6 @@
 //! Trees that spell no statements, and statements that aren't compiled yet.
 
 use crate::answers::assert_installs;
-use std::test::Fail;
 
 const FAULTS: &[(&[u8], &str)] = &[
     (b"()", "refused 21 m:1:1 (\n"),
@@ -30,8 +29,8 @@ const FAULTS: &[(&[u8], &str)] = &[
 ];
 
 #[test]
-fn faults_of_shape(rt: HostRuntime) -> Result<(), Fail> {
-    assert_installs(&rt, rt.alloc(), FAULTS)
+fn faults_of_shape(rt: HostRuntime) {
+    assert_installs(&rt, rt.alloc(), FAULTS);
 }
 
 const NAMES: &[(&[u8], &str)] = &[
@@ -54,8 +53,8 @@ const NAMES: &[(&[u8], &str)] = &[
 ];
 
 #[test]
-fn names_of_rules(rt: HostRuntime) -> Result<(), Fail> {
-    assert_installs(&rt, rt.alloc(), NAMES)
+fn names_of_rules(rt: HostRuntime) {
+    assert_installs(&rt, rt.alloc(), NAMES);
 }
 
 // Well shaped statements that aren't compiled yet are refused at their first words.
@@ -95,6 +94,6 @@ const NOT_YET: &[(&[u8], &str)] = &[
 ];
 
 #[test]
-fn statements_that_are_not_compiled_yet(rt: HostRuntime) -> Result<(), Fail> {
-    assert_installs(&rt, rt.alloc(), NOT_YET)
+fn statements_that_are_not_compiled_yet(rt: HostRuntime) {
+    assert_installs(&rt, rt.alloc(), NOT_YET);
 }

@@ -2,12 +2,11 @@
 
 use crate::answers::{assert_same, shown};
 use cil_store::{Entry, Store};
-use std::alloc::{AllocError, Global};
+use std::alloc::Global;
 use std::process::Abort;
-use std::test::Fail;
 
 // A store of these names and texts, which come one after the other.
-fn store_of(rt: &impl Abort, alloc: Global, entries: &[(&str, &str)]) -> Result<Store, AllocError> {
+fn store_of(rt: &impl Abort, alloc: Global, entries: &[(&str, &str)]) -> Store {
     let mut store = Store::new(alloc);
     for (name, text) in entries {
         assert!(rt; text.len() <= 16_777_216, "too long a text");
@@ -16,9 +15,9 @@ fn store_of(rt: &impl Abort, alloc: Global, entries: &[(&str, &str)]) -> Result<
             priority: 400,
             text: text.as_bytes(),
         };
-        store.put(alloc, entry)?;
+        store.put(alloc, entry).expect(rt, "memory");
     }
-    Ok(store)
+    store
 }
 
 // The name, the priority and the text of an entry.
@@ -37,8 +36,8 @@ fn an_empty_store(rt: HostRuntime) {
 const PLACES: &[(&str, usize)] = &[("a", 0), ("m", 0), ("m-", 1), ("n", 1), ("o", 2)];
 
 #[test]
-fn entries_stand_in_the_order_of_their_names(rt: HostRuntime) -> Result<(), AllocError> {
-    let store = store_of(&rt, rt.alloc(), &[("n", "1"), ("m", "2"), ("n", "3")])?;
+fn entries_stand_in_the_order_of_their_names(rt: HostRuntime) {
+    let store = store_of(&rt, rt.alloc(), &[("n", "1"), ("m", "2"), ("n", "3")]);
     assert_same(
         &rt,
         (
@@ -51,34 +50,34 @@ fn entries_stand_in_the_order_of_their_names(rt: HostRuntime) -> Result<(), Allo
     for (name, place) in PLACES {
         assert_same(&rt, (*name, store.place(name.as_bytes())), (*name, *place));
     }
-    Ok(())
 }
 
 const THREE: &[(&str, &str)] = &[("a", ""), ("b", "text"), ("c", "")];
 
 #[test]
-fn the_entries_beside_one(rt: HostRuntime) -> Result<(), AllocError> {
-    let store = store_of(&rt, rt.alloc(), THREE)?;
+fn the_entries_beside_one(rt: HostRuntime) {
+    let store = store_of(&rt, rt.alloc(), THREE);
     let (before, after) = store.split(b"b");
     assert_same(&rt, (before.len(), after.len()), (1, 1));
     let (before, after) = store.split(b"aa");
     assert_same(&rt, (before.len(), after.len()), (1, 2));
-    Ok(())
 }
 
+// Names and texts of the entries b and c, whether they are named b, and whether they come before c.
+const BEHIND: &[(&str, &str, bool, bool)] = &[("b", "text", true, true), ("c", "", false, false)];
+
 #[test]
-fn what_is_asked_of_an_entry(rt: HostRuntime) -> Result<(), Fail> {
-    let store = store_of(&rt, rt.alloc(), THREE)?;
+fn what_is_asked_of_an_entry(rt: HostRuntime) {
+    let store = store_of(&rt, rt.alloc(), THREE);
     let (_, after) = store.split(b"aa");
-    let [b, c] = after else {
-        return Err(Fail::new("not two entries"));
-    };
-    assert_same(
-        &rt,
-        (shown(b.name()), shown(b.as_entry().text)),
-        ("b", "text"),
-    );
-    assert_same(&rt, (b.is_named(b"b"), c.is_named(b"b")), (true, false));
-    assert_same(&rt, (b.is_before(b"c"), c.is_before(b"c")), (true, false));
-    Ok(())
+    for (entry, want) in after.iter().zip(BEHIND) {
+        let text = shown(entry.as_entry().text);
+        let found = (
+            shown(entry.name()),
+            text,
+            entry.is_named(b"b"),
+            entry.is_before(b"c"),
+        );
+        assert_same(&rt, found, *want);
+    }
 }

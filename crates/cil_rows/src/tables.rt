@@ -2,30 +2,30 @@
 
 use crate::answers::{assert_same, shown};
 use cil_rules::{Atom, Changes, Row, Rows, write_row_line};
-use cil_store::{Compiled, Edit, Plain, Refusal};
+use cil_store::{Compiled, Edit, Plain};
 use cil_text::{MemorySink, RuleKind, SinkFault};
 use std::alloc::Global;
 use std::process::Abort;
-use std::test::Fail;
 
 // A text of three accesses in two rows.
 const TEXT: &[u8] =
     b"(class p (use see))(type a)(type b)(allow b a (p (use)))(allow a b (p (use see)))";
 
 // The changes of an install of the module m.
-fn install(engine: &mut Plain, text: &[u8]) -> Result<Changes, Refusal> {
-    engine.edit(Edit::Install {
+fn install(rt: &impl Abort, engine: &mut Plain, text: &[u8]) -> Changes {
+    let edit = Edit::Install {
         name: b"m",
         priority: 400,
         text,
-    })
+    };
+    engine.edit(edit).expect(rt, "an edit")
 }
 
 // The rows of the text.
-fn rows_of(alloc: Global, text: &[u8]) -> Result<Rows, Fail> {
+fn rows_of(rt: &impl Abort, alloc: Global, text: &[u8]) -> Rows {
     let mut engine = Plain::new(alloc);
-    install(&mut engine, text)?;
-    Ok(engine.rows()?)
+    install(rt, &mut engine, text);
+    engine.rows().expect(rt, "memory")
 }
 
 /// An access of the class p: its source, its target and its permission.
@@ -53,15 +53,14 @@ pub fn assert_changes(rt: &impl Abort, changes: &Changes, added: &[Access], remo
 }
 
 #[test]
-fn changes_by_place(rt: HostRuntime) -> Result<(), Fail> {
+fn changes_by_place(rt: HostRuntime) {
     let mut engine = Plain::new(rt.alloc());
     let (see, used, back) = (("a", "b", "see"), ("a", "b", "use"), ("b", "a", "use"));
-    let changes = install(&mut engine, TEXT)?;
+    let changes = install(&rt, &mut engine, TEXT);
     assert_changes(&rt, &changes, &[see, used, back], &[]);
     let text = b"(class p (use see))(type a)(type b)(allow b a (p (see use)))";
-    let changes = install(&mut engine, text)?;
+    let changes = install(&rt, &mut engine, text);
     assert_changes(&rt, &changes, &[("b", "a", "see")], &[see, used]);
-    Ok(())
 }
 
 // Asserts the names of a row of the class p.
@@ -88,11 +87,10 @@ fn assert_row(rt: &impl Abort, row: &Row<'_>, source: &str, target: &str, permis
 }
 
 #[test]
-fn rows_by_place(rt: HostRuntime) -> Result<(), Fail> {
-    let rows = rows_of(rt.alloc(), TEXT)?;
-    let (Some(first), Some(second)) = (rows.get(0), rows.get(1)) else {
-        return Err(Fail::new("no two rows"));
-    };
+fn rows_by_place(rt: HostRuntime) {
+    let rows = rows_of(&rt, rt.alloc(), TEXT);
+    let first = rows.get(0).expect(&rt, "a first row");
+    let second = rows.get(1).expect(&rt, "a second row");
     assert_row(&rt, &first, "a", "b", &["see", "use"]);
     assert_row(&rt, &second, "b", "a", &["use"]);
     assert_same(
@@ -100,14 +98,12 @@ fn rows_by_place(rt: HostRuntime) -> Result<(), Fail> {
         (rows.len(), rows.is_empty(), rows.get(2).is_none()),
         (2, false, true),
     );
-    Ok(())
 }
 
 #[test]
-fn a_text_without_rows(rt: HostRuntime) -> Result<(), Fail> {
-    let rows = rows_of(rt.alloc(), b"(type a)")?;
+fn a_text_without_rows(rt: HostRuntime) {
+    let rows = rows_of(&rt, rt.alloc(), b"(type a)");
     assert_same(&rt, rows.is_empty(), true);
-    Ok(())
 }
 
 // What a sink takes a call and in all, how the rows are written to it, and the bytes it has.
@@ -122,22 +118,19 @@ const WRITTEN: &[(usize, usize, Result<usize, SinkFault>, &str)] = &[
 ];
 
 #[test]
-fn written_rows(rt: HostRuntime) -> Result<(), Fail> {
-    let rows = rows_of(rt.alloc(), TEXT)?;
+fn written_rows(rt: HostRuntime) {
+    let rows = rows_of(&rt, rt.alloc(), TEXT);
     for (greatest, limit, want, text) in WRITTEN {
         let mut sink = MemorySink::with_limits(rt.alloc(), *greatest, *limit);
         let found = rows.write(&mut sink);
         assert_same(&rt, (found, shown(sink.bytes())), (*want, *text));
     }
-    Ok(())
 }
 
 #[test]
-fn the_line_of_a_row(rt: HostRuntime) -> Result<(), Fail> {
-    let rows = rows_of(rt.alloc(), TEXT)?;
-    let Some(second) = rows.get(1) else {
-        return Err(Fail::new("no second row"));
-    };
+fn the_line_of_a_row(rt: HostRuntime) {
+    let rows = rows_of(&rt, rt.alloc(), TEXT);
+    let second = rows.get(1).expect(&rt, "a second row");
     let mut sink = MemorySink::new(rt.alloc());
     let written = write_row_line(&mut sink, &second);
     assert_same(
@@ -145,5 +138,4 @@ fn the_line_of_a_row(rt: HostRuntime) -> Result<(), Fail> {
         (written, shown(sink.bytes())),
         (Ok(()), "allow b a:p { use };\n"),
     );
-    Ok(())
 }

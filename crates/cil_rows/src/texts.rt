@@ -2,10 +2,11 @@
 
 use crate::answers::{assert_same, shown};
 use cil_text::{
-    Expr, RuleKind, ShownWord, Statement, Target, TextFault, TextFaultKind, Tree, Word, read, shape,
+    Expr, Module, RuleKind, ShownWord, Statement, Target, TextFault, TextFaultKind, Tree, Word,
+    read, shape,
 };
+use std::alloc::Global;
 use std::process::Abort;
-use std::test::Fail;
 
 // The text of a word, and where it begins.
 fn seen<'a>(word: &Word<'a>) -> (&'a str, u32) {
@@ -48,14 +49,14 @@ const OF_FIRST: &[Shape<'static>] = &[
 ];
 
 #[test]
-fn trees_of_a_text(rt: HostRuntime) -> Result<(), Fail> {
-    let forest = read(rt.alloc(), b"(a \"b c\"\n (d)) ; e\n()")?;
+fn trees_of_a_text(rt: HostRuntime) {
+    let text = b"(a \"b c\"\n (d)) ; e\n()";
+    let forest = read(rt.alloc(), text).expect(&rt, "trees");
     assert_trees(&rt, forest.trees.as_slice(), TREES);
     let Some(Tree::List { items, .. }) = forest.trees.get(0) else {
-        return Err(Fail::new("no list"));
+        panic!(rt; "no list");
     };
     assert_trees(&rt, items.as_slice(), OF_FIRST);
-    Ok(())
 }
 
 fn rule_word(kind: RuleKind) -> &'static str {
@@ -67,208 +68,296 @@ fn rule_word(kind: RuleKind) -> &'static str {
     }
 }
 
-// The form of a statement, and the first name in it.
-fn form<'a>(statement: &Statement<'a>) -> (&'static str, Option<Word<'a>>) {
+// The form of a statement.
+fn form(statement: &Statement<'_>) -> &'static str {
     match statement {
-        Statement::Block { id, .. } => ("block", Some(*id)),
-        Statement::Optional { id, .. } => ("optional", Some(*id)),
-        Statement::TypeName { id, .. } => ("type", Some(*id)),
-        Statement::TypeAlias { id, .. } => ("typealias", Some(*id)),
-        Statement::TypeAliasActual { alias, .. } => ("typealiasactual", Some(*alias)),
-        Statement::TypeAttribute { id, .. } => ("typeattribute", Some(*id)),
-        Statement::TypeAttributeSet { attribute, .. } => ("typeattributeset", Some(*attribute)),
-        Statement::Common { id, .. } => ("common", Some(*id)),
-        Statement::Class { id, .. } => ("class", Some(*id)),
-        Statement::ClassCommon { class, .. } => ("classcommon", Some(*class)),
-        Statement::ClassOrder { classes, .. } => ("classorder", classes.get(0).copied()),
-        Statement::Rule { kind, source, .. } => (rule_word(*kind), Some(*source)),
+        Statement::Block { .. } => "block",
+        Statement::Optional { .. } => "optional",
+        Statement::TypeName { .. } => "type",
+        Statement::TypeAlias { .. } => "typealias",
+        Statement::TypeAliasActual { .. } => "typealiasactual",
+        Statement::TypeAttribute { .. } => "typeattribute",
+        Statement::TypeAttributeSet { .. } => "typeattributeset",
+        Statement::Common { .. } => "common",
+        Statement::Class { .. } => "class",
+        Statement::ClassCommon { .. } => "classcommon",
+        Statement::ClassOrder { .. } => "classorder",
+        Statement::Rule { kind, .. } => rule_word(*kind),
     }
 }
 
-// The form of a statement, and its first name with the place of it.
-type Form<'a> = (&'static str, Option<(&'a str, u32)>);
+// The text of a name, and where it begins.
+type Name<'a> = (&'a str, u32);
 
-fn form_seen<'a>(statement: &Statement<'a>) -> Form<'a> {
-    let (form, word) = form(statement);
-    let Some(word) = word else {
-        return (form, None);
-    };
-    (form, Some(seen(&word)))
-}
+const NONE: Name<'static> = ("", 0);
 
-// Asserts the forms of statements, and their first names.
-fn assert_forms(rt: &impl Abort, statements: &[Statement<'_>], want: &[Form<'_>]) {
-    assert_same(rt, statements.len(), want.len());
-    for i in 0..want.len() {
-        assert_same(rt, statements.get(i).map(form_seen), want.get(i).copied());
+fn target_seen<'a>(target: &Target<'a>) -> Name<'a> {
+    match target {
+        Target::Itself => ("self", 0),
+        Target::Named(word) => seen(word),
     }
 }
 
+fn name_at<'a>(words: &[Word<'a>], i: usize) -> Name<'a> {
+    match words.get(i) {
+        Some(word) => seen(word),
+        None => NONE,
+    }
+}
+
+// The names of a statement that are its own, up to three.
+type Own<'a> = (Name<'a>, Name<'a>, Name<'a>);
+
+fn own<'a>(statement: &Statement<'a>) -> Own<'a> {
+    match statement {
+        Statement::Block { id, .. }
+        | Statement::Optional { id, .. }
+        | Statement::TypeName { id, .. }
+        | Statement::TypeAlias { id, .. }
+        | Statement::TypeAttribute { id, .. }
+        | Statement::Common { id, .. }
+        | Statement::Class { id, .. } => (seen(id), NONE, NONE),
+        Statement::TypeAliasActual { alias, actual, .. } => (seen(alias), seen(actual), NONE),
+        Statement::TypeAttributeSet { attribute, .. } => (seen(attribute), NONE, NONE),
+        Statement::ClassCommon { class, common, .. } => (seen(class), seen(common), NONE),
+        Statement::ClassOrder { .. } => (NONE, NONE, NONE),
+        Statement::Rule {
+            source,
+            target,
+            class,
+            ..
+        } => { (seen(source), target_seen(target), seen(class)) }
+    }
+}
+
+// A name of the list in a statement.
+fn listed<'a>(statement: &Statement<'a>, i: usize) -> Name<'a> {
+    match statement {
+        Statement::Common { permissions, .. }
+        | Statement::Class { permissions, .. }
+        | Statement::Rule { permissions, .. } => name_at(permissions.as_slice(), i),
+        Statement::ClassOrder { classes, .. } => name_at(classes.as_slice(), i),
+        _ => NONE,
+    }
+}
+
+// A statement: its form, its own names, and the first three of its list.
+type Said<'a> = (&'static str, Own<'a>, (Name<'a>, Name<'a>, Name<'a>));
+
+fn said<'a>(statement: &Statement<'a>) -> Said<'a> {
+    let list = (
+        listed(statement, 0),
+        listed(statement, 1),
+        listed(statement, 2),
+    );
+    (form(statement), own(statement), list)
+}
+
+// Asserts statements by their forms and their names.
+fn assert_statements(rt: &impl Abort, found: &[Statement<'_>], want: &[Said<'_>]) {
+    assert_same(rt, found.len(), want.len());
+    for (statement, want) in found.iter().zip(want) {
+        assert_same(rt, said(statement), *want);
+    }
+}
+
+// The statements of a text.
+fn shaped<'a>(rt: &impl Abort, alloc: Global, text: &'a [u8]) -> Result<Module<'a>, TextFault<'a>> {
+    assert!(rt; text.len() <= 16_777_216, "too long a text");
+    shape(alloc, read(alloc, text)?)
+}
+
+// A statement of each form.
 const TEXT: &[u8] =
     b"(block a)(optional b)(type c)(typealias d)(typealiasactual e f)(typeattribute g)\n\
     (typeattributeset h all)(common i ())(class j ())(classcommon k l)(classorder (unordered m))\n\
     (allow n o (p ()))(auditallow .q r (s ()))(dontaudit t.u v (w ()))(neverallow x y (z ()))";
 
-const FORMS: &[Form<'static>] = &[
-    ("block", Some(("a", 7))),
-    ("optional", Some(("b", 19))),
-    ("type", Some(("c", 27))),
-    ("typealias", Some(("d", 40))),
-    ("typealiasactual", Some(("e", 59))),
-    ("typeattribute", Some(("g", 78))),
-    ("typeattributeset", Some(("h", 99))),
-    ("common", Some(("i", 113))),
-    ("class", Some(("j", 125))),
-    ("classcommon", Some(("k", 143))),
-    ("classorder", Some(("m", 170))),
-    ("allow", Some(("n", 181))),
-    ("auditallow", Some((".q", 204))),
-    ("dontaudit", Some(("t.u", 227))),
-    ("neverallow", Some(("x", 252))),
+const FORMS: &[Said<'static>] = &[
+    ("block", (("a", 7), NONE, NONE), (NONE, NONE, NONE)),
+    ("optional", (("b", 19), NONE, NONE), (NONE, NONE, NONE)),
+    ("type", (("c", 27), NONE, NONE), (NONE, NONE, NONE)),
+    ("typealias", (("d", 40), NONE, NONE), (NONE, NONE, NONE)),
+    (
+        "typealiasactual",
+        (("e", 59), ("f", 61), NONE),
+        (NONE, NONE, NONE),
+    ),
+    ("typeattribute", (("g", 78), NONE, NONE), (NONE, NONE, NONE)),
+    (
+        "typeattributeset",
+        (("h", 99), NONE, NONE),
+        (NONE, NONE, NONE),
+    ),
+    ("common", (("i", 113), NONE, NONE), (NONE, NONE, NONE)),
+    ("class", (("j", 125), NONE, NONE), (NONE, NONE, NONE)),
+    (
+        "classcommon",
+        (("k", 143), ("l", 145), NONE),
+        (NONE, NONE, NONE),
+    ),
+    ("classorder", (NONE, NONE, NONE), (("m", 170), NONE, NONE)),
+    (
+        "allow",
+        (("n", 181), ("o", 183), ("p", 186)),
+        (NONE, NONE, NONE),
+    ),
+    (
+        "auditallow",
+        ((".q", 204), ("r", 207), ("s", 210)),
+        (NONE, NONE, NONE),
+    ),
+    (
+        "dontaudit",
+        (("t.u", 227), ("v", 231), ("w", 234)),
+        (NONE, NONE, NONE),
+    ),
+    (
+        "neverallow",
+        (("x", 252), ("y", 254), ("z", 257)),
+        (NONE, NONE, NONE),
+    ),
+];
+
+// Statements with names in lists, and a rule to itself.
+const LISTS: &[u8] =
+    b"(allow a b (c (d e)))(auditallow a self (c ()))(common e (f))(class g (h i))(classcommon c .d)";
+
+const OF_LISTS: &[Said<'static>] = &[
+    (
+        "allow",
+        (("a", 7), ("b", 9), ("c", 12)),
+        (("d", 15), ("e", 17), NONE),
+    ),
+    (
+        "auditallow",
+        (("a", 33), ("self", 0), ("c", 41)),
+        (NONE, NONE, NONE),
+    ),
+    ("common", (("e", 55), NONE, NONE), (("f", 58), NONE, NONE)),
+    (
+        "class",
+        (("g", 68), NONE, NONE),
+        (("h", 71), ("i", 73), NONE),
+    ),
+    (
+        "classcommon",
+        (("c", 89), (".d", 91), NONE),
+        (NONE, NONE, NONE),
+    ),
 ];
 
 #[test]
-fn a_statement_of_each_form(rt: HostRuntime) -> Result<(), Fail> {
-    let module = shape(rt.alloc(), read(rt.alloc(), TEXT)?)?;
-    assert_forms(&rt, module.statements.as_slice(), FORMS);
-    Ok(())
+fn statements_and_their_names(rt: HostRuntime) {
+    for (text, want) in [(TEXT, FORMS), (LISTS, OF_LISTS)] {
+        let module = shaped(&rt, rt.alloc(), text).expect(&rt, "a module");
+        assert_statements(&rt, module.statements.as_slice(), want);
+    }
 }
 
-// The source, the target and the class of a rule, and its permissions.
 #[test]
-fn the_names_of_a_rule(rt: HostRuntime) -> Result<(), Fail> {
-    let module = shape(rt.alloc(), read(rt.alloc(), b"(allow a b (c (d e)))")?)?;
-    let Some(
-        Statement::Rule {
-            at,
-            source,
-            target: Target::Named(target),
-            class,
-            permissions,
-            ..
-        },
-    ) = module.statements.get(0)
-    else {
-        return Err(Fail::new("no rule"));
-    };
-    let [first, second] = permissions.as_slice() else {
-        return Err(Fail::new("not two permissions"));
+fn the_place_of_a_statement(rt: HostRuntime) {
+    let module = shaped(&rt, rt.alloc(), b"(allow a b (c (d e)))").expect(&rt, "a module");
+    let Some(Statement::Rule { at, .. }) = module.statements.get(0) else {
+        panic!(rt; "no rule");
     };
     assert_same(&rt, (at.offset, at.line, at.column), (0, 1, 1));
-    assert_same(
-        &rt,
-        [
-            seen(source),
-            seen(target),
-            seen(class),
-            seen(first),
-            seen(second),
-        ],
-        [("a", 7), ("b", 9), ("c", 12), ("d", 15), ("e", 17)],
-    );
-    Ok(())
 }
 
-#[test]
-fn a_rule_to_itself(rt: HostRuntime) -> Result<(), Fail> {
-    let module = shape(rt.alloc(), read(rt.alloc(), b"(auditallow a self (c ()))")?)?;
-    let Some(Statement::Rule { target, .. }) = module.statements.get(0) else {
-        return Err(Fail::new("no rule"));
-    };
-    assert_same(&rt, matches!(target, Target::Itself), true);
-    Ok(())
-}
-
-// The second names of a statement: the last of them, and how many there are.
-fn second_names<'a>(statement: &Statement<'a>) -> (usize, Option<(&'a str, u32)>) {
-    match statement {
-        Statement::TypeAliasActual { actual, .. } => (1, Some(seen(actual))),
-        Statement::ClassCommon { common, .. } => (1, Some(seen(common))),
-        Statement::Common { permissions, .. } | Statement::Class { permissions, .. } => {
-            (permissions.len(), permissions.last().map(seen))
-        }
-        _ => (0, None),
-    }
-}
-
-const SECOND_NAMES: &[(usize, Option<(&str, u32)>)] = &[
-    (1, Some(("b", 19))),
-    (1, Some((".d", 36))),
-    (1, Some(("f", 50))),
-    (2, Some(("i", 65))),
+const OF_BLOCK: &[Said<'static>] = &[
+    ("optional", (("b", 19), NONE, NONE), (NONE, NONE, NONE)),
+    ("type", (("d", 37), NONE, NONE), (NONE, NONE, NONE)),
 ];
 
-#[test]
-fn the_second_names_of_statements(rt: HostRuntime) -> Result<(), Fail> {
-    let text = b"(typealiasactual a b)(classcommon c .d)(common e (f))(class g (h i))";
-    let module = shape(rt.alloc(), read(rt.alloc(), text)?)?;
-    for i in 0..5 {
-        let found = module.statements.get(i).map(second_names);
-        assert_same(&rt, found, SECOND_NAMES.get(i).copied());
+const OF_OPTIONAL: &[Said<'static>] = &[("type", (("c", 27), NONE, NONE), (NONE, NONE, NONE))];
+
+// Asserts the statements inside one.
+fn assert_inside(rt: &impl Abort, outer: &Statement<'_>, want: &[Said<'_>]) {
+    match outer {
+        Statement::Block { body, .. } | Statement::Optional { body, .. } => {
+            assert_statements(rt, body.as_slice(), want);
+        }
+        _ => assert!(rt; false, "nothing inside"),
     }
-    Ok(())
 }
 
 #[test]
-fn statements_within_statements(rt: HostRuntime) -> Result<(), Fail> {
+fn statements_within_statements(rt: HostRuntime) {
     let text = b"(block a (optional b (type c)) (type d))";
-    let module = shape(rt.alloc(), read(rt.alloc(), text)?)?;
-    let Some(Statement::Block { body: outer, .. }) = module.statements.get(0) else {
-        return Err(Fail::new("no block"));
+    let module = shaped(&rt, rt.alloc(), text).expect(&rt, "a module");
+    let outer = module.statements.get(0).expect(&rt, "a block");
+    assert_inside(&rt, outer, OF_BLOCK);
+    let Statement::Block { body, .. } = outer else {
+        panic!(rt; "no block");
     };
-    let want = [("optional", Some(("b", 19))), ("type", Some(("d", 37)))];
-    assert_forms(&rt, outer.as_slice(), &want);
-    let Some(Statement::Optional { body: inner, .. }) = outer.get(0) else {
-        return Err(Fail::new("no optional"));
-    };
-    assert_forms(&rt, inner.as_slice(), &[("type", Some(("c", 27)))]);
-    Ok(())
+    let inner = body.get(0).expect(&rt, "an optional");
+    assert_inside(&rt, inner, OF_OPTIONAL);
 }
 
 // The operator of an expression, and the name that it is.
-fn operator<'a>(expr: &Expr<'a>) -> (&'static str, Option<(&'a str, u32)>) {
+fn operator<'a>(expr: &Expr<'a>) -> (&'static str, Name<'a>) {
     match expr {
-        Expr::All => ("all", None),
-        Expr::Name(word) => ("name", Some(seen(word))),
-        Expr::Not(_) => ("not", None),
-        Expr::And(_, _) => ("and", None),
-        Expr::Or(_, _) => ("or", None),
-        Expr::Xor(_, _) => ("xor", None),
-        Expr::Union(_) => ("union", None),
+        Expr::All => ("all", NONE),
+        Expr::Name(word) => ("name", seen(word)),
+        Expr::Not(_) => ("not", NONE),
+        Expr::And(_, _) => ("and", NONE),
+        Expr::Or(_, _) => ("or", NONE),
+        Expr::Xor(_, _) => ("xor", NONE),
+        Expr::Union(_) => ("union", NONE),
     }
 }
 
+// An operand of an expression.
+fn operand<'e, 'a>(rt: &impl Abort, expr: &'e Expr<'a>, i: usize) -> &'e Expr<'a> {
+    let found = match expr {
+        Expr::All | Expr::Name(_) => None,
+        Expr::Not(only) => Some(&**only),
+        Expr::And(left, right) | Expr::Or(left, right) | Expr::Xor(left, right) => {
+            Some(if i == 0 { &**left } else { &**right })
+        }
+        Expr::Union(elements) => elements.get(i),
+    };
+    found.expect(rt, "an operand")
+}
+
+// How many elements a union has.
+fn width(expr: &Expr<'_>) -> usize {
+    match expr {
+        Expr::Union(elements) => elements.len(),
+        _ => 0,
+    }
+}
+
+// Where an expression stands: the operand of an operand; and its operator.
+const EXPRESSIONS: &[(usize, usize, &str, Name<'static>)] = &[
+    (0, 0, "name", ("b", 29)),
+    (0, 1, "all", NONE),
+    (1, 0, "not", NONE),
+    (1, 1, "union", NONE),
+];
+
 #[test]
-fn an_expression_with_each_operator(rt: HostRuntime) -> Result<(), Fail> {
+fn an_expression_with_each_operator(rt: HostRuntime) {
     let text = b"(typeattributeset a (and (or b all) (xor (not c) ((all) d))))";
-    let module = shape(rt.alloc(), read(rt.alloc(), text)?)?;
+    let module = shaped(&rt, rt.alloc(), text).expect(&rt, "a module");
     let Some(Statement::TypeAttributeSet { expr, .. }) = module.statements.get(0) else {
-        return Err(Fail::new("no set statement"));
+        panic!(rt; "no set statement");
     };
-    let Expr::And(or, xor) = expr else {
-        return Err(Fail::new("no and"));
-    };
-    let (Expr::Or(b, all), Expr::Xor(not, union)) = (&**or, &**xor) else {
-        return Err(Fail::new("no or and xor"));
-    };
+    let (or, xor) = (operand(&rt, expr, 0), operand(&rt, expr, 1));
     assert_same(
         &rt,
-        [operator(b), operator(all)],
-        [("name", Some(("b", 29))), ("all", None)],
+        (operator(expr), operator(or), operator(xor)),
+        (("and", NONE), ("or", NONE), ("xor", NONE)),
     );
-    let (Expr::Not(c), Expr::Union(elements)) = (&**not, &**union) else {
-        return Err(Fail::new("no not and union"));
-    };
-    assert_same(&rt, operator(c), ("name", Some(("c", 46))));
-    let [every, d] = elements.as_slice() else {
-        return Err(Fail::new("not two elements"));
-    };
-    assert_same(
-        &rt,
-        [operator(every), operator(d)],
-        [("all", None), ("name", Some(("d", 56)))],
-    );
-    Ok(())
+    for (i, k, want, name) in EXPRESSIONS {
+        let found = operand(&rt, operand(&rt, expr, *i), *k);
+        assert_same(&rt, operator(found), (*want, *name));
+    }
+    let (not, union) = (operand(&rt, xor, 0), operand(&rt, xor, 1));
+    assert_same(&rt, operator(operand(&rt, not, 0)), ("name", ("c", 46)));
+    assert_same(&rt, width(union), 2);
+    assert_same(&rt, operator(operand(&rt, union, 0)), ("all", NONE));
+    assert_same(&rt, operator(operand(&rt, union, 1)), ("name", ("d", 56)));
 }
 
 // A fault: its kind, its place by the offset, the line and the column, and the byte or the word that shows it.
@@ -288,14 +377,13 @@ fn fault_seen<T: Drop>(read: Result<T, TextFault<'_>>) -> Option<Fault<'_>> {
 }
 
 #[test]
-fn faults_by_calls(rt: HostRuntime) -> Result<(), Fail> {
+fn faults_by_calls(rt: HostRuntime) {
     let found = fault_seen(read(rt.alloc(), b"\n(\x01)"));
     assert_same(&rt, found, Some((TextFaultKind::BadByte, (2, 2, 2), 1, "")));
-    let found = fault_seen(shape(rt.alloc(), read(rt.alloc(), b"(type all)")?));
+    let found = fault_seen(shaped(&rt, rt.alloc(), b"(type all)"));
     assert_same(
         &rt,
         found,
         Some((TextFaultKind::Reserved, (6, 1, 7), 0, "all")),
     );
-    Ok(())
 }
