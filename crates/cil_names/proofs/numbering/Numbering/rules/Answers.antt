@@ -13,13 +13,13 @@ use Rattle.cil_names.proofs.MadeLemmas.{rules-made}
 use Rattle.cil_names.proofs.numbering.Numbering.rules.Goals as goal
 use Rattle.cil_names.proofs.numbering.Numbering.rules.Goals.{in-Some+in_ok-push, in_default}
 
-pub rule-requires-clause-compiled : goal.rule-requires-clause-compiled
-rule-requires-clause-compiled g c =
+pub rule-requires-clause-plain : goal.rule-requires-clause-plain
+rule-requires-clause-plain g c =
     let policy = c.args.self.now.resolution.now.policy in
     let i = c.loop-placed.placed-index in
     let p = c.placed-item.result in
     let at = placed-at policy.spaces c.statements-placed-items.result.now (policy_in policy) i p c.statements-placed-items.ensures.seen (search rules) c.placed-item.is in
-    (plain-at (policy_in policy) i (placed_of policy.spaces p) c.statements-placed-items.ensures.flat at).compiled
+    (plain-at (policy_in policy) i (placed_of policy.spaces p) c.statements-placed-items.ensures.flat at).plain
 
 pub loop-placed-preserved : goal.loop-placed-preserved
 loop-placed-preserved g c =

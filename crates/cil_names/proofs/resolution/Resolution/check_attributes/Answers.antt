@@ -23,7 +23,7 @@ attribute_word-requires g c =
     record {
       resolved = c.requires.resolved;
       within = namespace-within (length spaces) c.statements-placed-items.result.now i c.placed-item.result c.statements-placed-items.ensures.within c.loop-placed-test.true c.placed-item.is;
-      compiled = (plain-at policy i s c.statements-placed-items.ensures.flat at).compiled;
+      plain = (plain-at policy i s c.statements-placed-items.ensures.flat at).plain;
     }
 
 pub returns-in-Some : goal.returns-in-Some
