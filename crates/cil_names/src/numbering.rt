@@ -9,7 +9,7 @@ ghost use Rattle.cil_specs.specs.Report.{names_rise};
 ghost use Rattle.cil_specs.specs.Rule.{element_of as element_led, aim_of as aim_led, class_name, classes_of, rules_of, rule_of as rule_led};
 ghost use Rattle.cil_specs.specs.Statements.{target_words};
 ghost use Rattle.cil_specs.specs.PolicyFault.{Compiles};
-ghost use Rattle.cil_specs.specs.Next.{every_optional, is_plain_form};
+ghost use Rattle.cil_specs.specs.Next.{every_optional};
 ghost use Rattle.cil_text.specs.Image.{word_of, target_of};
 ghost use Rattle.cil_names.specs.Below.{is_element_below, is_aim_below, is_rule_below, is_name_below, is_class_below};
 ghost use Rattle.cil_names.specs.First.{IsFirstOf};
@@ -253,7 +253,6 @@ impl<'n, 't, 'j, 'a: 't, A: Allocator + Copy> Numbering<'n, 't, 'j, 'a, A> {
         requires at { Contains (policy_in self.now.resolution.now.policy) (placed_of self.now.resolution.now.policy.spaces placed.now) }
         requires within { placed.now.namespace < length self.now.resolution.now.policy.spaces }
         requires numbered { slice_index_or (modules_in self.now.resolution.now.policy) placed.now.module [] ≡ placed.now.module_name.now }
-        requires plain { IsTrue (is_plain_form (form_of placed.now.statement.now)) }
         ensures rule { IfOk result (λ rule. map (rule_of (modules_in self.now.resolution.now.policy) self.now.names.now) (option_to_list rule)
             ≡ rule_led every_optional (policy_in self.now.resolution.now.policy) (placed_of self.now.resolution.now.policy.spaces placed.now) (form_of placed.now.statement.now)) }
         ensures within { IfOk result (λ rule. IsTrue (list_all (is_rule_below (length self.now.names.now)) (option_to_list rule))) }

@@ -149,7 +149,6 @@ impl<'j, 'a, A: Allocator> Resolution<'j, 'a, A> {
     fn attribute_word(&self, placed: &PlacedStatement<'j, 'a, A>) -> Option<Word<'a>>
         requires resolved { IsResolved self.now }
         requires within { placed.now.namespace < length self.now.policy.spaces }
-        requires plain { IsTrue (is_plain_form (form_of placed.now.statement.now)) }
         ensures { option_map word_of result ≡ slice_get (attribute_words (policy_in self.now.policy) (placed_of self.now.policy.spaces placed.now)) 0 }
     {
         let Statement::Rule { source, target, .. } = placed.statement else {
