@@ -13,7 +13,7 @@ use Rattle.cil_specs.specs.Statements.{Form, block, optional, type_name, type_al
 use Rattle.cil_specs.specs.Joined.{Placed}
 use Rattle.cil_specs.specs.Lookup.{Table, types, classes, commons, scopes, declared_in, declares, is_word, same_namespace}
 use Rattle.cil_specs.specs.PolicyFault.{PolicyFault, twice, is_again, tables, twice_words, faulty_words, IsFaultOf}
-use Rattle.cil_specs.specs.Next.{every_optional, is_compiled_form}
+use Rattle.cil_specs.specs.Next.{every_optional, is_plain_form}
 use Rattle.cil_specs.proofs.Runs.{both_true, first_true, second_true}
 use Rattle.cil_names.specs.Spaces.{Namespace}
 use Rattle.cil_names.specs.Policy.{table_of, is_table, is_key, HasDeclaredIn, HasDeclared, IsTaken, Takes, IsFlat}
@@ -121,19 +121,19 @@ chosen-some again table form w e =
 chosen-none : (again : Table → Word → Bool) (form : Form) → ((table : Table) → declared_in table form ≡ None) → chosen again form ≡ []
 chosen-none again form none = chosen-in again form ∙ ap (λ o. filter (again (table_in form)) (option_to_list o)) (none (table_in form))
 
-no-optional : (form : Form) → is_compiled_form form ≡ true → is_optional form ≡ false
-no-optional (block id) compiled = refl
-no-optional (optional id) compiled = absurd (true≢false (sym compiled))
-no-optional (type_name id) compiled = refl
-no-optional (type_alias id) compiled = refl
-no-optional (alias_actual alias actual) compiled = refl
-no-optional (type_attribute id) compiled = refl
-no-optional (attribute_set attribute expr) compiled = refl
-no-optional (common id permissions) compiled = refl
-no-optional (class id permissions) compiled = refl
-no-optional (class_common the_class the_common) compiled = refl
-no-optional (class_order the_classes) compiled = refl
-no-optional (rule kind source target the_class permissions) compiled = refl
+no-optional : (form : Form) → is_plain_form form ≡ true → is_optional form ≡ false
+no-optional (block id) plain = refl
+no-optional (optional id) plain = absurd (true≢false (sym plain))
+no-optional (type_name id) plain = refl
+no-optional (type_alias id) plain = refl
+no-optional (alias_actual alias actual) plain = refl
+no-optional (type_attribute id) plain = refl
+no-optional (attribute_set attribute expr) plain = refl
+no-optional (common id permissions) plain = refl
+no-optional (class id permissions) plain = refl
+no-optional (class_common the_class the_common) plain = refl
+no-optional (class_order the_classes) plain = refl
+no-optional (rule kind source target the_class permissions) plain = refl
 
 and-true : (b : Bool) → (b && true) ≡ b
 and-true true = refl
@@ -215,10 +215,10 @@ insert-new eq (e ∷ entries) key n none = by (insert-new eq entries key n) (eq 
     by more false f = ap (λ l. e ∷ l) (more f)
 
 -- the name of a statement behind others, by whether one of them declares it
-again-words : (policy : List Placed) (s : Placed) (table : Table) (w : Word) → is_compiled_form s.form ≡ true → declared_in table s.form ≡ Some w
+again-words : (policy : List Placed) (s : Placed) (table : Table) (w : Word) → is_plain_form s.form ≡ true → declared_in table s.form ≡ Some w
     → twice_words policy s ≡ (if list_any (declares table s.namespace w.text) policy then w ∷ [] else [])
-again-words policy s table w compiled e =
-    chosen-some (λ t id. list_any (is_again t s id) policy) table s.form w e ∙ ap (λ b. if b then w ∷ [] else []) (is-again table s w policy (no-optional s.form compiled))
+again-words policy s table w plain e =
+    chosen-some (λ t id. list_any (is_again t s id) policy) table s.form w e ∙ ap (λ b. if b then w ∷ [] else []) (is-again table s w policy (no-optional s.form plain))
 
 same-table : (t u : code.Table) → is_table t u ≡ true → table_of t ≡ table_of u
 same-table Types Types e = refl
@@ -328,18 +328,18 @@ known spaces policy s key w entries has low here text =
     ∙ (λ i. list_any (declares (table_of key.table) (sym here i) (text i)) policy)
 
 pub taken-again : (spaces : List Namespace) (policy : List Placed) (s : Placed) (key : Key) (w : Word) (entries : List (Key × ℕ)) → HasDeclaredIn spaces policy entries → key.namespace < length spaces
-    → s.namespace ≡ get_or spaces key.namespace [] → key.name.now ≡ w.text → is_compiled_form s.form ≡ true → declared_in (table_of key.table) s.form ≡ Some w
+    → s.namespace ≡ get_or spaces key.namespace [] → key.name.now ≡ w.text → is_plain_form s.form ≡ true → declared_in (table_of key.table) s.form ≡ Some w
     → is_some (lookup (is_key key.table key.namespace key.name.now) entries) ≡ true → IsTaken spaces policy s entries (Some w)
-taken-again spaces policy s key w entries has low here text compiled e there = record {
-  words = again-words policy s (table_of key.table) w compiled e ∙ ap (λ b. if b then w ∷ [] else []) (sym (known spaces policy s key w entries has low here text) ∙ there);
+taken-again spaces policy s key w entries has low here text plain e there = record {
+  words = again-words policy s (table_of key.table) w plain e ∙ ap (λ b. if b then w ∷ [] else []) (sym (known spaces policy s key w entries has low here text) ∙ there);
   declared = λ none. absurd (none-some w (sym none));
 }
 
 pub taken-new : (spaces : List Namespace) (policy : List Placed) (s : Placed) (key : Key) (w : Word) (entries new : List (Key × ℕ)) (i : ℕ) → HasDeclaredIn spaces policy entries → IsDistinct same_namespace spaces → key.namespace < length spaces
-    → s.namespace ≡ get_or spaces key.namespace [] → key.name.now ≡ w.text → is_compiled_form s.form ≡ true → declared_in (table_of key.table) s.form ≡ Some w → length policy ≡ i
+    → s.namespace ≡ get_or spaces key.namespace [] → key.name.now ≡ w.text → is_plain_form s.form ≡ true → declared_in (table_of key.table) s.form ≡ Some w → length policy ≡ i
     → is_some (lookup (is_key key.table key.namespace key.name.now) entries) ≡ false → new ≡ entries ++ (key, i) ∷ [] → IsTaken spaces policy s new None
-taken-new spaces policy s key w entries new i has distinct low here text compiled e long absent pushed = record {
-  words = again-words policy s (table_of key.table) w compiled e ∙ ap (λ b. if b then w ∷ [] else []) (sym (known spaces policy s key w entries has low here text) ∙ absent);
+taken-new spaces policy s key w entries new i has distinct low here text plain e long absent pushed = record {
+  words = again-words policy s (table_of key.table) w plain e ∙ ap (λ b. if b then w ∷ [] else []) (sym (known spaces policy s key w entries has low here text) ∙ absent);
   declared = λ _ table n name within.
       ap (lookup (is_key table n name)) pushed ∙ lookup-push (is_key table n name) entries key i
       ∙ (λ j. option_or (has table n name within j) (cond (key-declares spaces s key w table n name distinct low within here e text j) (Some (sym long j)) None))
@@ -361,7 +361,7 @@ taken-at flat i p old new found is_flat within is has takes =
     let size : length (take i items) ≡ i = length-take-le i items (omega (arith, within)) in
     takes flat.spaces (policy_of flat.spaces (take i items)) is_flat.distinct (all-at (λ q. q.namespace < length flat.spaces) items i p is_flat.within at)
     (length-map (take i items) (placed_of flat.spaces) ∙ size)
-    (plain-at (policy_of flat.spaces items) i (placed_of flat.spaces p) is_flat.is_flat (policy-get flat.spaces items i p at)).compiled has
+    (plain-at (policy_of flat.spaces items) i (placed_of flat.spaces p) is_flat.is_flat (policy-get flat.spaces items i p at)).plain has
 
 -- the entries have one more statement, and no name is declared twice in front of the next
 pub declared-next : {A : Type 0} (flat : Flat A) (i : ℕ) (p : PlacedStatement A) (new : List (Key × ℕ)) → i < length flat.statements.items → p ≡ get_or flat.statements.items i p

@@ -1,4 +1,4 @@
--- The joined policy of modules whose statements are compiled is flat.
+-- The joined policy of modules whose statements are plain is flat.
 use Rattle.std.proofs.Common.{◌≡◌, inl, inr, ℕ, ◌<◌, ◌≤◌, true, List, [], ◌∷◌, ◌++◌, ◌&&◌, map, refl, sym, ap, ◌∙◌, subst, arith, true≢false}
 use Rattle.std.specs.List.{AllByRecursion, list_all}
 use Rattle.std.specs.Ordering.{is_lt}
@@ -8,7 +8,7 @@ use Rattle.std.proofs.lemmas.Cmp.{nat_list_cmp_total}
 use Rattle.cil_specs.specs.Place.{Place}
 use Rattle.cil_specs.specs.Statements.{Form, block, optional, type_name, type_alias, alias_actual, type_attribute, attribute_set, common, class, class_common, class_order, rule, word_offsets, rise_from, Statements, no_more, statement}
 use Rattle.cil_specs.specs.Joined.{Module, Placed, namespace_inside, optionals_inside, placed, joined}
-use Rattle.cil_specs.specs.Next.{is_compiled_form, is_compiled}
+use Rattle.cil_specs.specs.Next.{is_plain_form, is_plain}
 use Rattle.cil_specs.specs.Report.{name_cmp, names_rise}
 use Rattle.cil_specs.proofs.Runs.{first_true, second_true}
 use Rattle.cil_specs.proofs.NamesLemmas.{all-weaker, all-append, all-first, all-second, all-contained, rises-low, rises-less, rises-append}
@@ -51,20 +51,20 @@ stands-before name Q s high here below least policy all =
     ))
     policy all
 
--- no statement that is compiled is an optional
-none-inside : (form : Form) (at : Place) → is_compiled_form form ≡ true → optionals_inside form at [] ≡ []
-none-inside (block id) at compiled = refl
-none-inside (optional id) at compiled = absurd (true≢false (sym compiled))
-none-inside (type_name id) at compiled = refl
-none-inside (type_alias id) at compiled = refl
-none-inside (alias_actual alias actual) at compiled = refl
-none-inside (type_attribute id) at compiled = refl
-none-inside (attribute_set attribute expr) at compiled = refl
-none-inside (common id permissions) at compiled = refl
-none-inside (class id permissions) at compiled = refl
-none-inside (class_common the_class the_common) at compiled = refl
-none-inside (class_order the_classes) at compiled = refl
-none-inside (rule kind source target the_class permissions) at compiled = refl
+-- no plain statement is an optional
+none-inside : (form : Form) (at : Place) → is_plain_form form ≡ true → optionals_inside form at [] ≡ []
+none-inside (block id) at plain = refl
+none-inside (optional id) at plain = absurd (true≢false (sym plain))
+none-inside (type_name id) at plain = refl
+none-inside (type_alias id) at plain = refl
+none-inside (alias_actual alias actual) at plain = refl
+none-inside (type_attribute id) at plain = refl
+none-inside (attribute_set attribute expr) at plain = refl
+none-inside (common id permissions) at plain = refl
+none-inside (class id permissions) at plain = refl
+none-inside (class_common the_class the_common) at plain = refl
+none-inside (class_order the_classes) at plain = refl
+none-inside (rule kind source target the_class permissions) at plain = refl
 
 -- numbers of which P holds, from one on, and below another
 abbrev From : (ℕ → Type 0) → ℕ → ℕ → Type 0
@@ -97,27 +97,27 @@ placed-at : List ℕ → List (List ℕ) → Place → Form → Placed
 placed-at name namespace at form = record { module_name = name; at = at; form = form; namespace = namespace; optionals = [] }
 
 -- the statements of a module or a block, in the order of the text
-module-flat : (name : List ℕ) (namespace : List (List ℕ)) (low : ℕ) (P : ℕ → Type 0) (statements : Statements) → is_compiled statements ≡ true → rise_from low (word_offsets statements) ≡ true
+module-flat : (name : List ℕ) (namespace : List (List ℕ)) (low : ℕ) (P : ℕ → Type 0) (statements : Statements) → is_plain statements ≡ true → rise_from low (word_offsets statements) ≡ true
     → AllByRecursion P (word_offsets statements) → IsModuleFlat name P (placed name namespace [] statements)
 unfolding placed-at
-module-flat name namespace low P no_more compiled rising each = record { flat = tt; inside = tt }
-module-flat name namespace low P (statement at form body more) compiled rising each =
+module-flat name namespace low P no_more plain rising each = record { flat = tt; inside = tt }
+module-flat name namespace low P (statement at form body more) plain rising each =
     let s = placed-at name namespace at form in
-    let compiled_form = first_true (is_compiled_form form) (is_compiled body && is_compiled more) compiled in
-    let compiled_others = second_true (is_compiled_form form) (is_compiled body && is_compiled more) compiled in
+    let plain_form = first_true (is_plain_form form) (is_plain body && is_plain more) plain in
+    let plain_others = second_true (is_plain_form form) (is_plain body && is_plain more) plain in
     let parts = rises-append low (offsets_of s) (word_offsets body ++ word_offsets more) rising in
     let others = rises-append parts.high (word_offsets body) (word_offsets more) parts.second in
     let each_others = all-second P (offsets_of s) (word_offsets body ++ word_offsets more) each in
     let inner = module-flat name (namespace_inside form namespace) parts.high (Between P parts.high others.high) body
-    (first_true (is_compiled body) (is_compiled more) compiled_others) others.first
+    (first_true (is_plain body) (is_plain more) plain_others) others.first
     (all-both P (λ n. (parts.high ≤ n) × (n < others.high)) (word_offsets body) (all-first P (word_offsets body) (word_offsets more) each_others)
     (all-both (λ n. parts.high ≤ n) (λ n. n < others.high) (word_offsets body) (rises-low parts.high (word_offsets body) others.first) others.below)) in
     let rest = module-flat name namespace others.high (From P others.high) more
-    (second_true (is_compiled body) (is_compiled more) compiled_others) others.second
+    (second_true (is_plain body) (is_plain more) plain_others) others.second
     (all-both P (λ n. others.high ≤ n) (word_offsets more) (all-second P (word_offsets body) (word_offsets more) each_others) (rises-low others.high (word_offsets more) others.second)) in
-    let plain : IsPlain s = record { compiled = compiled_form; optionals = refl; rising = rises-less low 0 (offsets_of s) (omega arith) parts.first } in
-    subst (λ o. IsModuleFlat name P (s ∷ (placed name (namespace_inside form namespace) o body ++ placed name namespace [] more))) (sym (none-inside form at compiled_form))
-    (flat-more name P s parts.high others.high (placed name (namespace_inside form namespace) [] body) (placed name namespace [] more) refl plain parts.below
+    let own : IsPlain s = record { plain = plain_form; optionals = refl; rising = rises-less low 0 (offsets_of s) (omega arith) parts.first } in
+    subst (λ o. IsModuleFlat name P (s ∷ (placed name (namespace_inside form namespace) o body ++ placed name namespace [] more))) (sym (none-inside form at plain_form))
+    (flat-more name P s parts.high others.high (placed name (namespace_inside form namespace) [] body) (placed name namespace [] more) refl own parts.below
     (all-first P (offsets_of s) (word_offsets body ++ word_offsets more) each) others.no_less inner rest)
 
 -- a name that comes first is less than all others
@@ -141,25 +141,25 @@ names_rise-others name (n ∷ names) rise = second_true (is_lt (name_cmp name n)
 abbrev pub IsRising : Module → Type 0
 IsRising m = rise_from 0 (word_offsets m.statements) ≡ true
 
-module-top : (m : Module) → is_compiled m.statements ≡ true → IsRising m → IsModuleFlat m.name (λ n. 0 ≤ n) (placed m.name [] [] m.statements)
-module-top m compiled rising = module-flat m.name [] 0 (λ n. 0 ≤ n) m.statements compiled rising (rises-low 0 (word_offsets m.statements) rising)
+module-top : (m : Module) → is_plain m.statements ≡ true → IsRising m → IsModuleFlat m.name (λ n. 0 ≤ n) (placed m.name [] [] m.statements)
+module-top m plain rising = module-flat m.name [] 0 (λ n. 0 ≤ n) m.statements plain rising (rises-low 0 (word_offsets m.statements) rising)
 
 -- what holds of each module's name holds of the module name of each statement
-joined-names : (P : List ℕ → Type 0) (modules : List Module) → list_all (λ m. is_compiled m.statements) modules ≡ true → AllByRecursion IsRising modules
+joined-names : (P : List ℕ → Type 0) (modules : List Module) → list_all (λ m. is_plain m.statements) modules ≡ true → AllByRecursion IsRising modules
     → AllByRecursion P (map (λ m. m.name) modules) → AllByRecursion (λ s. P s.module_name) (joined modules)
-joined-names P [] compiled rising all = tt
-joined-names P (m ∷ modules) compiled rising all =
-    let flat = module-top m (first_true (is_compiled m.statements) (list_all (λ m. is_compiled m.statements) modules) compiled) rising.0 in
+joined-names P [] plain rising all = tt
+joined-names P (m ∷ modules) plain rising all =
+    let flat = module-top m (first_true (is_plain m.statements) (list_all (λ m. is_plain m.statements) modules) plain) rising.0 in
     all-append (λ s. P s.module_name) (placed m.name [] [] m.statements) (joined modules)
     (all-weaker (StandsIn m.name (λ n. 0 ≤ n)) (λ s. P s.module_name) (λ s stands. subst P (sym stands.here) all.0) (placed m.name [] [] m.statements) flat.inside)
-    (joined-names P modules (second_true (is_compiled m.statements) (list_all (λ m. is_compiled m.statements) modules) compiled) rising.1 all.1)
+    (joined-names P modules (second_true (is_plain m.statements) (list_all (λ m. is_plain m.statements) modules) plain) rising.1 all.1)
 
-pub joined-flat : (modules : List Module) → names_rise (map (λ m. m.name) modules) ≡ true → list_all (λ m. is_compiled m.statements) modules ≡ true → AllByRecursion IsRising modules
+pub joined-flat : (modules : List Module) → names_rise (map (λ m. m.name) modules) ≡ true → list_all (λ m. is_plain m.statements) modules ≡ true → AllByRecursion IsRising modules
     → AreFlat (joined modules)
-joined-flat [] ordered compiled rising = tt
-joined-flat (m ∷ modules) ordered compiled rising =
-    let flat = module-top m (first_true (is_compiled m.statements) (list_all (λ m. is_compiled m.statements) modules) compiled) rising.0 in
-    let others = second_true (is_compiled m.statements) (list_all (λ m. is_compiled m.statements) modules) compiled in
+joined-flat [] ordered plain rising = tt
+joined-flat (m ∷ modules) ordered plain rising =
+    let flat = module-top m (first_true (is_plain m.statements) (list_all (λ m. is_plain m.statements) modules) plain) rising.0 in
+    let others = second_true (is_plain m.statements) (list_all (λ m. is_plain m.statements) modules) plain in
     let greater = joined-names (λ n. name_cmp m.name n ≡ Less) modules others rising.1 (names_rise-first m.name (map (λ m. m.name) modules) ordered) in
     flat-append (placed m.name [] [] m.statements) (joined modules) flat.flat
     (joined-flat modules (names_rise-others m.name (map (λ m. m.name) modules) ordered) others rising.1)

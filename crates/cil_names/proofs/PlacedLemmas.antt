@@ -14,7 +14,7 @@ use Rattle.cil_specs.specs.Names as names
 use Rattle.cil_specs.specs.Statements.{Statements, no_more, statement}
 use Rattle.cil_specs.specs.Joined.{Placed, placed, joined, namespace_inside, optionals_inside}
 use Rattle.cil_specs.specs.Lookup.{same_namespace, has_block, is_block, block_name, is_word}
-use Rattle.cil_specs.specs.Next.{is_compiled_form, is_compiled}
+use Rattle.cil_specs.specs.Next.{is_plain_form, is_plain}
 use Rattle.cil_specs.proofs.Runs.{both_true, first_true, second_true}
 use Rattle.cil_specs.proofs.NamesLemmas.{all-append, all-weaker, contains-first, contains-cases}
 use Rattle.cil_text.specs.Image.{word_of, statement_then, statements_of, row_statements}
@@ -84,20 +84,20 @@ abbrev pub top : {A : Type 0} → List ℕ → Namespace → Statement A → Pla
 top name namespace s = record { module_name = name; at = at_of s; form = form_of s; namespace = namespace; optionals = [] }
 
 -- a statement that is no block has none inside it
-pub placed-leaf : {A : Type 0} (name : List ℕ) (namespace : Namespace) (s : Statement A) → is_compiled (statement_then s no_more) ≡ true → block_name (form_of s) ≡ None
+pub placed-leaf : {A : Type 0} (name : List ℕ) (namespace : Namespace) (s : Statement A) → is_plain (statement_then s no_more) ≡ true → block_name (form_of s) ≡ None
     → placed name namespace [] (statement_then s no_more) ≡ top name namespace s ∷ []
-placed-leaf name namespace (Block' at id shape body) compiled leaf = absurd (none-some (word_of id) (sym leaf))
-placed-leaf name namespace (Optional' at id shape body) compiled leaf = absurd (true≢false (sym compiled))
-placed-leaf name namespace (TypeName at id) compiled leaf = refl
-placed-leaf name namespace (TypeAlias at id) compiled leaf = refl
-placed-leaf name namespace (TypeAliasActual at alias actual) compiled leaf = refl
-placed-leaf name namespace (TypeAttribute at id) compiled leaf = refl
-placed-leaf name namespace (TypeAttributeSet at attribute expr) compiled leaf = refl
-placed-leaf name namespace (Common at id permissions) compiled leaf = refl
-placed-leaf name namespace (Class at id permissions) compiled leaf = refl
-placed-leaf name namespace (ClassCommon at the_class the_common) compiled leaf = refl
-placed-leaf name namespace (ClassOrder at the_classes) compiled leaf = refl
-placed-leaf name namespace (Rule at kind source target the_class permissions) compiled leaf = refl
+placed-leaf name namespace (Block' at id shape body) plain leaf = absurd (none-some (word_of id) (sym leaf))
+placed-leaf name namespace (Optional' at id shape body) plain leaf = absurd (true≢false (sym plain))
+placed-leaf name namespace (TypeName at id) plain leaf = refl
+placed-leaf name namespace (TypeAlias at id) plain leaf = refl
+placed-leaf name namespace (TypeAliasActual at alias actual) plain leaf = refl
+placed-leaf name namespace (TypeAttribute at id) plain leaf = refl
+placed-leaf name namespace (TypeAttributeSet at attribute expr) plain leaf = refl
+placed-leaf name namespace (Common at id permissions) plain leaf = refl
+placed-leaf name namespace (Class at id permissions) plain leaf = refl
+placed-leaf name namespace (ClassCommon at the_class the_common) plain leaf = refl
+placed-leaf name namespace (ClassOrder at the_classes) plain leaf = refl
+placed-leaf name namespace (Rule at kind source target the_class permissions) plain leaf = refl
 
 pub placed-block : {A : Type 0} (name : List ℕ) (namespace : Namespace) (s : Statement A) (at : code.Place) (id : Word) (body : Vec (Statement A) A) → s ≡ Block at id body
     → placed name namespace [] (statement_then s no_more) ≡ top name namespace s ∷ placed name (id.text.now ∷ namespace) [] (statements_of body.items)
@@ -105,26 +105,26 @@ placed-block name namespace s at id body is =
     ap (λ r. placed name namespace [] (statement_then r no_more)) is ∙ ap (placed name namespace []) (block_then at id body no_more) ∙ ap (λ l. top name namespace (Block at id body) ∷ l) (append-nil _)
     ∙ ap (λ r. top name namespace r ∷ placed name (id.text.now ∷ namespace) [] (statements_of body.items)) (sym is)
 
--- the statements inside a block that is compiled are
-pub block-compiled : {A : Type 0} (s : Statement A) (at : code.Place) (id : Word) (body : Vec (Statement A) A) → s ≡ Block at id body → is_compiled (statement_then s no_more) ≡ true → is_compiled (statements_of body.items) ≡ true
-block-compiled s at id body is compiled =
-    first_true (is_compiled (statements_of body.items)) true (sym (ap is_compiled (ap (λ r. statement_then r no_more) is ∙ block_then at id body no_more)) ∙ compiled)
+-- the statements inside a block that is plain are
+pub block-plain : {A : Type 0} (s : Statement A) (at : code.Place) (id : Word) (body : Vec (Statement A) A) → s ≡ Block at id body → is_plain (statement_then s no_more) ≡ true → is_plain (statements_of body.items) ≡ true
+block-plain s at id body is plain =
+    first_true (is_plain (statements_of body.items)) true (sym (ap is_plain (ap (λ r. statement_then r no_more) is ∙ block_then at id body no_more)) ∙ plain)
 
--- each of statements that are compiled is
-pub each-compiled : {A : Type 0} (statements : List (Statement A)) (i : ℕ) (s : Statement A) → is_compiled (statements_of statements) ≡ true → slice_get statements i ≡ Some s
-    → is_compiled (statement_then s no_more) ≡ true
-each-compiled [] i s compiled at = absurd (none-some s at)
-each-compiled (x ∷ xs) i s compiled at =
-    let parts : (is_compiled_form (form_of x) && (is_compiled (inside_of x) && is_compiled (statements_of xs))) ≡ true = sym (ap is_compiled (statement-is x (statements_of xs))) ∙ compiled in
-    let form = first_true (is_compiled_form (form_of x)) (is_compiled (inside_of x) && is_compiled (statements_of xs)) parts in
-    let others = second_true (is_compiled_form (form_of x)) (is_compiled (inside_of x) && is_compiled (statements_of xs)) parts in
+-- each of statements that are plain is
+pub each-plain : {A : Type 0} (statements : List (Statement A)) (i : ℕ) (s : Statement A) → is_plain (statements_of statements) ≡ true → slice_get statements i ≡ Some s
+    → is_plain (statement_then s no_more) ≡ true
+each-plain [] i s plain at = absurd (none-some s at)
+each-plain (x ∷ xs) i s plain at =
+    let parts : (is_plain_form (form_of x) && (is_plain (inside_of x) && is_plain (statements_of xs))) ≡ true = sym (ap is_plain (statement-is x (statements_of xs))) ∙ plain in
+    let form = first_true (is_plain_form (form_of x)) (is_plain (inside_of x) && is_plain (statements_of xs)) parts in
+    let others = second_true (is_plain_form (form_of x)) (is_plain (inside_of x) && is_plain (statements_of xs)) parts in
     by i at
-    (ap is_compiled (statement-is x no_more) ∙ both_true (is_compiled_form (form_of x)) (is_compiled (inside_of x) && true) form (both_true (is_compiled (inside_of x)) true (first_true (is_compiled (inside_of x)) (is_compiled (statements_of xs)) others) refl))
-    (λ k. each-compiled xs k s (second_true (is_compiled (inside_of x)) (is_compiled (statements_of xs)) others))
+    (ap is_plain (statement-is x no_more) ∙ both_true (is_plain_form (form_of x)) (is_plain (inside_of x) && true) form (both_true (is_plain (inside_of x)) true (first_true (is_plain (inside_of x)) (is_plain (statements_of xs)) others) refl))
+    (λ k. each-plain xs k s (second_true (is_plain (inside_of x)) (is_plain (statements_of xs)) others))
   where
-    by : (k : ℕ) → slice_get (x ∷ xs) k ≡ Some s → is_compiled (statement_then x no_more) ≡ true → ((l : ℕ) → slice_get xs l ≡ Some s → is_compiled (statement_then s no_more) ≡ true)
-        → is_compiled (statement_then s no_more) ≡ true
-    by zero e here more = subst (λ t. is_compiled (statement_then t no_more) ≡ true) (same_Some x s e) here
+    by : (k : ℕ) → slice_get (x ∷ xs) k ≡ Some s → is_plain (statement_then x no_more) ≡ true → ((l : ℕ) → slice_get xs l ≡ Some s → is_plain (statement_then s no_more) ≡ true)
+        → is_plain (statement_then s no_more) ≡ true
+    by zero e here more = subst (λ t. is_plain (statement_then t no_more) ≡ true) (same_Some x s e) here
     by (suc k) e here more = more k e
 
 -- later namespaces change no statement whose own is there
@@ -403,17 +403,17 @@ modules-rising : {A : Type 0} (modules : List (NamedModule A)) → AllByRecursio
 modules-rising [] = tt
 modules-rising (m ∷ modules) = (m.«module».ordered, modules-rising modules)
 
--- a joined policy is flat, where its modules are compiled
-pub policy-flat : {A : Type 0} (j : Joined A) → list_all (λ m. is_compiled m.statements) (modules_of j) ≡ true → AreFlat (joined (modules_of j))
-policy-flat j compiled = joined-flat (modules_of j) (ap names_rise (module-names j.modules.items) ∙ j.ordered) compiled (modules-rising j.modules.items)
+-- a joined policy is flat, where its modules are plain
+pub policy-flat : {A : Type 0} (j : Joined A) → list_all (λ m. is_plain m.statements) (modules_of j) ≡ true → AreFlat (joined (modules_of j))
+policy-flat j plain = joined-flat (modules_of j) (ap names_rise (module-names j.modules.items) ∙ j.ordered) plain (modules-rising j.modules.items)
 
--- each module of modules that are compiled is
-pub module-compiled : {A : Type 0} (modules : List (NamedModule A)) (i : ℕ) (m : NamedModule A) → list_all (λ n. is_compiled n.statements) (map module_of modules) ≡ true → i < length modules → m ≡ get_or modules i m
-    → is_compiled (statements_of m.«module».statements.items) ≡ true
-module-compiled modules i m compiled within is =
-    ap (λ n. is_compiled (module_of n).statements) is
-    ∙ and_at (list_all (λ n. is_compiled (module_of n).statements)) (λ n. is_compiled (module_of n).statements) refl (λ _ _. refl) modules i m within
-    (sym (list_all-map (λ n. is_compiled n.statements) module_of modules) ∙ compiled)
+-- each module of modules that are plain is
+pub module-plain : {A : Type 0} (modules : List (NamedModule A)) (i : ℕ) (m : NamedModule A) → list_all (λ n. is_plain n.statements) (map module_of modules) ≡ true → i < length modules → m ≡ get_or modules i m
+    → is_plain (statements_of m.«module».statements.items) ≡ true
+module-plain modules i m plain within is =
+    ap (λ n. is_plain (module_of n).statements) is
+    ∙ and_at (list_all (λ n. is_plain (module_of n).statements)) (λ n. is_plain (module_of n).statements) refl (λ _ _. refl) modules i m within
+    (sym (list_all-map (λ n. is_plain n.statements) module_of modules) ∙ plain)
 
 -- a statement of the policy, by its place
 pub policy-get : {A : Type 0} (spaces : List Namespace) (statements : List (PlacedStatement A)) (i : ℕ) (p : PlacedStatement A) → slice_get statements i ≡ Some p

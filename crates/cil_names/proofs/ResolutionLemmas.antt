@@ -7,7 +7,7 @@ use Rattle.std.proofs.lemmas.List.Folds.{list_any-append}
 use Rattle.std.proofs.Math.Bool.{or-false}
 use Rattle.std.proofs.lemmas.Slice.Eq.{bytes_eq-Decides}
 use Rattle.cil_specs.specs.Names.{Word}
-use Rattle.cil_specs.specs.Statements.{RuleKind, the_named, Form, block, optional, type_name, type_alias, alias_actual, type_attribute, attribute_set, common, class, class_common, class_order, rule, is_optional}
+use Rattle.cil_specs.specs.Statements.{RuleKind, Target, itself, the_named, target_words, Form, block, optional, type_name, type_alias, alias_actual, type_attribute, attribute_set, common, class, class_common, class_order, rule, is_optional}
 use Rattle.cil_specs.specs.Joined.{Placed}
 use Rattle.cil_specs.specs.Lookup.{Table, declares, types, classes, declared_in, is_within, is_same, is_word, same_namespace, word_text, holds_of, leads, references, named_permissions, has_name, with_name, distinct, permissions_of, gives_actual, gives_common, actual_statement, is_type, is_alias}
 use Rattle.cil_specs.specs.PolicyFault.{PolicyFault, twice, tables, is_again, twice_words, IsFaultOf, is_unfound, is_lacking, kinds_asked, has_earlier_actual, has_earlier_common, is_of_another_kind, element_words, is_unset, has_too_many, too_many_words}
@@ -251,7 +251,7 @@ filter-two p v w = by (p v) (filter-one p w)
     by true one = refl
     by false one = one
 
--- the words of a statement of two words, of which the first with a fault is asked
+-- the first word with a fault of a rule's source and target
 pub rule-unset : (policy : List Placed) (namespace : List (List ℕ)) (kind : RuleKind) (source target the_class : Word) (permissions : List Word)
     → slice_get (filter (is_unset every_optional policy namespace) (element_words (rule kind source (the_named target) the_class permissions))) 0
     ≡ option_or (word_if (is_unset every_optional policy namespace source) source) (word_if (is_unset every_optional policy namespace target) target)
@@ -262,6 +262,16 @@ pub rule-attribute : (policy : List Placed) (namespace : List (List ℕ)) (kind 
     ≡ option_or (word_if (is_attribute_word every_optional policy namespace source) source) (word_if (is_attribute_word every_optional policy namespace target) target)
 rule-attribute policy namespace kind source target the_class permissions = filter-two (is_attribute_word every_optional policy namespace) source target
 
+-- and of its source alone
+pub itself-unset : (policy : List Placed) (namespace : List (List ℕ)) (kind : RuleKind) (source the_class : Word) (permissions : List Word)
+    → slice_get (filter (is_unset every_optional policy namespace) (element_words (rule kind source itself the_class permissions))) 0 ≡ word_if (is_unset every_optional policy namespace source) source
+itself-unset policy namespace kind source the_class permissions = filter-one (is_unset every_optional policy namespace) source
+
+pub itself-attribute : (policy : List Placed) (namespace : List (List ℕ)) (kind : RuleKind) (source the_class : Word) (permissions : List Word)
+    → slice_get (filter (is_attribute_word every_optional policy namespace) (rule_elements (rule kind source itself the_class permissions))) 0
+    ≡ word_if (is_attribute_word every_optional policy namespace source) source
+itself-attribute policy namespace kind source the_class permissions = filter-one (is_attribute_word every_optional policy namespace) source
+
 pub actual-kinds : (policy : List Placed) (namespace : List (List ℕ)) (alias actual : Word)
     → slice_get (map (λ r. r.1) (filter (is_of_another_kind every_optional policy namespace) (kinds_asked (alias_actual alias actual)))) 0
     ≡ option_or (word_if (is_of_another_kind every_optional policy namespace (is_alias, alias)) alias) (word_if (is_of_another_kind every_optional policy namespace (is_type, actual)) actual)
@@ -269,7 +279,7 @@ actual-kinds policy namespace alias actual =
     words-cons (is_of_another_kind every_optional policy namespace) (λ r. r.1) (is_alias, alias) ((is_type, actual) ∷ [])
     ∙ ap (option_or (word_if (is_of_another_kind every_optional policy namespace (is_alias, alias)) alias)) (words-one (is_of_another_kind every_optional policy namespace) (λ r. r.1) (is_type, actual))
 
--- the first word that is missing of each form that is compiled
+-- the first word that is missing of a form
 abbrev pub first_missing : List Placed → List (List ℕ) → Form → Option Word
 first_missing policy namespace form =
     slice_get (map (λ r. r.1) (filter (is_unfound every_optional policy namespace) (references form)) ++ map (λ p. p.1) (filter (is_lacking every_optional policy namespace) (named_permissions form))) 0
@@ -284,28 +294,40 @@ or-or : {X : Type 0} (a b c : Option X) → option_or (option_or a b) c ≡ opti
 or-or None b c = refl
 or-or (Some x) b c = refl
 
-pub missing-rule : (policy : List Placed) (namespace : List (List ℕ)) (kind : RuleKind) (source target the_class : Word) (permissions : List Word)
-    → first_missing policy namespace (rule kind source (the_named target) the_class permissions)
+pub missing-rule : (policy : List Placed) (namespace : List (List ℕ)) (kind : RuleKind) (source : Word) (target : Target) (the_class : Word) (permissions : List Word)
+    → first_missing policy namespace (rule kind source target the_class permissions)
     ≡ option_or (word_if (is_unfound every_optional policy namespace (types, source)) source)
-    (option_or (word_if (is_unfound every_optional policy namespace (types, target)) target) (first_missing_permission policy namespace the_class permissions))
+    (option_or (find (λ w. is_unfound every_optional policy namespace (types, w)) (target_words target)) (first_missing_permission policy namespace the_class permissions))
 missing-rule policy namespace kind source target the_class permissions =
-    first-append (map (λ r. r.1) (filter test ((types, source) ∷ (types, target) ∷ (classes, the_class) ∷ []))) (map (λ p. p.1) (filter (is_lacking every_optional policy namespace) (map (λ w. (the_class, w)) permissions)))
-    ∙ ap (λ o. option_or o lacked) three ∙ or-or (word_if (test (types, source)) source) (option_or (word_if (test (types, target)) target) (word_if (test (classes, the_class)) the_class)) lacked
-    ∙ ap (option_or (word_if (test (types, source)) source)) (or-or (word_if (test (types, target)) target) (word_if (test (classes, the_class)) the_class) lacked
-    ∙ ap (λ o. option_or (word_if (test (types, target)) target) (option_or (word_if (test (classes, the_class)) the_class) o)) (words-find (is_lacking every_optional policy namespace) the_class permissions))
+    first-append (map (λ r. r.1) (filter test ((types, source) ∷ aims))) (map (λ p. p.1) (filter (is_lacking every_optional policy namespace) (map (λ w. (the_class, w)) permissions)))
+    ∙ ap (λ o. option_or o lacked) (words-cons test (λ r. r.1) (types, source) aims)
+    ∙ or-or first (slice_get (map (λ r. r.1) (filter test aims)) 0) lacked
+    ∙ ap (λ o. option_or first (option_or o lacked)) (behind target)
+    ∙ ap (option_or first) (or-or (find aimed (target_words target)) last lacked
+    ∙ ap (λ o. option_or (find aimed (target_words target)) (option_or last o)) (words-find (is_lacking every_optional policy namespace) the_class permissions))
   where
     test : Table × Word → Bool
     test r = is_unfound every_optional policy namespace r
 
+    aimed : Word → Bool
+    aimed w = is_unfound every_optional policy namespace (types, w)
+
+    aims : List (Table × Word)
+    aims = map (λ w. (types, w)) (target_words target) ++ (classes, the_class) ∷ []
+
+    first : Option Word
+    first = word_if (test (types, source)) source
+
+    last : Option Word
+    last = word_if (test (classes, the_class)) the_class
+
     lacked : Option Word
     lacked = slice_get (map (λ p. p.1) (filter (is_lacking every_optional policy namespace) (map (λ w. (the_class, w)) permissions))) 0
 
-    three : slice_get (map (λ r. r.1) (filter test ((types, source) ∷ (types, target) ∷ (classes, the_class) ∷ []))) 0
-        ≡ option_or (word_if (test (types, source)) source) (option_or (word_if (test (types, target)) target) (word_if (test (classes, the_class)) the_class))
-    three =
-        words-cons test (λ r. r.1) (types, source) ((types, target) ∷ (classes, the_class) ∷ [])
-        ∙ ap (option_or (word_if (test (types, source)) source)) (words-cons test (λ r. r.1) (types, target) ((classes, the_class) ∷ [])
-        ∙ ap (option_or (word_if (test (types, target)) target)) (words-one test (λ r. r.1) (classes, the_class)))
+    behind : (t : Target) → slice_get (map (λ r. r.1) (filter test (map (λ w. (types, w)) (target_words t) ++ (classes, the_class) ∷ []))) 0 ≡ option_or (find aimed (target_words t)) last
+    behind itself = words-one test (λ r. r.1) (classes, the_class)
+    behind (the_named word) =
+        words-cons test (λ r. r.1) (types, word) ((classes, the_class) ∷ []) ∙ ap (option_or (word_if (test (types, word)) word)) (words-one test (λ r. r.1) (classes, the_class))
 
 and-true : (b : Bool) → (b && true) ≡ b
 and-true true = refl

@@ -1,10 +1,10 @@
 -- The words of rules in a policy that compiles.
-use Rattle.std.proofs.Common.{◌≡◌, ℕ, Bool, true, false, not, ◌&&◌, List, [], ◌∷◌, Contains, Option, Some, None, is_some, refl, sym, ap, subst, true≢false}
-use Rattle.std.specs.List.{list_all}
+use Rattle.std.proofs.Common.{◌≡◌, ℕ, Bool, true, false, not, ◌&&◌, List, [], ◌∷◌, ◌++◌, map, Contains, Option, Some, None, is_some, refl, sym, ap, subst, true≢false}
+use Rattle.std.specs.List.{list_all, AllByRecursion}
 use Rattle.cil_specs.specs.Names.{Word}
-use Rattle.cil_specs.specs.Statements.{RuleKind, the_named, rule}
+use Rattle.cil_specs.specs.Statements.{RuleKind, Target, itself, the_named, rule, target_words}
 use Rattle.cil_specs.specs.Joined.{Placed}
-use Rattle.cil_specs.specs.Lookup.{types, classes, has_name, texts, holds_of, leads, references, named_permissions, actual_statement, is_alias, permissions_of}
+use Rattle.cil_specs.specs.Lookup.{Table, types, classes, has_name, texts, holds_of, leads, references, named_permissions, actual_statement, is_alias, permissions_of}
 use Rattle.cil_specs.specs.Next.{every_optional}
 use Rattle.cil_specs.specs.PolicyFault.{Compiles, element_words}
 use Rattle.cil_specs.proofs.NamesLemmas.{contains-first, contains-other, contains-map}
@@ -21,7 +21,7 @@ all-of names (w ∷ words) each =
     both_true (has_name names w.text) (list_all (has_name names) (texts words)) (each w (contains-first w words)) (all-of names words (λ v is. each v (contains-other w words v is)))
 
 module _ (policy : List Placed) (compiles : Compiles every_optional policy) (s : Placed) (there : Contains policy s) (top : s.optionals ≡ [])
-    (kind : RuleKind) (source target the_class : Word) (permissions : List Word) (is : s.form ≡ rule kind source (the_named target) the_class permissions) where
+    (kind : RuleKind) (source : Word) (target : Target) (the_class : Word) (permissions : List Word) (is : s.form ≡ rule kind source target the_class permissions) where
   set-test : Placed → Bool
   set-test u = not (is_alias u.form && not (is_some (actual_statement every_optional policy u)))
 
@@ -37,24 +37,36 @@ module _ (policy : List Placed) (compiles : Compiles every_optional policy) (s :
       by None led some = some
       by (Some u) led some = set u (is_alias u.form) refl (alias-set every_optional policy compiles s there top word names_it u led)
 
+  -- the references behind the source
+  abbrev later : List (Table × Word)
+  later = map (λ w. (types, w)) (target_words target) ++ (classes, the_class) ∷ []
+
   pub source-led : is_element_word every_optional policy s.namespace source ≡ true
   source-led =
-      element-word source (subst (λ f. Contains (references f) (types, source)) (sym is) (contains-first (types, source) ((types, target) ∷ (classes, the_class) ∷ [])))
-      (subst (λ f. Contains (element_words f) source) (sym is) (contains-first source (target ∷ [])))
+      element-word source (subst (λ f. Contains (references f) (types, source)) (sym is) (contains-first {X = Table × Word} (types, source) later))
+      (subst (λ f. Contains (element_words f) source) (sym is) (contains-first source (target_words target)))
 
-  pub target-led : is_element_word every_optional policy s.namespace target ≡ true
-  target-led =
-      element-word target
-      (subst (λ f. Contains (references f) (types, target)) (sym is)
-      (contains-other (types, source) ((types, target) ∷ (classes, the_class) ∷ []) (types, target) (contains-first (types, target) ((classes, the_class) ∷ []))))
-      (subst (λ f. Contains (element_words f) target) (sym is) (contains-other source (target ∷ []) target (contains-first target [])))
+  pub target-led : AllByRecursion (λ w. is_element_word every_optional policy s.namespace w ≡ true) (target_words target)
+  target-led = by target is
+    where
+      by : (aim : Target) → s.form ≡ rule kind source aim the_class permissions → AllByRecursion (λ w. is_element_word every_optional policy s.namespace w ≡ true) (target_words aim)
+      by itself e = tt
+      by (the_named word) e = (
+        element-word word
+            (subst (λ f. Contains (references f) (types, word)) (sym e)
+            (contains-other (types, source) ((types, word) ∷ (classes, the_class) ∷ []) (types, word) (contains-first (types, word) ((classes, the_class) ∷ []))))
+            (subst (λ f. Contains (element_words f) word) (sym e) (contains-other source (word ∷ []) word (contains-first word []))),
+        tt,
+      )
+
+  class-last : (words : List Word) → Contains {X = Table × Word} (map (λ w. (types, w)) words ++ (classes, the_class) ∷ []) (classes, the_class)
+  class-last [] = contains-first (classes, the_class) []
+  class-last (w ∷ words) = contains-other (types, w) (map (λ v. (types, v)) words ++ (classes, the_class) ∷ []) (classes, the_class) (class-last words)
 
   pub class-led : is_some (leads every_optional policy classes s.namespace the_class.text) ≡ true
   class-led =
       word-found every_optional policy compiles s there top classes the_class
-      (subst (λ f. Contains (references f) (classes, the_class)) (sym is)
-      (contains-other (types, source) ((types, target) ∷ (classes, the_class) ∷ []) (classes, the_class)
-      (contains-other (types, target) ((classes, the_class) ∷ []) (classes, the_class) (contains-first (classes, the_class) []))))
+      (subst (λ f. Contains (references f) (classes, the_class)) (sym is) (contains-other (types, source) later (classes, the_class) (class-last (target_words target))))
 
   pub permissions-there : (names : List (List ℕ)) → AreNamesOf policy names → HasWords names permissions
   permissions-there names are =

@@ -1,10 +1,10 @@
--- Policies as lists of statements: none stands in an optional, each says what is compiled so far, and they stand in order.
+-- Policies as lists of statements: none stands in an optional, each is neither an optional nor an attribute set, and they stand in order.
 use Rattle.std.specs.Prelude.{◌≡◌, ◌⊎◌, ℕ, ◌<◌, List, [], ◌∷◌, map, Contains, IsTrue}
 use Rattle.std.specs.List.{AllByRecursion}
 use Rattle.std.specs.declared.cmp.Ordering.TheVariants.{Less}
 use Rattle.cil_specs.specs.Statements.{Form, words_of, rise_from}
 use Rattle.cil_specs.specs.Joined.{Placed}
-use Rattle.cil_specs.specs.Next.{is_compiled_form}
+use Rattle.cil_specs.specs.Next.{is_plain_form}
 use Rattle.cil_specs.specs.PolicyFault.{PolicyFault, IsNoLater}
 use Rattle.cil_specs.specs.Report.{name_cmp}
 
@@ -15,9 +15,9 @@ offsets_in form = map (λ (role, word). word.at.offset) (words_of form)
 abbrev pub offsets_of : Placed → List ℕ
 offsets_of s = offsets_in s.form
 
--- a statement in no optional, of a form that is compiled, whose words stand one behind the other
+-- a plain statement in no optional, whose words stand one behind the other
 pub record IsPlain (s : Placed) : Type 0 where
-  pub compiled : IsTrue (is_compiled_form s.form)
+  pub plain : IsTrue (is_plain_form s.form)
   pub optionals : s.optionals ≡ []
   pub rising : IsTrue (rise_from 0 (offsets_of s))
 

@@ -4,7 +4,7 @@ use Rattle.std.specs.List.{position, IsDistinct}
 use Rattle.std.specs.Map.{lookup}
 use Rattle.std.specs.Option.{option_and_then, option_to_list}
 use Rattle.cil_specs.specs.Names.{Word}
-use Rattle.cil_specs.specs.Next.{is_compiled_form}
+use Rattle.cil_specs.specs.Next.{is_plain_form}
 use Rattle.cil_specs.specs.PolicyFault.{twice_words}
 use Rattle.cil_specs.specs.Joined.{Placed}
 use Rattle.cil_specs.specs.Lookup.{Table, types, classes, commons, scopes, declared_in, declares, same_namespace, is_type, is_alias, is_attribute}
@@ -79,7 +79,7 @@ pub record IsTaken (spaces : List Namespace) (policy : List Placed) (s : Placed)
 
 -- so it is of the statement at a place, whatever stands in front
 abbrev pub Takes : {A : Type 0} → ℕ → PlacedStatement A → List (Key × ℕ) → List (Key × ℕ) → Option Word → Type 0
-Takes i p old new found = (spaces : List Namespace) (policy : List Placed) → IsDistinct same_namespace spaces → p.namespace < length spaces → length policy ≡ i → IsTrue (is_compiled_form (form_of p.statement.now))
+Takes i p old new found = (spaces : List Namespace) (policy : List Placed) → IsDistinct same_namespace spaces → p.namespace < length spaces → length policy ≡ i → IsTrue (is_plain_form (form_of p.statement.now))
     → HasDeclaredIn spaces policy old → IsTaken spaces policy (placed_of spaces p) new found
 
 -- The statements are in the namespaces, of which each stands once and is the global one or a block's.

@@ -2,12 +2,14 @@
 use Rattle.std.specs.Prelude.{ℕ, List, length}
 use Rattle.cil_specs.specs.Place.{Place}
 use Rattle.cil_specs.specs.Statements.{RuleKind}
-use Rattle.cil_specs.specs.Rule.{Element, a_type, an_attribute, Aim, at_element, Declared, ClassOf, Rule}
+use Rattle.cil_specs.specs.Rule.{Element, a_type, an_attribute, Aim, at_itself, at_element, Declared, ClassOf, Rule}
 use Rattle.cil_text.specs.Image.{place_of, rule_kind_of}
 use Rattle.cil_names.specs.declared.views.NameView.{NameView}
 use Rattle.cil_names.specs.declared.views.ClassView.{ClassView}
 use Rattle.cil_names.specs.declared.views.ElementView.{ElementView}
 use Rattle.cil_names.specs.declared.views.ElementView.TheVariants.{«Type», Attribute}
+use Rattle.cil_names.specs.declared.views.AimView.{AimView}
+use Rattle.cil_names.specs.declared.views.AimView.TheVariants as aims
 use Rattle.cil_names.specs.declared.views.RuleView.{RuleView}
 
 abbrev pub declared_seen : NameView → Declared
@@ -29,6 +31,10 @@ class_seen v = record { module_name = v.«module».now; at = place_of v.at; name
 abbrev pub element_seen : ElementView → Element
 element_seen («Type» name) = a_type name.now
 element_seen (Attribute name) = an_attribute name.now
+
+abbrev pub aim_seen : AimView → Aim
+aim_seen aims.Itself = at_itself
+aim_seen (aims.Element e) = at_element (element_seen e)
 
 -- a rule but for its permissions, which are counted
 pub record RuleHead : Type 0 where
@@ -57,7 +63,7 @@ rule_seen v = record {
   at = place_of v.at;
   kind = rule_kind_of v.kind;
   source = element_seen v.source;
-  target = at_element (element_seen v.target);
+  target = aim_seen v.target;
   the_class = v.class.now;
   permissions = v.permissions;
 }

@@ -10,6 +10,13 @@ pub enum Element {
     Attribute(usize),
 }
 
+/// A rule's target: each source itself, or what a name leads to.
+#[derive(Clone, Copy, Debug, PartialEq, Eq)]
+pub enum Aim {
+    Itself,
+    Element(Element),
+}
+
 /// A type or an attribute, by the place of its full name, and where it is declared: the place of its module's name, and the place
 /// of its statement.
 #[derive(Clone, Copy, Debug)]
@@ -35,7 +42,7 @@ pub struct NumberedRule<A: Allocator = Global> {
     pub at: Place,
     pub kind: RuleKind,
     pub source: Element,
-    pub target: Element,
+    pub target: Aim,
     pub class: usize,
     pub permissions: Vec<usize, A>,
 }

@@ -1,29 +1,30 @@
 //! A policy by the numbers of its names.
 
 ghost use Rattle.std.specs.Prelude.{◌≡◌, ◌≢◌, ◌<◌, [], Some, map, fold, length, slice_get, slice_index_or, is_some, option_map, Contains, IsTrue, IfOk, OnOk};
-ghost use Rattle.std.specs.List.{list_all};
+ghost use Rattle.std.specs.List.{list_all, AllByRecursion};
 ghost use Rattle.std.specs.Option.{option_to_list};
 ghost use Rattle.cil_specs.specs.Joined.{Placed};
 ghost use Rattle.cil_specs.specs.Lookup.{types, classes as class_table, leads as leads_from, holds_of, actual_statement, actual_of, is_type, with_name};
 ghost use Rattle.cil_specs.specs.Report.{names_rise};
-ghost use Rattle.cil_specs.specs.Rule.{element_of as element_led, class_name, classes_of, rules_of, rule_of as rule_led};
+ghost use Rattle.cil_specs.specs.Rule.{element_of as element_led, aim_of as aim_led, class_name, classes_of, rules_of, rule_of as rule_led};
+ghost use Rattle.cil_specs.specs.Statements.{target_words};
 ghost use Rattle.cil_specs.specs.PolicyFault.{Compiles};
-ghost use Rattle.cil_specs.specs.Next.{every_optional, is_compiled_form};
-ghost use Rattle.cil_text.specs.Image.{word_of};
-ghost use Rattle.cil_names.specs.Below.{is_element_below, is_rule_below, is_name_below, is_class_below};
+ghost use Rattle.cil_specs.specs.Next.{every_optional};
+ghost use Rattle.cil_text.specs.Image.{word_of, target_of};
+ghost use Rattle.cil_names.specs.Below.{is_element_below, is_aim_below, is_rule_below, is_name_below, is_class_below};
 ghost use Rattle.cil_names.specs.First.{IsFirstOf};
 ghost use Rattle.cil_names.specs.FullNames.{full_name_of};
 ghost use Rattle.cil_names.specs.Numbering.{names_with, AreNamesOf, is_numbered, is_element_word, declared_by, declared_if, class_if, IsNumbering};
 ghost use Rattle.cil_names.specs.Placed.{form_of, placed_of};
 ghost use Rattle.cil_names.specs.Policy.{namespace_at, modules_in, policy_in, IsSound};
 ghost use Rattle.cil_names.specs.Resolution.{IsResolved};
-ghost use Rattle.cil_names.specs.Resolved.{IsPolicy, element_of, declared_of, class_of, rule_of};
+ghost use Rattle.cil_names.specs.Resolved.{IsPolicy, element_of, aim_of, declared_of, class_of, rule_of};
 ghost use Rattle.cil_names.specs.declared.kinds.Kind.TheVariants.{Alias};
 
 use crate::full_names::full_names;
 use crate::kinds::{Kind, Table};
 use crate::name_set::NameSet;
-use crate::numbered::{Element, NumberedClass, NumberedName, NumberedRule};
+use crate::numbered::{Aim, Element, NumberedClass, NumberedName, NumberedRule};
 use crate::placed::PlacedStatement;
 use crate::resolution::Resolution;
 use crate::resolved::Resolved;
@@ -261,7 +262,6 @@ impl<'n, 't, 'j, 'a: 't, A: Allocator + Copy> Numbering<'n, 't, 'j, 'a, A> {
         requires at { Contains (policy_in self.now.resolution.now.policy) (placed_of self.now.resolution.now.policy.spaces placed.now) }
         requires within { placed.now.namespace < length self.now.resolution.now.policy.spaces }
         requires numbered { slice_index_or (modules_in self.now.resolution.now.policy) placed.now.module [] ≡ placed.now.module_name.now }
-        requires compiled { IsTrue (is_compiled_form (form_of placed.now.statement.now)) }
         ensures rule { IfOk result (λ rule. map (rule_of (modules_in self.now.resolution.now.policy) self.now.names.now) (option_to_list rule)
             ≡ rule_led every_optional (policy_in self.now.resolution.now.policy) (placed_of self.now.resolution.now.policy.spaces placed.now) (form_of placed.now.statement.now)) }
         ensures within { IfOk result (λ rule. IsTrue (list_all (is_rule_below (length self.now.names.now)) (option_to_list rule))) }
@@ -277,18 +277,29 @@ impl<'n, 't, 'j, 'a: 't, A: Allocator + Copy> Numbering<'n, 't, 'j, 'a, A> {
         else {
             return Ok(None);
         };
-        let Target::Named(aim) = target else {
-            return Ok(None);
-        };
         Ok(Some(NumberedRule {
             module: placed.module,
             at: *at,
             kind: *kind,
             source: self.element(placed.namespace, *source),
-            target: self.element(placed.namespace, *aim),
+            target: self.aim(placed.namespace, *target),
             class: self.class(placed.namespace, *class),
             permissions: self.names.numbers(self.alloc, permissions)?,
         }))
+    }
+
+    /// What a target in the namespace of a number is.
+    fn aim(&self, namespace: usize, target: Target<'a>) -> Aim
+        requires ready { IsNumbering self.now }
+        requires within { namespace < length self.now.resolution.now.policy.spaces }
+        requires led { AllByRecursion (λ w. IsTrue (is_element_word every_optional (policy_in self.now.resolution.now.policy) (namespace_at self.now.resolution.now.policy.spaces namespace) w)) (target_words (target_of target)) }
+        ensures within { IsTrue (is_aim_below (length self.now.names.now) result) }
+        ensures aim { aim_of self.now.names.now result ≡ aim_led every_optional (policy_in self.now.resolution.now.policy) (namespace_at self.now.resolution.now.policy.spaces namespace) (target_of target.entry) }
+    {
+        match target {
+            Target::Itself => Aim::Itself,
+            Target::Named(word) => Aim::Element(self.element(namespace, word)),
+        }
     }
 
     /// What a word in the namespace of a number leads to, an alias to its type.

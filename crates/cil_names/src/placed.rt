@@ -4,7 +4,7 @@ ghost use Rattle.std.specs.Prelude.{◌≡◌, ◌<◌, ◌++◌, ℕ, List, [],
 ghost use Rattle.std.specs.List.{list_all, IsDistinct};
 ghost use Rattle.cil_specs.specs.Joined.{placed as placed_in, joined as joined_policy};
 ghost use Rattle.cil_specs.specs.Lookup.{same_namespace};
-ghost use Rattle.cil_specs.specs.Next.{is_compiled};
+ghost use Rattle.cil_specs.specs.Next.{is_plain};
 ghost use Rattle.cil_text.specs.Image.{statements_of};
 ghost use Rattle.cil_names.specs.Image.{modules_of};
 ghost use Rattle.cil_names.specs.Flat.{AreFlat};
@@ -107,7 +107,7 @@ pub fn place_statements<'j, 'a, A: Allocator + Copy>(
     alloc: A,
     joined: &'j Joined<'a, A>,
 ) -> Result<Flat<'j, 'a, A>, AllocError>
-    requires compiled { IsTrue (list_all (λ m. is_compiled m.statements) (modules_of joined.now)) }
+    requires plain { IsTrue (list_all (λ m. is_plain m.statements) (modules_of joined.now)) }
     ensures policy { IfOk result (λ flat. policy_of flat.spaces flat.statements.items ≡ joined_policy (modules_of joined.now)) }
     ensures numbered { IfOk result (λ flat. AreNumbered (map (λ m. m.now) flat.modules.items) flat.statements.items) }
     ensures flat { IfOk result (λ flat. AreFlat (policy_of flat.spaces flat.statements.items)) }
@@ -137,7 +137,7 @@ impl<'j, 'a, A: Allocator + Copy> Flat<'j, 'a, A> {
         statements: &'j [Statement<'a, A>],
     ) -> Result<(), AllocError>
         requires within { namespace < length self.old.spaces }
-        requires compiled { IsTrue (is_compiled (statements_of statements.now)) }
+        requires plain { IsTrue (is_plain (statements_of statements.now)) }
         ensures { OnOk result (Extends self.old self.new number module_name.now
             (placed_in module_name.now (slice_index_or self.old.spaces namespace []) [] (statements_of statements.now))) }
     {

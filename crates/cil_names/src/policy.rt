@@ -6,7 +6,7 @@ ghost use Rattle.std.specs.Option.{option_and_then};
 ghost use Rattle.cil_specs.specs.Joined.{Placed, joined as joined_policy};
 ghost use Rattle.cil_specs.specs.Lookup.{declares, leads as leads_from, outward as looked_outward, nearest_block as nearest, inside as looked_inside, from_namespace as looked_from, types, texts, listed_by, actual_in};
 ghost use Rattle.cil_specs.specs.PolicyFault.{twice, IsFaultOf};
-ghost use Rattle.cil_specs.specs.Next.{every_optional, is_compiled};
+ghost use Rattle.cil_specs.specs.Next.{every_optional, is_plain};
 ghost use Rattle.cil_text.specs.Image.{word_of};
 ghost use Rattle.cil_names.specs.Image.{modules_of, PolicyFaultIs};
 ghost use Rattle.cil_names.specs.Flat.{AreFlat, IsLeast};
@@ -53,7 +53,7 @@ fn split_dot(text: &[u8]) -> Option<(&[u8], &[u8])>
 impl<'j, 'a, A: Allocator + Copy> Policy<'j, 'a, A> {
     /// The joined policy of modules, or the first name that is declared twice.
     pub fn of(alloc: A, joined: &'j Joined<'a, A>) -> Result<Self, PolicyFault<'a>>
-        requires compiled { IsTrue (list_all (λ m. is_compiled m.statements) (modules_of joined.now)) }
+        requires plain { IsTrue (list_all (λ m. is_plain m.statements) (modules_of joined.now)) }
         ensures sound { IfOk result IsSound }
         ensures policy { IfOk result (λ p. (policy_in p) ≡ joined_policy (modules_of joined.now)) }
         ensures once { IfOk result (λ p. (fault : _) → IsFaultOf twice every_optional (policy_in p) fault → ⊥) }

@@ -2,11 +2,12 @@
 
 ghost use Rattle.std.specs.Prelude.{◌≡◌, ◌≢◌, ◌<◌, Some, map, take, length, slice_get, option_map, IfOk, IfErr, OnOk, IsTrue};
 ghost use Rattle.std.specs.List.{find};
+ghost use Rattle.cil_specs.specs.Statements.{target_words};
 ghost use Rattle.cil_specs.specs.Joined.{Placed};
-ghost use Rattle.cil_specs.specs.Lookup.{classes};
+ghost use Rattle.cil_specs.specs.Lookup.{types, classes};
 ghost use Rattle.cil_specs.specs.PolicyFault.{twice, IsFaultOf, faulty_words, missing_words, is_unfound, wrong_kind_words, is_of_another_kind, alias_unset_words, is_unset, too_many_words, Compiles, IsFirst};
-ghost use Rattle.cil_specs.specs.Next.{every_optional, is_compiled_form, is_attribute_word, IsCompiledWhole, IsFirstAttributeFault};
-ghost use Rattle.cil_text.specs.Image.{word_of};
+ghost use Rattle.cil_specs.specs.Next.{every_optional, is_plain_form, is_attribute_word, IsCompiledWhole, IsFirstAttributeFault};
+ghost use Rattle.cil_text.specs.Image.{word_of, target_of};
 ghost use Rattle.cil_names.specs.Image.{policy_kind_of, IsFoundFault};
 ghost use Rattle.cil_names.specs.Placed.{form_of, placed_of};
 ghost use Rattle.cil_names.specs.Flat.{IsLeast};
@@ -123,7 +124,7 @@ impl<'j, 'a, A: Allocator> Resolution<'j, 'a, A> {
         requires kind { kind ≢ Twice }
         requires at { slice_get (policy_in self.now.policy) place ≡ Some (placed_of self.now.policy.spaces placed.now) }
         requires within { placed.now.namespace < length self.now.policy.spaces }
-        requires compiled { IsTrue (is_compiled_form (form_of placed.now.statement.now)) }
+        requires plain { IsTrue (is_plain_form (form_of placed.now.statement.now)) }
         ensures { option_map word_of result
             ≡ slice_get (faulty_words (policy_kind_of kind) every_optional (policy_in self.now.policy) (take place (policy_in self.now.policy)) (placed_of self.now.policy.spaces placed.now)) 0 }
     {
@@ -164,17 +165,16 @@ impl<'j, 'a, A: Allocator> Resolution<'j, 'a, A> {
     fn attribute_word(&self, placed: &PlacedStatement<'j, 'a, A>) -> Option<Word<'a>>
         requires resolved { IsResolved self.now }
         requires within { placed.now.namespace < length self.now.policy.spaces }
-        requires compiled { IsTrue (is_compiled_form (form_of placed.now.statement.now)) }
         ensures { option_map word_of result ≡ slice_get (attribute_words (policy_in self.now.policy) (placed_of self.now.policy.spaces placed.now)) 0 }
     {
         let Statement::Rule { source, target, .. } = placed.statement else {
             return None;
         };
-        let Target::Named(target) = target else {
-            return None;
-        };
         let first = self.attribute(placed, *source);
-        first.or(self.attribute(placed, *target))
+        match target {
+            Target::Itself => first,
+            Target::Named(target) => first.or(self.attribute(placed, *target)),
+        }
     }
 
     /// Whether the statement at a place declares a thing of a kind.
@@ -219,6 +219,22 @@ impl<'j, 'a, A: Allocator> Resolution<'j, 'a, A> {
         }
     }
 
+    /// The word of a target, if it leads nowhere.
+    fn unfound_target(
+        &self,
+        placed: &PlacedStatement<'j, 'a, A>,
+        target: Target<'a>,
+    ) -> Option<Word<'a>>
+        requires resolved { IsResolved self.now }
+        requires within { placed.now.namespace < length self.now.policy.spaces }
+        ensures { option_map word_of result ≡ find (λ w. is_unfound every_optional (policy_in self.now.policy) (namespace_at self.now.policy.spaces placed.now.namespace) (types, w)) (target_words (target_of target.entry)) }
+    {
+        match target {
+            Target::Itself => None,
+            Target::Named(word) => self.unfound(placed, Table::Types, word),
+        }
+    }
+
     /// The first of classes that leads nowhere.
     fn unfound_class(
         &self,
@@ -241,7 +257,7 @@ impl<'j, 'a, A: Allocator> Resolution<'j, 'a, A> {
     fn missing_word(&self, placed: &PlacedStatement<'j, 'a, A>) -> Option<Word<'a>>
         requires resolved { IsResolved self.now }
         requires within { placed.now.namespace < length self.now.policy.spaces }
-        requires compiled { IsTrue (is_compiled_form (form_of placed.now.statement.now)) }
+        requires plain { IsTrue (is_plain_form (form_of placed.now.statement.now)) }
         ensures { option_map word_of result ≡ slice_get (missing_words every_optional (policy_in self.now.policy) (placed_of self.now.policy.spaces placed.now)) 0 }
     {
         match placed.statement {
@@ -261,11 +277,8 @@ impl<'j, 'a, A: Allocator> Resolution<'j, 'a, A> {
                 permissions,
                 ..
             } => {
-                let Target::Named(target) = target else {
-                    return None;
-                };
                 let first = self.unfound(placed, Table::Types, *source);
-                let second = self.unfound(placed, Table::Types, *target);
+                let second = self.unfound_target(placed, *target);
                 let others = second.or(self.missing_permission(placed, *class, permissions));
                 first.or(others)
             }
@@ -298,7 +311,7 @@ impl<'j, 'a, A: Allocator> Resolution<'j, 'a, A> {
     fn wrong_kind_word(&self, placed: &PlacedStatement<'j, 'a, A>) -> Option<Word<'a>>
         requires resolved { IsResolved self.now }
         requires within { placed.now.namespace < length self.now.policy.spaces }
-        requires compiled { IsTrue (is_compiled_form (form_of placed.now.statement.now)) }
+        requires plain { IsTrue (is_plain_form (form_of placed.now.statement.now)) }
         ensures { option_map word_of result ≡ slice_get (wrong_kind_words every_optional (policy_in self.now.policy) (placed_of self.now.policy.spaces placed.now)) 0 }
     {
         let Statement::TypeAliasActual { alias, actual, .. } = placed.statement else {
@@ -375,17 +388,17 @@ impl<'j, 'a, A: Allocator> Resolution<'j, 'a, A> {
     fn unset_word(&self, placed: &PlacedStatement<'j, 'a, A>) -> Option<Word<'a>>
         requires resolved { IsResolved self.now }
         requires within { placed.now.namespace < length self.now.policy.spaces }
-        requires compiled { IsTrue (is_compiled_form (form_of placed.now.statement.now)) }
+        requires plain { IsTrue (is_plain_form (form_of placed.now.statement.now)) }
         ensures { option_map word_of result ≡ slice_get (alias_unset_words every_optional (policy_in self.now.policy) (placed_of self.now.policy.spaces placed.now)) 0 }
     {
         let Statement::Rule { source, target, .. } = placed.statement else {
             return None;
         };
-        let Target::Named(target) = target else {
-            return None;
-        };
         let first = self.unset(placed, *source);
-        first.or(self.unset(placed, *target))
+        match target {
+            Target::Itself => first,
+            Target::Named(target) => first.or(self.unset(placed, *target)),
+        }
     }
 
     /// The name of a class that has more than 32 permissions.

@@ -4,7 +4,7 @@ ghost use Rattle.std.specs.Prelude.{◌≡◌, IsTrue, IfOk, IfErr, OnOk};
 ghost use Rattle.std.specs.List.{list_all};
 ghost use Rattle.cil_specs.specs.Joined.{joined as joined_policy};
 ghost use Rattle.cil_specs.specs.PolicyFault.{Compiles, IsFirst};
-ghost use Rattle.cil_specs.specs.Next.{every_optional, is_compiled, IsRefusedFor, IsCompiledWhole};
+ghost use Rattle.cil_specs.specs.Next.{every_optional, is_plain, IsRefusedFor, IsCompiledWhole};
 ghost use Rattle.cil_names.specs.Image.{modules_of, PolicyFaultIs};
 ghost use Rattle.cil_names.specs.Policy.{policy_in};
 ghost use Rattle.cil_names.specs.Resolution.{IsResolved};
@@ -23,7 +23,7 @@ fn checked<'j, 'a, A: Allocator + Copy>(
     alloc: A,
     joined: &'j Joined<'a, A>,
 ) -> Result<Resolution<'j, 'a, A>, PolicyFault<'a>>
-    requires compiled { IsTrue (list_all (λ m. is_compiled m.statements) (modules_of joined.now)) }
+    requires plain { IsTrue (list_all (λ m. is_plain m.statements) (modules_of joined.now)) }
     ensures resolved { IfOk result IsResolved }
     ensures policy { IfOk result (λ r. policy_in r.policy ≡ joined_policy (modules_of joined.now)) }
     ensures compiles { OnOk result (Compiles every_optional (joined_policy (modules_of joined.now))) }
@@ -70,7 +70,7 @@ pub fn resolve<'a, A: Allocator + Copy>(
     alloc: A,
     joined: &Joined<'a, A>,
 ) -> Result<Resolved<A>, PolicyFault<'a>>
-    requires compiled { IsTrue (list_all (λ m. is_compiled m.statements) (modules_of joined.now)) }
+    requires plain { IsTrue (list_all (λ m. is_plain m.statements) (modules_of joined.now)) }
     ensures compiles { OnOk result (Compiles every_optional (joined_policy (modules_of joined.now))) }
     ensures policy { IfOk result (λ r. IsPolicy every_optional (joined_policy (modules_of joined.now)) r) }
     ensures err { IfErr result (λ fault. PolicyFaultIs fault (IsFirst every_optional (joined_policy (modules_of joined.now)))) }
@@ -85,7 +85,7 @@ pub fn resolve_types<'a, A: Allocator + Copy>(
     alloc: A,
     joined: &Joined<'a, A>,
 ) -> Result<Resolved<A>, PolicyFault<'a>>
-    requires compiled { IsTrue (list_all (λ m. is_compiled m.statements) (modules_of joined.now)) }
+    requires plain { IsTrue (list_all (λ m. is_plain m.statements) (modules_of joined.now)) }
     ensures compiles { OnOk result (IsCompiledWhole every_optional (joined_policy (modules_of joined.now))) }
     ensures policy { IfOk result (λ r. IsPolicy every_optional (joined_policy (modules_of joined.now)) r) }
     ensures err { IfErr result (λ fault. PolicyFaultIs fault (IsRefusedFor every_optional (joined_policy (modules_of joined.now)))) }

@@ -5,10 +5,10 @@ ghost use Rattle.std.specs.List.{list_all};
 ghost use Rattle.std.specs.Option.{option_and_then};
 ghost use Rattle.cil_specs.specs.Report.{names_rise};
 ghost use Rattle.cil_names.specs.Below.{is_rule_below};
-ghost use Rattle.cil_names.specs.Resolved.{element_of, types_in, attributes_in, classes_in, rules_in};
-ghost use Rattle.cil_names.specs.Views.{declared_seen, class_seen, class_head, element_seen, rule_seen, rule_head};
+ghost use Rattle.cil_names.specs.Resolved.{element_of, aim_of, types_in, attributes_in, classes_in, rules_in};
+ghost use Rattle.cil_names.specs.Views.{declared_seen, class_seen, class_head, element_seen, aim_seen, rule_seen, rule_head};
 
-use crate::numbered::{Element, NumberedRule};
+use crate::numbered::{Aim, Element, NumberedRule};
 use crate::resolved::Resolved;
 use crate::text::Text;
 use cil_text::{Place, RuleKind};
@@ -38,6 +38,13 @@ pub enum ElementView<'r> {
     Attribute(&'r [u8]),
 }
 
+/// A rule's target: each source itself, or what a name leads to.
+#[derive(Clone, Copy, Debug)]
+pub enum AimView<'r> {
+    Itself,
+    Element(ElementView<'r>),
+}
+
 /// A rule by full names, and how many permissions it names.
 #[derive(Clone, Copy, Debug)]
 pub struct RuleView<'r> {
@@ -45,7 +52,7 @@ pub struct RuleView<'r> {
     pub at: Place,
     pub kind: RuleKind,
     pub source: ElementView<'r>,
-    pub target: ElementView<'r>,
+    pub target: AimView<'r>,
     pub class: &'r [u8],
     pub permissions: usize,
 }
@@ -77,6 +84,15 @@ impl<A: Allocator> Resolved<A> {
         match element {
             Element::Type(i) => ElementView::Type(self.name(i)),
             Element::Attribute(i) => ElementView::Attribute(self.name(i)),
+        }
+    }
+
+    fn aim(&self, aim: Aim) -> AimView<'_>
+        ensures { aim_seen result ≡ aim_of self.now.names.items aim }
+    {
+        match aim {
+            Aim::Itself => AimView::Itself,
+            Aim::Element(element) => AimView::Element(self.element(element)),
         }
     }
 
@@ -164,7 +180,7 @@ impl<A: Allocator> Resolved<A> {
             at: rule.at,
             kind: rule.kind,
             source: self.element(rule.source),
-            target: self.element(rule.target),
+            target: self.aim(rule.target),
             class: self.name(rule.class),
             permissions: rule.permissions.len(),
         })

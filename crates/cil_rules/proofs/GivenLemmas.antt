@@ -1,5 +1,5 @@
 -- The accesses that numbered rules give, against those that the rules give by names.
-use Rattle.std.proofs.Common.{◌≡◌, ℕ, ◌<◌, ◌&&◌, ◌==◌, List, [], ◌∷◌, length, map, Bool, false, true≢false, refl, sym, subst, eq-eqb}
+use Rattle.std.proofs.Common.{◌≡◌, ℕ, ◌<◌, ◌&&◌, ◌==◌, List, [], ◌∷◌, length, map, Bool, false, true≢false, refl, sym, subst, ◌∙◌, eq-eqb}
 use Rattle.std.specs.Bool.{IsTrue}
 use Rattle.std.specs.Prelude.{nat_lt, bytes_eq, ◌↔◌}
 use Rattle.std.specs.List.{All, AllByRecursion, Contains, flat_map, list_all, list_any}
@@ -8,17 +8,19 @@ use Rattle.std.specs.Cmp.Lexicographic.{bytes_decides}
 use Rattle.std.proofs.lemmas.Bool.{and_parts, and_from, ltb-true, eqb-true}
 use Rattle.std.proofs.lemmas.List.Elements.{All-from_recursion, All-contains, All-append}
 use Rattle.cil_specs.specs.Rule as spec
-use Rattle.cil_specs.specs.Rule.{kind_index, holds, gives, is_in_table}
+use Rattle.cil_specs.specs.Rule.{kind_index, holds, aims, gives, is_in_table}
 use Rattle.cil_specs.specs.Report.{AreAtoms, names_rise}
 use Rattle.cil_specs.proofs.ReportLemmas.{same-kind}
 use Rattle.cil_specs.proofs.ReportLemmasMembers.{AnyByRecursion, any_to, any_from, contains_to, contains_from, any_weaker, any-map, any_from_map, any-flat_map, any_from_flat_map, any_from_test, test_from_any, counted_from_any, any_from_counted, any_along, all_from_contains}
 use Rattle.cil_text.specs.Image.{rule_kind_of}
 use Rattle.cil_names.specs.declared.numbered.NumberedRule.{NumberedRule}
 use Rattle.cil_rules.specs.declared.numbers.AtomNumbers.{AtomNumbers}
-use Rattle.cil_names.specs.Resolved.{rule_of, element_of}
+use Rattle.cil_names.specs.Resolved.{rule_of, element_of, aim_of}
 use Rattle.cil_names.specs.declared.numbered.Element.{Element}
 use Rattle.cil_names.specs.declared.numbered.Element.TheVariants.{«Type», Attribute}
-use Rattle.cil_names.specs.Below.{is_element_below, is_rule_below}
+use Rattle.cil_names.specs.declared.numbered.Aim.{Aim}
+use Rattle.cil_names.specs.declared.numbered.Aim.TheVariants as targets
+use Rattle.cil_names.specs.Below.{is_element_below, is_aim_below, is_rule_below}
 use Rattle.cil_rules.specs.Atoms.{atom_at, name_at, IsWithin, numbers_cmp, given_for, given_between, given, AreNumbered}
 use Rattle.cil_rules.proofs.AtomLemmas.{atoms-ordered}
 
@@ -35,14 +37,18 @@ permissions-within n r source target ps source_below target_below the_class with
 none-within : (n : ℕ) → All (IsWithin n) []
 none-within n = All-from_recursion (IsWithin n) [] tt
 
-between-within : {A : Type 0} (n : ℕ) (r : NumberedRule A) (source target : Element)
-    → IsTrue (is_element_below n source && (is_element_below n target && (nat_lt r.class n && list_all (λ p. nat_lt p n) r.permissions.items))) → All (IsWithin n) (given_between r source target)
-between-within n r («Type» source) («Type» target) within =
+between-within : {A : Type 0} (n : ℕ) (r : NumberedRule A) (source : Element) (target : Aim)
+    → IsTrue (is_element_below n source && (is_aim_below n target && (nat_lt r.class n && list_all (λ p. nat_lt p n) r.permissions.items))) → All (IsWithin n) (given_between r source target)
+between-within n r («Type» source) targets.Itself within =
     let sources = and_parts (nat_lt source n) _ within in
-    let targets = and_parts (nat_lt target n) _ sources.1 in
-    let classes = and_parts (nat_lt r.class n) _ targets.1 in
-    permissions-within n r source target r.permissions.items (ltb-true _ _ sources.0) (ltb-true _ _ targets.0) (ltb-true _ _ classes.0) classes.1
-between-within n r («Type» source) (Attribute target) within = none-within n
+    let classes = and_parts (nat_lt r.class n) _ sources.1 in
+    permissions-within n r source source r.permissions.items (ltb-true _ _ sources.0) (ltb-true _ _ sources.0) (ltb-true _ _ classes.0) classes.1
+between-within n r («Type» source) (targets.Element («Type» target)) within =
+    let sources = and_parts (nat_lt source n) _ within in
+    let others = and_parts (nat_lt target n) _ sources.1 in
+    let classes = and_parts (nat_lt r.class n) _ others.1 in
+    permissions-within n r source target r.permissions.items (ltb-true _ _ sources.0) (ltb-true _ _ others.0) (ltb-true _ _ classes.0) classes.1
+between-within n r («Type» source) (targets.Element (Attribute target)) within = none-within n
 between-within n r (Attribute source) target within = none-within n
 
 -- what rules whose numbers are below n give, is below n
@@ -55,47 +61,50 @@ given-within n (r ∷ rules) within =
 bytes-same : (xs : List ℕ) → IsTrue (bytes_eq xs xs)
 bytes-same xs = (bytes_decides xs xs).1 refl
 
--- whether a rule gives an access between two elements
-abbrev gives_between : {A : Type 0} → List (List ℕ) → NumberedRule A → Element → Element → spec.Atom → Bool
+-- whether a rule gives an access from a source to a target
+abbrev gives_between : {A : Type 0} → List (List ℕ) → NumberedRule A → Element → Aim → spec.Atom → Bool
 gives_between names r source target a =
-    (kind_index (rule_kind_of r.kind) == kind_index a.kind) && (holds (element_of names source) a.source && (holds (element_of names target) a.target
+    (kind_index (rule_kind_of r.kind) == kind_index a.kind) && (holds (element_of names source) a.source && (aims (aim_of names target) a.source a.target
     && (bytes_eq (name_at names r.class) a.the_class && list_any (bytes_eq a.permission) (map (name_at names) r.permissions.items))))
 
 -- it gives the accesses that its numbers stand for
-gives-types : {A : Type 0} (names : List (List ℕ)) (r : NumberedRule A) (source target : ℕ) (a : spec.Atom) → AnyByRecursion (λ p. atom_at names (given_for r source target p) ≡ a) r.permissions.items
-    → IsTrue (gives_between names r («Type» source) («Type» target) a)
-gives-types names r source target a here =
+gives-types : {A : Type 0} (names : List (List ℕ)) (r : NumberedRule A) (source : ℕ) (aim : Aim) (target : ℕ) (a : spec.Atom) → IsTrue (aims (aim_of names aim) (name_at names source) (name_at names target))
+    → AnyByRecursion (λ p. atom_at names (given_for r source target p) ≡ a) r.permissions.items → IsTrue (gives_between names r («Type» source) aim a)
+gives-types names r source aim target a aimed here =
     let (k, p, within, is, same) = any_from (λ p. atom_at names (given_for r source target p) ≡ a) r.permissions.items here in
     let held : AnyByRecursion (λ q. IsTrue (bytes_eq (name_at names p) q)) (map (name_at names) r.permissions.items) =
     any-map (name_at names) (λ q. IsTrue (bytes_eq (name_at names p) q)) r.permissions.items
     (any_to (λ q. IsTrue (bytes_eq (name_at names p) (name_at names q))) r.permissions.items (k, p, within, is, bytes-same (name_at names p))) in
-    subst (λ x. IsTrue (gives_between names r («Type» source) («Type» target) x)) same
+    subst (λ x. IsTrue (gives_between names r («Type» source) aim x)) same
     (and_from _ _ (eq-eqb (kind_index (rule_kind_of r.kind)) (kind_index (rule_kind_of r.kind)) refl)
     (and_from _ _ (bytes-same (name_at names source))
-    (and_from _ _ (bytes-same (name_at names target))
+    (and_from _ _ aimed
     (and_from _ _ (bytes-same (name_at names r.class)) (test_from_any (bytes_eq (name_at names p)) (map (name_at names) r.permissions.items) held)))))
 
-gives-between : {A : Type 0} (names : List (List ℕ)) (r : NumberedRule A) (source target : Element) (a : spec.Atom) → AnyByRecursion (λ n. atom_at names n ≡ a) (given_between r source target)
+gives-between : {A : Type 0} (names : List (List ℕ)) (r : NumberedRule A) (source : Element) (target : Aim) (a : spec.Atom) → AnyByRecursion (λ n. atom_at names n ≡ a) (given_between r source target)
     → IsTrue (gives_between names r source target a)
-gives-between names r («Type» source) («Type» target) a some =
-    gives-types names r source target a (any_from_map (given_for r source target) (λ n. atom_at names n ≡ a) r.permissions.items some)
-gives-between names r («Type» source) (Attribute target) a some = absurd some
+gives-between names r («Type» source) targets.Itself a some =
+    gives-types names r source targets.Itself source a (bytes-same (name_at names source)) (any_from_map (given_for r source source) (λ n. atom_at names n ≡ a) r.permissions.items some)
+gives-between names r («Type» source) (targets.Element («Type» target)) a some =
+    gives-types names r source (targets.Element («Type» target)) target a (bytes-same (name_at names target)) (any_from_map (given_for r source target) (λ n. atom_at names n ≡ a) r.permissions.items some)
+gives-between names r («Type» source) (targets.Element (Attribute target)) a some = absurd some
 gives-between names r (Attribute source) target a some = absurd some
 
 gives-from_given : {A : Type 0} (modules names : List (List ℕ)) (r : NumberedRule A) (a : spec.Atom) → AnyByRecursion (λ n. atom_at names n ≡ a) (given r) → IsTrue (gives (rule_of modules names r) a)
 gives-from_given modules names r a some = gives-between names r r.source r.target a some
 
 -- and no other
-given-types : {A : Type 0} (names : List (List ℕ)) (r : NumberedRule A) (from to : ℕ) (a : spec.Atom) → IsTrue (gives_between names r («Type» from) («Type» to) a)
+given-types : {A : Type 0} (names : List (List ℕ)) (r : NumberedRule A) (from : ℕ) (aim : Aim) (to : ℕ) (a : spec.Atom)
+    → (name_at names from ≡ a.source → IsTrue (aims (aim_of names aim) a.source a.target) → name_at names to ≡ a.target) → IsTrue (gives_between names r («Type» from) aim a)
     → AnyByRecursion (λ n. atom_at names n ≡ a) (map (given_for r from to) r.permissions.items)
-given-types names r from to a h =
+given-types names r from aim to a aimed h =
     let kinds = and_parts (kind_index (rule_kind_of r.kind) == kind_index a.kind) _ h in
     let sources = and_parts (bytes_eq (name_at names from) a.source) _ kinds.1 in
-    let targets = and_parts (bytes_eq (name_at names to) a.target) _ sources.1 in
-    let classes = and_parts (bytes_eq (name_at names r.class) a.the_class) _ targets.1 in
+    let others = and_parts (aims (aim_of names aim) a.source a.target) _ sources.1 in
+    let classes = and_parts (bytes_eq (name_at names r.class) a.the_class) _ others.1 in
     let kind : rule_kind_of r.kind ≡ a.kind = same-kind (rule_kind_of r.kind) a.kind (eqb-true _ _ kinds.0) in
     let source : name_at names from ≡ a.source = (bytes_decides (name_at names from) a.source).0 sources.0 in
-    let target : name_at names to ≡ a.target = (bytes_decides (name_at names to) a.target).0 targets.0 in
+    let target : name_at names to ≡ a.target = aimed source others.0 in
     let the_class : name_at names r.class ≡ a.the_class = (bytes_decides (name_at names r.class) a.the_class).0 classes.0 in
     let held : AnyByRecursion (λ p. IsTrue (bytes_eq a.permission (name_at names p))) r.permissions.items =
     any_from_map (name_at names) (λ q. IsTrue (bytes_eq a.permission q)) r.permissions.items (any_from_test (bytes_eq a.permission) (map (name_at names) r.permissions.items) classes.1) in
@@ -104,10 +113,12 @@ given-types names r from to a h =
     (λ p e. let permission : name_at names p ≡ a.permission = sym ((bytes_decides a.permission (name_at names p)).0 e) in
     λ i. record { kind = kind i; source = source i; target = target i; the_class = the_class i; permission = permission i }) r.permissions.items held)
 
-given-between : {A : Type 0} (names : List (List ℕ)) (r : NumberedRule A) (source target : Element) (a : spec.Atom) → IsTrue (gives_between names r source target a)
+given-between : {A : Type 0} (names : List (List ℕ)) (r : NumberedRule A) (source : Element) (target : Aim) (a : spec.Atom) → IsTrue (gives_between names r source target a)
     → AnyByRecursion (λ n. atom_at names n ≡ a) (given_between r source target)
-given-between names r («Type» source) («Type» target) a h = given-types names r source target a h
-given-between names r («Type» source) (Attribute target) a h =
+given-between names r («Type» source) targets.Itself a h = given-types names r source targets.Itself source a (λ is same. is ∙ (bytes_decides a.source a.target).0 same) h
+given-between names r («Type» source) (targets.Element («Type» target)) a h =
+    given-types names r source (targets.Element («Type» target)) target a (λ is same. (bytes_decides (name_at names target) a.target).0 same) h
+given-between names r («Type» source) (targets.Element (Attribute target)) a h =
     let sources = and_parts (kind_index (rule_kind_of r.kind) == kind_index a.kind) _ h in
     absurd (true≢false (sym (and_parts (bytes_eq (name_at names source) a.source) false sources.1).1))
 given-between names r (Attribute source) target a h = absurd (true≢false (sym (and_parts (kind_index (rule_kind_of r.kind) == kind_index a.kind) false h).1))

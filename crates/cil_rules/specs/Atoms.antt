@@ -1,5 +1,5 @@
 -- Accesses by full names and by numbers, as the definitions see them.
-use Rattle.std.specs.Prelude.{ℕ, ◌<◌, List, [], slice_index_or, length, map, IsTrue}
+use Rattle.std.specs.Prelude.{ℕ, ◌<◌, List, [], slice_index_or, length, map, Option, Some, None, IsTrue}
 use Rattle.std.specs.List.{All}
 use Rattle.std.specs.List.Sorted.{IsStrictlySortedBy}
 use Rattle.std.specs.Ordering.{nat_cmp, on, then_cmp}
@@ -10,6 +10,8 @@ use Rattle.cil_specs.specs.Report.{names_rise}
 use Rattle.cil_text.specs.Image.{rule_kind_of}
 use Rattle.cil_names.specs.declared.numbered.Element.{Element}
 use Rattle.cil_names.specs.declared.numbered.Element.TheVariants.{«Type», Attribute}
+use Rattle.cil_names.specs.declared.numbered.Aim.{Aim}
+use Rattle.cil_names.specs.declared.numbered.Aim.TheVariants as aims
 use Rattle.cil_names.specs.declared.numbered.NumberedRule.{NumberedRule}
 use Rattle.cil_rules.specs.declared.atom.Atom.{Atom}
 use Rattle.cil_rules.specs.declared.numbers.AtomNumbers.{AtomNumbers}
@@ -54,10 +56,20 @@ pub record AreNumbered (names : List (List ℕ)) (atoms : List AtomNumbers) : Ty
 abbrev pub given_for : {A : Type 0} → NumberedRule A → ℕ → ℕ → ℕ → AtomNumbers
 given_for r source target p = record { kind = r.kind; source = source; target = target; class = r.class; permission = p }
 
--- what a rule gives between two elements: one access for each permission where both are types
-abbrev pub given_between : {A : Type 0} → NumberedRule A → Element → Element → List AtomNumbers
-given_between r («Type» source) («Type» target) = map (given_for r source target) r.permissions.items
-given_between r («Type» source) (Attribute target) = []
+-- the type that a target takes in for a source: the source itself, or the type that is its element
+abbrev pub target_for : ℕ → Aim → Option ℕ
+target_for source aims.Itself = Some source
+target_for source (aims.Element («Type» target)) = Some target
+target_for source (aims.Element (Attribute target)) = None
+
+-- what a rule gives from a type: one access for each permission where the target takes in a type
+abbrev pub given_to : {A : Type 0} → NumberedRule A → ℕ → Option ℕ → List AtomNumbers
+given_to r source (Some target) = map (given_for r source target) r.permissions.items
+given_to r source None = []
+
+-- what a rule gives from a source to a target
+abbrev pub given_between : {A : Type 0} → NumberedRule A → Element → Aim → List AtomNumbers
+given_between r («Type» source) target = given_to r source (target_for source target)
 given_between r (Attribute source) target = []
 
 -- the accesses that a rule gives

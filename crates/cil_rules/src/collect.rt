@@ -3,11 +3,22 @@
 ghost use Rattle.std.specs.Prelude.{◌≡◌, ◌++◌, ◌↔◌, Contains, IfOk, OnOk};
 ghost use Rattle.std.specs.List.{flat_map};
 ghost use Rattle.std.specs.List.Sorted.{IsStrictlySortedBy};
-ghost use Rattle.cil_rules.specs.Atoms.{numbers_cmp, given};
+ghost use Rattle.cil_rules.specs.Atoms.{numbers_cmp, target_for, given};
 
 use crate::numbers::AtomNumbers;
-use cil_names::{Element, NumberedRule};
+use cil_names::{Aim, Element, NumberedRule};
 use std::alloc::{AllocError, Allocator};
+
+/// The type that a rule's target takes in for a source: the source itself, or the type that the target leads to.
+fn target_for(source: usize, aim: Aim) -> Option<usize>
+    ensures { result ≡ target_for source aim }
+{
+    match aim {
+        Aim::Itself => Some(source),
+        Aim::Element(Element::Type(target)) => Some(target),
+        Aim::Element(Element::Attribute(_)) => None,
+    }
+}
 
 /// Appends the accesses that a rule gives. One with an attribute gives none.
 fn push_given<A: Allocator + Copy>(
@@ -19,7 +30,7 @@ fn push_given<A: Allocator + Copy>(
     let Element::Type(source) = rule.source else {
         return Ok(());
     };
-    let Element::Type(target) = rule.target else {
+    let Some(target) = target_for(source, rule.target) else {
         return Ok(());
     };
     for permission in &rule.permissions {

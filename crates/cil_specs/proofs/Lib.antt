@@ -18,3 +18,4 @@ pub mod FaultOrder
 pub mod FaultSame
 pub mod ReportLemmasMembers
 pub mod ReportLemmas
+pub mod PlainLemmas

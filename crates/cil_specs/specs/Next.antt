@@ -66,6 +66,17 @@ abbrev pub is_compiled : Statements → Bool
 is_compiled no_more = true
 is_compiled (statement at form body more) = is_compiled_form form && (is_compiled body && is_compiled more)
 
+-- whether a statement is plain: neither an optional nor an attribute set
+abbrev pub is_plain_form : Form → Bool
+is_plain_form (optional id) = false
+is_plain_form (attribute_set attribute expr) = false
+is_plain_form _ = true
+
+-- whether all statements are, those inside blocks too
+abbrev pub is_plain : Statements → Bool
+is_plain no_more = true
+is_plain (statement at form body more) = is_plain_form form && (is_plain body && is_plain more)
+
 -- the text spells the statements, all of which are compiled
 pub record IsModuleText (bytes : List ℕ) (statements : Statements) : Type 0 where
   pub trees : Trees

@@ -1,22 +1,22 @@
 use Rattle.std.proofs.Common.{◌∙◌, ◌≤◌, [], length, get_or, map, ap, sym, subst, refl, rules}
 use Rattle.std.proofs.lemmas.List.{take_all}
 use Rattle.cil_specs.specs.Joined.{placed, joined}
-use Rattle.cil_specs.specs.Next.{is_compiled}
+use Rattle.cil_specs.specs.Next.{is_plain}
 use Rattle.cil_text.specs.Image.{statements_of}
 use Rattle.cil_names.specs.Flat.{AreFlat}
 use Rattle.cil_names.specs.Image.{module_of}
 use Rattle.cil_names.specs.Placed.{Extends}
 use Rattle.cil_names.specs.declared.placed.Flat.{Flat}
-use Rattle.cil_names.proofs.PlacedLemmas.{module-compiled, placed-module, policy-flat}
+use Rattle.cil_names.proofs.PlacedLemmas.{module-plain, placed-module, policy-flat}
 use Rattle.cil_names.proofs.placed.place_statements.Goals as goal
 
-pub place-requires-clause-compiled : goal.place-requires-clause-compiled
-place-requires-clause-compiled g c =
+pub place-requires-clause-plain : goal.place-requires-clause-plain
+place-requires-clause-plain g c =
     let modules = c.args.joined.now.modules.items in
     let i = c.loop-number.number in
     let m = c.named-item.result in
-    ap (λ l. is_compiled (statements_of l)) c.deref.ensures.value
-    ∙ module-compiled modules i m c.requires.compiled (search rules) (c.named-item.is ∙ ap (λ l. get_or l i m) c.deref-named-items.ensures.value)
+    ap (λ l. is_plain (statements_of l)) c.deref.ensures.value
+    ∙ module-plain modules i m c.requires.plain (search rules) (c.named-item.is ∙ ap (λ l. get_or l i m) c.deref-named-items.ensures.value)
 
 pub loop-number-preserved : goal.loop-number-preserved
 loop-number-preserved g c =
@@ -34,4 +34,4 @@ returns-clause-flat g c =
     let modules = c.args.joined.now.modules.items in
     let i = c.loop-number.number in
     let past : length modules ≤ i = search rules in
-    subst AreFlat (sym (c.loop-number.invariant.policy ∙ ap (λ l. joined (map module_of l)) (take_all i modules past))) (policy-flat c.args.joined.now c.requires.compiled)
+    subst AreFlat (sym (c.loop-number.invariant.policy ∙ ap (λ l. joined (map module_of l)) (take_all i modules past))) (policy-flat c.args.joined.now c.requires.plain)

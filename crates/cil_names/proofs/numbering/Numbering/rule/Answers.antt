@@ -1,5 +1,4 @@
-use Rattle.std.proofs.Common.{◌∙◌, refl, sym, ap, subst, map}
-use Rattle.cil_specs.specs.Statements.{rule}
+use Rattle.std.proofs.Common.{refl, sym, ap, subst, map}
 use Rattle.cil_text.specs.Image.{word_of, target_of, rule_kind_of}
 use Rattle.cil_names.specs.Names.{HasWords}
 use Rattle.cil_names.specs.Placed.{form_of, placed_of}
@@ -10,44 +9,24 @@ use Rattle.cil_names.proofs.numbering.Numbering.rule.Goals as goal
 pub element-requires-clause-led : goal.element-requires-clause-led
 element-requires-clause-led g c =
     let p = c.args.self.now.resolution.now.policy in
-    let kind = rule_kind_of c.in-Rule.kind in
-    let source = word_of c.in-Rule.source in
-    let target = word_of c.in-Named.aim in
-    let the_class = word_of c.in-Rule.class in
-    let permissions = map word_of c.in-Rule.permissions.items in
-    source-led (policy_in p) c.requires.ready.compiles (placed_of p.spaces c.args.placed.now) c.requires.at refl kind source target the_class permissions
-    (ap form_of c.in-Rule.is ∙ ap (λ t. rule kind source (target_of t) the_class permissions) c.in-Named.is)
+    source-led (policy_in p) c.requires.ready.compiles (placed_of p.spaces c.args.placed.now) c.requires.at refl (rule_kind_of c.in-Rule.kind) (word_of c.in-Rule.source) (target_of c.in-Rule.target)
+    (word_of c.in-Rule.class) (map word_of c.in-Rule.permissions.items) (ap form_of c.in-Rule.is)
 
-pub element-requires-2-clause-led : goal.element-requires-2-clause-led
-element-requires-2-clause-led g c =
+pub aim-requires-clause-led : goal.aim-requires-clause-led
+aim-requires-clause-led g c =
     let p = c.args.self.now.resolution.now.policy in
-    let kind = rule_kind_of c.in-Rule.kind in
-    let source = word_of c.in-Rule.source in
-    let target = word_of c.in-Named.aim in
-    let the_class = word_of c.in-Rule.class in
-    let permissions = map word_of c.in-Rule.permissions.items in
-    target-led (policy_in p) c.requires.ready.compiles (placed_of p.spaces c.args.placed.now) c.requires.at refl kind source target the_class permissions
-    (ap form_of c.in-Rule.is ∙ ap (λ t. rule kind source (target_of t) the_class permissions) c.in-Named.is)
+    target-led (policy_in p) c.requires.ready.compiles (placed_of p.spaces c.args.placed.now) c.requires.at refl (rule_kind_of c.in-Rule.kind) (word_of c.in-Rule.source) (target_of c.in-Rule.target)
+    (word_of c.in-Rule.class) (map word_of c.in-Rule.permissions.items) (ap form_of c.in-Rule.is)
 
 pub class-requires-clause-led : goal.class-requires-clause-led
 class-requires-clause-led g c =
     let p = c.args.self.now.resolution.now.policy in
-    let kind = rule_kind_of c.in-Rule.kind in
-    let source = word_of c.in-Rule.source in
-    let target = word_of c.in-Named.aim in
-    let the_class = word_of c.in-Rule.class in
-    let permissions = map word_of c.in-Rule.permissions.items in
-    class-led (policy_in p) c.requires.ready.compiles (placed_of p.spaces c.args.placed.now) c.requires.at refl kind source target the_class permissions
-    (ap form_of c.in-Rule.is ∙ ap (λ t. rule kind source (target_of t) the_class permissions) c.in-Named.is)
+    class-led (policy_in p) c.requires.ready.compiles (placed_of p.spaces c.args.placed.now) c.requires.at refl (rule_kind_of c.in-Rule.kind) (word_of c.in-Rule.source) (target_of c.in-Rule.target)
+    (word_of c.in-Rule.class) (map word_of c.in-Rule.permissions.items) (ap form_of c.in-Rule.is)
 
 pub numbers-requires : goal.numbers-requires
 numbers-requires g c =
     let p = c.args.self.now.resolution.now.policy in
-    let kind = rule_kind_of c.in-Rule.kind in
-    let source = word_of c.in-Rule.source in
-    let target = word_of c.in-Named.aim in
-    let the_class = word_of c.in-Rule.class in
-    let permissions = map word_of c.in-Rule.permissions.items in
     subst (λ l. HasWords c.args.self.now.names.now (map word_of l)) (sym c.deref.ensures.value)
-    (permissions-there (policy_in p) c.requires.ready.compiles (placed_of p.spaces c.args.placed.now) c.requires.at refl kind source target the_class permissions
-    (ap form_of c.in-Rule.is ∙ ap (λ t. rule kind source (target_of t) the_class permissions) c.in-Named.is) c.args.self.now.names.now c.requires.ready.names)
+    (permissions-there (policy_in p) c.requires.ready.compiles (placed_of p.spaces c.args.placed.now) c.requires.at refl (rule_kind_of c.in-Rule.kind) (word_of c.in-Rule.source)
+    (target_of c.in-Rule.target) (word_of c.in-Rule.class) (map word_of c.in-Rule.permissions.items) (ap form_of c.in-Rule.is) c.args.self.now.names.now c.requires.ready.names)

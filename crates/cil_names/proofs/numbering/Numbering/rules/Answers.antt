@@ -5,21 +5,13 @@ use Rattle.cil_specs.specs.Next.{every_optional}
 use Rattle.cil_specs.specs.Rule as spec
 use Rattle.cil_names.specs.Below.{is_rule_below}
 use Rattle.cil_names.specs.Numbering.{rules_from}
-use Rattle.cil_names.specs.Placed.{policy_of, placed_of}
+use Rattle.cil_names.specs.Placed.{policy_of}
 use Rattle.cil_names.specs.Policy.{modules_in, policy_in}
 use Rattle.cil_names.specs.Resolved.{rule_of}
-use Rattle.cil_names.proofs.NumberedLemmas.{made-next, pass-more, placed-at, plain-at}
+use Rattle.cil_names.proofs.NumberedLemmas.{made-next, pass-more}
 use Rattle.cil_names.proofs.MadeLemmas.{rules-made}
 use Rattle.cil_names.proofs.numbering.Numbering.rules.Goals as goal
 use Rattle.cil_names.proofs.numbering.Numbering.rules.Goals.{in-Some+in_ok-push, in_default}
-
-pub rule-requires-clause-compiled : goal.rule-requires-clause-compiled
-rule-requires-clause-compiled g c =
-    let policy = c.args.self.now.resolution.now.policy in
-    let i = c.loop-placed.placed-index in
-    let p = c.placed-item.result in
-    let at = placed-at policy.spaces c.statements-placed-items.result.now (policy_in policy) i p c.statements-placed-items.ensures.seen (search rules) c.placed-item.is in
-    (plain-at (policy_in policy) i (placed_of policy.spaces p) c.statements-placed-items.ensures.flat at).compiled
 
 pub loop-placed-preserved : goal.loop-placed-preserved
 loop-placed-preserved g c =

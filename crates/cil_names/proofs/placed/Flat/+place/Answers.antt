@@ -3,14 +3,14 @@ use Rattle.std.proofs.lemmas.Option.{slice_get_read}
 use Rattle.std.proofs.lemmas.List.{take_all}
 use denote.Param.Weighed.{most}
 use Rattle.cil_specs.specs.Joined.{placed}
-use Rattle.cil_specs.specs.Next.{is_compiled}
+use Rattle.cil_specs.specs.Next.{is_plain}
 use Rattle.cil_text.specs.Image.{word_of, statement_then, statements_of}
 use Rattle.cil_text.specs.declared.statement.Statement.TheViews.{size-Statement}
 use Rattle.cil_names.specs.Placed.{Extends, form_of}
 use Rattle.cil_specs.specs.Statements.{no_more}
 use Rattle.cil_specs.specs.Lookup.{block_name}
 use Rattle.cil_names.specs.declared.placed.Flat.{Flat}
-use Rattle.cil_names.proofs.PlacedLemmas.{top, extends-none, extends-one, extends-next, extends-namespace, extends-block, each-compiled, block-compiled, body-depth, placed-leaf, leaf-name, opens-nothing, opens-block}
+use Rattle.cil_names.proofs.PlacedLemmas.{top, extends-none, extends-one, extends-next, extends-namespace, extends-block, each-plain, block-plain, body-depth, placed-leaf, leaf-name, opens-nothing, opens-block}
 use Rattle.cil_names.proofs.placed.Flat.+place.Goals as goal
 use Rattle.cil_names.proofs.placed.Flat.+place.Goals.{in-Block+in_ok-inner+in_ok-place, in_default}
 
@@ -25,13 +25,13 @@ place-requires g t c κs within =
     let inner = c.in-Block in
     let less = body-depth statements i s inner.at inner.id inner.body c.loop-statement-test.true c.statement-item.is inner.is in
     let same : most (size-Statement g.row.A.Denot) c.deref.result.now ≡ most (size-Statement g.row.A.Denot) inner.body.items = ap (most (size-Statement g.row.A.Denot)) c.deref.ensures.value in
-    let here = each-compiled statements i s c.requires.compiled (slice_get_read statements (length statements) i s refl c.loop-statement-test.true c.statement-item.is) in (
+    let here = each-plain statements i s c.requires.plain (slice_get_read statements (length statements) i s refl c.loop-statement-test.true c.statement-item.is) in (
       omega (arith, c.decreases, less, same),
       (
         within,
         (
           c.in_ok-inner.ensures.within,
-          ap (λ l. is_compiled (statements_of l)) c.deref.ensures.value ∙ block-compiled s inner.at inner.id inner.body inner.is here,
+          ap (λ l. is_plain (statements_of l)) c.deref.ensures.value ∙ block-plain s inner.at inner.id inner.body inner.is here,
         ),
       ),
     )
@@ -53,7 +53,7 @@ loop-statement-preserved g t c =
     let here = get_or mid.spaces c.args.namespace [] in
     let so_far = c.loop-statement.invariant in
     let inside = (extends-namespace old mid number name _ c.args.namespace so_far c.requires.within).0 in
-    let compiled = each-compiled statements i s c.requires.compiled (slice_get_read statements (length statements) i s refl c.loop-statement-test.true c.statement-item.is) in
+    let plain = each-plain statements i s c.requires.plain (slice_get_read statements (length statements) i s refl c.loop-statement-test.true c.statement-item.is) in
     let next : (new : Flat g.row.A.Denot) → Extends mid new number name (placed name here [] (statement_then s no_more))
     → Extends old new number name (placed name (get_or old.spaces c.args.namespace []) [] (statements_of (take (i + 1) statements))) =
     λ new. extends-next old mid new number name c.args.namespace statements i s c.loop-statement-test.true c.statement-item.is c.requires.within so_far in
@@ -73,6 +73,6 @@ loop-statement-preserved g t c =
           let new : Flat g.row.A.Denot = record { modules = mid.modules; spaces = mid.spaces; statements = c.push.new.self } in
           let leaf = leaf-name s w.in_default.not-Block in
           subst (λ new. Extends old new number name (placed name (get_or old.spaces c.args.namespace []) [] (statements_of (take (i + 1) statements)))) (sym w.self-is)
-          (next new (subst (Extends mid new number name) (sym (placed-leaf name here s compiled leaf))
+          (next new (subst (Extends mid new number name) (sym (placed-leaf name here s plain leaf))
           (extends-one mid new number name _ [] (sym (append-nil mid.spaces)) refl c.in_ok-push.ensures.items refl refl inside (opens-nothing mid.spaces (top name here s) leaf) (λ distinct. distinct))))
     ]

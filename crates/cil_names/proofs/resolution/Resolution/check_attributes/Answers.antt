@@ -5,7 +5,6 @@ use Rattle.cil_text.specs.Image.{word_of}
 use Rattle.cil_names.specs.Placed.{placed_of}
 use Rattle.cil_names.specs.Policy.{policy_in}
 use Rattle.cil_names.proofs.CheckLemmas.{found-at, first-some, first-none}
-use Rattle.cil_names.proofs.LeastLemmas.{plain-at}
 use Rattle.cil_names.proofs.AttributeLemmas.{none-first, none-next, none-end, first-attribute}
 use Rattle.cil_names.proofs.StatementsLemmas.{statement-at, statements-past, namespace-within}
 use Rattle.cil_names.proofs.resolution.Resolution.check_attributes.Goals as goal
@@ -15,15 +14,11 @@ loop-placed-init g c = none-first (policy_in c.args.self.now.policy)
 
 pub attribute_word-requires : goal.attribute_word-requires
 attribute_word-requires g c =
-    let policy = policy_in c.args.self.now.policy in
     let spaces = c.args.self.now.policy.spaces in
     let i = c.loop-placed.placed-index in
-    let s = placed_of spaces c.placed-item.result in
-    let at = statement-at spaces c.statements-placed-items.result.now policy i c.placed-item.result c.statements-placed-items.ensures.seen c.loop-placed-test.true c.placed-item.is in
     record {
       resolved = c.requires.resolved;
       within = namespace-within (length spaces) c.statements-placed-items.result.now i c.placed-item.result c.statements-placed-items.ensures.within c.loop-placed-test.true c.placed-item.is;
-      compiled = (plain-at policy i s c.statements-placed-items.ensures.flat at).compiled;
     }
 
 pub returns-in-Some : goal.returns-in-Some

@@ -26,7 +26,7 @@ faulty_word-requires g c =
       kind = c.requires.kind;
       at = at;
       within = namespace-within (length spaces) c.statements-placed-items.result.now c.loop-i.i c.placed-item.result c.statements-placed-items.ensures.within c.loop-i-test.true c.placed-item.is;
-      compiled = (plain-at policy c.loop-i.i s c.statements-placed-items.ensures.flat at).compiled;
+      plain = (plain-at policy c.loop-i.i s c.statements-placed-items.ensures.flat at).plain;
     }
 
 pub returns-in-Some : goal.returns-in-Some

@@ -5,11 +5,15 @@ use Rattle.cil_names.specs.Resolved.{rules_in}
 use Rattle.cil_specs.specs.Next.{install, changed}
 use Rattle.cil_store.specs.Edits.{refusal_of}
 use Rattle.cil_store.specs.Plain.{IsTableOf, IsRefused}
+use Rattle.cil_specs.proofs.PlainLemmas.{modules-plain}
 use Rattle.cil_store.proofs.PlainLemmas.{kept-good, policy-refused, table-of}
 use Rattle.cil_store.proofs.plain.Plain.compile.Goals as goal
 
 pub join-requires-clause-good : goal.join-requires-clause-good
 join-requires-clause-good g c = kept-good c.self.inside.store c.self.inside.table c.self.invariant
+
+pub resolve_types-requires : goal.resolve_types-requires
+resolve_types-requires g c = record { plain = modules-plain (modules_of c.in_ok-joined.joined) c.in_ok-joined.ensures.all_compiled }
 
 pub returns-in-Err-resolve_types-clause-err : goal.returns-in-Err-resolve_types-clause-err
 returns-in-Err-resolve_types-clause-err g c =
