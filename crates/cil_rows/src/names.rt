@@ -2,15 +2,15 @@
 
 ghost use Rattle.std.specs.Prelude.{◌≡◌, ◌+◌, ◌<◌, IsTrue, IfOk};
 ghost use Rattle.std.specs.List.{list_all};
-ghost use Rattle.cil_specs.specs.Next.{is_compiled};
+ghost use Rattle.cil_specs.specs.Next.{is_plain};
 ghost use Rattle.cil_text.specs.Image.{statements_of};
 ghost use Rattle.cil_names.specs.Image.{modules_of};
 
 use crate::answers::{assert_same, shown};
 use crate::tables::assert_changes;
 use cil_names::{
-    ClassView, Element, ElementView, Joined, NameView, NamedModule, PolicyFault, Resolved,
-    RuleView, resolve, resolve_types,
+    AimView, ClassView, Element, ElementView, Joined, NameView, NamedModule, PolicyFault, Resolved,
+    RuleView, join, resolve, resolve_types,
 };
 use cil_rules::{Atom, Changes, Table};
 use cil_text::{MemorySink, Module, Place, RuleKind, Statement, Target, Word};
@@ -42,7 +42,7 @@ fn word(offset: u32, text: &[u8]) -> Word<'_>
 
 // (type b)(type b)
 fn twice(alloc: Global) -> Result<Module<'static>, AllocError>
-    ensures { IfOk result (λ m. IsTrue (is_compiled (statements_of m.statements.items))) }
+    ensures { IfOk result (λ m. IsTrue (is_plain (statements_of m.statements.items))) }
 {
     let statements = Vec::from_array(
         alloc,
@@ -62,7 +62,7 @@ fn twice(alloc: Global) -> Result<Module<'static>, AllocError>
 
 // (class p (use))(type a)
 fn class_and_type(alloc: Global) -> Result<Module<'static>, AllocError>
-    ensures { IfOk result (λ m. IsTrue (is_compiled (statements_of m.statements.items))) }
+    ensures { IfOk result (λ m. IsTrue (is_plain (statements_of m.statements.items))) }
 {
     let statements = Vec::from_array(
         alloc,
@@ -81,17 +81,31 @@ fn class_and_type(alloc: Global) -> Result<Module<'static>, AllocError>
     Ok(Module { statements })
 }
 
-// (allow a TARGET (p (PERMISSION))), where the target has one byte
-fn rule<'a>(alloc: Global, target: &'a [u8], permission: &'a [u8]) -> Result<Module<'a>, AllocError>
-    ensures { IfOk result (λ m. IsTrue (is_compiled (statements_of m.statements.items))) }
+// What a rule aims at: `self`, or a name.
+fn target(text: &[u8]) -> Target<'_> {
+    if text == b"self".as_slice() {
+        Target::Itself
+    } else {
+        Target::Named(word(9, text))
+    }
+}
+
+// (KIND a TARGET (p (PERMISSION))), where the kind and the target have places as if they were `allow` and one byte
+fn rule<'a>(
+    alloc: Global,
+    kind: RuleKind,
+    aim: &'a [u8],
+    permission: &'a [u8],
+) -> Result<Module<'a>, AllocError>
+    ensures { IfOk result (λ m. IsTrue (is_plain (statements_of m.statements.items))) }
 {
     let statements = Vec::from_array(
         alloc,
         [Statement::Rule {
             at: place(0),
-            kind: RuleKind::Allow,
+            kind,
             source: word(7, b"a"),
-            target: Target::Named(word(9, target)),
+            target: target(aim),
             class: word(12, b"p"),
             permissions: Vec::from_array(alloc, [word(15, permission)])?,
         }],
@@ -101,9 +115,9 @@ fn rule<'a>(alloc: Global, target: &'a [u8], permission: &'a [u8]) -> Result<Mod
 
 // The modules m and n.
 fn joined<'a>(alloc: Global, m: Module<'a>, n: Module<'a>) -> Result<Joined<'a>, AllocError>
-    requires m { IsTrue (is_compiled (statements_of m.statements.items)) }
-    requires n { IsTrue (is_compiled (statements_of n.statements.items)) }
-    ensures { IfOk result (λ joined. IsTrue (list_all (λ m. is_compiled m.statements) (modules_of joined))) }
+    requires m { IsTrue (is_plain (statements_of m.statements.items)) }
+    requires n { IsTrue (is_plain (statements_of n.statements.items)) }
+    ensures { IfOk result (λ joined. IsTrue (list_all (λ m. is_plain m.statements) (modules_of joined))) }
 {
     let modules = Vec::from_array(
         alloc,
@@ -121,16 +135,38 @@ fn joined<'a>(alloc: Global, m: Module<'a>, n: Module<'a>) -> Result<Joined<'a>,
     Ok(Joined { modules })
 }
 
-// A class and a type, and a rule of this target and permission.
+#[test]
+fn modules_are_joined_in_the_order_of_their_names(rt: HostRuntime) {
+    let n = twice(rt.alloc()).expect(&rt, "memory");
+    let m = class_and_type(rt.alloc()).expect(&rt, "memory");
+    let modules = [
+        NamedModule {
+            name: b"n",
+            module: n,
+        },
+        NamedModule {
+            name: b"m",
+            module: m,
+        },
+    ];
+    let modules = Vec::from_array(rt.alloc(), modules).expect(&rt, "memory");
+    let joined = join(modules);
+    let first = joined.modules.first().map(|m| shown(m.name));
+    let last = joined.modules.last().map(|m| shown(m.name));
+    assert_same(&rt, (first, last), (Some("m"), Some("n")));
+}
+
+// A class and a type, and a rule of this kind, target and permission.
 fn with_rule(
     alloc: Global,
-    target: &'static [u8],
+    kind: RuleKind,
+    aim: &'static [u8],
     permission: &'static [u8],
 ) -> Result<Joined<'static>, AllocError>
-    ensures { IfOk result (λ joined. IsTrue (list_all (λ m. is_compiled m.statements) (modules_of joined))) }
+    ensures { IfOk result (λ joined. IsTrue (list_all (λ m. is_plain m.statements) (modules_of joined))) }
 {
     let front = class_and_type(alloc)?;
-    let rule = rule(alloc, target, permission)?;
+    let rule = rule(alloc, kind, aim, permission)?;
     joined(alloc, front, rule)
 }
 
@@ -138,7 +174,7 @@ fn with_rule(
 type Fault<'a> = Option<(u8, &'a str, u32, &'a str)>;
 
 fn fault_of<'a>(alloc: Global, joined: &Joined<'a>) -> Fault<'a>
-    requires { IsTrue (list_all (λ m. is_compiled m.statements) (modules_of joined.now)) }
+    requires { IsTrue (list_all (λ m. is_plain m.statements) (modules_of joined.now)) }
 {
     match resolve(alloc, joined) {
         Err(
@@ -153,17 +189,24 @@ fn fault_of<'a>(alloc: Global, joined: &Joined<'a>) -> Fault<'a>
     }
 }
 
-// Targets and permissions of the rule, and the first fault.
-const RULES: &[(&str, &str, Fault<'static>)] = &[
-    ("c", "use", Some((42, "n", 9, "c"))),
-    ("a", "read", Some((42, "n", 15, "read"))),
-    ("a", "use", None),
+// The kind, the target and the permission of the rule, and the first fault.
+const RULES: &[(RuleKind, &str, &str, Fault<'static>)] = &[
+    (RuleKind::Allow, "c", "use", Some((42, "n", 9, "c"))),
+    (RuleKind::Allow, "a", "read", Some((42, "n", 15, "read"))),
+    (RuleKind::Allow, "a", "use", None),
+    (
+        RuleKind::NeverAllow,
+        "self",
+        "read",
+        Some((42, "n", 15, "read")),
+    ),
+    (RuleKind::DontAudit, "self", "use", None),
 ];
 
 #[test]
 fn finds_the_first_fault(rt: HostRuntime) {
-    for (target, permission, want) in RULES {
-        let modules = with_rule(rt.alloc(), target.as_bytes(), permission.as_bytes()).expect(
+    for (kind, aim, permission, want) in RULES {
+        let modules = with_rule(rt.alloc(), *kind, aim.as_bytes(), permission.as_bytes()).expect(
             &rt, "memory",
         );
         assert_same(&rt, fault_of(rt.alloc(), &modules), *want);
@@ -172,23 +215,23 @@ fn finds_the_first_fault(rt: HostRuntime) {
 
 #[test]
 fn finds_the_least_code(rt: HostRuntime) {
-    let first = rule(rt.alloc(), b"c", b"use").expect(&rt, "memory");
+    let first = rule(rt.alloc(), RuleKind::Allow, b"c", b"use").expect(&rt, "memory");
     let second = twice(rt.alloc()).expect(&rt, "memory");
     let modules = joined(rt.alloc(), first, second).expect(&rt, "memory");
     let found = fault_of(rt.alloc(), &modules);
     assert_same(&rt, found, Some((41, "n", 14, "b")));
 }
 
-// The accesses of one allow rule of a class and a type.
-fn table(rt: &impl Abort, alloc: Global) -> Table {
-    let modules = with_rule(alloc, b"a", b"use").expect(rt, "memory");
+// The accesses of one rule of a class and a type.
+fn table(rt: &impl Abort, alloc: Global, kind: RuleKind, aim: &'static [u8]) -> Table {
+    let modules = with_rule(alloc, kind, aim, b"use").expect(rt, "memory");
     let policy = resolve_types(alloc, &modules).expect(rt, "a policy");
     Table::of(alloc, policy).expect(rt, "memory")
 }
 
 // (class p (use))(type a), and a rule of these.
 fn resolved(rt: &impl Abort, alloc: Global) -> Resolved {
-    let modules = with_rule(alloc, b"a", b"use").expect(rt, "memory");
+    let modules = with_rule(alloc, RuleKind::Allow, b"a", b"use").expect(rt, "memory");
     resolve(alloc, &modules).expect(rt, "a policy")
 }
 
@@ -236,13 +279,20 @@ fn is_type_a(element: ElementView<'_>) -> bool {
     }
 }
 
+fn aims_at_a(aim: AimView<'_>) -> bool {
+    match aim {
+        AimView::Element(element) => is_type_a(element),
+        AimView::Itself => false,
+    }
+}
+
 // A rule: its module, its kind, whether its source and its target are the type a, its class, and how many permissions it names.
 type Rule<'a> = (&'a str, RuleKind, bool, bool, &'a str, usize);
 
 fn rule_seen(view: Option<RuleView<'_>>) -> Option<Rule<'_>> {
     let view = view?;
     let source = is_type_a(view.source);
-    let target = is_type_a(view.target);
+    let target = aims_at_a(view.target);
     Some((
         shown(view.module),
         view.kind,
@@ -279,8 +329,19 @@ const ACCESS: Atom<'static> = Atom {
 };
 
 #[test]
+fn the_table_of_a_rule_to_self(rt: HostRuntime) {
+    let table = table(&rt, rt.alloc(), RuleKind::AuditAllow, b"self");
+    let kind = RuleKind::AuditAllow;
+    assert_same(
+        &rt,
+        (table.get(0), table.get(1)),
+        (Some(Atom { kind, ..ACCESS }), None),
+    );
+}
+
+#[test]
 fn the_table_of_a_policy(rt: HostRuntime) {
-    let table = table(&rt, rt.alloc());
+    let table = table(&rt, rt.alloc(), RuleKind::Allow, b"a");
     assert_same(&rt, (table.len(), table.is_empty()), (1, false));
     assert_same(&rt, (table.get(0), table.get(1)), (Some(ACCESS), None));
     assert_same(&rt, table.rows(rt.alloc()).expect(&rt, "memory").len(), 1);
@@ -297,7 +358,7 @@ fn the_table_of_a_policy(rt: HostRuntime) {
 fn changes_between_tables(rt: HostRuntime) {
     let none = Table::empty(rt.alloc());
     assert_same(&rt, (none.len(), none.is_empty()), (0, true));
-    let one = table(&rt, rt.alloc());
+    let one = table(&rt, rt.alloc(), RuleKind::Allow, b"a");
     let came = Changes::between(rt.alloc(), &none, &one).expect(&rt, "memory");
     assert_changes(&rt, &came, &[("a", "a", "use")], &[]);
     let went = Changes::between(rt.alloc(), &one, &none).expect(&rt, "memory");
