@@ -10,7 +10,7 @@ use crate::answers::{assert_same, shown};
 use crate::tables::assert_changes;
 use cil_names::{
     AimView, ClassView, Element, ElementView, Joined, NameView, NamedModule, PolicyFault, Resolved,
-    RuleView, join, resolve, resolve_types,
+    RuleView, resolve, resolve_types,
 };
 use cil_rules::{Atom, Changes, Table};
 use cil_text::{MemorySink, Module, Place, RuleKind, Statement, Target, Word};
@@ -81,20 +81,11 @@ fn class_and_type(alloc: Global) -> Result<Module<'static>, AllocError>
     Ok(Module { statements })
 }
 
-// What a rule aims at: `self`, or a name.
-fn target(text: &[u8]) -> Target<'_> {
-    if text == b"self".as_slice() {
-        Target::Itself
-    } else {
-        Target::Named(word(9, text))
-    }
-}
-
-// (KIND a TARGET (p (PERMISSION))), where the kind and the target have places as if they were `allow` and one byte
+// (allow a TARGET (p (PERMISSION))), where the target has one byte; another kind stands as if it had as many letters
 fn rule<'a>(
     alloc: Global,
     kind: RuleKind,
-    aim: &'a [u8],
+    target: &'a [u8],
     permission: &'a [u8],
 ) -> Result<Module<'a>, AllocError>
     ensures { IfOk result (λ m. IsTrue (is_plain (statements_of m.statements.items))) }
@@ -105,7 +96,29 @@ fn rule<'a>(
             at: place(0),
             kind,
             source: word(7, b"a"),
-            target: target(aim),
+            target: Target::Named(word(9, target)),
+            class: word(12, b"p"),
+            permissions: Vec::from_array(alloc, [word(15, permission)])?,
+        }],
+    )?;
+    Ok(Module { statements })
+}
+
+// (KIND a self (p (PERMISSION))), at the same places
+fn rule_to_self<'a>(
+    alloc: Global,
+    kind: RuleKind,
+    permission: &'a [u8],
+) -> Result<Module<'a>, AllocError>
+    ensures { IfOk result (λ m. IsTrue (is_plain (statements_of m.statements.items))) }
+{
+    let statements = Vec::from_array(
+        alloc,
+        [Statement::Rule {
+            at: place(0),
+            kind,
+            source: word(7, b"a"),
+            target: Target::Itself,
             class: word(12, b"p"),
             permissions: Vec::from_array(alloc, [word(15, permission)])?,
         }],
@@ -135,27 +148,6 @@ fn joined<'a>(alloc: Global, m: Module<'a>, n: Module<'a>) -> Result<Joined<'a>,
     Ok(Joined { modules })
 }
 
-#[test]
-fn modules_are_joined_in_the_order_of_their_names(rt: HostRuntime) {
-    let n = twice(rt.alloc()).expect(&rt, "memory");
-    let m = class_and_type(rt.alloc()).expect(&rt, "memory");
-    let modules = [
-        NamedModule {
-            name: b"n",
-            module: n,
-        },
-        NamedModule {
-            name: b"m",
-            module: m,
-        },
-    ];
-    let modules = Vec::from_array(rt.alloc(), modules).expect(&rt, "memory");
-    let joined = join(modules);
-    let first = joined.modules.first().map(|m| shown(m.name));
-    let last = joined.modules.last().map(|m| shown(m.name));
-    assert_same(&rt, (first, last), (Some("m"), Some("n")));
-}
-
 // A class and a type, and a rule of this kind, target and permission.
 fn with_rule(
     alloc: Global,
@@ -166,7 +158,11 @@ fn with_rule(
     ensures { IfOk result (λ joined. IsTrue (list_all (λ m. is_plain m.statements) (modules_of joined))) }
 {
     let front = class_and_type(alloc)?;
-    let rule = rule(alloc, kind, aim, permission)?;
+    let rule = if aim == b"self".as_slice() {
+        rule_to_self(alloc, kind, permission)?
+    } else {
+        rule(alloc, kind, aim, permission)?
+    };
     joined(alloc, front, rule)
 }
 
