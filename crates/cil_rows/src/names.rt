@@ -10,7 +10,7 @@ use crate::answers::{assert_same, shown};
 use crate::tables::assert_changes;
 use cil_names::{
     AimView, ClassView, Element, ElementView, Joined, NameView, NamedModule, PolicyFault, Resolved,
-    RuleView, resolve, resolve_types,
+    RuleView, join, resolve, resolve_types,
 };
 use cil_rules::{Atom, Changes, Table};
 use cil_text::{MemorySink, Module, Place, RuleKind, Statement, Target, Word};
@@ -146,6 +146,34 @@ fn joined<'a>(alloc: Global, m: Module<'a>, n: Module<'a>) -> Result<Joined<'a>,
         ],
     )?;
     Ok(Joined { modules })
+}
+
+// The modules n and m, joined.
+fn joined_anew<'a>(alloc: Global, n: Module<'a>, m: Module<'a>) -> Result<Joined<'a>, AllocError> {
+    let modules = Vec::from_array(
+        alloc,
+        [
+            NamedModule {
+                name: b"n",
+                module: n,
+            },
+            NamedModule {
+                name: b"m",
+                module: m,
+            },
+        ],
+    )?;
+    Ok(join(modules))
+}
+
+#[test]
+fn modules_are_joined_in_the_order_of_their_names(rt: HostRuntime) {
+    let n = twice(rt.alloc()).expect(&rt, "memory");
+    let m = class_and_type(rt.alloc()).expect(&rt, "memory");
+    let joined = joined_anew(rt.alloc(), n, m).expect(&rt, "memory");
+    let first = joined.modules.first().map(|m| shown(m.name));
+    let last = joined.modules.last().map(|m| shown(m.name));
+    assert_same(&rt, (first, last), (Some("m"), Some("n")));
 }
 
 // A class and a type, and a rule of this kind, target and permission.
