@@ -1,18 +1,19 @@
 -- The first word of a rule that leads to an attribute.
-use Rattle.std.proofs.Common.{◌≡◌, ◌⊎◌, inl, inr, ℕ, ◌+◌, ◌<◌, zero, suc, Bool, true, false, cond, List, [], ◌∷◌, length, map, filter, Some, slice_get, refl, sym, ap, ◌∙◌, subst, Contains, arith, true≢false}
-use Rattle.std.specs.List.{AllByRecursion}
-use Rattle.std.proofs.lemmas.Option.{none-some, same_Some, slice_get_within, slice_get_read, get_or_from_slice_get}
+use Rattle.std.proofs.Common.{◌≡◌, ◌⊎◌, inl, inr, ℕ, ◌+◌, ◌<◌, Bool, true, false, cond, List, [], ◌∷◌, length, map, filter, Some, slice_get, refl, sym, ap, ◌∙◌, subst, Contains, arith, true≢false}
+use Rattle.std.proofs.lemmas.Option.{same_Some, slice_get_within, slice_get_read, get_or_from_slice_get}
 use Rattle.std.proofs.lemmas.Bool.{cases_order, cases_lt}
 use Rattle.cil_specs.specs.Names.{Word}
 use Rattle.cil_specs.specs.Statements.{Form, block, optional, type_name, type_alias, alias_actual, type_attribute, attribute_set, common, class, class_common, class_order, rule, itself, the_named, rise_from}
 use Rattle.cil_specs.specs.Joined.{Placed}
 use Rattle.cil_specs.specs.PolicyFault.{PolicyFault, wrong_kind, IsNoLater}
-use Rattle.cil_specs.specs.Next.{every_optional, is_attribute_word, rule_elements, IsAttributeFault, IsFirstAttributeFault}
+use Rattle.cil_specs.specs.Lookup.{every_optional}
+use Rattle.cil_specs.specs.Next.{is_attribute_word, rule_elements, IsAttributeFault, IsFirstAttributeFault}
 use Rattle.cil_specs.proofs.NamesLemmas.{contains-cases, contains-first, contains-other, contains-map}
-use Rattle.cil_names.specs.Flat.{offsets_in, offsets_of, IsBefore, AreFlat}
+use Rattle.cil_specs.proofs.RestrictedLemmas.{every-within}
+use Rattle.cil_names.specs.Flat.{offsets_in, offsets_of, AreFlat}
 use Rattle.cil_names.specs.Resolution.{attribute_words}
-use Rattle.cil_names.proofs.ClassesLemmas.{within-every}
-use Rattle.cil_names.proofs.LeastLemmas.{IsSub, sub-trans, sub-rises, sub-contains, sub-filter, offset, fault_at, plain-at, no-later, no-less}
+use Rattle.cil_names.proofs.FlatLemmas.{before-at}
+use Rattle.cil_names.proofs.LeastLemmas.{IsSub, sub-skip, sub-trans, sub-rises, sub-contains, sub-filter, offset, fault_at, plain-at, no-later, no-less}
 
 -- what passes, among the elements
 kept-is : {X : Type 0} (p : X → Bool) (xs : List X) (x : X) → Contains (filter p xs) x → Contains xs x × (p x ≡ true)
@@ -54,21 +55,9 @@ sub-rule (rule kind source (the_named target) the_class permissions) = inl (refl
 
 sub-attributes : (policy : List Placed) (s : Placed) → IsSub (map offset (attribute_words policy s)) (offsets_of s)
 sub-attributes policy s =
-    sub-trans (map offset (attribute_words policy s)) (map offset (rule_elements s.form)) (offsets_of s) (sub-filter offset (is_attribute_word every_optional policy s.namespace) (rule_elements s.form))
-    (sub-rule s.form)
-
--- of two statements of a flat policy the former stands before the latter
-all-get : {X : Type 0} (P : X → Type 0) (xs : List X) (i : ℕ) (x : X) → AllByRecursion P xs → slice_get xs i ≡ Some x → P x
-all-get P [] i x all at = absurd (none-some x at)
-all-get P (y ∷ xs) zero x all at = subst P (same_Some y x at) all.0
-all-get P (y ∷ xs) (suc i) x all at = all-get P xs i x all.1 at
-
-before-at : (policy : List Placed) (i k : ℕ) (s t : Placed) → AreFlat policy → slice_get policy i ≡ Some s → slice_get policy k ≡ Some t → i < k → IsBefore s t
-before-at [] i k s t flat at there less = absurd (none-some s at)
-before-at (u ∷ policy) zero zero s t flat at there less = absurd (omega (arith, less))
-before-at (u ∷ policy) zero (suc k) s t flat at there less = subst (λ v. IsBefore v t) (same_Some u s at) (all-get (IsBefore u) policy k t flat.1 there)
-before-at (u ∷ policy) (suc i) zero s t flat at there less = absurd (omega (arith, less))
-before-at (u ∷ policy) (suc i) (suc k) s t flat at there less = before-at policy i k s t flat.2 at there (omega (arith, less))
+    sub-skip (map offset (attribute_words policy s)) s.at.offset (offsets_in s.form)
+    (sub-trans (map offset (attribute_words policy s)) (map offset (rule_elements s.form)) (offsets_in s.form) (sub-filter offset (is_attribute_word every_optional policy s.namespace) (rule_elements s.form))
+    (sub-rule s.form))
 
 -- each statement in front of a place has no word that leads to an attribute
 abbrev pub NoneBelow : List Placed → ℕ → Type 0
@@ -120,7 +109,7 @@ first-attribute policy i s word more flat at none found = record {
     s = s;
     word = word;
     is_in = (i, slice_get_within policy i s at, get_or_from_slice_get policy i s s at);
-    is_kept = within-every s;
+    is_kept = every-within s;
     is_word = asked.0;
     is_attribute = asked.1;
     is_at = refl;

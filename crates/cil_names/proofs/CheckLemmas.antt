@@ -6,7 +6,7 @@ use Rattle.cil_specs.specs.Names.{Word}
 use Rattle.cil_specs.specs.Joined.{Placed}
 use Rattle.cil_specs.specs.PolicyFault as spec
 use Rattle.cil_specs.specs.PolicyFault.{twice, missing, wrong_kind, alias_twice, alias_unset, second_common, too_many_permissions, code_of, IsAtWordOf, IsFaultOf, IsNoLater, IsFirst, Compiles}
-use Rattle.cil_specs.specs.Next.{every_optional}
+use Rattle.cil_specs.specs.Lookup.{every_optional}
 use Rattle.cil_names.specs.Image.{policy_kind_of, IsFoundFault}
 use Rattle.cil_names.specs.Flat.{IsLeast}
 use Rattle.cil_names.specs.Placed.{placed_of}

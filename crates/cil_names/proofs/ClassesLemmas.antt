@@ -1,7 +1,7 @@
 -- The permissions of classes.
 use Rattle.std.proofs.Common.{◌≡◌, inl, inr, ℕ, ◌+◌, ◌<◌, ◌≤◌, zero, suc, Bool, true, false, ◌&&◌, ◌||◌, ◌==◌, List, [], ◌∷◌, ◌++◌, length, get_or, set, take, flat_map, fold, cond, Option, Some, None, Bor, is_some, nat_lt, IfSome, option_map, position, slice_get, refl, sym, ap, ◌∙◌, subst, arith, true≢false, append_assoc, append-nil, add-one, if◌then◌else◌, IsTrue}
 use Rattle.std.specs.Option.{option_or, option_and_then}
-use Rattle.std.specs.List.{list_all, list_any, AllByRecursion}
+use Rattle.std.specs.List.{list_any, AllByRecursion}
 use Rattle.std.proofs.lemmas.Option.{none-some, same_Some, slice_get_within, slice_get_read}
 use Rattle.std.proofs.lemmas.Bool.{eq-eqb, ne_eqb, eqb-true, eqb-false, cases_lt, lt-ltb}
 use Rattle.std.proofs.lemmas.List.Quantifiers.{position-Some}
@@ -10,30 +10,22 @@ use Rattle.std.proofs.lemmas.Grind.{flat_map-append}
 use Rattle.cil_specs.specs.Names.{Word}
 use Rattle.cil_specs.specs.Statements.{Form, block, optional, type_name, type_alias, alias_actual, type_attribute, attribute_set, common, class, class_common, class_order, rule}
 use Rattle.cil_specs.specs.Joined.{Placed}
-use Rattle.cil_specs.specs.Lookup.{classes, commons, is_within, is_same, holds_of, leads, listed_by, gives_common, common_permissions, own_permissions, texts, with_name, distinct}
+use Rattle.cil_specs.specs.Lookup.{classes, commons, is_same, holds_of, leads, listed_by, gives_common, common_permissions, own_permissions, texts, with_name, distinct, every_optional}
 use Rattle.cil_specs.specs.Rule.{is_class}
-use Rattle.cil_specs.specs.Next.{every_optional}
 use Rattle.cil_specs.proofs.NamesLemmas.{all-weaker, all-append}
+use Rattle.cil_specs.proofs.RestrictedLemmas.{every-within}
 use Rattle.cil_names.specs.Policy.{IsLead}
 use Rattle.cil_names.specs.Gifts.{given_lead}
 use Rattle.cil_names.specs.Classes.{SeenClasses, permissions_at, common_word, given_permissions, GivesTo, IsGiven, HasPermissionsOf}
 use Rattle.cil_names.specs.declared.firsts.Gift.TheVariants.{Common}
-use Rattle.cil_names.proofs.PositionLemmas.{at_if, position-cons, position-append, take-next}
+use Rattle.cil_names.proofs.PositionLemmas.{at_if, position-cons, position-append, take-next, get-append, get-last}
 use Rattle.cil_names.proofs.FirstsLemmas.{gives-lead, lead-same}
-
--- every optional counts as kept
-pub within-every : (s : Placed) → is_within every_optional s ≡ true
-within-every s = by s.optionals
-  where
-    by : (optionals : List ℕ) → list_all (every_optional s.module_name) optionals ≡ true
-    by [] = refl
-    by (at ∷ optionals) = by optionals
 
 -- what a statement gives to a class, where its first word leads to it
 given-lead : (policy : List Placed) (s t : Placed) → given_permissions policy s t
     ≡ (if holds_of (is_same classes s) (given_lead Common every_optional policy t) then common_permissions every_optional policy t.namespace t.form else [])
 given-lead policy s t =
-    ap (λ b. if b && gives_common every_optional policy s t.namespace t.form then common_permissions every_optional policy t.namespace t.form else []) (within-every t)
+    ap (λ b. if b && gives_common every_optional policy s t.namespace t.form then common_permissions every_optional policy t.namespace t.form else []) (every-within t)
     ∙ ap (λ b. if b then common_permissions every_optional policy t.namespace t.form else []) (gives-lead Common every_optional policy s t)
 
 common-lead : (policy : List Placed) (namespace : List (List ℕ)) (form : Form) → common_permissions every_optional policy namespace form
@@ -76,12 +68,12 @@ is-given-nowhere policy t seen place names to none i s is first =
         absent ∙ ap (option_map (λ ns. fold with_name ns names)) (sym absent)
     by false e = map-same (permissions_at seen i)
 
-get-set_same : {X : Type 0} (xs : List X) (m : ℕ) (x y : X) → slice_get xs m ≡ Some x → slice_get (set xs m y) m ≡ Some y
+pub get-set_same : {X : Type 0} (xs : List X) (m : ℕ) (x y : X) → slice_get xs m ≡ Some x → slice_get (set xs m y) m ≡ Some y
 get-set_same [] m x y is = absurd (none-some x is)
 get-set_same (z ∷ xs) zero x y is = refl
 get-set_same (z ∷ xs) (suc m) x y is = get-set_same xs m x y is
 
-get-set_other : {X : Type 0} (xs : List X) (m n : ℕ) (y : X) → (n ≡ m → ⊥) → slice_get (set xs m y) n ≡ slice_get xs n
+pub get-set_other : {X : Type 0} (xs : List X) (m n : ℕ) (y : X) → (n ≡ m → ⊥) → slice_get (set xs m y) n ≡ slice_get xs n
 get-set_other [] m n y other = refl
 get-set_other (z ∷ xs) zero zero y other = absurd (other refl)
 get-set_other (z ∷ xs) zero (suc n) y other = refl
@@ -157,15 +149,6 @@ own-other policy n t seen is other so_far = record {
         absurd (true≢false (sym its ∙ ap (λ u. is_class u.form) one ∙ other))
   ];
 }
-
-get-append : {X : Type 0} (xs ys : List X) (m : ℕ) (x : X) → slice_get xs m ≡ Some x → slice_get (xs ++ ys) m ≡ Some x
-get-append [] ys m x is = absurd (none-some x is)
-get-append (y ∷ xs) ys zero x is = is
-get-append (y ∷ xs) ys (suc m) x is = get-append xs ys m x is
-
-get-last : {X : Type 0} (xs : List X) (y : X) → slice_get (xs ++ y ∷ []) (length xs) ≡ Some y
-get-last [] y = refl
-get-last (x ∷ xs) y = get-last xs y
 
 -- a number isn't among lesser ones
 not-there : (n : ℕ) (ks : List ℕ) → AllByRecursion (λ k. k < n) ks → list_any (λ k. n == k) ks ≡ false

@@ -1,199 +1,43 @@
 -- What statements declare, and the entries that have it.
-use Rattle.std.proofs.Common.{◌≡◌, ℕ, zero, suc, ◌+◌, ◌<◌, ◌≤◌, Bool, true, false, not, ◌&&◌, ◌||◌, ◌==◌, nat_lt, cond, List, [], ◌∷◌, ◌++◌, length, get_or, slice_get, take, filter, flat_map, Option, Some, None, is_some, bytes_eq, position, if◌then◌else◌, refl, sym, ap, ◌∙◌, subst, true≢false, append-nil, arith}
-use Rattle.std.specs.List.{list_any, position_or_len, AllByRecursion, IsDistinct}
+use Rattle.std.proofs.Common.{◌≡◌, ℕ, zero, suc, ◌+◌, ◌<◌, ◌≤◌, Bool, true, false, not, ◌&&◌, ◌==◌, cond, List, [], ◌∷◌, ◌++◌, length, get_or, slice_get, take, drop, Contains, Option, Some, None, is_some, bytes_eq, position, if◌then◌else◌, refl, sym, ap, ◌∙◌, subst, true≢false, arith}
+use Rattle.std.specs.List.{list_any, IsDistinct}
 use Rattle.std.specs.Map.{lookup}
-use Rattle.std.specs.Option.{option_map, option_or, option_to_list}
+use Rattle.std.specs.Option.{option_or, option_to_list}
 use Rattle.std.proofs.lemmas.Bool.{eqb-true, eq-eqb}
-use Rattle.std.proofs.lemmas.Bool.Decides.{Decides-ltb}
-use Rattle.std.proofs.lemmas.Option.{none-some, same_Some, slice_get_read}
-use Rattle.std.proofs.lemmas.List.{length-map, length-take-le}
+use Rattle.std.proofs.lemmas.Option.{none-some, same_Some, slice_get_read, get_or_from_slice_get, slice_get_within}
+use Rattle.std.proofs.lemmas.List.{length-map, get_or-take, take-take}
 use Rattle.indexmap.specs.IndexMap.{insert_entry}
 use Rattle.cil_specs.specs.Names.{Word}
-use Rattle.cil_specs.specs.Statements.{Form, block, optional, type_name, type_alias, alias_actual, type_attribute, attribute_set, common, class, class_common, class_order, rule, is_optional}
+use Rattle.cil_specs.specs.Statements.{is_optional}
 use Rattle.cil_specs.specs.Joined.{Placed}
-use Rattle.cil_specs.specs.Lookup.{Table, types, classes, commons, scopes, declared_in, declares, is_word, same_namespace}
-use Rattle.cil_specs.specs.PolicyFault.{PolicyFault, twice, is_again, tables, twice_words, faulty_words, IsFaultOf}
-use Rattle.cil_specs.specs.Next.{every_optional, is_plain_form}
+use Rattle.cil_specs.specs.Lookup.{Table, types, classes, commons, scopes, declared_in, declares, is_word, same_namespace, every_optional}
+use Rattle.cil_specs.specs.PolicyFault.{twice, is_again, twice_words, faulty_words, IsFaultOf}
 use Rattle.cil_specs.proofs.Runs.{both_true, first_true, second_true}
 use Rattle.cil_names.specs.Spaces.{Namespace}
-use Rattle.cil_names.specs.Policy.{table_of, is_table, is_key, HasDeclaredIn, HasDeclared, IsTaken, Takes, IsFlat}
+use Rattle.cil_names.specs.Policy.{table_of, is_table, is_key, HasDeclaredIn, HasDeclared, IsTaken, IsFlat}
 use Rattle.cil_names.specs.Flat.{IsLeast}
-use Rattle.cil_names.specs.Placed.{placed_of, policy_of}
+use Rattle.cil_names.specs.Placed.{form_of, placed_of, policy_of}
 use Rattle.cil_names.specs.declared.placed.PlacedStatement.{PlacedStatement}
 use Rattle.cil_names.specs.declared.placed.Flat.{Flat}
-use Rattle.cil_names.proofs.LeastLemmas.{fault_at, NoneFaultyBelow, none-faulty-next, none-faulty-end, plain-at, least-at}
+use Rattle.cil_names.proofs.LeastLemmas.{fault_at, NoneFaultyBelow, none-faulty-next, none-faulty-end, around-at, least-at}
+use Rattle.cil_names.proofs.PositionLemmas.{all-at, take-length, at_if, is_before, any-before, any-position, position-append}
+use Rattle.cil_specs.proofs.NamesLemmas.{contains-first, stands, same_place, later, earlier}
+use Rattle.cil_specs.proofs.OnceLemmas.{table-in, twice-some, twice-nothing, PassesAmong, passes-among, any-middle, IsOnce}
+use Rattle.cil_specs.proofs.DeclaredLemmas.{one-namespace}
+use Rattle.std.proofs.lemmas.Bool.{le-ltb}
+use Rattle.std.proofs.lemmas.List.Quantifiers.{position-Some}
 use Rattle.cil_names.proofs.PlacedLemmas.{policy-get, policy-next, policy-take}
 use Rattle.cil_names.specs.declared.kinds.Table as code
 use Rattle.cil_names.specs.declared.kinds.Table.TheVariants.{Types, Classes, Commons, Scopes}
 use Rattle.cil_names.specs.declared.policy.Key.{Key}
 use Rattle.cil_names.proofs.NameSets.{bytes_eq-refl, bytes_eq-true}
-use Rattle.cil_names.proofs.SpaceLemmas.{same_namespace-refl, same_namespace-true, distinct-place}
-
--- the table that a statement declares a name in, if it declares one
-table_in : Form → Table
-table_in (block id) = scopes
-table_in (optional id) = scopes
-table_in (type_name id) = types
-table_in (type_alias id) = types
-table_in (alias_actual alias actual) = types
-table_in (type_attribute id) = types
-table_in (attribute_set attribute expr) = types
-table_in (common id permissions) = commons
-table_in (class id permissions) = classes
-table_in (class_common the_class the_common) = types
-table_in (class_order the_classes) = types
-table_in (rule kind source target the_class permissions) = types
-
-table-in : (table : Table) (form : Form) (w : Word) → declared_in table form ≡ Some w → table ≡ table_in form
-unfolding table_in
-table-in types (block id) w e = absurd (none-some w e)
-table-in types (optional id) w e = absurd (none-some w e)
-table-in types (type_name id) w e = refl
-table-in types (type_alias id) w e = refl
-table-in types (alias_actual alias actual) w e = absurd (none-some w e)
-table-in types (type_attribute id) w e = refl
-table-in types (attribute_set attribute expr) w e = absurd (none-some w e)
-table-in types (common id permissions) w e = absurd (none-some w e)
-table-in types (class id permissions) w e = absurd (none-some w e)
-table-in types (class_common the_class the_common) w e = absurd (none-some w e)
-table-in types (class_order the_classes) w e = absurd (none-some w e)
-table-in types (rule kind source target the_class permissions) w e = absurd (none-some w e)
-table-in classes (block id) w e = absurd (none-some w e)
-table-in classes (optional id) w e = absurd (none-some w e)
-table-in classes (type_name id) w e = absurd (none-some w e)
-table-in classes (type_alias id) w e = absurd (none-some w e)
-table-in classes (alias_actual alias actual) w e = absurd (none-some w e)
-table-in classes (type_attribute id) w e = absurd (none-some w e)
-table-in classes (attribute_set attribute expr) w e = absurd (none-some w e)
-table-in classes (common id permissions) w e = absurd (none-some w e)
-table-in classes (class id permissions) w e = refl
-table-in classes (class_common the_class the_common) w e = absurd (none-some w e)
-table-in classes (class_order the_classes) w e = absurd (none-some w e)
-table-in classes (rule kind source target the_class permissions) w e = absurd (none-some w e)
-table-in commons (block id) w e = absurd (none-some w e)
-table-in commons (optional id) w e = absurd (none-some w e)
-table-in commons (type_name id) w e = absurd (none-some w e)
-table-in commons (type_alias id) w e = absurd (none-some w e)
-table-in commons (alias_actual alias actual) w e = absurd (none-some w e)
-table-in commons (type_attribute id) w e = absurd (none-some w e)
-table-in commons (attribute_set attribute expr) w e = absurd (none-some w e)
-table-in commons (common id permissions) w e = refl
-table-in commons (class id permissions) w e = absurd (none-some w e)
-table-in commons (class_common the_class the_common) w e = absurd (none-some w e)
-table-in commons (class_order the_classes) w e = absurd (none-some w e)
-table-in commons (rule kind source target the_class permissions) w e = absurd (none-some w e)
-table-in scopes (block id) w e = refl
-table-in scopes (optional id) w e = refl
-table-in scopes (type_name id) w e = absurd (none-some w e)
-table-in scopes (type_alias id) w e = absurd (none-some w e)
-table-in scopes (alias_actual alias actual) w e = absurd (none-some w e)
-table-in scopes (type_attribute id) w e = absurd (none-some w e)
-table-in scopes (attribute_set attribute expr) w e = absurd (none-some w e)
-table-in scopes (common id permissions) w e = absurd (none-some w e)
-table-in scopes (class id permissions) w e = absurd (none-some w e)
-table-in scopes (class_common the_class the_common) w e = absurd (none-some w e)
-table-in scopes (class_order the_classes) w e = absurd (none-some w e)
-table-in scopes (rule kind source target the_class permissions) w e = absurd (none-some w e)
-
--- the words that a statement declares, by a test for each table
-abbrev chosen : (Table → Word → Bool) → Form → List Word
-chosen again form = flat_map (λ table. filter (again table) (option_to_list (declared_in table form))) tables
-
-chosen-in : (again : Table → Word → Bool) (form : Form) → chosen again form ≡ filter (again (table_in form)) (option_to_list (declared_in (table_in form) form))
-unfolding table_in
-chosen-in again (block id) = append-nil _
-chosen-in again (optional id) = append-nil _
-chosen-in again (type_name id) = append-nil _
-chosen-in again (type_alias id) = append-nil _
-chosen-in again (alias_actual alias actual) = refl
-chosen-in again (type_attribute id) = append-nil _
-chosen-in again (attribute_set attribute expr) = refl
-chosen-in again (common id permissions) = append-nil _
-chosen-in again (class id permissions) = append-nil _
-chosen-in again (class_common the_class the_common) = refl
-chosen-in again (class_order the_classes) = refl
-chosen-in again (rule kind source target the_class permissions) = refl
-
-chosen-some : (again : Table → Word → Bool) (table : Table) (form : Form) (w : Word) → declared_in table form ≡ Some w → chosen again form ≡ (if again table w then w ∷ [] else [])
-chosen-some again table form w e =
-    chosen-in again form ∙ ap (λ t. filter (again t) (option_to_list (declared_in t form))) (sym (table-in table form w e)) ∙ ap (λ o. filter (again table) (option_to_list o)) e
-
-chosen-none : (again : Table → Word → Bool) (form : Form) → ((table : Table) → declared_in table form ≡ None) → chosen again form ≡ []
-chosen-none again form none = chosen-in again form ∙ ap (λ o. filter (again (table_in form)) (option_to_list o)) (none (table_in form))
-
-no-optional : (form : Form) → is_plain_form form ≡ true → is_optional form ≡ false
-no-optional (block id) plain = refl
-no-optional (optional id) plain = absurd (true≢false (sym plain))
-no-optional (type_name id) plain = refl
-no-optional (type_alias id) plain = refl
-no-optional (alias_actual alias actual) plain = refl
-no-optional (type_attribute id) plain = refl
-no-optional (attribute_set attribute expr) plain = refl
-no-optional (common id permissions) plain = refl
-no-optional (class id permissions) plain = refl
-no-optional (class_common the_class the_common) plain = refl
-no-optional (class_order the_classes) plain = refl
-no-optional (rule kind source target the_class permissions) plain = refl
-
-and-true : (b : Bool) → (b && true) ≡ b
-and-true true = refl
-and-true false = refl
-
-is-again : (table : Table) (s : Placed) (id : Word) (policy : List Placed) → is_optional s.form ≡ false → list_any (is_again table s id) policy ≡ list_any (declares table s.namespace id.text) policy
-is-again table s id [] none = refl
-is-again table s id (t ∷ policy) none =
-    λ i. (ap (λ b. declares table s.namespace id.text t && not (b && is_optional t.form)) none ∙ and-true (declares table s.namespace id.text t)) i || is-again table s id policy none i
+use Rattle.cil_names.proofs.SpaceLemmas.{same_namespace-refl, distinct-place}
 
 same-bool : (a b : Bool) → (a ≡ true → b ≡ true) → (b ≡ true → a ≡ true) → a ≡ b
 same-bool true true f g = refl
 same-bool true false f g = absurd (true≢false (sym (f refl)))
 same-bool false true f g = absurd (true≢false (sym (g refl)))
 same-bool false false f g = refl
-
--- the first of elements that passes, by the first of them
-position-first : {X : Type 0} (p : X → Bool) (x : X) (xs : List X) → position p (x ∷ xs) ≡ cond (p x) (Some 0) (option_map (λ n. n + 1) (position p xs))
-position-first p x xs = by (p x) refl
-  where
-    mapped : (b : Bool) (n : ℕ) → cond b (Some (n + 1)) None ≡ option_map (λ k. k + 1) (cond b (Some n) None)
-    mapped true n = refl
-    mapped false n = refl
-
-    by : (b : Bool) → p x ≡ b → position p (x ∷ xs) ≡ cond b (Some 0) (option_map (λ n. n + 1) (position p xs))
-    by true e =
-        let here : position_or_len p (x ∷ xs) ≡ 0 = ap (λ r. cond (not r) (1 + position_or_len p xs) 0) e in
-        let less : 0 < length (x ∷ xs) = omega arith in
-        ap (λ k. cond (nat_lt k (length (x ∷ xs))) (Some k) None) here ∙ ap (λ r. cond r (Some 0) None) ((Decides-ltb 0 (length (x ∷ xs))).1 less)
-    by false e =
-        let next : position_or_len p (x ∷ xs) ≡ 1 + position_or_len p xs = ap (λ r. cond (not r) (1 + position_or_len p xs) 0) e in
-        let turn : 1 + position_or_len p xs ≡ position_or_len p xs + 1 = omega arith in
-        let same : nat_lt (position_or_len p xs + 1) (length (x ∷ xs)) ≡ nat_lt (position_or_len p xs) (length xs) =
-        same-bool (nat_lt (position_or_len p xs + 1) (length (x ∷ xs))) (nat_lt (position_or_len p xs) (length xs))
-        (λ t. (Decides-ltb (position_or_len p xs) (length xs)).1 (let l : position_or_len p xs + 1 < length (x ∷ xs) = (Decides-ltb (position_or_len p xs + 1) (length (x ∷ xs))).0 t in omega arith))
-        (λ t. (Decides-ltb (position_or_len p xs + 1) (length (x ∷ xs))).1 (let l : position_or_len p xs < length xs = (Decides-ltb (position_or_len p xs) (length xs)).0 t in omega arith)) in
-        ap (λ k. cond (nat_lt k (length (x ∷ xs))) (Some k) None) (next ∙ turn) ∙ ap (λ r. cond r (Some (position_or_len p xs + 1)) None) same
-        ∙ mapped (nat_lt (position_or_len p xs) (length xs)) (position_or_len p xs)
-
-is_some-position : {X : Type 0} (p : X → Bool) (xs : List X) → is_some (position p xs) ≡ list_any p xs
-is_some-position p [] = refl
-is_some-position p (x ∷ xs) = ap is_some (position-first p x xs) ∙ by (p x) (position p xs) ∙ ap (λ b. p x || b) (is_some-position p xs)
-  where
-    by : (b : Bool) (o : Option ℕ) → is_some (cond b (Some 0) (option_map (λ n. n + 1) o)) ≡ (b || is_some o)
-    by true o = refl
-    by false (Some n) = refl
-    by false None = refl
-
--- the first of elements with one more behind them
-position-push : {X : Type 0} (p : X → Bool) (xs : List X) (y : X) → position p (xs ++ y ∷ []) ≡ option_or (position p xs) (cond (p y) (Some (length xs)) None)
-position-push p [] y = position-first p y []
-position-push p (x ∷ xs) y = position-first p x (xs ++ y ∷ []) ∙ ap (λ o. cond (p x) (Some 0) (option_map (λ n. n + 1) o)) (position-push p xs y)
-    ∙ by (p x) (position p xs) (p y) ∙ ap (λ o. option_or o (cond (p y) (Some (length (x ∷ xs))) None)) (sym (position-first p x xs))
-  where
-    by : (b : Bool) (o : Option ℕ) (c : Bool)
-        → cond b (Some 0) (option_map (λ n. n + 1) (option_or o (cond c (Some (length xs)) None))) ≡ option_or (cond b (Some 0) (option_map (λ n. n + 1) o)) (cond c (Some (length (x ∷ xs))) None)
-    by true o c = refl
-    by false (Some n) c = refl
-    by false None true = ap Some (let l : length xs + 1 ≡ length (x ∷ xs) = omega arith in l)
-    by false None false = refl
 
 -- the entries with a new one
 lookup-push : (test : Key → Bool) (entries : List (Key × ℕ)) (key : Key) (n : ℕ) → lookup test (entries ++ (key, n) ∷ []) ≡ option_or (lookup test entries) (cond (test key) (Some n) None)
@@ -214,11 +58,79 @@ insert-new eq (e ∷ entries) key n none = by (insert-new eq entries key n) (eq 
     by more true f = absurd (true≢false f)
     by more false f = ap (λ l. e ∷ l) (more f)
 
--- the name of a statement behind others, by whether one of them declares it
-again-words : (policy : List Placed) (s : Placed) (table : Table) (w : Word) → is_plain_form s.form ≡ true → declared_in table s.form ≡ Some w
-    → twice_words policy s ≡ (if list_any (declares table s.namespace w.text) policy then w ∷ [] else [])
-again-words policy s table w plain e =
-    chosen-some (λ t id. list_any (is_again t s id) policy) table s.form w e ∙ ap (λ b. if b then w ∷ [] else []) (is-again table s w policy (no-optional s.form plain))
+-- a word that has a name
+record HasName (name : List ℕ) (found : Option Word) : Type 0 where
+  word : Word
+  is : found ≡ Some word
+  named : word.text ≡ name
+
+has-name : (name : List ℕ) (found : Option Word) → is_word name found ≡ true → HasName name found
+has-name name None e = absurd (true≢false (sym e))
+has-name name (Some w) e = record { word = w; is = refl; named = bytes_eq-true w.text name e }
+
+not-true : (b : Bool) → (b ≡ true → ⊥) → b ≡ false
+not-true true never = absurd (never refl)
+not-true false never = refl
+
+from-not : (b : Bool) → not b ≡ true → b ≡ false
+from-not true e = absurd (true≢false (sym e))
+from-not false e = refl
+
+-- Behind an optional that declares a name all that declare it are optionals, where no name is declared twice.
+once-optional : (table : Table) (namespace : List (List ℕ)) (name : List ℕ) (policy front : List Placed) (f : Placed) (between : List Placed) (t : Placed) (after : List Placed) → IsOnce policy
+    → policy ≡ (front ++ f ∷ between) ++ t ∷ after → declares table namespace name f ≡ true → declares table namespace name t ≡ true → is_optional f.form ≡ true → is_optional t.form ≡ true
+once-optional table namespace name policy front f between t after once split first here both = by (is_optional t.form) refl
+  where
+    w : HasName name (declared_in table t.form)
+    w = has-name name (declared_in table t.form) (first_true (is_word name (declared_in table t.form)) (same_namespace t.namespace namespace) here)
+
+    inside : t.namespace ≡ namespace
+    inside = one-namespace t.namespace namespace (second_true (is_word name (declared_in table t.form)) (same_namespace t.namespace namespace) here)
+
+    again : is_optional t.form ≡ false → is_again table t w.word f ≡ true
+    again e =
+        both_true (declares table t.namespace w.word.text f) (not (is_optional t.form && is_optional f.form)) ((λ i. declares table (inside i) (w.named i) f) ∙ first)
+        (ap (λ b. not (b && is_optional f.form)) e)
+
+    by : (b : Bool) → is_optional t.form ≡ b → is_optional t.form ≡ true
+    by true e = e
+    by false e = absurd (once _ record {
+      before = front ++ f ∷ between;
+      s = t;
+      after = after;
+      word = w.word;
+      split = split;
+      is_faulty = subst (λ l. Contains l w.word)
+          (sym (twice-some (front ++ f ∷ between) t table w.word w.is ∙ ap (λ b. if b then w.word ∷ [] else []) (any-middle (is_again table t w.word) front f between (again e)))) (contains-first w.word []);
+      is_at = refl;
+    })
+
+-- The name of a statement is declared again if the first that declares it and the statement aren't both optionals.
+again-first : (policy front : List Placed) (f : Placed) (back : List Placed) (s : Placed) (table : Table) (w : Word) → IsOnce policy → policy ≡ front ++ f ∷ back
+    → list_any (declares table s.namespace w.text) front ≡ false → declares table s.namespace w.text f ≡ true → list_any (is_again table s w) policy ≡ not (is_optional s.form && is_optional f.form)
+again-first policy front f back s table w once split none first = by (is_optional s.form && is_optional f.form) refl
+  where
+    -- one that passes among them is an optional too
+    never : (is_optional s.form && is_optional f.form) ≡ true → PassesAmong (is_again table s w) policy → ⊥
+    never e one = true≢false (sym (both_true (is_optional s.form) (is_optional one.x.form) (first_true (is_optional s.form) (is_optional f.form) e) too) ∙ apart)
+      where
+        there : declares table s.namespace w.text one.x ≡ true
+        there = first_true (declares table s.namespace w.text one.x) (not (is_optional s.form && is_optional one.x.form)) one.passes
+
+        apart : (is_optional s.form && is_optional one.x.form) ≡ false
+        apart = from-not (is_optional s.form && is_optional one.x.form) (second_true (declares table s.namespace w.text one.x) (not (is_optional s.form && is_optional one.x.form)) one.passes)
+
+        too : is_optional one.x.form ≡ true
+        too = elim (stands front f back one.before one.x one.after (sym split ∙ one.split)) [
+          | same_place same x ↦ ap (λ t. is_optional t.form) x ∙ second_true (is_optional s.form) (is_optional f.form) e
+          | later between others before behind ↦
+              once-optional table s.namespace w.text policy front f between one.x one.after once (one.split ∙ ap (λ l. l ++ one.x ∷ one.after) before) first there (second_true (is_optional s.form) (is_optional f.form) e)
+          | earlier between before ↦ absurd (true≢false (sym (any-middle (declares table s.namespace w.text) one.before one.x between there) ∙ ap (list_any (declares table s.namespace w.text)) (sym before) ∙ none))
+        ]
+
+    by : (b : Bool) → (is_optional s.form && is_optional f.form) ≡ b → list_any (is_again table s w) policy ≡ not b
+    by false e = ap (list_any (is_again table s w)) split ∙ any-middle (is_again table s w) front f back (both_true (declares table s.namespace w.text f) (not (is_optional s.form && is_optional f.form)) first (ap not e))
+    by true e = not-true (list_any (is_again table s w) policy) (λ any. never e (passes-among (is_again table s w) policy any))
 
 same-table : (t u : code.Table) → is_table t u ≡ true → table_of t ≡ table_of u
 same-table Types Types e = refl
@@ -263,15 +175,22 @@ table-same Scopes Classes e = absurd (omega (arith, ap index e))
 table-same Scopes Commons e = absurd (omega (arith, ap index e))
 table-same Scopes Scopes e = refl
 
--- a word that has a name
-record HasName (name : List ℕ) (found : Option Word) : Type 0 where
-  word : Word
-  is : found ≡ Some word
-  named : word.text ≡ name
+-- a statement that declares a name declares it in one table and one namespace
+record IsNamed (s : Placed) (table u : Table) (namespace : Namespace) (name : List ℕ) (w : Word) : Type 0 where
+  tables : table ≡ u
+  names : name ≡ w.text
+  space : s.namespace ≡ namespace
 
-has-name : (name : List ℕ) (found : Option Word) → is_word name found ≡ true → HasName name found
-has-name name None e = absurd (true≢false (sym e))
-has-name name (Some w) e = record { word = w; is = refl; named = bytes_eq-true w.text name e }
+declares-same : (s : Placed) (table u : Table) (namespace : Namespace) (name : List ℕ) (w : Word) → declared_in u s.form ≡ Some w → declares table namespace name s ≡ true → IsNamed s table u namespace name w
+declares-same s table u namespace name w e t =
+    let found = has-name name (declared_in table s.form) (first_true (is_word name (declared_in table s.form)) (same_namespace s.namespace namespace) t) in
+    let same : table ≡ u = table-in table s.form found.word found.is ∙ sym (table-in u s.form w e) in
+    let words : found.word ≡ w = same_Some found.word w (sym found.is ∙ ap (λ v. declared_in v s.form) same ∙ e) in
+    record {
+      tables = same;
+      names = sym found.named ∙ ap (λ v. v.text) words;
+      space = one-namespace s.namespace namespace (second_true (is_word name (declared_in table s.form)) (same_namespace s.namespace namespace) t);
+    }
 
 -- the key of a name is that of what declares it
 key-declares : (spaces : List Namespace) (s : Placed) (key : Key) (w : Word) (table : code.Table) (n : ℕ) (name : List ℕ) → IsDistinct same_namespace spaces → key.namespace < length spaces → n < length spaces
@@ -292,14 +211,15 @@ key-declares spaces s key w table n name distinct low high here e text =
 
     from : declares (table_of table) (get_or spaces n []) name s ≡ true → is_key table n name key ≡ true
     from t =
-        let found = has-name name (declared_in (table_of table) s.form) (first_true (is_word name (declared_in (table_of table) s.form)) (same_namespace s.namespace (get_or spaces n [])) t) in
-        let tables_same : table_of table ≡ table_of key.table = table-in (table_of table) s.form found.word found.is ∙ sym (table-in (table_of key.table) s.form w e) in
-        let words : found.word ≡ w = same_Some found.word w (sym found.is ∙ ap (λ u. declared_in u s.form) tables_same ∙ e) in
-        let names : name ≡ key.name.now = sym found.named ∙ ap (λ v. v.text) words ∙ sym text in
-        let space : s.namespace ≡ get_or spaces n [] = same_namespace-true s.namespace (get_or spaces n []) (second_true (is_word name (declared_in (table_of table) s.form)) (same_namespace s.namespace (get_or spaces n [])) t) in
-        let number : n ≡ key.namespace = distinct-place spaces n key.namespace distinct high low (sym space ∙ here) in
-        both_true (is_table table key.table) (n == key.namespace && bytes_eq name key.name.now) (table-same table key.table tables_same)
+        let same = declares-same s (table_of table) (table_of key.table) (get_or spaces n []) name w e t in
+        let names : name ≡ key.name.now = same.names ∙ sym text in
+        let number : n ≡ key.namespace = distinct-place spaces n key.namespace distinct high low (sym same.space ∙ here) in
+        both_true (is_table table key.table) (n == key.namespace && bytes_eq name key.name.now) (table-same table key.table same.tables)
         (both_true (n == key.namespace) (bytes_eq name key.name.now) (eq-eqb n key.namespace number) (ap (λ m. bytes_eq name m) (sym names) ∙ bytes_eq-refl name))
+
+or-none : {X : Type 0} (o : Option X) → option_or o None ≡ o
+or-none (Some x) = refl
+or-none None = refl
 
 -- a statement that declares nothing
 nothing-declared : (table : Table) (namespace : Namespace) (name : List ℕ) (s : Placed) → declared_in table s.form ≡ None → declares table namespace name s ≡ false
@@ -308,60 +228,85 @@ nothing-declared table namespace name s none = ap (λ o. is_word name o && same_
 pub taken-nothing : (spaces : List Namespace) (policy : List Placed) (s : Placed) (entries : List (Key × ℕ)) → ((table : Table) → declared_in table s.form ≡ None) → HasDeclaredIn spaces policy entries
     → IsTaken spaces policy s entries None
 taken-nothing spaces policy s entries none has = record {
-  words = chosen-none (λ t id. list_any (is_again t s id) policy) s.form none;
+  words = twice-nothing policy s none;
   declared = λ _ table n name within. has table n name within ∙ sym (
-      position-push (declares (table_of table) (get_or spaces n []) name) policy s
-      ∙ ap (λ b. option_or (position (declares (table_of table) (get_or spaces n []) name) policy) (cond b (Some (length policy)) None)) (nothing-declared (table_of table) (get_or spaces n []) name s (none (table_of table)))
+      position-append (declares (table_of table) (get_or spaces n []) name) policy s
+      ∙ ap (λ b. option_or (position (declares (table_of table) (get_or spaces n []) name) policy) (at_if b (length policy))) (nothing-declared (table_of table) (get_or spaces n []) name s (none (table_of table)))
       ∙ or-none (position (declares (table_of table) (get_or spaces n []) name) policy));
 }
-  where
-    or-none : (o : Option ℕ) → option_or o None ≡ o
-    or-none (Some n) = refl
-    or-none None = refl
 
--- a name that is there already, or not
-known : (spaces : List Namespace) (policy : List Placed) (s : Placed) (key : Key) (w : Word) (entries : List (Key × ℕ)) → HasDeclaredIn spaces policy entries → key.namespace < length spaces
-    → s.namespace ≡ get_or spaces key.namespace [] → key.name.now ≡ w.text
-    → is_some (lookup (is_key key.table key.namespace key.name.now) entries) ≡ list_any (declares (table_of key.table) s.namespace w.text) policy
-known spaces policy s key w entries has low here text =
-    ap is_some (has key.table key.namespace key.name.now low) ∙ is_some-position (declares (table_of key.table) (get_or spaces key.namespace []) key.name.now) policy
-    ∙ (λ i. list_any (declares (table_of key.table) (sym here i) (text i)) policy)
+-- the place of the first that declares the name of a statement
+pub known : (spaces : List Namespace) (policy : List Placed) (s : Placed) (key : Key) (w : Word) (entries : List (Key × ℕ)) → HasDeclaredIn spaces policy entries → key.namespace < length spaces
+    → s.namespace ≡ get_or spaces key.namespace [] → key.name.now ≡ w.text → lookup (is_key key.table key.namespace key.name.now) entries ≡ position (declares (table_of key.table) s.namespace w.text) policy
+known spaces policy s key w entries has low here text = has key.table key.namespace key.name.now low ∙ (λ i. position (declares (table_of key.table) (sym here i) (text i)) policy)
 
-pub taken-again : (spaces : List Namespace) (policy : List Placed) (s : Placed) (key : Key) (w : Word) (entries : List (Key × ℕ)) → HasDeclaredIn spaces policy entries → key.namespace < length spaces
-    → s.namespace ≡ get_or spaces key.namespace [] → key.name.now ≡ w.text → is_plain_form s.form ≡ true → declared_in (table_of key.table) s.form ≡ Some w
-    → is_some (lookup (is_key key.table key.namespace key.name.now) entries) ≡ true → IsTaken spaces policy s entries (Some w)
-taken-again spaces policy s key w entries has low here text plain e there = record {
-  words = again-words policy s (table_of key.table) w plain e ∙ ap (λ b. if b then w ∷ [] else []) (sym (known spaces policy s key w entries has low here text) ∙ there);
+-- whether the name of a statement is declared again, by the first that declares it
+again-known : (policy : List Placed) (s : Placed) (table : Table) (w : Word) (k : ℕ) (f : Placed) → IsOnce policy → position (declares table s.namespace w.text) policy ≡ Some k → slice_get policy k ≡ Some f
+    → list_any (is_again table s w) policy ≡ not (is_optional s.form && is_optional f.form)
+again-known policy s table w k f once first at =
+    again-first policy (take k policy) f (drop (k + 1) policy) s table w once (around-at policy k f at)
+    (any-before (declares table s.namespace w.text) k policy ∙ ap (λ o. is_before o k) first ∙ le-ltb k k (omega arith))
+    (ap (declares table s.namespace w.text) (sym (get_or_from_slice_get policy k f f at)) ∙ (position-Some (declares table s.namespace w.text) policy k f first).1)
+
+-- a name that is declared already, where the two aren't both optionals
+pub taken-again : (spaces : List Namespace) (policy : List Placed) (s : Placed) (table : Table) (w : Word) (entries : List (Key × ℕ)) (k : ℕ) (f : Placed) → IsOnce policy → declared_in table s.form ≡ Some w
+    → position (declares table s.namespace w.text) policy ≡ Some k → slice_get policy k ≡ Some f → (is_optional s.form && is_optional f.form) ≡ false → IsTaken spaces policy s entries (Some w)
+taken-again spaces policy s table w entries k f once e first at apart = record {
+  words = twice-some policy s table w e ∙ ap (λ b. if b then w ∷ [] else []) (again-known policy s table w k f once first at ∙ ap not apart);
   declared = λ none. absurd (none-some w (sym none));
 }
 
+-- an optional whose name another has already
+pub taken-optional : (spaces : List Namespace) (policy : List Placed) (s : Placed) (table : Table) (w : Word) (entries : List (Key × ℕ)) (k : ℕ) (f : Placed) → IsOnce policy → HasDeclaredIn spaces policy entries
+    → declared_in table s.form ≡ Some w → position (declares table s.namespace w.text) policy ≡ Some k → slice_get policy k ≡ Some f → (is_optional s.form && is_optional f.form) ≡ true → IsTaken spaces policy s entries None
+taken-optional spaces policy s table w entries k f once has e first at both = record {
+  words = twice-some policy s table w e ∙ ap (λ b. if b then w ∷ [] else []) (again-known policy s table w k f once first at ∙ ap not both);
+  declared = λ _ t n name within. has t n name within ∙ sym (position-append (declares (table_of t) (get_or spaces n []) name) policy s ∙ stays (table_of t) (get_or spaces n []) name (declares (table_of t) (get_or spaces n []) name s) refl);
+}
+  where
+    stays : (t : Table) (namespace : Namespace) (name : List ℕ) (b : Bool) → declares t namespace name s ≡ b
+        → option_or (position (declares t namespace name) policy) (at_if (declares t namespace name s) (length policy)) ≡ position (declares t namespace name) policy
+    stays t namespace name false here = ap (λ b. option_or (position (declares t namespace name) policy) (at_if b (length policy))) here ∙ or-none (position (declares t namespace name) policy)
+    stays t namespace name true here =
+        let there : position (declares t namespace name) policy ≡ Some k =
+        let same = declares-same s t table namespace name w e here in
+        (λ i. position (declares (same.tables i) (sym same.space i) (same.names i)) policy) ∙ first in
+        ap (λ o. option_or o (at_if (declares t namespace name s) (length policy))) there ∙ sym there
+
 pub taken-new : (spaces : List Namespace) (policy : List Placed) (s : Placed) (key : Key) (w : Word) (entries new : List (Key × ℕ)) (i : ℕ) → HasDeclaredIn spaces policy entries → IsDistinct same_namespace spaces → key.namespace < length spaces
-    → s.namespace ≡ get_or spaces key.namespace [] → key.name.now ≡ w.text → is_plain_form s.form ≡ true → declared_in (table_of key.table) s.form ≡ Some w → length policy ≡ i
-    → is_some (lookup (is_key key.table key.namespace key.name.now) entries) ≡ false → new ≡ entries ++ (key, i) ∷ [] → IsTaken spaces policy s new None
-taken-new spaces policy s key w entries new i has distinct low here text plain e long absent pushed = record {
-  words = again-words policy s (table_of key.table) w plain e ∙ ap (λ b. if b then w ∷ [] else []) (sym (known spaces policy s key w entries has low here text) ∙ absent);
+    → s.namespace ≡ get_or spaces key.namespace [] → key.name.now ≡ w.text → declared_in (table_of key.table) s.form ≡ Some w → length policy ≡ i
+    → position (declares (table_of key.table) s.namespace w.text) policy ≡ None → new ≡ entries ++ (key, i) ∷ [] → IsTaken spaces policy s new None
+taken-new spaces policy s key w entries new i has distinct low here text e long absent pushed = record {
+  words = twice-some policy s (table_of key.table) w e ∙ ap (λ b. if b then w ∷ [] else []) never;
   declared = λ _ table n name within.
       ap (lookup (is_key table n name)) pushed ∙ lookup-push (is_key table n name) entries key i
       ∙ (λ j. option_or (has table n name within j) (cond (key-declares spaces s key w table n name distinct low within here e text j) (Some (sym long j)) None))
-      ∙ sym (position-push (declares (table_of table) (get_or spaces n []) name) policy s);
+      ∙ sym (position-append (declares (table_of table) (get_or spaces n []) name) policy s);
 }
+  where
+    none : list_any (declares (table_of key.table) s.namespace w.text) policy ≡ false
+    none = any-position (declares (table_of key.table) s.namespace w.text) policy ∙ ap is_some absent
 
-all-at : {X : Type 0} (P : X → Type 0) (xs : List X) (i : ℕ) (x : X) → AllByRecursion P xs → slice_get xs i ≡ Some x → P x
-all-at P [] i x all at = absurd (none-some x at)
-all-at P (y ∷ ys) zero x all at = subst P (same_Some y x at) all.0
-all-at P (y ∷ ys) (suc i) x all at = all-at P ys i x all.1 at
+    never : list_any (is_again (table_of key.table) s w) policy ≡ false
+    never = not-true (list_any (is_again (table_of key.table) s w) policy) λ any.
+        let one = passes-among (is_again (table_of key.table) s w) policy any in
+        true≢false (
+        sym (any-middle (declares (table_of key.table) s.namespace w.text) one.before one.x one.after
+        (first_true (declares (table_of key.table) s.namespace w.text one.x) (not (is_optional s.form && is_optional one.x.form)) one.passes))
+        ∙ ap (list_any (declares (table_of key.table) s.namespace w.text)) (sym one.split) ∙ none)
 
--- what is found of a statement of a flat policy
-pub taken-at : {A : Type 0} (flat : Flat A) (i : ℕ) (p : PlacedStatement A) (old new : List (Key × ℕ)) (found : Option Word) → IsFlat flat → i < length flat.statements.items → p ≡ get_or flat.statements.items i p
-    → HasDeclared flat.spaces (take i flat.statements.items) old → Takes i p old new found
-    → IsTaken flat.spaces (policy_of flat.spaces (take i flat.statements.items)) (placed_of flat.spaces p) new found
-taken-at flat i p old new found is_flat within is has takes =
-    let items = flat.statements.items in
-    let at = slice_get_read items (length items) i p refl within is in
-    let size : length (take i items) ≡ i = length-take-le i items (omega (arith, within)) in
-    takes flat.spaces (policy_of flat.spaces (take i items)) is_flat.distinct (all-at (λ q. q.namespace < length flat.spaces) items i p is_flat.within at)
-    (length-map (take i items) (placed_of flat.spaces) ∙ size)
-    (plain-at (policy_of flat.spaces items) i (placed_of flat.spaces p) is_flat.is_flat (policy-get flat.spaces items i p at)).plain has
+slice_get-front : {X : Type 0} (xs : List X) (i j : ℕ) (x : X) → slice_get (take i xs) j ≡ Some x → (j < i) × (slice_get xs j ≡ Some x)
+slice_get-front [] zero j x at = absurd (none-some x at)
+slice_get-front [] (suc i) j x at = absurd (none-some x at)
+slice_get-front (y ∷ xs) zero j x at = absurd (none-some x at)
+slice_get-front (y ∷ xs) (suc i) zero x at = (omega arith, at)
+slice_get-front (y ∷ xs) (suc i) (suc j) x at = let more = slice_get-front xs i j x at in (omega (arith, more.0), more.1)
+
+once-front : (policy : List Placed) (i : ℕ) → NoneFaultyBelow twice every_optional policy i → IsOnce (take i policy)
+once-front policy i below =
+    none-faulty-end twice every_optional (take i policy) λ j less s at.
+    let there = slice_get-front policy i j s at in
+    ap (λ before. twice_words before s) (take-take j i policy (omega (arith, there.0))) ∙ below j there.0 s there.1
 
 -- the entries have one more statement, and no name is declared twice in front of the next
 pub declared-next : {A : Type 0} (flat : Flat A) (i : ℕ) (p : PlacedStatement A) (new : List (Key × ℕ)) → i < length flat.statements.items → p ≡ get_or flat.statements.items i p
@@ -391,7 +336,64 @@ twice-least flat i p new w is_flat within is below taken =
     (faulty-here flat i p new (Some w) taken)
 
 pub twice-none : {A : Type 0} (flat : Flat A) (i : ℕ) → length flat.statements.items ≤ i → NoneFaultyBelow twice every_optional (policy_of flat.spaces flat.statements.items) i
-    → (fault : PolicyFault) → IsFaultOf twice every_optional (policy_of flat.spaces flat.statements.items) fault → ⊥
+    → IsOnce (policy_of flat.spaces flat.statements.items)
 twice-none flat i past below =
     let size : length (policy_of flat.spaces flat.statements.items) ≡ length flat.statements.items = length-map flat.statements.items (placed_of flat.spaces) in
     none-faulty-end twice every_optional (policy_of flat.spaces flat.statements.items) (λ j less s at. below j (omega (arith, less, size, past)) s at)
+
+-- no name is declared twice by the statements in front of a place, where none of them has a faulty word
+pub once-below : {A : Type 0} (flat : Flat A) (i : ℕ) → NoneFaultyBelow twice every_optional (policy_of flat.spaces flat.statements.items) i → IsOnce (policy_of flat.spaces (take i flat.statements.items))
+once-below flat i below = subst IsOnce (policy-take flat.spaces flat.statements.items i) (once-front (policy_of flat.spaces flat.statements.items) i below)
+
+-- The first statement that declares a name stands in front of the next.
+pub record IsKnown {A : Type 0} (flat : Flat A) (i : ℕ) (p : PlacedStatement A) (table : Table) (w : Word) (k : ℕ) : Type 0 where
+  pub first : position (declares table (get_or flat.spaces p.namespace []) w.text) (policy_of flat.spaces (take i flat.statements.items)) ≡ Some k
+  pub within : k < length flat.statements.items
+  pub found : (q : PlacedStatement A) → q ≡ get_or flat.statements.items k q → slice_get (policy_of flat.spaces (take i flat.statements.items)) k ≡ Some (placed_of flat.spaces q)
+
+pub known-some : {A : Type 0} (flat : Flat A) (i : ℕ) (p : PlacedStatement A) (key : Key) (w : Word) (entries : List (Key × ℕ)) (k : ℕ) → IsFlat flat → slice_get flat.statements.items i ≡ Some p
+    → HasDeclared flat.spaces (take i flat.statements.items) entries → key.namespace ≡ p.namespace → key.name.now ≡ w.text → lookup (is_key key.table key.namespace key.name.now) entries ≡ Some k
+    → IsKnown flat i p (table_of key.table) w k
+known-some {A = A} flat i p key w entries k is_flat at has here text there = record { first = first; within = within; found = found }
+  where
+    items : List (PlacedStatement A)
+    items = flat.statements.items
+
+    low : p.namespace < length flat.spaces
+    low = all-at (λ q. q.namespace < length flat.spaces) items i p is_flat.within at
+
+    first : position (declares (table_of key.table) (get_or flat.spaces p.namespace []) w.text) (policy_of flat.spaces (take i items)) ≡ Some k
+    first =
+        sym (known flat.spaces (policy_of flat.spaces (take i items)) (placed_of flat.spaces p) key w entries has (subst (λ n. n < length flat.spaces) (sym here) low) (ap (λ n. get_or flat.spaces n []) (sym here)) text) ∙ there
+
+    before : k < length (take i items)
+    before =
+        let size = length-map (take i items) (placed_of flat.spaces) in
+        let in_policy = (position-Some (declares (table_of key.table) (get_or flat.spaces p.namespace []) w.text) (policy_of flat.spaces (take i items)) k (placed_of flat.spaces p) first).0 in
+        omega (arith, size, in_policy)
+
+    front : length (take i items) ≡ i
+    front = take-length items i p at
+
+    inside : i < length items
+    inside = slice_get_within items i p at
+
+    within : k < length items
+    within = omega (arith, before, front, inside)
+
+    found : (q : PlacedStatement A) → q ≡ get_or items k q → slice_get (policy_of flat.spaces (take i items)) k ≡ Some (placed_of flat.spaces q)
+    found q is =
+        policy-get flat.spaces (take i items) k q
+        (slice_get_read (take i items) (length (take i items)) k q refl before (is ∙ sym (get_or-take i items k q (omega (arith, before, front)))))
+
+-- a name that no statement in front declares
+pub taken-first : {A : Type 0} (flat : Flat A) (i : ℕ) (p : PlacedStatement A) (key : Key) (w : Word) (entries new : List (Key × ℕ)) → IsFlat flat → slice_get flat.statements.items i ≡ Some p
+    → HasDeclared flat.spaces (take i flat.statements.items) entries → key.namespace ≡ p.namespace → key.name.now ≡ w.text → declared_in (table_of key.table) (form_of p.statement.now) ≡ Some w
+    → lookup (is_key key.table key.namespace key.name.now) entries ≡ None → new ≡ entries ++ (key, i) ∷ [] → IsTaken flat.spaces (policy_of flat.spaces (take i flat.statements.items)) (placed_of flat.spaces p) new None
+taken-first flat i p key w entries new is_flat at has here text e absent pushed =
+    let items = flat.statements.items in
+    let policy = policy_of flat.spaces (take i items) in
+    let low = subst (λ n. n < length flat.spaces) (sym here) (all-at (λ q. q.namespace < length flat.spaces) items i p is_flat.within at) in
+    let same = ap (λ n. get_or flat.spaces n []) (sym here) in
+    taken-new flat.spaces policy (placed_of flat.spaces p) key w entries new i has is_flat.distinct low same text e (length-map (take i items) (placed_of flat.spaces) ∙ take-length items i p at)
+    (sym (known flat.spaces policy (placed_of flat.spaces p) key w entries has low same text) ∙ absent) pushed

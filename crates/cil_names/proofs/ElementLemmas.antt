@@ -1,17 +1,17 @@
 -- What words of rules lead to: classes, types, attributes, and aliases with their types.
 use Rattle.std.proofs.Common.{◌≡◌, ℕ, ◌<◌, suc, Bool, true, false, not, ◌&&◌, List, [], ◌∷◌, length, slice_get, Contains, Option, Some, None, is_some, option_map, position, cond, refl, sym, ap, ◌∙◌, subst, true≢false}
-use Rattle.std.specs.List.{list_all, find}
+use Rattle.std.specs.List.{find}
 use Rattle.std.specs.Option.{option_and_then}
 use Rattle.std.proofs.lemmas.Option.{none-some, same_Some}
 use Rattle.cil_specs.specs.Names.{Word}
 use Rattle.cil_specs.specs.Statements.{Form, block, optional, type_name, type_alias, alias_actual, type_attribute, attribute_set, common, class, class_common, class_order, rule}
 use Rattle.cil_specs.specs.Joined.{Placed}
-use Rattle.cil_specs.specs.Lookup.{Table, types, classes, declared_in, is_within, holds_of, gives_actual, actual_statement, actual_in, actual_of, is_type, is_alias, is_attribute, references, leads}
-use Rattle.cil_specs.specs.Next.{every_optional}
+use Rattle.cil_specs.specs.Lookup.{Table, types, classes, declared_in, is_within, holds_of, gives_actual, actual_statement, actual_in, actual_of, is_type, is_alias, is_attribute, references, leads, every_optional}
 use Rattle.cil_specs.specs.PolicyFault.{Compiles, kinds_asked}
 use Rattle.cil_specs.specs.Rule.{a_type, an_attribute, name_or_none, element_at, element_or_none}
 use Rattle.cil_specs.proofs.NamesLemmas.{contains-first, contains-other}
 use Rattle.cil_specs.proofs.Runs.{second_true}
+use Rattle.cil_specs.proofs.RestrictedLemmas.{every-within}
 use Rattle.cil_names.specs.First.{IsFirstOf}
 use Rattle.cil_names.specs.Flat.{AreFlat}
 use Rattle.cil_names.specs.FullNames.{full_name_of}
@@ -176,13 +176,6 @@ find-holds p (y ∷ ys) x e = by (p y) refl e (find-holds p ys x)
     by true here e more = ap p (sym (same_Some y x e)) ∙ here
     by false here e more = more e
 
-pub within-every : (t : Placed) → is_within every_optional t ≡ true
-within-every t = by t.optionals
-  where
-    by : (l : List ℕ) → list_all (every_optional t.module_name) l ≡ true
-    by [] = refl
-    by (n ∷ l) = by l
-
 gives-form : (policy : List Placed) (s : Placed) (namespace : List (List ℕ)) (form : Form) → gives_actual every_optional policy s namespace form ≡ true
     → (alias : Word) × (actual : Word) × (form ≡ alias_actual alias actual)
 gives-form policy s namespace (alias_actual alias actual) e = (alias, actual, refl)
@@ -249,7 +242,7 @@ module _ (policy : List Placed) (compiles : Compiles every_optional policy) (fla
       place-of s o e some =
           statement-of o e (actual_statement every_optional policy s) refl some
           (find-place (λ t. is_within every_optional t && gives_actual every_optional policy s t.namespace t.form) (gives Actual every_optional policy s)
-          (λ t. ap (λ b. b && gives_actual every_optional policy s t.namespace t.form) (within-every t)) policy)
+          (λ t. ap (λ b. b && gives_actual every_optional policy s t.namespace t.form) (every-within t)) policy)
         where
           statement-of : (o : Option ℕ) → position (gives Actual every_optional policy s) policy ≡ o → (q : Option Placed) → actual_statement every_optional policy s ≡ q → is_some q ≡ true
               → actual_statement every_optional policy s ≡ option_and_then (slice_get policy) (position (gives Actual every_optional policy s) policy)

@@ -1,16 +1,15 @@
 -- What statements give to declarations, and which gives it first.
-use Rattle.std.proofs.Common.{◌≡◌, ℕ, ◌+◌, get_or, Bool, true, false, ◌==◌, List, [], ◌∷◌, ◌++◌, take, cond, Option, Some, None, is_some, position, slice_get, bytes_eq, refl, sym, ap, ◌∙◌, true≢false, if◌then◌else◌}
+use Rattle.std.proofs.Common.{◌≡◌, ℕ, ◌+◌, get_or, Bool, true, false, ◌==◌, List, [], ◌∷◌, ◌++◌, take, cond, Option, Some, None, is_some, position, slice_get, refl, sym, ap, ◌∙◌, true≢false, if◌then◌else◌}
 use Rattle.std.specs.Option.{option_or, option_and_then}
 use Rattle.std.proofs.lemmas.Option.{none-some, same_Some, get_or_from_slice_get, slice_get-get_or}
 use Rattle.std.proofs.lemmas.Bool.{eqb-true, eq-eqb}
 use Rattle.std.proofs.lemmas.List.Quantifiers.{position-Some}
-use Rattle.std.proofs.lemmas.Slice.Eq.{bytes_eq-Decides}
 use Rattle.cil_specs.specs.Names.{Word}
 use Rattle.cil_specs.specs.Statements.{Form, block, optional, type_name, type_alias, alias_actual, type_attribute, attribute_set, common, class, class_common, class_order, rule}
 use Rattle.cil_specs.specs.Joined.{Placed}
-use Rattle.cil_specs.specs.Lookup.{Table, declared_in, declares, same_namespace, is_word, is_same, word_text, holds_of, Optionals, leads}
-use Rattle.cil_specs.specs.Next.{every_optional}
+use Rattle.cil_specs.specs.Lookup.{Table, declared_in, declares, same_namespace, is_word, is_same, word_text, holds_of, Optionals, leads, every_optional}
 use Rattle.cil_specs.proofs.Runs.{first_true, second_true}
+use Rattle.cil_specs.proofs.DeclaredLemmas.{one-namespace}
 use Rattle.cil_names.specs.First.{IsFirstOf}
 use Rattle.cil_names.specs.Policy.{IsLead}
 use Rattle.cil_names.specs.Gifts.{first_at, with_first, gift_table, given_word, given_lead, gives, HasFirstsOf}
@@ -20,6 +19,7 @@ use lib.Dec.{eqb}
 use Rattle.indexmap.specs.IndexMap.{IndexMap, get, insert_entry}
 use Rattle.indexmap.proofs.CallerLemmas.{insert_entry-new}
 use Rattle.cil_names.proofs.PositionLemmas.{at_if, position-same, position-next}
+use Rattle.cil_names.proofs.NameSets.{bytes_eq-true}
 
 -- what a statement gives something to is where its word leads
 pub gives-lead : (gift : Gift) (kept : Optionals) (policy : List Placed) (s t : Placed) → gives gift kept policy s t ≡ holds_of (is_same (gift_table gift) s) (given_lead gift kept policy t)
@@ -52,28 +52,16 @@ gives-lead gift kept policy s t = by gift t.form
     by Common (class_order the_classes) = refl
     by Common (rule kind source target the_class permissions) = refl
 
-pub bytes-same : (xs ys : List ℕ) → bytes_eq xs ys ≡ true → xs ≡ ys
-bytes-same xs ys e = (bytes_eq-Decides xs ys).0 e
-
-namespaces-same : (xs ys : List (List ℕ)) → same_namespace xs ys ≡ true → xs ≡ ys
-namespaces-same [] [] e = refl
-namespaces-same [] (y ∷ ys) e = absurd (true≢false (sym e))
-namespaces-same (x ∷ xs) [] e = absurd (true≢false (sym e))
-namespaces-same (x ∷ xs) (y ∷ ys) e =
-    let first = bytes-same x y (first_true (bytes_eq x y) (same_namespace xs ys) e) in
-    let others = namespaces-same xs ys (second_true (bytes_eq x y) (same_namespace xs ys) e) in
-    ap (λ z. z ∷ xs) first ∙ ap (λ l. y ∷ l) others
-
 word-text : (name : List ℕ) (o : Option Word) → is_word name o ≡ true → word_text o ≡ name
 word-text name None e = absurd (true≢false (sym e))
-word-text name (Some w) e = bytes-same w.text name e
+word-text name (Some w) e = bytes_eq-true w.text name e
 
 -- two that declare one name are told alike
 same-test : (table : Table) (s t : Placed) → is_same table s t ≡ true → (u : Placed) → is_same table s u ≡ is_same table t u
 same-test table s t e u =
     let name = word_text (declared_in table s.form) in
     let named = word-text name (declared_in table t.form) (first_true (is_word name (declared_in table t.form)) (same_namespace t.namespace s.namespace) e) in
-    let spaced = namespaces-same t.namespace s.namespace (second_true (is_word name (declared_in table t.form)) (same_namespace t.namespace s.namespace) e) in
+    let spaced = one-namespace t.namespace s.namespace (second_true (is_word name (declared_in table t.form)) (same_namespace t.namespace s.namespace) e) in
     ap (λ n. declares table s.namespace n u) (sym named) ∙ ap (λ n. declares table n (word_text (declared_in table t.form)) u) (sym spaced)
 
 -- the first that declares a name declares it

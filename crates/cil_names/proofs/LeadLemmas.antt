@@ -2,20 +2,17 @@
 use Rattle.std.proofs.Common.{◌≡◌, ℕ, Bool, true, false, ◌&&◌, List, [], ◌∷◌, Contains, Option, Some, None, is_some, cond, refl, if◌then◌else◌}
 use Rattle.std.specs.List.{find}
 use Rattle.std.specs.Option.{option_or, option_and_then}
-use Rattle.cil_specs.specs.Names.{Word, components}
+use Rattle.cil_specs.specs.Names.{components}
 use Rattle.cil_specs.specs.Joined.{Placed}
-use Rattle.cil_specs.specs.Lookup.{Table, Optionals, declared_in, declares, is_within, is_word, same_namespace, declaration, has_block, outward, nearest_block, inside, from_namespace, is_global, leads}
+use Rattle.cil_specs.specs.Lookup.{Table, Optionals, declared_in, declares, is_within, declaration, has_block, outward, nearest_block, inside, from_namespace, is_global, leads}
 use Rattle.cil_specs.proofs.Runs.{first_true}
 use Rattle.cil_specs.proofs.NamesLemmas.{contains-first, contains-other}
+use Rattle.cil_specs.proofs.KeptLemmas.{declares-some}
 
 -- what is found is in the policy, and declares a name in the table
 abbrev pub LeadsIn : Table → List Placed → Option Placed → Type 0
 LeadsIn table policy None = Unit {0}
 LeadsIn table policy (Some s) = Contains policy s × (is_some (declared_in table s.form) ≡ true)
-
-word-some : (name : List ℕ) (o : Option Word) → is_word name o ≡ true → is_some o ≡ true
-word-some name None e = e
-word-some name (Some w) e = refl
 
 in-more : (table : Table) (t : Placed) (policy : List Placed) (o : Option Placed) → LeadsIn table policy o → LeadsIn table (t ∷ policy) o
 in-more table t policy None there = tt
@@ -30,8 +27,7 @@ module _ (kept : Optionals) (policy : List Placed) (table : Table) where
           → LeadsIn table (s ∷ statements) (cond b (Some s) (find (λ s. declares table namespace name s && is_within kept s) statements))
       by true e more = (
         contains-first s statements,
-        word-some name (declared_in table s.form)
-            (first_true (is_word name (declared_in table s.form)) (same_namespace s.namespace namespace) (first_true (declares table namespace name s) (is_within kept s) e)),
+        declares-some table namespace name s (first_true (declares table namespace name s) (is_within kept s) e),
       )
       by false e more = in-more table s statements (find (λ s. declares table namespace name s && is_within kept s) statements) more
 

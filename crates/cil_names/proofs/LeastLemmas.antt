@@ -24,7 +24,7 @@ IsSub [] ns = Unit {0}
 IsSub (m ∷ ms) [] = ⊥
 IsSub (m ∷ ms) (n ∷ ns) = ((m ≡ n) × IsSub ms ns) ⊎ IsSub (m ∷ ms) ns
 
-sub-skip : (ms : List ℕ) (n : ℕ) (ns : List ℕ) → IsSub ms ns → IsSub ms (n ∷ ns)
+pub sub-skip : (ms : List ℕ) (n : ℕ) (ns : List ℕ) → IsSub ms ns → IsSub ms (n ∷ ns)
 sub-skip [] n ns sub = tt
 sub-skip (m ∷ ms) n ns sub = inr sub
 
@@ -134,13 +134,13 @@ sub-references (rule kind source itself the_class permissions) =
 sub-references (rule kind source (the_named target) the_class permissions) =
     inl (refl, inl (refl, inl (refl, sub-permissions the_class permissions)))
 
-sub-missing : (kept : Optionals) (policy : List Placed) (s : Placed) → IsSub (map offset (missing_words kept policy s)) (offsets_of s)
+sub-missing : (kept : Optionals) (policy : List Placed) (s : Placed) → IsSub (map offset (missing_words kept policy s)) (offsets_in s.form)
 sub-missing kept policy s =
     let lost = filter (is_unfound kept policy s.namespace) (references s.form) in
     let lacked = filter (is_lacking kept policy s.namespace) (named_permissions s.form) in
-    subst (λ l. IsSub l (offsets_of s)) (sym (map-append offset (map (λ r. r.1) lost) (map (λ p. p.1) lacked)))
+    subst (λ l. IsSub l (offsets_in s.form)) (sym (map-append offset (map (λ r. r.1) lost) (map (λ p. p.1) lacked)))
     (sub-trans (map offset (map (λ r. r.1) lost) ++ map offset (map (λ p. p.1) lacked))
-    (map offset (map (λ r. r.1) (references s.form)) ++ map offset (map (λ p. p.1) (named_permissions s.form))) (offsets_of s)
+    (map offset (map (λ r. r.1) (references s.form)) ++ map offset (map (λ p. p.1) (named_permissions s.form))) (offsets_in s.form)
     (sub-append (map offset (map (λ r. r.1) lost)) (map offset (map (λ r. r.1) (references s.form))) (map offset (map (λ p. p.1) lacked)) (map offset (map (λ p. p.1) (named_permissions s.form)))
     (sub-filter-second (is_unfound kept policy s.namespace) (references s.form))
     (sub-filter-second (is_lacking kept policy s.namespace) (named_permissions s.form)))
@@ -251,20 +251,23 @@ sub-if true words ns sub = sub
 sub-if false words ns sub = tt
 
 -- the faulty words of a statement are words of it, in the order of the text
+sub-faulty_words : (kind : PolicyFaultKind) (kept : Optionals) (policy before : List Placed) (s : Placed) → IsSub (map offset (faulty_words kind kept policy before s)) (offsets_in s.form)
+sub-faulty_words twice kept policy before s = sub-chosen (λ table id. list_any (is_again table s id) before) s.form
+sub-faulty_words missing kept policy before s = sub-if (is_outside s.optionals) (missing_words kept policy s) (offsets_in s.form) (sub-missing kept policy s)
+sub-faulty_words wrong_kind kept policy before s =
+    sub-if (is_within kept s) (wrong_kind_words kept policy s) (offsets_in s.form)
+    (sub-trans (map offset (wrong_kind_words kept policy s)) (map offset (map (λ r. r.1) (kinds_asked s.form))) (offsets_in s.form) (sub-filter-second (is_of_another_kind kept policy s.namespace) (kinds_asked s.form)) (sub-kinds s.form))
+sub-faulty_words alias_twice kept policy before s =
+    sub-if (is_within kept s) (alias_twice_words kept policy before s) (offsets_in s.form) (sub-some s.form (has_earlier_actual kept policy before s.namespace) (alias_words s.form) (sub-aliases s.form))
+sub-faulty_words alias_unset kept policy before s =
+    sub-if (is_within kept s) (alias_unset_words kept policy s) (offsets_in s.form) (sub-some s.form (is_unset kept policy s.namespace) (element_words s.form) (sub-elements s.form))
+sub-faulty_words second_common kept policy before s =
+    sub-if (is_within kept s) (second_common_words kept policy before s) (offsets_in s.form) (sub-some s.form (has_earlier_common kept policy before s.namespace) (common_words s.form) (sub-commons s.form))
+sub-faulty_words too_many_permissions kept policy before s =
+    sub-if (is_within kept s) (too_many_words kept policy s) (offsets_in s.form) (sub-some s.form (λ id. has_too_many kept policy s) (option_to_list (declared_in classes s.form)) (sub-classes s.form))
+
 pub sub-faulty : (kind : PolicyFaultKind) (kept : Optionals) (policy before : List Placed) (s : Placed) → IsSub (map offset (faulty_words kind kept policy before s)) (offsets_of s)
-sub-faulty twice kept policy before s = sub-chosen (λ table id. list_any (is_again table s id) before) s.form
-sub-faulty missing kept policy before s = sub-if (is_outside s.optionals) (missing_words kept policy s) (offsets_of s) (sub-missing kept policy s)
-sub-faulty wrong_kind kept policy before s =
-    sub-if (is_within kept s) (wrong_kind_words kept policy s) (offsets_of s)
-    (sub-trans (map offset (wrong_kind_words kept policy s)) (map offset (map (λ r. r.1) (kinds_asked s.form))) (offsets_of s) (sub-filter-second (is_of_another_kind kept policy s.namespace) (kinds_asked s.form)) (sub-kinds s.form))
-sub-faulty alias_twice kept policy before s =
-    sub-if (is_within kept s) (alias_twice_words kept policy before s) (offsets_of s) (sub-some s.form (has_earlier_actual kept policy before s.namespace) (alias_words s.form) (sub-aliases s.form))
-sub-faulty alias_unset kept policy before s =
-    sub-if (is_within kept s) (alias_unset_words kept policy s) (offsets_of s) (sub-some s.form (is_unset kept policy s.namespace) (element_words s.form) (sub-elements s.form))
-sub-faulty second_common kept policy before s =
-    sub-if (is_within kept s) (second_common_words kept policy before s) (offsets_of s) (sub-some s.form (has_earlier_common kept policy before s.namespace) (common_words s.form) (sub-commons s.form))
-sub-faulty too_many_permissions kept policy before s =
-    sub-if (is_within kept s) (too_many_words kept policy s) (offsets_of s) (sub-some s.form (λ id. has_too_many kept policy s) (option_to_list (declared_in classes s.form)) (sub-classes s.form))
+sub-faulty kind kept policy before s = sub-skip (map offset (faulty_words kind kept policy before s)) s.at.offset (offsets_in s.form) (sub-faulty_words kind kept policy before s)
 
 -- the fault at a word of a statement
 abbrev pub fault_at : PolicyFaultKind → Placed → Word → PolicyFault

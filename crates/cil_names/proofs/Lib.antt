@@ -2,10 +2,13 @@ pub mod NameSets
 pub mod FaultLemmas
 pub mod FlatLemmas
 pub mod LeastLemmas
+pub mod NestedLemmas
 pub mod PlacedLemmas
 pub mod SpaceLemmas
 pub mod LookupLemmas
 pub mod DeclareLemmas
+pub mod TwiceLemmas
+pub mod RestrictLemmas
 pub mod PositionLemmas
 pub mod FirstsLemmas
 pub mod StatementsLemmas
@@ -21,4 +24,9 @@ pub mod ElementLemmas
 pub mod RuleLemmas
 pub mod MadeLemmas
 pub mod AttributeLemmas
-pub mod GrowsLemmas
+pub mod JudgedLemmas
+pub mod KeptLemmas
+pub mod DroppedLemmas
+pub mod GreatestLemmas
+pub mod FoundLemmas
+pub mod NeedsLemmas

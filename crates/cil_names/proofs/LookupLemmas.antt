@@ -12,9 +12,9 @@ use Rattle.std.proofs.lemmas.List.Splits.{slice_split_first}
 use Rattle.std.proofs.lemmas.Option.{cond_some, slice_get_past, slice_get_cases, get_or_from_slice_get}
 use Rattle.cil_specs.specs.Names.{Word}
 use Rattle.cil_specs.specs.Joined.{Placed}
-use Rattle.cil_specs.specs.Lookup.{Table, declared_in, is_word, declares, is_same, is_within, same_namespace, declaration, has_block, outward, nearest_block, inside, from_namespace, word_text}
-use Rattle.cil_specs.specs.Next.{every_optional}
+use Rattle.cil_specs.specs.Lookup.{Table, declared_in, is_word, declares, is_same, is_within, same_namespace, declaration, has_block, outward, nearest_block, inside, from_namespace, word_text, every_optional}
 use Rattle.cil_specs.proofs.Runs.{first_true, second_true}
+use Rattle.cil_specs.proofs.DeclaredLemmas.{one-namespace}
 use Rattle.cil_names.specs.First.{IsFirstOf}
 use Rattle.cil_names.specs.Placed.{AreBlocks}
 use Rattle.cil_names.specs.Policy.{IsLead, is_table, is_key}
@@ -25,7 +25,6 @@ use Rattle.cil_names.specs.contracts.kinds.TablePartialEq.TheImpl as table_eq
 use Rattle.cil_names.specs.contracts.policy.KeyPartialEq.TheImpl as key_eq
 use Rattle.cil_names.specs.Spaces.{Namespace}
 use Rattle.cil_names.proofs.NameSets.{bytes_eq-true}
-use Rattle.cil_names.proofs.SpaceLemmas.{same_namespace-true}
 
 abbrev pub is_dot : ℕ → Bool
 is_dot b = b == 46
@@ -106,7 +105,7 @@ declaration-find policy table namespace name =
 declares-same : (table : Table) (namespace : Namespace) (name : List ℕ) (s : Placed) → declares table namespace name s ≡ true → is_same table s ≡ declares table namespace name
 declares-same table namespace name s e =
     let names = named (declared_in table s.form) (first_true (is_word name (declared_in table s.form)) (same_namespace s.namespace namespace) e) in
-    let spaces = same_namespace-true s.namespace namespace (second_true (is_word name (declared_in table s.form)) (same_namespace s.namespace namespace) e) in
+    let spaces = one-namespace s.namespace namespace (second_true (is_word name (declared_in table s.form)) (same_namespace s.namespace namespace) e) in
     λ i. declares table (spaces i) (names i)
   where
     named : (w : Option Word) → is_word name w ≡ true → word_text w ≡ name

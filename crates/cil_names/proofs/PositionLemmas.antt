@@ -1,6 +1,6 @@
 -- The first place in a list at which a test passes.
-use Rattle.std.proofs.Common.{◌≡◌, ℕ, ◌+◌, ◌<◌, ◌≤◌, zero, suc, Bool, true, false, not, ◌||◌, nat_lt, List, [], ◌∷◌, ◌++◌, length, take, cond, Option, Some, None, is_some, option_map, position, refl, sym, ap, ◌∙◌, add-one, arith}
-use Rattle.std.specs.List.{find, list_any, slice_get, position_or_len}
+use Rattle.std.proofs.Common.{◌≡◌, ℕ, ◌+◌, ◌<◌, ◌≤◌, zero, suc, Bool, true, false, not, ◌||◌, nat_lt, List, [], ◌∷◌, ◌++◌, length, take, cond, Option, Some, None, is_some, option_map, position, refl, sym, ap, ◌∙◌, subst, add-one, arith}
+use Rattle.std.specs.List.{find, list_any, slice_get, position_or_len, AllByRecursion}
 use Rattle.std.specs.Option.{option_or}
 use Rattle.std.proofs.lemmas.Option.{none-some, same_Some}
 use Rattle.std.proofs.lemmas.Bool.{ltb-true, ltb-false, lt-ltb, le-ltb}
@@ -99,6 +99,17 @@ pub first-append : {X : Type 0} (xs ys : List X) → slice_get (xs ++ ys) 0 ≡ 
 first-append [] ys = refl
 first-append (x ∷ xs) ys = refl
 
+-- an element is where it was, with more behind
+pub get-append : {X : Type 0} (xs ys : List X) (m : ℕ) (x : X) → slice_get xs m ≡ Some x → slice_get (xs ++ ys) m ≡ Some x
+get-append [] ys m x is = absurd (none-some x is)
+get-append (y ∷ xs) ys zero x is = is
+get-append (y ∷ xs) ys (suc m) x is = get-append xs ys m x is
+
+-- the last element
+pub get-last : {X : Type 0} (xs : List X) (y : X) → slice_get (xs ++ y ∷ []) (length xs) ≡ Some y
+get-last [] y = refl
+get-last (x ∷ xs) y = get-last xs y
+
 -- one more element is taken
 pub take-next : {X : Type 0} (xs : List X) (i : ℕ) (x : X) → slice_get xs i ≡ Some x → take (suc i) xs ≡ take i xs ++ x ∷ []
 take-next [] i x is = absurd (none-some x is)
@@ -141,3 +152,9 @@ position-more p (x ∷ xs) (suc n) i e = position-cons p x xs ∙ by (p x) (posi
     by true o is more e = e
     by false None is more e = absurd (none-some i (sym (ap (option_map suc) is) ∙ e))
     by false (Some m) is more e = ap (option_map suc) (more m is) ∙ sym (ap (option_map suc) is) ∙ e
+
+-- what holds of each element holds of the one at a place
+pub all-at : {X : Type 0} (P : X → Type 0) (xs : List X) (i : ℕ) (x : X) → AllByRecursion P xs → slice_get xs i ≡ Some x → P x
+all-at P [] i x all at = absurd (none-some x at)
+all-at P (y ∷ ys) zero x all at = subst P (same_Some y x at) all.0
+all-at P (y ∷ ys) (suc i) x all at = all-at P ys i x all.1 at

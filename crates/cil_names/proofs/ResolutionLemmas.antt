@@ -9,12 +9,13 @@ use Rattle.std.proofs.lemmas.Slice.Eq.{bytes_eq-Decides}
 use Rattle.cil_specs.specs.Names.{Word}
 use Rattle.cil_specs.specs.Statements.{RuleKind, Target, itself, the_named, target_words, Form, block, optional, type_name, type_alias, alias_actual, type_attribute, attribute_set, common, class, class_common, class_order, rule, is_optional}
 use Rattle.cil_specs.specs.Joined.{Placed}
-use Rattle.cil_specs.specs.Lookup.{Table, declares, types, classes, declared_in, is_within, is_same, is_word, same_namespace, word_text, holds_of, leads, references, named_permissions, has_name, with_name, distinct, permissions_of, gives_actual, gives_common, actual_statement, is_type, is_alias}
+use Rattle.cil_specs.specs.Lookup.{Table, declares, types, classes, declared_in, is_within, is_same, is_word, same_namespace, word_text, holds_of, leads, references, named_permissions, has_name, with_name, distinct, permissions_of, gives_actual, gives_common, actual_statement, is_type, is_alias, every_optional}
 use Rattle.cil_specs.specs.PolicyFault.{PolicyFault, twice, tables, is_again, twice_words, IsFaultOf, is_unfound, is_lacking, kinds_asked, has_earlier_actual, has_earlier_common, is_of_another_kind, element_words, is_unset, has_too_many, too_many_words}
 use Rattle.cil_specs.specs.Rule.{is_class}
-use Rattle.cil_specs.specs.Next.{every_optional, is_attribute_word, rule_elements}
+use Rattle.cil_specs.specs.Next.{is_attribute_word, rule_elements}
 use Rattle.cil_specs.proofs.Runs.{both_true, first_true}
 use Rattle.cil_specs.proofs.NamesLemmas.{contains-first}
+use Rattle.cil_specs.proofs.RestrictedLemmas.{every-within}
 use Rattle.cil_text.specs.Image.{word_of}
 use Rattle.cil_text.specs.declared.word.Word as code_word
 use Rattle.cil_names.specs.First.{IsFirstOf}
@@ -25,11 +26,12 @@ use Rattle.cil_names.specs.Resolution.{word_if, first_missing_permission, again_
 use Rattle.cil_names.specs.declared.firsts.Gift.{Gift}
 use Rattle.cil_names.specs.declared.firsts.Gift.TheVariants as gift
 use Rattle.cil_names.proofs.PositionLemmas.{at_if, position-next, any-position, position-more, is_before, any-before, any-same, find-position, first-append}
-use Rattle.cil_names.proofs.FirstsLemmas.{bytes-same, first-itself}
-use Rattle.cil_names.proofs.ClassesLemmas.{within-every}
+use Rattle.cil_names.proofs.NameSets.{bytes_eq-true}
+use Rattle.cil_names.proofs.FirstsLemmas.{first-itself}
 use Rattle.cil_names.proofs.LeastLemmas.{around-at}
 
-none-there : {X : Type 0} (xs : List X) (n : ℕ) → slice_get xs n ≡ None → n < length xs → ⊥
+-- below the length there is an element
+pub none-there : {X : Type 0} (xs : List X) (n : ℕ) → slice_get xs n ≡ None → n < length xs → ⊥
 none-there [] n e within = omega (arith, within)
 none-there (x ∷ xs) zero e within = none-some x (sym e)
 none-there (x ∷ xs) (suc n) e within = none-there xs n e (omega (arith, within))
@@ -89,7 +91,7 @@ has-with names name n = by (has_name names n) refl
     last l = list_any-append (bytes_eq name) l (n ∷ []) ∙ ap (λ b. list_any (bytes_eq name) l || b) (or-false (bytes_eq name n))
 
     there : (b : Bool) → bytes_eq name n ≡ b → has_name names n ≡ true → has_name names name ≡ (has_name names name || b)
-    there true e has = let same : name ≡ n = bytes-same name n e in
+    there true e has = let same : name ≡ n = bytes_eq-true name n e in
         let here : has_name names name ≡ true = ap (has_name names) same ∙ has in
         here ∙ ap (λ b. b || true) (sym here)
     there false e has = sym (or-false (has_name names name))
@@ -153,14 +155,14 @@ earlier-actual : (policy before : List Placed) (o : Option Placed) → holds_of 
 earlier-actual policy before None = refl
 earlier-actual policy before (Some s) =
     any-same (λ t. is_within every_optional t && gives_actual every_optional policy s t.namespace t.form) (gives gift.Actual every_optional policy s)
-    (λ t. ap (λ b. b && gives_actual every_optional policy s t.namespace t.form) (within-every t)) before
+    (λ t. ap (λ b. b && gives_actual every_optional policy s t.namespace t.form) (every-within t)) before
 
 earlier-common : (policy before : List Placed) (o : Option Placed) → holds_of (λ s. list_any (λ t. is_within every_optional t && gives_common every_optional policy s t.namespace t.form) before) o
     ≡ holds_of (λ s. list_any (gives gift.Common every_optional policy s) before) o
 earlier-common policy before None = refl
 earlier-common policy before (Some s) =
     any-same (λ t. is_within every_optional t && gives_common every_optional policy s t.namespace t.form) (gives gift.Common every_optional policy s)
-    (λ t. ap (λ b. b && gives_common every_optional policy s t.namespace t.form) (within-every t)) before
+    (λ t. ap (λ b. b && gives_common every_optional policy s t.namespace t.form) (every-within t)) before
 
 abbrev pub again_if : Gift → List Placed → List Placed → Placed → Word → Option Word
 again_if g policy before t w = word_if (holds_of (λ s. list_any (gives g every_optional policy s) before) (leads every_optional policy (gift_table g) t.namespace w.text)) w
@@ -233,7 +235,7 @@ unset-noted policy namespace word firsts place lead has =
     ap (holds_of (λ s. is_alias s.form && not (is_some (actual_statement every_optional policy s)))) lead.is
     ∙ ap (λ b. is_alias lead.s.form && not b)
     (ap is_some (find-same (λ t. is_within every_optional t && gives_actual every_optional policy lead.s t.namespace t.form) (gives gift.Actual every_optional policy lead.s)
-    (λ t. ap (λ b. b && gives_actual every_optional policy lead.s t.namespace t.form) (within-every t)) policy)
+    (λ t. ap (λ b. b && gives_actual every_optional policy lead.s t.namespace t.form) (every-within t)) policy)
     ∙ find-position (gives gift.Actual every_optional policy lead.s) policy ∙ ap is_some (sym (has place lead.s lead.at lead.first)))
 
 pub unset-first : (policy : List Placed) (namespace : List (List ℕ)) (word : Word) (firsts : List (ℕ × ℕ)) (place : ℕ) (alias : Bool)

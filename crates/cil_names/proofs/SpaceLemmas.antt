@@ -15,6 +15,7 @@ use Rattle.std.proofs.lemmas.Option.{same_Some, slice_get-get_or, slice_get_with
 use Rattle.indexmap.specs.IndexSet.{insert_key}
 use Rattle.cil_specs.specs.Lookup.{same_namespace}
 use Rattle.cil_specs.proofs.Runs.{first_true, second_true}
+use Rattle.cil_specs.proofs.DeclaredLemmas.{one-namespace}
 use Rattle.cil_names.specs.Spaces.{Namespace, with_block, spaces_of, AreInside, AreSpaces}
 use Rattle.cil_names.specs.declared.spaces.Block.{Block}
 use Rattle.cil_names.specs.contracts.spaces.BlockPartialEq.TheImpl as block_eq
@@ -23,15 +24,6 @@ use Rattle.cil_names.proofs.NameSets.{bytes_eq-refl, bytes_eq-true}
 pub same_namespace-refl : (a : Namespace) → same_namespace a a ≡ true
 same_namespace-refl [] = refl
 same_namespace-refl (x ∷ a) = both_true (bytes_eq-refl x) (same_namespace-refl a)
-
-pub same_namespace-true : (a b : Namespace) → same_namespace a b ≡ true → a ≡ b
-same_namespace-true [] [] e = refl
-same_namespace-true [] (y ∷ b) e = absurd (true≢false (sym e))
-same_namespace-true (x ∷ a) [] e = absurd (true≢false (sym e))
-same_namespace-true (x ∷ a) (y ∷ b) e =
-    let names = bytes_eq-true x y (first_true (bytes_eq x y) (same_namespace a b) e) in
-    let others = same_namespace-true a b (second_true (bytes_eq x y) (same_namespace a b) e) in
-    λ i. names i ∷ others i
 
 same_namespace-sym : (a b : Namespace) → same_namespace a b ≡ same_namespace b a
 same_namespace-sym [] [] = refl
@@ -43,7 +35,7 @@ same_namespace_equiv : IsEquivalence same_namespace
 same_namespace_equiv = record {
   refl = same_namespace-refl;
   symm = same_namespace-sym;
-  congr = λ a b c e. ap (λ n. same_namespace n c) (same_namespace-true a b e);
+  congr = λ a b c e. ap (λ n. same_namespace n c) (one-namespace a b e);
 }
 
 -- of distinct namespaces no two places have the same
@@ -204,7 +196,7 @@ spaces-push blocks b are low absent =
     there : list_any (same_namespace space) (spaces_of blocks) ≡ true → Contains (spaces_of blocks) space
     there any =
         let found = Any-from_list_any (same_namespace space) (spaces_of blocks) any in
-        (found.0, found.2, get_or_default (spaces_of blocks) found.0 space found.1 found.2 ∙ found.3 ∙ sym (same_namespace-true space found.1 found.4))
+        (found.0, found.2, get_or_default (spaces_of blocks) found.0 space found.1 found.2 ∙ found.3 ∙ sym (one-namespace space found.1 found.4))
 
     new : (r : Bool) → list_any (same_namespace space) (spaces_of blocks) ≡ r → list_any (same_namespace space) (spaces_of blocks) ≡ false
     new true e = absurd (true≢false (sym (block-known blocks are b low (there e)) ∙ absent))

@@ -5,9 +5,8 @@ use Rattle.std.specs.Option.{option_and_then}
 use Rattle.cil_specs.specs.Names.{Word}
 use Rattle.cil_specs.specs.Statements.{Form, class_common}
 use Rattle.cil_specs.specs.Joined.{Placed}
-use Rattle.cil_specs.specs.Lookup.{classes, is_within, gives_common, common_permissions, own_permissions, texts, permissions_of, with_name, distinct}
+use Rattle.cil_specs.specs.Lookup.{classes, is_within, gives_common, common_permissions, own_permissions, texts, permissions_of, with_name, distinct, every_optional}
 use Rattle.cil_specs.specs.Rule.{is_class}
-use Rattle.cil_specs.specs.Next.{every_optional}
 use Rattle.cil_names.specs.First.{IsFirstOf}
 
 -- the places of the statements of classes, and the permissions of each

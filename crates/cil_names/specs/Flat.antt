@@ -1,8 +1,8 @@
--- Policies as lists of statements: none stands in an optional, each is neither an optional nor an attribute set, and they stand in order.
+-- Policies as lists of statements: none stands in an optional, none is an attribute set, and they stand in order.
 use Rattle.std.specs.Prelude.{◌≡◌, ◌⊎◌, ℕ, ◌<◌, List, [], ◌∷◌, map, Contains, IsTrue}
 use Rattle.std.specs.List.{AllByRecursion}
 use Rattle.std.specs.declared.cmp.Ordering.TheVariants.{Less}
-use Rattle.cil_specs.specs.Statements.{Form, words_of, rise_from}
+use Rattle.cil_specs.specs.Statements.{Form, words_of, offsets_at, rise_from}
 use Rattle.cil_specs.specs.Joined.{Placed}
 use Rattle.cil_specs.specs.Next.{is_plain_form}
 use Rattle.cil_specs.specs.PolicyFault.{PolicyFault, IsNoLater}
@@ -12,16 +12,17 @@ use Rattle.cil_specs.specs.Report.{name_cmp}
 abbrev pub offsets_in : Form → List ℕ
 offsets_in form = map (λ (role, word). word.at.offset) (words_of form)
 
+-- the offset of its (, and those of its words
 abbrev pub offsets_of : Placed → List ℕ
-offsets_of s = offsets_in s.form
+offsets_of s = offsets_at s.at s.form
 
--- a plain statement in no optional, whose words stand one behind the other
+-- a plain statement in no optional, whose ( and words stand one behind the other
 pub record IsPlain (s : Placed) : Type 0 where
   pub plain : IsTrue (is_plain_form s.form)
   pub optionals : s.optionals ≡ []
   pub rising : IsTrue (rise_from 0 (offsets_of s))
 
--- the one stands in a module of lesser name, or in the same and with each of its words in front of each of the other's
+-- the one stands in a module of lesser name, or in the same and with its ( and each of its words in front of the other's
 abbrev pub IsBefore : Placed → Placed → Type 0
 IsBefore s t = (name_cmp s.module_name t.module_name ≡ Less)
     ⊎ ((s.module_name ≡ t.module_name) × ((m n : ℕ) → Contains (offsets_of s) m → Contains (offsets_of t) n → m < n))

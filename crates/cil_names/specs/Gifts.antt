@@ -6,8 +6,7 @@ use Rattle.std.specs.Option.{option_and_then}
 use Rattle.cil_specs.specs.Names.{Word}
 use Rattle.cil_specs.specs.Statements.{Form, alias_actual, class_common}
 use Rattle.cil_specs.specs.Joined.{Placed}
-use Rattle.cil_specs.specs.Lookup.{Table, types, classes, Optionals, leads, gives_actual, gives_common}
-use Rattle.cil_specs.specs.Next.{every_optional}
+use Rattle.cil_specs.specs.Lookup.{Table, types, classes, Optionals, leads, gives_actual, gives_common, every_optional}
 use Rattle.cil_names.specs.First.{IsFirstOf}
 use Rattle.cil_names.specs.declared.firsts.Gift.{Gift}
 use Rattle.cil_names.specs.declared.firsts.Gift.TheVariants.{Actual, Common}

@@ -13,4 +13,6 @@ pub mod Resolved
 pub mod FullNames
 pub mod Numbering
 pub mod Views
-pub mod Grows
+pub mod Nested
+pub mod Extends
+pub mod Needs

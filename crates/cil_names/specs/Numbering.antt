@@ -3,9 +3,8 @@ use Rattle.std.specs.Prelude.{◌≡◌, ℕ, Bool, true, false, not, ◌&&◌, 
 use Rattle.cil_specs.specs.Names.{Word}
 use Rattle.cil_specs.specs.Statements.{Form, type_name, type_attribute, common, class}
 use Rattle.cil_specs.specs.Joined.{Placed}
-use Rattle.cil_specs.specs.Lookup.{types, Optionals, has_name, texts, holds_of, leads, actual_statement, is_alias, is_type, is_attribute}
+use Rattle.cil_specs.specs.Lookup.{types, Optionals, has_name, texts, holds_of, leads, actual_statement, is_alias, is_type, is_attribute, every_optional}
 use Rattle.cil_specs.specs.PolicyFault.{Compiles}
-use Rattle.cil_specs.specs.Next.{every_optional}
 use Rattle.cil_specs.specs.Rule.{Declared, declared_as, ClassOf, class_as, is_class, Rule, rule_of}
 use Rattle.cil_names.specs.FullNames.{full_name_of}
 use Rattle.cil_names.specs.Policy.{policy_in}

@@ -1,14 +1,13 @@
 -- The statements of the code, as those of the joined policy.
-use Rattle.std.specs.Prelude.{◌≡◌, ◌<◌, ◌↔◌, ◌++◌, ◌∷◌, ℕ, List, [], map, length, slice_index_or, Contains, IsTrue}
-use Rattle.std.specs.List.{AllByRecursion, IsDistinct}
+use Rattle.std.specs.Prelude.{◌≡◌, ◌<◌, ◌↔◌, ◌∷◌, ℕ, List, [], map, slice_index_or, Contains, IsTrue}
+use Rattle.std.specs.List.{AllByRecursion}
 use Rattle.cil_specs.specs.Place as spec
 use Rattle.cil_specs.specs.Statements.{Form, block, optional, type_name, type_alias, alias_actual, type_attribute, attribute_set, common, class, class_common, class_order, rule}
 use Rattle.cil_specs.specs.Joined.{Placed}
-use Rattle.cil_specs.specs.Lookup.{same_namespace, has_block}
+use Rattle.cil_specs.specs.Lookup.{has_block}
 use Rattle.cil_text.specs.Image.{place_of, word_of, target_of, rule_kind_of, expr_of}
 use Rattle.cil_text.specs.declared.statement.Statement.{Statement, Block', Optional', TypeName, TypeAlias, TypeAliasActual, TypeAttribute, TypeAttributeSet, Common, Class, ClassCommon, ClassOrder, Rule}
 use Rattle.cil_names.specs.declared.placed.PlacedStatement.{PlacedStatement}
-use Rattle.cil_names.specs.declared.placed.Flat.{Flat}
 
 -- what a statement says, but for the statements inside it
 abbrev pub form_of : {A : Type 0} → Statement A → Form
@@ -40,7 +39,7 @@ at_of (ClassCommon at the_class the_common) = place_of at
 at_of (ClassOrder at the_classes) = place_of at
 at_of (Rule at kind source target the_class permissions) = place_of at
 
--- a statement of the joined policy, where the list has the namespaces by their numbers; it stands in no optional
+-- a statement of the joined policy, where the list has the namespaces by their numbers; the optionals around it are left out
 abbrev pub placed_of : {A : Type 0} → List (List (List ℕ)) → PlacedStatement A → Placed
 placed_of spaces p = record { module_name = p.module_name.now; at = at_of p.statement.now; form = form_of p.statement.now; namespace = slice_index_or spaces p.namespace []; optionals = [] }
 
@@ -58,15 +57,3 @@ AreIn count statements = AllByRecursion (λ p. p.namespace < count) statements
 -- the namespaces are the global one and those that the blocks of the policy open
 abbrev pub AreBlocks : List (List (List ℕ)) → List Placed → Type 0
 AreBlocks spaces policy = Contains spaces [] × ((namespace : List (List ℕ)) (name : List ℕ) → Contains spaces (name ∷ namespace) ↔ IsTrue (has_block policy namespace name))
-
--- What is put behind the statements of a module: the namespaces are those from before and more; the new statements are these, by the
--- namespaces, whatever is opened later; and what was right stays right.
-pub record Extends {A : Type 0} (old new : Flat A) (number : ℕ) (module_name : List ℕ) (brought : List Placed) : Type 0 where
-  pub more : List (List (List ℕ))
-  pub spaces : new.spaces ≡ old.spaces ++ more
-  pub policy : (later : List (List (List ℕ))) → policy_of (new.spaces ++ later) new.statements.items ≡ policy_of (new.spaces ++ later) old.statements.items ++ brought
-  pub modules : new.modules.items ≡ old.modules.items
-  pub numbered : (modules : List (List ℕ)) → slice_index_or modules number [] ≡ module_name → AreNumbered modules old.statements.items → AreNumbered modules new.statements.items
-  pub within : AreIn (length old.spaces) old.statements.items → AreIn (length new.spaces) new.statements.items
-  pub blocks : AreIn (length old.spaces) old.statements.items → AreBlocks old.spaces (policy_of old.spaces old.statements.items) → AreBlocks new.spaces (policy_of new.spaces new.statements.items)
-  pub distinct : IsDistinct same_namespace old.spaces → IsDistinct same_namespace new.spaces

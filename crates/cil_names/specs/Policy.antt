@@ -4,13 +4,12 @@ use Rattle.std.specs.List.{position, IsDistinct}
 use Rattle.std.specs.Map.{lookup}
 use Rattle.std.specs.Option.{option_and_then, option_to_list}
 use Rattle.cil_specs.specs.Names.{Word}
-use Rattle.cil_specs.specs.Next.{is_plain_form}
 use Rattle.cil_specs.specs.PolicyFault.{twice_words}
 use Rattle.cil_specs.specs.Joined.{Placed}
 use Rattle.cil_specs.specs.Lookup.{Table, types, classes, commons, scopes, declared_in, declares, same_namespace, is_type, is_alias, is_attribute}
 use Rattle.cil_names.specs.First.{IsFirstOf}
 use Rattle.cil_names.specs.Flat.{AreFlat}
-use Rattle.cil_names.specs.Placed.{form_of, placed_of, policy_of, AreNumbered, AreIn, AreBlocks}
+use Rattle.cil_names.specs.Placed.{policy_of, AreNumbered, AreIn, AreBlocks}
 use Rattle.cil_names.specs.Spaces.{Namespace}
 use Rattle.cil_names.specs.declared.kinds.Table as code
 use Rattle.cil_names.specs.declared.kinds.Table.TheVariants.{Types, Classes, Commons, Scopes}
@@ -72,15 +71,11 @@ HasDeclaredIn spaces policy entries = (table : code.Table) (n : ℕ) (name : Lis
 abbrev pub HasDeclared : {A : Type 0} → List Namespace → List (PlacedStatement A) → List (Key × ℕ) → Type 0
 HasDeclared spaces statements entries = HasDeclaredIn spaces (policy_of spaces statements) entries
 
--- What is found of a statement behind others is its name, if one of them declares it; and else the entries have it too.
+-- What is found of a statement behind others is its name, if one of them declares it and the two aren't both optionals; and else the
+-- entries have it too.
 pub record IsTaken (spaces : List Namespace) (policy : List Placed) (s : Placed) (entries : List (Key × ℕ)) (found : Option Word) : Type 0 where
   pub words : twice_words policy s ≡ option_to_list found
   pub declared : found ≡ None → HasDeclaredIn spaces (policy ++ s ∷ []) entries
-
--- so it is of the statement at a place, whatever stands in front
-abbrev pub Takes : {A : Type 0} → ℕ → PlacedStatement A → List (Key × ℕ) → List (Key × ℕ) → Option Word → Type 0
-Takes i p old new found = (spaces : List Namespace) (policy : List Placed) → IsDistinct same_namespace spaces → p.namespace < length spaces → length policy ≡ i → IsTrue (is_plain_form (form_of p.statement.now))
-    → HasDeclaredIn spaces policy old → IsTaken spaces policy (placed_of spaces p) new found
 
 -- The statements are in the namespaces, of which each stands once and is the global one or a block's.
 pub record IsSound {A : Type 0} (p : Policy A) : Type 0 where

@@ -5,9 +5,9 @@ use Rattle.std.specs.Option.{option_or}
 use Rattle.cil_specs.specs.Names.{Word}
 use Rattle.cil_specs.specs.Statements.{Form}
 use Rattle.cil_specs.specs.Joined.{Placed}
-use Rattle.cil_specs.specs.Lookup.{classes, Optionals, is_type, is_alias, is_attribute}
+use Rattle.cil_specs.specs.Lookup.{classes, Optionals, is_type, is_alias, is_attribute, every_optional}
 use Rattle.cil_specs.specs.PolicyFault.{is_unfound, is_lacking, alias_twice_words, second_common_words}
-use Rattle.cil_specs.specs.Next.{every_optional, is_attribute_word, rule_elements}
+use Rattle.cil_specs.specs.Next.{is_attribute_word, rule_elements}
 use Rattle.cil_names.specs.Classes.{HasPermissions}
 use Rattle.cil_names.specs.Gifts.{HasFirsts}
 use Rattle.cil_names.specs.Policy.{policy_in, IsSound}

@@ -12,7 +12,9 @@ use Rattle.cil_names.specs.declared.numbered.Aim.TheVariants as aims
 use Rattle.cil_names.specs.declared.numbered.NumberedName.{NumberedName}
 use Rattle.cil_names.specs.declared.numbered.NumberedClass.{NumberedClass}
 use Rattle.cil_names.specs.declared.numbered.NumberedRule.{NumberedRule}
+use Rattle.cil_names.specs.declared.numbered.DroppedOptional.{DroppedOptional}
 use Rattle.cil_names.specs.declared.resolved.Resolved.{Resolved}
+use Rattle.cil_specs.specs.Kept.{AreKept, dropped_of}
 
 abbrev pub element_of : List (List ℕ) → Element → spec.Element
 element_of names («Type» i) = a_type (slice_index_or names i [])
@@ -58,9 +60,24 @@ classes_in r = map (class_of r.modules.items r.names.items) r.classes.items
 abbrev pub rules_in : {A : Type 0} → Resolved A → List spec.Rule
 rules_in r = map (rule_of r.modules.items r.names.items) r.rules.items
 
--- it is what the policy resolves to
-pub record IsPolicy {A : Type 0} (kept : Optionals) (policy : List Placed) (r : Resolved A) : Type 0 where
+-- an optional that drops, by the name of its module
+abbrev pub dropped_with : {A : Type 0} → List (List ℕ) → DroppedOptional A → spec.Declared
+dropped_with modules d = record { module_name = slice_index_or modules d.module []; at = place_of d.at; name = d.name }
+
+abbrev pub dropped_in : {A : Type 0} → Resolved A → List spec.Declared
+dropped_in r = map (dropped_with r.modules.items) r.dropped.items
+
+-- it has the types, attributes, classes and rules of a policy
+pub record HasContents {A : Type 0} (kept : Optionals) (policy : List Placed) (r : Resolved A) : Type 0 where
   pub types : types_in r ≡ types_of kept policy
   pub attributes : attributes_in r ≡ attributes_of kept policy
   pub classes : classes_in r ≡ classes_of kept policy
   pub rules : rules_in r ≡ rules_of kept policy
+
+-- it is what a policy resolves to by the optionals that it keeps, of which something holds
+pub record IsPolicy {A : Type 0} (Holds : Optionals → Type 0) (policy : List Placed) (r : Resolved A) : Type 0 where
+  pub kept : Optionals
+  pub are_kept : AreKept policy kept
+  pub holds : Holds kept
+  pub contents : HasContents kept policy r
+  pub dropped : dropped_in r ≡ dropped_of kept policy

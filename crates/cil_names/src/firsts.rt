@@ -1,7 +1,7 @@
 //! Which statement is the first that gives something to a declaration.
 
 ghost use Rattle.std.specs.Prelude.{◌≡◌, ◌<◌, length, option_map, IfOk, OnOk, OnErr};
-ghost use Rattle.cil_specs.specs.Next.{every_optional};
+ghost use Rattle.cil_specs.specs.Lookup.{every_optional};
 ghost use Rattle.cil_text.specs.Image.{word_of};
 ghost use Rattle.cil_names.specs.Placed.{form_of, placed_of};
 ghost use Rattle.cil_names.specs.Policy.{table_of, policy_in, IsLead, IsSound};

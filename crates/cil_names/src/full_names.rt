@@ -11,7 +11,7 @@ use crate::text::Text;
 use std::alloc::{AllocError, Allocator};
 
 /// The full name of a name in the namespace of this number, by the names of the namespaces.
-fn full_name<A: Allocator + Copy>(
+pub fn full_name<A: Allocator + Copy>(
     alloc: A,
     spaces: &[Text<A>],
     namespace: usize,
@@ -32,7 +32,7 @@ fn full_name<A: Allocator + Copy>(
 }
 
 /// The names of namespaces, in their order.
-fn space_names<A: Allocator + Copy>(
+pub fn space_names<A: Allocator + Copy>(
     alloc: A,
     spaces: &Spaces<'_, A>,
 ) -> Result<Vec<Text<A>, A>, AllocError>

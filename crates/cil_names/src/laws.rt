@@ -1,12 +1,25 @@
-//! Laws of the definitions, on which later steps rest. They have no code.
+//! Laws of the definitions. They have no code.
 
 ghost use Rattle.std.specs.Prelude.{ℕ, List, IsTrue, is_some};
 ghost use Rattle.cil_specs.specs.Joined.{Placed};
 ghost use Rattle.cil_specs.specs.Lookup.{Table, Optionals, leads};
-ghost use Rattle.cil_names.specs.Grows.{IsWithin};
+ghost use Rattle.cil_specs.specs.Store.{Store};
+ghost use Rattle.cil_specs.specs.Kept.{IsWithin, IsGood, AreKept, AreApart};
+ghost use Rattle.cil_specs.specs.Next.{IsPolicyOf};
 
 /// With more optionals a name that leads somewhere still does. It may lead elsewhere: a nearer declaration hides one further out.
 pub fn found_grows()
     ensures { (kept more : Optionals) (policy : List Placed) (table : Table) (namespace : List (List ℕ)) (text : List ℕ) → IsWithin kept more
         → IsTrue (is_some (leads kept policy table namespace text)) → IsTrue (is_some (leads more policy table namespace text)) }
+{}
+
+/// Where blocks, classes, commons and what is said of them stand in no optional, the kept optionals, which are those of all good sets
+/// together, are a good set themselves: the greatest.
+pub fn kept_is_good()
+    ensures { (policy : List Placed) (kept : Optionals) → AreApart policy → AreKept policy kept → IsGood policy kept }
+{}
+
+/// The policy of a store is one in which these stand in no optional.
+pub fn policies_are_apart()
+    ensures { (store : Store) (policy : List Placed) → IsPolicyOf store policy → AreApart policy }
 {}

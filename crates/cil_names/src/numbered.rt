@@ -1,5 +1,6 @@
 //! Types, classes and rules by the numbers of their names.
 
+use crate::text::Text;
 use cil_text::{Place, RuleKind};
 use std::alloc::{Allocator, Global};
 
@@ -45,4 +46,12 @@ pub struct NumberedRule<A: Allocator = Global> {
     pub target: Aim,
     pub class: usize,
     pub permissions: Vec<usize, A>,
+}
+
+/// An optional that drops, also one inside another: the place of its module's name, the place of its statement, and its full name.
+#[derive(Debug, Drop)]
+pub struct DroppedOptional<A: Allocator = Global> {
+    pub module: usize,
+    pub at: Place,
+    pub name: Text<A>,
 }

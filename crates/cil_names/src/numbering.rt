@@ -4,12 +4,11 @@ ghost use Rattle.std.specs.Prelude.{◌≡◌, ◌≢◌, ◌<◌, [], Some, map
 ghost use Rattle.std.specs.List.{list_all, AllByRecursion};
 ghost use Rattle.std.specs.Option.{option_to_list};
 ghost use Rattle.cil_specs.specs.Joined.{Placed};
-ghost use Rattle.cil_specs.specs.Lookup.{types, classes as class_table, leads as leads_from, holds_of, actual_statement, actual_of, is_type, with_name};
+ghost use Rattle.cil_specs.specs.Lookup.{types, classes as class_table, leads as leads_from, holds_of, actual_statement, actual_of, is_type, with_name, every_optional};
 ghost use Rattle.cil_specs.specs.Report.{names_rise};
 ghost use Rattle.cil_specs.specs.Rule.{element_of as element_led, aim_of as aim_led, class_name, classes_of, rules_of, rule_of as rule_led};
 ghost use Rattle.cil_specs.specs.Statements.{target_words};
 ghost use Rattle.cil_specs.specs.PolicyFault.{Compiles};
-ghost use Rattle.cil_specs.specs.Next.{every_optional};
 ghost use Rattle.cil_text.specs.Image.{word_of, target_of};
 ghost use Rattle.cil_names.specs.Below.{is_element_below, is_aim_below, is_rule_below, is_name_below, is_class_below};
 ghost use Rattle.cil_names.specs.First.{IsFirstOf};
@@ -18,13 +17,13 @@ ghost use Rattle.cil_names.specs.Numbering.{names_with, AreNamesOf, is_numbered,
 ghost use Rattle.cil_names.specs.Placed.{form_of, placed_of};
 ghost use Rattle.cil_names.specs.Policy.{namespace_at, modules_in, policy_in, IsSound};
 ghost use Rattle.cil_names.specs.Resolution.{IsResolved};
-ghost use Rattle.cil_names.specs.Resolved.{IsPolicy, element_of, aim_of, declared_of, class_of, rule_of};
+ghost use Rattle.cil_names.specs.Resolved.{HasContents, dropped_with, dropped_in, element_of, aim_of, declared_of, class_of, rule_of};
 ghost use Rattle.cil_names.specs.declared.kinds.Kind.TheVariants.{Alias};
 
 use crate::full_names::full_names;
 use crate::kinds::{Kind, Table};
 use crate::name_set::NameSet;
-use crate::numbered::{Aim, Element, NumberedClass, NumberedName, NumberedRule};
+use crate::numbered::{Aim, DroppedOptional, Element, NumberedClass, NumberedName, NumberedRule};
 use crate::placed::PlacedStatement;
 use crate::resolution::Resolution;
 use crate::resolved::Resolved;
@@ -32,14 +31,16 @@ use crate::text::Text;
 use cil_text::{Statement, Target, Word};
 use std::alloc::{AllocError, Allocator, Global};
 
-/// The policy of a resolution without faults, by full names.
+/// The policy of a resolution without faults, by full names, with the optionals that drop.
 pub fn number_policy<A: Allocator + Copy>(
     alloc: A,
     resolution: &Resolution<'_, '_, A>,
+    dropped: Vec<DroppedOptional<A>, A>,
 ) -> Result<Resolved<A>, AllocError>
     requires resolved { IsResolved resolution.now }
     requires compiles { Compiles every_optional (policy_in resolution.now.policy) }
-    ensures { IfOk result (IsPolicy every_optional (policy_in resolution.now.policy)) }
+    ensures contents { IfOk result (HasContents every_optional (policy_in resolution.now.policy)) }
+    ensures dropped { IfOk result (λ r. dropped_in r ≡ map (dropped_with (modules_in resolution.now.policy)) dropped.items) }
 {
     let full_names = full_names(alloc, &resolution.policy)?;
     let names = sorted_names(alloc, resolution, &full_names)?;
@@ -49,7 +50,7 @@ pub fn number_policy<A: Allocator + Copy>(
         full_names: &full_names,
         names: &names,
     };
-    numbering.resolved()
+    numbering.resolved(dropped)
 }
 
 /// Copies of the modules' names, in their order.
@@ -223,10 +224,11 @@ impl<'n, 't, 'j, 'a: 't, A: Allocator + Copy> Numbering<'n, 't, 'j, 'a, A> {
     }
 
     /// The policy by its numbers.
-    fn resolved(&self) -> Result<Resolved<A>, AllocError>
+    fn resolved(&self, dropped: Vec<DroppedOptional<A>, A>) -> Result<Resolved<A>, AllocError>
         requires ready { IsNumbering self.now }
         requires ordered { IsTrue (names_rise self.now.names.now) }
-        ensures { IfOk result (IsPolicy every_optional (policy_in self.now.resolution.now.policy)) }
+        ensures contents { IfOk result (HasContents every_optional (policy_in self.now.resolution.now.policy)) }
+        ensures dropped { IfOk result (λ r. dropped_in r ≡ map (dropped_with (modules_in self.now.resolution.now.policy)) dropped.items) }
     {
         Ok(Resolved {
             modules: module_names(self.alloc, self.resolution)?,
@@ -235,6 +237,7 @@ impl<'n, 't, 'j, 'a: 't, A: Allocator + Copy> Numbering<'n, 't, 'j, 'a, A> {
             attributes: self.declared(Kind::Attribute)?,
             classes: self.classes()?,
             rules: self.rules()?,
+            dropped,
         })
     }
 

@@ -1,14 +1,16 @@
 //! The statements of a joined policy, one after the other.
 
-ghost use Rattle.std.specs.Prelude.{◌≡◌, ◌<◌, ◌++◌, ℕ, List, [], map, length, slice_index_or, IfOk, OnOk, IsTrue};
+ghost use Rattle.std.specs.Prelude.{◌≡◌, ◌<◌, ℕ, List, map, length, IfOk, OnOk, IsTrue};
 ghost use Rattle.std.specs.List.{list_all, IsDistinct};
-ghost use Rattle.cil_specs.specs.Joined.{placed as placed_in, joined as joined_policy};
+ghost use Rattle.cil_specs.specs.Joined.{joined as joined_policy};
 ghost use Rattle.cil_specs.specs.Lookup.{same_namespace};
 ghost use Rattle.cil_specs.specs.Next.{is_plain};
 ghost use Rattle.cil_text.specs.Image.{statements_of};
 ghost use Rattle.cil_names.specs.Image.{modules_of};
 ghost use Rattle.cil_names.specs.Flat.{AreFlat};
-ghost use Rattle.cil_names.specs.Placed.{policy_of, AreNumbered, AreIn, AreBlocks, Extends};
+ghost use Rattle.cil_names.specs.Extends.{placed_around, Extends};
+ghost use Rattle.cil_names.specs.Nested.{nested_policy_of, optionals_among, IsAround, IsNested};
+ghost use Rattle.cil_names.specs.Placed.{policy_of, AreNumbered, AreIn, AreBlocks};
 ghost use Rattle.cil_names.specs.Spaces.{Namespace};
 
 use crate::fault::{PolicyFault, PolicyFaultKind};
@@ -18,12 +20,14 @@ use crate::spaces::Spaces;
 use cil_text::{Place, Statement, Word};
 use std::alloc::{AllocError, Allocator, Global};
 
-/// A statement of a joined policy, with its module's number and name, and the number of its namespace.
+/// A statement of a joined policy, with its module's number and name, the number of its namespace, and that of the innermost
+/// optional around it. Optionals are counted from 1 on, in the order of their statements; 0 stands for none.
 #[derive(Debug, Drop)]
 pub struct PlacedStatement<'j, 'a, A: Allocator = Global> {
     pub module: usize,
     pub module_name: &'a [u8],
     pub namespace: usize,
+    pub optional: usize,
     pub statement: &'j Statement<'a, A>,
 }
 
@@ -52,6 +56,7 @@ impl<'j, 'a, A: Allocator> PlacedStatement<'j, 'a, A> {
     ghost use Rattle.cil_specs.specs.Lookup.{declared_in};
     ghost use Rattle.cil_text.specs.Image.{word_of, place_of};
     ghost use Rattle.cil_names.specs.Placed.{form_of, at_of};
+    ghost use Rattle.cil_names.specs.Nested.{is_optional_statement};
     ghost use Rattle.cil_names.specs.Policy.{table_of};
 
     /// The name that the statement declares, and its table.
@@ -71,6 +76,13 @@ impl<'j, 'a, A: Allocator> PlacedStatement<'j, 'a, A> {
             Statement::Class { id, .. } => Some((Table::Classes, *id)),
             _ => None,
         }
+    }
+
+    /// Whether it is an optional.
+    pub fn is_optional(&self) -> bool
+        ensures { result ≡ is_optional_statement self.now }
+    {
+        matches!(self.statement, Statement::Optional { .. })
     }
 
     /// The place of its `(`.
@@ -94,21 +106,32 @@ impl<'j, 'a, A: Allocator> PlacedStatement<'j, 'a, A> {
     }
 }
 
-/// Statements one after the other, the names of their modules, and their namespaces.
+/// Statements one after the other, the names of their modules, their namespaces, and the places of the optionals among them.
 #[derive(Drop)]
 pub struct Flat<'j, 'a, A: Allocator = Global> {
     pub modules: Vec<&'a [u8], A>,
     pub spaces: Spaces<'a, A>,
+    pub optionals: Vec<usize, A>,
     pub statements: Vec<PlacedStatement<'j, 'a, A>, A>,
 }
 
-/// The statements of the modules, one module after the other, those inside a block behind it.
+/// What is around statements: their module's number and name, and the numbers of their namespace and of the innermost optional.
+#[derive(Clone, Copy, Debug)]
+pub struct Around<'a> {
+    pub module: usize,
+    pub module_name: &'a [u8],
+    pub namespace: usize,
+    pub optional: usize,
+}
+
+/// The statements of the modules, one module after the other, those inside a block or an optional behind it.
 pub fn place_statements<'j, 'a, A: Allocator + Copy>(
     alloc: A,
     joined: &'j Joined<'a, A>,
 ) -> Result<Flat<'j, 'a, A>, AllocError>
     requires plain { IsTrue (list_all (λ m. is_plain m.statements) (modules_of joined.now)) }
-    ensures policy { IfOk result (λ flat. policy_of flat.spaces flat.statements.items ≡ joined_policy (modules_of joined.now)) }
+    ensures policy { IfOk result (λ flat. nested_policy_of flat.spaces flat.statements.items ≡ joined_policy (modules_of joined.now)) }
+    ensures nested { IfOk result (λ flat. IsNested flat.statements.items flat.optionals.items) }
     ensures numbered { IfOk result (λ flat. AreNumbered (map (λ m. m.now) flat.modules.items) flat.statements.items) }
     ensures flat { IfOk result (λ flat. AreFlat (policy_of flat.spaces flat.statements.items)) }
     ensures within { IfOk result (λ flat. AreIn (length flat.spaces) flat.statements.items) }
@@ -118,39 +141,60 @@ pub fn place_statements<'j, 'a, A: Allocator + Copy>(
     let mut flat = Flat {
         modules: Vec::new(alloc),
         spaces: Spaces::new(alloc),
+        optionals: Vec::new(alloc),
         statements: Vec::new(alloc),
     };
     for (number, named) in joined.modules.iter().enumerate() {
         flat.modules.push(named.name)?;
-        flat.place(number, named.name, 0, &named.module.statements)?;
+        let around = Around {
+            module: number,
+            module_name: named.name,
+            namespace: 0,
+            optional: 0,
+        };
+        flat.place(around, &named.module.statements)?;
     }
     Ok(flat)
 }
 
 impl<'j, 'a, A: Allocator + Copy> Flat<'j, 'a, A> {
-    /// Puts statements of a module behind the others, and those inside blocks.
+    /// Puts statements of a module behind the others, and those inside blocks and optionals.
     fn place(
         &mut self,
-        number: usize,
-        module_name: &'a [u8],
-        namespace: usize,
+        around: Around<'a>,
         statements: &'j [Statement<'a, A>],
     ) -> Result<(), AllocError>
-        requires within { namespace < length self.old.spaces }
+        requires within { around.namespace < length self.old.spaces }
+        requires nested { IsNested self.old.statements.items self.old.optionals.items }
+        requires around { IsAround (optionals_among self.old.statements.items) around.optional around.module_name.now }
         requires plain { IsTrue (is_plain (statements_of statements.now)) }
-        ensures { OnOk result (Extends self.old self.new number module_name.now
-            (placed_in module_name.now (slice_index_or self.old.spaces namespace []) [] (statements_of statements.now))) }
+        ensures { OnOk result (Extends self.old self.new around.entry.module around.entry.module_name.now (placed_around self.old around.entry (statements_of statements.now))) }
     {
         for statement in statements {
             self.statements.push(PlacedStatement {
-                module: number,
-                module_name,
-                namespace,
+                module: around.module,
+                module_name: around.module_name,
+                namespace: around.namespace,
+                optional: around.optional,
                 statement,
             })?;
-            if let Statement::Block { id, body, .. } = statement {
-                let inner = self.spaces.open(namespace, id.text)?;
-                self.place(number, module_name, inner, body)?;
+            match statement {
+                Statement::Block { id, body, .. } => {
+                    let namespace = self.spaces.open(around.namespace, id.text)?;
+                    self.place(
+                        Around {
+                            namespace,
+                            ..around
+                        },
+                        body,
+                    )?;
+                }
+                Statement::Optional { body, .. } => {
+                    self.optionals.push(self.statements.len() - 1)?;
+                    let optional = self.optionals.len();
+                    self.place(Around { optional, ..around }, body)?;
+                }
+                _ => {}
             }
         }
         Ok(())

@@ -1,17 +1,18 @@
 //! A joined policy whose names can be looked up.
 
-ghost use Rattle.std.specs.Prelude.{◌≡◌, ◌<◌, ◌==◌, ◌∷◌, ℕ, List, [], Some, None, map, length, slice_get, slice_index_or, bytes_eq, option_map, IfOk, IfErr, OnOk, IfSome, IfNone, IsTrue};
+ghost use Rattle.std.specs.Prelude.{◌≡◌, ◌<◌, ◌==◌, ◌∷◌, true, false, [], filter, take, Some, None, map, length, slice_get, slice_index_or, option_map, IfOk, IfErr, IfSome, IfNone, IsTrue};
 ghost use Rattle.std.specs.List.{list_all, position, slice_split};
-ghost use Rattle.std.specs.Option.{option_and_then};
 ghost use Rattle.cil_specs.specs.Joined.{Placed, joined as joined_policy};
-ghost use Rattle.cil_specs.specs.Lookup.{declares, leads as leads_from, outward as looked_outward, nearest_block as nearest, inside as looked_inside, from_namespace as looked_from, types, texts, listed_by, actual_in};
+ghost use Rattle.cil_specs.specs.Lookup.{declares, leads as leads_from, outward as looked_outward, nearest_block as nearest, inside as looked_inside, from_namespace as looked_from, types, texts, listed_by, actual_in, every_optional};
 ghost use Rattle.cil_specs.specs.PolicyFault.{twice, IsFaultOf};
-ghost use Rattle.cil_specs.specs.Next.{every_optional, is_plain};
+ghost use Rattle.cil_specs.specs.Next.{is_plain};
 ghost use Rattle.cil_text.specs.Image.{word_of};
 ghost use Rattle.cil_names.specs.Image.{modules_of, PolicyFaultIs};
 ghost use Rattle.cil_names.specs.Flat.{AreFlat, IsLeast};
-ghost use Rattle.cil_names.specs.Placed.{form_of, placed_of, policy_of, AreIn, AreNumbered};
-ghost use Rattle.cil_names.specs.Policy.{namespace_at, modules_in, policy_in, table_of, IsLead, IsFlat, IsSound, IsKindAt, Takes};
+ghost use Rattle.cil_names.specs.Nested.{nested_in, IsNested};
+ghost use Rattle.cil_specs.specs.Kept.{AreApart};
+ghost use Rattle.cil_names.specs.Placed.{placed_of, policy_of, AreIn, AreNumbered};
+ghost use Rattle.cil_names.specs.Policy.{namespace_at, modules_in, policy_in, table_of, IsLead, IsFlat, IsSound, IsKindAt, HasDeclared, IsTaken};
 
 use crate::fault::{PolicyFault, PolicyFaultKind};
 use crate::joined::Joined;
@@ -31,17 +32,18 @@ pub struct Key<'a> {
     pub name: &'a [u8],
 }
 
-/// The statements of a joined policy, and where each name is declared first.
+/// The statements of a joined policy, the places of the optionals among them, and where each name is declared first.
 #[derive(Drop)]
 pub struct Policy<'j, 'a, A: Allocator = Global> {
     modules: Vec<&'a [u8], A>,
     spaces: Spaces<'a, A>,
+    optionals: Vec<usize, A>,
     statements: Vec<PlacedStatement<'j, 'a, A>, A>,
     declared: IndexMap<Key<'a>, usize, BuildHasherDefault<FoldHasher>, A>,
 }
 
 /// The text in front of the first dot and the text behind it.
-fn split_dot(text: &[u8]) -> Option<(&[u8], &[u8])>
+pub fn split_dot(text: &[u8]) -> Option<(&[u8], &[u8])>
     ensures some { IfSome result (λ found. slice_split (λ b. b == 46) text.now ≡ found.0.now ∷ slice_split (λ b. b == 46) found.1.now) }
     ensures shorter { IfSome result (λ found. length found.1.now < length text.now) }
     ensures none { IfNone result (slice_split (λ b. b == 46) text.now ≡ text.now ∷ []) }
@@ -55,7 +57,9 @@ impl<'j, 'a, A: Allocator + Copy> Policy<'j, 'a, A> {
     pub fn of(alloc: A, joined: &'j Joined<'a, A>) -> Result<Self, PolicyFault<'a>>
         requires plain { IsTrue (list_all (λ m. is_plain m.statements) (modules_of joined.now)) }
         ensures sound { IfOk result IsSound }
-        ensures policy { IfOk result (λ p. (policy_in p) ≡ joined_policy (modules_of joined.now)) }
+        ensures nested { IfOk result (λ p. IsNested p.statements.items p.optionals.items) }
+        ensures policy { IfOk result (λ p. nested_in p ≡ joined_policy (modules_of joined.now)) }
+        ensures apart { IfOk result (λ p. AreApart (nested_in p)) }
         ensures once { IfOk result (λ p. (fault : _) → IsFaultOf twice every_optional (policy_in p) fault → ⊥) }
         ensures err { IfErr result (λ fault. PolicyFaultIs fault (IsLeast (IsFaultOf twice every_optional (joined_policy (modules_of joined.now))))) }
     {
@@ -67,32 +71,80 @@ impl<'j, 'a, A: Allocator + Copy> Policy<'j, 'a, A> {
     fn of_flat(alloc: A, flat: Flat<'j, 'a, A>) -> Result<Self, PolicyFault<'a>>
         requires { IsFlat flat }
         ensures sound { IfOk result IsSound }
-        ensures policy { IfOk result (λ p. (policy_in p) ≡ policy_of flat.entry.spaces flat.entry.statements.items) }
+        ensures spaces { IfOk result (λ p. p.spaces ≡ flat.entry.spaces) }
+        ensures statements { IfOk result (λ p. p.statements.items ≡ flat.entry.statements.items) }
+        ensures optionals { IfOk result (λ p. p.optionals ≡ flat.entry.optionals) }
+        ensures modules { IfOk result (λ p. p.modules ≡ flat.entry.modules) }
         ensures once { IfOk result (λ p. (fault : _) → IsFaultOf twice every_optional (policy_in p) fault → ⊥) }
         ensures err { IfErr result (λ fault. PolicyFaultIs fault (IsLeast (IsFaultOf twice every_optional (policy_of flat.entry.spaces flat.entry.statements.items)))) }
     {
         let mut declared = IndexMap::new(alloc);
         for (i, placed) in flat.statements.iter().enumerate() {
-            if let Some(id) = declare(&mut declared, i, placed)? {
+            if let Some(id) = declare(&mut declared, &flat, i, placed)? {
                 return Err(placed.fault(PolicyFaultKind::Twice, id));
             }
         }
         Ok(Policy {
             modules: flat.modules,
             spaces: flat.spaces,
+            optionals: flat.optionals,
             statements: flat.statements,
             declared,
         })
     }
 }
 
-/// Takes up what a statement declares. If its name is declared already, answers its word.
+impl<'j, 'a, A: Allocator + Copy> Policy<'j, 'a, A> {
+    /// The policy of the statements that stand in kept optionals alone, or in none: one without optionals to ask. A fault is want
+    /// of memory.
+    pub fn restrict(self, alloc: A, kept: &[bool]) -> Result<Self, PolicyFault<'a>>
+        requires sound { IsSound self }
+        requires nested { IsNested self.statements.items self.optionals.items }
+        requires apart { AreApart (nested_in self) }
+        requires once { (fault : _) → IsFaultOf twice every_optional (policy_in self) fault → ⊥ }
+        requires outside { slice_index_or kept.now 0 false ≡ true }
+        ensures sound { IfOk result IsSound }
+        ensures policy { IfOk result (λ p. policy_in p ≡ policy_of self.entry.spaces (filter (λ s. slice_index_or kept.now s.optional false) self.entry.statements.items)) }
+        ensures once { IfOk result (λ p. (fault : _) → IsFaultOf twice every_optional (policy_in p) fault → ⊥) }
+        ensures modules { IfOk result (λ p. modules_in p ≡ modules_in self.entry) }
+        ensures err { IfErr result (λ fault. PolicyFaultIs fault (λ found. ⊥)) }
+    {
+        let mut statements = self.statements;
+        retain_kept(&mut statements, kept);
+        Policy::of_flat(
+            alloc,
+            Flat {
+                modules: self.modules,
+                spaces: self.spaces,
+                optionals: Vec::new(alloc),
+                statements,
+            },
+        )
+    }
+}
+
+/// Keeps the statements whose innermost optional is marked, by its number, and drops the others.
+fn retain_kept<'j, 'a, A: Allocator>(
+    statements: &mut Vec<PlacedStatement<'j, 'a, A>, A>,
+    kept: &[bool],
+)
+    ensures { statements.new.items ≡ filter (λ s. slice_index_or kept.now s.optional false) statements.old.items }
+{
+    statements.retain(|placed| kept.get(placed.optional).copied().unwrap_or(false));
+}
+
+/// Takes up what the statement at a place declares. If its name is declared already, answers its word, but where both are optionals.
 fn declare<'a, A: Allocator + Copy>(
     declared: &mut IndexMap<Key<'a>, usize, BuildHasherDefault<FoldHasher>, A>,
+    flat: &Flat<'_, 'a, A>,
     i: usize,
     placed: &PlacedStatement<'_, 'a, A>,
 ) -> Result<Option<Word<'a>>, AllocError>
-    ensures { IfOk result (λ found. Takes i placed.now declared.old.entries declared.new.entries (option_map word_of found)) }
+    requires flat { IsFlat flat.now }
+    requires here { slice_get flat.now.statements.items i ≡ Some placed.now }
+    requires declared { HasDeclared flat.now.spaces (take i flat.now.statements.items) declared.old.entries }
+    requires once { (fault : _) → IsFaultOf twice every_optional (policy_of flat.now.spaces (take i flat.now.statements.items)) fault → ⊥ }
+    ensures { IfOk result (λ found. IsTaken flat.now.spaces (policy_of flat.now.spaces (take i flat.now.statements.items)) (placed_of flat.now.spaces placed.now) declared.new.entries (option_map word_of found)) }
 {
     let Some((table, id)) = placed.declared() else {
         return Ok(None);
@@ -102,7 +154,10 @@ fn declare<'a, A: Allocator + Copy>(
         namespace: placed.namespace,
         name: id.text,
     };
-    if declared.contains_key(&key) {
+    if let Some(earlier) = declared.get(&key) {
+        if placed.is_optional() && flat.statements[*earlier].is_optional() {
+            return Ok(None);
+        }
         return Ok(Some(id));
     }
     declared.insert(key, i)?;
@@ -117,9 +172,17 @@ impl<'j, 'a, A: Allocator> Policy<'j, 'a, A> {
         &self.modules
     }
 
+    /// The places of the optionals among the statements; none, once the policy is restricted.
+    pub fn optionals(&self) -> &[usize]
+        ensures { result.now ≡ self.now.optionals.items }
+    {
+        &self.optionals
+    }
+
     /// The statements, in the order of the joined policy.
     pub fn statements(&self) -> &[PlacedStatement<'j, 'a, A>]
         requires { IsSound self.now }
+        ensures same { result.now ≡ self.now.statements.items }
         ensures seen { map (placed_of self.now.spaces) result.now ≡ (policy_in self.now) }
         ensures within { AreIn (length self.now.spaces) result.now }
         ensures numbered { AreNumbered (modules_in self.now) result.now }
@@ -129,7 +192,7 @@ impl<'j, 'a, A: Allocator> Policy<'j, 'a, A> {
     }
 
     /// The first statement that declares a name in a table and a namespace, by its place.
-    fn declaration(&self, table: Table, namespace: usize, name: &'a [u8]) -> Option<usize>
+    pub fn declaration(&self, table: Table, namespace: usize, name: &'a [u8]) -> Option<usize>
         requires sound { IsSound self.now }
         requires within { namespace < length self.now.spaces }
         ensures { result ≡ position (declares (table_of table) (namespace_at self.now.spaces namespace) name.now) (policy_in self.now) }
@@ -158,7 +221,7 @@ impl<'j, 'a, A: Allocator> Policy<'j, 'a, A> {
     }
 
     /// The namespace that the nearest block of a name outward opens.
-    fn nearest_block(&self, namespace: usize, name: &'a [u8]) -> Option<usize>
+    pub fn nearest_block(&self, namespace: usize, name: &'a [u8]) -> Option<usize>
         requires sound { IsSound self.now }
         requires within { namespace < length self.now.spaces }
         ensures some { IfSome result (λ n. nearest (policy_in self.now) (namespace_at self.now.spaces namespace) name.now ≡ Some (namespace_at self.now.spaces n)) }
@@ -175,7 +238,7 @@ impl<'j, 'a, A: Allocator> Policy<'j, 'a, A> {
     }
 
     /// Where names between dots lead strictly inside a namespace.
-    fn inside(&self, table: Table, namespace: usize, text: &'a [u8]) -> Option<usize>
+    pub fn inside(&self, table: Table, namespace: usize, text: &'a [u8]) -> Option<usize>
         requires sound { IsSound self.now }
         requires within { namespace < length self.now.spaces }
         ensures { IsLead (table_of table) (policy_in self.now) result

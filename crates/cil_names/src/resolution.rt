@@ -4,9 +4,9 @@ ghost use Rattle.std.specs.Prelude.{◌≡◌, ◌≢◌, ◌<◌, Some, map, ta
 ghost use Rattle.std.specs.List.{find};
 ghost use Rattle.cil_specs.specs.Statements.{target_words};
 ghost use Rattle.cil_specs.specs.Joined.{Placed};
-ghost use Rattle.cil_specs.specs.Lookup.{types, classes};
+ghost use Rattle.cil_specs.specs.Lookup.{types, classes, every_optional};
 ghost use Rattle.cil_specs.specs.PolicyFault.{twice, IsFaultOf, faulty_words, missing_words, is_unfound, wrong_kind_words, is_of_another_kind, alias_unset_words, is_unset, too_many_words, Compiles, IsFirst};
-ghost use Rattle.cil_specs.specs.Next.{every_optional, is_plain_form, is_attribute_word, IsCompiledWhole, IsFirstAttributeFault};
+ghost use Rattle.cil_specs.specs.Next.{is_plain_form, is_attribute_word, IsCompiledWhole, IsFirstAttributeFault};
 ghost use Rattle.cil_text.specs.Image.{word_of, target_of};
 ghost use Rattle.cil_names.specs.Image.{policy_kind_of, IsFoundFault};
 ghost use Rattle.cil_names.specs.Placed.{form_of, placed_of};

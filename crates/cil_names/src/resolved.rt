@@ -5,7 +5,7 @@ ghost use Rattle.std.specs.List.{list_all};
 ghost use Rattle.cil_specs.specs.Report.{names_rise};
 ghost use Rattle.cil_names.specs.Below.{is_rule_below, is_name_below, is_class_below};
 
-use crate::numbered::{NumberedClass, NumberedName, NumberedRule};
+use crate::numbered::{DroppedOptional, NumberedClass, NumberedName, NumberedRule};
 use crate::text::Text;
 use std::alloc::{Allocator, Global};
 
@@ -19,6 +19,7 @@ pub struct Resolved<A: Allocator = Global> {
     pub(crate) attributes: Vec<NumberedName, A>,
     pub(crate) classes: Vec<NumberedClass<A>, A>,
     pub(crate) rules: Vec<NumberedRule<A>, A>,
+    pub(crate) dropped: Vec<DroppedOptional<A>, A>,
     pub(crate) ghost ordered: { IsTrue (names_rise names.items) },
     pub(crate) ghost types_within: { IsTrue (list_all (is_name_below (length names.items)) types.items) },
     pub(crate) ghost attributes_within: { IsTrue (list_all (is_name_below (length names.items)) attributes.items) },

@@ -1,82 +1,110 @@
 //! Resolves a joined policy.
 
-ghost use Rattle.std.specs.Prelude.{◌≡◌, IsTrue, IfOk, IfErr, OnOk};
+ghost use Rattle.std.specs.Prelude.{◌≡◌, map, IsTrue, IfOk, IfErr, OnOk};
 ghost use Rattle.std.specs.List.{list_all};
 ghost use Rattle.cil_specs.specs.Joined.{joined as joined_policy};
-ghost use Rattle.cil_specs.specs.PolicyFault.{Compiles, IsFirst};
-ghost use Rattle.cil_specs.specs.Next.{every_optional, is_plain, IsRefusedFor, IsCompiledWhole};
+ghost use Rattle.cil_specs.specs.Lookup.{every_optional};
+ghost use Rattle.cil_specs.specs.PolicyFault.{twice, IsFaultOf, Compiles, IsFirst};
+ghost use Rattle.cil_specs.specs.Kept.{IsFirstFault};
+ghost use Rattle.cil_specs.specs.Next.{is_plain, IsRefusedFor, IsCompiledWhole, IsPolicyFaultOf};
 ghost use Rattle.cil_names.specs.Image.{modules_of, PolicyFaultIs};
-ghost use Rattle.cil_names.specs.Policy.{policy_in};
+ghost use Rattle.cil_names.specs.Nested.{IsJudged};
+ghost use Rattle.cil_names.specs.Policy.{policy_in, modules_in, IsSound};
 ghost use Rattle.cil_names.specs.Resolution.{IsResolved};
-ghost use Rattle.cil_names.specs.Resolved.{IsPolicy};
+ghost use Rattle.cil_names.specs.Resolved.{HasContents, IsPolicy, dropped_with, dropped_in};
 
 use crate::fault::PolicyFault;
 use crate::joined::Joined;
+use crate::numbered::DroppedOptional;
 use crate::numbering::number_policy;
+use crate::optionals::{dropped_optionals, kept_optionals};
 use crate::policy::Policy;
 use crate::resolution::Resolution;
 use crate::resolved::Resolved;
 use std::alloc::Allocator;
 
-/// The policy of modules with what its statements give, if it has no fault.
+/// The policy of modules without the optionals that drop, and these. A fault is want of memory, or a name that is declared twice,
+/// also one in an optional that drops.
+fn judged<'j, 'a, A: Allocator + Copy>(
+    alloc: A,
+    joined: &'j Joined<'a, A>,
+) -> Result<(Policy<'j, 'a, A>, Vec<DroppedOptional<A>, A>), PolicyFault<'a>>
+    requires plain { IsTrue (list_all (λ m. is_plain m.statements) (modules_of joined.now)) }
+    ensures sound { IfOk result (λ found. IsSound found.0) }
+    ensures once { IfOk result (λ found. (fault : _) → IsFaultOf twice every_optional (policy_in found.0) fault → ⊥) }
+    ensures judged { IfOk result (λ found. IsJudged (joined_policy (modules_of joined.now)) (policy_in found.0) (map (dropped_with (modules_in found.0)) found.1.items)) }
+    ensures err { IfErr result (λ fault. PolicyFaultIs fault (IsFirstFault (joined_policy (modules_of joined.now)))) }
+{
+    let policy = Policy::of(alloc, joined)?;
+    let kept = kept_optionals(alloc, &policy)?;
+    let dropped = dropped_optionals(alloc, &policy, &kept)?;
+    let policy = policy.restrict(alloc, &kept)?;
+    Ok((policy, dropped))
+}
+
+/// The same with what its statements give, if it has no fault.
 fn checked<'j, 'a, A: Allocator + Copy>(
     alloc: A,
     joined: &'j Joined<'a, A>,
-) -> Result<Resolution<'j, 'a, A>, PolicyFault<'a>>
+) -> Result<(Resolution<'j, 'a, A>, Vec<DroppedOptional<A>, A>), PolicyFault<'a>>
     requires plain { IsTrue (list_all (λ m. is_plain m.statements) (modules_of joined.now)) }
-    ensures resolved { IfOk result IsResolved }
-    ensures policy { IfOk result (λ r. policy_in r.policy ≡ joined_policy (modules_of joined.now)) }
-    ensures compiles { OnOk result (Compiles every_optional (joined_policy (modules_of joined.now))) }
-    ensures err { IfErr result (λ fault. PolicyFaultIs fault (IsFirst every_optional (joined_policy (modules_of joined.now)))) }
+    ensures resolved { IfOk result (λ found. IsResolved found.0) }
+    ensures judged { IfOk result (λ found. IsJudged (joined_policy (modules_of joined.now)) (policy_in found.0.policy) (map (dropped_with (modules_in found.0.policy)) found.1.items)) }
+    ensures compiles { IfOk result (λ found. Compiles every_optional (policy_in found.0.policy)) }
+    ensures err { IfErr result (λ fault. PolicyFaultIs fault (IsFirstFault (joined_policy (modules_of joined.now)))) }
 {
-    let policy = Policy::of(alloc, joined)?;
+    let (policy, dropped) = judged(alloc, joined)?;
     let resolution = Resolution::of(alloc, policy)?;
     resolution.check()?;
-    Ok(resolution)
+    Ok((resolution, dropped))
 }
 
 /// What a policy without a fault resolves to. A fault is want of memory.
 fn numbered<'a, A: Allocator + Copy>(
     alloc: A,
     resolution: &Resolution<'_, 'a, A>,
+    dropped: Vec<DroppedOptional<A>, A>,
 ) -> Result<Resolved<A>, PolicyFault<'a>>
     requires resolved { IsResolved resolution.now }
     requires compiles { Compiles every_optional (policy_in resolution.now.policy) }
     ensures compiles { OnOk result (Compiles every_optional (policy_in resolution.now.policy)) }
-    ensures policy { IfOk result (IsPolicy every_optional (policy_in resolution.now.policy)) }
+    ensures contents { IfOk result (HasContents every_optional (policy_in resolution.now.policy)) }
+    ensures dropped { IfOk result (λ r. dropped_in r ≡ map (dropped_with (modules_in resolution.now.policy)) dropped.items) }
     ensures err { IfErr result (λ fault. PolicyFaultIs fault (IsFirst every_optional (policy_in resolution.now.policy))) }
 {
-    Ok(number_policy(alloc, resolution)?)
+    Ok(number_policy(alloc, resolution, dropped)?)
 }
 
 /// The same, or a fault where a rule has an attribute.
 fn numbered_types<'a, A: Allocator + Copy>(
     alloc: A,
     resolution: &Resolution<'_, 'a, A>,
+    dropped: Vec<DroppedOptional<A>, A>,
 ) -> Result<Resolved<A>, PolicyFault<'a>>
     requires resolved { IsResolved resolution.now }
     requires compiles { Compiles every_optional (policy_in resolution.now.policy) }
     ensures compiles { OnOk result (IsCompiledWhole every_optional (policy_in resolution.now.policy)) }
-    ensures policy { IfOk result (IsPolicy every_optional (policy_in resolution.now.policy)) }
+    ensures contents { IfOk result (HasContents every_optional (policy_in resolution.now.policy)) }
+    ensures dropped { IfOk result (λ r. dropped_in r ≡ map (dropped_with (modules_in resolution.now.policy)) dropped.items) }
     ensures err { IfErr result (λ fault. PolicyFaultIs fault (IsRefusedFor every_optional (policy_in resolution.now.policy))) }
 {
     resolution.check_attributes()?;
-    Ok(number_policy(alloc, resolution)?)
+    Ok(number_policy(alloc, resolution, dropped)?)
 }
 
-/// The types, attributes, classes and rules of a policy by full names, or its first fault: that of the least code, then of the
-/// least module name by bytes, then of the least offset.
+/// The types, attributes, classes and rules of a policy by full names, with the optionals that drop, or its first fault: that of
+/// the least code, then of the least module name by bytes, then of the least offset. What stands in optionals that drop is left
+/// out, but for names that are declared twice.
 pub fn resolve<'a, A: Allocator + Copy>(
     alloc: A,
     joined: &Joined<'a, A>,
 ) -> Result<Resolved<A>, PolicyFault<'a>>
     requires plain { IsTrue (list_all (λ m. is_plain m.statements) (modules_of joined.now)) }
-    ensures compiles { OnOk result (Compiles every_optional (joined_policy (modules_of joined.now))) }
-    ensures policy { IfOk result (λ r. IsPolicy every_optional (joined_policy (modules_of joined.now)) r) }
-    ensures err { IfErr result (λ fault. PolicyFaultIs fault (IsFirst every_optional (joined_policy (modules_of joined.now)))) }
+    ensures policy { IfOk result (IsPolicy (λ kept. Compiles kept (joined_policy (modules_of joined.now))) (joined_policy (modules_of joined.now))) }
+    ensures err { IfErr result (λ fault. PolicyFaultIs fault (IsFirstFault (joined_policy (modules_of joined.now)))) }
 {
-    let resolution = checked(alloc, joined)?;
-    numbered(alloc, &resolution)
+    let (resolution, dropped) = checked(alloc, joined)?;
+    numbered(alloc, &resolution, dropped)
 }
 
 /// The same, but for a policy that compiles and has a rule whose source or target leads to an attribute: the first such word is
@@ -86,10 +114,9 @@ pub fn resolve_types<'a, A: Allocator + Copy>(
     joined: &Joined<'a, A>,
 ) -> Result<Resolved<A>, PolicyFault<'a>>
     requires plain { IsTrue (list_all (λ m. is_plain m.statements) (modules_of joined.now)) }
-    ensures compiles { OnOk result (IsCompiledWhole every_optional (joined_policy (modules_of joined.now))) }
-    ensures policy { IfOk result (λ r. IsPolicy every_optional (joined_policy (modules_of joined.now)) r) }
-    ensures err { IfErr result (λ fault. PolicyFaultIs fault (IsRefusedFor every_optional (joined_policy (modules_of joined.now)))) }
+    ensures policy { IfOk result (IsPolicy (λ kept. IsCompiledWhole kept (joined_policy (modules_of joined.now))) (joined_policy (modules_of joined.now))) }
+    ensures err { IfErr result (λ fault. PolicyFaultIs fault (IsPolicyFaultOf (joined_policy (modules_of joined.now)))) }
 {
-    let resolution = checked(alloc, joined)?;
-    numbered_types(alloc, &resolution)
+    let (resolution, dropped) = checked(alloc, joined)?;
+    numbered_types(alloc, &resolution, dropped)
 }

@@ -5,7 +5,7 @@ ghost use Rattle.std.specs.List.{list_all};
 ghost use Rattle.std.specs.Option.{option_and_then};
 ghost use Rattle.cil_specs.specs.Report.{names_rise};
 ghost use Rattle.cil_names.specs.Below.{is_rule_below};
-ghost use Rattle.cil_names.specs.Resolved.{element_of, aim_of, types_in, attributes_in, classes_in, rules_in};
+ghost use Rattle.cil_names.specs.Resolved.{element_of, aim_of, types_in, attributes_in, classes_in, rules_in, dropped_in};
 ghost use Rattle.cil_names.specs.Views.{declared_seen, class_seen, class_head, element_seen, aim_seen, rule_seen, rule_head};
 
 use crate::numbered::{Aim, Element, NumberedRule};
@@ -14,7 +14,7 @@ use crate::text::Text;
 use cil_text::{Place, RuleKind};
 use std::alloc::Allocator;
 
-/// A type or an attribute: the name of its module, the place of its statement, and its full name.
+/// A type, an attribute or an optional: the name of its module, the place of its statement, and its full name.
 #[derive(Clone, Copy, Debug)]
 pub struct NameView<'r> {
     pub module: &'r [u8],
@@ -193,6 +193,25 @@ impl<A: Allocator> Resolved<A> {
         let rule = self.rules.get(i)?;
         let permission = rule.permissions.get(k)?;
         Some(self.name(*permission))
+    }
+
+    /// How many optionals drop.
+    pub fn dropped_len(&self) -> usize
+        ensures { result ≡ length (dropped_in self.now) }
+    {
+        self.dropped.len()
+    }
+
+    /// The optional at a place of those that drop, in the order of the statements.
+    pub fn dropped_at(&self, i: usize) -> Option<NameView<'_>>
+        ensures { option_map declared_seen result ≡ slice_get (dropped_in self.now) i }
+    {
+        let dropped = self.dropped.get(i)?;
+        Some(NameView {
+            module: self.module(dropped.module),
+            at: dropped.at,
+            name: dropped.name.as_slice(),
+        })
     }
 
     /// The rules by the numbers of their names.

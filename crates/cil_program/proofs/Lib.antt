@@ -2,3 +2,4 @@ pub mod InputLemmas
 pub mod CommandLemmas
 pub mod EndLemmas
 pub mod SessionLemmas
+pub mod ReplyLemmas

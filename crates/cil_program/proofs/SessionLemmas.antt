@@ -4,8 +4,8 @@ use Rattle.std.specs.List.{list_all, list_any, AllByRecursion}
 use Rattle.std.proofs.lemmas.List.Folds.{list_any-append, list_all-append}
 use Rattle.std.proofs.lemmas.Grind.{flat_map-append}
 use Rattle.cil_specs.specs.Device.{Gains}
-use Rattle.cil_specs.specs.Run.{Call, ask_rows, Reply, changed_by, refused, listed, Run}
-use Rattle.cil_specs.specs.Script.{line_of, command, IsCommand, IsNoCommand, ends, stops, whole, without_end, answer, last_line, is_refusal}
+use Rattle.cil_specs.specs.Run.{Call, Reply, changed_by, refused, listed, dropped_optionals, Run}
+use Rattle.cil_specs.specs.Script.{line_of, command, HasGoodWords, IsCommand, MayLackItsEnd, IsNoCommand, ends, stops, whole, without_end, answer, last_line, is_refusal}
 use Rattle.cil_specs.specs.Session as spec
 use Rattle.cil_specs.specs.Session.{IsSession, all_accepted, some_refused, no_script}
 use Rattle.cil_specs.proofs.Gaining.{gains-both, gains-none}
@@ -41,17 +41,18 @@ some-outcome : (reply : Reply) → NoCommand ≡ outcome_of reply → ⊥
 some-outcome (changed_by changes) e = true≢false (ap is_none e)
 some-outcome (refused refusal) e = true≢false (ap is_none e)
 some-outcome (listed rows) e = true≢false (ap is_none e)
+some-outcome (dropped_optionals dropped) e = true≢false (ap is_none e)
 
--- the question for the listing was answered
-pub rows-outcome : (outcome : Outcome) (end : LineEnd) (line : List ℕ) (now : Moment) (before after : Standing) → Fits now.count now.held → end ≢ TooLong → (end ≡ LastByte → IsTrue now.ended × (now.held.bytes ≡ [])) → line ≡ line_of ask_rows
-    → HasAnswered ask_rows outcome before after → IsOutcome outcome end line now now before after
-rows-outcome NoCommand end line now before after fits short last is answered = absurd (some-outcome answered.reply answered.is)
-rows-outcome Accepted LineFeed line now before after fits short last is answered = (ask_rows, [], stands now fits, (tt, is, ap (λ l. l ++ 10 ∷ []) is), answered)
-rows-outcome Accepted LastByte line now before after fits short last is answered = (ask_rows, [], stands now fits, (tt, tt, is, refl, (last refl).0, (last refl).1), answered)
-rows-outcome Accepted TooLong line now before after fits short last is answered = absurd (short refl)
-rows-outcome Refused LineFeed line now before after fits short last is answered = (ask_rows, [], stands now fits, (tt, is, ap (λ l. l ++ 10 ∷ []) is), answered)
-rows-outcome Refused LastByte line now before after fits short last is answered = (ask_rows, [], stands now fits, (tt, tt, is, refl, (last refl).0, (last refl).1), answered)
-rows-outcome Refused TooLong line now before after fits short last is answered = absurd (short refl)
+-- a question, whose command is its line and a line feed, was answered
+pub question-outcome : (call : Call) (outcome : Outcome) (end : LineEnd) (line : List ℕ) (now : Moment) (before after : Standing) → HasGoodWords call → MayLackItsEnd call → line_of call ++ 10 ∷ [] ≡ command call → Fits now.count now.held → end ≢ TooLong
+    → (end ≡ LastByte → IsTrue now.ended × (now.held.bytes ≡ [])) → line ≡ line_of call → HasAnswered call outcome before after → IsOutcome outcome end line now now before after
+question-outcome call NoCommand end line now before after good may whole_is fits short last is answered = absurd (some-outcome answered.reply answered.is)
+question-outcome call Accepted LineFeed line now before after good may whole_is fits short last is answered = (call, [], stands now fits, (good, is, ap (λ l. l ++ 10 ∷ []) is ∙ whole_is), answered)
+question-outcome call Accepted LastByte line now before after good may whole_is fits short last is answered = (call, [], stands now fits, (good, may, is, refl, (last refl).0, (last refl).1), answered)
+question-outcome call Accepted TooLong line now before after good may whole_is fits short last is answered = absurd (short refl)
+question-outcome call Refused LineFeed line now before after good may whole_is fits short last is answered = (call, [], stands now fits, (good, is, ap (λ l. l ++ 10 ∷ []) is ∙ whole_is), answered)
+question-outcome call Refused LastByte line now before after good may whole_is fits short last is answered = (call, [], stands now fits, (good, may, is, refl, (last refl).0, (last refl).1), answered)
+question-outcome call Refused TooLong line now before after good may whole_is fits short last is answered = absurd (short refl)
 
 -- What a session did so far: it read whole commands, answered them, and wrote the answers.
 pub record SoFar (first now : Moment) (before after : Standing) (status : Status) : Type 0 where
@@ -108,6 +109,7 @@ refused-more replies reply outcome status is so_far = ap (λ o. status_of (after
     by : (reply : Reply) → status_of (after_outcome (outcome_of reply) status) ≡ (if list_any is_refusal replies || list_any is_refusal (reply ∷ []) then some_refused else all_accepted)
     by (changed_by changes) = so_far ∙ ap (λ b. if b then some_refused else all_accepted) (sym (without (list_any is_refusal replies)))
     by (listed rows) = so_far ∙ ap (λ b. if b then some_refused else all_accepted) (sym (without (list_any is_refusal replies)))
+    by (dropped_optionals dropped) = so_far ∙ ap (λ b. if b then some_refused else all_accepted) (sym (without (list_any is_refusal replies)))
     by (refused refusal) = ap (λ b. if b then some_refused else all_accepted) (sym (with (list_any is_refusal replies)))
 
 -- what is left of an outcome where there was a command

@@ -61,7 +61,7 @@ const LINES: &[(&[u8], &str)] = &[
         "end 0\nscript 2\n",
     ),
     (b"rules\nviolations\n", "end 0\nscript 2\n"),
-    (b"rules\ndropped\n", "end 0\nscript 2\n"),
+    (b"dropped\ndropped \n", "end 0\nscript 2\n"),
     (b"rules\nmodules\n", "end 0\nscript 2\n"),
     (b"rules\ndump\n", "end 0\nscript 2\n"),
     (b"rules\nbegin\n", "end 0\nscript 2\n"),
@@ -75,6 +75,7 @@ fn the_line_of_what_is_no_command(rt: HostRuntime) {
 // The last line may lack its line feed, but not if it is that of an install.
 const LAST_LINES: &[(&[u8], &str)] = &[
     (b"rules", "end 0\n"),
+    (b"dropped", "end 0\n"),
     (
         b"install m 400 8\n(type a)\nrules\nrules",
         "ok 0 0\nend 0\nend 0\n",

@@ -3,7 +3,8 @@
 use crate::answers::{FIRST_TEXT, assert_same, shown};
 use cil_names::Text;
 use cil_store::{
-    Call, Compiled, Edit, Plain, Refusal, Reply, StoreFault, WriteFault, check_install, run,
+    Call, Compiled, Dropped, Edit, Plain, Refusal, Reply, StoreFault, WriteFault, check_install,
+    run,
 };
 use cil_text::{MemorySink, Place};
 use std::alloc::Global;
@@ -65,6 +66,29 @@ fn an_edit_and_its_listing(rt: HostRuntime) {
     assert_listing(&rt, rt.alloc(), &engine, 1000, whole);
     let front = (Err(WriteFault::Sink), "allow a b:f");
     assert_listing(&rt, rt.alloc(), &engine, 11, front);
+}
+
+// An optional that drops: its module, its place and its full name.
+fn dropped_at(dropped: &Dropped, i: usize) -> Option<(&str, (u32, u32, u32), &str)> {
+    let optional = dropped.get(i)?;
+    Some((
+        shown(optional.module),
+        place(optional.at),
+        shown(optional.name),
+    ))
+}
+
+#[test]
+fn the_optionals_that_drop(rt: HostRuntime) {
+    let mut engine = Plain::new(rt.alloc());
+    let none = engine.dropped().expect(&rt, "memory");
+    assert_same(&rt, (none.len(), none.is_empty()), (0, true));
+    let text = b"(optional x)\n(block b (optional y (typealiasactual q q)))";
+    engine.edit(install(text)).expect(&rt, "an edit");
+    let dropped = engine.dropped().expect(&rt, "memory");
+    assert_same(&rt, (dropped.len(), dropped.is_empty()), (1, false));
+    let found = (dropped_at(&dropped, 0), dropped_at(&dropped, 1));
+    assert_same(&rt, found, (Some(("m", (22, 2, 10), "b.y")), None));
 }
 
 // A refusal: who refuses, the module, the code, the place by its offset, line and column, and the word.
@@ -136,17 +160,20 @@ fn refusals_of_edits(rt: HostRuntime) {
     }
 }
 
-// A reply: its form; the rows, the accesses that came, or the code of a refusal; and the accesses that went.
+// A reply: its form; the rows, the optionals that drop, the accesses that came, or the code of a refusal; and the accesses that
+// went.
 fn seen(reply: &Reply) -> (&'static str, usize, usize) {
     match reply {
         Reply::Changes(changes) => ("changes", changes.added_len(), changes.removed_len()),
         Reply::Rows(rows) => ("rows", rows.len(), 0),
+        Reply::Dropped(dropped) => ("dropped", dropped.len(), 0),
         Reply::Refused(refusal) => ("refused", usize::from(refused(refusal).2), 0),
     }
 }
 
 const CALLS: &[Call<'static>] = &[
     Call::Rows,
+    Call::Dropped,
     Call::Edit(Edit::Install {
         name: b"m",
         priority: 400,
@@ -161,19 +188,22 @@ const CALLS: &[Call<'static>] = &[
     Call::Edit(Edit::Install {
         name: b"m",
         priority: 400,
-        text: b"",
+        text: b"(optional x (optional y))(optional z (typealiasactual q q)(optional z))",
     }),
     Call::Rows,
+    Call::Dropped,
 ];
 
 // An edit that is accepted, one that is refused, and the listing, of which the refused edit changed nothing.
 const REPLIES: &[(&str, usize, usize)] = &[
     ("rows", 0, 0),
+    ("dropped", 0, 0),
     ("changes", 2, 0),
     ("refused", 12, 0),
     ("rows", 1, 0),
     ("changes", 0, 2),
     ("rows", 0, 0),
+    ("dropped", 2, 0),
 ];
 
 #[test]

@@ -20,6 +20,8 @@ mod lines;
 #[cfg(test)]
 mod names;
 #[cfg(test)]
+mod optionals;
+#[cfg(test)]
 mod policies;
 #[cfg(test)]
 mod reading;

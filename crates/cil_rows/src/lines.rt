@@ -11,9 +11,11 @@ use cil_text::{MemorySink, MemorySource};
 // Lines, each with its command, and the name, the priority and the length of an install.
 const COMMANDS: &[(&str, &str, &str, u32, u32)] = &[
     ("rules", "rules", "", 0, 0),
+    ("dropped", "dropped", "", 0, 0),
     ("install a( 0 999999999", "install", "a(", 0, 999_999_999),
     ("", "none", "", 0, 0),
     ("rule", "none", "", 0, 0),
+    ("dropped ", "none", "", 0, 0),
     ("install", "none", "", 0, 0),
     ("install m 400", "none", "", 0, 0),
     ("install m 400 01", "none", "", 0, 0),
@@ -22,6 +24,7 @@ const COMMANDS: &[(&str, &str, &str, u32, u32)] = &[
 fn parts(line: &[u8]) -> (&str, &str, u32, u32) {
     match script_line(line) {
         Some(ScriptLine::Rules) => ("rules", "", 0, 0),
+        Some(ScriptLine::Dropped) => ("dropped", "", 0, 0),
         Some(
             ScriptLine::Install {
                 name,
@@ -137,6 +140,21 @@ fn answers_of_one_line(rt: HostRuntime) {
     let want = "end 17\nscript 1\nscript 18446744073709551616\nrefused 31 7\n\
         refused 60 memory\nrefused 60 memory\n";
     assert_same(&rt, (written, shown(sink.bytes())), ([Ok(()); 6], want));
+}
+
+#[test]
+fn the_lines_of_optionals(rt: HostRuntime) {
+    let mut sink = MemorySink::new(rt.alloc());
+    let mut engine = Plain::new(rt.alloc());
+    let edit = Edit::Install {
+        name: b"m",
+        priority: 400,
+        text: b"(optional x (optional y (typealiasactual q q)))",
+    };
+    engine.edit(edit).expect(&rt, "an edit");
+    let dropped = engine.dropped().expect(&rt, "memory");
+    assert_same(&rt, reply::write_dropped(&mut sink, &dropped), Ok(()));
+    assert_same(&rt, shown(sink.bytes()), "m:1:13 y\nend 1\n");
 }
 
 // Texts that the module m gets one after the other.

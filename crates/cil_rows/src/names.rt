@@ -281,16 +281,18 @@ fn what_a_policy_resolves_to(rt: HostRuntime) {
             policy.attributes_len(),
             policy.classes_len(),
             policy.rules_len(),
+            policy.dropped_len(),
         ],
-        [1, 0, 1, 1],
+        [1, 0, 1, 1, 0],
     );
     let a = name_seen(policy.type_at(0));
     assert_same(&rt, a, Some(("m", "a", 15)));
     let others = (
         name_seen(policy.type_at(1)),
         name_seen(policy.attribute_at(0)),
+        name_seen(policy.dropped_at(0)),
     );
-    assert_same(&rt, others, (None, None));
+    assert_same(&rt, others, (None, None, None));
     let p = class_seen(policy.class_at(0));
     let used = policy.class_permission(0, 0).map(shown);
     assert_same(&rt, (p, used), (Some(("p", 1)), Some("use")));

@@ -70,7 +70,10 @@ const NOTHING_CHANGED: Dialogue<'static> = &[
     (Install("m", "(type a"), "refused 12 m:1:1 (\n"),
     (Install("-m", ONE), "refused 30 -m\n"),
     (Install("m", "(type a b)"), "refused 21 m:1:2 type\n"),
-    (Install("m", "(optional x)"), "refused 20 m:1:2 optional\n"),
+    (
+        Install("m", "(typeattributeset x ())"),
+        "refused 20 m:1:2 typeattributeset\n",
+    ),
     (Install("n", "(class p (use))"), "refused 41 n:1:8 p\n"),
     (
         Install("n", "(allow a q (p (use)))"),

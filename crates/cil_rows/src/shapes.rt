@@ -59,7 +59,6 @@ fn names_of_rules(rt: HostRuntime) {
 
 // Well shaped statements that aren't compiled yet are refused at their first words.
 const NOT_YET: &[(&[u8], &str)] = &[
-    (b"(optional b)", "refused 20 m:1:2 optional\n"),
     (
         b"(typeattributeset b (c))",
         "refused 20 m:1:2 typeattributeset\n",
@@ -77,18 +76,27 @@ const NOT_YET: &[(&[u8], &str)] = &[
         b"(type a)(allow a self (p (use)))",
         "refused 20 m:1:10 allow\n",
     ),
-    // Inside a block too, and the first of several.
-    (b"(block b (optional o))", "refused 20 m:1:11 optional\n"),
+    // Inside a block or an optional too, and the first of several.
     (
-        b"(block b (block c (optional o)))(neverallow a a (p ()))",
-        "refused 20 m:1:20 optional\n",
+        b"(block b (typeattributeset s (t)))",
+        "refused 20 m:1:11 typeattributeset\n",
+    ),
+    (
+        b"(block b (optional o (dontaudit a a (p ()))))(neverallow a a (p ()))",
+        "refused 20 m:1:23 dontaudit\n",
     ),
     // They are looked for behind every fault of shape, and before any fault of the policy.
-    (b"(optional s)(type 1x)(type \"", "refused 13 m:1:28 \"\n"),
-    (b"(optional s)(type 1x)", "refused 22 m:1:19 1x\n"),
     (
-        b"(type a)(type a)(optional s)",
-        "refused 20 m:1:18 optional\n",
+        b"(typeattributeset s (t))(type 1x)(type \"",
+        "refused 13 m:1:40 \"\n",
+    ),
+    (
+        b"(typeattributeset s (t))(type 1x)",
+        "refused 22 m:1:31 1x\n",
+    ),
+    (
+        b"(type a)(type a)(typeattributeset s (t))",
+        "refused 20 m:1:18 typeattributeset\n",
     ),
     (b"(type a)(type a)(type s)", "refused 41 m:1:15 a\n"),
 ];

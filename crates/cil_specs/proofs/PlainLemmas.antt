@@ -9,7 +9,7 @@ use Rattle.cil_specs.proofs.Runs.{first_true, second_true, both_true}
 
 compiled-form : (form : Form) → is_compiled_form form ≡ true → is_plain_form form ≡ true
 compiled-form (block id) compiled = refl
-compiled-form (optional id) compiled = absurd (true≢false (sym compiled))
+compiled-form (optional id) compiled = refl
 compiled-form (type_name id) compiled = refl
 compiled-form (type_alias id) compiled = refl
 compiled-form (alias_actual alias actual) compiled = refl

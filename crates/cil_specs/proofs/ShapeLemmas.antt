@@ -1,5 +1,5 @@
 -- Statements and shape faults: trees have not both, and where the faults stand.
-use Rattle.std.proofs.Common.{◌≡◌, ℕ, ◌+◌, ◌-◌, ◌<◌, ◌⊎◌, inl, inr, Bool, true, false, ◌||◌, List, [], ◌∷◌, ◌++◌, length, map, get_or, zero, suc, Some, sym, ◌∙◌, ap, subst, refl, bytes_eq, IsTrue, Contains, arith}
+use Rattle.std.proofs.Common.{◌≡◌, ℕ, ◌+◌, ◌-◌, ◌<◌, ◌⊎◌, inl, inr, Bool, true, false, ◌||◌, List, [], ◌∷◌, ◌++◌, length, map, get_or, zero, suc, Some, sym, ◌∙◌, ap, subst, refl, bytes_eq, IsTrue, Contains, not, ◌&&◌, arith}
 use Rattle.std.specs.List.{list_any, AllByRecursion}
 use Rattle.std.proofs.lemmas.Bool.{true≢false, or_cases}
 use Rattle.std.proofs.lemmas.Slice.Eq.{bytes_eq-Decides}
@@ -7,10 +7,11 @@ use Rattle.cil_specs.specs.Place.{Place}
 use Rattle.cil_specs.specs.TextFault.{TextFaultKind, TextFault}
 use Rattle.cil_specs.specs.Names.{Word, Role, name_fault}
 use Rattle.cil_specs.specs.Trees.{Trees, none, a_word, a_list, are_lists, in_order}
-use Rattle.cil_specs.specs.Statements.{allow, auditallow, dontaudit, neverallow, Form, block, optional, type_name, type_alias, alias_actual, type_attribute, attribute_set, common, class, class_common, class_order, rule, words_of, is_optional, Statements, no_more, statement, word_offsets}
+use Rattle.cil_specs.specs.Statements.{allow, auditallow, dontaudit, neverallow, Form, block, optional, type_name, type_alias, alias_actual, type_attribute, attribute_set, common, class, class_common, class_order, rule, words_of, is_optional, stands_apart, Statements, no_more, statement, are_apart, statement_offsets}
 use Rattle.cil_specs.specs.Shape.{Fits, keywords, outside_optionals, is_among, IsGoodWord, IsAllowed, Shapes, IsWordFault, no_keyword, no_fit, in_optional, no_name, IsListFault, IsShapeFault, IsInnerFault, IsBodyFault}
 use Rattle.cil_specs.proofs.FormLemmas.{first_word, OperandsFit, fits_begin, fits_parts}
 use Rattle.cil_specs.proofs.FormSame.{fits_same}
+use Rattle.cil_specs.proofs.Runs.{both_true}
 use Rattle.cil_specs.proofs.OrderLemmas.{RiseTo, rise_join, rise_wide, role_offset, order_none, order_word, order_list, words_rise}
 
 -- a fact of each element is one of the element at a place
@@ -135,8 +136,8 @@ shapes_same (statement at form body more) (statement at' form' body' more') insi
     let m = shapes_same more more' inside h.3 h.9 (subst (λ rest. Shapes inside rest more') (sym rest) k.9) in
     λ i. statement (place i) (p.0 i) (b i) (m i)
 
--- the words of statements rise
-pub shapes_rise : (statements : Statements) (inside : Bool) (trees : Trees) (low high : ℕ) → Shapes inside trees statements → IsTrue (in_order low trees high) → RiseTo low (word_offsets statements) high
+-- the offsets of statements and of their words rise
+pub shapes_rise : (statements : Statements) (inside : Bool) (trees : Trees) (low high : ℕ) → Shapes inside trees statements → IsTrue (in_order low trees high) → RiseTo low (statement_offsets statements) high
 shapes_rise no_more inside trees low high h order = order_none low high (subst (λ trees. IsTrue (in_order low trees high)) h order)
 shapes_rise (statement at form body more) inside trees low high h order =
     let p = order_list low at h.0 h.1 h.3 high (subst (λ trees. IsTrue (in_order low trees high)) h.4 order) in
@@ -145,10 +146,37 @@ shapes_rise (statement at form body more) inside trees low high h order =
     let from : ℕ = b.0.offset + length (first_word form) in
     let w = words_rise form b.1 h.2 from (h.0 - 1) b.3 q.2 in
     let inner = shapes_rise body (inside || is_optional form) h.2 w.0 (h.0 - 1) h.8 w.2 in
-    let behind = shapes_rise more inside h.3 h.0 high h.9 p.3 in
-    rise_join low (map role_offset (words_of form)) w.0 (word_offsets body ++ word_offsets more) high
-    (rise_wide low from (map role_offset (words_of form)) w.0 w.0 (omega (arith, p.0, q.0, q.1)) w.1 (omega arith))
-    (rise_join w.0 (word_offsets body) (h.0 - 1) (word_offsets more) high inner (rise_wide (h.0 - 1) h.0 (word_offsets more) high high (omega arith) behind (omega arith)))
+    let behind = shapes_rise more inside h.3 h.0 high h.9 p.3 in (
+      p.0,
+      rise_join (at.offset + 1) (map role_offset (words_of form)) w.0 (statement_offsets body ++ statement_offsets more) high
+          (rise_wide (at.offset + 1) from (map role_offset (words_of form)) w.0 w.0 (omega (arith, q.0, q.1)) w.1 (omega arith))
+          (rise_join w.0 (statement_offsets body) (h.0 - 1) (statement_offsets more) high inner (rise_wide (h.0 - 1) h.0 (statement_offsets more) high high (omega arith) behind (omega arith))),
+    )
+
+-- a statement whose first word may stand where it does is apart, if it has to be
+form_apart : (inside : Bool) (form : Form) → (IsTrue inside → is_among outside_optionals (first_word form) ≡ false) → not (inside && stands_apart form) ≡ true
+form_apart false form allowed = refl
+form_apart true (block id) allowed = absurd (true≢false (allowed refl))
+form_apart true (optional id) allowed = refl
+form_apart true (type_name id) allowed = refl
+form_apart true (type_alias id) allowed = refl
+form_apart true (alias_actual alias actual) allowed = refl
+form_apart true (type_attribute id) allowed = refl
+form_apart true (attribute_set attribute expr) allowed = refl
+form_apart true (common id permissions) allowed = absurd (true≢false (allowed refl))
+form_apart true (class id permissions) allowed = absurd (true≢false (allowed refl))
+form_apart true (class_common the_class the_common) allowed = absurd (true≢false (allowed refl))
+form_apart true (class_order classes) allowed = absurd (true≢false (allowed refl))
+form_apart true (rule kind source target the_class permissions) allowed = refl
+
+-- what may stand in no optional stands in none
+pub shapes_apart : (statements : Statements) (inside : Bool) (trees : Trees) → Shapes inside trees statements → are_apart inside statements ≡ true
+shapes_apart no_more inside trees h = refl
+shapes_apart (statement at form body more) inside trees h =
+    let b = fits_begin h.1 form h.2 h.5 in
+    both_true (not (inside && stands_apart form)) (are_apart (inside || is_optional form) body && are_apart inside more)
+    (form_apart inside form (subst (IsAllowed inside) b.2 h.6))
+    (both_true (are_apart (inside || is_optional form) body) (are_apart inside more) (shapes_apart body (inside || is_optional form) h.2 h.8) (shapes_apart more inside h.3 h.9))
 
 -- the inner statements of operands that fit are lists
 operands_lists : (form : Form) (operands inner : Trees) → OperandsFit operands form inner → IsTrue (are_lists inner)

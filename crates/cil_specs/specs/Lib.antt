@@ -14,6 +14,7 @@ pub mod PolicyFault
 pub mod Rule
 pub mod Report
 pub mod Store
+pub mod Kept
 pub mod Next
 pub mod Run
 pub mod Script

@@ -29,6 +29,10 @@ declared_in _ _ = None
 abbrev pub Optionals : Type 0
 Optionals = List ℕ → ℕ → Bool
 
+-- the set of all optionals
+abbrev pub every_optional : Optionals
+every_optional module_name offset = true
+
 -- whether all optionals around a statement are in the set
 abbrev pub is_within : Optionals → Placed → Bool
 is_within kept s = list_all (kept s.module_name) s.optionals

@@ -7,22 +7,19 @@ use Rattle.cil_specs.specs.TextFault as text_fault
 use Rattle.cil_specs.specs.Trees.{Trees, none, a_word, a_string, a_list, Reads}
 use Rattle.cil_specs.specs.Reading.{IsReadingFault}
 use Rattle.cil_specs.specs.Names.{Word, is_letter, is_digit}
-use Rattle.cil_specs.specs.Statements.{allow, the_named, Form, optional, attribute_set, rule, target_words, Statements, no_more, statement}
-use Rattle.cil_specs.specs.Shape.{Shapes, IsFirstShapeFault}
+use Rattle.cil_specs.specs.Statements.{allow, the_named, Form, attribute_set, rule, target_words, Statements, no_more, statement}
+use Rattle.cil_specs.specs.Shape.{Shapes, IsFirstShapeFault, holds_others}
 use Rattle.cil_specs.specs.Joined.{Module, Placed, joined}
 use Rattle.cil_specs.specs.Lookup.{types, Optionals, is_within, leads, holds_of, is_attribute}
 use Rattle.cil_specs.specs.PolicyFault.{PolicyFault, wrong_kind, IsAtWordOf, IsFirst, Compiles}
 use Rattle.cil_specs.specs.PolicyFault as policy_fault
-use Rattle.cil_specs.specs.Rule.{Rule, rules_of}
+use Rattle.cil_specs.specs.Rule.{Rule, Declared, rules_of}
+use Rattle.cil_specs.specs.Kept.{AreKept, ByKept, dropped_of}
 use Rattle.cil_specs.specs.Store.{Entry, Store, put, active}
-
--- until optionals are compiled there are none, and each counts as kept
-abbrev pub every_optional : Optionals
-every_optional module_name offset = true
 
 -- the words of the statements that are compiled so far
 abbrev pub compiled_words : List (List ℕ)
-compiled_words = codes "block" ∷ codes "type" ∷ codes "typealias" ∷ codes "typealiasactual" ∷ codes "typeattribute" ∷ codes "common" ∷ codes "class" ∷ codes "classcommon"
+compiled_words = codes "block" ∷ codes "optional" ∷ codes "type" ∷ codes "typealias" ∷ codes "typealiasactual" ∷ codes "typeattribute" ∷ codes "common" ∷ codes "class" ∷ codes "classcommon"
     ∷ codes "classorder" ∷ codes "allow" ∷ []
 
 -- whether one of the words is self
@@ -36,7 +33,7 @@ has_self (a_list at end items rest) = has_self rest
 abbrev pub is_later : List ℕ → Trees → Bool
 is_later keyword operands = not (list_any (bytes_eq keyword) compiled_words) || (bytes_eq keyword (codes "allow") && has_self operands)
 
--- a statement that isn't compiled yet is a fault at its first word, in a block too
+-- a statement that isn't compiled yet is a fault at its first word, in a block or an optional too
 abbrev pub IsLaterFault : Trees → TextFault → Type 0
 IsLaterFault none fault = ⊥
 IsLaterFault (a_word at text rest) fault = IsLaterFault rest fault
@@ -44,7 +41,7 @@ IsLaterFault (a_string at text rest) fault = IsLaterFault rest fault
 IsLaterFault (a_list at end none rest) fault = IsLaterFault rest fault
 IsLaterFault (a_list at end (a_word place text operands) rest) fault =
     (IsTrue (is_later text operands) × (fault ≡ record { kind = unsupported; at = place; word = text }))
-    ⊎ ((IsTrue (bytes_eq text (codes "block")) × IsLaterFault operands fault) ⊎ IsLaterFault rest fault)
+    ⊎ ((IsTrue (holds_others text) × IsLaterFault operands fault) ⊎ IsLaterFault rest fault)
 IsLaterFault (a_list at end (a_string place text more) rest) fault = IsLaterFault rest fault
 IsLaterFault (a_list at end (a_list place last items more) rest) fault = IsLaterFault rest fault
 
@@ -53,26 +50,24 @@ pub record IsFirstLaterFault (trees : Trees) (fault : TextFault) : Type 0 where
   pub is : IsLaterFault trees fault
   pub first : (other : TextFault) → IsLaterFault trees other → IsNoLater fault other
 
--- whether a statement says what is compiled so far: no optional, no set and no rule but an allow rule between two names
+-- whether a statement says what is compiled so far: no set and no rule but an allow rule between two names
 abbrev pub is_compiled_form : Form → Bool
-is_compiled_form (optional id) = false
 is_compiled_form (attribute_set attribute expr) = false
 is_compiled_form (rule allow source (the_named target) the_class permissions) = true
 is_compiled_form (rule _ source target the_class permissions) = false
 is_compiled_form _ = true
 
--- whether all statements do, those inside blocks too
+-- whether all statements do, those inside blocks and optionals too
 abbrev pub is_compiled : Statements → Bool
 is_compiled no_more = true
 is_compiled (statement at form body more) = is_compiled_form form && (is_compiled body && is_compiled more)
 
--- whether a statement is plain: neither an optional nor an attribute set
+-- whether a statement is plain: no attribute set
 abbrev pub is_plain_form : Form → Bool
-is_plain_form (optional id) = false
 is_plain_form (attribute_set attribute expr) = false
 is_plain_form _ = true
 
--- whether all statements are, those inside blocks too
+-- whether all statements are, those inside blocks and optionals too
 abbrev pub is_plain : Statements → Bool
 is_plain no_more = true
 is_plain (statement at form body more) = is_plain_form form && (is_plain body && is_plain more)
@@ -110,7 +105,7 @@ abbrev pub rule_elements : Form → List Word
 rule_elements (rule kind source target the_class permissions) = source ∷ target_words target
 rule_elements _ = []
 
--- Until attributes have members, a rule's source or target that leads to one is a fault of the code of another kind.
+-- Until attributes have members, a kept rule's source or target that leads to one is a fault of the code of another kind.
 pub record IsAttributeFault (kept : Optionals) (policy : List Placed) (fault : PolicyFault) : Type 0 where
   pub s : Placed
   pub word : Word
@@ -134,12 +129,27 @@ pub data IsRefusedFor (kept : Optionals) (policy : List Placed) (fault : PolicyF
   first_fault : IsFirst kept policy fault → IsRefusedFor kept policy fault
   first_attribute : Compiles kept policy → IsFirstAttributeFault kept policy fault → IsRefusedFor kept policy fault
 
--- the rules of a store, whose policy compiles
-pub record AreRulesOf (store : Store) (rules : List Rule) : Type 0 where
+-- the same, by the optionals that the policy keeps
+abbrev pub IsPolicyFaultOf : List Placed → PolicyFault → Type 0
+IsPolicyFaultOf policy fault = ByKept policy (λ kept. IsRefusedFor kept policy fault)
+
+-- the rules of a store, whose policy compiles, and the optionals of it that drop
+pub record IsMeaning (store : Store) (rules : List Rule) (dropped : List Declared) : Type 0 where
   pub policy : List Placed
+  pub kept : Optionals
   pub is_policy : IsPolicyOf store policy
-  pub compiles : IsCompiledWhole every_optional policy
-  pub are_rules : rules ≡ rules_of every_optional policy
+  pub are_kept : AreKept policy kept
+  pub compiles : IsCompiledWhole kept policy
+  pub are_rules : rules ≡ rules_of kept policy
+  pub are_dropped : dropped ≡ dropped_of kept policy
+
+-- the rules of a store
+abbrev pub AreRulesOf : Store → List Rule → Type 0
+AreRulesOf store rules = (dropped : List Declared) × IsMeaning store rules dropped
+
+-- the optionals of a store that drop
+abbrev pub AreDroppedOf : Store → List Declared → Type 0
+AreDroppedOf store dropped = (rules : List Rule) × IsMeaning store rules dropped
 
 pub data Edit : Type 0 where
   install : List ℕ → ℕ → List ℕ → Edit
@@ -185,7 +195,7 @@ HasGoodText (install name priority text) = (statements : Statements) × IsModule
 
 -- the policy of a store is refused
 abbrev pub IsPolicyRefusal : Store → Refusal → Type 0
-IsPolicyRefusal store refusal = (policy : List Placed) × (fault : PolicyFault) × IsPolicyOf store policy × IsRefusedFor every_optional policy fault
+IsPolicyRefusal store refusal = (policy : List Placed) × (fault : PolicyFault) × IsPolicyOf store policy × IsPolicyFaultOf policy fault
     × (refusal ≡ at_place (policy_fault.code_of fault.kind) fault.module_name fault.at fault.word)
 
 -- an edit is accepted, and leads to another store; or it is refused

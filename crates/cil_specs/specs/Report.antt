@@ -1,12 +1,12 @@
 -- Orders of names and accesses, the changes between two tables, and the listing.
-use Rattle.std.specs.Prelude.{◌≡◌, ◌≢◌, ◌↔◌, ℕ, Bool, true, false, not, ◌&&◌, List, [], ◌∷◌, ◌++◌, flat_map, codes, IsTrue, Contains, Any}
+use Rattle.std.specs.Prelude.{◌≡◌, ◌≢◌, ◌↔◌, ℕ, Bool, true, false, not, ◌&&◌, List, [], ◌∷◌, ◌++◌, flat_map, codes, decimal, IsTrue, Contains, Any}
 use Rattle.std.specs.List.{AllByRecursion}
 use Rattle.std.specs.List.Sorted.{IsStrictlySortedBy}
 use Rattle.std.specs.Ordering.{nat_cmp, is_lt, on, then_cmp}
 use Rattle.std.specs.declared.cmp.Ordering.{Ordering}
 use Rattle.std.specs.Cmp.Lexicographic.{slice_cmp}
 use Rattle.cil_specs.specs.Statements.{RuleKind, allow, auditallow, dontaudit, neverallow, rule_word}
-use Rattle.cil_specs.specs.Rule.{Atom, kind_index}
+use Rattle.cil_specs.specs.Rule.{Atom, Declared, kind_index}
 
 -- names by their bytes
 abbrev pub name_cmp : List ℕ → List ℕ → Ordering
@@ -74,6 +74,10 @@ pub record AreRows (test : Atom → Bool) (rows : List Row) : Type 0 where
 abbrev pub row_line : Row → List ℕ
 row_line r = rule_word r.kind ++ codes " " ++ r.source ++ codes " " ++ r.target ++ codes ":" ++ r.the_class ++ codes " { "
     ++ flat_map (λ p. p ++ codes " ") r.permissions ++ codes "};\n"
+
+-- the line of an optional that drops
+abbrev pub dropped_line : Declared → List ℕ
+dropped_line d = d.module_name ++ codes ":" ++ decimal d.at.line ++ codes ":" ++ decimal d.at.column ++ codes " " ++ d.name ++ codes "\n"
 
 -- whether names ascend strictly by their bytes
 abbrev pub names_rise : List (List ℕ) → Bool

@@ -35,7 +35,7 @@ pub record Atom : Type 0 where
   pub the_class : List ℕ
   pub permission : List ℕ
 
--- a type or an attribute by its full name, and where it is declared
+-- a type, an attribute or an optional by its full name, and where it is declared
 pub record Declared : Type 0 where
   pub module_name : List ℕ
   pub at : Place

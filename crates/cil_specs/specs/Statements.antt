@@ -1,5 +1,5 @@
 -- Statements, and their words.
-use Rattle.std.specs.Prelude.{ℕ, ◌+◌, ◌&&◌, nat_le, Bool, true, false, List, [], ◌∷◌, ◌++◌, map, codes}
+use Rattle.std.specs.Prelude.{ℕ, ◌+◌, not, ◌&&◌, ◌||◌, nat_le, Bool, true, false, List, [], ◌∷◌, ◌++◌, map, codes}
 use Rattle.cil_specs.specs.Place.{Place}
 use Rattle.cil_specs.specs.Names.{Word, Role, declared, referred}
 use Rattle.cil_specs.specs.Expr.{Expr, named_words}
@@ -84,10 +84,34 @@ is_optional (class_common the_class the_common) = false
 is_optional (class_order classes) = false
 is_optional (rule kind source target the_class permissions) = false
 
--- the offsets of the words in the place of a name, a reference or a permission, in the order of the text
-abbrev pub word_offsets : Statements → List ℕ
-word_offsets no_more = []
-word_offsets (statement at form body more) = map (λ (role, word). word.at.offset) (words_of form) ++ (word_offsets body ++ word_offsets more)
+-- whether a statement may stand in no optional: a block, and what declares classes and commons or says more of them
+abbrev pub stands_apart : Form → Bool
+stands_apart (block id) = true
+stands_apart (optional id) = false
+stands_apart (type_name id) = false
+stands_apart (type_alias id) = false
+stands_apart (alias_actual alias actual) = false
+stands_apart (type_attribute id) = false
+stands_apart (attribute_set attribute expr) = false
+stands_apart (common id permissions) = true
+stands_apart (class id permissions) = true
+stands_apart (class_common the_class the_common) = true
+stands_apart (class_order classes) = true
+stands_apart (rule kind source target the_class permissions) = false
+
+-- whether these do stand in no optional, where the statements do or don't stand in one
+abbrev pub are_apart : Bool → Statements → Bool
+are_apart inside no_more = true
+are_apart inside (statement at form body more) = not (inside && stands_apart form) && (are_apart (inside || is_optional form) body && are_apart inside more)
+
+-- the offsets of a statement's ( and of its words in the place of a name, a reference or a permission
+abbrev pub offsets_at : Place → Form → List ℕ
+offsets_at at form = at.offset ∷ map (λ (role, word). word.at.offset) (words_of form)
+
+-- those of statements, in the order of the text
+abbrev pub statement_offsets : Statements → List ℕ
+statement_offsets no_more = []
+statement_offsets (statement at form body more) = offsets_at at form ++ (statement_offsets body ++ statement_offsets more)
 
 -- whether numbers rise, from one on
 abbrev pub rise_from : ℕ → List ℕ → Bool

@@ -1,15 +1,15 @@
 -- Statements that are not compiled yet.
-use Rattle.std.proofs.Common.{◌≡◌, ℕ, ◌+◌, ◌-◌, ◌<◌, ◌≤◌, ◌||◌, ◌&&◌, inl, inr, Bool, true, false, if◌then◌else◌, List, [], ◌∷◌, length, get_or, take, drop, Option, Some, None, IfSome, IfNone, Vec, IsTrue, codes, bytes_eq, ap, sym, subst, ◌∙◌, refl, arith}
+use Rattle.std.proofs.Common.{◌≡◌, ℕ, ◌+◌, ◌-◌, ◌<◌, ◌≤◌, ◌||◌, ◌&&◌, ◌⊎◌, inl, inr, Bool, true, false, if◌then◌else◌, List, [], ◌∷◌, length, get_or, take, drop, Option, Some, None, IfSome, IfNone, Vec, IsTrue, codes, bytes_eq, ap, sym, subst, ◌∙◌, refl, arith}
 use Rattle.std.specs.Option.{option_or}
 use Rattle.std.specs.Cmp.Lexicographic.{bytes_decides}
 use Rattle.std.proofs.Math.Bool.{or-false}
-use Rattle.std.proofs.lemmas.Bool.{true≢false, or_right, and_from, true_from_ne_false}
+use Rattle.std.proofs.lemmas.Bool.{true≢false, or_cases, or_right, and_from, true_from_ne_false}
 use Rattle.cil_specs.specs.Place as spec_place
 use Rattle.cil_specs.specs.Names as spec_names
 use Rattle.cil_specs.specs.TextFault.{TextFault, IsNoLater}
 use Rattle.cil_specs.specs.Trees.{Trees, none, a_word, a_string, a_list, in_order}
 use Rattle.cil_specs.specs.Statements.{allow, auditallow, dontaudit, neverallow, itself, the_named, Form, block, optional, attribute_set, rule, is_optional, Statements, no_more, statement}
-use Rattle.cil_specs.specs.Shape.{Shapes}
+use Rattle.cil_specs.specs.Shape.{Shapes, holds_others}
 use Rattle.cil_specs.specs.Next.{has_self, is_later, IsLaterFault, IsFirstLaterFault, is_compiled_form, is_compiled}
 use Rattle.cil_specs.proofs.FormLemmas.{first_word, OperandsFit, fits_begin}
 use Rattle.cil_specs.proofs.OrderLemmas.{order_word, order_list, order_le}
@@ -59,25 +59,25 @@ none_at_no_word at end ts t some is other =
 
 -- what a statement's list gives by the tests of its first word
 abbrev pub word_by : Bool → Bool → spec_names.Word → Option spec_names.Word → Option spec_names.Word
-word_by later is_block first inner = if later then Some first else if is_block then inner else None
+word_by later holds first inner = if later then Some first else if holds then inner else None
 
 or-none : (o : Option spec_names.Word) → option_or o None ≡ o
 or-none None = refl
 or-none (Some word) = refl
 
-pub later_at_word : {A : Type 0} → (at : spec_place.Place) (end : ℕ) (ts : List (Tree A)) (t : Tree A) (w : Word) (later is_block : Bool) (inner : Option spec_names.Word) → 1 ≤ length ts → t ≡ get_or ts 0 t
-    → t ≡ variants.Word w → later ≡ is_later w.text.now (trees_of (take (length ts - 1) (drop 1 ts))) → is_block ≡ bytes_eq w.text.now (codes "block")
-    → inner ≡ later_word (trees_of (take (length ts - 1) (drop 1 ts))) → later_word (a_list at end (trees_of ts) none) ≡ word_by later is_block (word_of w) inner
-later_at_word at end ts t w later is_block inner some is made here blocks behind =
+pub later_at_word : {A : Type 0} → (at : spec_place.Place) (end : ℕ) (ts : List (Tree A)) (t : Tree A) (w : Word) (later holds : Bool) (inner : Option spec_names.Word) → 1 ≤ length ts → t ≡ get_or ts 0 t
+    → t ≡ variants.Word w → later ≡ is_later w.text.now (trees_of (take (length ts - 1) (drop 1 ts))) → holds ≡ holds_others w.text.now
+    → inner ≡ later_word (trees_of (take (length ts - 1) (drop 1 ts))) → later_word (a_list at end (trees_of ts) none) ≡ word_by later holds (word_of w) inner
+later_at_word at end ts t w later holds inner some is made here held behind =
     let rest = trees_of (take (length ts - 1) (drop 1 ts)) in
     ap (λ items. later_word (a_list at end items none)) (trees_split ts t some ∙ ap (λ t. tree_then t rest) (sym is ∙ made))
-    ∙ or-none (word_by (is_later w.text.now rest) (bytes_eq w.text.now (codes "block")) (word_of w) (later_word rest))
-    ∙ (λ i. word_by (sym here i) (sym blocks i) (word_of w) (sym behind i))
+    ∙ or-none (word_by (is_later w.text.now rest) (holds_others w.text.now) (word_of w) (later_word rest))
+    ∙ (λ i. word_by (sym here i) (sym held i) (word_of w) (sym behind i))
 
 list_more : (at : spec_place.Place) (end : ℕ) (items rest : Trees) → later_word (a_list at end items rest) ≡ option_or (later_word (a_list at end items none)) (later_word rest)
 list_more at end none rest = refl
 list_more at end (a_word place text operands) rest =
-    ap (λ o. option_or o (later_word rest)) (sym (or-none (word_by (is_later text operands) (bytes_eq text (codes "block")) (record { at = place; text = text }) (later_word operands))))
+    ap (λ o. option_or o (later_word rest)) (sym (or-none (word_by (is_later text operands) (holds_others text) (record { at = place; text = text }) (later_word operands))))
 list_more at end (a_string place text more) rest = refl
 list_more at end (a_list place last items more) rest = refl
 
@@ -93,36 +93,40 @@ later_from ts i t found within is so_far here =
     let rest = trees_of (drop (i + 1) ts) in
     so_far ∙ ap later_word (at_tree ts i t within is) ∙ later_more t rest ∙ ap (λ o. option_or o (later_word rest)) (sym here)
 
--- a block is compiled itself
-block-compiled : (text : List ℕ) (operands : Trees) → IsTrue (bytes_eq text (codes "block")) → is_later text operands ≡ false
-block-compiled text operands is = ap (λ t. is_later t operands) ((bytes_decides text (codes "block")).0 is)
+-- a block and an optional are compiled themselves
+holder-compiled : (text : List ℕ) (operands : Trees) → IsTrue (holds_others text) → is_later text operands ≡ false
+holder-compiled text operands is = by (or_cases (bytes_eq text (codes "block")) (bytes_eq text (codes "optional")) is)
+  where
+    by : IsTrue (bytes_eq text (codes "block")) ⊎ IsTrue (bytes_eq text (codes "optional")) → is_later text operands ≡ false
+    by (inl same) = ap (λ t. is_later t operands) ((bytes_decides text (codes "block")).0 same)
+    by (inr same) = ap (λ t. is_later t operands) ((bytes_decides text (codes "optional")).0 same)
 
 -- where the word of a statement's list and those behind it are found
 pub data Found (text : List ℕ) (operands rest : Trees) (first word : spec_names.Word) : Type 0 where
   at_first : is_later text operands ≡ true → first ≡ word → Found text operands rest first word
-  in_block : is_later text operands ≡ false → IsTrue (bytes_eq text (codes "block")) → later_word operands ≡ Some word → Found text operands rest first word
-  behind : is_later text operands ≡ false → (IsTrue (bytes_eq text (codes "block")) → later_word operands ≡ None) → later_word rest ≡ Some word → Found text operands rest first word
+  in_holder : is_later text operands ≡ false → IsTrue (holds_others text) → later_word operands ≡ Some word → Found text operands rest first word
+  behind : is_later text operands ≡ false → (IsTrue (holds_others text) → later_word operands ≡ None) → later_word rest ≡ Some word → Found text operands rest first word
 
 found_at : (text : List ℕ) (operands rest : Trees) (first word : spec_names.Word)
-    → option_or (word_by (is_later text operands) (bytes_eq text (codes "block")) first (later_word operands)) (later_word rest) ≡ Some word → Found text operands rest first word
-found_at text operands rest first word h = by (is_later text operands) (bytes_eq text (codes "block")) (later_word operands) refl refl refl h
+    → option_or (word_by (is_later text operands) (holds_others text) first (later_word operands)) (later_word rest) ≡ Some word → Found text operands rest first word
+found_at text operands rest first word h = by (is_later text operands) (holds_others text) (later_word operands) refl refl refl h
   where
-    by : (later is_block : Bool) (inner : Option spec_names.Word) → is_later text operands ≡ later → bytes_eq text (codes "block") ≡ is_block → later_word operands ≡ inner
-        → option_or (word_by later is_block first inner) (later_word rest) ≡ Some word → Found text operands rest first word
-    by true is_block inner p q r h = at_first p (cc h)
+    by : (later holds : Bool) (inner : Option spec_names.Word) → is_later text operands ≡ later → holds_others text ≡ holds → later_word operands ≡ inner
+        → option_or (word_by later holds first inner) (later_word rest) ≡ Some word → Found text operands rest first word
+    by true holds inner p q r h = at_first p (cc h)
     by false true None p q r h = behind p (λ is. r) h
-    by false true (Some w) p q r h = in_block p q (r ∙ h)
+    by false true (Some w) p q r h = in_holder p q (r ∙ h)
     by false false inner p q r h = behind p (λ is. absurd (true≢false (sym is ∙ q))) h
 
 none_at : (text : List ℕ) (operands rest : Trees) (first : spec_names.Word)
-    → option_or (word_by (is_later text operands) (bytes_eq text (codes "block")) first (later_word operands)) (later_word rest) ≡ None
-    → (is_later text operands ≡ false) × (IsTrue (bytes_eq text (codes "block")) → later_word operands ≡ None) × (later_word rest ≡ None)
-none_at text operands rest first h = by (is_later text operands) (bytes_eq text (codes "block")) (later_word operands) refl refl refl h
+    → option_or (word_by (is_later text operands) (holds_others text) first (later_word operands)) (later_word rest) ≡ None
+    → (is_later text operands ≡ false) × (IsTrue (holds_others text) → later_word operands ≡ None) × (later_word rest ≡ None)
+none_at text operands rest first h = by (is_later text operands) (holds_others text) (later_word operands) refl refl refl h
   where
-    by : (later is_block : Bool) (inner : Option spec_names.Word) → is_later text operands ≡ later → bytes_eq text (codes "block") ≡ is_block → later_word operands ≡ inner
-        → option_or (word_by later is_block first inner) (later_word rest) ≡ None
-        → (is_later text operands ≡ false) × (IsTrue (bytes_eq text (codes "block")) → later_word operands ≡ None) × (later_word rest ≡ None)
-    by true is_block inner p q r h = absurd cc
+    by : (later holds : Bool) (inner : Option spec_names.Word) → is_later text operands ≡ later → holds_others text ≡ holds → later_word operands ≡ inner
+        → option_or (word_by later holds first inner) (later_word rest) ≡ None
+        → (is_later text operands ≡ false) × (IsTrue (holds_others text) → later_word operands ≡ None) × (later_word rest ≡ None)
+    by true holds inner p q r h = absurd cc
     by false true None p q r h = (p, (λ is. r), h)
     by false true (Some w) p q r h = absurd cc
     by false false inner p q r h = (p, (λ is. absurd (true≢false (sym is ∙ q))), h)
@@ -139,7 +143,7 @@ later_is (a_list at end (a_word place text operands) rest) word h =
     by : Found text operands rest (record { at = place; text = text }) word → (later_word operands ≡ Some word → IsLaterFault operands (fault_at word)) → (later_word rest ≡ Some word → IsLaterFault rest (fault_at word))
         → IsLaterFault (a_list at end (a_word place text operands) rest) (fault_at word)
     by (at_first is same) inner next = inl (is, ap fault_at (sym same))
-    by (in_block is is_block here) inner next = inr (inl (is_block, inner here))
+    by (in_holder is holds here) inner next = inr (inl (holds, inner here))
     by (behind is empty here) inner next = inr (inr (next here))
 later_is (a_list at end (a_string place text more) rest) word h = later_is rest word h
 later_is (a_list at end (a_list place last items more) rest) word h = later_is rest word h
@@ -154,7 +158,7 @@ later_none (a_list at end (a_word place text operands) rest) h fault bad =
     let p = none_at text operands rest (record { at = place; text = text }) h in
     by bad p.0 (λ is. later_none operands (p.1 is) fault) (later_none rest p.2 fault)
   where
-    by : IsLaterFault (a_list at end (a_word place text operands) rest) fault → is_later text operands ≡ false → (IsTrue (bytes_eq text (codes "block")) → IsLaterFault operands fault → ⊥) → (IsLaterFault rest fault → ⊥) → ⊥
+    by : IsLaterFault (a_list at end (a_word place text operands) rest) fault → is_later text operands ≡ false → (IsTrue (holds_others text) → IsLaterFault operands fault → ⊥) → (IsLaterFault rest fault → ⊥) → ⊥
     by (inl found) is inner next = true≢false (sym found.0 ∙ is)
     by (inr (inl found)) is inner next = inner found.0 found.1
     by (inr (inr found)) is inner next = next found
@@ -226,12 +230,12 @@ later_first (a_list at end (a_word place text operands) rest) low high word othe
         → (later_word rest ≡ Some word → IsLaterFault rest other → IsNoLater (fault_at word) other) → IsNoLater (fault_at word) other
     by (at_first is same) (inl found) before within after inner next =
         subst (λ w. IsNoLater (fault_at w) other) same (subst (IsNoLater (fault_at first)) (sym found.1) (inr (refl, omega arith)))
-    by (at_first is same) (inr (inl found)) before within after inner next = absurd (true≢false (sym is ∙ block-compiled text operands found.0))
+    by (at_first is same) (inr (inl found)) before within after inner next = absurd (true≢false (sym is ∙ holder-compiled text operands found.0))
     by (at_first is same) (inr (inr found)) before within after inner next =
         subst (λ w. IsNoLater (fault_at w) other) same (inl (omega (arith, before, after found)))
-    by (in_block is is_block here) (inl found) before within after inner next = absurd (true≢false (sym found.0 ∙ is))
-    by (in_block is is_block here) (inr (inl found)) before within after inner next = inner here found.1
-    by (in_block is is_block here) (inr (inr found)) before within after inner next = inl (omega (arith, within here, after found))
+    by (in_holder is holds here) (inl found) before within after inner next = absurd (true≢false (sym found.0 ∙ is))
+    by (in_holder is holds here) (inr (inl found)) before within after inner next = inner here found.1
+    by (in_holder is holds here) (inr (inr found)) before within after inner next = inl (omega (arith, within here, after found))
     by (behind is empty here) (inl found) before within after inner next = absurd (true≢false (sym found.0 ∙ is))
     by (behind is empty here) (inr (inl found)) before within after inner next = absurd (later_none operands (empty found.0) other found.1)
     by (behind is empty here) (inr (inr found)) before within after inner next = next here found
@@ -251,7 +255,6 @@ none_later trees (Some w) h = tt
 
 -- a statement that is not of a compiled form has a first word or operands that aren't compiled yet
 later_form : (form : Form) (operands inner : Trees) → OperandsFit operands form inner → is_compiled_form form ≡ false → is_later (first_word form) operands ≡ true
-later_form (optional id) operands inner fits h = refl
 later_form (attribute_set attribute expr) operands inner fits h = refl
 later_form (rule allow source (the_named target) the_class permissions) operands inner fits h = absurd (true≢false h)
 later_form (rule allow source itself the_class permissions) operands inner fits h =
@@ -263,11 +266,11 @@ later_form (rule dontaudit source target the_class permissions) operands inner f
 later_form (rule neverallow source target the_class permissions) operands inner fits h = refl
 later_form _ operands inner fits h = absurd (true≢false h)
 
--- the statements inside one of a compiled form have no later fault, where those of a block have none
+-- the statements inside one of a compiled form have no later fault, where those of a block or an optional have none
 inner_never : (form : Form) (operands inner : Trees) → OperandsFit operands form inner → is_compiled_form form ≡ true
-    → ((fault : TextFault) → IsTrue (bytes_eq (first_word form) (codes "block")) → IsLaterFault operands fault → ⊥) → (fault : TextFault) → IsLaterFault inner fault → ⊥
+    → ((fault : TextFault) → IsTrue (holds_others (first_word form)) → IsLaterFault operands fault → ⊥) → (fault : TextFault) → IsLaterFault inner fault → ⊥
 inner_never (block id) operands inner fits is never fault bad = never fault refl (subst (λ trees. IsLaterFault trees fault) (sym fits.0) bad)
-inner_never (optional id) operands inner fits is never fault bad = absurd (true≢false (sym is))
+inner_never (optional id) operands inner fits is never fault bad = never fault refl (subst (λ trees. IsLaterFault trees fault) (sym fits.0) bad)
 inner_never _ operands inner fits is never fault bad = subst (λ trees. IsLaterFault trees fault) fits.1 bad
 
 -- the statements of trees without a later fault are compiled
@@ -280,7 +283,7 @@ compiled-from inside trees (statement at form body more) shapes never =
     let here : is_compiled_form form ≡ true = true_from_ne_false (is_compiled_form form)
     (λ h. never' (fault_at (record { at = b.0; text = first_word form })) (inl (later_form form b.1 shapes.2 b.3 h, refl))) in
     let within : is_compiled body ≡ true = compiled-from (inside || is_optional form) shapes.2 body shapes.8
-    (inner_never form b.1 shapes.2 b.3 here (λ fault is_block bad. never' fault (inr (inl (is_block, bad))))) in
+    (inner_never form b.1 shapes.2 b.3 here (λ fault holds bad. never' fault (inr (inl (holds, bad))))) in
     let rest : is_compiled more ≡ true = compiled-from inside shapes.3 more shapes.9 (λ fault bad. never' fault (inr (inr bad))) in
     and_from (is_compiled_form form) (is_compiled body && is_compiled more) here (and_from (is_compiled body) (is_compiled more) within rest)
 

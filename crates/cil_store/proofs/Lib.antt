@@ -3,3 +3,4 @@ pub mod JoinLemmas
 pub mod PlainLemmas
 pub mod LaterLemmas
 pub mod ParseLemmas
+pub mod DroppedLemmas

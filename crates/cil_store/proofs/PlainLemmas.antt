@@ -4,16 +4,20 @@ use Rattle.std.specs.List.{list_all, list_any, AllByRecursion}
 use Rattle.std.proofs.lemmas.Bool.{eqb-true, leb-true, ltb-false}
 use Rattle.cil_specs.specs.Joined.{Module, joined}
 use Rattle.std.specs.List.Sorted.{IsStrictlySortedBy}
-use Rattle.cil_specs.specs.Rule.{Atom, Rule, is_in_table, rules_of}
+use Rattle.cil_specs.specs.Rule.{Atom, Declared, is_in_table}
 use Rattle.cil_specs.specs.Report.{AreAtoms, Changes, AreChanges}
 use Rattle.cil_specs.specs.Store.{Entry, Store, empty, is_highest, active, put}
-use Rattle.cil_specs.specs.Next.{every_optional, AreModules, IsPolicyOf, IsCompiledWhole, IsRefusedFor, install, Refusal, by_store, is_module_name, changed, install_refusal, HasGoodText, IsPolicyRefusal, accepts, Next, bad_store, bad_text, bad_policy, good}
+use Rattle.cil_specs.specs.Lookup.{Optionals}
+use Rattle.cil_specs.specs.Kept.{AreKept}
+use Rattle.cil_specs.specs.Next.{AreModules, IsPolicyOf, IsCompiledWhole, IsPolicyFaultOf, install, Refusal, by_store, is_module_name, changed, install_refusal, HasGoodText, IsPolicyRefusal, accepts, Next, bad_store, bad_text, bad_policy, good}
 use Rattle.cil_specs.specs.Run.{an_edit, changed_by, refused, Step}
 use Rattle.cil_specs.proofs.Runs.{both_true, first_true, second_true}
 use Rattle.cil_names.specs.Image.{PolicyFaultIs}
+use Rattle.cil_names.specs.Resolved.{IsPolicy, rules_in, dropped_in}
+use Rattle.cil_names.specs.declared.resolved.Resolved.{Resolved}
 use Rattle.cil_store.specs.Refusing.{IsRefusalOf, IsPolicyRefusalOf}
 use Rattle.cil_store.specs.Stored.{IsGood, entry_for}
-use Rattle.cil_store.specs.Plain.{IsTableOf, IsKept, IsRefused}
+use Rattle.cil_store.specs.Plain.{IsCompiledTo, IsKept, IsRefused}
 use Rattle.cil_names.specs.declared.fault.PolicyFault.{PolicyFault}
 use Rattle.cil_names.specs.declared.fault.PolicyFault.TheVariants.{Memory, Found}
 use Rattle.cil_store.proofs.StoredLemmas.{none-stored, put-stored}
@@ -57,30 +61,39 @@ good-entries (e ∷ entries) (m ∷ modules) short are = (
   good-entries entries modules (second_true (nat_le (length e.text) 16777216) _ short) are.2,
 )
 
-pub kept-good : (store : Store) (table : List Atom) → IsKept store table → AllByRecursion IsGood store.entries
-kept-good store table kept =
-    let policy = kept.is_table.are_rules.is_policy in
+pub kept-good : (store : Store) (table : List Atom) (dropped : List Declared) → IsKept store table dropped → AllByRecursion IsGood store.entries
+kept-good store table dropped kept =
+    let policy = kept.is_compiled.is_meaning.is_policy in
     good-entries store.entries policy.0 kept.stored.short (subst (λ es. AreModules es policy.0) (active-all store kept.enabled kept.stored.one_priority) policy.1)
 
 -- the entries after an install are all active
-changed-active : (store : Store) (table : List Atom) (name text : List ℕ) → length text ≤ 16777216 → IsKept store table → active (changed store (install name 400 text)) ≡ put (entry_for name text) store.entries
-changed-active store table name text short kept =
+changed-active : (store : Store) (table : List Atom) (dropped : List Declared) (name text : List ℕ) → length text ≤ 16777216 → IsKept store table dropped
+    → active (changed store (install name 400 text)) ≡ put (entry_for name text) store.entries
+changed-active store table dropped name text short kept =
     active-all (changed store (install name 400 text)) kept.enabled (put-stored (entry_for name text) store.entries refl short kept.stored).one_priority
 
 -- the policy of the store after an install
-pub changed-policy : (store : Store) (table : List Atom) (name text : List ℕ) (modules : List Module) → length text ≤ 16777216 → IsKept store table → AreModules (put (entry_for name text) store.entries) modules
-    → IsPolicyOf (changed store (install name 400 text)) (joined modules)
-changed-policy store table name text modules short kept are = (modules, subst (λ es. AreModules es modules) (sym (changed-active store table name text short kept)) are, refl)
+pub changed-policy : (store : Store) (table : List Atom) (dropped : List Declared) (name text : List ℕ) (modules : List Module) → length text ≤ 16777216 → IsKept store table dropped
+    → AreModules (put (entry_for name text) store.entries) modules → IsPolicyOf (changed store (install name 400 text)) (joined modules)
+changed-policy store table dropped name text modules short kept are = (modules, subst (λ es. AreModules es modules) (sym (changed-active store table dropped name text short kept)) are, refl)
 
-pub policy-refused : (fault : PolicyFault) (refusal : Refusal) (store : Store) (table : List Atom) (name text : List ℕ) (modules : List Module) → length text ≤ 16777216 → IsKept store table → AreModules (put (entry_for name text) store.entries) modules
-    → HasGoodText (install name 400 text) → PolicyFaultIs fault (IsRefusedFor every_optional (joined modules)) → IsPolicyRefusalOf fault refusal → IsRefused store name text refusal
-policy-refused Memory refusal store table name text modules short kept are is_good first is = inl is
-policy-refused (Found kind module_name at word) refusal store table name text modules short kept are is_good first (inl is) = inl is
-policy-refused (Found kind module_name at word) refusal store table name text modules short kept are is_good first (inr is) =
-    inr (inr (is_good, (joined modules, _, changed-policy store table name text modules short kept are, first, is)))
+pub policy-refused : (fault : PolicyFault) (refusal : Refusal) (store : Store) (table : List Atom) (dropped : List Declared) (name text : List ℕ) (modules : List Module) → length text ≤ 16777216 → IsKept store table dropped
+    → AreModules (put (entry_for name text) store.entries) modules → HasGoodText (install name 400 text) → PolicyFaultIs fault (IsPolicyFaultOf (joined modules)) → IsPolicyRefusalOf fault refusal → IsRefused store name text refusal
+policy-refused Memory refusal store table dropped name text modules short kept are is_good first is = inl is
+policy-refused (Found kind module_name at word) refusal store table dropped name text modules short kept are is_good first (inl is) = inl is
+policy-refused (Found kind module_name at word) refusal store table dropped name text modules short kept are is_good first (inr is) =
+    inr (inr (is_good, (joined modules, _, changed-policy store table dropped name text modules short kept are, first, is)))
+
+-- the set of no optional
+abbrev no_optional : Optionals
+no_optional name at = false
+
+-- a policy of no statements keeps none
+none-kept : AreKept [] no_optional
+none-kept name at = (λ kept. absurd (true≢false (sym kept)), λ is. is.1.of_policy name at is.2)
 
 -- a policy of no statements has no fault
-none-wrong : IsCompiledWhole every_optional []
+none-wrong : IsCompiledWhole no_optional []
 none-wrong = (
   λ fault h. absurd (omega (arith, ap length h.split, length-append h.before (h.s ∷ h.after))),
   λ fault h. absurd (omega (arith, h.is_in.1)),
@@ -90,22 +103,32 @@ no-atoms : AreAtoms (is_in_table []) []
 unfolding IsStrictlySortedBy
 no-atoms = record { ordered = tt; exact = λ a. ((λ has. absurd (omega (arith, has.1))), λ e. absurd (true≢false (sym e))) }
 
-pub kept-empty : (table : List Atom) → table ≡ [] → IsKept empty table
-kept-empty table none = record {
+pub kept-empty : (table : List Atom) (dropped : List Declared) → table ≡ [] → dropped ≡ [] → IsKept empty table dropped
+kept-empty table dropped none nothing = record {
   stored = none-stored;
   enabled = refl;
-  is_table = record {
+  is_compiled = record {
     rules = [];
-    are_rules = record { policy = []; is_policy = ([], tt, refl); compiles = none-wrong; are_rules = refl };
+    is_meaning = record { policy = []; kept = no_optional; is_policy = ([], tt, refl); are_kept = none-kept; compiles = none-wrong; are_rules = refl; are_dropped = nothing };
     are_atoms = subst (AreAtoms (is_in_table [])) (sym none) no-atoms;
   };
 }
 
-pub table-of : (store : Store) (table atoms : List Atom) (name text : List ℕ) (modules : List Module) (rules : List Rule) → length text ≤ 16777216 → IsKept store table → AreModules (put (entry_for name text) store.entries) modules
-    → IsCompiledWhole every_optional (joined modules) → rules ≡ rules_of every_optional (joined modules) → AreAtoms (is_in_table rules) atoms → IsTableOf (changed store (install name 400 text)) atoms
-table-of store table atoms name text modules rules short kept are compiles are_rules are_atoms = record {
-  rules = rules;
-  are_rules = record { policy = joined modules; is_policy = changed-policy store table name text modules short kept are; compiles = compiles; are_rules = are_rules };
+-- what the store after an install compiles to, by the resolved policy
+pub compiled-to : {A : Type 0} (store : Store) (table atoms : List Atom) (dropped others : List Declared) (name text : List ℕ) (modules : List Module) (r : Resolved A) → length text ≤ 16777216 → IsKept store table dropped
+    → AreModules (put (entry_for name text) store.entries) modules → IsPolicy (λ kept. IsCompiledWhole kept (joined modules)) (joined modules) r → AreAtoms (is_in_table (rules_in r)) atoms → others ≡ dropped_in r
+    → IsCompiledTo (changed store (install name 400 text)) atoms others
+compiled-to store table atoms dropped others name text modules r short kept are is_policy are_atoms are_dropped = record {
+  rules = rules_in r;
+  is_meaning = record {
+    policy = joined modules;
+    kept = is_policy.kept;
+    is_policy = changed-policy store table dropped name text modules short kept are;
+    are_kept = is_policy.are_kept;
+    compiles = is_policy.holds;
+    are_rules = is_policy.contents.rules;
+    are_dropped = are_dropped ∙ is_policy.dropped;
+  };
   are_atoms = are_atoms;
 }
 
@@ -139,23 +162,24 @@ refused-step store name text priority refusal taken (inr (inr policy)) =
     (inr (bad_policy refusal taken policy.0 (subst (λ p. IsPolicyRefusal (changed store (install name p text)) refusal) (sym (taken-priority name priority (length text) taken)) policy.1) refl), refl)
 
 -- the step of an install that was made
-pub accepted-step : (store : Store) (old atoms : List Atom) (name text : List ℕ) (priority : ℕ) (changes : Changes) → install_refusal name priority (length text) ≡ None → HasGoodText (install name 400 text) → IsKept store old
-    → IsTableOf (changed store (install name 400 text)) atoms → ((p q : Atom → Bool) → AreAtoms p old → AreAtoms q atoms → AreChanges p q changes)
+pub accepted-step : (store : Store) (old atoms : List Atom) (dropped others : List Declared) (name text : List ℕ) (priority : ℕ) (changes : Changes) → install_refusal name priority (length text) ≡ None → HasGoodText (install name 400 text)
+    → IsKept store old dropped → IsCompiledTo (changed store (install name 400 text)) atoms others → ((p q : Atom → Bool) → AreAtoms p old → AreAtoms q atoms → AreChanges p q changes)
     → Step store (an_edit (install name priority text)) (changed_by changes) (changed store (install name 400 text))
-accepted-step store old atoms name text priority changes taken good_text kept is_table between = record {
-  next = subst (λ p. Next store (install name p text) (accepts (changed store (install name 400 text)))) (sym at) (good is_table.rules (subst (λ p. install_refusal name p (length text) ≡ None) at taken) good_text is_table.are_rules refl);
-  before = kept.is_table.rules;
-  after = is_table.rules;
-  were_rules = kept.is_table.are_rules;
-  are_rules = is_table.are_rules;
-  are_changes = between (is_in_table kept.is_table.rules) (is_in_table is_table.rules) kept.is_table.are_atoms is_table.are_atoms;
+accepted-step store old atoms dropped others name text priority changes taken good_text kept made between = record {
+  next = subst (λ p. Next store (install name p text) (accepts (changed store (install name 400 text)))) (sym at) (good made.rules (subst (λ p. install_refusal name p (length text) ≡ None) at taken) good_text (others, made.is_meaning) refl);
+  before = kept.is_compiled.rules;
+  after = made.rules;
+  were_rules = (dropped, kept.is_compiled.is_meaning);
+  are_rules = (others, made.is_meaning);
+  are_changes = between (is_in_table kept.is_compiled.rules) (is_in_table made.rules) kept.is_compiled.are_atoms made.are_atoms;
 }
   where
     at : priority ≡ 400
     at = taken-priority name priority (length text) taken
 
-pub kept-changed : (store : Store) (old atoms : List Atom) (name text : List ℕ) → length text ≤ 16777216 → IsKept store old → IsTableOf (changed store (install name 400 text)) atoms → IsKept (changed store (install name 400 text)) atoms
-kept-changed store old atoms name text short kept is_table = record { stored = put-stored (entry_for name text) store.entries refl short kept.stored; enabled = kept.enabled; is_table = is_table }
+pub kept-changed : (store : Store) (old atoms : List Atom) (dropped others : List Declared) (name text : List ℕ) → length text ≤ 16777216 → IsKept store old dropped → IsCompiledTo (changed store (install name 400 text)) atoms others
+    → IsKept (changed store (install name 400 text)) atoms others
+kept-changed store old atoms dropped others name text short kept made = record { stored = put-stored (entry_for name text) store.entries refl short kept.stored; enabled = kept.enabled; is_compiled = made }
 
 -- an install that the store refuses by its line
 pub line-step : (store : Store) (name text : List ℕ) (priority : ℕ) (refusal meant : Refusal) → install_refusal name priority (length text) ≡ Some meant → IsRefusalOf refusal meant → Step store (an_edit (install name priority text)) (refused refusal) store

@@ -7,7 +7,7 @@ use Rattle.cil_specs.specs.Rule.{is_in_table}
 use Rattle.cil_specs.specs.Store.{Store}
 use Rattle.cil_specs.specs.Next.{AreRulesOf}
 use Rattle.cil_specs.specs.Run as spec
-use Rattle.cil_specs.specs.Run.{an_edit, ask_rows, changed_by, refused, listed}
+use Rattle.cil_specs.specs.Run.{an_edit, ask_rows, ask_dropped, changed_by, refused, listed, dropped_optionals}
 use Rattle.cil_store.specs.Edits.{edit_of, refusal_of}
 use Rattle.cil_store.specs.declared.call.Call.{Call}
 use Rattle.cil_store.specs.declared.call.Call.TheVariants as calls
@@ -18,10 +18,12 @@ use Rattle.cil_store.specs.declared.refusal.Refusal.{Refusal}
 abbrev pub call_of : Call → spec.Call
 call_of (calls.Edit edit) = an_edit (edit_of edit)
 call_of calls.Rows = ask_rows
+call_of calls.Dropped = ask_dropped
 
 abbrev pub reply_of : {A : Type 0} → Reply A → spec.Reply
 reply_of (replies.Changes changes) = changed_by changes
 reply_of (replies.Rows rows) = listed rows
+reply_of (replies.Dropped dropped) = dropped_optionals dropped
 reply_of (replies.Refused refusal) = refused (refusal_of refusal)
 
 -- the reply to an edit

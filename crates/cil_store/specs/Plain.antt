@@ -1,21 +1,21 @@
 -- What the plain engine keeps.
 use Rattle.std.specs.Prelude.{◌≡◌, ◌⊎◌, ℕ, List, []}
-use Rattle.cil_specs.specs.Rule.{Atom, Rule, is_in_table}
+use Rattle.cil_specs.specs.Rule.{Atom, Rule, Declared, is_in_table}
 use Rattle.cil_specs.specs.Report.{AreAtoms}
 use Rattle.cil_specs.specs.Store.{Store}
-use Rattle.cil_specs.specs.Next.{install, Refusal, for_memory, changed, AreRulesOf, IsEditFault, HasGoodText, IsPolicyRefusal}
+use Rattle.cil_specs.specs.Next.{install, Refusal, for_memory, changed, IsMeaning, IsEditFault, HasGoodText, IsPolicyRefusal}
 use Rattle.cil_store.specs.Stored.{AreStored}
 
--- the table is that of the store's rules
-pub record IsTableOf (store : Store) (table : List Atom) : Type 0 where
+-- the table is that of the store's rules, and these are its optionals that drop
+pub record IsCompiledTo (store : Store) (table : List Atom) (dropped : List Declared) : Type 0 where
   pub rules : List Rule
-  pub are_rules : AreRulesOf store rules
+  pub is_meaning : IsMeaning store rules dropped
   pub are_atoms : AreAtoms (is_in_table rules) table
 
-pub record IsKept (store : Store) (table : List Atom) : Type 0 where
+pub record IsKept (store : Store) (table : List Atom) (dropped : List Declared) : Type 0 where
   pub stored : AreStored store.entries
   pub enabled : store.disabled ≡ []
-  pub is_table : IsTableOf store table
+  pub is_compiled : IsCompiledTo store table dropped
 
 -- the refusal is want of memory, that of the text, or that of the policy
 abbrev pub IsRefused : Store → List ℕ → List ℕ → Refusal → Type 0

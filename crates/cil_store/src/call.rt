@@ -1,7 +1,7 @@
 //! Calls of an engine, and their replies.
 
-use crate::edit;
 use crate::refusal::Refusal;
+use crate::{dropped, edit};
 use std::alloc::{Allocator, Global};
 
 /// A call of an engine: an edit of its store, or a question.
@@ -10,6 +10,8 @@ pub enum Call<'a> {
     Edit(edit::Edit<'a>),
     /// Which accesses are allowed, by rows.
     Rows,
+    /// Which optionals drop.
+    Dropped,
 }
 
 /// What an engine replies to a call.
@@ -18,5 +20,6 @@ pub enum Reply<A: Allocator = Global> {
     /// The edit was accepted.
     Changes(cil_rules::Changes<A>),
     Rows(cil_rules::Rows<A>),
+    Dropped(dropped::Dropped<A>),
     Refused(Refusal<A>),
 }

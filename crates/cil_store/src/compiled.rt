@@ -2,12 +2,14 @@
 
 ghost use Rattle.std.specs.Prelude.{◌≡◌, ◌≤◌, List, IfOk, OnErr, IsErrOf, length, flat_map};
 ghost use Rattle.cil_specs.specs.Device.{HasFailed, Gains, GainsFront};
+ghost use Rattle.cil_specs.specs.Next.{AreDroppedOf};
 ghost use Rattle.cil_specs.specs.Report.{Row, row_line};
 ghost use Rattle.cil_specs.specs.Run.{Step, an_edit};
 ghost use Rattle.cil_specs.specs.Store.{Store};
 ghost use Rattle.cil_store.specs.Calls.{edit_reply, AreRowsOf};
 ghost use Rattle.cil_store.specs.Edits.{edit_of};
 
+use crate::dropped::Dropped;
 use crate::edit::Edit;
 use crate::refusal::Refusal;
 use cil_rules::{Changes, Rows};
@@ -39,6 +41,10 @@ pub trait Compiled<A: Allocator + Copy> {
     /// The listing, by rows.
     fn rows(&self) -> Result<Rows<A>, AllocError>
         ensures { IfOk result (AreRowsOf (store self.now)) };
+
+    /// The optionals that drop.
+    fn dropped(&self) -> Result<Dropped<A>, AllocError>
+        ensures { IfOk result (AreDroppedOf (store self.now)) };
 
     /// Writes the listing, a line for each row, and tells how many there are.
     fn write_listing<W: Sink>(&self, sink: &mut W) -> Result<usize, WriteFault>

@@ -4,6 +4,7 @@ ghost use Rattle.std.specs.Prelude.{◌≡◌, IfSome, IfNone, bytes_eq};
 ghost use Rattle.std.specs.List.{list_any};
 ghost use Rattle.cil_specs.specs.TextFault.{TextFault, unsupported};
 ghost use Rattle.cil_specs.specs.Trees.{none};
+ghost use Rattle.cil_specs.specs.Shape.{holds_others as holds};
 ghost use Rattle.cil_specs.specs.Next.{compiled_words, has_self, is_later, IsLaterFault, IsFirstLaterFault};
 ghost use Rattle.cil_text.specs.Image.{place_of, tree_then, trees_of};
 ghost use Rattle.cil_store.specs.Later.{later_word, word_option};
@@ -15,6 +16,7 @@ fn is_compiled_word(text: &[u8]) -> bool
     ensures { result ≡ list_any (bytes_eq text.now) compiled_words }
 {
     text == b"block".as_slice()
+        || text == b"optional".as_slice()
         || text == b"type".as_slice()
         || text == b"typealias".as_slice()
         || text == b"typealiasactual".as_slice()
@@ -24,6 +26,13 @@ fn is_compiled_word(text: &[u8]) -> bool
         || text == b"classcommon".as_slice()
         || text == b"classorder".as_slice()
         || text == b"allow".as_slice()
+}
+
+/// Whether a statement of this first word has statements inside.
+fn holds_others(text: &[u8]) -> bool
+    ensures { result ≡ holds text.now }
+{
+    text == b"block".as_slice() || text == b"optional".as_slice()
 }
 
 fn is_self<A: Allocator>(tree: &Tree<A>) -> bool
@@ -54,7 +63,8 @@ fn is_later<A: Allocator>(keyword: &[u8], operands: &[Tree<A>]) -> bool
     !is_compiled_word(keyword) || (keyword == b"allow".as_slice() && has_self(operands))
 }
 
-/// The first word of a statement, if it isn't compiled yet; of a block also that of the first statement in it that isn't.
+/// The first word of a statement, if it isn't compiled yet; of a block or an optional also that of the first statement in it
+/// that isn't.
 #[cycle(later)]
 fn later_word<'a, A: Allocator>(tree: &Tree<'a, A>) -> Option<Word<'a>>
     ensures { word_option result ≡ later_word (tree_then tree.now none) }
@@ -70,7 +80,7 @@ fn later_word<'a, A: Allocator>(tree: &Tree<'a, A>) -> Option<Word<'a>>
     };
     if is_later(keyword.text, operands) {
         Some(*keyword)
-    } else if keyword.text == b"block".as_slice() {
+    } else if holds_others(keyword.text) {
         first_later_word(operands)
     } else {
         None
@@ -90,8 +100,8 @@ fn first_later_word<'a, A: Allocator>(trees: &[Tree<'a, A>]) -> Option<Word<'a>>
     None
 }
 
-/// The first word of the first statement that isn't compiled yet, in a block too. Compiled are blocks, types, aliases,
-/// attributes, commons, classes, and allow rules between two names; a list that is no statement is left to
+/// The first word of the first statement that isn't compiled yet, in a block or an optional too. Compiled are blocks, optionals,
+/// types, aliases, attributes, commons, classes, and allow rules between two names; a list that is no statement is left to
 /// `cil_text::shape`.
 pub fn first_later<'a, A: Allocator>(forest: &Forest<'a, A>) -> Option<Word<'a>>
     ensures some { IfSome result (λ w. IsFirstLaterFault (trees_of forest.now.trees.items) (record { kind = unsupported; at = place_of w.at; word = w.text.now })) }

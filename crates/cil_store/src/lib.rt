@@ -3,6 +3,7 @@
 
 mod call;
 mod compiled;
+mod dropped;
 mod edit;
 mod entry;
 mod join;
@@ -16,6 +17,7 @@ mod runs;
 
 pub use call::{Call, Reply};
 pub use compiled::{Compiled, WriteFault};
+pub use dropped::Dropped;
 pub use edit::Edit;
 pub use entry::Entry;
 pub use modules::Store;

@@ -6,9 +6,10 @@ ghost use Rattle.cil_specs.specs.Run.{Step, an_edit};
 ghost use Rattle.cil_specs.specs.Store.{empty};
 ghost use Rattle.cil_store.specs.Calls.{edit_reply};
 ghost use Rattle.cil_store.specs.Edits.{refusal_of};
-ghost use Rattle.cil_store.specs.Plain.{IsTableOf, IsRefused};
+ghost use Rattle.cil_store.specs.Plain.{IsCompiledTo, IsRefused};
 
 use crate::compiled::{Compiled, WriteFault};
+use crate::dropped::Dropped;
 use crate::edit::Edit;
 use crate::entry::Entry;
 use crate::join::join;
@@ -22,13 +23,14 @@ use cil_text::Sink;
 use std::alloc::{AllocError, Allocator, Global};
 use std::marker::Model;
 
-/// A store and the table of its accesses. At an edit the changed store is compiled anew, and its table put in place of the
-/// old one where nothing is against it.
+/// A store, the table of its accesses and the optionals that drop. At an edit the changed store is compiled anew, and what it
+/// compiles to put in place of the old where nothing is against it.
 #[derive(Drop)]
 pub struct Plain<A: Allocator = Global> {
     alloc: A,
     store: Store<A>,
     table: Table<A>,
+    dropped: Dropped<A>,
 }
 
 impl<A: Allocator> Model for Plain<A> {
@@ -39,7 +41,7 @@ impl<A: Allocator> Model for Plain<A> {
 
     ghost view = { λ p. p.store };
 
-    ghost invariant = { λ p. IsKept p.store p.table };
+    ghost invariant = { λ p. IsKept p.store p.table p.dropped };
 }
 
 impl<A: Allocator + Copy> Plain<A> {
@@ -51,14 +53,15 @@ impl<A: Allocator + Copy> Plain<A> {
             alloc,
             store: Store::new(alloc),
             table: Table::empty(alloc),
+            dropped: Dropped::empty(alloc),
         }
     }
 
-    /// The table of the store with one more module.
-    fn compile(&self, name: &[u8], text: &[u8]) -> Result<Table<A>, Refusal<A>>
+    /// The table of the store with one more module, and the optionals that drop.
+    fn compile(&self, name: &[u8], text: &[u8]) -> Result<(Table<A>, Dropped<A>), Refusal<A>>
         requires { length text.now ≤ 16777216 }
-        ensures good { IfOk result (λ table. HasGoodText (install name.now 400 text.now)) }
-        ensures table { IfOk result (λ table. IsTableOf (changed self.now (install name.now 400 text.now)) table) }
+        ensures good { IfOk result (λ _. HasGoodText (install name.now 400 text.now)) }
+        ensures compiled { IfOk result (λ made. IsCompiledTo (changed self.now (install name.now 400 text.now)) made.0 made.1) }
         ensures err { IfErr result (λ refusal. IsRefused self.now name.now text.now (refusal_of refusal)) }
     {
         let parsed = match parse(self.alloc, text) {
@@ -70,7 +73,9 @@ impl<A: Allocator + Copy> Plain<A> {
             Ok(resolved) => resolved,
             Err(fault) => return Err(refuse_policy(self.alloc, fault)),
         };
-        Ok(Table::of(self.alloc, resolved)?)
+        let dropped = Dropped::of(self.alloc, &resolved)?;
+        let table = Table::of(self.alloc, resolved)?;
+        Ok((table, dropped))
     }
 
     fn install(&mut self, name: &[u8], priority: u32, text: &[u8]) -> Result<Changes<A>, Refusal<A>>
@@ -79,7 +84,7 @@ impl<A: Allocator + Copy> Plain<A> {
         if let Err(fault) = check_install(name, priority, text.len()) {
             return Err(refuse_install(self.alloc, fault, name, priority));
         }
-        let table = self.compile(name, text)?;
+        let (table, dropped) = self.compile(name, text)?;
         let changes = Changes::between(self.alloc, &self.table, &table)?;
         self.store.put(
             self.alloc,
@@ -90,6 +95,7 @@ impl<A: Allocator + Copy> Plain<A> {
             },
         )?;
         self.table = table;
+        self.dropped = dropped;
         Ok(changes)
     }
 }
@@ -109,6 +115,10 @@ impl<A: Allocator + Copy> Compiled<A> for Plain<A> {
 
     fn rows(&self) -> Result<Rows<A>, AllocError> {
         self.table.rows(self.alloc)
+    }
+
+    fn dropped(&self) -> Result<Dropped<A>, AllocError> {
+        self.dropped.copied(self.alloc)
     }
 
     fn write_listing<W: Sink>(&self, sink: &mut W) -> Result<usize, WriteFault> {

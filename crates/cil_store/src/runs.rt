@@ -22,6 +22,10 @@ fn answer<A: Allocator + Copy, C: Compiled<A>>(engine: &mut C, call: Call<'_>) -
             Ok(rows) => Reply::Rows(rows),
             Err(_) => Reply::Refused(Refusal::Memory),
         },
+        Call::Dropped => match engine.dropped() {
+            Ok(dropped) => Reply::Dropped(dropped),
+            Err(_) => Reply::Refused(Refusal::Memory),
+        },
     }
 }
 

@@ -1,7 +1,7 @@
 //! The statements of a whole text.
 
-ghost use Rattle.std.specs.Prelude.{IsTrue};
-ghost use Rattle.cil_specs.specs.Statements.{word_offsets, rise_from};
+ghost use Rattle.std.specs.Prelude.{IsTrue, false};
+ghost use Rattle.cil_specs.specs.Statements.{statement_offsets, are_apart, rise_from};
 ghost use Rattle.cil_text.specs.Image.{statements_of};
 
 use crate::statement::Statement;
@@ -11,6 +11,8 @@ use std::alloc::{Allocator, Global};
 #[derive(Debug, Drop)]
 pub struct Module<'a, A: Allocator = Global> {
     pub statements: Vec<Statement<'a, A>, A>,
-    /// Its words stand one behind the other.
-    pub ghost ordered: { IsTrue (rise_from 0 (word_offsets (statements_of statements.items))) },
+    /// The statements and their words stand one behind the other.
+    pub ghost ordered: { IsTrue (rise_from 0 (statement_offsets (statements_of statements.items))) },
+    /// Blocks, classes, commons and what is said of them stand in no optional.
+    pub ghost apart: { IsTrue (are_apart false (statements_of statements.items)) },
 }

@@ -21,6 +21,7 @@ pub enum ScriptLine<'a> {
         len: u32,
     },
     Rules,
+    Dropped,
 }
 
 /// What std reads as a number, leading zeros and a plus too.
@@ -122,6 +123,9 @@ pub fn script_line<'a>(line: &'a [u8]) -> Option<ScriptLine<'a>>
 {
     if is_word(line, b"rules") {
         return Some(ScriptLine::Rules);
+    }
+    if is_word(line, b"dropped") {
+        return Some(ScriptLine::Dropped);
     }
     let Some((first, rest)) = split_word(line) else {
         return None;

@@ -3,14 +3,17 @@
 ghost use Rattle.std.specs.Prelude.{◌≡◌, ◌+◌, ◌≤◌, flat_map, OnOk, OnErr};
 ghost use Rattle.cil_specs.specs.Device.{HasFailed, Gains, GainsFront};
 ghost use Rattle.cil_specs.specs.Next.{by_store, at_place, for_memory};
+ghost use Rattle.cil_specs.specs.Report.{dropped_line};
 ghost use Rattle.cil_specs.specs.Script.{refusal_line, answer, last_line, stops};
-ghost use Rattle.cil_specs.specs.Run.{changed_by};
+ghost use Rattle.cil_specs.specs.Run.{changed_by, dropped_optionals};
 ghost use Rattle.cil_text.specs.Image.{place_of};
+ghost use Rattle.cil_names.specs.Views.{declared_seen};
 ghost use Rattle.cil_store.specs.Edits.{refusal_of};
 ghost use Rattle.cil_program.specs.Replies.{end_line};
 
+use cil_names::NameView;
 use cil_rules::Changes;
-use cil_store::Refusal;
+use cil_store::{Dropped, Refusal};
 use cil_text::{Place, Sink, SinkFault, write_all, write_pieces};
 use itoa::Buffer;
 use std::alloc::Allocator;
@@ -48,6 +51,62 @@ pub fn write_end<W: Sink>(sink: &mut W, rows: usize) -> Result<(), SinkFault>
 {
     let mut digits = Buffer::new();
     write_pieces(sink, &[b"end ", digits.format(rows).as_bytes(), b"\n"])
+}
+
+/// Writes the line of an optional that drops.
+fn write_optional<W: Sink>(sink: &mut W, optional: NameView<'_>) -> Result<(), SinkFault>
+    ensures ok { OnOk result (Gains (W.taken sink.old) (W.taken sink.new) (dropped_line (declared_seen optional.entry))) }
+    ensures err { OnErr result (GainsFront (W.taken sink.old) (W.taken sink.new) (dropped_line (declared_seen optional.entry))) }
+    ensures failed { OnErr result (HasFailed (W.failures sink.old) (W.failures sink.new)) }
+    ensures counted { W.failures sink.old ≤ W.failures sink.new }
+{
+    let mut line_digits = Buffer::new();
+    let mut column_digits = Buffer::new();
+    write_pieces(
+        sink,
+        &[
+            optional.module,
+            b":",
+            line_digits.format(optional.at.line).as_bytes(),
+            b":",
+            column_digits.format(optional.at.column).as_bytes(),
+            b" ",
+            optional.name,
+            b"\n",
+        ],
+    )
+}
+
+/// Writes the lines of the optionals that drop.
+fn write_optionals<W: Sink, A: Allocator>(
+    sink: &mut W,
+    dropped: &Dropped<A>,
+) -> Result<(), SinkFault>
+    ensures ok { OnOk result (Gains (W.taken sink.old) (W.taken sink.new) (flat_map dropped_line dropped.now)) }
+    ensures err { OnErr result (GainsFront (W.taken sink.old) (W.taken sink.new) (flat_map dropped_line dropped.now)) }
+    ensures failed { OnErr result (HasFailed (W.failures sink.old) (W.failures sink.new)) }
+    ensures counted { W.failures sink.old ≤ W.failures sink.new }
+{
+    for i in 0..dropped.len() {
+        if let Some(optional) = dropped.get(i) {
+            write_optional(sink, optional)?;
+        }
+    }
+    Ok(())
+}
+
+/// Writes which optionals drop.
+pub fn write_dropped<W: Sink, A: Allocator>(
+    sink: &mut W,
+    dropped: &Dropped<A>,
+) -> Result<(), SinkFault>
+    ensures ok { OnOk result (Gains (W.taken sink.old) (W.taken sink.new) (answer (dropped_optionals dropped.now))) }
+    ensures err { OnErr result (GainsFront (W.taken sink.old) (W.taken sink.new) (answer (dropped_optionals dropped.now))) }
+    ensures failed { OnErr result (HasFailed (W.failures sink.old) (W.failures sink.new)) }
+    ensures counted { W.failures sink.old ≤ W.failures sink.new }
+{
+    write_optionals(sink, dropped)?;
+    write_end(sink, dropped.len())
 }
 
 /// Writes that a script is none from the line behind so many line feeds.

@@ -2,7 +2,7 @@
 
 ghost use Rattle.std.specs.Prelude.{◌≡◌, ◌≢◌, ◌≤◌, [], List, ℕ, IfOk, OnOk, OnErr, IsErrOf, IsTrue};
 ghost use Rattle.cil_specs.specs.Device.{HasFailed, Gains};
-ghost use Rattle.cil_specs.specs.Run.{an_edit, ask_rows};
+ghost use Rattle.cil_specs.specs.Run.{an_edit, ask_rows, ask_dropped};
 ghost use Rattle.cil_specs.specs.Script.{refusal_line};
 ghost use Rattle.cil_specs.specs.Session.{IsSession};
 ghost use Rattle.cil_store.specs.Edits.{edit_of, store_refusal_of};
@@ -24,7 +24,7 @@ use thiserror::Error;
 /// How a session ended.
 #[derive(Clone, Copy, Debug, PartialEq, Eq)]
 pub enum Status {
-    /// At the end of the script, with each edit accepted.
+    /// At the end of the script, with no refusal among the answers.
     Clean,
     /// At the end of the script, with a refusal among the answers.
     Refused,
@@ -92,6 +92,28 @@ fn answer_rows<W: Sink, A: Allocator + Copy, C: Compiled<A>>(
             Ok(Outcome::Refused)
         }
         Err(WriteFault::Sink) => Err(SinkFault),
+    }
+}
+
+/// Answers the question for the optionals that drop.
+fn answer_dropped<W: Sink, A: Allocator + Copy, C: Compiled<A>>(
+    sink: &mut W,
+    engine: &C,
+) -> Result<Outcome, SinkFault>
+    ensures ok { IfOk result (λ outcome. HasAnswered ask_dropped outcome (record { store = C.store engine.now; taken = W.taken sink.old })
+        (record { store = C.store engine.now; taken = W.taken sink.new })) }
+    ensures failed { OnErr result (HasFailed (W.failures sink.old) (W.failures sink.new)) }
+    ensures counted { W.failures sink.old ≤ W.failures sink.new }
+{
+    match engine.dropped() {
+        Ok(dropped) => {
+            reply::write_dropped(sink, &dropped)?;
+            Ok(Outcome::Accepted)
+        }
+        Err(_) => {
+            reply::write_no_memory(sink)?;
+            Ok(Outcome::Refused)
+        }
     }
 }
 
@@ -216,6 +238,7 @@ fn answer_line<S: Source, W: Sink, A: Allocator + Copy, C: Compiled<A>>(
     };
     match asked {
         ScriptLine::Rules => Ok(answer_rows(sink, engine)?),
+        ScriptLine::Dropped => Ok(answer_dropped(sink, engine)?),
         ScriptLine::Install {
             name,
             priority,

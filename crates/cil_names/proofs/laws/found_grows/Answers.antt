@@ -1,4 +1,4 @@
-use Rattle.cil_names.proofs.GrowsLemmas.{leads-grows}
+use Rattle.cil_specs.proofs.GrowsLemmas.{leads-grows}
 use Rattle.cil_names.proofs.laws.found_grows.Goals as goal
 
 pub returns : goal.returns

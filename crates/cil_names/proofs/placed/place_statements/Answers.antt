@@ -3,10 +3,12 @@ use Rattle.std.proofs.lemmas.List.{take_all}
 use Rattle.cil_specs.specs.Joined.{placed, joined}
 use Rattle.cil_specs.specs.Next.{is_plain}
 use Rattle.cil_text.specs.Image.{statements_of}
+use Rattle.cil_names.specs.Extends.{Extends}
 use Rattle.cil_names.specs.Flat.{AreFlat}
 use Rattle.cil_names.specs.Image.{module_of}
-use Rattle.cil_names.specs.Placed.{Extends}
+use Rattle.cil_names.specs.Nested.{erased, chains_of}
 use Rattle.cil_names.specs.declared.placed.Flat.{Flat}
+use Rattle.cil_names.proofs.NestedLemmas.{erased-nested}
 use Rattle.cil_names.proofs.PlacedLemmas.{module-plain, placed-module, policy-flat}
 use Rattle.cil_names.proofs.placed.place_statements.Goals as goal
 
@@ -24,14 +26,16 @@ loop-number-preserved g c =
     let i = c.loop-number.number in
     let m = c.named-item.result in
     let flat = c.loop-number.flat in
-    let mid : Flat g.row.A.Denot = record { modules = c.push.new.self; spaces = flat.spaces; statements = flat.statements } in
+    let mid : Flat g.row.A.Denot = record { modules = c.push.new.self; spaces = flat.spaces; optionals = flat.optionals; statements = flat.statements } in
     placed-module modules i m flat mid c.place.new.self (search rules) (c.named-item.is ∙ ap (λ l. get_or l i m) c.deref-named-items.ensures.value) c.loop-number.invariant
-    c.in_ok-push.ensures.items refl refl
-    (subst (λ l. Extends mid c.place.new.self i m.name.now (placed m.name.now (get_or flat.spaces 0 []) [] (statements_of l))) c.deref.ensures.value c.in_ok-place.ensures)
+    c.in_ok-push.ensures.items refl refl refl
+    (subst (λ l. Extends mid c.place.new.self i m.name.now (placed m.name.now (get_or flat.spaces 0 []) (get_or (chains_of flat.statements.items) 0 []) (statements_of l))) c.deref.ensures.value c.in_ok-place.ensures)
 
 pub returns-clause-flat : goal.returns-clause-flat
 returns-clause-flat g c =
     let modules = c.args.joined.now.modules.items in
     let i = c.loop-number.number in
+    let flat = c.loop-number.flat in
     let past : length modules ≤ i = search rules in
-    subst AreFlat (sym (c.loop-number.invariant.policy ∙ ap (λ l. joined (map module_of l)) (take_all i modules past))) (policy-flat c.args.joined.now c.requires.plain)
+    let whole = c.loop-number.invariant.policy ∙ ap (λ l. joined (map module_of l)) (take_all i modules past) in
+    subst AreFlat (sym (ap (map erased) whole) ∙ erased-nested flat.spaces (chains_of flat.statements.items) flat.statements.items) (policy-flat c.args.joined.now c.requires.plain)

@@ -1,5 +1,6 @@
 use Rattle.std.proofs.lemmas.Result.{err_from_is_err_and}
-use Rattle.cil_specs.specs.Next.{every_optional, IsFirstAttributeFault, IsRefusedFor, first_attribute}
+use Rattle.cil_specs.specs.Lookup.{every_optional}
+use Rattle.cil_specs.specs.Next.{IsFirstAttributeFault, IsRefusedFor, first_attribute}
 use Rattle.cil_names.specs.Image.{PolicyFaultIs}
 use Rattle.cil_names.specs.Policy.{policy_in}
 use Rattle.cil_names.proofs.FaultLemmas.{found-weaker}

@@ -1,5 +1,6 @@
-use Rattle.std.proofs.Common.{◌+◌, ◌-◌, length, take, drop, codes, bytes_eq, ap, sym, refl, ◌∙◌}
+use Rattle.std.proofs.Common.{◌+◌, ◌-◌, length, take, drop, ap, sym, refl, ◌∙◌}
 use Rattle.std.specs.Option.{option_or}
+use Rattle.cil_specs.specs.Shape.{holds_others}
 use Rattle.cil_text.specs.Image.{place_of, word_of, trees_of}
 use Rattle.cil_store.specs.Later.{later_word, word_option}
 use Rattle.cil_store.proofs.LaterLemmas.{word_by, later_of_list, none_at_no_tree, none_at_no_word, later_at_word, later_from}
@@ -39,30 +40,28 @@ later_word-returns-then-is_later g t c =
     let list = c.in-List in
     let items = c.as_slice.result.now in
     let keyword = c.in-Word.keyword in
-    let is_block = bytes_eq keyword.text.now (codes "block") in
+    let holds = holds_others keyword.text.now in
     let inner = later_word (trees_of (take (length items - 1) (drop 1 items))) in
     sym (later_of_list c.args.tree.now list.at list.end list.items items list.is c.as_slice.ensures.value
-    ∙ later_at_word (place_of list.at) list.end items c.first-item.result keyword c.is_later.result is_block inner c.in-len1-up.len_at_least c.first-item.is c.in-Word.is c.is_later.ensures refl refl
-    ∙ ap (λ later. word_by later is_block (word_of keyword) inner) c.if-is_later.true)
+    ∙ later_at_word (place_of list.at) list.end items c.first-item.result keyword c.is_later.result holds inner c.in-len1-up.len_at_least c.first-item.is c.in-Word.is c.is_later.ensures refl refl
+    ∙ ap (λ later. word_by later holds (word_of keyword) inner) c.if-is_later.true)
 
-pub later_word-returns-then-eq : goal.later_word-returns-then-eq
-later_word-returns-then-eq g t c =
+pub later_word-returns-then-holds_others : goal.later_word-returns-then-holds_others
+later_word-returns-then-holds_others g t c =
     let list = c.in-List in
     let items = c.as_slice.result.now in
     let keyword = c.in-Word.keyword in
-    let blocks = c.eq.ensures ∙ ap (bytes_eq keyword.text.now) c.as_slice-else-is_later.ensures in
     sym (later_of_list c.args.tree.now list.at list.end list.items items list.is c.as_slice.ensures.value
-    ∙ later_at_word (place_of list.at) list.end items c.first-item.result keyword c.is_later.result c.eq.result (word_option c.first_later_word.result) c.in-len1-up.len_at_least c.first-item.is c.in-Word.is c.is_later.ensures blocks
+    ∙ later_at_word (place_of list.at) list.end items c.first-item.result keyword c.is_later.result c.holds_others.result (word_option c.first_later_word.result) c.in-len1-up.len_at_least c.first-item.is c.in-Word.is c.is_later.ensures c.holds_others.ensures
     c.first_later_word.ensures
-    ∙ (λ i. word_by (c.if-is_later.false i) (c.if-eq.true i) (word_of keyword) (word_option c.first_later_word.result)))
+    ∙ (λ i. word_by (c.if-is_later.false i) (c.if-holds_others.true i) (word_of keyword) (word_option c.first_later_word.result)))
 
-pub later_word-returns-else-eq : goal.later_word-returns-else-eq
-later_word-returns-else-eq g t c =
+pub later_word-returns-else-holds_others : goal.later_word-returns-else-holds_others
+later_word-returns-else-holds_others g t c =
     let list = c.in-List in
     let items = c.as_slice.result.now in
     let keyword = c.in-Word.keyword in
-    let blocks = c.eq.ensures ∙ ap (bytes_eq keyword.text.now) c.as_slice-else-is_later.ensures in
     let inner = later_word (trees_of (take (length items - 1) (drop 1 items))) in
     sym (later_of_list c.args.tree.now list.at list.end list.items items list.is c.as_slice.ensures.value
-    ∙ later_at_word (place_of list.at) list.end items c.first-item.result keyword c.is_later.result c.eq.result inner c.in-len1-up.len_at_least c.first-item.is c.in-Word.is c.is_later.ensures blocks refl
-    ∙ (λ i. word_by (c.if-is_later.false i) (c.if-eq.false i) (word_of keyword) inner))
+    ∙ later_at_word (place_of list.at) list.end items c.first-item.result keyword c.is_later.result c.holds_others.result inner c.in-len1-up.len_at_least c.first-item.is c.in-Word.is c.is_later.ensures c.holds_others.ensures refl
+    ∙ (λ i. word_by (c.if-is_later.false i) (c.if-holds_others.false i) (word_of keyword) inner))

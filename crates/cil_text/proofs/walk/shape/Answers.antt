@@ -1,8 +1,8 @@
 use Rattle.std.proofs.Common.{subst, false}
-use Rattle.cil_specs.specs.Statements.{word_offsets}
+use Rattle.cil_specs.specs.Statements.{statement_offsets}
 use Rattle.cil_specs.specs.Shape.{Shapes, IsFirstShapeFault}
 use Rattle.cil_specs.proofs.OrderLemmas.{rise_from_is}
-use Rattle.cil_specs.proofs.ShapeLemmas.{shapes_rise}
+use Rattle.cil_specs.proofs.ShapeLemmas.{shapes_rise, shapes_apart}
 use Rattle.cil_text.specs.Image.{trees_of, statements_of, FaultIs}
 use Rattle.cil_text.specs.Walk.{IsFirstAmong}
 use Rattle.cil_text.proofs.FirstBad.{handed_on, fault_weaker}
@@ -21,4 +21,4 @@ invariant_of-result g c =
     let trees = trees_of c.args.forest.trees.items in
     let statements = statements_of c.in_ok-statements.statements.items in
     let shapes = subst (λ items. Shapes false (trees_of items) statements) c.deref.ensures.value c.in_ok-statements.ensures.ok in
-    record { ordered = rise_from_is 0 (word_offsets statements) 16777216 (shapes_rise statements false trees 0 16777216 shapes c.args.forest.ordered) }
+    record { ordered = rise_from_is 0 (statement_offsets statements) 16777216 (shapes_rise statements false trees 0 16777216 shapes c.args.forest.ordered); apart = shapes_apart statements false trees shapes }

@@ -1,5 +1,5 @@
 use Rattle.std.proofs.Common.{None, Some, ap, refl, subst}
-use Rattle.cil_specs.specs.Next.{every_optional}
+use Rattle.cil_specs.specs.Lookup.{every_optional}
 use Rattle.cil_names.specs.Placed.{placed_of}
 use Rattle.cil_names.specs.Policy.{policy_in, IsLead}
 use Rattle.cil_names.specs.Gifts.{first_at, gift_table, given_lead, HasFirstsOf}

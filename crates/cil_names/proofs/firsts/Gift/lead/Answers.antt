@@ -1,7 +1,6 @@
 use Rattle.std.proofs.Common.{subst}
 use Rattle.std.specs.Option.{option_and_then}
-use Rattle.cil_specs.specs.Lookup.{leads}
-use Rattle.cil_specs.specs.Next.{every_optional}
+use Rattle.cil_specs.specs.Lookup.{leads, every_optional}
 use Rattle.cil_names.specs.Policy.{namespace_at, policy_in, IsLead}
 use Rattle.cil_names.specs.Gifts.{gift_table}
 use Rattle.cil_names.proofs.firsts.Gift.lead.Goals as goal

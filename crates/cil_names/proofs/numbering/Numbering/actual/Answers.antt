@@ -1,8 +1,7 @@
 use Rattle.std.proofs.Common.{◌≡◌, ◌∙◌, ◌<◌, sym, ap, length, slice_get, is_some, subst}
 use Rattle.std.specs.Option.{option_and_then}
 use Rattle.std.proofs.lemmas.Option.{same_Some}
-use Rattle.cil_specs.specs.Lookup.{types, holds_of, is_type, actual_in, actual_of}
-use Rattle.cil_specs.specs.Next.{every_optional}
+use Rattle.cil_specs.specs.Lookup.{types, holds_of, is_type, actual_in, actual_of, every_optional}
 use Rattle.cil_names.specs.Policy.{policy_in}
 use Rattle.cil_names.proofs.ElementLemmas.{actual-at, lead-some, lead-get}
 use Rattle.cil_names.proofs.numbering.Numbering.actual.Goals as goal

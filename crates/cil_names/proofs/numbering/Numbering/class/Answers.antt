@@ -1,6 +1,5 @@
 use Rattle.std.proofs.Common.{◌∙◌, sym, ap, option_map}
-use Rattle.cil_specs.specs.Lookup.{classes, holds_of, leads}
-use Rattle.cil_specs.specs.Next.{every_optional}
+use Rattle.cil_specs.specs.Lookup.{classes, holds_of, leads, every_optional}
 use Rattle.cil_names.specs.FullNames.{full_name_of}
 use Rattle.cil_names.specs.Numbering.{is_numbered}
 use Rattle.cil_names.specs.Policy.{namespace_at, policy_in}

@@ -1,6 +1,5 @@
 use Rattle.std.proofs.Common.{sym, subst}
-use Rattle.cil_specs.specs.Lookup.{types, leads}
-use Rattle.cil_specs.specs.Next.{every_optional}
+use Rattle.cil_specs.specs.Lookup.{types, leads, every_optional}
 use Rattle.cil_names.specs.Policy.{namespace_at, policy_in}
 use Rattle.cil_names.proofs.LeadLemmas.{LeadsIn, leads-in}
 use Rattle.cil_names.proofs.ElementLemmas.{lead-get, kind-some}

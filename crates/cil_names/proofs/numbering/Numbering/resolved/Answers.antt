@@ -4,8 +4,8 @@ use Rattle.cil_names.specs.Resolved.{declared_of, class_of, rule_of}
 use Rattle.cil_names.proofs.MadeLemmas.{types-made, attributes-made}
 use Rattle.cil_names.proofs.numbering.Numbering.resolved.Goals as goal
 
-pub returns : goal.returns
-returns g c =
+pub returns-clause-contents : goal.returns-clause-contents
+returns-clause-contents g c =
     let policy = policy_in c.args.self.now.resolution.now.policy in
     let modules = c.in_ok-module_names.ensures in
     let names = c.in_ok-to_texts.ensures in

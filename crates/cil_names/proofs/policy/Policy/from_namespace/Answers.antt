@@ -1,8 +1,7 @@
 use Rattle.std.proofs.Common.{ap, sym, ◌∙◌, subst}
 use Rattle.std.specs.List.{slice_split}
 use Rattle.std.specs.Option.{option_and_then}
-use Rattle.cil_specs.specs.Lookup.{inside, from_namespace}
-use Rattle.cil_specs.specs.Next.{every_optional}
+use Rattle.cil_specs.specs.Lookup.{inside, from_namespace, every_optional}
 use Rattle.cil_names.specs.Policy.{namespace_at, policy_in, table_of, IsLead}
 use Rattle.cil_names.proofs.LookupLemmas.{is_dot, no-lead, from-more}
 use Rattle.cil_names.proofs.policy.Policy.from_namespace.Goals as goal

@@ -1,7 +1,6 @@
 use Rattle.std.proofs.Common.{ap, sym, ◌∙◌, subst}
 use Rattle.std.specs.List.{slice_split}
-use Rattle.cil_specs.specs.Lookup.{inside}
-use Rattle.cil_specs.specs.Next.{every_optional}
+use Rattle.cil_specs.specs.Lookup.{inside, every_optional}
 use Rattle.cil_names.specs.Policy.{namespace_at, policy_in, table_of, IsLead}
 use Rattle.cil_names.proofs.LookupLemmas.{declaration-lead, no-lead, has_block-true, has_block-false, inside-next, inside-stop, is_dot}
 use Rattle.cil_names.proofs.policy.Policy.inside.Goals as goal

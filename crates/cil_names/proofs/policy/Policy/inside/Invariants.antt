@@ -1,7 +1,6 @@
 use Rattle.std.proofs.Common.{◌≡◌, ◌<◌, length}
 use Rattle.std.specs.List.{slice_split}
-use Rattle.cil_specs.specs.Lookup.{inside}
-use Rattle.cil_specs.specs.Next.{every_optional}
+use Rattle.cil_specs.specs.Lookup.{inside, every_optional}
 use Rattle.cil_names.specs.Policy.{namespace_at, policy_in, table_of}
 use Rattle.cil_names.proofs.LookupLemmas.{is_dot}
 use Rattle.cil_names.proofs.policy.Policy.inside.Given as goal

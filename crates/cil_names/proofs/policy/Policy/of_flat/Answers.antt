@@ -2,13 +2,13 @@ use Rattle.std.proofs.Common.{◌≡◌, ◌∙◌, ◌<◌, ◌≤◌, length, 
 use Rattle.std.specs.Option.{option_map}
 use Rattle.std.proofs.lemmas.List.{take_all}
 use Rattle.cil_specs.specs.PolicyFault.{twice, IsFaultOf}
-use Rattle.cil_specs.specs.Next.{every_optional}
+use Rattle.cil_specs.specs.Lookup.{every_optional}
 use Rattle.cil_text.specs.Image.{word_of}
 use Rattle.cil_names.specs.Flat.{IsLeast}
 use Rattle.cil_names.specs.Placed.{placed_of, policy_of}
 use Rattle.cil_names.specs.Policy.{HasDeclared, IsTaken}
 use Rattle.cil_names.proofs.FaultLemmas.{found-weaker}
-use Rattle.cil_names.proofs.DeclareLemmas.{taken-at, declared-next, once-next, twice-least, twice-none}
+use Rattle.cil_names.proofs.DeclareLemmas.{declared-next, once-below, once-next, twice-least, twice-none}
 use Rattle.cil_names.proofs.policy.Policy.of_flat.Goals as goal
 
 pub returns-in-Some-clause-err : goal.returns-in-Some-clause-err
@@ -18,9 +18,8 @@ returns-in-Some-clause-err g c =
     let p = c.placed-item.result in
     let within : i < length flat.statements.items = search rules in
     let is : p ≡ get_or flat.statements.items i p = c.placed-item.is ∙ ap (λ l. get_or l i p) c.deref-placed-items.ensures.value in
-    let taken = taken-at flat i p c.loop-i.declared.entries c.declare.new.declared.entries (option_map word_of c.in_ok-id.field-0) c.requires within is c.loop-i.invariant.declared c.in_ok-id.ensures in
     let least = twice-least flat i p c.declare.new.declared.entries (word_of c.in-Some.id) c.requires within is c.loop-i.invariant.none
-    (subst (IsTaken flat.spaces (policy_of flat.spaces (take i flat.statements.items)) (placed_of flat.spaces p) c.declare.new.declared.entries) (ap (option_map word_of) c.in-Some.is) taken) in
+    (subst (IsTaken flat.spaces (policy_of flat.spaces (take i flat.statements.items)) (placed_of flat.spaces p) c.declare.new.declared.entries) (ap (option_map word_of) c.in-Some.is) c.in_ok-id.ensures) in
     found-weaker c.fault.result _ (IsLeast (IsFaultOf twice every_optional (policy_of flat.spaces flat.statements.items)))
     (λ f made. subst (IsLeast (IsFaultOf twice every_optional (policy_of flat.spaces flat.statements.items))) (sym (made flat.spaces)) least) c.fault.ensures
 
@@ -31,8 +30,7 @@ loop-i-preserved g c =
     let p = c.placed-item.result in
     let within : i < length flat.statements.items = search rules in
     let is : p ≡ get_or flat.statements.items i p = c.placed-item.is ∙ ap (λ l. get_or l i p) c.deref-placed-items.ensures.value in
-    let taken = taken-at flat i p c.loop-i.declared.entries c.declare.new.declared.entries (option_map word_of c.in_ok-id.field-0) c.requires within is c.loop-i.invariant.declared c.in_ok-id.ensures in
-    let nothing = subst (IsTaken flat.spaces (policy_of flat.spaces (take i flat.statements.items)) (placed_of flat.spaces p) c.declare.new.declared.entries) (ap (option_map word_of) c.in_default.is) taken in
+    let nothing = subst (IsTaken flat.spaces (policy_of flat.spaces (take i flat.statements.items)) (placed_of flat.spaces p) c.declare.new.declared.entries) (ap (option_map word_of) c.in_default.is) c.in_ok-id.ensures in
     record {
       declared = declared-next flat i p c.declare.new.declared.entries within is nothing;
       none = once-next flat i p c.declare.new.declared.entries within is c.loop-i.invariant.none nothing;
@@ -55,3 +53,6 @@ pub returns-clause-once : goal.returns-clause-once
 returns-clause-once g c =
     let past : length c.args.flat.statements.items ≤ c.loop-i.i = search rules in
     twice-none c.args.flat c.loop-i.i past c.loop-i.invariant.none
+
+pub declare-requires-clause-once : goal.declare-requires-clause-once
+declare-requires-clause-once g c = once-below c.args.flat c.loop-i.i c.loop-i.invariant.none

@@ -1,6 +1,6 @@
 use Rattle.std.proofs.Common.{take}
 use Rattle.cil_specs.specs.PolicyFault.{twice}
-use Rattle.cil_specs.specs.Next.{every_optional}
+use Rattle.cil_specs.specs.Lookup.{every_optional}
 use Rattle.cil_names.specs.Placed.{policy_of}
 use Rattle.cil_names.specs.Policy.{HasDeclared}
 use Rattle.cil_names.proofs.LeastLemmas.{NoneFaultyBelow}

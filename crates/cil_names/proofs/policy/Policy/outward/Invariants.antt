@@ -1,6 +1,5 @@
 use Rattle.std.proofs.Common.{◌≡◌, ◌<◌, length}
-use Rattle.cil_specs.specs.Lookup.{outward}
-use Rattle.cil_specs.specs.Next.{every_optional}
+use Rattle.cil_specs.specs.Lookup.{outward, every_optional}
 use Rattle.cil_names.specs.Policy.{namespace_at, policy_in, table_of}
 use Rattle.cil_names.proofs.policy.Policy.outward.Given as goal
 

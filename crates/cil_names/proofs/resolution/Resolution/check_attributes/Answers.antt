@@ -1,6 +1,7 @@
 use Rattle.std.proofs.Common.{◌≤◌, length, arith}
 use Rattle.cil_specs.specs.PolicyFault.{wrong_kind}
-use Rattle.cil_specs.specs.Next.{every_optional, IsFirstAttributeFault}
+use Rattle.cil_specs.specs.Lookup.{every_optional}
+use Rattle.cil_specs.specs.Next.{IsFirstAttributeFault}
 use Rattle.cil_text.specs.Image.{word_of}
 use Rattle.cil_names.specs.Placed.{placed_of}
 use Rattle.cil_names.specs.Policy.{policy_in}

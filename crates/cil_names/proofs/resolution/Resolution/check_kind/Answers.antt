@@ -1,6 +1,6 @@
 use Rattle.std.proofs.Common.{◌≤◌, length, arith}
 use Rattle.cil_specs.specs.PolicyFault.{IsFaultOf}
-use Rattle.cil_specs.specs.Next.{every_optional}
+use Rattle.cil_specs.specs.Lookup.{every_optional}
 use Rattle.cil_text.specs.Image.{word_of}
 use Rattle.cil_names.specs.Flat.{IsLeast}
 use Rattle.cil_names.specs.Image.{policy_kind_of}

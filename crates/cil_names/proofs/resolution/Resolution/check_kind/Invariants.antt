@@ -1,4 +1,4 @@
-use Rattle.cil_specs.specs.Next.{every_optional}
+use Rattle.cil_specs.specs.Lookup.{every_optional}
 use Rattle.cil_names.specs.Image.{policy_kind_of}
 use Rattle.cil_names.specs.Policy.{policy_in}
 use Rattle.cil_names.proofs.LeastLemmas.{NoneFaultyBelow}

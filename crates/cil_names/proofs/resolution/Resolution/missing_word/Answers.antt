@@ -1,9 +1,8 @@
 use Rattle.std.proofs.Common.{map, option_map, sym, ap, ◌∙◌}
 use Rattle.std.specs.List.{find}
 use Rattle.cil_specs.specs.Names.{Word}
-use Rattle.cil_specs.specs.Lookup.{classes}
+use Rattle.cil_specs.specs.Lookup.{classes, every_optional}
 use Rattle.cil_specs.specs.PolicyFault.{is_unfound}
-use Rattle.cil_specs.specs.Next.{every_optional}
 use Rattle.cil_text.specs.Image.{word_of, target_of, rule_kind_of}
 use Rattle.cil_names.specs.Placed.{form_of}
 use Rattle.cil_names.specs.Policy.{policy_in, namespace_at}

@@ -1,6 +1,6 @@
 use Rattle.std.proofs.Common.{map, filter, slice_get, option_map, sym, ap, ◌∙◌}
 use Rattle.cil_specs.specs.PolicyFault.{is_unset, element_words}
-use Rattle.cil_specs.specs.Next.{every_optional}
+use Rattle.cil_specs.specs.Lookup.{every_optional}
 use Rattle.cil_text.specs.Image.{word_of, rule_kind_of}
 use Rattle.cil_text.specs.declared.statement.Statement.{Rule}
 use Rattle.cil_names.specs.Placed.{form_of}

@@ -1,6 +1,6 @@
 use Rattle.std.proofs.Common.{map, filter, slice_get, option_map, sym, ap, ◌∙◌}
 use Rattle.cil_specs.specs.PolicyFault.{is_of_another_kind, kinds_asked}
-use Rattle.cil_specs.specs.Next.{every_optional}
+use Rattle.cil_specs.specs.Lookup.{every_optional}
 use Rattle.cil_text.specs.Image.{word_of}
 use Rattle.cil_names.specs.Placed.{form_of}
 use Rattle.cil_names.specs.Policy.{policy_in, namespace_at}

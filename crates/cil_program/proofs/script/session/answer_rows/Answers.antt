@@ -1,4 +1,4 @@
-use Rattle.std.proofs.Common.{Err, ◌≡◌, ◌∙◌, ◌++◌, List, ℕ, Option, length, codes, decimal, flat_map, refl, ap, sym, subst, append_assoc}
+use Rattle.std.proofs.Common.{Err, ◌≡◌, ◌∙◌, ◌++◌, List, ℕ, Option, length, flat_map, refl, ap, subst}
 use Rattle.cil_specs.specs.Device.{Gains}
 use Rattle.cil_specs.specs.Report.{Row, row_line}
 use Rattle.cil_specs.specs.Next.{for_memory}
@@ -6,14 +6,12 @@ use Rattle.cil_specs.specs.Run.{refused, listed}
 use Rattle.cil_specs.specs.Script.{answer, refusal_line}
 use Rattle.cil_specs.proofs.Gaining.{gains-both}
 use Rattle.cil_program.specs.Replies.{end_line}
+use Rattle.cil_program.proofs.ReplyLemmas.{with-end}
 use Rattle.cil_program.proofs.script.session.answer_rows.Goals as goal
 
 -- the rows and then the last line are the answer
 listing : (old mid new : Option (List ℕ)) (rows : List Row) (n : ℕ) → n ≡ length rows → Gains old mid (flat_map row_line rows) → Gains mid new (end_line n) → Gains old new (answer (listed rows))
-listing old mid new rows n is a b = subst (Gains old new) (ap (λ k. flat_map row_line rows ++ end_line k) is ∙ sym (regroup (flat_map row_line rows) (decimal (length rows)))) (gains-both old mid new (flat_map row_line rows) (end_line n) a b)
-  where
-    regroup : (x y : List ℕ) → x ++ codes "end " ++ y ++ codes "\n" ≡ x ++ (codes "end " ++ y ++ codes "\n")
-    regroup x y = simp append_assoc
+listing old mid new rows n is a b = subst (Gains old new) (ap (λ k. flat_map row_line rows ++ end_line k) is ∙ with-end (flat_map row_line rows) (length rows)) (gains-both old mid new (flat_map row_line rows) (end_line n) a b)
 
 pub returns-in_ok-write_end-in-Ok-clause-ok : goal.returns-in_ok-write_end-in-Ok-clause-ok
 returns-in_ok-write_end-in-Ok-clause-ok g c =

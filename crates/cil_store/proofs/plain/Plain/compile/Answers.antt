@@ -1,16 +1,15 @@
 use Rattle.std.proofs.Common.{subst}
 use Rattle.cil_specs.specs.Store.{Store}
 use Rattle.cil_names.specs.Image.{modules_of}
-use Rattle.cil_names.specs.Resolved.{rules_in}
 use Rattle.cil_specs.specs.Next.{install, changed}
 use Rattle.cil_store.specs.Edits.{refusal_of}
-use Rattle.cil_store.specs.Plain.{IsTableOf, IsRefused}
+use Rattle.cil_store.specs.Plain.{IsCompiledTo, IsRefused}
 use Rattle.cil_specs.proofs.PlainLemmas.{modules-plain}
-use Rattle.cil_store.proofs.PlainLemmas.{kept-good, policy-refused, table-of}
+use Rattle.cil_store.proofs.PlainLemmas.{kept-good, policy-refused, compiled-to}
 use Rattle.cil_store.proofs.plain.Plain.compile.Goals as goal
 
 pub join-requires-clause-good : goal.join-requires-clause-good
-join-requires-clause-good g c = kept-good c.self.inside.store c.self.inside.table c.self.invariant
+join-requires-clause-good g c = kept-good c.self.inside.store c.self.inside.table c.self.inside.dropped c.self.invariant
 
 pub resolve_types-requires : goal.resolve_types-requires
 resolve_types-requires g c = record { plain = modules-plain (modules_of c.in_ok-joined.joined) c.in_ok-joined.ensures.all_compiled }
@@ -18,11 +17,11 @@ resolve_types-requires g c = record { plain = modules-plain (modules_of c.in_ok-
 pub returns-in-Err-resolve_types-clause-err : goal.returns-in-Err-resolve_types-clause-err
 returns-in-Err-resolve_types-clause-err g c =
     subst (λ (s : Store). IsRefused s c.args.name.now c.args.text.now (refusal_of c.refuse_policy.result)) c.self.view_is
-    (policy-refused c.in-Err-resolve_types.fault _ c.self.inside.store c.self.inside.table c.args.name.now c.args.text.now (modules_of c.in_ok-joined.joined) c.requires c.self.invariant
+    (policy-refused c.in-Err-resolve_types.fault _ c.self.inside.store c.self.inside.table c.self.inside.dropped c.args.name.now c.args.text.now (modules_of c.in_ok-joined.joined) c.requires c.self.invariant
     (c.in_ok-joined.ensures.modules c.args.text.now c.in-Ok.ensures.ok) (_, c.in-Ok.ensures.ok) c.in-Err-resolve_types.ensures.err c.refuse_policy.ensures)
 
-pub returns-clause-table : goal.returns-clause-table
-returns-clause-table g c =
-    subst (λ (s : Store). IsTableOf (changed s (install c.args.name.now 400 c.args.text.now)) c.in_ok-of.field-0) c.self.view_is
-    (table-of c.self.inside.store c.self.inside.table c.in_ok-of.field-0 c.args.name.now c.args.text.now (modules_of c.in_ok-joined.joined) (rules_in c.in-Ok-resolve_types.resolved) c.requires c.self.invariant
-    (c.in_ok-joined.ensures.modules c.args.text.now c.in-Ok.ensures.ok) c.in-Ok-resolve_types.ensures.compiles c.in-Ok-resolve_types.ensures.policy.rules c.in_ok-of.ensures)
+pub returns-clause-compiled : goal.returns-clause-compiled
+returns-clause-compiled g c =
+    subst (λ (s : Store). IsCompiledTo (changed s (install c.args.name.now 400 c.args.text.now)) c.in_ok-table.table c.in_ok-dropped.dropped) c.self.view_is
+    (compiled-to c.self.inside.store c.self.inside.table c.in_ok-table.table c.self.inside.dropped c.in_ok-dropped.dropped c.args.name.now c.args.text.now (modules_of c.in_ok-joined.joined) c.in-Ok-resolve_types.resolved c.requires c.self.invariant
+    (c.in_ok-joined.ensures.modules c.args.text.now c.in-Ok.ensures.ok) c.in-Ok-resolve_types.ensures.policy c.in_ok-table.ensures c.in_ok-dropped.ensures)

@@ -20,18 +20,18 @@ returns-in_err-table g c =
 pub invariant_of-self-2 : goal.invariant_of-self-2
 invariant_of-self-2 g c =
     let store : Store = c.args.self.now in
-    let kept : IsKept store c.self.inside.table = subst (λ s. IsKept s c.self.inside.table) c.self.view_is c.self.invariant in
+    let kept : IsKept store c.self.inside.table c.self.inside.dropped = subst (λ s. IsKept s c.self.inside.table c.self.inside.dropped) c.self.view_is c.self.invariant in
     let put_is : c.put.new.self ≡ changed store (install c.args.name.now 400 c.args.text.now) =
     c.in_ok-put.ensures.ok ∙ (λ i. changed (c.self.view_is i) (install c.args.name.now (taken-priority c.args.name.now c.args.priority (length c.args.text.now) c.in_default.ensures i) c.args.text.now))
     in
-    subst (λ s. IsKept s c.in_ok-table.table) (sym put_is) (kept-changed store c.self.inside.table c.in_ok-table.table c.args.name.now c.args.text.now (taken-short c.args.name.now c.args.priority (length c.args.text.now) c.in_default.ensures) kept c.in_ok-table.ensures.table)
+    subst (λ s. IsKept s c.in_ok-table.table c.in_ok-table.dropped) (sym put_is) (kept-changed store c.self.inside.table c.in_ok-table.table c.self.inside.dropped c.in_ok-table.dropped c.args.name.now c.args.text.now (taken-short c.args.name.now c.args.priority (length c.args.text.now) c.in_default.ensures) kept c.in_ok-table.ensures.compiled)
 
 pub returns : goal.returns
 returns g c =
     let store : Store = c.args.self.now in
-    let kept : IsKept store c.self.inside.table = subst (λ s. IsKept s c.self.inside.table) c.self.view_is c.self.invariant in
+    let kept : IsKept store c.self.inside.table c.self.inside.dropped = subst (λ s. IsKept s c.self.inside.table c.self.inside.dropped) c.self.view_is c.self.invariant in
     let put_is : c.put.new.self ≡ changed store (install c.args.name.now 400 c.args.text.now) =
     c.in_ok-put.ensures.ok ∙ (λ i. changed (c.self.view_is i) (install c.args.name.now (taken-priority c.args.name.now c.args.priority (length c.args.text.now) c.in_default.ensures i) c.args.text.now))
     in
     subst (λ s. Step store (an_edit (install c.args.name.now c.args.priority c.args.text.now)) (changed_by c.in_ok-changes.changes) s) (sym put_is)
-    (accepted-step store c.self.inside.table c.in_ok-table.table c.args.name.now c.args.text.now c.args.priority c.in_ok-changes.changes c.in_default.ensures c.in_ok-table.ensures.good kept c.in_ok-table.ensures.table c.in_ok-changes.ensures)
+    (accepted-step store c.self.inside.table c.in_ok-table.table c.self.inside.dropped c.in_ok-table.dropped c.args.name.now c.args.text.now c.args.priority c.in_ok-changes.changes c.in_default.ensures c.in_ok-table.ensures.good kept c.in_ok-table.ensures.compiled c.in_ok-changes.ensures)

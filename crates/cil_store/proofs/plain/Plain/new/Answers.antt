@@ -4,4 +4,4 @@ use Rattle.cil_store.proofs.PlainLemmas.{kept-empty}
 use Rattle.cil_store.proofs.plain.Plain.new.Goals as goal
 
 pub invariant_of-result : goal.invariant_of-result
-invariant_of-result g c = subst (λ s. IsKept s c.empty.result) (sym c.new.ensures) (kept-empty c.empty.result c.empty.ensures)
+invariant_of-result g c = subst (λ s. IsKept s c.empty.result c.empty-2.result) (sym c.new.ensures) (kept-empty c.empty.result c.empty-2.result c.empty.ensures c.empty-2.ensures)

@@ -5,10 +5,11 @@ use Rattle.std.specs.Option.{option_or, option_and_then}
 use Rattle.cil_specs.specs.Names.{components}
 use Rattle.cil_specs.specs.Joined.{Placed}
 use Rattle.cil_specs.specs.Lookup.{Table, Optionals, is_within, declares, declaration, has_block, outward, nearest_block, inside, from_namespace, is_global, leads}
+use Rattle.cil_specs.specs.Kept.{IsWithin}
 use Rattle.cil_specs.proofs.Runs.{first_true, second_true, both_true}
-use Rattle.cil_names.specs.Grows.{IsWithin}
 
-all-grows : (p q : ℕ → Bool) → ((n : ℕ) → p n ≡ true → q n ≡ true) → (ns : List ℕ) → list_all p ns ≡ true → list_all q ns ≡ true
+-- a test of all numbers by a wider one
+pub all-grows : (p q : ℕ → Bool) → ((n : ℕ) → p n ≡ true → q n ≡ true) → (ns : List ℕ) → list_all p ns ≡ true → list_all q ns ≡ true
 all-grows p q more [] all = refl
 all-grows p q more (n ∷ ns) all = both_true (q n) (list_all q ns) (more n (first_true (p n) (list_all p ns) all)) (all-grows p q more ns (second_true (p n) (list_all p ns) all))
 

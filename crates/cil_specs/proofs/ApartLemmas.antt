@@ -1,0 +1,74 @@
+-- What stands apart in its module stands in no optional of the joined policy.
+use Rattle.std.proofs.Common.{◌≡◌, ℕ, Bool, true, false, not, ◌&&◌, ◌||◌, List, [], ◌∷◌, refl, sym, ap, ◌∙◌, subst, true≢false}
+use Rattle.std.specs.List.{AllByRecursion}
+use Rattle.cil_specs.specs.Place.{Place}
+use Rattle.cil_specs.specs.Statements.{Form, block, optional, type_name, type_alias, alias_actual, type_attribute, attribute_set, common, class, class_common, class_order, rule, Statements, no_more, statement, is_optional, stands_apart, are_apart}
+use Rattle.cil_specs.specs.Joined.{Module, Placed, namespace_inside, optionals_inside, placed, joined}
+use Rattle.cil_specs.specs.Store.{Entry, Store, active}
+use Rattle.cil_specs.specs.Kept.{AreApart}
+use Rattle.cil_specs.specs.Next.{AreModules, IsPolicyOf}
+use Rattle.cil_specs.proofs.Runs.{first_true, second_true}
+use Rattle.cil_specs.proofs.NamesLemmas.{all-append, all-contained}
+use Rattle.cil_specs.proofs.ShapeLemmas.{shapes_apart}
+
+abbrev IsApart : Placed → Type 0
+IsApart s = stands_apart s.form ≡ true → s.optionals ≡ []
+
+not-inside : (inside apart : Bool) → not (inside && apart) ≡ true → apart ≡ true → inside ≡ false
+not-inside false apart e there = refl
+not-inside true apart e there = absurd (true≢false (sym e ∙ ap not there))
+
+neither-first : (b c : Bool) → (b || c) ≡ false → b ≡ false
+neither-first true c e = e
+neither-first false c e = refl
+
+neither-second : (b c : Bool) → (b || c) ≡ false → c ≡ false
+neither-second true c e = absurd (true≢false e)
+neither-second false c e = e
+
+-- what is no optional stands around nothing as one
+same-inside : (form : Form) (at : Place) (optionals : List ℕ) → is_optional form ≡ false → optionals_inside form at optionals ≡ optionals
+same-inside (block id) at optionals none = refl
+same-inside (optional id) at optionals none = absurd (true≢false none)
+same-inside (type_name id) at optionals none = refl
+same-inside (type_alias id) at optionals none = refl
+same-inside (alias_actual alias actual) at optionals none = refl
+same-inside (type_attribute id) at optionals none = refl
+same-inside (attribute_set attribute expr) at optionals none = refl
+same-inside (common id permissions) at optionals none = refl
+same-inside (class id permissions) at optionals none = refl
+same-inside (class_common the_class the_common) at optionals none = refl
+same-inside (class_order classes) at optionals none = refl
+same-inside (rule kind source target the_class permissions) at optionals none = refl
+
+-- the statements of a module, or those inside one of its statements
+placed-apart : (name : List ℕ) (namespace : List (List ℕ)) (optionals : List ℕ) (inside : Bool) (statements : Statements) → (inside ≡ false → optionals ≡ []) → are_apart inside statements ≡ true
+    → AllByRecursion IsApart (placed name namespace optionals statements)
+placed-apart name namespace optionals inside no_more outside apart = tt
+placed-apart name namespace optionals inside (statement at form body more) outside apart =
+    let others = second_true (not (inside && stands_apart form)) (are_apart (inside || is_optional form) body && are_apart inside more) apart in (
+      λ there. outside (not-inside inside (stands_apart form) (first_true (not (inside && stands_apart form)) (are_apart (inside || is_optional form) body && are_apart inside more) apart) there),
+      all-append IsApart (placed name (namespace_inside form namespace) (optionals_inside form at optionals) body) (placed name namespace optionals more)
+          (placed-apart name (namespace_inside form namespace) (optionals_inside form at optionals) (inside || is_optional form) body
+          (λ none. same-inside form at optionals (neither-second inside (is_optional form) none) ∙ outside (neither-first inside (is_optional form) none))
+          (first_true (are_apart (inside || is_optional form) body) (are_apart inside more) others))
+          (placed-apart name namespace optionals inside more outside (second_true (are_apart (inside || is_optional form) body) (are_apart inside more) others)),
+    )
+
+all-apart : (modules : List Module) → AllByRecursion (λ m. are_apart false m.statements ≡ true) modules → AllByRecursion IsApart (joined modules)
+all-apart [] apart = tt
+all-apart (m ∷ modules) apart =
+    all-append IsApart (placed m.name [] [] m.statements) (joined modules) (placed-apart m.name [] [] false m.statements (λ _. refl) apart.0) (all-apart modules apart.1)
+
+pub joined-apart : (modules : List Module) → AllByRecursion (λ m. are_apart false m.statements ≡ true) modules → AreApart (joined modules)
+joined-apart modules apart s among there = all-contained IsApart (joined modules) s (all-apart modules apart) among there
+
+modules-apart : (entries : List Entry) (modules : List Module) → AreModules entries modules → AllByRecursion (λ m. are_apart false m.statements ≡ true) modules
+modules-apart [] [] are = tt
+modules-apart [] (m ∷ modules) are = absurd are
+modules-apart (e ∷ entries) [] are = absurd are
+modules-apart (e ∷ entries) (m ∷ modules) are = (shapes_apart m.statements false are.1.trees are.1.shapes, modules-apart entries modules are.2)
+
+-- so it is of the policy of a store
+pub policy-of-apart : (store : Store) (policy : List Placed) → IsPolicyOf store policy → AreApart policy
+policy-of-apart store policy is = subst AreApart (sym is.2) (joined-apart is.0 (modules-apart (active store) is.0 is.1))

@@ -1,0 +1,183 @@
+-- Names that are declared twice: what a statement declares, and the same of other statements.
+use Rattle.std.proofs.Common.{◌≡◌, Bool, true, false, ◌&&◌, ◌||◌, cond, List, [], ◌∷◌, ◌++◌, map, filter, flat_map, Option, Some, None, if◌then◌else◌, refl, sym, ap, ◌∙◌, subst, Contains, true≢false, append-nil, arith}
+use Rattle.std.specs.List.{list_any}
+use Rattle.std.specs.Option.{option_to_list}
+use Rattle.std.proofs.lemmas.List.{map-append}
+use Rattle.std.proofs.lemmas.Option.{none-some}
+use Rattle.cil_specs.specs.Names.{Word}
+use Rattle.cil_specs.specs.Statements.{Form, block, optional, type_name, type_alias, alias_actual, type_attribute, attribute_set, common, class, class_common, class_order, rule}
+use Rattle.cil_specs.specs.Joined.{Placed}
+use Rattle.cil_specs.specs.Lookup.{Table, types, classes, commons, scopes, declared_in, every_optional}
+use Rattle.cil_specs.specs.PolicyFault.{PolicyFault, twice, is_again, tables, twice_words, IsAtWordOf, IsFaultOf}
+use Rattle.cil_specs.proofs.Runs.{second_true}
+use Rattle.cil_specs.proofs.RestrictedLemmas.{any-among}
+use Rattle.cil_specs.proofs.RestrictedFaults.{among-split}
+
+-- the table that a statement declares a name in, if it declares one
+pub table_in : Form → Table
+table_in (block id) = scopes
+table_in (optional id) = scopes
+table_in (type_name id) = types
+table_in (type_alias id) = types
+table_in (alias_actual alias actual) = types
+table_in (type_attribute id) = types
+table_in (attribute_set attribute expr) = types
+table_in (common id permissions) = commons
+table_in (class id permissions) = classes
+table_in (class_common the_class the_common) = types
+table_in (class_order the_classes) = types
+table_in (rule kind source target the_class permissions) = types
+
+pub table-in : (table : Table) (form : Form) (w : Word) → declared_in table form ≡ Some w → table ≡ table_in form
+unfolding table_in
+table-in types (block id) w e = absurd (none-some w e)
+table-in types (optional id) w e = absurd (none-some w e)
+table-in types (type_name id) w e = refl
+table-in types (type_alias id) w e = refl
+table-in types (alias_actual alias actual) w e = absurd (none-some w e)
+table-in types (type_attribute id) w e = refl
+table-in types (attribute_set attribute expr) w e = absurd (none-some w e)
+table-in types (common id permissions) w e = absurd (none-some w e)
+table-in types (class id permissions) w e = absurd (none-some w e)
+table-in types (class_common the_class the_common) w e = absurd (none-some w e)
+table-in types (class_order the_classes) w e = absurd (none-some w e)
+table-in types (rule kind source target the_class permissions) w e = absurd (none-some w e)
+table-in classes (block id) w e = absurd (none-some w e)
+table-in classes (optional id) w e = absurd (none-some w e)
+table-in classes (type_name id) w e = absurd (none-some w e)
+table-in classes (type_alias id) w e = absurd (none-some w e)
+table-in classes (alias_actual alias actual) w e = absurd (none-some w e)
+table-in classes (type_attribute id) w e = absurd (none-some w e)
+table-in classes (attribute_set attribute expr) w e = absurd (none-some w e)
+table-in classes (common id permissions) w e = absurd (none-some w e)
+table-in classes (class id permissions) w e = refl
+table-in classes (class_common the_class the_common) w e = absurd (none-some w e)
+table-in classes (class_order the_classes) w e = absurd (none-some w e)
+table-in classes (rule kind source target the_class permissions) w e = absurd (none-some w e)
+table-in commons (block id) w e = absurd (none-some w e)
+table-in commons (optional id) w e = absurd (none-some w e)
+table-in commons (type_name id) w e = absurd (none-some w e)
+table-in commons (type_alias id) w e = absurd (none-some w e)
+table-in commons (alias_actual alias actual) w e = absurd (none-some w e)
+table-in commons (type_attribute id) w e = absurd (none-some w e)
+table-in commons (attribute_set attribute expr) w e = absurd (none-some w e)
+table-in commons (common id permissions) w e = refl
+table-in commons (class id permissions) w e = absurd (none-some w e)
+table-in commons (class_common the_class the_common) w e = absurd (none-some w e)
+table-in commons (class_order the_classes) w e = absurd (none-some w e)
+table-in commons (rule kind source target the_class permissions) w e = absurd (none-some w e)
+table-in scopes (block id) w e = refl
+table-in scopes (optional id) w e = refl
+table-in scopes (type_name id) w e = absurd (none-some w e)
+table-in scopes (type_alias id) w e = absurd (none-some w e)
+table-in scopes (alias_actual alias actual) w e = absurd (none-some w e)
+table-in scopes (type_attribute id) w e = absurd (none-some w e)
+table-in scopes (attribute_set attribute expr) w e = absurd (none-some w e)
+table-in scopes (common id permissions) w e = absurd (none-some w e)
+table-in scopes (class id permissions) w e = absurd (none-some w e)
+table-in scopes (class_common the_class the_common) w e = absurd (none-some w e)
+table-in scopes (class_order the_classes) w e = absurd (none-some w e)
+table-in scopes (rule kind source target the_class permissions) w e = absurd (none-some w e)
+
+-- the words that a statement declares, by a test for each table
+abbrev chosen : (Table → Word → Bool) → Form → List Word
+chosen again form = flat_map (λ table. filter (again table) (option_to_list (declared_in table form))) tables
+
+-- a statement declares a name in one table alone
+chosen-in : (again : Table → Word → Bool) (form : Form) → chosen again form ≡ filter (again (table_in form)) (option_to_list (declared_in (table_in form) form))
+unfolding table_in
+chosen-in again (block id) = append-nil _
+chosen-in again (optional id) = append-nil _
+chosen-in again (type_name id) = append-nil _
+chosen-in again (type_alias id) = append-nil _
+chosen-in again (alias_actual alias actual) = refl
+chosen-in again (type_attribute id) = append-nil _
+chosen-in again (attribute_set attribute expr) = refl
+chosen-in again (common id permissions) = append-nil _
+chosen-in again (class id permissions) = append-nil _
+chosen-in again (class_common the_class the_common) = refl
+chosen-in again (class_order the_classes) = refl
+chosen-in again (rule kind source target the_class permissions) = refl
+
+chosen-some : (again : Table → Word → Bool) (table : Table) (form : Form) (w : Word) → declared_in table form ≡ Some w → chosen again form ≡ (if again table w then w ∷ [] else [])
+chosen-some again table form w e =
+    chosen-in again form ∙ ap (λ t. filter (again t) (option_to_list (declared_in t form))) (sym (table-in table form w e)) ∙ ap (λ o. filter (again table) (option_to_list o)) e
+
+chosen-none : (again : Table → Word → Bool) (form : Form) → ((table : Table) → declared_in table form ≡ None) → chosen again form ≡ []
+chosen-none again form none = chosen-in again form ∙ ap (λ o. filter (again (table_in form)) (option_to_list o)) (none (table_in form))
+
+abbrev again_among : List Placed → Placed → Table → Word → Bool
+again_among before s table id = list_any (is_again table s id) before
+
+-- the name of a statement behind others, by whether it is declared again
+pub twice-some : (before : List Placed) (s : Placed) (table : Table) (w : Word) → declared_in table s.form ≡ Some w → twice_words before s ≡ (if list_any (is_again table s w) before then w ∷ [] else [])
+twice-some before s table w e = chosen-some (again_among before s) table s.form w e
+
+pub twice-nothing : (before : List Placed) (s : Placed) → ((table : Table) → declared_in table s.form ≡ None) → twice_words before s ≡ []
+twice-nothing before s none = chosen-none (again_among before s) s.form none
+
+contains-none : {X : Type 0} (x : X) → Contains [] x → ⊥
+contains-none x c = omega (arith, c.1)
+
+-- a name that is declared again behind some statements is so behind more
+twice-more : (before more : List Placed) (s : Placed) (w : Word) → ((p : Placed → Bool) → list_any p before ≡ true → list_any p more ≡ true) → Contains (twice_words before s) w → Contains (twice_words more s) w
+twice-more before more s w grows c =
+    subst (λ l. Contains l w) (sym (chosen-in (again_among more s) s.form))
+    (by (declared_in (table_in s.form) s.form) (subst (λ l. Contains l w) (chosen-in (again_among before s) s.form) c))
+  where
+    one : (v : Word) (b d : Bool) → (b ≡ true → d ≡ true) → Contains (cond b (v ∷ []) []) w → Contains (cond d (v ∷ []) []) w
+    one v false d f c = absurd (contains-none w c)
+    one v true d f c = subst (λ x. Contains (cond x (v ∷ []) []) w) (sym (f refl)) c
+
+    by : (o : Option Word) → Contains (filter (again_among before s (table_in s.form)) (option_to_list o)) w → Contains (filter (again_among more s (table_in s.form)) (option_to_list o)) w
+    by None c = c
+    by (Some v) c = one v (again_among before s (table_in s.form) v) (again_among more s (table_in s.form) v) (grows (is_again (table_in s.form) s v)) c
+
+-- an element that passes, among others
+pub record PassesAmong {X : Type 0} (p : X → Bool) (xs : List X) : Type 0 where
+  pub before : List X
+  pub x : X
+  pub after : List X
+  pub split : xs ≡ before ++ x ∷ after
+  pub passes : p x ≡ true
+
+pub passes-among : {X : Type 0} (p : X → Bool) (xs : List X) → list_any p xs ≡ true → PassesAmong p xs
+passes-among p [] e = absurd (true≢false (sym e))
+passes-among p (x ∷ xs) e = by (passes-among p xs) (p x) refl e
+  where
+    by : (list_any p xs ≡ true → PassesAmong p xs) → (b : Bool) → p x ≡ b → (b || list_any p xs) ≡ true → PassesAmong p (x ∷ xs)
+    by others true here any = record { before = []; x = x; after = xs; split = refl; passes = here }
+    by others false here any = let more = others any in record { before = x ∷ more.before; x = more.x; after = more.after; split = ap (λ l. x ∷ l) more.split; passes = more.passes }
+
+pub any-middle : {X : Type 0} (p : X → Bool) (before : List X) (x : X) (after : List X) → p x ≡ true → list_any p (before ++ x ∷ after) ≡ true
+any-middle p [] x after e = ap (λ b. b || list_any p after) e
+any-middle p (y ∷ before) x after e = by (p y) (any-middle p before x after e)
+  where
+    by : (b : Bool) → list_any p (before ++ x ∷ after) ≡ true → (b || list_any p (before ++ x ∷ after)) ≡ true
+    by true more = refl
+    by false more = more
+
+-- no name of a policy is declared twice
+abbrev pub IsOnce : List Placed → Type 0
+IsOnce policy = (fault : PolicyFault) → IsFaultOf twice every_optional policy fault → ⊥
+
+any-picked : {X : Type 0} (g : X → Placed) (p : X → Bool) (xs : List X) (test : Placed → Bool) → list_any test (map g (filter p xs)) ≡ true → list_any test (map g xs) ≡ true
+any-picked g p xs test any =
+    let one = passes-among (λ x. p x && test (g x)) xs (sym (any-among p g test (λ x. p x && test (g x)) xs (λ x c. refl)) ∙ any) in
+    ap (λ l. list_any test (map g l)) one.split ∙ ap (list_any test) (map-append g one.before (one.x ∷ one.after))
+    ∙ any-middle test (map g one.before) (g one.x) (map g one.after) (second_true (p one.x) (test (g one.x)) one.passes)
+
+-- what is declared twice among some of the statements is so among all
+pub once-picked : {X : Type 0} (g : X → Placed) (p : X → Bool) (xs : List X) → IsOnce (map g xs) → IsOnce (map g (filter p xs))
+once-picked g p xs once fault is =
+    let one = among-split p g xs is.before is.s is.after is.split in
+    once fault record {
+      before = map g one.before;
+      s = g one.x;
+      after = map g one.after;
+      word = is.word;
+      split = ap (map g) one.split ∙ map-append g one.before (one.x ∷ one.after);
+      is_faulty = twice-more (map g (filter p one.before)) (map g one.before) (g one.x) is.word (λ test. any-picked g p one.before test)
+          (subst (λ l. Contains l is.word) (λ i. twice_words (one.in_front i) (one.is i)) is.is_faulty);
+      is_at = subst (λ (t : Placed). IsAtWordOf fault twice t is.word) one.is is.is_at;
+    }
