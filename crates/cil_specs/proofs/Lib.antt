@@ -20,12 +20,9 @@ pub mod ReportLemmasMembers
 pub mod ReportLemmas
 pub mod PlainLemmas
 pub mod ApartLemmas
-pub mod OnceLemmas
 pub mod LeadsLemmas
+pub mod RestrictedLemmas
+pub mod OnceLemmas
 pub mod GrowsLemmas
 pub mod KeptLemmas
-pub mod RestrictedLemmas
-pub mod RestrictedFaults
-pub mod RestrictedContents
 pub mod DeclaredLemmas
-pub mod ErasedLemmas

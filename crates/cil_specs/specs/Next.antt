@@ -10,11 +10,11 @@ use Rattle.cil_specs.specs.Names.{Word, is_letter, is_digit}
 use Rattle.cil_specs.specs.Statements.{allow, the_named, Form, attribute_set, rule, target_words, Statements, no_more, statement}
 use Rattle.cil_specs.specs.Shape.{Shapes, IsFirstShapeFault, holds_others}
 use Rattle.cil_specs.specs.Joined.{Module, Placed, joined}
-use Rattle.cil_specs.specs.Lookup.{types, Optionals, is_within, leads, holds_of, is_attribute}
-use Rattle.cil_specs.specs.PolicyFault.{PolicyFault, wrong_kind, IsAtWordOf, IsFirst, Compiles}
+use Rattle.cil_specs.specs.Lookup.{types, leads, holds_of, is_attribute}
+use Rattle.cil_specs.specs.PolicyFault.{PolicyFault, wrong_kind, IsAtWordOf}
 use Rattle.cil_specs.specs.PolicyFault as policy_fault
-use Rattle.cil_specs.specs.Rule.{Rule, Declared, rules_of}
-use Rattle.cil_specs.specs.Kept.{AreKept, ByKept, dropped_of}
+use Rattle.cil_specs.specs.Kept.{Optionals, AreKept, restricted, IsFirst, Compiles}
+use Rattle.cil_specs.specs.Meaning.{Meaning, Means}
 use Rattle.cil_specs.specs.Store.{Entry, Store, put, active}
 
 -- the words of the statements that are compiled so far
@@ -97,59 +97,48 @@ abbrev pub IsPolicyOf : Store → List Placed → Type 0
 IsPolicyOf store policy = (modules : List Module) × AreModules (active store) modules × (policy ≡ joined modules)
 
 -- whether a word leads to an attribute
-abbrev pub is_attribute_word : Optionals → List Placed → List (List ℕ) → Word → Bool
-is_attribute_word kept policy namespace word = holds_of (λ s. is_attribute s.form) (leads kept policy types namespace word.text)
+abbrev pub is_attribute_word : List Placed → List (List ℕ) → Word → Bool
+is_attribute_word policy namespace word = holds_of (λ s. is_attribute s.form) (leads policy types namespace word.text)
 
 -- the words of a rule's source and target
 abbrev pub rule_elements : Form → List Word
 rule_elements (rule kind source target the_class permissions) = source ∷ target_words target
 rule_elements _ = []
 
--- Until attributes have members, a kept rule's source or target that leads to one is a fault of the code of another kind.
-pub record IsAttributeFault (kept : Optionals) (policy : List Placed) (fault : PolicyFault) : Type 0 where
+-- Until attributes have members, a rule's source or target that leads to one is a fault of the code of another kind.
+pub record IsAttributeFault (policy : List Placed) (fault : PolicyFault) : Type 0 where
   pub s : Placed
   pub word : Word
   pub is_in : Contains policy s
-  pub is_kept : IsTrue (is_within kept s)
   pub is_word : Contains (rule_elements s.form) word
-  pub is_attribute : IsTrue (is_attribute_word kept policy s.namespace word)
+  pub is_attribute : IsTrue (is_attribute_word policy s.namespace word)
   pub is_at : IsAtWordOf fault wrong_kind s word
 
 -- the first of them, by module name and then by offset
-pub record IsFirstAttributeFault (kept : Optionals) (policy : List Placed) (fault : PolicyFault) : Type 0 where
-  pub is : IsAttributeFault kept policy fault
-  pub first : (other : PolicyFault) → IsAttributeFault kept policy other → policy_fault.IsNoLater fault other
+pub record IsFirstAttributeFault (policy : List Placed) (fault : PolicyFault) : Type 0 where
+  pub is : IsAttributeFault policy fault
+  pub first : (other : PolicyFault) → IsAttributeFault policy other → policy_fault.IsNoLater fault other
 
--- a policy that compiles and has none of these
-abbrev pub IsCompiledWhole : Optionals → List Placed → Type 0
-IsCompiledWhole kept policy = Compiles kept policy × ((fault : PolicyFault) → IsAttributeFault kept policy fault → ⊥)
+-- a policy without them
+abbrev pub HasTypesAlone : List Placed → Type 0
+HasTypesAlone policy = (fault : PolicyFault) → IsAttributeFault policy fault → ⊥
 
--- the fault that a policy is refused for: its first; or else the first of a rule of an attribute
+-- the fault that a policy is refused for: its first; or else, among the statements that it keeps, the first of a rule of an attribute
 pub data IsRefusedFor (kept : Optionals) (policy : List Placed) (fault : PolicyFault) : Type 0 where
   first_fault : IsFirst kept policy fault → IsRefusedFor kept policy fault
-  first_attribute : Compiles kept policy → IsFirstAttributeFault kept policy fault → IsRefusedFor kept policy fault
+  first_attribute : Compiles kept policy → IsFirstAttributeFault (restricted kept policy) fault → IsRefusedFor kept policy fault
 
 -- the same, by the optionals that the policy keeps
 abbrev pub IsPolicyFaultOf : List Placed → PolicyFault → Type 0
-IsPolicyFaultOf policy fault = ByKept policy (λ kept. IsRefusedFor kept policy fault)
+IsPolicyFaultOf policy fault = (kept : Optionals) × AreKept policy kept × IsRefusedFor kept policy fault
 
--- the rules of a store, whose policy compiles, and the optionals of it that drop
-pub record IsMeaning (store : Store) (rules : List Rule) (dropped : List Declared) : Type 0 where
+-- what the policy of a store means, which has no such rule
+pub record IsMeaning (store : Store) (meaning : Meaning) : Type 0 where
   pub policy : List Placed
   pub kept : Optionals
   pub is_policy : IsPolicyOf store policy
-  pub are_kept : AreKept policy kept
-  pub compiles : IsCompiledWhole kept policy
-  pub are_rules : rules ≡ rules_of kept policy
-  pub are_dropped : dropped ≡ dropped_of kept policy
-
--- the rules of a store
-abbrev pub AreRulesOf : Store → List Rule → Type 0
-AreRulesOf store rules = (dropped : List Declared) × IsMeaning store rules dropped
-
--- the optionals of a store that drop
-abbrev pub AreDroppedOf : Store → List Declared → Type 0
-AreDroppedOf store dropped = (rules : List Rule) × IsMeaning store rules dropped
+  pub means : Means policy kept meaning
+  pub types_alone : HasTypesAlone (restricted kept policy)
 
 pub data Edit : Type 0 where
   install : List ℕ → ℕ → List ℕ → Edit
@@ -210,5 +199,5 @@ pub data Next (store : Store) (edit : Edit) (judgement : Judgement) : Type 0 whe
   bad_text : (refusal : Refusal) → store_refusal store edit ≡ None → IsEditFault edit refusal → judgement ≡ refuses refusal → Next store edit judgement
   bad_policy : (refusal : Refusal) → store_refusal store edit ≡ None → HasGoodText edit → IsPolicyRefusal (changed store edit) refusal → judgement ≡ refuses refusal
       → Next store edit judgement
-  good : (rules : List Rule) → store_refusal store edit ≡ None → HasGoodText edit → AreRulesOf (changed store edit) rules → judgement ≡ accepts (changed store edit)
+  good : (meaning : Meaning) → store_refusal store edit ≡ None → HasGoodText edit → IsMeaning (changed store edit) meaning → judgement ≡ accepts (changed store edit)
       → Next store edit judgement
