@@ -7,13 +7,13 @@ mod dropped;
 mod edit;
 mod entry;
 mod join;
-mod later;
 mod modules;
 mod parse;
 mod plain;
 mod refusal;
 mod refusing;
 mod runs;
+mod unsupported;
 
 pub use call::{Call, Reply};
 pub use compiled::{Compiled, WriteFault};
