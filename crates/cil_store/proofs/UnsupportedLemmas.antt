@@ -13,6 +13,7 @@ use Rattle.cil_specs.specs.Shape.{Shapes, holds_others}
 use Rattle.cil_specs.specs.Next.{has_self, is_unsupported, IsUnsupportedFault, IsFirstUnsupportedFault, is_compiled_form, is_compiled}
 use Rattle.cil_specs.proofs.FormLemmas.{first_word, OperandsFit, fits_begin}
 use Rattle.cil_specs.proofs.OrderLemmas.{order_word, order_list, order_le}
+use Rattle.cil_specs.proofs.UnsupportedOrder.{unsupported_between}
 use Rattle.cil_text.specs.Image.{place_of, word_of, row_trees, tree_then, trees_of}
 use Rattle.cil_text.specs.declared.place.Place.{Place}
 use Rattle.cil_text.specs.declared.word.Word.{Word}
@@ -164,49 +165,6 @@ unsupported_none (a_list at end (a_word place text operands) rest) h fault bad =
     by (inr (inr found)) is inner next = next found
 unsupported_none (a_list at end (a_string place text more) rest) h fault bad = unsupported_none rest h fault bad
 unsupported_none (a_list at end (a_list place last items more) rest) h fault bad = unsupported_none rest h fault bad
-
--- a fault of trees in order stands between the places where they begin and end
-unsupported_between : (trees : Trees) (low high : ℕ) (fault : TextFault) → IsTrue (in_order low trees high) → IsUnsupportedFault trees fault → (low ≤ fault.at.offset) × (fault.at.offset ≤ high)
-unsupported_between none low high fault order bad = absurd bad
-unsupported_between (a_word at text rest) low high fault order bad =
-    let p = order_word low at text rest high order in
-    let q = unsupported_between rest (at.offset + length text) high fault p.2 bad in
-    (omega (arith, p.0, p.1, q.0), q.1)
-unsupported_between (a_string at text rest) low high fault order bad =
-    let p = order_word low at text rest high order in
-    let q = unsupported_between rest (at.offset + length text) high fault p.2 bad in
-    (omega (arith, p.0, p.1, q.0), q.1)
-unsupported_between (a_list at end none rest) low high fault order bad =
-    let p = order_list low at end none rest high order in
-    let q = unsupported_between rest end high fault p.3 bad in
-    (omega (arith, p.0, order_le (at.offset + 1) none (end - 1) p.2, q.0), q.1)
-unsupported_between (a_list at end (a_word place text operands) rest) low high fault order bad =
-    let p = order_list low at end (a_word place text operands) rest high order in
-    let q = order_word (at.offset + 1) place text operands (end - 1) p.2 in
-    let ends = order_le (place.offset + length text) operands (end - 1) q.2 in
-    by bad (omega (arith, p.0, q.0)) (omega (arith, p.0, q.0, q.1, ends)) (omega (arith, p.1, q.1, ends)) (order_le end rest high p.3)
-    (unsupported_between operands (place.offset + length text) (end - 1) fault q.2) (unsupported_between rest end high fault p.3)
-  where
-    by : IsUnsupportedFault (a_list at end (a_word place text operands) rest) fault → low ≤ place.offset → low ≤ end → place.offset ≤ end → end ≤ high
-        → (IsUnsupportedFault operands fault → (place.offset + length text ≤ fault.at.offset) × (fault.at.offset ≤ end - 1))
-        → (IsUnsupportedFault rest fault → (end ≤ fault.at.offset) × (fault.at.offset ≤ high)) → (low ≤ fault.at.offset) × (fault.at.offset ≤ high)
-    by (inl found) here after ends last inner next =
-        let e : fault.at.offset ≡ place.offset = ap (λ f. f.at.offset) found.1 in
-        (omega (arith, here, e), omega (arith, ends, last, e))
-    by (inr (inl found)) here after ends last inner next =
-        let q = inner found.1 in
-        (omega (arith, here, q.0), omega (arith, q.1, last))
-    by (inr (inr found)) here after ends last inner next =
-        let q = next found in
-        (omega (arith, after, q.0), q.1)
-unsupported_between (a_list at end (a_string place text more) rest) low high fault order bad =
-    let p = order_list low at end (a_string place text more) rest high order in
-    let q = unsupported_between rest end high fault p.3 bad in
-    (omega (arith, p.0, order_le (at.offset + 1) (a_string place text more) (end - 1) p.2, q.0), q.1)
-unsupported_between (a_list at end (a_list place last items more) rest) low high fault order bad =
-    let p = order_list low at end (a_list place last items more) rest high order in
-    let q = unsupported_between rest end high fault p.3 bad in
-    (omega (arith, p.0, order_le (at.offset + 1) (a_list place last items more) (end - 1) p.2, q.0), q.1)
 
 -- the fault at the word that is found is no later than the others
 unsupported_first : (trees : Trees) (low high : ℕ) (word : spec_names.Word) (other : TextFault) → IsTrue (in_order low trees high) → unsupported_word trees ≡ Some word → IsUnsupportedFault trees other → IsNoLater (fault_at word) other
