@@ -30,3 +30,5 @@ pub mod UnsupportedOrder
 pub mod OneText
 pub mod FaultWords
 pub mod OneFault
+pub mod OneStore
+pub mod StoreOrder
