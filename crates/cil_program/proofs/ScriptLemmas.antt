@@ -1,10 +1,10 @@
 -- A script has one list of commands, and ends in one way.
-use Rattle.std.proofs.Common.{◌≡◌, ◌≢◌, ℕ, ◌+◌, ◌<◌, ◌^◌, true, List, [], ◌∷◌, ◌++◌, length, drop, flat_map, get_or, codes, decimal, IsTrue, refl, ap, sym, ◌∙◌, subst, append_assoc, length-append, arith}
+use Rattle.std.proofs.Common.{◌≡◌, ℕ, ◌+◌, true, List, [], ◌∷◌, ◌++◌, length, drop, flat_map, get_or, codes, decimal, refl, ap, sym, ◌∙◌, subst, append_assoc, length-append, arith}
 use Rattle.std.specs.List.{list_all, AllByRecursion}
 use Rattle.std.proofs.lemmas.Fmt.{decimal_injective}
 use Rattle.cil_specs.specs.Next.{install}
 use Rattle.cil_specs.specs.Run.{Call, an_edit, ask_rows, ask_dropped}
-use Rattle.cil_specs.specs.Script.{AreGoodWords, HasGoodWords, IsCommand, install_line, line_of, command, MayLackItsEnd, IsNoCommand, End, ends, stops, IsEnd, Commands, whole, without_end}
+use Rattle.cil_specs.specs.Script.{AreGoodWords, HasGoodWords, IsCommand, install_line, line_of, command, MayLackItsEnd, End, ends, stops, IsEnd, Commands, whole, without_end}
 use Rattle.cil_specs.proofs.NamesLemmas.{all-first, all-second}
 use Rattle.cil_program.specs.Command.{is_no_space, install_rest}
 use Rattle.cil_program.specs.Input.{stays}
