@@ -25,4 +25,5 @@ pub mod RestrictedLemmas
 pub mod OnceLemmas
 pub mod GrowsLemmas
 pub mod KeptLemmas
+pub mod ExistsLemmas
 pub mod DeclaredLemmas

@@ -5,4 +5,4 @@ use Rattle.cil_names.specs.Placed.{policy_of}
 use Rattle.cil_names.proofs.numbering.sorted_names.Given as goal
 
 abbrev pub invariant-loop-place : goal.invariant-loop-place
-invariant-loop-place g l = l.names ≡ fold with_name [] (names_of (policy_of l.resolution.policy.spaces (take l.place l.placed-items)))
+invariant-loop-place g l = l.names ≡ fold with_name [] (names_of (map (placed_in l.resolution.policy) (take l.place l.placed-items)))

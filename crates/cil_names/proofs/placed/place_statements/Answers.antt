@@ -6,10 +6,9 @@ use Rattle.cil_text.specs.Image.{statements_of}
 use Rattle.cil_names.specs.Extends.{Extends}
 use Rattle.cil_names.specs.Flat.{AreFlat}
 use Rattle.cil_names.specs.Image.{module_of}
-use Rattle.cil_names.specs.Nested.{erased, chains_of}
+use Rattle.cil_names.specs.Nested.{chains_of}
 use Rattle.cil_names.specs.declared.placed.Flat.{Flat}
-use Rattle.cil_names.proofs.NestedLemmas.{erased-nested}
-use Rattle.cil_names.proofs.PlacedLemmas.{module-plain, placed-module, policy-flat}
+use Rattle.cil_names.proofs.PlacedLemmas.{module-plain, placed-module, policy-flat, blocks-same}
 use Rattle.cil_names.proofs.placed.place_statements.Goals as goal
 
 pub place-requires-clause-plain : goal.place-requires-clause-plain
@@ -38,4 +37,9 @@ returns-clause-flat g c =
     let flat = c.loop-number.flat in
     let past : length modules ≤ i = search rules in
     let whole = c.loop-number.invariant.policy ∙ ap (λ l. joined (map module_of l)) (take_all i modules past) in
-    subst AreFlat (sym (ap (map erased) whole) ∙ erased-nested flat.spaces (chains_of flat.statements.items) flat.statements.items) (policy-flat c.args.joined.now c.requires.plain)
+    subst AreFlat (sym whole) (policy-flat c.args.joined.now c.requires.plain)
+
+pub returns-clause-blocks : goal.returns-clause-blocks
+returns-clause-blocks g c =
+    let flat = c.loop-number.flat in
+    blocks-same flat.spaces [] (chains_of flat.statements.items) flat.statements.items c.loop-number.invariant.blocks

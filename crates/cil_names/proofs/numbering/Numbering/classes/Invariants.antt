@@ -10,6 +10,6 @@ use Rattle.cil_names.proofs.numbering.Numbering.classes.Given as goal
 abbrev pub invariant-loop-place : goal.invariant-loop-place
 invariant-loop-place g l = record {
   made : map (class_of (modules_in l.self.resolution.now.policy) l.self.names.now) l.classes.items
-      ≡ flat_map (class_if (policy_in l.self.resolution.now.policy)) (policy_of l.self.resolution.now.policy.spaces (take l.place l.placed-items));
+      ≡ flat_map (class_if (policy_in l.self.resolution.now.policy)) (map (placed_in l.self.resolution.now.policy) (take l.place l.placed-items));
   within : IsTrue (list_all (is_class_below (length l.self.names.now)) l.classes.items);
 }

@@ -10,6 +10,6 @@ use Rattle.cil_names.proofs.numbering.Numbering.declared.Given as goal
 abbrev pub invariant-loop-place : goal.invariant-loop-place
 invariant-loop-place g l = record {
   made : map (declared_of (modules_in l.self.resolution.now.policy) l.self.names.now) l.declared.items
-      ≡ flat_map (declared_if l.kind) (policy_of l.self.resolution.now.policy.spaces (take l.place l.placed-items));
+      ≡ flat_map (declared_if l.kind) (map (placed_in l.self.resolution.now.policy) (take l.place l.placed-items));
   within : IsTrue (list_all (is_name_below (length l.self.names.now)) l.declared.items);
 }

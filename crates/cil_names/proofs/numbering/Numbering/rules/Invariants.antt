@@ -10,6 +10,6 @@ use Rattle.cil_names.proofs.numbering.Numbering.rules.Given as goal
 abbrev pub invariant-loop-placed : goal.invariant-loop-placed
 invariant-loop-placed g l = record {
   made : map (rule_of (modules_in l.self.resolution.now.policy) l.self.names.now) l.rules.items
-      ≡ rules_from (policy_in l.self.resolution.now.policy) (policy_of l.self.resolution.now.policy.spaces (take l.placed-index l.placed-items));
+      ≡ rules_from (policy_in l.self.resolution.now.policy) (map (placed_in l.self.resolution.now.policy) (take l.placed-index l.placed-items));
   within : IsTrue (list_all (is_rule_below (length l.self.names.now)) l.rules.items);
 }

@@ -13,7 +13,7 @@ use Rattle.cil_names.specs.Nested.{optionals_among, chains_of}
 use Rattle.cil_names.specs.Placed.{form_of, at_of}
 use Rattle.cil_names.specs.declared.placed.Flat.{Flat}
 use Rattle.cil_names.proofs.NestedLemmas.{around-number}
-use Rattle.cil_names.proofs.PlacedLemmas.{top, around-pushed, pushed-place, pushed-other, pushed-optional, extends-none, extends-one, extends-next, extends-namespace, extends-around, extends-block, extends-optional, each-plain, block-plain, optional-plain, body-depth, optional-depth, placed-leaf, leaf-name, opens-nothing, opens-block}
+use Rattle.cil_names.proofs.PlacedLemmas.{top, around-pushed, pushed-other, pushed-optional, extends-none, extends-one, extends-next, extends-namespace, extends-around, extends-block, extends-optional, each-plain, block-plain, optional-plain, body-depth, optional-depth, placed-leaf, leaf-name, opens-nothing, opens-block}
 use Rattle.cil_names.proofs.placed.Flat.+place.Goals as goal
 use Rattle.cil_names.proofs.placed.Flat.+place.Goals.{in-Block+in_ok-namespace-in-Block+in_ok-place-in-Block, in-Optional+in_ok-push-in-Optional+in_ok-place-in-Optional, in_default}
 
@@ -66,8 +66,8 @@ place-requires-in-Optional g t c κs within =
     let less = optional-depth statements i s opt.at opt.id opt.body c.loop-statement-test.true c.statement-item.is opt.is in
     let same : most (size-Statement g.row.A.Denot) c.deref-in-Optional.result.now ≡ most (size-Statement g.row.A.Denot) opt.body.items = ap (most (size-Statement g.row.A.Denot)) c.deref-in-Optional.ensures.value in
     let here = each-plain statements i s c.requires.plain (slice_get_read statements (length statements) i s refl c.loop-statement-test.true c.statement-item.is) in
-    let pushed = pushed-optional mid new _ _ c.len-optional.result c.loop-statement.invariant.nested among (ap (λ r. is_optional (form_of r)) opt.is) c.in_ok-push.ensures.items c.in_ok-push-in-Optional.ensures.items
-    (pushed-place mid.statements.items c.push.new.self.items _ c.len.result c.in_ok-push.ensures.items (c.len.ensures ∙ c.push.new.self.ok.0)) (c.len-optional.ensures ∙ c.push-in-Optional.new.self.ok.0) in (
+    let pushed = pushed-optional mid new _ c.len-optional.result c.loop-statement.invariant.nested among (ap (λ r. is_optional (form_of r)) opt.is) c.in_ok-push.ensures.items c.in_ok-push-in-Optional.ensures.items
+    (c.len-optional.ensures ∙ c.push-in-Optional.new.self.ok.0) in (
       omega (arith, c.decreases, less, same),
       (
         within,
@@ -126,8 +126,8 @@ loop-statement-preserved g t c =
           let opt = w.in-Optional in
           let inner = w.len-optional.result in
           let between : Flat g.row.A.Denot = record { modules = mid.modules; spaces = mid.spaces; optionals = w.push-in-Optional.new.self; statements = c.push.new.self } in
-          let pushed = pushed-optional mid between _ _ inner so_far.nested among (ap (λ r. is_optional (form_of r)) opt.is) c.in_ok-push.ensures.items w.in_ok-push-in-Optional.ensures.items
-          (pushed-place mid.statements.items c.push.new.self.items _ w.len.result c.in_ok-push.ensures.items (w.len.ensures ∙ c.push.new.self.ok.0)) (w.len-optional.ensures ∙ w.push-in-Optional.new.self.ok.0) in
+          let pushed = pushed-optional mid between _ inner so_far.nested among (ap (λ r. is_optional (form_of r)) opt.is) c.in_ok-push.ensures.items w.in_ok-push-in-Optional.ensures.items
+          (w.len-optional.ensures ∙ w.push-in-Optional.new.self.ok.0) in
           let first = extends-one mid between number name _ [] (sym (append-nil mid.spaces)) refl c.in_ok-push.ensures.items pushed.nested refl refl inside low
           (opens-nothing mid.spaces (top name namespace [] s) (ap (λ r. block_name (form_of r)) opt.is)) (λ distinct. distinct) in
           next c.match-statement.self
