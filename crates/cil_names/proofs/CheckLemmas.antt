@@ -7,7 +7,7 @@ use Rattle.cil_specs.specs.Joined.{Placed}
 use Rattle.cil_specs.specs.PolicyFault as spec
 use Rattle.cil_specs.specs.PolicyFault.{twice, missing, wrong_kind, alias_twice, alias_unset, second_common, too_many_permissions, code_of, IsAtWordOf, IsFaultOf, IsNoLater, IsFirst, Compiles}
 use Rattle.cil_names.specs.Image.{policy_kind_of, IsFoundFault}
-use Rattle.cil_names.specs.Flat.{IsLeast}
+use Rattle.cil_names.specs.Flat.{IsLeast, IsFaultless}
 use Rattle.cil_names.specs.Placed.{placed_of}
 use Rattle.cil_names.specs.declared.fault.PolicyFaultKind.{PolicyFaultKind}
 use Rattle.cil_names.specs.declared.fault.PolicyFaultKind.TheVariants.{Twice, Missing, WrongKind, AliasTwice, AliasUnset, SecondCommon, TooManyPermissions}

@@ -1,5 +1,5 @@
 -- What statements declare, and the entries that have it.
-use Rattle.std.proofs.Common.{◌≡◌, ℕ, zero, suc, ◌+◌, ◌<◌, ◌≤◌, Bool, true, false, not, ◌&&◌, ◌==◌, cond, List, [], ◌∷◌, ◌++◌, length, get_or, slice_get, take, drop, Contains, Option, Some, None, is_some, bytes_eq, position, if◌then◌else◌, refl, sym, ap, ◌∙◌, subst, true≢false, arith}
+use Rattle.std.proofs.Common.{◌≡◌, ℕ, zero, suc, ◌+◌, ◌<◌, ◌≤◌, Bool, true, false, not, ◌&&◌, ◌==◌, cond, List, [], ◌∷◌, ◌++◌, length, get_or, slice_get, take, drop, Contains, Option, Some, None, is_some, bytes_eq, position, if◌then◌else◌, refl, sym, ap, ◌∙◌, subst, true≢false, arith, map}
 use Rattle.std.specs.List.{list_any, IsDistinct}
 use Rattle.std.specs.Map.{lookup}
 use Rattle.std.specs.Option.{option_or, option_to_list}
@@ -14,7 +14,7 @@ use Rattle.cil_specs.specs.Lookup.{Table, types, classes, commons, scopes, decla
 use Rattle.cil_specs.specs.PolicyFault.{twice, is_again, twice_words, faulty_words, IsFaultOf}
 use Rattle.cil_specs.proofs.Runs.{both_true, first_true, second_true}
 use Rattle.cil_names.specs.Spaces.{Namespace}
-use Rattle.cil_names.specs.Policy.{table_of, is_table, is_key, HasDeclaredIn, HasDeclared, IsTaken, IsFlat}
+use Rattle.cil_names.specs.Policy.{table_of, is_table, is_key, HasDeclaredIn, IsTaken, IsFlat, placed_as}
 use Rattle.cil_names.specs.Flat.{IsLeast}
 use Rattle.cil_names.specs.Placed.{form_of, placed_of, policy_of}
 use Rattle.cil_names.specs.declared.placed.PlacedStatement.{PlacedStatement}
@@ -31,6 +31,7 @@ use Rattle.cil_names.specs.declared.kinds.Table as code
 use Rattle.cil_names.specs.declared.kinds.Table.TheVariants.{Types, Classes, Commons, Scopes}
 use Rattle.cil_names.specs.declared.policy.Key.{Key}
 use Rattle.cil_names.proofs.NameSets.{bytes_eq-refl, bytes_eq-true}
+use Rattle.cil_names.specs.Nested.{chains_by}
 use Rattle.cil_names.proofs.SpaceLemmas.{same_namespace-refl, distinct-place}
 
 same-bool : (a b : Bool) → (a ≡ true → b ≡ true) → (b ≡ true → a ≡ true) → a ≡ b

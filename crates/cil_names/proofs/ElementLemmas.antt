@@ -12,7 +12,7 @@ use Rattle.cil_specs.specs.Rule.{a_type, an_attribute, name_or_none, element_at,
 use Rattle.cil_specs.proofs.NamesLemmas.{contains-first, contains-other}
 use Rattle.cil_specs.proofs.Runs.{second_true}
 use Rattle.cil_names.specs.First.{IsFirstOf}
-use Rattle.cil_names.specs.Flat.{AreFlat}
+use Rattle.cil_names.specs.Flat.{AreFlat, IsFaultless}
 use Rattle.cil_names.specs.FullNames.{full_name_of}
 use Rattle.cil_names.specs.Gifts.{first_at, gives, HasFirsts}
 use Rattle.cil_names.specs.Numbering.{is_numbered}

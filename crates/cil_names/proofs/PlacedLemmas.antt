@@ -404,6 +404,10 @@ pub around-pushed : {A : Type 0} (old new : Flat A) (p : PlacedStatement A) (n :
 around-pushed old new p n name statements around =
     subst (λ os. IsAround os n name) (sym (ap optionals_among statements ∙ optionals-append old.statements.items (p ∷ []))) (around-more (optionals_among old.statements.items) (optionals_among (p ∷ [])) n name around)
 
+-- what is pushed is made of something
+pub pushed-as : {X : Type 0} (xs ys : List X) (x y : X) → ys ≡ xs ++ x ∷ [] → x ≡ y → ys ≡ xs ++ y ∷ []
+pushed-as xs ys x y pushed same = pushed ∙ ap (λ z. xs ++ z ∷ []) same
+
 -- one more statement that is no optional
 pub pushed-other : {A : Type 0} (old new : Flat A) (p : PlacedStatement A) → IsNested old.statements.items old.optionals.items → IsAmong (optionals_among old.statements.items) p → is_optional_statement p ≡ false
     → new.statements.items ≡ old.statements.items ++ p ∷ [] → new.optionals.items ≡ old.optionals.items → IsNested new.statements.items new.optionals.items
@@ -555,9 +559,9 @@ module-plain modules i m plain within is =
 
 -- a policy has the same blocks, whatever its statements' optionals are
 pub blocks-same : {A : Type 0} (spaces : List Namespace) (chains more : List (List ℕ)) (statements : List (PlacedStatement A)) → AreBlocks spaces (policy_of spaces chains statements) → AreBlocks spaces (policy_of spaces more statements)
-blocks-same spaces chains more statements blocks = (blocks.0, λ namespace name. subst (λ b. Contains spaces (name ∷ namespace) ↔ (b ≡ true)) (same namespace name statements) (blocks.1 namespace name))
+blocks-same {A} spaces chains more statements blocks = (blocks.0, λ namespace name. subst (λ b. Contains spaces (name ∷ namespace) ↔ (b ≡ true)) (same namespace name statements) (blocks.1 namespace name))
   where
-    same : (namespace : Namespace) (name : List ℕ) (ps : List (PlacedStatement _)) → has_block (policy_of spaces chains ps) namespace name ≡ has_block (policy_of spaces more ps) namespace name
+    same : (namespace : Namespace) (name : List ℕ) (ps : List (PlacedStatement A)) → has_block (policy_of spaces chains ps) namespace name ≡ has_block (policy_of spaces more ps) namespace name
     same namespace name [] = refl
     same namespace name (p ∷ ps) = ap (λ b. is_block namespace name (placed_of spaces more p) || b) (same namespace name ps)
 

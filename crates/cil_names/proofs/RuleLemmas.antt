@@ -12,6 +12,7 @@ use Rattle.cil_names.specs.Names.{HasWords}
 use Rattle.cil_names.specs.Numbering.{AreNamesOf, is_element_word}
 use Rattle.cil_names.proofs.FaultlessLemmas.{word-found, permission-found, alias-set}
 use Rattle.cil_names.proofs.LeadLemmas.{LeadsIn, leads-in}
+use Rattle.cil_names.specs.Flat.{IsFaultless}
 use Rattle.cil_names.proofs.NumberingLemmas.{has-words, named-of-all, permissions-all}
 
 all-of : (names : List (List ℕ)) (words : List Word) → ((w : Word) → Contains words w → has_name names w.text ≡ true) → list_all (has_name names) (texts words) ≡ true

@@ -3,7 +3,7 @@ use Rattle.cil_specs.specs.Lookup.{texts, distinct}
 use Rattle.cil_text.specs.Image.{word_of}
 use Rattle.cil_names.specs.Names.{with_words}
 use Rattle.cil_names.specs.Placed.{placed_of}
-use Rattle.cil_names.specs.Policy.{policy_in}
+use Rattle.cil_names.specs.Policy.{policy_in, placed_in}
 use Rattle.cil_names.specs.Classes.{SeenClasses}
 use Rattle.cil_names.proofs.ClassesLemmas.{own-none, own-other, own-places, own-next, own-all}
 use Rattle.cil_names.proofs.StatementsLemmas.{statement-at, statements-past}

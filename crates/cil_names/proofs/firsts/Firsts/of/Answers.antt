@@ -1,6 +1,6 @@
 use Rattle.std.proofs.Common.{None, Some, ap, refl, subst}
 use Rattle.cil_names.specs.Placed.{placed_of}
-use Rattle.cil_names.specs.Policy.{policy_in, IsLead}
+use Rattle.cil_names.specs.Policy.{policy_in, IsLead, placed_in}
 use Rattle.cil_names.specs.Gifts.{first_at, gift_table, given_lead, HasFirstsOf}
 use Rattle.cil_names.proofs.FirstsLemmas.{firsts-next}
 use Rattle.cil_names.proofs.StatementsLemmas.{statement-at, all-statements}
