@@ -3,7 +3,7 @@ use Rattle.std.proofs.Common.{◌≡◌, ◌⊎◌, inl, inr, ℕ, zero, suc, �
 use Rattle.std.specs.Prelude.{◌↔◌, option_map}
 use Rattle.std.specs.List.{list_all, AllByRecursion, IsDistinct}
 use Rattle.std.proofs.lemmas.Bool.{or_right, or_cases}
-use Rattle.std.proofs.lemmas.List.{map-append, length-append, length_push, get_or_append_left, get_or_default, get_or-map, take_more, take-map}
+use Rattle.std.proofs.lemmas.List.{map-append, length-append, length_push, get_or_append_left, get_or_default, get_or-map, take_all, take_more, take-map}
 use Rattle.std.proofs.lemmas.List.Elements.{Contains-append_left}
 use Rattle.std.proofs.lemmas.List.Folds.{list_any-append, list_all-map}
 use Rattle.std.proofs.lemmas.List.Recursion.{and_at}
@@ -33,8 +33,9 @@ use Rattle.cil_names.specs.Flat.{AreFlat}
 use Rattle.cil_names.specs.declared.joined.Joined.{Joined}
 use Rattle.cil_names.proofs.FlatLemmas.{IsRising, joined-flat}
 use Rattle.cil_names.specs.Extends.{placed_around, Extends}
-use Rattle.cil_names.specs.Nested.{is_optional_statement, optionals_among, chains_of, nested_policy_of, IsAround, IsAmong, IsNested}
+use Rattle.cil_names.specs.Nested.{is_optional_statement, optionals_among, chains_by, chains_of, nested_policy_of, IsAround, IsAmong, IsNested}
 use Rattle.cil_names.specs.Placed.{form_of, at_of, placed_of, policy_of, AreNumbered, AreIn, AreBlocks}
+use Rattle.cil_names.specs.Policy.{placed_as}
 use Rattle.cil_names.specs.Spaces.{Namespace}
 use Rattle.cil_names.specs.declared.joined.NamedModule.{NamedModule}
 use Rattle.cil_names.specs.declared.placed.PlacedStatement.{PlacedStatement}
@@ -536,6 +537,11 @@ placed-module modules i m old mid new within is so_far pushed spaces optionals s
 
     namespace : (0 < length new.spaces) × (get_or new.spaces 0 [] ≡ get_or mid.spaces 0 [])
     namespace = extends-namespace mid new i m.name.now brought 0 extends (subst (λ s. 0 < length s) (sym spaces) so_far.some)
+
+-- all modules are placed
+pub placed-all : {A : Type 0} (modules : List (NamedModule A)) (i : ℕ) (flat : Flat A) → length modules ≤ i → IsPlaced modules i flat → map (placed_as flat) flat.statements.items ≡ joined (map module_of modules)
+placed-all modules i flat past placed =
+    (λ k. policy_of flat.spaces (chains_by (placed.nested.optionals_are k)) flat.statements.items) ∙ placed.policy ∙ ap (λ l. joined (map module_of l)) (take_all i modules past)
 
 module-names : {A : Type 0} (modules : List (NamedModule A)) → map (λ m. m.name) (map module_of modules) ≡ map (λ m. m.name.now) modules
 module-names [] = refl

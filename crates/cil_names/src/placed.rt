@@ -9,8 +9,9 @@ ghost use Rattle.cil_text.specs.Image.{statements_of};
 ghost use Rattle.cil_names.specs.Image.{modules_of};
 ghost use Rattle.cil_names.specs.Flat.{AreFlat};
 ghost use Rattle.cil_names.specs.Extends.{placed_around, Extends};
-ghost use Rattle.cil_names.specs.Nested.{nested_policy_of, optionals_among, IsAround, IsNested};
+ghost use Rattle.cil_names.specs.Nested.{optionals_among, IsAround, IsNested};
 ghost use Rattle.cil_names.specs.Placed.{AreNumbered, AreIn, AreBlocks};
+ghost use Rattle.cil_names.specs.Policy.{placed_as};
 ghost use Rattle.cil_names.specs.Spaces.{Namespace};
 
 use crate::fault::{PolicyFault, PolicyFaultKind};
@@ -148,12 +149,12 @@ pub fn place_statements<'j, 'a, A: Allocator + Copy>(
     joined: &'j Joined<'a, A>,
 ) -> Result<Flat<'j, 'a, A>, AllocError>
     requires plain { IsTrue (list_all (λ m. is_plain m.statements) (modules_of joined.now)) }
-    ensures policy { IfOk result (λ flat. nested_policy_of flat.spaces flat.statements.items ≡ joined_policy (modules_of joined.now)) }
+    ensures policy { IfOk result (λ flat. map (placed_as flat) flat.statements.items ≡ joined_policy (modules_of joined.now)) }
     ensures nested { IfOk result (λ flat. IsNested flat.statements.items flat.optionals.items) }
     ensures numbered { IfOk result (λ flat. AreNumbered (map (λ m. m.now) flat.modules.items) flat.statements.items) }
-    ensures flat { IfOk result (λ flat. AreFlat (nested_policy_of flat.spaces flat.statements.items)) }
+    ensures flat { IfOk result (λ flat. AreFlat (map (placed_as flat) flat.statements.items)) }
     ensures within { IfOk result (λ flat. AreIn (length flat.spaces) flat.statements.items) }
-    ensures blocks { IfOk result (λ flat. AreBlocks flat.spaces (nested_policy_of flat.spaces flat.statements.items)) }
+    ensures blocks { IfOk result (λ flat. AreBlocks flat.spaces (map (placed_as flat) flat.statements.items)) }
     ensures distinct { IfOk result (λ flat. IsDistinct same_namespace flat.spaces) }
 {
     let mut flat = Flat {

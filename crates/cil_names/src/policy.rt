@@ -71,9 +71,9 @@ impl<'j, 'a, A: Allocator + Copy> Policy<'j, 'a, A> {
     fn of_flat(alloc: A, flat: Flat<'j, 'a, A>) -> Result<Self, PolicyFault<'a>>
         requires { IsFlat flat }
         ensures sound { IfOk result IsSound }
-        ensures spaces { IfOk result (λ p. p.spaces ≡ flat.entry.spaces) }
         ensures statements { IfOk result (λ p. p.statements.items ≡ flat.entry.statements.items) }
         ensures optionals { IfOk result (λ p. p.optionals ≡ flat.entry.optionals) }
+        ensures policy { IfOk result (λ p. policy_in p ≡ map (placed_as flat.entry) flat.entry.statements.items) }
         ensures modules { IfOk result (λ p. p.modules ≡ flat.entry.modules) }
         ensures once { IfOk result (λ p. (fault : _) → IsFaultOf twice (policy_in p) fault → ⊥) }
         ensures err { IfErr result (λ fault. PolicyFaultIs fault (IsLeast (IsFaultOf twice (map (placed_as flat.entry) flat.entry.statements.items)))) }

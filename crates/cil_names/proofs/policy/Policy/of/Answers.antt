@@ -10,14 +10,7 @@ use Rattle.cil_names.proofs.FaultLemmas.{fault-weaker}
 use Rattle.cil_names.proofs.ModulesApart.{policy-apart}
 use Rattle.cil_names.proofs.policy.Policy.of.Goals as goal
 
-pub of_flat-requires : goal.of_flat-requires
-of_flat-requires g c = ?
-
-pub returns-clause-policy : goal.returns-clause-policy
-returns-clause-policy g c = ?
-
 pub returns-clause-apart : goal.returns-clause-apart
-returns-clause-apart g c = ?
-
-pub returns-clause-err : goal.returns-clause-err
-returns-clause-err g c = ?
+returns-clause-apart g c =
+    let whole : IfOk c.of_flat.result (λ p. policy_in p ≡ joined (modules_of c.args.joined.now)) = search rules in
+    IfOk-weaker c.of_flat.result (λ p. policy_in p ≡ joined (modules_of c.args.joined.now)) (λ p. AreApart (policy_in p)) (λ p is. subst AreApart (sym is) (policy-apart c.args.joined.now)) whole

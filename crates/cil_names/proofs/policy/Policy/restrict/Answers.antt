@@ -13,7 +13,10 @@ of_flat-requires g c =
     flat-kept c.args.self (set_of c.args.self.optionals.items c.args.kept.now) c.args.kept.now c.retain_kept.new.statements c.requires.sound c.requires.apart c.requires.within c.retain_kept.ensures
 
 pub returns-clause-policy : goal.returns-clause-policy
-returns-clause-policy g c = ?
+returns-clause-policy g c =
+    let p = c.args.self in
+    let told = kept-told p (set_of p.optionals.items c.args.kept.now) c.args.kept.now c.requires.within in
+    IfOk-weaker c.of_flat.result _ _ (λ q same. same ∙ ap (map (placed_in p)) c.retain_kept.ensures ∙ told) c.of_flat.ensures.policy
 
 pub returns-clause-err : goal.returns-clause-err
 returns-clause-err g c =
