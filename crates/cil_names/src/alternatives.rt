@@ -4,7 +4,7 @@ ghost use Rattle.std.specs.Prelude.{◌≡◌, ◌≢◌, ◌<◌, ◌+◌, ◌=
 ghost use Rattle.std.specs.List.{list_all, slice_split};
 ghost use Rattle.cil_specs.specs.Lookup.{leads as leads_from, outward as looked_outward, inside as looked_inside, from_namespace as looked_from, declaration};
 ghost use Rattle.cil_specs.specs.PolicyFault.{twice, IsFaultOf};
-ghost use Rattle.cil_specs.specs.Kept.{Optionals, restricted};
+ghost use Rattle.cil_specs.specs.Kept.{Optionals, restricted, AreApart};
 ghost use Rattle.cil_names.specs.Nested.{has_number, IsNested};
 ghost use Rattle.cil_names.specs.Needs.{is_found, IsGathered};
 ghost use Rattle.cil_names.specs.Policy.{namespace_at, policy_in, table_of, IsSound};
@@ -26,6 +26,7 @@ impl<'j, 'a, A: Allocator + Copy> Policy<'j, 'a, A> {
     ) -> Result<Option<Vec<usize, A>>, AllocError>
         requires sound { IsSound self.now }
         requires nested { IsNested self.now.statements.items self.now.optionals.items }
+        requires apart { AreApart (policy_in self.now) }
         requires once { (fault : _) → IsFaultOf twice (policy_in self.now) fault → ⊥ }
         requires within { namespace < length self.now.spaces }
         requires table { table ≢ Scopes }
@@ -50,6 +51,7 @@ impl<'j, 'a, A: Allocator + Copy> Policy<'j, 'a, A> {
     ) -> Result<Option<Vec<usize, A>>, AllocError>
         requires sound { IsSound self.now }
         requires nested { IsNested self.now.statements.items self.now.optionals.items }
+        requires apart { AreApart (policy_in self.now) }
         requires once { (fault : _) → IsFaultOf twice (policy_in self.now) fault → ⊥ }
         requires within { namespace < length self.now.spaces }
         requires table { table ≢ Scopes }
@@ -75,6 +77,7 @@ impl<'j, 'a, A: Allocator + Copy> Policy<'j, 'a, A> {
     ) -> Result<Option<Vec<usize, A>>, AllocError>
         requires sound { IsSound self.now }
         requires nested { IsNested self.now.statements.items self.now.optionals.items }
+        requires apart { AreApart (policy_in self.now) }
         requires once { (fault : _) → IsFaultOf twice (policy_in self.now) fault → ⊥ }
         requires within { namespace < length self.now.spaces }
         requires table { table ≢ Scopes }
@@ -104,6 +107,7 @@ impl<'j, 'a, A: Allocator + Copy> Policy<'j, 'a, A> {
     ) -> Result<bool, AllocError>
         requires sound { IsSound self.now }
         requires nested { IsNested self.now.statements.items self.now.optionals.items }
+        requires apart { AreApart (policy_in self.now) }
         requires once { (fault : _) → IsFaultOf twice (policy_in self.now) fault → ⊥ }
         requires within { namespace < length self.now.spaces }
         requires table { table ≢ Scopes }
@@ -131,6 +135,7 @@ impl<'j, 'a, A: Allocator + Copy> Policy<'j, 'a, A> {
     ) -> Result<Option<Vec<usize, A>>, AllocError>
         requires sound { IsSound self.now }
         requires nested { IsNested self.now.statements.items self.now.optionals.items }
+        requires apart { AreApart (policy_in self.now) }
         requires once { (fault : _) → IsFaultOf twice (policy_in self.now) fault → ⊥ }
         requires within { namespace < length self.now.spaces }
         requires table { table ≢ Scopes }
