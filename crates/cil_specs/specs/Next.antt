@@ -132,7 +132,7 @@ pub data Edit : Type 0 where
   install : List ℕ → ℕ → List ℕ → Edit
 
 -- Why an edit is refused: by the store, with a code and a word; by a text or the policy, with a code, a module, a place and a
--- word; or for want of memory.
+-- word; or when memory runs out.
 pub data Refusal : Type 0 where
   by_store : ℕ → List ℕ → Refusal
   at_place : ℕ → List ℕ → Place → List ℕ → Refusal
