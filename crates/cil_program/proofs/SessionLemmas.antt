@@ -3,12 +3,12 @@ use Rattle.std.proofs.Common.{◌≡◌, ◌≢◌, ℕ, ◌+◌, ◌-◌, ◌^�
 use Rattle.std.specs.List.{list_all, list_any, AllByRecursion}
 use Rattle.std.proofs.lemmas.List.Folds.{list_any-append, list_all-append}
 use Rattle.std.proofs.lemmas.Grind.{flat_map-append}
-use Rattle.cil_specs.specs.Device.{Gains}
+use Rattle.cil_text.specs.Device.{Gains}
 use Rattle.cil_specs.specs.Run.{Call, Reply, changed_by, refused, listed, dropped_optionals, Run}
 use Rattle.cil_specs.specs.Script.{line_of, command, HasGoodWords, IsCommand, MayLackItsEnd, IsNoCommand, ends, stops, whole, without_end, answer, last_line, is_refusal}
 use Rattle.cil_specs.specs.Session as spec
 use Rattle.cil_specs.specs.Session.{IsSession, all_accepted, some_refused, no_script}
-use Rattle.cil_specs.proofs.Gaining.{gains-both, gains-none}
+use Rattle.cil_text.proofs.Gaining.{gains-both, gains-none}
 use Rattle.cil_specs.proofs.RunLemmas.{run-more}
 use Rattle.cil_specs.proofs.Runs.{both_true}
 use Rattle.cil_program.specs.Input.{Fits, EndsLine, stays}

@@ -1,7 +1,7 @@
 -- What was read from a source that gives bytes in pieces.
 use Rattle.std.specs.Prelude.{◌≡◌, ◌≢◌, ℕ, ◌+◌, ◌<◌, ◌≤◌, ◌^◌, Bool, true, false, not, List, [], ◌∷◌, ◌++◌, length, count_by, IsTrue, Option, ◌⊎◌}
 use Rattle.cil_specs.specs.Place.{is_line_feed}
-use Rattle.cil_specs.specs.Device.{Takes, Held}
+use Rattle.cil_text.specs.Device.{Takes, Held}
 use Rattle.cil_program.specs.declared.script.input.LineEnd.{LineEnd}
 use Rattle.cil_program.specs.declared.script.input.LineEnd.TheVariants.{LineFeed, LastByte, TooLong}
 

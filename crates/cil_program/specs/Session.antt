@@ -1,6 +1,6 @@
 -- One line of a script, and what came of it.
 use Rattle.std.specs.Prelude.{◌≡◌, ℕ, Bool, List, [], ◌∷◌, ◌++◌, length, Option, IsTrue, ◌⊎◌}
-use Rattle.cil_specs.specs.Device.{Held, Gains}
+use Rattle.cil_text.specs.Device.{Held, Gains}
 use Rattle.cil_specs.specs.Store.{Store}
 use Rattle.cil_specs.specs.Next.{install}
 use Rattle.cil_specs.specs.Run.{Call, an_edit, Reply, changed_by, refused, listed, dropped_optionals, Step}

@@ -3,7 +3,7 @@
 ghost use Rattle.std.specs.Prelude.{◌≡◌, ◌≢◌, ◌↔◌, ◌+◌, ◌<◌, ◌≤◌, ◌^◌, ◌∷◌, [], false, ℕ, List, length, count_by, IsTrue, IfOk, IfSome, IfNone, OnErr};
 ghost use Rattle.std.specs.List.{list_all};
 ghost use Rattle.cil_specs.specs.Place.{is_line_feed};
-ghost use Rattle.cil_specs.specs.Device.{HasFailed, Gains, Takes};
+ghost use Rattle.cil_text.specs.Device.{HasFailed, Gains, Takes};
 
 use crate::script::line::Line;
 use cil_text::{Source, SourceFault};
@@ -54,7 +54,7 @@ pub struct Input {
 
 impl Model for Input {
     ghost use Rattle.std.specs.Prelude.{◌≤◌, ◌<◌, ◌+◌, ◌-◌, ◌^◌, slice_range};
-    ghost use Rattle.cil_specs.specs.Device.{Held};
+    ghost use Rattle.cil_text.specs.Device.{Held};
 
     ghost Value = { Held };
 
@@ -126,7 +126,7 @@ impl Input {
 impl Input {
     ghost use Rattle.std.specs.Prelude.{◌≡◌, ◌≢◌, ◌+◌, ◌≤◌, ◌∷◌, ◌++◌, [], false, ℕ, List, length, take, drop, count_by, IsTrue, IfOk, IfSome, IfNone, OnErr, vec_len, vec_capacity};
     ghost use Rattle.std.specs.List.{list_all};
-    ghost use Rattle.cil_specs.specs.Device.{HasFailed};
+    ghost use Rattle.cil_text.specs.Device.{HasFailed};
     ghost use Rattle.cil_specs.specs.Place.{is_line_feed};
     ghost use Rattle.cil_program.specs.Input.{Fits, HasRead, EndsLine, IsText, IsOther, IsWholeText, stays};
 

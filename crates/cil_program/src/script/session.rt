@@ -1,7 +1,7 @@
 //! A session: it answers a script, command by command.
 
 ghost use Rattle.std.specs.Prelude.{◌≡◌, ◌≢◌, ◌≤◌, [], List, ℕ, IfOk, OnOk, OnErr, IsErrOf, IsTrue};
-ghost use Rattle.cil_specs.specs.Device.{HasFailed, Gains};
+ghost use Rattle.cil_text.specs.Device.{HasFailed, Gains};
 ghost use Rattle.cil_specs.specs.Run.{an_edit, ask_rows, ask_dropped};
 ghost use Rattle.cil_specs.specs.Script.{refusal_line};
 ghost use Rattle.cil_specs.specs.Session.{IsSession};

@@ -1,7 +1,7 @@
 //! Sinks, which take bytes.
 
 ghost use Rattle.std.specs.Prelude.{◌≡◌, ◌<◌, ◌≤◌, ℕ, List, Option, None, take, length, flat_map, OnOk, OnErr, IfOk};
-ghost use Rattle.cil_specs.specs.Device.{HasFailed, Gains, GainsFront};
+ghost use Rattle.cil_text.specs.Device.{HasFailed, Gains, GainsFront};
 
 use std::io::Write;
 use thiserror::Error;

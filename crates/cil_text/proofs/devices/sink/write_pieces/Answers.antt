@@ -1,7 +1,7 @@
 use Rattle.std.proofs.Common.{List, ℕ}
 use Rattle.std.specs.Borrow.{Bor}
-use Rattle.cil_specs.proofs.Gaining.{on_err, gains-pieces_front}
-use Rattle.cil_text.proofs.sink.write_pieces.Goals as goal
+use Rattle.cil_text.proofs.Gaining.{on_err, gains-pieces_front}
+use Rattle.cil_text.proofs.devices.sink.write_pieces.Goals as goal
 
 pub returns-in_err-write_all-clause-err : goal.returns-in_err-write_all-clause-err
 returns-in_err-write_all-clause-err g c =

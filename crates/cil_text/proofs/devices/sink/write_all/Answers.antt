@@ -1,8 +1,8 @@
 use Rattle.std.proofs.Common.{◌≡◌, ◌-◌, ℕ, List, length, length-drop, subst, drop, take, rules, arith}
 use Rattle.std.proofs.lemmas.List.{take_all}
-use Rattle.cil_specs.specs.Device.{Gains}
-use Rattle.cil_specs.proofs.Gaining.{gains-front}
-use Rattle.cil_text.proofs.sink.write_all.Goals as goal
+use Rattle.cil_text.specs.Device.{Gains}
+use Rattle.cil_text.proofs.Gaining.{gains-front}
+use Rattle.cil_text.proofs.devices.sink.write_all.Goals as goal
 
 pub loop-done-preserved : goal.loop-done-preserved
 loop-done-preserved g c =

@@ -1,7 +1,7 @@
 use Rattle.std.proofs.Common.{◌≤◌, ◌∙◌, ◌++◌, Some, length, take, drop, ap, arith}
-use Rattle.cil_specs.specs.Device.{Reel}
+use Rattle.cil_text.specs.Device.{Reel}
 use Rattle.cil_text.proofs.Pieces.{piece-given}
-use Rattle.cil_text.proofs.memory_source.MemorySourceSource.take.Goals as goal
+use Rattle.cil_text.proofs.devices.memory_source.MemorySourceSource.take.Goals as goal
 
 pub returns-clause-given : goal.returns-clause-given
 returns-clause-given c =

@@ -1,9 +1,9 @@
 //! A sink over memory.
 
 ghost use Rattle.std.specs.Prelude.{◌≡◌, ◌<◌, ◌≤◌, [], Some, length, take, min, OnErr, IfOk};
-ghost use Rattle.cil_specs.specs.Device.{HasFailed, Gains};
+ghost use Rattle.cil_text.specs.Device.{HasFailed, Gains};
 
-use crate::sink::{Sink, SinkFault};
+use crate::devices::sink::{Sink, SinkFault};
 use std::alloc::{Allocator, Global};
 use std::marker::Model;
 
@@ -18,7 +18,7 @@ pub struct MemorySink<A: Allocator = Global> {
 }
 
 impl<A: Allocator> Model for MemorySink<A> {
-    ghost use Rattle.cil_specs.specs.Device.{Tray};
+    ghost use Rattle.cil_text.specs.Device.{Tray};
 
     ghost Value = { Tray };
 
@@ -27,7 +27,7 @@ impl<A: Allocator> Model for MemorySink<A> {
 
 impl<A: Allocator> MemorySink<A> {
     ghost use Rattle.std.specs.Prelude.{◌≡◌, ◌-◌, ◌≤◌, ◌^◌, []};
-    ghost use Rattle.cil_specs.specs.Device.{HasFailed};
+    ghost use Rattle.cil_text.specs.Device.{HasFailed};
 
     /// A sink that takes all that memory holds.
     pub fn new(alloc: A) -> Self

@@ -1,7 +1,7 @@
 use Rattle.std.proofs.Common.{◌≤◌, take}
 use Rattle.std.specs.List.{flat_map}
-use Rattle.cil_specs.specs.Device.{Gains}
-use Rattle.cil_text.proofs.sink.write_pieces.Given as goal
+use Rattle.cil_text.specs.Device.{Gains}
+use Rattle.cil_text.proofs.devices.sink.write_pieces.Given as goal
 
 abbrev pub invariant-loop-piece : goal.invariant-loop-piece
 invariant-loop-piece g l = record {

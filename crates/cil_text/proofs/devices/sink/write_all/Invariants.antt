@@ -1,6 +1,6 @@
 use Rattle.std.proofs.Common.{length, ◌-◌, ◌≤◌, take}
-use Rattle.cil_specs.specs.Device.{Gains}
-use Rattle.cil_text.proofs.sink.write_all.Given as goal
+use Rattle.cil_text.specs.Device.{Gains}
+use Rattle.cil_text.proofs.devices.sink.write_all.Given as goal
 
 abbrev pub invariant-loop-done : goal.invariant-loop-done
 invariant-loop-done g l = record {

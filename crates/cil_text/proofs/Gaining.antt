@@ -5,7 +5,7 @@ use Rattle.std.specs.Option.{option_map}
 use Rattle.std.proofs.lemmas.List.{take-append-le, take-append-drop, take_more}
 use Rattle.std.proofs.lemmas.List.Concat.{flat_map-append}
 use Rattle.std.proofs.Math.Seq.{take-append-add}
-use Rattle.cil_specs.specs.Device.{HasFailed, Gains, GainsFront}
+use Rattle.cil_text.specs.Device.{HasFailed, Gains, GainsFront}
 
 -- one text and then another
 pub gains-both : (old mid new : Option (List ℕ)) (first second : List ℕ) → Gains old mid first → Gains mid new second → Gains old new (first ++ second)
