@@ -80,13 +80,12 @@ reel-sound r = record {
     by true e ended = e
     by false e ended = absurd (true≢false (sym ended))
 
--- how many bytes it gives into a buffer of this length
-abbrev pub amount : Reel → ℕ → ℕ
-amount r room = min (min (min (length r.text - r.at) room) (max r.greatest 1)) (r.limit - r.at)
-
--- after it gave so many bytes into a buffer of this length; none into a buffer that isn't empty tells the end
-abbrev pub given : Reel → ℕ → ℕ → Reel
-given r n room = record r { at = r.at + n; ends = if (n == 0) && nat_le 1 room then min (r.ends + 1) (2 ^ 64 - 1) else r.ends }
+-- What a call gives: as many bytes as are left, as fit into the buffer, as it gives a call, and as it gives before it fails.
+-- They stand at the front of the buffer. None into a buffer that isn't empty tells the end.
+pub record HasGiven (old new : Reel) (before after : List ℕ) (n : ℕ) : Type 0 where
+  pub amount : n ≡ min (min (min (length old.text - old.at) (length before)) (max old.greatest 1)) (old.limit - old.at)
+  pub bytes : after ≡ take n (drop old.at old.text) ++ drop n before
+  pub reel : new ≡ record old { at = old.at + n; ends = if (n == 0) && nat_le 1 (length before) then min (old.ends + 1) (2 ^ 64 - 1) else old.ends }
 
 -- after it failed
 abbrev pub failed : Reel → Reel

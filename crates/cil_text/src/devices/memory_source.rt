@@ -1,7 +1,7 @@
 //! A source over memory.
 
-ghost use Rattle.std.specs.Prelude.{◌≡◌, ◌+◌, ◌-◌, ◌<◌, ◌≤◌, ◌^◌, ◌++◌, ◌==◌, ◌&&◌, if◌then◌else◌, nat_le, length, take, drop, min, OnErr, IfOk, IsErr, ◌↔◌};
-ghost use Rattle.cil_text.specs.Device.{account_of, amount, given, failed, reel-sound};
+ghost use Rattle.std.specs.Prelude.{◌≡◌, ◌↔◌, ◌+◌, ◌<◌, ◌≤◌, ◌^◌, length, take, IsTrue, IfOk, OnErr, IsErr};
+ghost use Rattle.cil_text.specs.Device.{HasFailed, HasEnded, HasGiven, Gives, account_of, failed, has_ended, reel-sound};
 
 use crate::devices::source::{Source, SourceFault};
 use std::marker::Model;
@@ -68,12 +68,21 @@ impl<'a> MemorySource<'a> {
 impl<'a> Source for MemorySource<'a> {
     ghost account = { account_of };
 
+    // The first three clauses say exactly what a call does, and the others are those of every source.
     fn take(&mut self, buffer: &mut [u8]) -> Result<usize, SourceFault>
-        ensures amount { IfOk result (λ n. n ≡ amount self.old (length buffer.old)) }
-        ensures bytes { IfOk result (λ n. buffer.new ≡ take n (drop self.old.at self.old.text) ++ drop n buffer.old) }
-        ensures given { IfOk result (λ n. self.new ≡ given self.old n (length buffer.old)) }
-        ensures fails { IsErr result ↔ (self.old.limit ≤ self.old.at) }
-        ensures err { OnErr result ((self.new ≡ failed self.old) × (buffer.new ≡ buffer.old)) }
+        ensures exact { IfOk result (λ n. HasGiven self.old self.new buffer.old buffer.new n) }
+        ensures fault { IsErr result ↔ (self.old.limit ≤ self.old.at) }
+        ensures exact_fault { OnErr result ((self.new ≡ failed self.old) × (buffer.new ≡ buffer.old)) }
+        ensures within { IfOk result (λ n. n ≤ length buffer.old) }
+        ensures given { IfOk result (λ n. Gives (account_of self.old) (account_of self.new) (take n buffer.new)) }
+        ensures ended { IfOk result (λ n. 0 < length buffer.old → n ≡ 0 → HasEnded (account_of self.old) (account_of self.new)) }
+        ensures same_end { IfOk result (λ n. 0 < n → (account_of self.new).ends ≡ (account_of self.old).ends) }
+        ensures no_end { IfOk result (λ n. length buffer.old ≡ 0 → (account_of self.new).ends ≡ (account_of self.old).ends) }
+        ensures over { IfOk result (λ n. IsTrue (has_ended (account_of self.old)) → n ≡ 0) }
+        ensures err { OnErr result (account_of self.new ≡ record (account_of self.old) { failures = (account_of self.new).failures }) }
+        ensures failed { OnErr result (HasFailed (account_of self.old).failures (account_of self.new).failures) }
+        ensures counted { (account_of self.old).failures ≤ (account_of self.new).failures }
+        ensures small { (account_of self.new).count < 2 ^ 64 }
     {
         if self.at >= self.limit {
             self.failures = self.failures.saturating_add(1);
