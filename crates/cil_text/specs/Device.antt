@@ -97,3 +97,8 @@ pub record Tray : Type 0 where
   pub greatest : ℕ
   pub limit : ℕ
   pub failures : ℕ
+
+-- What a call takes: as much of the piece as it takes a call, and as it takes before it fails.
+pub record HasTaken (old new : Tray) (piece : List ℕ) (n : ℕ) : Type 0 where
+  pub amount : n ≡ min (min (length piece) old.greatest) (old.limit - length old.bytes)
+  pub tray : new ≡ record old { bytes = old.bytes ++ take n piece }

@@ -1,7 +1,7 @@
 //! A sink over memory.
 
-ghost use Rattle.std.specs.Prelude.{◌≡◌, ◌<◌, ◌≤◌, [], Some, length, take, min, OnErr, IfOk};
-ghost use Rattle.cil_text.specs.Device.{HasFailed, Gains};
+ghost use Rattle.std.specs.Prelude.{◌≡◌, ◌+◌, ◌-◌, ◌^◌, ◌<◌, ◌≤◌, Some, length, take, min, OnErr, IfOk};
+ghost use Rattle.cil_text.specs.Device.{HasFailed, Gains, HasTaken};
 
 use crate::devices::sink::{Sink, SinkFault};
 use std::alloc::{Allocator, Global};
@@ -26,8 +26,7 @@ impl<A: Allocator> Model for MemorySink<A> {
 }
 
 impl<A: Allocator> MemorySink<A> {
-    ghost use Rattle.std.specs.Prelude.{◌≡◌, ◌-◌, ◌≤◌, ◌^◌, []};
-    ghost use Rattle.cil_text.specs.Device.{HasFailed};
+    ghost use Rattle.std.specs.Prelude.{◌≡◌, ◌≤◌, ◌+◌, ◌-◌, ◌^◌, min, []};
 
     /// A sink that takes all that memory holds.
     pub fn new(alloc: A) -> Self
@@ -59,10 +58,7 @@ impl<A: Allocator> MemorySink<A> {
     }
 
     fn fail(&mut self) -> SinkFault
-        ensures bytes { self.new.bytes ≡ self.old.bytes }
-        ensures greatest { self.new.greatest ≡ self.old.greatest }
-        ensures limit { self.new.limit ≡ self.old.limit }
-        ensures failed { HasFailed self.old.failures self.new.failures }
+        ensures exact { self.new ≡ record self.old { failures = min (self.old.failures + 1) (2 ^ 64 - 1) } }
         ensures counted { self.old.failures ≤ self.new.failures }
     {
         self.failures = self.failures.saturating_add(1);
@@ -75,7 +71,17 @@ impl<A: Allocator> Sink for MemorySink<A> {
 
     ghost failures = { λ s. s.failures };
 
-    fn put(&mut self, piece: &[u8]) -> Result<usize, SinkFault> {
+    // The first two clauses say exactly what a call does, and the others are those of every sink.
+    fn put(&mut self, piece: &[u8]) -> Result<usize, SinkFault>
+        ensures exact { IfOk result (λ n. HasTaken self.old self.new piece.now n) }
+        ensures exact_fault { OnErr result (self.new ≡ record self.old { failures = min (self.old.failures + 1) (2 ^ 64 - 1) }) }
+        ensures within { IfOk result (λ n. n ≤ length piece.now) }
+        ensures some { IfOk result (λ n. 0 < length piece.now → 0 < n) }
+        ensures ok { IfOk result (λ n. Gains (Some self.old.bytes) (Some self.new.bytes) (take n piece.now)) }
+        ensures err { OnErr result (Some self.new.bytes ≡ Some self.old.bytes) }
+        ensures failed { OnErr result (HasFailed self.old.failures self.new.failures) }
+        ensures counted { self.old.failures ≤ self.new.failures }
+    {
         let room = self.limit.saturating_sub(self.bytes.len());
         let n = piece.len().min(self.greatest).min(room);
         if n == 0 && !piece.is_empty() {

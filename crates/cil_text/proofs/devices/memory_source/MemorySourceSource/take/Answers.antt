@@ -1,5 +1,5 @@
 use Rattle.std.proofs.Common.{rules, ◌≡◌, ◌≤◌, ◌∙◌, ◌++◌, ◌+◌, ℕ, List, Some, length, take, drop, ap, arith}
-use Rattle.cil_text.specs.Device.{Reel, Gives, account_of}
+use Rattle.cil_text.specs.Device.{Reel}
 use Rattle.cil_text.proofs.Pieces.{piece-given, piece-length}
 use Rattle.cil_text.proofs.devices.memory_source.MemorySourceSource.take.Goals as goal
 use Rattle.cil_text.proofs.devices.memory_source.MemorySourceSource.take.Goals.{then-n-eq0+then-not-is_empty, else-n-eq0}
