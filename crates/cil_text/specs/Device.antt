@@ -30,9 +30,15 @@ pub record Account : Type 0 where
 abbrev pub has_ended : Account → Bool
 has_ended account = nat_le 1 account.ends
 
--- it told its end in between: the count of ends rose, or stands at its greatest value
+-- it told its end in between: the count of ends rose, or has come to its greatest value
 abbrev pub HasEnded : Account → Account → Type 0
-HasEnded old new = (old.ends < new.ends) ⊎ (new.ends ≡ 2 ^ 64 - 1)
+HasEnded old new = (old.ends < new.ends) ⊎ (2 ^ 64 - 1 ≤ new.ends)
+
+-- Of its whole text this is left, behind what it gave.
+pub record IsLeft (account : Account) (rest : List ℕ) : Type 0 where
+  pub front : List ℕ
+  pub given : account.given ≡ Some front
+  pub whole : account.whole ≡ Some (front ++ rest)
 
 -- What was given begins the whole text, and once the end was told it is all of it.
 pub record IsSound (account : Account) : Type 0 where
