@@ -1,5 +1,5 @@
 -- Bytes that are read one piece after another.
-use Rattle.std.proofs.Common.{Option, IsTrue, Result, Ok, Err, IfOk, inl, inr, false, true, Bool, ◌≡◌, ◌≢◌, ℕ, ◌+◌, ◌<◌, ◌≤◌, ◌^◌, not, List, [], ◌∷◌, ◌++◌, length, take, drop, append-nil, length-drop, count_by, refl, ap, sym, ◌∙◌, append_assoc, length-append, arith}
+use Rattle.std.proofs.Common.{Option, IsTrue, Result, Ok, Err, IfOk, inl, inr, false, true, Bool, ◌≡◌, ◌≢◌, ℕ, ◌+◌, ◌<◌, ◌≤◌, ◌^◌, not, List, [], ◌∷◌, ◌++◌, length, take, drop, append-nil, length-drop, count_by, refl, ap, sym, ◌∙◌, subst, append_assoc, length-append, arith}
 use Rattle.std.specs.List.{list_all}
 use Rattle.std.proofs.lemmas.List.{take-append-drop, length-take-le}
 use Rattle.std.proofs.lemmas.List.Sums.{sum_by-append, count_by-le-length}
@@ -34,7 +34,7 @@ takes-both was mid is before between held first second a b = record {
 }
 
 -- nothing was taken
-pub takes-none : (now : Account) (held : List ℕ) → Takes now now held [] held
+takes-none : (now : Account) (held : List ℕ) → Takes now now held [] held
 takes-none now held = record { fresh = []; gives = gives-none now; same = append-nil held }
 
 pub count-both : (first second : List ℕ) → count_by is_line_feed (first ++ second) ≡ count_by is_line_feed first + count_by is_line_feed second
@@ -43,6 +43,10 @@ count-both first second = sum_by-append _ first second
 either-some : (first second : List ℕ) → first ++ second ≢ [] → (P : Type 0) → (first ≢ [] → P) → (second ≢ [] → P) → P
 either-some [] second some P f g = g some
 either-some (b ∷ first) second some P f g = f (λ e. omega (arith, ap length e))
+
+-- nothing was read
+pub reads-none : (now : Account) (held : Held) → Fits now.count held → HasRead now now held held []
+reads-none now held fits = record { takes = takes-none now held.bytes; line_feeds = omega arith; counts = omega arith; fits = fits; small = λ some. absurd (some refl) }
 
 -- bytes that were counted stay counted below the bound when no more were counted
 still-small : (some all more held : ℕ) → some < 2 ^ 64 → all + more ≡ some + held → held ≡ 0 → all < 2 ^ 64
@@ -61,6 +65,9 @@ reads-both was mid is old between new first second a b = record {
     later f (c ∷ l) e k q = b.small (λ none. omega (arith, ap length (sym e ∙ none)))
     later f [] e (c ∷ k) q = b.fits.small (λ none. omega (arith, ap length (sym q ∙ none)))
     later f [] e [] q = still-small mid.count is.count (length between.bytes) (length second + length new.bytes) (a.small f) (omega (arith, b.counts)) (omega (arith, ap length e, ap length q))
+
+pub reads-then_none : (was mid is : Account) (old between new : Held) (read : List ℕ) → HasRead was mid old between read → HasRead mid is between new [] → HasRead was is old new read
+reads-then_none was mid is old between new read a b = subst (HasRead was is old new) (append-nil read) (reads-both was mid is old between new read [] a b)
 
 -- a byte that is no line feed stays on its line
 pub stays-byte : (b : ℕ) → (b ≡ 10 → ⊥) → stays b ≡ true

@@ -21,18 +21,12 @@ use Rattle.cil_program.specs.declared.script.session.Outcome.{Outcome}
 use Rattle.cil_program.specs.declared.script.session.Outcome.TheVariants.{Accepted, Refused, NoCommand}
 use Rattle.cil_program.specs.declared.script.session.Status.{Status}
 use Rattle.cil_program.specs.declared.script.session.Status.TheVariants as statuses
-use Rattle.cil_program.proofs.InputLemmas.{takes-none, reads-both}
+use Rattle.cil_program.proofs.InputLemmas.{reads-none, reads-both}
 use Rattle.cil_program.proofs.EndLemmas.{no-line-command, no-last-command, no-long-command, no-text-command}
 
 -- nothing was read
 pub stands : (now : Moment) → Fits now.account.count now.held → Advances now now []
-stands now fits = record {
-  takes = takes-none now.account now.held.bytes;
-  line_feeds = omega arith;
-  counts = omega arith;
-  fits = fits;
-  small = λ some. absurd (some refl);
-}
+stands now fits = reads-none now.account now.held fits
 
 -- an answered call is no line that is none
 abbrev is_none : Outcome → Bool

@@ -1,13 +1,13 @@
 -- The words of a command line, and exit statuses.
-use Rattle.std.specs.Prelude.{◌≡◌, ℕ, List, [], ◌∷◌, codes, Result, Ok, Err}
+use Rattle.std.specs.Prelude.{◌≡◌, ℕ, List, [], ◌∷◌, drop, codes, Result, Ok, Err}
 use Rattle.cil_program.specs.declared.script.session.SessionFault.{SessionFault}
 use Rattle.cil_program.specs.declared.script.session.SessionFault.TheVariants.{Read, Write}
 use Rattle.cil_program.specs.declared.script.session.Status.{Status}
 use Rattle.cil_program.specs.declared.script.session.Status.TheVariants.{Clean, Refused, Script}
 
--- the program's name, and then `session`
+-- behind the program's name stands `session` alone
 abbrev pub AsksSession : List (List ℕ) → Type 0
-AsksSession words = (name : List ℕ) × (words ≡ name ∷ codes "session" ∷ [])
+AsksSession words = drop 1 words ≡ codes "session" ∷ []
 
 abbrev pub usage : List ℕ
 usage = codes "usage: cilsem session\n"
