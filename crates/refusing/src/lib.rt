@@ -5,6 +5,7 @@ use std::alloc::{AllocError, Allocator};
 use std::cell::Cell;
 
 /// Which growths are refused, and how many were.
+#[derive(Drop)]
 struct Growths {
     left: Cell<u64>,
     all_behind: Cell<bool>,
