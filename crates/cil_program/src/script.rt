@@ -4,5 +4,6 @@ pub mod command;
 pub mod input;
 pub mod laws;
 pub mod line;
+pub mod memory;
 pub mod reply;
 pub mod session;

@@ -19,5 +19,4 @@ pub mod Store
 pub mod Next
 pub mod Run
 pub mod Script
-pub mod Device
 pub mod Session

@@ -1,0 +1,73 @@
+#!/bin/sh
+# Prints time and peak memory of one install of texts that could make a compiler multiply two of their counts, each at two sizes.
+# Where both grow as the text does, nothing is multiplied. Build the program first: `make run`; GNU time is needed.
+set -eu
+cd "$(dirname "$0")/.."
+. bench/session.sh
+
+# one common of many permissions, and many classes that take it
+common() {
+    awk -v k="$1" 'BEGIN {
+        printf "(common m ("; for (i = 0; i < 2000 * k; i++) printf "p%06x ", i; print "))"
+        for (i = 0; i < 20 * k; i++) printf "(class c%d ())(classcommon c%d m)\n", i, i
+    }'
+}
+
+# a name that each of the nested blocks declares in an optional, and many references to it in the innermost
+blocks() {
+    awk -v k="$1" 'BEGIN {
+        print "(class p (use))"
+        for (i = 0; i < 100; i++) printf "(block b (optional o (type t) (allow t nowhere%d (p (use))))\n", i
+        for (i = 0; i < 2000 * k; i++) printf "(optional o%d (allow t t (p (use))))\n", i
+        for (i = 0; i < 100; i++) printf ")"
+        print ""
+    }'
+}
+
+# set expressions nested as deep as the text may
+sets() {
+    awk -v k="$1" 'BEGIN {
+        for (i = 0; i < 253; i++) { open = open "(not "; close_all = close_all ")" }
+        for (i = 0; i < 500 * k; i++) printf "(typeattributeset a %sa%s)\n", open, close_all
+    }'
+}
+
+# nothing but brackets
+brackets() {
+    awk -v k="$1" 'BEGIN {
+        for (i = 0; i < 255; i++) { open = open "("; close_all = close_all ")" }
+        for (i = 0; i < 2000 * k; i++) printf "(typeattributeset a %s%s)\n", open, close_all
+    }'
+}
+
+# names with dots through 250 blocks
+dotted() {
+    awk -v k="$1" 'BEGIN {
+        print "(class p (use))"
+        for (i = 0; i < 250; i++) { printf "(block b "; name = name "b." }
+        print "(type t)"
+        for (i = 0; i < 250; i++) printf ")"
+        print ""
+        for (i = 0; i < 250 * k; i++) printf "(allow %st %st (p (use)))\n", name, name
+    }'
+}
+
+# optionals each of which needs the next one, and the last what isn't there
+chain() {
+    awk -v k="$1" 'BEGIN {
+        print "(class p (use))(type a)"
+        for (i = 0; i < 10000 * k; i++) printf "(optional o%d (type t%d) (allow a t%d (p (use))))\n", i, i, i + 1
+    }'
+}
+
+for shape in common blocks sets brackets dotted chain; do
+    for k in 1 4; do
+        "$shape" "$k" > "$folder/text"
+        script_of_text
+        best=$(best_time)
+        peak=$(peak_memory)
+        awk -v shape="$shape" -v size="$size" -v ns="$best" -v peak="$peak" -v answer="$(cut -c1-40 "$folder/answer")" 'BEGIN {
+            printf "%-9s %9d bytes %8.3f s %8.1f MiB   %s\n", shape, size, ns / 1e9, peak / 1024, answer
+        }'
+    done
+done
