@@ -14,9 +14,7 @@ use Rattle.cil_names.specs.First.{IsFirstOf}
 use Rattle.cil_names.specs.Flat.{IsPlain, AreFlat}
 use Rattle.cil_names.specs.FullNames.{full_name_of}
 use Rattle.cil_names.specs.Numbering.{names_with, names_of, AreNamesOf, is_numbered}
-use Rattle.cil_names.specs.Placed.{placed_of, policy_of}
 use Rattle.cil_names.specs.Policy.{IsLead}
-use Rattle.cil_names.specs.Spaces.{Namespace}
 use Rattle.cil_names.specs.declared.placed.PlacedStatement.{PlacedStatement}
 use Rattle.cil_names.proofs.NumberingLemmas.{has_name-fold, named-in, numbered-name}
 

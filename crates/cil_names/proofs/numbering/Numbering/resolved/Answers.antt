@@ -1,6 +1,4 @@
-use Rattle.std.proofs.Common.{◌∙◌, ◌≡◌, map}
-use Rattle.cil_specs.specs.Rule.{types_of, attributes_of, classes_of, rules_of}
-use Rattle.cil_names.specs.Policy.{policy_in}
+use Rattle.std.proofs.Common.{◌∙◌, map}
 use Rattle.cil_names.specs.Resolved.{declared_of, class_of, rule_of, dropped_with}
 use Rattle.cil_names.proofs.numbering.Numbering.resolved.Goals as goal
 
