@@ -3,7 +3,7 @@ use Rattle.std.specs.Prelude.{ℕ, Bool, true, false, ◌&&◌, ◌==◌, List, 
 use Rattle.std.specs.List.{find, list_any}
 use Rattle.std.specs.Option.{option_or, option_and_then}
 use Rattle.cil_specs.specs.Names.{Word, components}
-use Rattle.cil_specs.specs.Expr.{named_words}
+use Rattle.cil_specs.specs.Expr.{leaves}
 use Rattle.cil_specs.specs.Statements.{Form, block, optional, type_name, type_alias, alias_actual, type_attribute, attribute_set, common, class, class_common, class_order, rule, target_words}
 use Rattle.cil_specs.specs.Joined.{Placed}
 
@@ -116,7 +116,7 @@ holds_of test (Some s) = test s
 -- the references of a statement, each with its table, in the order of the text
 abbrev pub references : Form → List (Table × Word)
 references (alias_actual alias actual) = (types, alias) ∷ (types, actual) ∷ []
-references (attribute_set attribute expr) = (types, attribute) ∷ map (λ w. (types, w)) (named_words expr)
+references (attribute_set attribute expr) = (types, attribute) ∷ map (λ w. (types, w)) (leaves expr)
 references (class_common the_class the_common) = (classes, the_class) ∷ (commons, the_common) ∷ []
 references (class_order the_classes) = map (λ w. (classes, w)) the_classes
 references (rule kind source target the_class permissions) = (types, source) ∷ (map (λ w. (types, w)) (target_words target) ++ (classes, the_class) ∷ [])

@@ -7,7 +7,7 @@ use Rattle.std.specs.declared.cmp.Ordering.TheVariants.{Less}
 use Rattle.std.specs.Cmp.Lexicographic.{slice_cmp}
 use Rattle.cil_specs.specs.Place.{Place}
 use Rattle.cil_specs.specs.Names.{Word}
-use Rattle.cil_specs.specs.Expr.{named_words}
+use Rattle.cil_specs.specs.Expr.{leaves}
 use Rattle.cil_specs.specs.Statements.{Form, alias_actual, attribute_set, class_common, rule, target_words, is_optional}
 use Rattle.cil_specs.specs.Joined.{Placed}
 use Rattle.cil_specs.specs.Lookup.{Table, types, classes, commons, scopes, declared_in, declares, leads, holds_of, references, named_permissions, permissions_of, distinct, gives_common, gives_actual, actual_statement, is_type, is_alias, is_attribute}
@@ -91,7 +91,7 @@ alias_twice_words policy before s = filter (has_earlier_actual policy before s.n
 -- the words of a rule's source and target, and those of a set expression
 abbrev pub element_words : Form → List Word
 element_words (rule kind source target the_class permissions) = source ∷ target_words target
-element_words (attribute_set attribute expr) = named_words expr
+element_words (attribute_set attribute expr) = leaves expr
 element_words _ = []
 
 -- whether a word leads to an alias without an actual type
