@@ -1,3 +1,4 @@
+pub mod Nodes
 pub mod Marks
 pub mod Reading
 pub mod Going
@@ -15,4 +16,3 @@ pub mod CheckLemmas
 pub mod Bodies
 pub mod HeadingLemmas
 pub mod WalkLemmas
-pub mod Depth

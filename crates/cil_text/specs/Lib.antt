@@ -1,4 +1,6 @@
 pub mod Image
+pub mod Tree
+pub mod Forest
 pub mod Reader
 pub mod Name
 pub mod Keyword
