@@ -21,10 +21,10 @@ tree_some (Listed at end items) rest h = absurd cc
 
 -- trees of which there are none
 pub no_trees : (trees : Trees) (empty : Bool) → empty ≡ is_nothing trees → empty ≡ true → trees ≡ none
-no_trees none empty is yes = refl
-no_trees (a_word at bytes rest) empty is yes = absurd (true≢false (sym yes ∙ is))
-no_trees (a_string at bytes rest) empty is yes = absurd (true≢false (sym yes ∙ is))
-no_trees (a_list at end items rest) empty is yes = absurd (true≢false (sym yes ∙ is))
+no_trees none empty is so = refl
+no_trees (a_word at bytes rest) empty is so = absurd (true≢false (sym so ∙ is))
+no_trees (a_string at bytes rest) empty is so = absurd (true≢false (sym so ∙ is))
+no_trees (a_list at end items rest) empty is so = absurd (true≢false (sym so ∙ is))
 
 pub some_trees : (trees : Trees) (empty : Bool) → empty ≡ is_nothing trees → empty ≡ false → trees ≡ none → ⊥
 some_trees trees empty is not h = true≢false (ap is_nothing (sym h) ∙ sym is ∙ not)
@@ -69,13 +69,13 @@ found_next all rest found t x so_far spells = record {
   comes_from = λ e h. let p = so_far.comes_from e h in more_behind t rest x spells p.0 p.1;
 }
 
-none_behind : {A : Type 0} → (t : Tree) (rest : Trees) → SpellsExpr {A = A} (tree_then t) None → (e : spec.Expr) → Lists (tree_then t rest) e → ⊥
-none_behind t rest spells nothing h = tree_some t rest h
-none_behind t rest spells (elements y more) h = spells y rest h.0 h.1
-none_behind t rest spells _ h = absurd h
+none_behind : (A : Type 0) (t : Tree) (rest : Trees) → SpellsExpr {A = A} (tree_then t) None → (e : spec.Expr) → Lists (tree_then t rest) e → ⊥
+none_behind A t rest spells nothing h = tree_some t rest h
+none_behind A t rest spells (elements y more) h = spells y rest h.0 h.1
+none_behind A t rest spells _ h = absurd h
 
 pub found_none : {A : Type 0} → (all rest : Trees) (found : List (Expr A)) (t : Tree) → HasFound all (tree_then t rest) found → SpellsExpr {A = A} (tree_then t) None → (e : spec.Expr) → Lists all e → ⊥
-found_none {A} all rest found t so_far spells e h = let p = so_far.comes_from e h in none_behind {A = A} t rest spells p.0 p.1
+found_none {A} all rest found t so_far spells e h = let p = so_far.comes_from e h in none_behind A t rest spells p.0 p.1
 
 pub found_all : {A : Type 0} → (all : Trees) (found : List (Expr A)) → HasFound all none found → Lists all (exprs_of found)
 found_all all found so_far = subst (Lists all) (joined-nothing found) (so_far.goes_on nothing refl)

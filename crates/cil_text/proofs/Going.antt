@@ -57,11 +57,11 @@ run-some : (p : ℕ → Bool) (bytes : List ℕ) (at : ℕ) → at < length byte
 run-some p bytes at within is = rw (drop-cons bytes at 0 within) (subst (λ b. 0 < cond b (1 + prefix_len p (drop (suc at) bytes)) 0) (sym is) (omega arith))
 
 -- the marks of a reader with these lists open and these nodes
-read-by : {A : Type 0} (old new : Reader A) (open : List Open) (nodes : List Node) (seen : List Mark) → new.text.now ≡ old.text.now → new.outer.items ≡ open → new.nodes.items ≡ nodes
-    → HaveMarks old.text.now (reverse open) nodes seen → IsRead new seen
-read-by old new open nodes seen same outer current had =
+read-by : {A : Type 0} (old new : Reader A) (opened : List Open) (nodes : List Node) (seen : List Mark) → new.text.now ≡ old.text.now → new.outer.items ≡ opened → new.nodes.items ≡ nodes
+    → HaveMarks old.text.now (reverse opened) nodes seen → IsRead new seen
+read-by old new opened nodes seen same outer current had =
     subst (λ text. HaveMarks text (reverse new.outer.items) new.nodes.items seen) (sym same)
-    (subst (λ os. HaveMarks old.text.now (reverse os) new.nodes.items seen) (sym outer) (subst (λ ns. HaveMarks old.text.now (reverse open) ns seen) (sym current) had))
+    (subst (λ os. HaveMarks old.text.now (reverse os) new.nodes.items seen) (sym outer) (subst (λ ns. HaveMarks old.text.now (reverse opened) ns seen) (sym current) had))
 
 -- over a comment: the ; and the n bytes before the line's end
 pub goes-comment : {A : Type 0} (old new : Reader A) (n : ℕ) → IsPlaced old → old.at.offset < length old.text.now → get_or old.text.now old.at.offset 0 ≡ 59 → n ≡ prefix_len is_comment_byte (drop (old.at.offset + 1) old.text.now)
@@ -156,7 +156,7 @@ goes-open old new o list placed within byte room here counts at outer current sa
     goes-right old new opening placed tt refl (byte-rest old.text.now old.at.offset 40 within byte) (ends-opening _)
     (omega (arith, room, length-reverse (map (λ o. o.at.offset) os), length-map os (λ o. o.at.offset)), ap (λ l. reverse (map (λ o. o.at.offset) l)) outer ∙ open_lists-push os o ∙ ap (λ p. p.offset ∷ open_lists old) here)
     (λ seen had. read-by old new (os ++ o ∷ []) (old.nodes.items ++ list ∷ []) (seen ++ opening_at (place_at bytes old.at.offset) ∷ []) same outer current
-    (subst (λ open. HaveMarks bytes open (old.nodes.items ++ list ∷ []) (seen ++ opening_at (place_at bytes old.at.offset) ∷ [])) (sym (reverse-push os o))
+    (subst (λ opened. HaveMarks bytes opened (old.nodes.items ++ list ∷ []) (seen ++ opening_at (place_at bytes old.at.offset) ∷ [])) (sym (reverse-push os o))
     (subst (λ p. HaveMarks bytes (o ∷ reverse os) (old.nodes.items ++ list ∷ []) (seen ++ opening_at p ∷ [])) (ap place_of here ∙ placed.place)
     (open_marks bytes (reverse os) old.nodes.items seen o list had counts))))
     (omega (arith, placed.few, ap length current, length-append old.nodes.items (list ∷ [])))
@@ -164,7 +164,7 @@ goes-open old new o list placed within byte room here counts at outer current sa
 
 -- the marks of a reader that has this list open as the innermost
 pub inside-open : {A : Type 0} (r : Reader A) (os : List Open) (o : Open) (seen : List Mark) → r.outer.items ≡ os ++ o ∷ [] → IsRead r seen → HaveMarks r.text.now (o ∷ reverse os) r.nodes.items seen
-inside-open r os o seen outer had = subst (λ open. HaveMarks r.text.now open r.nodes.items seen) (ap reverse outer ∙ reverse-push os o) had
+inside-open r os o seen outer had = subst (λ opened. HaveMarks r.text.now opened r.nodes.items seen) (ap reverse outer ∙ reverse-push os o) had
 
 -- over a ), where the innermost list is told its end
 pub goes-close : {A : Type 0} (old new : Reader A) (o : Open) (inner : ℕ) → IsPlaced old → old.at.offset < length old.text.now → get_or old.text.now old.at.offset 0 ≡ 41

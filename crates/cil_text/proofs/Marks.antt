@@ -43,7 +43,7 @@ whole_list text at end inside behind =
     ∙ ap (λ l. l ++ marks_in text behind) (sym (list-alone text at end inside))
 
 -- nodes behind the others
-pub more_marks : (text : List ℕ) (open : List Open) (nodes more : List Node) (seen : List Mark) → HaveMarks text open nodes seen → AreWhole text more → HaveMarks text open (nodes ++ more) (seen ++ marks_in text more)
+pub more_marks : (text : List ℕ) (opened : List Open) (nodes more : List Node) (seen : List Mark) → HaveMarks text opened nodes seen → AreWhole text more → HaveMarks text opened (nodes ++ more) (seen ++ marks_in text more)
 more_marks text [] nodes more seen had whole = (whole_more text nodes more had.0 whole, ap (λ l. l ++ marks_in text more) had.1 ∙ sym (had.0 more))
 more_marks text (o ∷ around) nodes more seen had whole =
     let before = had.0 in
@@ -62,9 +62,9 @@ more_marks text (o ∷ around) nodes more seen had whole =
     )
 
 -- one more list is open
-pub open_marks : (text : List ℕ) (open : List Open) (nodes : List Node) (seen : List Mark) (o : Open) (list : Node) → HaveMarks text open nodes seen → o.node ≡ length nodes
-    → HaveMarks text (o ∷ open) (nodes ++ list ∷ []) (seen ++ opening_at (place_of o.at) ∷ [])
-open_marks text open nodes seen o list had at = (nodes, [], list, seen, refl, at, (λ behind. refl), had, refl)
+pub open_marks : (text : List ℕ) (opened : List Open) (nodes : List Node) (seen : List Mark) (o : Open) (list : Node) → HaveMarks text opened nodes seen → o.node ≡ length nodes
+    → HaveMarks text (o ∷ opened) (nodes ++ list ∷ []) (seen ++ opening_at (place_of o.at) ∷ [])
+open_marks text opened nodes seen o list had at = (nodes, [], list, seen, refl, at, (λ behind. refl), had, refl)
 
 -- the innermost open list is a node
 pub open_within : (text : List ℕ) (around : List Open) (nodes : List Node) (seen : List Mark) (o : Open) → HaveMarks text (o ∷ around) nodes seen → o.node + 1 ≤ length nodes

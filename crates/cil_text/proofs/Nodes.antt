@@ -3,9 +3,11 @@ use Rattle.std.proofs.Common.{◌≡◌, ℕ, ◌+◌, ◌-◌, ◌≤◌, Bool,
 use Rattle.std.proofs.lemmas.List.{length-take, take_min, drop_min, take_rest}
 use Rattle.std.proofs.Math.Seq.{drop-cons}
 use Rattle.cil_specs.specs.Trees.{Trees, none, a_word, a_string, a_list}
-use Rattle.cil_text.specs.Image.{place_of, trees_upto, trees_in}
+use Rattle.cil_text.specs.Image.{place_of, trees_upto, trees_in, trees_of, tree_then}
 use Rattle.cil_text.specs.Tree.{tree_count}
 use Rattle.cil_text.specs.declared.place.Place.{Place}
+use Rattle.cil_text.specs.declared.tree.Tree.{Tree}
+use Rattle.cil_text.specs.declared.tree.Tree.TheVariants as trees
 use Rattle.cil_text.specs.declared.node.Node.{Node}
 use Rattle.cil_text.specs.declared.node.Node.TheVariants.{Word, String, List as Listed}
 
@@ -60,3 +62,24 @@ count-size (a_list at end items rest) = omega (arith, count-size rest)
 
 pub count-nodes : (text : List ℕ) (nodes : List Node) → tree_count (trees_in text nodes) ≤ length nodes
 count-nodes text nodes = omega (arith, count-size (trees_in text nodes), size-upto text (length nodes) nodes)
+
+tree-size : (t : Tree) (rest : Trees) → tree_size (tree_then t rest) ≡ tree_size (tree_then t none) + tree_size rest
+tree-size (trees.Word w) rest = let n : ℕ = tree_size rest in let e : n + 1 ≡ 1 + n = omega arith in e
+tree-size (trees.String w) rest = let n : ℕ = tree_size rest in let e : n + 1 ≡ 1 + n = omega arith in e
+tree-size (trees.List at end items) rest =
+    let m : ℕ = tree_size (trees_of items) in
+    let n : ℕ = tree_size rest in
+    let e : m + n + 1 ≡ (m + 0 + 1) + n = omega arith in
+    e
+
+some-size : (t : Tree) → 1 ≤ tree_size (tree_then t none)
+some-size (trees.Word w) = omega arith
+some-size (trees.String w) = omega arith
+some-size (trees.List at end items) = omega arith
+
+-- the first of trees is no more than all of them, and those behind it are fewer
+pub size_first : (all : Trees) (t : Tree) (rest : Trees) → all ≡ tree_then t rest → tree_size (tree_then t none) ≤ tree_size all
+size_first all t rest is = let e : tree_size all ≡ tree_size (tree_then t rest) = ap tree_size is in omega (arith, e, tree-size t rest)
+
+pub size_behind : (all : Trees) (t : Tree) (rest : Trees) → all ≡ tree_then t rest → tree_size rest + 1 ≤ tree_size all
+size_behind all t rest is = let e : tree_size all ≡ tree_size (tree_then t rest) = ap tree_size is in omega (arith, e, tree-size t rest, some-size t)

@@ -54,6 +54,6 @@ all_found {A} o operands found empty is sees answers =
 
     by : (operands : Trees) → SpellsOperation (operator_word o) operands (then_some (is_nothing operands) whole)
     by none = operation_found o All none every is refl refl
-    by (a_word at text rest) = operation_misfit o All (a_word at text rest) is (λ e. no_all (a_word at text rest) e cc)
-    by (a_string at text rest) = operation_misfit o All (a_string at text rest) is (λ e. no_all (a_string at text rest) e cc)
-    by (a_list at end items rest) = operation_misfit o All (a_list at end items rest) is (λ e. no_all (a_list at end items rest) e cc)
+    by (a_word at text rest) = operation_misfit o All (a_word at text rest) is (λ e. no_all (a_word at text rest) e (λ h. absurd cc))
+    by (a_string at text rest) = operation_misfit o All (a_string at text rest) is (λ e. no_all (a_string at text rest) e (λ h. absurd cc))
+    by (a_list at end items rest) = operation_misfit o All (a_list at end items rest) is (λ e. no_all (a_list at end items rest) e (λ h. absurd cc))

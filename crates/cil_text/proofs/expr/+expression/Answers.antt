@@ -10,7 +10,7 @@ use Rattle.cil_text.specs.Image.{place_of, trees_of, tree_then, expr_of}
 use Rattle.cil_text.specs.Expr.{operator_word, exprs_of, SpellsExpr, SpellsElements, SpellsOperation, SpellsOne, SpellsTwo}
 use Rattle.cil_text.specs.declared.expr.Operator.TheVariants.{And, Or, Xor, Not}
 use Rattle.cil_text.proofs.Rows.{union_of}
-use Rattle.cil_text.proofs.Nodes.{tree_size}
+use Rattle.cil_text.proofs.Nodes.{tree_size, size_first, size_behind}
 use Rattle.cil_text.proofs.Elements.{rest_is, one_tree, HasFound, found_first, found_next, found_none, found_all}
 use Rattle.cil_text.proofs.Spells.{operation_found, operation_misfit, all_found}
 use Rattle.cil_text.proofs.expr.+expression.Goals as goal
@@ -18,13 +18,13 @@ use Rattle.cil_text.proofs.expr.+expression.Goals as goal
 pub elements-loop-tree-init : goal.elements-loop-tree-init
 elements-loop-tree-init g t c =
     let all = trees_of c.args.trees in
-    subst (HasFound all all) (sym c.in_ok-elements.ensures.items) (found_first all)
+    record { found = subst (HasFound all all) (sym c.in_ok-elements.ensures.items) (found_first all); smaller = omega arith }
 
 pub elements-returns-in-None : goal.elements-returns-in-None
 elements-returns-in-None g t c =
     let trees = trees_of c.args.trees in
     let tree = c.in-Some.tree in
-    found_none trees (trees_of c.in-Some.behind) c.loop-tree.elements.items tree (subst (λ rest. HasFound trees rest c.loop-tree.elements.items) c.in-Some.ensures c.loop-tree.invariant)
+    found_none trees (trees_of c.in-Some.behind) c.loop-tree.elements.items tree (subst (λ rest. HasFound trees rest c.loop-tree.elements.items) c.in-Some.ensures c.loop-tree.invariant.found)
     (subst (SpellsExpr (tree_then tree)) c.in-None.is c.in_ok-element.ensures)
 
 pub elements-loop-tree-preserved : goal.elements-loop-tree-preserved
@@ -32,14 +32,21 @@ elements-loop-tree-preserved g t c =
     let trees = trees_of c.args.trees in
     let tree = c.in-Some.tree in
     let rest = trees_of c.in-Some.behind in
-    subst (HasFound trees rest) (sym c.in_ok-push-in-Some.ensures.items)
-    (found_next trees rest c.loop-tree.elements.items tree c.in-Some-2.element (subst (λ rest. HasFound trees rest c.loop-tree.elements.items) c.in-Some.ensures c.loop-tree.invariant)
-    (subst (SpellsExpr (tree_then tree)) c.in-Some-2.is c.in_ok-element.ensures))
+    record {
+      found = subst (HasFound trees rest) (sym c.in_ok-push-in-Some-2.ensures.items)
+          (found_next trees rest c.loop-tree.elements.items tree c.in-Some-2.element (subst (λ rest. HasFound trees rest c.loop-tree.elements.items) c.in-Some.ensures c.loop-tree.invariant.found)
+          (subst (SpellsExpr (tree_then tree)) c.in-Some-2.is c.in_ok-element.ensures));
+      smaller = omega (arith, c.loop-tree.invariant.smaller, size_behind (trees_of c.loop-tree.rest) tree rest c.in-Some.ensures);
+    }
+
+pub elements-expression-requires : goal.elements-expression-requires
+elements-expression-requires g t c κs within =
+    (omega (arith, c.decreases, c.loop-tree.invariant.smaller, size_first (trees_of c.loop-tree.rest) c.in-Some.tree (trees_of c.in-Some.behind) c.in-Some.ensures), within)
 
 pub elements-returns : goal.elements-returns
 elements-returns g t c =
     let trees = trees_of c.args.trees in
-    found_all trees c.loop-tree.elements.items (subst (λ rest. HasFound trees rest c.loop-tree.elements.items) c.in_default.ensures c.loop-tree.invariant)
+    found_all trees c.loop-tree.elements.items (subst (λ rest. HasFound trees rest c.loop-tree.elements.items) c.in_default.ensures c.loop-tree.invariant.found)
 
 pub expression-returns-then-eq : goal.expression-returns-then-eq
 expression-returns-then-eq g t c rest =
@@ -80,8 +87,8 @@ list_expression-returns-in-None g t c at end e rest after h =
 pub one_operand-returns-in_default : goal.one_operand-returns-in_default
 one_operand-returns-in_default g t c e h = true≢false (sym (one_tree (trees_of c.args.operands) e h) ∙ c.in_default.ensures)
 
-pub one_operand-returns-in_ok-new-in-Some : goal.one_operand-returns-in_ok-new-in-Some
-one_operand-returns-in_ok-new-in-Some g t c =
+pub one_operand-returns-in_ok-new-in-Some-2 : goal.one_operand-returns-in_ok-new-in-Some-2
+one_operand-returns-in_ok-new-in-Some-2 g t c =
     let tree = c.in-Some.x in
     let spelt = subst (SpellsExpr (tree_then tree)) c.in-Some-2.is c.in_ok-x.ensures in
     subst (λ x. Expresses (trees_of c.args.operands) (expr_of x) none) (sym c.in_ok-new-in-Some-2.ensures.ok)
@@ -136,6 +143,20 @@ operation-returns-in-None-4 g t c =
 
 pub two_operands-returns-in_default : goal.two_operands-returns-in_default
 two_operands-returns-in_default g t c x y second h k = none_expresses x second (subst (λ trees. Expresses trees x second) c.in_default.ensures h)
+
+pub two_operands-returns-in_default-only_tree : goal.two_operands-returns-in_default-only_tree
+two_operands-returns-in_default-only_tree g t c x y second h k =
+    let rest = trees_of c.in-Some.rest in
+    let same = rest_is c.in-Some.x rest second x (subst (λ trees. Expresses trees x second) c.in-Some.ensures h) in
+    true≢false (sym (one_tree rest y (subst (λ rest. Expresses rest y none) (sym same) k)) ∙ c.in_default-only_tree.ensures)
+
+pub two_operands-returns-in_default-3 : goal.two_operands-returns-in_default-3
+two_operands-returns-in_default-3 g t c x y second h k =
+    let rest = trees_of c.in-Some.rest in
+    let last = c.in-Some-only_tree.y in
+    let same = rest_is c.in-Some.x rest second x (subst (λ trees. Expresses trees x second) c.in-Some.ensures h) in
+    let other = subst (SpellsExpr (tree_then last)) c.in_default-3.is c.in_ok-y.ensures in
+    other y none none (subst (λ trees. Expresses trees y none) (sym same ∙ c.in-Some-only_tree.ensures) k)
 
 pub list_expression-returns-in-Some-2 : goal.list_expression-returns-in-Some-2
 list_expression-returns-in-Some-2 g t c at end rest =

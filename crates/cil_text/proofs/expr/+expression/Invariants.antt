@@ -1,4 +1,4 @@
-use Rattle.std.proofs.Common.{◌+◌, ◌*◌}
+use Rattle.std.proofs.Common.{◌+◌, ◌*◌, ◌≤◌}
 use Rattle.cil_specs.specs.Trees.{none}
 use Rattle.cil_text.specs.Image.{trees_of, tree_then}
 use Rattle.cil_text.proofs.Nodes.{tree_size}
@@ -24,7 +24,10 @@ abbrev pub decreases-list_expression : goal.decreases-list_expression
 decreases-list_expression g l = 4 * tree_size (trees_of l.items) + 3
 
 abbrev pub invariant-elements-loop-tree : goal.invariant-elements-loop-tree
-invariant-elements-loop-tree g l = HasFound (trees_of l.trees) (trees_of l.rest) l.elements.items
+invariant-elements-loop-tree g l = record {
+  found : HasFound (trees_of l.trees) (trees_of l.rest) l.elements.items;
+  smaller : tree_size (trees_of l.rest) ≤ tree_size (trees_of l.trees);
+}
 
 abbrev pub decreases-elements-loop-tree : goal.decreases-elements-loop-tree
 decreases-elements-loop-tree g l = tree_size (trees_of l.rest)

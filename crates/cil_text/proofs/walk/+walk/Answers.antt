@@ -1,5 +1,5 @@
 use Rattle.std.proofs.Common.{◌≡◌, ◌∙◌, ◌+◌, ◌||◌, IsTrue, sym, ap, subst, arith}
-use Rattle.cil_specs.specs.Trees.{are_lists}
+use Rattle.cil_specs.specs.Trees.{none, are_lists}
 use Rattle.cil_specs.specs.Statements.{is_optional}
 use Rattle.cil_specs.specs.Shape.{Shapes}
 use Rattle.cil_specs.proofs.ShapeLemmas.{fits_lists}
@@ -7,7 +7,7 @@ use Rattle.cil_text.specs.Image.{place_of, trees_of, tree_then, statements_of, F
 use Rattle.cil_text.specs.Form.{form_of}
 use Rattle.cil_text.specs.Walk.{IsFirstOf, IsFirstAmong}
 use Rattle.cil_text.proofs.FirstBad.{handed_on, fault_weaker}
-use Rattle.cil_text.proofs.Nodes.{tree_size}
+use Rattle.cil_text.proofs.Nodes.{tree_size, size_first, size_behind}
 use Rattle.cil_text.proofs.WalkLemmas.{AreFound, found_start, found_more, found_end, found_fault, statement_is, inner_first, no_other, fits_size}
 use Rattle.cil_text.proofs.walk.+walk.Goals as goal
 
@@ -21,10 +21,9 @@ statement-statements-requires g t c κs within =
 
 pub statements-statement-requires : goal.statements-statement-requires
 statements-statement-requires g t c κs within =
-    let all : tree_size (trees_of c.loop-tree.rest) ≡ tree_size (tree_then c.in-Some.tree (trees_of c.in-Some.behind)) = ap tree_size c.in-Some.ensures in
-    let here : tree_size (tree_then c.in-Some.tree (trees_of c.in-Some.behind)) ≡ tree_size (trees_of c.in-List.items) + tree_size (trees_of c.in-Some.behind) + 1 =
-    ap (λ tree. tree_size (tree_then tree (trees_of c.in-Some.behind))) c.in-List.is in
-    (omega (arith, c.decreases, all, here, c.loop-tree.invariant.smaller), within)
+    let first = size_first (trees_of c.loop-tree.rest) c.in-Some.tree (trees_of c.in-Some.behind) c.in-Some.ensures in
+    let inside : tree_size (tree_then c.in-Some.tree none) ≡ tree_size (trees_of c.in-List.items) + 0 + 1 = ap (λ tree. tree_size (tree_then tree none)) c.in-List.is in
+    (omega (arith, c.decreases, first, inside, c.loop-tree.invariant.smaller), within)
 
 pub statement-returns-in_err-body-clause-err : goal.statement-returns-in_err-body-clause-err
 statement-returns-in_err-body-clause-err g t c =
@@ -47,11 +46,11 @@ statement-returns-clause-ok g t c =
 pub statements-loop-tree-init : goal.statements-loop-tree-init
 statements-loop-tree-init g t c =
     let all = trees_of c.args.trees in
-    subst (AreFound c.args.inside all all) (sym c.in_ok-found.ensures.items) (found_start c.args.inside all c.requires.lists)
+    record { found = subst (AreFound c.args.inside all all) (sym c.in_ok-found.ensures.items) (found_start c.args.inside all c.requires.lists); smaller = omega arith }
 
 pub statements-unreachable-requires : goal.statements-unreachable-requires
 statements-unreachable-requires g t c =
-    no_other c.in-Some.tree (trees_of c.in-Some.behind) c.in_default-tree.not-List (subst (λ rest. IsTrue (are_lists rest)) c.in-Some.ensures c.loop-tree.invariant.lists)
+    no_other c.in-Some.tree (trees_of c.in-Some.behind) c.in_default-tree.not-List (subst (λ rest. IsTrue (are_lists rest)) c.in-Some.ensures c.loop-tree.invariant.found.lists)
 
 pub statements-returns-in_err-statement-clause-err : goal.statements-returns-in_err-statement-clause-err
 statements-returns-in_err-statement-clause-err g t c =
@@ -63,7 +62,7 @@ statements-returns-in_err-statement-clause-err g t c =
     handed_on (IsFirstAmong c.args.inside trees) c.from_residual-in_err-statement.result c.in_err-statement.field-0.0 c.from_residual-in_err-statement.ensures.1
     (fault_weaker (IsFirstOf c.args.inside (place_of list.at) parts) (IsFirstAmong c.args.inside trees) c.in_err-statement.field-0.0
     (λ fault h. found_fault c.args.inside trees (place_of list.at) list.end parts rest c.loop-tree.found.items fault
-    (subst (λ rest. AreFound c.args.inside trees rest c.loop-tree.found.items) front c.loop-tree.invariant) h) c.in_err-statement.ensures.err)
+    (subst (λ rest. AreFound c.args.inside trees rest c.loop-tree.found.items) front c.loop-tree.invariant.found) h) c.in_err-statement.ensures.err)
 
 pub statements-loop-tree-preserved : goal.statements-loop-tree-preserved
 statements-loop-tree-preserved g t c =
@@ -72,11 +71,14 @@ statements-loop-tree-preserved g t c =
     let rest = trees_of c.in-Some.behind in
     let parts = trees_of list.items in
     let front = c.in-Some.ensures ∙ ap (λ tree. tree_then tree rest) list.is in
-    subst (AreFound c.args.inside trees rest) (sym c.in_ok-push.ensures.items)
-    (found_more c.args.inside trees (place_of list.at) list.end parts rest c.loop-tree.found.items c.in_ok-statement.field-0
-    (subst (λ rest. AreFound c.args.inside trees rest c.loop-tree.found.items) front c.loop-tree.invariant) c.in_ok-statement.ensures.ok)
+    record {
+      found = subst (AreFound c.args.inside trees rest) (sym c.in_ok-push.ensures.items)
+          (found_more c.args.inside trees (place_of list.at) list.end parts rest c.loop-tree.found.items c.in_ok-statement.field-0
+          (subst (λ rest. AreFound c.args.inside trees rest c.loop-tree.found.items) front c.loop-tree.invariant.found) c.in_ok-statement.ensures.ok);
+      smaller = omega (arith, c.loop-tree.invariant.smaller, size_behind (trees_of c.loop-tree.rest) c.in-Some.tree rest c.in-Some.ensures);
+    }
 
 pub statements-returns-clause-ok : goal.statements-returns-clause-ok
 statements-returns-clause-ok g t c =
     let trees = trees_of c.args.trees in
-    found_end c.args.inside trees c.loop-tree.found.items (subst (λ rest. AreFound c.args.inside trees rest c.loop-tree.found.items) c.in_default.ensures c.loop-tree.invariant)
+    found_end c.args.inside trees c.loop-tree.found.items (subst (λ rest. AreFound c.args.inside trees rest c.loop-tree.found.items) c.in_default.ensures c.loop-tree.invariant.found)

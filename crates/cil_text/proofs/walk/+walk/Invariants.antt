@@ -1,4 +1,4 @@
-use Rattle.std.proofs.Common.{◌+◌, ◌*◌}
+use Rattle.std.proofs.Common.{◌+◌, ◌*◌, ◌≤◌}
 use Rattle.cil_text.specs.Image.{trees_of}
 use Rattle.cil_text.proofs.Nodes.{tree_size}
 use Rattle.cil_text.proofs.WalkLemmas.{AreFound}
@@ -11,7 +11,10 @@ abbrev pub decreases-statements : goal.decreases-statements
 decreases-statements g l = 2 * tree_size (trees_of l.trees)
 
 abbrev pub invariant-statements-loop-tree : goal.invariant-statements-loop-tree
-invariant-statements-loop-tree g l = AreFound l.inside (trees_of l.trees) (trees_of l.rest) l.found.items
+invariant-statements-loop-tree g l = record {
+  found : AreFound l.inside (trees_of l.trees) (trees_of l.rest) l.found.items;
+  smaller : tree_size (trees_of l.rest) ≤ tree_size (trees_of l.trees);
+}
 
 abbrev pub decreases-statements-loop-tree : goal.decreases-statements-loop-tree
 decreases-statements-loop-tree g l = tree_size (trees_of l.rest)
