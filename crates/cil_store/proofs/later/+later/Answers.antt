@@ -9,26 +9,26 @@ use Rattle.cil_store.proofs.LaterLemmas.{word_by, later_of_list, none_at_no_tree
 use Rattle.cil_store.proofs.later.+later.Goals as goal
 
 pub first_later_word-later_word-requires : goal.first_later_word-later_word-requires
-first_later_word-later_word-requires t c κs within =
-    (omega (arith, c.decreases, c.loop-tree.invariant.smaller, size_first (trees_of c.loop-tree.rest) c.in-Some.tree (trees_of c.in-Some.behind) c.in-Some.ensures), within)
+first_later_word-later_word-requires t c =
+    (omega (arith, c.decreases, c.loop-tree.invariant.smaller, size_first (trees_of c.loop-tree.rest) c.in-Some.tree (trees_of c.in-Some.behind) c.in-Some.ensures), tt)
 
 pub later_word-first_later_word-requires : goal.later_word-first_later_word-requires
-later_word-first_later_word-requires t c κs within =
+later_word-first_later_word-requires t c =
     let all : tree_size (tree_then c.args.tree none) ≡ tree_size (trees_of c.in-List.items) + 0 + 1 = ap (λ tree. tree_size (tree_then tree none)) c.in-List.is in
-    (omega (arith, c.decreases, all, size_behind (trees_of c.in-List.items) c.in-Some.first (trees_of c.in-Some.operands) c.in-Some.ensures), within)
+    (omega (arith, c.decreases, all, size_behind (trees_of c.in-List.items) c.in-Some.first (trees_of c.in-Some.operands) c.in-Some.ensures), tt)
 
-pub first_later_word-returns-in-Some-2 : goal.first_later_word-returns-in-Some-2
-first_later_word-returns-in-Some-2 t c =
+pub first_later_word-returns-in-Some-later_word : goal.first_later_word-returns-in-Some-later_word
+first_later_word-returns-in-Some-later_word t c =
     let rest = later_word (trees_of c.in-Some.behind) in
     sym (later_from (trees_of c.args.trees) (trees_of c.loop-tree.rest) c.in-Some.tree (trees_of c.in-Some.behind) (word_option c.later_word.result) c.loop-tree.invariant.found c.in-Some.ensures c.later_word.ensures
-    ∙ ap (λ found. option_or (word_option found) rest) c.in-Some-2.is)
+    ∙ ap (λ found. option_or (word_option found) rest) c.in-Some-later_word.is)
 
 pub first_later_word-loop-tree-preserved : goal.first_later_word-loop-tree-preserved
 first_later_word-loop-tree-preserved t c =
     let rest = later_word (trees_of c.in-Some.behind) in
     record {
       found = later_from (trees_of c.args.trees) (trees_of c.loop-tree.rest) c.in-Some.tree (trees_of c.in-Some.behind) (word_option c.later_word.result) c.loop-tree.invariant.found c.in-Some.ensures c.later_word.ensures
-          ∙ ap (λ found. option_or (word_option found) rest) c.in_default.is;
+          ∙ ap (λ found. option_or (word_option found) rest) c.in_default-later_word.is;
       smaller = omega (arith, c.loop-tree.invariant.smaller, size_behind (trees_of c.loop-tree.rest) c.in-Some.tree (trees_of c.in-Some.behind) c.in-Some.ensures);
     }
 
