@@ -1,5 +1,7 @@
 pub mod Gaining
+pub mod Nodes
 pub mod Marks
+pub mod ByteClasses
 pub mod Reading
 pub mod Going
 pub mod Ends
@@ -16,4 +18,3 @@ pub mod CheckLemmas
 pub mod Bodies
 pub mod HeadingLemmas
 pub mod WalkLemmas
-pub mod Depth
