@@ -14,6 +14,6 @@ try:
 test:
 	rt ci
 
-# Tries the wrong bodies of bench/wrong-bodies one by one; it takes some hours.
+# Tries the wrong bodies of bench/wrong_bodies one by one; it takes some hours.
 wrong-bodies:
-	bench/wrong-bodies.sh
+	bench/wrong_bodies.sh

@@ -1,13 +1,14 @@
 -- The lines of optionals that drop, one after another.
-use Rattle.std.proofs.Common.{◌≡◌, ℕ, ◌+◌, ◌<◌, List, ◌++◌, length, flat_map, take, codes, decimal, Option, Some, None, Result, Ok, Err, OnErr, sym, ap, ◌∙◌, subst, append_assoc, arith}
+use Rattle.std.proofs.Common.{◌≡◌, ℕ, ◌+◌, ◌<◌, List, ◌++◌, length, flat_map, take, codes, decimal, Option, Some, None, Result, Ok, Err, OnOk, OnErr, sym, ap, ◌∙◌, subst, append_assoc, arith}
 use Rattle.std.specs.List.{slice_get}
+use Rattle.std.proofs.lemmas.List.{take_all}
 use Rattle.std.proofs.lemmas.Option.{slice_get_within, get_or_from_slice_get}
-use Rattle.cil_specs.specs.Device.{Gains, GainsFront}
+use Rattle.cil_text.specs.Device.{Gains, GainsFront}
 use Rattle.cil_specs.specs.Report.{dropped_line}
 use Rattle.cil_specs.specs.Rule.{Declared}
 use Rattle.cil_specs.specs.Run.{dropped_optionals}
 use Rattle.cil_specs.specs.Script.{answer}
-use Rattle.cil_specs.proofs.Gaining.{gains-then_front, gains-pieces_more, gains-pieces_front}
+use Rattle.cil_text.proofs.Gaining.{gains-then_front, gains-pieces_more, gains-pieces_front}
 use Rattle.cil_store.proofs.DroppedLemmas.{past-end}
 use Rattle.cil_program.specs.Replies.{end_line}
 
@@ -38,3 +39,8 @@ pub dropped-front : {E : Type 0} (r : Result (Unit {0}) E) (old mid new : Option
 dropped-front (Ok _) old mid new xs n is lines front = tt
 dropped-front (Err _) old mid new xs n is lines front =
     subst (GainsFront old new) (with-end (flat_map dropped_line xs) n ∙ ap (λ k. flat_map dropped_line xs ++ codes "end " ++ decimal k ++ codes "\n") is) (gains-then_front old mid new (flat_map dropped_line xs) (end_line n) lines front)
+
+-- a text that was taken, or a beginning of it, is a beginning of it
+pub gains-some : {T E : Type 0} (r : Result T E) (old new : Option (List ℕ)) (text : List ℕ) → OnOk r (Gains old new text) → OnErr r (GainsFront old new text) → GainsFront old new text
+gains-some (Ok _) old new text all front = (length text, omega arith, subst (Gains old new) (sym (take_all (length text) text (omega arith))) all)
+gains-some (Err _) old new text all front = front

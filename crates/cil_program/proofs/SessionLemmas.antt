@@ -1,36 +1,32 @@
 -- A session, one line after another.
-use Rattle.std.proofs.Common.{◌≡◌, ◌≢◌, ℕ, ◌+◌, ◌-◌, ◌^◌, ◌<◌, ◌≤◌, ◌||◌, Bool, true, false, List, [], ◌∷◌, ◌++◌, length, flat_map, count_by, IsTrue, inl, inr, ◌==◌, refl, ap, sym, ◌∙◌, subst, append_assoc, append-nil, length-append, true≢false, if◌then◌else◌, arith}
+use Rattle.std.proofs.Common.{◌≡◌, ◌≢◌, ℕ, ◌+◌, ◌-◌, ◌^◌, ◌<◌, ◌≤◌, ◌||◌, Bool, true, false, List, [], ◌∷◌, ◌++◌, length, Some, flat_map, count_by, IsTrue, inl, inr, ◌==◌, refl, ap, sym, ◌∙◌, subst, append_assoc, append-nil, length-append, true≢false, if◌then◌else◌, arith}
 use Rattle.std.specs.List.{list_all, list_any, AllByRecursion}
 use Rattle.std.proofs.lemmas.List.Folds.{list_any-append, list_all-append}
 use Rattle.std.proofs.lemmas.Grind.{flat_map-append}
-use Rattle.cil_specs.specs.Device.{Gains}
+use Rattle.std.proofs.lemmas.List.{append_cancel_left}
+use Rattle.std.specs.Option.{option_map}
+use Rattle.cil_text.specs.Device.{Account, Gains, Gives, IsSound, IsLeft, has_ended}
 use Rattle.cil_specs.specs.Run.{Call, Reply, changed_by, refused, listed, dropped_optionals, Run}
-use Rattle.cil_specs.specs.Script.{line_of, command, HasGoodWords, IsCommand, MayLackItsEnd, IsNoCommand, ends, stops, whole, without_end, answer, last_line, is_refusal}
+use Rattle.cil_specs.specs.Script.{line_of, command, HasGoodWords, IsCommand, MayLackItsEnd, Commands, IsNoCommand, ends, stops, whole, without_end, answer, last_line, is_refusal}
 use Rattle.cil_specs.specs.Session as spec
 use Rattle.cil_specs.specs.Session.{IsSession, all_accepted, some_refused, no_script}
-use Rattle.cil_specs.proofs.Gaining.{gains-both, gains-none}
+use Rattle.cil_text.proofs.Gaining.{gains-both, gains-none}
 use Rattle.cil_specs.proofs.RunLemmas.{run-more}
 use Rattle.cil_specs.proofs.Runs.{both_true}
 use Rattle.cil_program.specs.Input.{Fits, EndsLine, stays}
-use Rattle.cil_program.specs.Session.{Moment, Standing, status_of, Advances, outcome_of, HasAnswered, IsWhole, IsBad, IsOutcome}
+use Rattle.cil_program.specs.Session.{Moment, Standing, Leaves, status_of, Advances, outcome_of, HasAnswered, IsWhole, IsBad, IsOutcome}
 use Rattle.cil_program.specs.declared.script.input.LineEnd.{LineEnd}
 use Rattle.cil_program.specs.declared.script.input.LineEnd.TheVariants.{LineFeed, LastByte, TooLong}
 use Rattle.cil_program.specs.declared.script.session.Outcome.{Outcome}
 use Rattle.cil_program.specs.declared.script.session.Outcome.TheVariants.{Accepted, Refused, NoCommand}
 use Rattle.cil_program.specs.declared.script.session.Status.{Status}
 use Rattle.cil_program.specs.declared.script.session.Status.TheVariants as statuses
-use Rattle.cil_program.proofs.InputLemmas.{reads-both}
+use Rattle.cil_program.proofs.InputLemmas.{reads-none, reads-both}
 use Rattle.cil_program.proofs.EndLemmas.{no-line-command, no-last-command, no-long-command, no-text-command}
 
 -- nothing was read
-pub stands : (now : Moment) → Fits now.count now.held → Advances now now []
-stands now fits = record {
-  takes = record { fresh = []; gains = gains-none now.given; same = append-nil now.held.bytes };
-  line_feeds = omega arith;
-  counts = omega arith;
-  fits = fits;
-  small = λ some. absurd (some refl);
-}
+pub stands : (now : Moment) → Fits now.account.count now.held → Advances now now []
+stands now fits = reads-none now.account now.held fits
 
 -- an answered call is no line that is none
 abbrev is_none : Outcome → Bool
@@ -44,8 +40,8 @@ some-outcome (listed rows) e = true≢false (ap is_none e)
 some-outcome (dropped_optionals dropped) e = true≢false (ap is_none e)
 
 -- a question, whose command is its line and a line feed, was answered
-pub question-outcome : (call : Call) (outcome : Outcome) (end : LineEnd) (line : List ℕ) (now : Moment) (before after : Standing) → HasGoodWords call → MayLackItsEnd call → line_of call ++ 10 ∷ [] ≡ command call → Fits now.count now.held → end ≢ TooLong
-    → (end ≡ LastByte → IsTrue now.ended × (now.held.bytes ≡ [])) → line ≡ line_of call → HasAnswered call outcome before after → IsOutcome outcome end line now now before after
+pub question-outcome : (call : Call) (outcome : Outcome) (end : LineEnd) (line : List ℕ) (now : Moment) (before after : Standing) → HasGoodWords call → MayLackItsEnd call → line_of call ++ 10 ∷ [] ≡ command call → Fits now.account.count now.held → end ≢ TooLong
+    → (end ≡ LastByte → IsTrue (has_ended now.account) × (now.held.bytes ≡ [])) → line ≡ line_of call → HasAnswered call outcome before after → IsOutcome outcome end line now now before after
 question-outcome call NoCommand end line now before after good may whole_is fits short last is answered = absurd (some-outcome answered.reply answered.is)
 question-outcome call Accepted LineFeed line now before after good may whole_is fits short last is answered = (call, [], stands now fits, (good, is, ap (λ l. l ++ 10 ∷ []) is ∙ whole_is), answered)
 question-outcome call Accepted LastByte line now before after good may whole_is fits short last is answered = (call, [], stands now fits, (good, may, is, refl, (last refl).0, (last refl).1), answered)
@@ -126,7 +122,7 @@ some-command Refused end line old new before after some is = record { call = is.
 some-command NoCommand end line old new before after some is = absurd (some refl)
 
 advances-both : (old mid new : Moment) (first second : List ℕ) → Advances old mid first → Advances mid new second → Advances old new (first ++ second)
-advances-both old mid new first second a b = reads-both old.given mid.given new.given old.count mid.count new.count old.held mid.held new.held first second a b
+advances-both old mid new first second a b = reads-both old.account mid.account new.account old.held mid.held new.held first second a b
 
 good-words : (end : LineEnd) (line read : List ℕ) (now : Moment) (call : Call) → IsWhole end line read now call → length line ≤ 4096 → IsCommand call
 good-words LineFeed line read now call is short = (is.0, omega (arith, short, ap length is.1))
@@ -141,7 +137,7 @@ written-on old mid new replies call outcome written answered =
     subst (Gains old.taken new.taken) (sym (map-more answer replies answered.reply)) (gains-both old.taken mid.taken new.taken (flat_map answer replies) (answer answered.reply) written answered.written)
 
 -- one more line, with its line feed, was a command
-pub line-more : (first old mid now : Moment) (before between after : Standing) (status : Status) (outcome : Outcome) (line bytes : List ℕ) → SoFar first old before between status → Advances old mid bytes → EndsLine LineFeed line bytes mid.ended mid.held.bytes → length line ≤ 4096
+pub line-more : (first old mid now : Moment) (before between after : Standing) (status : Status) (outcome : Outcome) (line bytes : List ℕ) → SoFar first old before between status → Advances old mid bytes → EndsLine LineFeed line bytes (has_ended mid.account) mid.held.bytes → length line ≤ 4096
     → outcome ≢ NoCommand → IsOutcome outcome LineFeed line mid now between after → SoFar first now before after (after_outcome outcome status)
 line-more first old mid now before between after status outcome line bytes so_far reads ends_line short some is =
     let had = some-command outcome LineFeed line mid now between after some is in
@@ -157,32 +153,78 @@ line-more first old mid now before between after status outcome line bytes so_fa
       status_is = refused-more so_far.replies had.answered.reply outcome status had.answered.is so_far.status_is;
     }
 
--- What a session leaves behind, by its source and its sink.
-pub record IsDone (first now : Moment) (before after : Standing) (status : Status) : Type 0 where
+-- no end is forgotten at a line
+pub outcome-ends : (outcome : Outcome) (end : LineEnd) (line : List ℕ) (old now : Moment) (before after : Standing) → IsOutcome outcome end line old now before after → old.account.ends ≤ now.account.ends
+outcome-ends NoCommand end line old now before after is = is.1.takes.gives.ends
+outcome-ends Accepted end line old now before after is = is.2.takes.gives.ends
+outcome-ends Refused end line old now before after is = is.2.takes.gives.ends
+
+-- What a session leaves behind, by the bytes that its source gave.
+pub record HasEndedSo (first now : Moment) (before after : Standing) (status : Status) : Type 0 where
   pub bytes : List ℕ
   pub text : List ℕ
-  pub given : Gains first.given now.given bytes
+  pub gives : Gives first.account now.account bytes
   pub written : Gains before.taken after.taken text
-  pub session : IsSession bytes now.ended before.store after.store text (status_of status)
+  pub session : IsSession bytes (has_ended now.account) before.store after.store text (status_of status)
+
+-- what is left of a text begins with what is given of it, and is that where it is given as a whole
+left-given : (old new : Account) (given rest : List ℕ) → IsSound new → Gives old new given → IsLeft old rest → (more : List ℕ) × (IsTrue (has_ended new) → more ≡ []) × (given ++ more ≡ rest)
+left-given old new given rest sound gives left =
+    let given_is : new.given ≡ Some (left.front ++ given) = gives.given ∙ ap (option_map (λ bytes. bytes ++ given)) left.given in
+    let whole_is : new.whole ≡ Some (left.front ++ rest) = gives.whole ∙ left.whole in
+    let front = sound.front (left.front ++ rest) (left.front ++ given) whole_is given_is in
+    let same : left.front ++ rest ≡ left.front ++ (given ++ front.0) = front.1 ∙ append_assoc left.front given front.0 in (
+      front.0,
+      λ ended. none (left.front ++ given) front.0 (sym front.1 ∙ some-same (left.front ++ rest) (left.front ++ given) (sym (sound.all ended (left.front ++ rest) whole_is) ∙ given_is)),
+      append_cancel_left left.front (given ++ front.0) rest (sym same),
+    )
+  where
+    some-same : (a b : List ℕ) → Some a ≡ Some b → a ≡ b
+    some-same a b e = cc
+
+    none : (xs ys : List ℕ) → xs ++ ys ≡ xs → ys ≡ []
+    none xs [] e = refl
+    none xs (y ∷ ys) e = absurd (omega (arith, ap length e, length-append xs (y ∷ ys)))
+
+-- a session over the bytes given is one over the whole text that was left
+pub leaves : (first now : Moment) (before after : Standing) (status : Status) → HasEndedSo first now before after status → IsSound now.account → Leaves first.account now.account before after status
+leaves first now before after status done sound = record {
+  given = done.bytes;
+  written = done.text;
+  gives = done.gives;
+  gains = done.written;
+  session = done.session;
+  whole = λ rest left.
+      let more = left-given first.account now.account done.bytes rest sound done.gives left in
+      record {
+        calls = done.session.calls;
+        replies = done.session.replies;
+        end = done.session.end;
+        commands = λ after none. subst (λ script. Commands script done.session.calls done.session.end) (more.2 ∙ sym (append-nil rest) ∙ sym (ap (λ l. rest ++ l) (none refl))) (done.session.commands more.0 more.1);
+        run = done.session.run;
+        answered = done.session.answered;
+        status_is = done.session.status_is;
+      };
+}
 
 -- the bytes that the source gave
 fresh-is : (first now : Moment) (read : List ℕ) → first.held.bytes ≡ [] → (reads : Advances first now read) → reads.takes.fresh ≡ read ++ now.held.bytes
 fresh-is first now read none reads = ap (λ l. l ++ reads.takes.fresh) (sym none) ∙ reads.takes.same
 
 -- nothing stands behind the last byte
-last-bytes : (now : Moment) (bytes read more : List ℕ) → bytes ≡ read ++ now.held.bytes → IsTrue now.ended → now.held.bytes ≡ [] → (IsTrue now.ended → more ≡ []) → bytes ++ more ≡ read
+last-bytes : (now : Moment) (bytes read more : List ℕ) → bytes ≡ read ++ now.held.bytes → IsTrue (has_ended now.account) → now.held.bytes ≡ [] → (IsTrue (has_ended now.account) → more ≡ []) → bytes ++ more ≡ read
 last-bytes now bytes read more is ended none no_more = (λ i. is i ++ no_more ended i) ∙ append-nil (read ++ now.held.bytes) ∙ ap (λ l. read ++ l) none ∙ append-nil read
 
 -- the script ended with its last command
-pub done-at-end : (first old now : Moment) (before after : Standing) (status : Status) (bytes line : List ℕ) → first.held.bytes ≡ [] → SoFar first old before after status → Advances old now bytes → EndsLine LastByte line bytes now.ended now.held.bytes → line ≡ []
-    → IsDone first now before after status
+pub done-at-end : (first old now : Moment) (before after : Standing) (status : Status) (bytes line : List ℕ) → first.held.bytes ≡ [] → SoFar first old before after status → Advances old now bytes → EndsLine LastByte line bytes (has_ended now.account) now.held.bytes → line ≡ []
+    → HasEndedSo first now before after status
 done-at-end first old now before after status bytes line none so_far reads ends_line empty =
     let all = advances-both first old now so_far.read bytes so_far.reads reads in
     let read_is : so_far.read ++ bytes ≡ flat_map command so_far.calls = (λ i. so_far.is i ++ (ends_line.0 ∙ empty) i) ∙ append-nil (flat_map command so_far.calls) in
     record {
       bytes = all.takes.fresh;
       text = flat_map answer so_far.replies;
-      given = all.takes.gains;
+      gives = all.takes.gives;
       written = so_far.written;
       session = record {
         calls = so_far.calls;
@@ -197,7 +239,7 @@ done-at-end first old now before after status bytes line none so_far reads ends_
 
 -- the script ended with a command that lacks its line feed
 pub done-without-end : (first old mid now : Moment) (before between after : Standing) (status : Status) (outcome : Outcome) (line bytes : List ℕ) → first.held.bytes ≡ [] → SoFar first old before between status → Advances old mid bytes
-    → EndsLine LastByte line bytes mid.ended mid.held.bytes → length line ≤ 4096 → outcome ≢ NoCommand → IsOutcome outcome LastByte line mid now between after → IsDone first now before after (after_outcome outcome status)
+    → EndsLine LastByte line bytes (has_ended mid.account) mid.held.bytes → length line ≤ 4096 → outcome ≢ NoCommand → IsOutcome outcome LastByte line mid now between after → HasEndedSo first now before after (after_outcome outcome status)
 done-without-end first old mid now before between after status outcome line bytes none so_far reads ends_line short some is =
     let had = some-command outcome LastByte line mid now between after some is in
     let all = advances-both first old now so_far.read (bytes ++ had.read) so_far.reads (advances-both old mid now bytes had.read reads had.reads) in
@@ -207,7 +249,7 @@ done-without-end first old mid now before between after status outcome line byte
     record {
       bytes = all.takes.fresh;
       text = flat_map answer (so_far.replies ++ had.answered.reply ∷ []);
-      given = all.takes.gains;
+      gives = all.takes.gives;
       written = written-on before between after so_far.replies had.call outcome so_far.written had.answered;
       session = record {
         calls = so_far.calls ++ had.call ∷ [];
@@ -229,7 +271,7 @@ some-bytes LastByte (b ∷ line) bytes more ended held some is e = omega (arith,
 some-bytes TooLong line bytes more ended held some is e = omega (arith, ap length e, length-append bytes more, ap length is.2, length-append line (is.0 ∷ []))
 
 -- no command stands where a line is bad
-bad-line : (end : LineEnd) (line bytes read more : List ℕ) (mid now : Moment) → EndsLine end line bytes mid.ended mid.held.bytes → list_all stays line ≡ true → IsBad end line read now → (IsTrue now.ended → more ≡ [])
+bad-line : (end : LineEnd) (line bytes read more : List ℕ) (mid now : Moment) → EndsLine end line bytes (has_ended mid.account) mid.held.bytes → list_all stays line ≡ true → IsBad end line read now → (IsTrue (has_ended now.account) → more ≡ [])
     → IsNoCommand ((bytes ++ read) ++ (now.held.bytes ++ more))
 bad-line LineFeed line bytes read more mid now is stay (inl none) no_more =
     subst IsNoCommand (sym ((λ i. (is i ++ none.0 i) ++ (now.held.bytes ++ more)) ∙ ap (λ l. l ++ (now.held.bytes ++ more)) (append-nil (line ++ 10 ∷ [])) ∙ append_assoc line (10 ∷ []) (now.held.bytes ++ more)))
@@ -237,7 +279,7 @@ bad-line LineFeed line bytes read more mid now is stay (inl none) no_more =
 bad-line LineFeed line bytes read more mid now is stay (inr short) no_more =
     subst IsNoCommand
     (sym (append_assoc bytes read (now.held.bytes ++ more) ∙ ap (λ l. l ++ (read ++ (now.held.bytes ++ more))) is ∙ append_assoc line (10 ∷ []) (read ++ (now.held.bytes ++ more))))
-    (no-text-command short.0 short.1 short.2 line read (now.held.bytes ++ more) now.ended now.held.bytes short.3 short.4 stay short.5 (λ ended none. (λ i. none i ++ no_more ended i)))
+    (no-text-command short.0 short.1 short.2 line read (now.held.bytes ++ more) (has_ended now.account) now.held.bytes short.3 short.4 stay short.5 (λ ended none. (λ i. none i ++ no_more ended i)))
 bad-line LastByte line bytes read more mid now is stay bad no_more =
     subst IsNoCommand (sym ((λ i. (is.0 i ++ bad.0 i) ++ (bad.2 i ++ no_more bad.1 i)) ∙ append-nil (line ++ []) ∙ append-nil line)) (no-last-command line stay bad.3)
 bad-line TooLong line bytes read more mid now is stay bad no_more =
@@ -246,15 +288,15 @@ bad-line TooLong line bytes read more mid now is stay bad no_more =
 
 -- the script stops at a line that is no command
 pub done-at-line : (first old mid now : Moment) (before after last : Standing) (status : Status) (end : LineEnd) (line bytes read : List ℕ) → first.held.bytes ≡ [] → first.held.line_feeds ≡ 0 → SoFar first old before after status → Advances old mid bytes
-    → EndsLine end line bytes mid.ended mid.held.bytes → list_all stays line ≡ true → (end ≡ LastByte → line ≢ []) → Advances mid now read → IsBad end line read now → last.store ≡ after.store → Gains after.taken last.taken (last_line (stops (1 + old.held.line_feeds)))
-    → IsDone first now before last statuses.Script
+    → EndsLine end line bytes (has_ended mid.account) mid.held.bytes → list_all stays line ≡ true → (end ≡ LastByte → line ≢ []) → Advances mid now read → IsBad end line read now → last.store ≡ after.store → Gains after.taken last.taken (last_line (stops (1 + old.held.line_feeds)))
+    → HasEndedSo first now before last statuses.Script
 done-at-line first old mid now before after last status end line bytes read none feeds so_far reads ends_line stay some more_reads bad same written =
     let all = advances-both first old now so_far.read (bytes ++ read) so_far.reads (advances-both old mid now bytes read reads more_reads) in
     let line_is : old.held.line_feeds ≡ count_by (λ b. b == 10) (flat_map command so_far.calls) = omega (arith, so_far.reads.line_feeds, feeds) ∙ ap (count_by (λ b. b == 10)) so_far.is in
     record {
       bytes = all.takes.fresh;
       text = flat_map answer so_far.replies ++ last_line (stops (1 + old.held.line_feeds));
-      given = all.takes.gains;
+      gives = all.takes.gives;
       written = gains-both before.taken after.taken last.taken (flat_map answer so_far.replies) (last_line (stops (1 + old.held.line_feeds))) so_far.written written;
       session = record {
         calls = so_far.calls;
@@ -262,7 +304,7 @@ done-at-line first old mid now before after last status end line bytes read none
         end = stops (1 + old.held.line_feeds);
         commands = λ more no_more. whole so_far.good ((bytes ++ read) ++ (now.held.bytes ++ more))
             ((λ i. fresh-is first now (so_far.read ++ (bytes ++ read)) none all i ++ more) ∙ regroup so_far.read (bytes ++ read) now.held.bytes more ∙ ap (λ l. l ++ ((bytes ++ read) ++ (now.held.bytes ++ more))) so_far.is)
-            (subst (λ l. l ≢ []) (sym (append_assoc bytes read (now.held.bytes ++ more))) (some-bytes end line bytes (read ++ (now.held.bytes ++ more)) mid.ended mid.held.bytes some ends_line), bad-line end line bytes read more mid now ends_line stay bad no_more, ap (λ n. 1 + n) line_is);
+            (subst (λ l. l ≢ []) (sym (append_assoc bytes read (now.held.bytes ++ more))) (some-bytes end line bytes (read ++ (now.held.bytes ++ more)) (has_ended mid.account) mid.held.bytes some ends_line), bad-line end line bytes read more mid now ends_line stay bad no_more, ap (λ n. 1 + n) line_is);
         run = subst (Run before.store so_far.calls so_far.replies) (sym same) so_far.run;
         answered = refl;
         status_is = refl;
@@ -273,20 +315,20 @@ done-at-line first old mid now before after last status end line bytes read none
     regroup a b c d = simp append_assoc
 
 -- one more line that isn't the last was a command
-pub line-next : (first old mid now : Moment) (before between after : Standing) (status : Status) (outcome : Outcome) (end : LineEnd) (line bytes : List ℕ) → SoFar first old before between status → Advances old mid bytes → EndsLine end line bytes mid.ended mid.held.bytes → length line ≤ 4096
+pub line-next : (first old mid now : Moment) (before between after : Standing) (status : Status) (outcome : Outcome) (end : LineEnd) (line bytes : List ℕ) → SoFar first old before between status → Advances old mid bytes → EndsLine end line bytes (has_ended mid.account) mid.held.bytes → length line ≤ 4096
     → end ≢ LastByte → outcome ≢ NoCommand → IsOutcome outcome end line mid now between after → SoFar first now before after (after_outcome outcome status)
 line-next first old mid now before between after status outcome LineFeed line bytes so_far reads ends_line short last some is = line-more first old mid now before between after status outcome line bytes so_far reads ends_line short some is
 line-next first old mid now before between after status outcome LastByte line bytes so_far reads ends_line short last some is = absurd (last refl)
 line-next first old mid now before between after status outcome TooLong line bytes so_far reads ends_line short last some is = absurd (let had = some-command outcome TooLong line mid now between after some is in had.is_whole)
 
 -- with each line fewer bytes are left of those that a source can count
-pub fewer-left : (old mid now : Moment) (outcome : Outcome) (end : LineEnd) (line bytes : List ℕ) (before after : Standing) → Fits old.count old.held → Advances old mid bytes → EndsLine end line bytes mid.ended mid.held.bytes → end ≢ LastByte
-    → outcome ≢ NoCommand → IsOutcome outcome end line mid now before after → 2 ^ 64 - (now.count - length now.held.bytes) < 2 ^ 64 - (old.count - length old.held.bytes)
+pub fewer-left : (old mid now : Moment) (outcome : Outcome) (end : LineEnd) (line bytes : List ℕ) (before after : Standing) → Fits old.account.count old.held → Advances old mid bytes → EndsLine end line bytes (has_ended mid.account) mid.held.bytes → end ≢ LastByte
+    → outcome ≢ NoCommand → IsOutcome outcome end line mid now before after → 2 ^ 64 - (now.account.count - length now.held.bytes) < 2 ^ 64 - (old.account.count - length old.held.bytes)
 fewer-left old mid now outcome end line bytes before after fits reads ends_line last some is =
     let had = some-command outcome end line mid now before after some is in
     let all = advances-both old mid now bytes had.read reads had.reads in
-    let any = some-bytes end line bytes had.read mid.ended mid.held.bytes (λ e. absurd (last e)) ends_line in
-    fewer (2 ^ 64) old.count now.count (length old.held.bytes) (length now.held.bytes) (length (bytes ++ had.read)) (omega (arith, fits.within)) (omega (arith, all.fits.within)) all.counts (all.small any) (λ e. any (empty (bytes ++ had.read) e))
+    let any = some-bytes end line bytes had.read (has_ended mid.account) mid.held.bytes (λ e. absurd (last e)) ends_line in
+    fewer (2 ^ 64) old.account.count now.account.count (length old.held.bytes) (length now.held.bytes) (length (bytes ++ had.read)) (omega (arith, fits.within)) (omega (arith, all.fits.within)) all.counts (all.small any) (λ e. any (empty (bytes ++ had.read) e))
   where
     empty : (xs : List ℕ) → length xs ≡ 0 → xs ≡ []
     empty [] e = refl

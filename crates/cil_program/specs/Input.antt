@@ -1,22 +1,33 @@
 -- What was read from a source that gives bytes in pieces.
-use Rattle.std.specs.Prelude.{◌≡◌, ◌≢◌, ℕ, ◌+◌, ◌<◌, ◌≤◌, ◌^◌, Bool, true, false, not, List, [], ◌∷◌, ◌++◌, length, count_by, IsTrue, Option, ◌⊎◌}
+use Rattle.std.specs.Prelude.{◌≡◌, ◌≢◌, ℕ, ◌+◌, ◌<◌, ◌≤◌, ◌^◌, Bool, true, false, not, List, [], ◌∷◌, ◌++◌, length, count_by, IsTrue, ◌⊎◌}
 use Rattle.cil_specs.specs.Place.{is_line_feed}
-use Rattle.cil_specs.specs.Device.{Takes, Held}
+use Rattle.cil_text.specs.Device.{Account, Gives}
 use Rattle.cil_program.specs.declared.script.input.LineEnd.{LineEnd}
 use Rattle.cil_program.specs.declared.script.input.LineEnd.TheVariants.{LineFeed, LastByte, TooLong}
+
+-- What was taken from a source and is held back, and the line feeds in what was read.
+pub record Held : Type 0 where
+  pub bytes : List ℕ
+  pub line_feeds : ℕ
+
+-- Between two moments a source gave bytes, and of those held back before and these, some were read and the others are held back.
+pub record Takes (was is : Account) (before read held : List ℕ) : Type 0 where
+  pub fresh : List ℕ
+  pub gives : Gives was is fresh
+  pub same : before ++ fresh ≡ read ++ held
 
 -- What an input holds back is of what its source counted; where it holds bytes back, the source counted fewer than 2 ^ 64.
 pub record Fits (count : ℕ) (held : Held) : Type 0 where
   pub within : held.line_feeds + length held.bytes ≤ count
   pub small : held.bytes ≢ [] → count < 2 ^ 64
 
--- These bytes were read: of a source by what it gave and counted before and now, of an input by what it held back before and now.
-pub record HasRead (given now : Option (List ℕ)) (count counted : ℕ) (old new : Held) (read : List ℕ) : Type 0 where
-  pub takes : Takes given now old.bytes read new.bytes
+-- These bytes were read: of a source by its account before and now, of an input by what it held back before and now.
+pub record HasRead (was is : Account) (old new : Held) (read : List ℕ) : Type 0 where
+  pub takes : Takes was is old.bytes read new.bytes
   pub line_feeds : new.line_feeds ≡ old.line_feeds + count_by is_line_feed read
-  pub counts : counted + length old.bytes ≡ count + length read + length new.bytes
-  pub fits : Fits counted new
-  pub small : read ≢ [] → counted < 2 ^ 64
+  pub counts : is.count + length old.bytes ≡ was.count + length read + length new.bytes
+  pub fits : Fits is.count new
+  pub small : read ≢ [] → is.count < 2 ^ 64
 
 -- a byte that ends no line
 abbrev pub stays : ℕ → Bool

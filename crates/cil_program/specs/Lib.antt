@@ -2,3 +2,4 @@ pub mod Input
 pub mod Command
 pub mod Replies
 pub mod Session
+pub mod CommandLine

@@ -3,5 +3,6 @@
 pub mod command;
 pub mod input;
 pub mod line;
+pub mod memory;
 pub mod reply;
 pub mod session;

@@ -4,7 +4,7 @@ ghost use Rattle.std.specs.Prelude.{◌≡◌, ◌<◌, ◌≤◌, ◌++◌, len
 ghost use Rattle.std.specs.List.{All, flat_map};
 ghost use Rattle.cil_specs.specs.Statements.{rule_word};
 ghost use Rattle.cil_specs.specs.Report.{row_line};
-ghost use Rattle.cil_specs.specs.Device.{HasFailed, Gains, GainsFront};
+ghost use Rattle.cil_text.specs.Device.{HasFailed, Gains, GainsFront};
 ghost use Rattle.cil_text.specs.Image.{rule_kind_of};
 ghost use Rattle.cil_rules.specs.Atoms.{atom_at, IsWithin, AreNumbered};
 ghost use Rattle.cil_rules.specs.Rows.{rows_of, row_head, name_text, permission_text, row_at};

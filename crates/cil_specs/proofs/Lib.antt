@@ -5,7 +5,6 @@ pub mod Order
 pub mod Fronts
 pub mod Stuck
 pub mod OneReading
-pub mod Gaining
 pub mod RunLemmas
 pub mod NamesLemmas
 pub mod ExprLemmas

@@ -18,5 +18,4 @@ pub mod Kept
 pub mod Next
 pub mod Run
 pub mod Script
-pub mod Device
 pub mod Session

@@ -1,7 +1,7 @@
 //! Engines that keep a store compiled.
 
 ghost use Rattle.std.specs.Prelude.{◌≡◌, ◌≤◌, List, IfOk, OnErr, IsErrOf, length, flat_map};
-ghost use Rattle.cil_specs.specs.Device.{HasFailed, Gains, GainsFront};
+ghost use Rattle.cil_text.specs.Device.{HasFailed, Gains, GainsFront};
 ghost use Rattle.cil_specs.specs.Next.{AreDroppedOf};
 ghost use Rattle.cil_specs.specs.Report.{Row, row_line};
 ghost use Rattle.cil_specs.specs.Run.{Step, an_edit};

@@ -1,3 +1,4 @@
+pub mod Gaining
 pub mod Marks
 pub mod Reading
 pub mod Going

@@ -1,3 +1,4 @@
+pub mod Device
 pub mod Image
 pub mod Reader
 pub mod Name

@@ -2,20 +2,17 @@
 #![tactic(auto)]
 
 mod check;
+mod devices;
 mod expr;
 mod fault;
 mod forest;
 mod form;
 mod keyword;
 mod laws;
-mod memory_sink;
-mod memory_source;
 mod module;
 mod name;
 mod place;
 mod reader;
-mod sink;
-mod source;
 mod split;
 mod statement;
 mod tree;
@@ -29,13 +26,13 @@ pub use laws::{
     faults_are_stuck, first_fault_is_one, no_fault_beside_a_reading, one_reading,
     one_reading_fault, statements_are_one, statements_have_no_fault,
 };
-pub use memory_sink::MemorySink;
-pub use memory_source::MemorySource;
+pub use devices::memory_sink::MemorySink;
+pub use devices::memory_source::MemorySource;
 pub use module::Module;
 pub use place::Place;
 pub use reader::read;
-pub use sink::{Sink, SinkFault, WriterSink, write_all, write_pieces};
-pub use source::{ReaderSource, Source, SourceFault};
+pub use devices::sink::{Sink, SinkFault, WriterSink, write_all, write_pieces};
+pub use devices::source::{ReaderSource, Source, SourceFault};
 pub use statement::{Expr, RuleKind, Statement, Target};
 pub use tree::Tree;
 pub use walk::shape;

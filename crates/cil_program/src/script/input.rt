@@ -3,7 +3,7 @@
 ghost use Rattle.std.specs.Prelude.{◌≡◌, ◌≢◌, ◌↔◌, ◌+◌, ◌<◌, ◌≤◌, ◌^◌, ◌∷◌, [], false, ℕ, List, length, count_by, IsTrue, IfOk, IfSome, IfNone, OnErr};
 ghost use Rattle.std.specs.List.{list_all};
 ghost use Rattle.cil_specs.specs.Place.{is_line_feed};
-ghost use Rattle.cil_specs.specs.Device.{HasFailed, Gains, Takes};
+ghost use Rattle.cil_text.specs.Device.{HasFailed, HasEnded, Gives};
 
 use crate::script::line::Line;
 use cil_text::{Source, SourceFault};
@@ -54,7 +54,7 @@ pub struct Input {
 
 impl Model for Input {
     ghost use Rattle.std.specs.Prelude.{◌≤◌, ◌<◌, ◌+◌, ◌-◌, ◌^◌, slice_range};
-    ghost use Rattle.cil_specs.specs.Device.{Held};
+    ghost use Rattle.cil_program.specs.Input.{Held};
 
     ghost Value = { Held };
 
@@ -105,16 +105,15 @@ impl Input {
     /// Takes bytes from the source, and says whether there were any.
     fn fill<S: Source>(&mut self, source: &mut S) -> Result<bool, SourceFault>
         requires empty { self.old.bytes ≡ [] }
-        requires counted { self.old.line_feeds ≤ S.count source.old }
+        requires counted { self.old.line_feeds ≤ (S.account source.old).count }
         ensures more { IfOk result (λ more. IsTrue more → self.new.bytes ≢ []) }
-        ensures none { IfOk result (λ more. more ≡ false → (self.new.bytes ≡ []) × IsTrue (S.ended source.new)) }
-        ensures given { IfOk result (λ _. Gains (S.given source.old) (S.given source.new) self.new.bytes) }
-        ensures counted { IfOk result (λ _. S.count source.new ≡ S.count source.old + length self.new.bytes) }
-        ensures small { IfOk result (λ _. S.count source.new < 2 ^ 64) }
+        ensures none { IfOk result (λ more. more ≡ false → (self.new.bytes ≡ []) × HasEnded (S.account source.old) (S.account source.new)) }
+        ensures gives { IfOk result (λ _. Gives (S.account source.old) (S.account source.new) self.new.bytes) }
+        ensures small { IfOk result (λ _. (S.account source.new).count < 2 ^ 64) }
         ensures line_feeds { self.new.line_feeds ≡ self.old.line_feeds }
-        ensures failed { OnErr result (HasFailed (S.failures source.old) (S.failures source.new)) }
-        ensures err { OnErr result ((self.new ≡ self.old) × (S.given source.new ≡ S.given source.old) × (S.count source.new ≡ S.count source.old)) }
-        ensures failures { S.failures source.old ≤ S.failures source.new }
+        ensures failed { OnErr result (HasFailed (S.account source.old).failures (S.account source.new).failures) }
+        ensures err { OnErr result (self.new ≡ self.old) }
+        ensures failures { (S.account source.old).failures ≤ (S.account source.new).failures }
     {
         let n = source.take(&mut self.bytes)?;
         self.start = 0;
@@ -126,18 +125,19 @@ impl Input {
 impl Input {
     ghost use Rattle.std.specs.Prelude.{◌≡◌, ◌≢◌, ◌+◌, ◌≤◌, ◌∷◌, ◌++◌, [], false, ℕ, List, length, take, drop, count_by, IsTrue, IfOk, IfSome, IfNone, OnErr, vec_len, vec_capacity};
     ghost use Rattle.std.specs.List.{list_all};
-    ghost use Rattle.cil_specs.specs.Device.{HasFailed};
+    ghost use Rattle.cil_text.specs.Device.{HasFailed, HasEnded, has_ended};
     ghost use Rattle.cil_specs.specs.Place.{is_line_feed};
     ghost use Rattle.cil_program.specs.Input.{Fits, HasRead, EndsLine, IsText, IsOther, IsWholeText, stays};
+    ghost use Rattle.cil_program.specs.declared.script.input.LineEnd.TheVariants.{LastByte};
 
     /// The next byte; none where the source told its end.
     fn next<S: Source>(&mut self, source: &mut S) -> Result<Option<u8>, SourceFault>
-        requires { Fits (S.count source.old) self.old }
-        ensures byte { IfOk result (λ r. IfSome r (λ b. HasRead (S.given source.old) (S.given source.new) (S.count source.old) (S.count source.new) self.old self.new (b ∷ []))) }
-        ensures end { IfOk result (λ r. IfNone r (HasRead (S.given source.old) (S.given source.new) (S.count source.old) (S.count source.new) self.old self.new []
-            × IsTrue (S.ended source.new) × (self.new.bytes ≡ []))) }
-        ensures failed { OnErr result (HasFailed (S.failures source.old) (S.failures source.new)) }
-        ensures failures { S.failures source.old ≤ S.failures source.new }
+        requires { Fits (S.account source.old).count self.old }
+        ensures byte { IfOk result (λ r. IfSome r (λ b. HasRead (S.account source.old) (S.account source.new) self.old self.new (b ∷ []))) }
+        ensures end { IfOk result (λ r. IfNone r (HasRead (S.account source.old) (S.account source.new) self.old self.new []
+            × HasEnded (S.account source.old) (S.account source.new) × (self.new.bytes ≡ []))) }
+        ensures failed { OnErr result (HasFailed (S.account source.old).failures (S.account source.new).failures) }
+        ensures failures { (S.account source.old).failures ≤ (S.account source.new).failures }
     {
         if self.is_empty() && !self.fill(source)? {
             return Ok(None);
@@ -151,12 +151,13 @@ impl Input {
         source: &mut S,
         line: &mut Line,
     ) -> Result<LineEnd, SourceFault>
-        requires counted { Fits (S.count source.old) self.old }
-        ensures read { IfOk result (λ end. (read : List ℕ) × HasRead (S.given source.old) (S.given source.new) (S.count source.old) (S.count source.new) self.old self.new read
-            × EndsLine end line.new read (S.ended source.new) self.new.bytes) }
+        requires counted { Fits (S.account source.old).count self.old }
+        ensures read { IfOk result (λ end. (read : List ℕ) × HasRead (S.account source.old) (S.account source.new) self.old self.new read
+            × EndsLine end line.new read (has_ended (S.account source.new)) self.new.bytes) }
         ensures stays { IfOk result (λ _. IsTrue (list_all stays line.new)) }
-        ensures failed { OnErr result (HasFailed (S.failures source.old) (S.failures source.new)) }
-        ensures failures { S.failures source.old ≤ S.failures source.new }
+        ensures ended { IfOk result (λ end. end ≡ LastByte → HasEnded (S.account source.old) (S.account source.new)) }
+        ensures failed { OnErr result (HasFailed (S.account source.old).failures (S.account source.new).failures) }
+        ensures failures { (S.account source.old).failures ≤ (S.account source.new).failures }
     {
         line.clear();
         loop {
@@ -175,12 +176,12 @@ impl Input {
 
     /// Whether there are bytes to read. Takes some from the source where none are held back.
     fn has_more<S: Source>(&mut self, source: &mut S) -> Result<bool, SourceFault>
-        requires { Fits (S.count source.old) self.old }
-        ensures read { IfOk result (λ _. HasRead (S.given source.old) (S.given source.new) (S.count source.old) (S.count source.new) self.old self.new []) }
+        requires { Fits (S.account source.old).count self.old }
+        ensures read { IfOk result (λ _. HasRead (S.account source.old) (S.account source.new) self.old self.new []) }
         ensures more { IfOk result (λ more. IsTrue more → self.new.bytes ≢ []) }
-        ensures none { IfOk result (λ more. more ≡ false → IsTrue (S.ended source.new) × (self.new.bytes ≡ [])) }
-        ensures failed { OnErr result (HasFailed (S.failures source.old) (S.failures source.new)) }
-        ensures failures { S.failures source.old ≤ S.failures source.new }
+        ensures none { IfOk result (λ more. more ≡ false → IsTrue (has_ended (S.account source.new)) × (self.new.bytes ≡ [])) }
+        ensures failed { OnErr result (HasFailed (S.account source.old).failures (S.account source.new).failures) }
+        ensures failures { (S.account source.old).failures ≤ (S.account source.new).failures }
     {
         if self.is_empty() {
             return self.fill(source);
@@ -215,12 +216,12 @@ impl Input {
         len: usize,
         text: &mut Vec<u8, A>,
     ) -> Result<bool, SourceFault>
-        requires counted { Fits (S.count source.old) self.old }
+        requires counted { Fits (S.account source.old).count self.old }
         requires room { vec_len text.old + len ≤ vec_capacity text.old }
-        ensures read { IfOk result (λ whole. (read : List ℕ) × HasRead (S.given source.old) (S.given source.new) (S.count source.old) (S.count source.new) self.old self.new read
-            × (text.new.items ≡ text.old.items ++ read) × IsText whole len read (S.ended source.new) self.new.bytes) }
-        ensures failed { OnErr result (HasFailed (S.failures source.old) (S.failures source.new)) }
-        ensures failures { S.failures source.old ≤ S.failures source.new }
+        ensures read { IfOk result (λ whole. (read : List ℕ) × HasRead (S.account source.old) (S.account source.new) self.old self.new read
+            × (text.new.items ≡ text.old.items ++ read) × IsText whole len read (has_ended (S.account source.new)) self.new.bytes) }
+        ensures failed { OnErr result (HasFailed (S.account source.old).failures (S.account source.new).failures) }
+        ensures failures { (S.account source.old).failures ≤ (S.account source.new).failures }
     {
         let mut left = len;
         while left > 0 {
@@ -238,11 +239,11 @@ impl Input {
 
     /// Reads so many bytes and leaves them aside. Says whether all were there.
     fn skip_bytes<S: Source>(&mut self, source: &mut S, len: usize) -> Result<bool, SourceFault>
-        requires { Fits (S.count source.old) self.old }
-        ensures read { IfOk result (λ whole. (read : List ℕ) × HasRead (S.given source.old) (S.given source.new) (S.count source.old) (S.count source.new) self.old self.new read
-            × IsText whole len read (S.ended source.new) self.new.bytes) }
-        ensures failed { OnErr result (HasFailed (S.failures source.old) (S.failures source.new)) }
-        ensures failures { S.failures source.old ≤ S.failures source.new }
+        requires { Fits (S.account source.old).count self.old }
+        ensures read { IfOk result (λ whole. (read : List ℕ) × HasRead (S.account source.old) (S.account source.new) self.old self.new read
+            × IsText whole len read (has_ended (S.account source.new)) self.new.bytes) }
+        ensures failed { OnErr result (HasFailed (S.account source.old).failures (S.account source.new).failures) }
+        ensures failures { (S.account source.old).failures ≤ (S.account source.new).failures }
     {
         let mut left = len;
         while left > 0 {
@@ -258,12 +259,12 @@ impl Input {
 
     /// Reads a byte, and says whether it was a line feed.
     fn take_line_feed<S: Source>(&mut self, source: &mut S) -> Result<bool, SourceFault>
-        requires { Fits (S.count source.old) self.old }
-        ensures yes { IfOk result (λ is. IsTrue is → HasRead (S.given source.old) (S.given source.new) (S.count source.old) (S.count source.new) self.old self.new (10 ∷ [])) }
-        ensures no { IfOk result (λ is. is ≡ false → (read : List ℕ) × HasRead (S.given source.old) (S.given source.new) (S.count source.old) (S.count source.new) self.old self.new read
-            × IsOther read (S.ended source.new) self.new.bytes) }
-        ensures failed { OnErr result (HasFailed (S.failures source.old) (S.failures source.new)) }
-        ensures failures { S.failures source.old ≤ S.failures source.new }
+        requires { Fits (S.account source.old).count self.old }
+        ensures yes { IfOk result (λ is. IsTrue is → HasRead (S.account source.old) (S.account source.new) self.old self.new (10 ∷ [])) }
+        ensures no { IfOk result (λ is. is ≡ false → (read : List ℕ) × HasRead (S.account source.old) (S.account source.new) self.old self.new read
+            × IsOther read (has_ended (S.account source.new)) self.new.bytes) }
+        ensures failed { OnErr result (HasFailed (S.account source.old).failures (S.account source.new).failures) }
+        ensures failures { (S.account source.old).failures ≤ (S.account source.new).failures }
     {
         let Some(b) = self.next(source)? else {
             return Ok(false);
@@ -279,12 +280,12 @@ impl Input {
         len: usize,
         text: &mut Vec<u8, A>,
     ) -> Result<bool, SourceFault>
-        requires counted { Fits (S.count source.old) self.old }
+        requires counted { Fits (S.account source.old).count self.old }
         requires room { vec_len text.old + len ≤ vec_capacity text.old }
-        ensures read { IfOk result (λ whole. (read part : List ℕ) × HasRead (S.given source.old) (S.given source.new) (S.count source.old) (S.count source.new) self.old self.new read
-            × (text.new.items ≡ text.old.items ++ part) × IsWholeText whole len part read (S.ended source.new) self.new.bytes) }
-        ensures failed { OnErr result (HasFailed (S.failures source.old) (S.failures source.new)) }
-        ensures failures { S.failures source.old ≤ S.failures source.new }
+        ensures read { IfOk result (λ whole. (read part : List ℕ) × HasRead (S.account source.old) (S.account source.new) self.old self.new read
+            × (text.new.items ≡ text.old.items ++ part) × IsWholeText whole len part read (has_ended (S.account source.new)) self.new.bytes) }
+        ensures failed { OnErr result (HasFailed (S.account source.old).failures (S.account source.new).failures) }
+        ensures failures { (S.account source.old).failures ≤ (S.account source.new).failures }
     {
         if !self.take_bytes(source, len, text)? {
             return Ok(false);
@@ -294,11 +295,11 @@ impl Input {
 
     /// Reads the text of an install and its line feed, and leaves them aside. Says whether all were there.
     pub fn skip_text<S: Source>(&mut self, source: &mut S, len: usize) -> Result<bool, SourceFault>
-        requires { Fits (S.count source.old) self.old }
-        ensures read { IfOk result (λ whole. (read part : List ℕ) × HasRead (S.given source.old) (S.given source.new) (S.count source.old) (S.count source.new) self.old self.new read
-            × IsWholeText whole len part read (S.ended source.new) self.new.bytes) }
-        ensures failed { OnErr result (HasFailed (S.failures source.old) (S.failures source.new)) }
-        ensures failures { S.failures source.old ≤ S.failures source.new }
+        requires { Fits (S.account source.old).count self.old }
+        ensures read { IfOk result (λ whole. (read part : List ℕ) × HasRead (S.account source.old) (S.account source.new) self.old self.new read
+            × IsWholeText whole len part read (has_ended (S.account source.new)) self.new.bytes) }
+        ensures failed { OnErr result (HasFailed (S.account source.old).failures (S.account source.new).failures) }
+        ensures failures { (S.account source.old).failures ≤ (S.account source.new).failures }
     {
         if !self.skip_bytes(source, len)? {
             return Ok(false);

@@ -1,7 +1,7 @@
 //! The lines that answer a script (a form of this project's own).
 
 ghost use Rattle.std.specs.Prelude.{◌≡◌, ◌+◌, ◌≤◌, flat_map, OnOk, OnErr};
-ghost use Rattle.cil_specs.specs.Device.{HasFailed, Gains, GainsFront};
+ghost use Rattle.cil_text.specs.Device.{HasFailed, Gains, GainsFront};
 ghost use Rattle.cil_specs.specs.Next.{by_store, at_place, for_memory};
 ghost use Rattle.cil_specs.specs.Report.{dropped_line};
 ghost use Rattle.cil_specs.specs.Script.{refusal_line, answer, last_line, stops};

@@ -1,13 +1,12 @@
 //! A session: it answers a script, command by command.
 
 ghost use Rattle.std.specs.Prelude.{◌≡◌, ◌≢◌, ◌≤◌, [], List, ℕ, IfOk, OnOk, OnErr, IsErrOf, IsTrue};
-ghost use Rattle.cil_specs.specs.Device.{HasFailed, Gains};
+ghost use Rattle.cil_text.specs.Device.{HasFailed, HasEnded, Gains, has_ended};
 ghost use Rattle.cil_specs.specs.Run.{an_edit, ask_rows, ask_dropped};
 ghost use Rattle.cil_specs.specs.Script.{refusal_line};
-ghost use Rattle.cil_specs.specs.Session.{IsSession};
 ghost use Rattle.cil_store.specs.Edits.{edit_of, store_refusal_of};
 ghost use Rattle.cil_program.specs.Input.{Fits};
-ghost use Rattle.cil_program.specs.Session.{Moment, Standing, HasAnswered, IsOutcome, IsInstallOutcome, status_of};
+ghost use Rattle.cil_program.specs.Session.{Moment, Standing, HasAnswered, IsOutcome, IsInstallOutcome, Leaves};
 ghost use Rattle.cil_program.specs.declared.script.input.LineEnd.TheVariants.{LastByte};
 ghost use Rattle.cil_program.specs.declared.script.session.Status.TheVariants.{Script};
 
@@ -174,14 +173,14 @@ fn answer_install<S: Source, W: Sink, A: Allocator + Copy, C: Compiled<A>>(
     priority: u32,
     len: usize,
 ) -> Result<Outcome, SessionFault>
-    requires { Fits (S.count source.old) input.old }
+    requires { Fits (S.account source.old).count input.old }
     ensures ok { IfOk result (λ outcome. IsInstallOutcome outcome name.now priority len
-        (record { given = S.given source.old; count = S.count source.old; ended = S.ended source.old; held = input.old })
-        (record { given = S.given source.new; count = S.count source.new; ended = S.ended source.new; held = input.new })
+        (record { account = S.account source.old; held = input.old })
+        (record { account = S.account source.new; held = input.new })
         (record { store = C.store engine.old; taken = W.taken sink.old }) (record { store = C.store engine.new; taken = W.taken sink.new })) }
-    ensures read { IsErrOf result SessionFault.Read → HasFailed (S.failures source.old) (S.failures source.new) }
+    ensures read { IsErrOf result SessionFault.Read → HasFailed (S.account source.old).failures (S.account source.new).failures }
     ensures write { IsErrOf result SessionFault.Write → HasFailed (W.failures sink.old) (W.failures sink.new) }
-    ensures read_failures { S.failures source.old ≤ S.failures source.new }
+    ensures read_failures { (S.account source.old).failures ≤ (S.account source.new).failures }
     ensures write_failures { W.failures sink.old ≤ W.failures sink.new }
 {
     if let Err(fault) = check_install(name, priority, len) {
@@ -219,15 +218,15 @@ fn answer_line<S: Source, W: Sink, A: Allocator + Copy, C: Compiled<A>>(
     line: &[u8],
     end: LineEnd,
 ) -> Result<Outcome, SessionFault>
-    requires fits { Fits (S.count source.old) input.old }
-    requires last { end ≡ LastByte → IsTrue (S.ended source.old) × (input.old.bytes ≡ []) }
+    requires fits { Fits (S.account source.old).count input.old }
+    requires last { end ≡ LastByte → IsTrue (has_ended (S.account source.old)) × (input.old.bytes ≡ []) }
     ensures ok { IfOk result (λ outcome. IsOutcome outcome end line.now
-        (record { given = S.given source.old; count = S.count source.old; ended = S.ended source.old; held = input.old })
-        (record { given = S.given source.new; count = S.count source.new; ended = S.ended source.new; held = input.new })
+        (record { account = S.account source.old; held = input.old })
+        (record { account = S.account source.new; held = input.new })
         (record { store = C.store engine.old; taken = W.taken sink.old }) (record { store = C.store engine.new; taken = W.taken sink.new })) }
-    ensures read { IsErrOf result SessionFault.Read → HasFailed (S.failures source.old) (S.failures source.new) }
+    ensures read { IsErrOf result SessionFault.Read → HasFailed (S.account source.old).failures (S.account source.new).failures }
     ensures write { IsErrOf result SessionFault.Write → HasFailed (W.failures sink.old) (W.failures sink.new) }
-    ensures read_failures { S.failures source.old ≤ S.failures source.new }
+    ensures read_failures { (S.account source.old).failures ≤ (S.account source.new).failures }
     ensures write_failures { W.failures sink.old ≤ W.failures sink.new }
 {
     if end.is_too_long() {
@@ -273,11 +272,10 @@ pub fn session<S: Source, W: Sink, A: Allocator + Copy, C: Compiled<A>>(
     sink: &mut W,
     engine: &mut C,
 ) -> Result<Status, SessionFault>
-    ensures ok { IfOk result (λ status. (given : List ℕ) × (written : List ℕ) × Gains (S.given source.old) (S.given source.new) given
-        × Gains (W.taken sink.old) (W.taken sink.new) written
-        × IsSession given (S.ended source.new) (C.store engine.old) (C.store engine.new) written (status_of status)) }
-    ensures ended { IfOk result (λ status. status ≢ Script → IsTrue (S.ended source.new)) }
-    ensures read { IsErrOf result SessionFault.Read → HasFailed (S.failures source.old) (S.failures source.new) }
+    ensures ok { IfOk result (λ status. Leaves (S.account source.old) (S.account source.new)
+        (record { store = C.store engine.old; taken = W.taken sink.old }) (record { store = C.store engine.new; taken = W.taken sink.new }) status) }
+    ensures ended { IfOk result (λ status. status ≢ Script → HasEnded (S.account source.old) (S.account source.new)) }
+    ensures read { IsErrOf result SessionFault.Read → HasFailed (S.account source.old).failures (S.account source.new).failures }
     ensures write { IsErrOf result SessionFault.Write → HasFailed (W.failures sink.old) (W.failures sink.new) }
 {
     let mut input = Input::new();

@@ -7,13 +7,12 @@ use Rattle.cil_program.proofs.script.session.answer_install.Goals as goal
 
 pub returns-in-Err-clause-ok : goal.returns-in-Err-clause-ok
 returns-in-Err-clause-ok g c =
-    let given = g.S.Source.given in
-    let count = g.S.Source.count in
+    let account = g.S.Source.account in
     let was = c.in_ok-skip_text.ensures.read in
     let whole = rw c.if-not-branch.false at was.3 in
     let store = g.C.Compiled.store c.args.engine.now in (
       was.1,
-      subst (HasRead (given c.args.source.now) (given c.skip_text.new.source) (count c.args.source.now) (count c.skip_text.new.source) c.args.input.now c.skip_text.new.self) whole.0 was.2,
+      subst (HasRead (account c.args.source.now) (account c.skip_text.new.source) c.args.input.now c.skip_text.new.self) whole.0 was.2,
       whole.1,
       record {
         reply = refused (store_refusal_of c.in-Err.fault c.args.name.now c.args.priority);
@@ -25,13 +24,12 @@ returns-in-Err-clause-ok g c =
 
 pub returns-in_default-with_capacity-clause-ok : goal.returns-in_default-with_capacity-clause-ok
 returns-in_default-with_capacity-clause-ok g c =
-    let given = g.S.Source.given in
-    let count = g.S.Source.count in
+    let account = g.S.Source.account in
     let new = c.skip_text-in_default-with_capacity.new in
     let was = c.in_ok-skip_text-2.ensures.read in
     let whole = rw c.if-not-branch-2.false at was.3 in (
       was.1,
-      subst (HasRead (given c.args.source.now) (given new.source) (count c.args.source.now) (count new.source) c.args.input.now new.self) whole.0 was.2,
+      subst (HasRead (account c.args.source.now) (account new.source) c.args.input.now new.self) whole.0 was.2,
       whole.1,
       record { reply = refused for_memory; step = (inl refl, refl); written = c.in_ok-write_no_memory.ensures.ok; is = refl },
     )

@@ -6,7 +6,7 @@ use Rattle.cil_program.proofs.script.session.answer_line.Goals as goal
 
 pub returns-in_ok-answer_rows-in-Rules-clause-ok : goal.returns-in_ok-answer_rows-in-Rules-clause-ok
 returns-in_ok-answer_rows-in-Rules-clause-ok g c =
-    let now : Moment = record { given = g.S.Source.given c.args.source.now; count = g.S.Source.count c.args.source.now; ended = g.S.Source.ended c.args.source.now; held = c.args.input.now } in
+    let now : Moment = record { account = g.S.Source.account c.args.source.now; held = c.args.input.now } in
     let before : Standing = record { store = g.C.Compiled.store c.args.engine.now; taken = g.W.Sink.taken c.args.sink.now } in
     let after : Standing = record { store = g.C.Compiled.store c.args.engine.now; taken = g.W.Sink.taken c.answer_rows.new.sink } in
     question-outcome ask_rows c.in_ok-answer_rows-in-Rules.field-0 c.args.end c.args.line.now now before after tt tt refl c.requires.fits (λ e. true≢false (sym (c.is_too_long.ensures.1 e) ∙ c.if-is_too_long.false)) c.requires.last
@@ -14,7 +14,7 @@ returns-in_ok-answer_rows-in-Rules-clause-ok g c =
 
 pub returns-in_ok-answer_dropped-in-Dropped-clause-ok : goal.returns-in_ok-answer_dropped-in-Dropped-clause-ok
 returns-in_ok-answer_dropped-in-Dropped-clause-ok g c =
-    let now : Moment = record { given = g.S.Source.given c.args.source.now; count = g.S.Source.count c.args.source.now; ended = g.S.Source.ended c.args.source.now; held = c.args.input.now } in
+    let now : Moment = record { account = g.S.Source.account c.args.source.now; held = c.args.input.now } in
     let before : Standing = record { store = g.C.Compiled.store c.args.engine.now; taken = g.W.Sink.taken c.args.sink.now } in
     let after : Standing = record { store = g.C.Compiled.store c.args.engine.now; taken = g.W.Sink.taken c.answer_dropped.new.sink } in
     question-outcome ask_dropped c.in_ok-answer_dropped-in-Dropped.field-0 c.args.end c.args.line.now now before after tt tt refl c.requires.fits (λ e. true≢false (sym (c.is_too_long.ensures.1 e) ∙ c.if-is_too_long.false)) c.requires.last

@@ -8,12 +8,12 @@ invariant-loop-end g l =
     let W = g.W.Sink in
     let C = g.C.Compiled in
     record {
-      so_far : SoFar (record { given = S.given l.fn.source; count = S.count l.fn.source; ended = S.ended l.fn.source; held = record { bytes = []; line_feeds = 0 } })
-          (record { given = S.given l.source; count = S.count l.source; ended = S.ended l.source; held = l.input }) (record { store = C.store l.fn.engine; taken = W.taken l.fn.sink })
+      so_far : SoFar (record { account = S.account l.fn.source; held = record { bytes = []; line_feeds = 0 } })
+          (record { account = S.account l.source; held = l.input }) (record { store = C.store l.fn.engine; taken = W.taken l.fn.sink })
           (record { store = C.store l.engine; taken = W.taken l.sink }) l.status;
-      read_failures : S.failures l.fn.source ≤ S.failures l.source;
+      read_failures : (S.account l.fn.source).failures ≤ (S.account l.source).failures;
       write_failures : W.failures l.fn.sink ≤ W.failures l.sink;
     }
 
 abbrev pub decreases-loop-end : goal.decreases-loop-end
-decreases-loop-end g l = 2 ^ 64 - (g.S.Source.count l.source - length l.input.bytes)
+decreases-loop-end g l = 2 ^ 64 - ((g.S.Source.account l.source).count - length l.input.bytes)

@@ -1,5 +1,6 @@
 use Rattle.std.proofs.Common.{List, ℕ, Bool, Result, Ok, Err, IfOk}
-use Rattle.cil_text.specs.declared.source.SourceFault.{SourceFault}
+use Rattle.cil_text.specs.declared.devices.source.SourceFault.{SourceFault}
+use Rattle.cil_text.specs.Device.{has_ended}
 use Rattle.cil_program.proofs.InputLemmas.{text-then}
 use Rattle.cil_program.proofs.script.input.Input.read_text.Goals as goal
 
@@ -10,10 +11,9 @@ with-part H W P (Ok whole) part is some = (some.0, part, some.1, is, some.2)
 
 pub returns-clause-read : goal.returns-clause-read
 returns-clause-read g c =
-    let given = g.S.Source.given in
-    let count = g.S.Source.count in
+    let account = g.S.Source.account in
     let was = c.in_ok-take_bytes.ensures.read in
     let size = rw c.if-not-branch.false at was.3 in
     with-part _ _ _ c.take_line_feed.result was.0 was.2
-    (text-then c.take_line_feed.result (given c.args.source.now) (given c.take_bytes.new.source) (given c.take_line_feed.new.source) (count c.args.source.now) (count c.take_bytes.new.source) (count c.take_line_feed.new.source) c.args.self.now
-    c.take_bytes.new.self c.take_line_feed.new.self c.args.len was.0 (g.S.Source.ended c.take_line_feed.new.source) was.1 size c.take_line_feed.ensures.yes c.take_line_feed.ensures.no)
+    (text-then c.take_line_feed.result (account c.args.source.now) (account c.take_bytes.new.source) (account c.take_line_feed.new.source) c.args.self.now
+    c.take_bytes.new.self c.take_line_feed.new.self c.args.len was.0 (has_ended (g.S.Source.account c.take_line_feed.new.source)) was.1 size c.take_line_feed.ensures.yes c.take_line_feed.ensures.no)

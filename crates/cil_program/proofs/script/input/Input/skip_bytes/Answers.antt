@@ -5,8 +5,7 @@ use Rattle.cil_program.proofs.script.input.Input.skip_bytes.Goals as goal
 
 pub loop-left-preserved : goal.loop-left-preserved
 loop-left-preserved g c =
-    let given = g.S.Source.given in
-    let count = g.S.Source.count in
+    let account = g.S.Source.account in
     let was = c.loop-left.invariant.read in
     let bytes = c.has_more.new.self.bytes in
     let n : ℕ = c.min-n.result in
@@ -14,7 +13,7 @@ loop-left-preserved g c =
     record {
       read = (
         was.0 ++ take n bytes,
-        reads-on (given c.args.source.now) (given c.loop-left.source) (given c.has_more.new.source) (count c.args.source.now) (count c.loop-left.source) (count c.has_more.new.source) c.args.self.now c.loop-left.self c.has_more.new.self c.advance.new.self was.0 n was.1 c.in_ok-has_more.ensures.read within
+        reads-on (account c.args.source.now) (account c.loop-left.source) (account c.has_more.new.source) c.args.self.now c.loop-left.self c.has_more.new.self c.advance.new.self was.0 n was.1 c.in_ok-has_more.ensures.read within
             c.advance.ensures.bytes c.advance.ensures.line_feeds,
         omega (arith, was.2, length-append was.0 (take n bytes), length-take-le n bytes within),
       );

@@ -1,5 +1,6 @@
 use Rattle.std.proofs.Common.{List, ℕ, Bool, Result, Ok, Err, IfOk}
-use Rattle.cil_text.specs.declared.source.SourceFault.{SourceFault}
+use Rattle.cil_text.specs.declared.devices.source.SourceFault.{SourceFault}
+use Rattle.cil_text.specs.Device.{has_ended}
 use Rattle.cil_program.proofs.InputLemmas.{text-then}
 use Rattle.cil_program.proofs.script.input.Input.skip_text.Goals as goal
 
@@ -10,10 +11,9 @@ with-part H W (Ok whole) part some = (some.0, part, some.1, some.2)
 
 pub returns-clause-read : goal.returns-clause-read
 returns-clause-read g c =
-    let given = g.S.Source.given in
-    let count = g.S.Source.count in
+    let account = g.S.Source.account in
     let was = c.in_ok-skip_bytes.ensures.read in
     let size = rw c.if-not-branch.false at was.2 in
     with-part _ _ c.take_line_feed.result was.0
-    (text-then c.take_line_feed.result (given c.args.source.now) (given c.skip_bytes.new.source) (given c.take_line_feed.new.source) (count c.args.source.now) (count c.skip_bytes.new.source) (count c.take_line_feed.new.source) c.args.self.now
-    c.skip_bytes.new.self c.take_line_feed.new.self c.args.len was.0 (g.S.Source.ended c.take_line_feed.new.source) was.1 size c.take_line_feed.ensures.yes c.take_line_feed.ensures.no)
+    (text-then c.take_line_feed.result (account c.args.source.now) (account c.skip_bytes.new.source) (account c.take_line_feed.new.source) c.args.self.now
+    c.skip_bytes.new.self c.take_line_feed.new.self c.args.len was.0 (has_ended (g.S.Source.account c.take_line_feed.new.source)) was.1 size c.take_line_feed.ensures.yes c.take_line_feed.ensures.no)

@@ -1,0 +1,2 @@
+//! Tests of cilsem with memory that runs out.
+#![tactic(auto)]

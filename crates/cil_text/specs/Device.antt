@@ -1,0 +1,110 @@
+-- Sources that give bytes and sinks that take them, by what they tell.
+use Rattle.std.specs.Prelude.{◌≡◌, ℕ, ◌+◌, ◌-◌, ◌<◌, ◌≤◌, ◌^◌, ◌⊎◌, Bool, true, false, nat_le, ◌==◌, ◌&&◌, List, ◌++◌, length, take, drop, min, max, Option, None, Some, IsTrue, if◌then◌else◌}
+use Rattle.std.specs.Option.{option_map}
+use Rattle.std.proofs.Common.{refl, sym, ap, ◌∙◌, true≢false}
+use Rattle.std.proofs.lemmas.List.{take-append-drop, take_all}
+use Rattle.std.proofs.lemmas.Bool.{leb-true}
+
+-- the count of failures rose, or stands at its greatest value
+abbrev pub HasFailed : ℕ → ℕ → Type 0
+HasFailed old new = (old < new) ⊎ (new ≡ 2 ^ 64 - 1)
+
+-- the bytes that were told, and then the text; nothing is said where the bytes are not told
+abbrev pub Gains : Option (List ℕ) → Option (List ℕ) → List ℕ → Type 0
+Gains old new text = new ≡ option_map (λ bytes. bytes ++ text) old
+
+-- the bytes that were told, and then a beginning of the text
+abbrev pub GainsFront : Option (List ℕ) → Option (List ℕ) → List ℕ → Type 0
+GainsFront old new text = (n : ℕ) × (n ≤ length text) × Gains old new (take n text)
+
+-- What a source tells of itself: its whole text, and what it gave of it, where it can tell them; how many bytes it gave, how
+-- often it told its end, and how often it failed.
+pub record Account : Type 0 where
+  pub whole : Option (List ℕ)
+  pub given : Option (List ℕ)
+  pub count : ℕ
+  pub ends : ℕ
+  pub failures : ℕ
+
+-- whether it told its end
+abbrev pub has_ended : Account → Bool
+has_ended account = nat_le 1 account.ends
+
+-- it told its end in between: the count of ends rose, or has come to its greatest value
+abbrev pub HasEnded : Account → Account → Type 0
+HasEnded old new = (old.ends < new.ends) ⊎ (2 ^ 64 - 1 ≤ new.ends)
+
+-- Of its whole text this is left, behind what it gave.
+pub record IsLeft (account : Account) (rest : List ℕ) : Type 0 where
+  pub front : List ℕ
+  pub given : account.given ≡ Some front
+  pub whole : account.whole ≡ Some (front ++ rest)
+
+-- What was given begins the whole text, and once the end was told it is all of it.
+pub record IsSound (account : Account) : Type 0 where
+  pub front : (whole given : List ℕ) → account.whole ≡ Some whole → account.given ≡ Some given → (rest : List ℕ) × (whole ≡ given ++ rest)
+  pub all : IsTrue (has_ended account) → (whole : List ℕ) → account.whole ≡ Some whole → account.given ≡ Some whole
+
+-- where it tells no bytes
+pub untold-sound : (count ends failures : ℕ) → IsSound (record { whole = None; given = None; count = count; ends = ends; failures = failures })
+untold-sound count ends failures = record { front = λ whole given w g. absurd (cc); all = λ ended whole w. absurd (cc) }
+
+-- Between two moments it gave these bytes, of a text that stays the same.
+pub record Gives (old new : Account) (bytes : List ℕ) : Type 0 where
+  pub whole : new.whole ≡ old.whole
+  pub given : Gains old.given new.given bytes
+  pub count : new.count ≡ old.count + length bytes
+  pub ends : old.ends ≤ new.ends
+
+-- A source over memory: its text, how much of it was given, how much it gives a call and before it fails, how often it told its
+-- end, and its failures.
+pub record Reel : Type 0 where
+  pub text : List ℕ
+  pub at : ℕ
+  pub greatest : ℕ
+  pub limit : ℕ
+  pub ends : ℕ
+  pub failures : ℕ
+
+-- It tells its end only where its whole text was given.
+abbrev pub account_of : Reel → Account
+account_of r = record {
+  whole = Some r.text;
+  given = Some (take r.at r.text);
+  count = r.at;
+  ends = if nat_le (length r.text) r.at then r.ends else 0;
+  failures = r.failures;
+}
+
+pub reel-sound : (r : Reel) → IsSound (account_of r)
+reel-sound r = record {
+  front = λ whole given w g. let e = take-append-drop r.at r.text in (drop r.at r.text, cc);
+  all = λ ended whole w. ap Some (take_all r.at r.text (leb-true (length r.text) r.at (by (nat_le (length r.text) r.at) refl ended))) ∙ w;
+}
+  where
+    by : (b : Bool) → nat_le (length r.text) r.at ≡ b → nat_le 1 (if b then r.ends else 0) ≡ true → nat_le (length r.text) r.at ≡ true
+    by true e ended = e
+    by false e ended = absurd (true≢false (sym ended))
+
+-- What a call gives: as many bytes as are left, as fit into the buffer, as it gives a call, and as it gives before it fails.
+-- They stand at the front of the buffer. None into a buffer that isn't empty tells the end.
+pub record HasGiven (old new : Reel) (before after : List ℕ) (n : ℕ) : Type 0 where
+  pub amount : n ≡ min (min (min (length old.text - old.at) (length before)) (max old.greatest 1)) (old.limit - old.at)
+  pub bytes : after ≡ take n (drop old.at old.text) ++ drop n before
+  pub reel : new ≡ record old { at = old.at + n; ends = if (n == 0) && nat_le 1 (length before) then min (old.ends + 1) (2 ^ 64 - 1) else old.ends }
+
+-- after it failed
+abbrev pub failed : Reel → Reel
+failed r = record r { failures = min (r.failures + 1) (2 ^ 64 - 1) }
+
+-- A sink over memory: what it took, how much it takes a call and before it fails, and its failures.
+pub record Tray : Type 0 where
+  pub bytes : List ℕ
+  pub greatest : ℕ
+  pub limit : ℕ
+  pub failures : ℕ
+
+-- What a call takes: as much of the piece as it takes a call, and as it takes before it fails.
+pub record HasTaken (old new : Tray) (piece : List ℕ) (n : ℕ) : Type 0 where
+  pub amount : n ≡ min (min (length piece) old.greatest) (old.limit - length old.bytes)
+  pub tray : new ≡ record old { bytes = old.bytes ++ take n piece }
