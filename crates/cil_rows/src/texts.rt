@@ -2,8 +2,8 @@
 
 use crate::answers::{assert_same, shown};
 use cil_text::{
-    Expr, Module, RuleKind, ShownWord, Statement, Target, TextFault, TextFaultKind, Tree, Word,
-    read, shape,
+    Expr, Module, RuleKind, ShownWord, Statement, Target, TextFault, TextFaultKind, Tree, TreeSlice,
+    Word, read, shape,
 };
 use std::alloc::Global;
 use std::process::Abort;
@@ -17,7 +17,7 @@ fn seen<'a>(word: &Word<'a>) -> (&'a str, u32) {
 // trees it has.
 type Shape<'a> = (&'static str, &'a str, u32, u32, u32, usize);
 
-fn tree_seen<'a>(tree: &Tree<'a>) -> Shape<'a> {
+fn tree_seen<'a>(tree: &Tree<'_, 'a>) -> Shape<'a> {
     match tree {
         Tree::Word(word) => ("word", shown(word.text), word.at.offset, word.at.line, 0, 0),
         Tree::String(word) => (
@@ -33,10 +33,15 @@ fn tree_seen<'a>(tree: &Tree<'a>) -> Shape<'a> {
 }
 
 // Asserts the trees of a list.
-fn assert_trees(rt: &impl Abort, trees: &[Tree<'_>], want: &[Shape<'_>]) {
+fn assert_trees(rt: &impl Abort, trees: TreeSlice<'_, '_>, want: &[Shape<'_>]) {
     assert_same(rt, trees.len(), want.len());
-    for i in 0..want.len() {
-        assert_same(rt, trees.get(i).map(tree_seen), want.get(i).copied());
+    let mut rest = trees;
+    for shape in want {
+        let Some((tree, behind)) = rest.split_first() else {
+            panic!(rt; "too few trees");
+        };
+        assert_same(rt, tree_seen(&tree), *shape);
+        rest = behind;
     }
 }
 
@@ -52,11 +57,11 @@ const OF_FIRST: &[Shape<'static>] = &[
 fn trees_of_a_text(rt: HostRuntime) {
     let text = b"(a \"b c\"\n (d)) ; e\n()";
     let forest = read(rt.alloc(), text).expect(&rt, "trees");
-    assert_trees(&rt, forest.trees.as_slice(), TREES);
-    let Some(Tree::List { items, .. }) = forest.trees.get(0) else {
+    assert_trees(&rt, forest.trees(), TREES);
+    let Some((Tree::List { items, .. }, _)) = forest.trees().split_first() else {
         panic!(rt; "no list");
     };
-    assert_trees(&rt, items.as_slice(), OF_FIRST);
+    assert_trees(&rt, items, OF_FIRST);
 }
 
 fn rule_word(kind: RuleKind) -> &'static str {

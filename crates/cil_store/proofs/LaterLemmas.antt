@@ -13,49 +13,40 @@ use Rattle.cil_specs.specs.Shape.{Shapes, holds_others}
 use Rattle.cil_specs.specs.Next.{has_self, is_later, IsLaterFault, IsFirstLaterFault, is_compiled_form, is_compiled}
 use Rattle.cil_specs.proofs.FormLemmas.{first_word, OperandsFit, fits_begin}
 use Rattle.cil_specs.proofs.OrderLemmas.{order_word, order_list, order_le}
-use Rattle.cil_text.specs.Image.{place_of, word_of, row_trees, tree_then, trees_of}
+use Rattle.cil_text.specs.Image.{place_of, word_of, tree_then, trees_of}
 use Rattle.cil_text.specs.declared.place.Place.{Place}
 use Rattle.cil_text.specs.declared.word.Word.{Word}
-use Rattle.cil_text.specs.declared.tree.Tree.{Tree, String, List'}
+use Rattle.cil_text.specs.declared.tree.Tree.{Tree}
 use Rattle.cil_text.specs.declared.tree.Tree.TheVariants as variants
-use Rattle.cil_text.specs.declared.tree.Tree as declared
-use Rattle.cil_text.proofs.Rows.{list_then}
-use Rattle.cil_text.proofs.Elements.{at_tree, trees_split}
+use Rattle.cil_text.specs.declared.tree.TreeSlice.{TreeSlice}
 use Rattle.cil_store.specs.Later.{later_word, fault_at, word_option}
 
 -- a tree, and those behind it
-self_more : {A : Type 0} → (t : Tree A) (rest : Trees) → has_self (tree_then t rest) ≡ (has_self (tree_then t none) || has_self rest)
-self_more (declared.Word w) rest = ap (λ b. b || has_self rest) (sym (or-false (bytes_eq w.text.now (codes "self"))))
-self_more (String w) rest = refl
-self_more (List' at end shape items) rest = refl
+self_more : (t : Tree) (rest : Trees) → has_self (tree_then t rest) ≡ (has_self (tree_then t none) || has_self rest)
+self_more (variants.Word w) rest = ap (λ b. b || has_self rest) (sym (or-false (bytes_eq w.text.now (codes "self"))))
+self_more (variants.String w) rest = refl
+self_more (variants.List at end items) rest = refl
 
 -- the trees from one on
-pub self_from : {A : Type 0} → (ts : List (Tree A)) (i : ℕ) (t : Tree A) (found : Bool) → i < length ts → t ≡ get_or ts i t → has_self (trees_of ts) ≡ has_self (trees_of (drop i ts))
-    → found ≡ has_self (tree_then t none) → has_self (trees_of ts) ≡ (found || has_self (trees_of (drop (i + 1) ts)))
-self_from ts i t found within is so_far here =
-    let rest = trees_of (drop (i + 1) ts) in
-    so_far ∙ ap has_self (at_tree ts i t within is) ∙ self_more t rest ∙ ap (λ b. b || has_self rest) (sym here)
+pub self_from : (trees rest : Trees) (t : Tree) (behind : Trees) (found : Bool) → has_self trees ≡ has_self rest → rest ≡ tree_then t behind → found ≡ has_self (tree_then t none)
+    → has_self trees ≡ (found || has_self behind)
+self_from trees rest t behind found so_far is here = so_far ∙ ap has_self is ∙ self_more t behind ∙ ap (λ b. b || has_self behind) (sym here)
 
 -- the first word of a list, by its trees
-pub later_of_list : {A : Type 0} → (t : Tree A) (at : Place) (end : ℕ) (v : Vec (Tree A) A) (items : List (Tree A)) → t ≡ variants.List at end v → items ≡ v.items
-    → later_word (tree_then t none) ≡ later_word (a_list (place_of at) end (trees_of items) none)
-later_of_list t at end v items is same =
-    ap (λ t. later_word (tree_then t none)) is ∙ ap later_word (list_then at end v none) ∙ ap (λ items. later_word (a_list (place_of at) end (trees_of items) none)) (sym same)
+pub later_of_list : (t : Tree) (at : Place) (end : ℕ) (items : TreeSlice) → t ≡ variants.List at end items → later_word (tree_then t none) ≡ later_word (a_list (place_of at) end (trees_of items) none)
+later_of_list t at end items is = ap (λ t. later_word (tree_then t none)) is
 
-pub none_at_no_tree : {A : Type 0} → (at : spec_place.Place) (end : ℕ) (ts : List (Tree A)) → length ts < 1 → later_word (a_list at end (trees_of ts) none) ≡ None
-none_at_no_tree at end [] few = refl
-none_at_no_tree at end (t ∷ ts) few = absurd (omega arith)
+pub none_at_no_tree : (at : spec_place.Place) (end : ℕ) (items : Trees) → items ≡ none → later_word (a_list at end items none) ≡ None
+none_at_no_tree at end items is = ap (λ items. later_word (a_list at end items none)) is
 
-none_at_other : {A : Type 0} → (at : spec_place.Place) (end : ℕ) (t : Tree A) (rest : Trees) → ((w : Word) → t ≡ variants.Word w → ⊥) → later_word (a_list at end (tree_then t rest) none) ≡ None
-none_at_other at end (declared.Word w) rest other = absurd (other w refl)
-none_at_other at end (String w) rest other = refl
-none_at_other at end (List' place last shape items) rest other = refl
+none_at_other : (at : spec_place.Place) (end : ℕ) (t : Tree) (rest : Trees) → ((w : Word) → t ≡ variants.Word w → ⊥) → later_word (a_list at end (tree_then t rest) none) ≡ None
+none_at_other at end (variants.Word w) rest other = absurd (other w refl)
+none_at_other at end (variants.String w) rest other = refl
+none_at_other at end (variants.List place last items) rest other = refl
 
-pub none_at_no_word : {A : Type 0} → (at : spec_place.Place) (end : ℕ) (ts : List (Tree A)) (t : Tree A) → 1 ≤ length ts → t ≡ get_or ts 0 t → ((w : Word) → t ≡ variants.Word w → ⊥)
-    → later_word (a_list at end (trees_of ts) none) ≡ None
-none_at_no_word at end ts t some is other =
-    let rest = trees_of (take (length ts - 1) (drop 1 ts)) in
-    ap (λ items. later_word (a_list at end items none)) (trees_split ts t some ∙ ap (λ t. tree_then t rest) (sym is)) ∙ none_at_other at end t rest other
+pub none_at_no_word : (at : spec_place.Place) (end : ℕ) (items : Trees) (t : Tree) (rest : Trees) → items ≡ tree_then t rest → ((w : Word) → t ≡ variants.Word w → ⊥)
+    → later_word (a_list at end items none) ≡ None
+none_at_no_word at end items t rest is other = ap (λ items. later_word (a_list at end items none)) is ∙ none_at_other at end t rest other
 
 -- what a statement's list gives by the tests of its first word
 abbrev pub word_by : Bool → Bool → spec_names.Word → Option spec_names.Word → Option spec_names.Word
@@ -65,12 +56,11 @@ or-none : (o : Option spec_names.Word) → option_or o None ≡ o
 or-none None = refl
 or-none (Some word) = refl
 
-pub later_at_word : {A : Type 0} → (at : spec_place.Place) (end : ℕ) (ts : List (Tree A)) (t : Tree A) (w : Word) (later holds : Bool) (inner : Option spec_names.Word) → 1 ≤ length ts → t ≡ get_or ts 0 t
-    → t ≡ variants.Word w → later ≡ is_later w.text.now (trees_of (take (length ts - 1) (drop 1 ts))) → holds ≡ holds_others w.text.now
-    → inner ≡ later_word (trees_of (take (length ts - 1) (drop 1 ts))) → later_word (a_list at end (trees_of ts) none) ≡ word_by later holds (word_of w) inner
-later_at_word at end ts t w later holds inner some is made here held behind =
-    let rest = trees_of (take (length ts - 1) (drop 1 ts)) in
-    ap (λ items. later_word (a_list at end items none)) (trees_split ts t some ∙ ap (λ t. tree_then t rest) (sym is ∙ made))
+pub later_at_word : (at : spec_place.Place) (end : ℕ) (items : Trees) (t : Tree) (w : Word) (rest : Trees) (later holds : Bool) (inner : Option spec_names.Word) → items ≡ tree_then t rest
+    → t ≡ variants.Word w → later ≡ is_later w.text.now rest → holds ≡ holds_others w.text.now → inner ≡ later_word rest
+    → later_word (a_list at end items none) ≡ word_by later holds (word_of w) inner
+later_at_word at end items t w rest later holds inner is made here held behind =
+    ap (λ items. later_word (a_list at end items none)) (is ∙ ap (λ t. tree_then t rest) made)
     ∙ or-none (word_by (is_later w.text.now rest) (holds_others w.text.now) (word_of w) (later_word rest))
     ∙ (λ i. word_by (sym here i) (sym held i) (word_of w) (sym behind i))
 
@@ -81,17 +71,15 @@ list_more at end (a_word place text operands) rest =
 list_more at end (a_string place text more) rest = refl
 list_more at end (a_list place last items more) rest = refl
 
-later_more : {A : Type 0} → (t : Tree A) (rest : Trees) → later_word (tree_then t rest) ≡ option_or (later_word (tree_then t none)) (later_word rest)
-later_more (declared.Word w) rest = refl
-later_more (String w) rest = refl
-later_more (List' at end shape items) rest = list_more (place_of at) end (row_trees items) rest
+later_more : (t : Tree) (rest : Trees) → later_word (tree_then t rest) ≡ option_or (later_word (tree_then t none)) (later_word rest)
+later_more (variants.Word w) rest = refl
+later_more (variants.String w) rest = refl
+later_more (variants.List at end items) rest = list_more (place_of at) end (trees_of items) rest
 
 -- the first word of the trees from one on
-pub later_from : {A : Type 0} → (ts : List (Tree A)) (i : ℕ) (t : Tree A) (found : Option spec_names.Word) → i < length ts → t ≡ get_or ts i t → later_word (trees_of ts) ≡ later_word (trees_of (drop i ts))
-    → found ≡ later_word (tree_then t none) → later_word (trees_of ts) ≡ option_or found (later_word (trees_of (drop (i + 1) ts)))
-later_from ts i t found within is so_far here =
-    let rest = trees_of (drop (i + 1) ts) in
-    so_far ∙ ap later_word (at_tree ts i t within is) ∙ later_more t rest ∙ ap (λ o. option_or o (later_word rest)) (sym here)
+pub later_from : (trees rest : Trees) (t : Tree) (behind : Trees) (found : Option spec_names.Word) → later_word trees ≡ later_word rest → rest ≡ tree_then t behind
+    → found ≡ later_word (tree_then t none) → later_word trees ≡ option_or found (later_word behind)
+later_from trees rest t behind found so_far is here = so_far ∙ ap later_word is ∙ later_more t behind ∙ ap (λ o. option_or o (later_word behind)) (sym here)
 
 -- a block and an optional are compiled themselves
 holder-compiled : (text : List ℕ) (operands : Trees) → IsTrue (holds_others text) → is_later text operands ≡ false

@@ -7,9 +7,10 @@ ghost use Rattle.cil_specs.specs.Trees.{none};
 ghost use Rattle.cil_specs.specs.Shape.{holds_others as holds};
 ghost use Rattle.cil_specs.specs.Next.{compiled_words, has_self, is_later, IsLaterFault, IsFirstLaterFault};
 ghost use Rattle.cil_text.specs.Image.{place_of, tree_then, trees_of};
+ghost use Rattle.cil_text.specs.Forest.{forest_of};
 ghost use Rattle.cil_store.specs.Later.{later_word, word_option};
 
-use cil_text::{Forest, Tree, Word};
+use cil_text::{Forest, Tree, TreeSlice, Word};
 use std::alloc::Allocator;
 
 fn is_compiled_word(text: &[u8]) -> bool
@@ -35,8 +36,8 @@ fn holds_others(text: &[u8]) -> bool
     text == b"block".as_slice() || text == b"optional".as_slice()
 }
 
-fn is_self<A: Allocator>(tree: &Tree<A>) -> bool
-    ensures { result ≡ has_self (tree_then tree.now none) }
+fn is_self(tree: Tree) -> bool
+    ensures { result ≡ has_self (tree_then tree.entry none) }
 {
     match tree {
         Tree::Word(word) => word.text == b"self".as_slice(),
@@ -45,20 +46,22 @@ fn is_self<A: Allocator>(tree: &Tree<A>) -> bool
 }
 
 /// Whether one of the trees is the word `self`.
-fn has_self<A: Allocator>(trees: &[Tree<A>]) -> bool
-    ensures { result ≡ has_self (trees_of trees.now) }
+fn has_self(trees: TreeSlice) -> bool
+    ensures { result ≡ has_self (trees_of trees.entry) }
 {
-    for tree in trees {
+    let mut rest = trees;
+    while let Some((tree, behind)) = rest.split_first() {
         if is_self(tree) {
             return true;
         }
+        rest = behind;
     }
     false
 }
 
 /// Whether a statement of this first word and these operands isn't compiled yet.
-fn is_later<A: Allocator>(keyword: &[u8], operands: &[Tree<A>]) -> bool
-    ensures { result ≡ is_later keyword.now (trees_of operands.now) }
+fn is_later(keyword: &[u8], operands: TreeSlice) -> bool
+    ensures { result ≡ is_later keyword.now (trees_of operands.entry) }
 {
     !is_compiled_word(keyword) || (keyword == b"allow".as_slice() && has_self(operands))
 }
@@ -66,20 +69,20 @@ fn is_later<A: Allocator>(keyword: &[u8], operands: &[Tree<A>]) -> bool
 /// The first word of a statement, if it isn't compiled yet; of a block or an optional also that of the first statement in it
 /// that isn't.
 #[cycle(later)]
-fn later_word<'a, A: Allocator>(tree: &Tree<'a, A>) -> Option<Word<'a>>
-    ensures { word_option result ≡ later_word (tree_then tree.now none) }
+fn later_word<'a>(tree: Tree<'_, 'a>) -> Option<Word<'a>>
+    ensures { word_option result ≡ later_word (tree_then tree.entry none) }
 {
     let Tree::List { items, .. } = tree else {
         return None;
     };
-    let [first, operands @ ..] = items.as_slice() else {
+    let Some((first, operands)) = items.split_first() else {
         return None;
     };
     let Tree::Word(keyword) = first else {
         return None;
     };
     if is_later(keyword.text, operands) {
-        Some(*keyword)
+        Some(keyword)
     } else if holds_others(keyword.text) {
         first_later_word(operands)
     } else {
@@ -89,13 +92,15 @@ fn later_word<'a, A: Allocator>(tree: &Tree<'a, A>) -> Option<Word<'a>>
 
 /// The first of these words of trees.
 #[cycle(later)]
-fn first_later_word<'a, A: Allocator>(trees: &[Tree<'a, A>]) -> Option<Word<'a>>
-    ensures { word_option result ≡ later_word (trees_of trees.now) }
+fn first_later_word<'a>(trees: TreeSlice<'_, 'a>) -> Option<Word<'a>>
+    ensures { word_option result ≡ later_word (trees_of trees.entry) }
 {
-    for tree in trees {
+    let mut rest = trees;
+    while let Some((tree, behind)) = rest.split_first() {
         if let Some(word) = later_word(tree) {
             return Some(word);
         }
+        rest = behind;
     }
     None
 }
@@ -104,8 +109,8 @@ fn first_later_word<'a, A: Allocator>(trees: &[Tree<'a, A>]) -> Option<Word<'a>>
 /// types, aliases, attributes, commons, classes, and allow rules between two names; a list that is no statement is left to
 /// `cil_text::shape`.
 pub fn first_later<'a, A: Allocator>(forest: &Forest<'a, A>) -> Option<Word<'a>>
-    ensures some { IfSome result (λ w. IsFirstLaterFault (trees_of forest.now.trees.items) (record { kind = unsupported; at = place_of w.at; word = w.text.now })) }
-    ensures none { IfNone result ((fault : TextFault) → IsLaterFault (trees_of forest.now.trees.items) fault → ⊥) }
+    ensures some { IfSome result (λ w. IsFirstLaterFault (forest_of forest.now) (record { kind = unsupported; at = place_of w.at; word = w.text.now })) }
+    ensures none { IfNone result ((fault : TextFault) → IsLaterFault (forest_of forest.now) fault → ⊥) }
 {
-    first_later_word(&forest.trees)
+    first_later_word(forest.trees())
 }

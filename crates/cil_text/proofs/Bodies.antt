@@ -1,27 +1,22 @@
 -- The statements inside a statement.
-use Rattle.std.proofs.Common.{◌≡◌, ◌-◌, ◌≤◌, false, List, [], ◌∷◌, Vec, length, take, drop, refl, sym, ap, ◌∙◌, arith}
-use Rattle.std.proofs.lemmas.List.{take_rest}
+use Rattle.std.proofs.Common.{◌≡◌, false, Vec, refl, sym, ap, ◌∙◌}
 use Rattle.cil_specs.specs.Trees.{Trees}
 use Rattle.cil_specs.specs.Statements.{Statements, statement}
-use Rattle.cil_text.specs.Image.{tree_then, trees_of, statement_then}
+use Rattle.cil_text.specs.Image.{tree_then, statement_then}
 use Rattle.cil_text.specs.Form.{form_of, at_of, has_body, behind, body_of}
 use Rattle.cil_text.specs.declared.place.Place.{Place}
-use Rattle.cil_text.specs.declared.word.Word.{Word}
-use Rattle.cil_text.specs.declared.tree.Tree.{Tree, String, List'}
-use Rattle.cil_text.specs.declared.tree.Tree as trees
+use Rattle.cil_text.specs.declared.word.Word as words
+use Rattle.cil_text.specs.declared.tree.Tree.{Tree}
+use Rattle.cil_text.specs.declared.tree.Tree.TheVariants.{Word, String, List as Listed}
 use Rattle.cil_text.specs.declared.statement.Statement.{Statement, Statement-F, out-Statement, roll-Statement, roll-out-Statement, Block', Optional', TypeName, TypeAlias, TypeAliasActual, TypeAttribute, TypeAttributeSet, Common, Class, ClassCommon, ClassOrder, Rule}
 use Rattle.cil_text.specs.declared.statement.Statement.TheOpen as opened
 use Rattle.cil_text.specs.declared.statement.Statement.TheVariants.{Block, Optional, rolls-Block, rolls-Optional, rolls-TypeName, rolls-TypeAlias, rolls-TypeAliasActual, rolls-TypeAttribute, rolls-TypeAttributeSet, rolls-Common, rolls-Class, rolls-ClassCommon, rolls-ClassOrder, rolls-Rule}
 
-behind-tree : {A : Type 0} → (t : Tree A) (rest : Trees) → behind (tree_then t rest) ≡ rest
-behind-tree (trees.Word w) rest = refl
-behind-tree (String w) rest = refl
-behind-tree (List' at end shape items) rest = refl
-
 -- the trees behind the first
-pub behind_first : {A : Type 0} → (ts : List (Tree A)) → 1 ≤ length ts → trees_of (take (length ts - 1) (drop 1 ts)) ≡ behind (trees_of ts)
-behind_first [] some = absurd (omega arith)
-behind_first (t ∷ ts) some = ap trees_of (take_rest (t ∷ ts) 1) ∙ sym (behind-tree t (trees_of ts))
+pub behind_first : (t : Tree) (rest : Trees) → behind (tree_then t rest) ≡ rest
+behind_first (Word w) rest = refl
+behind_first (String w) rest = refl
+behind_first (Listed at end items) rest = refl
 
 -- a statement that may have none inside it
 pub leaf_then : {A : Type 0} → (s : Statement A) (body more : Statements) → has_body (form_of s) ≡ false → statement_then s more ≡ statement (at_of s) (form_of s) (body_of (form_of s) body) more
@@ -39,7 +34,7 @@ leaf_then (ClassOrder at the_classes) body more leaf = refl
 leaf_then (Rule at kind source target the_class permissions) body more leaf = refl
 
 -- a statement that is neither a block nor an optional may have none inside it
-pub leaf_form : {A : Type 0} → (s : Statement A) → ((at : Place) (id : Word) (v : Vec (Statement A) A) → s ≡ Block at id v → ⊥) → ((at : Place) (id : Word) (v : Vec (Statement A) A) → s ≡ Optional at id v → ⊥) → has_body (form_of s) ≡ false
+pub leaf_form : {A : Type 0} → (s : Statement A) → ((at : Place) (id : words.Word) (v : Vec (Statement A) A) → s ≡ Block at id v → ⊥) → ((at : Place) (id : words.Word) (v : Vec (Statement A) A) → s ≡ Optional at id v → ⊥) → has_body (form_of s) ≡ false
 leaf_form {A} s no_block no_optional = by (out-Statement A s) (sym (roll-out-Statement A s))
   where
     by : (o : Statement-F A (Statement A)) → s ≡ roll-Statement A o → has_body (form_of s) ≡ false

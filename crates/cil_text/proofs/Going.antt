@@ -1,26 +1,28 @@
 -- One step of the reader for each part.
-use Rattle.std.proofs.Common.{suc, ◌≡◌, ◌≢◌, ℕ, ◌+◌, ◌<◌, ◌&&◌, Bool, true, false, not, cond, List, [], ◌∷◌, ◌++◌, length, take, drop, get_or, map, reverse, refl, ap, sym, ◌∙◌, subst, Vec, Bor, append_assoc, append-nil, true≢false, length-append, length-drop, get_or-drop, IsTrue, inr, arith}
+use Rattle.std.proofs.Common.{suc, ◌≡◌, ◌≢◌, ℕ, ◌+◌, ◌-◌, ◌<◌, ◌&&◌, Bool, true, false, not, cond, List, [], ◌∷◌, ◌++◌, length, take, drop, get_or, map, reverse, refl, ap, sym, ◌∙◌, subst, Vec, Bor, append_assoc, append-nil, true≢false, length-append, length-drop, get_or-drop, IsTrue, inr, arith}
 use Rattle.std.specs.List.{list_all, prefix_len}
 use Rattle.std.proofs.lemmas.Bool.{eqb-true}
-use Rattle.std.proofs.lemmas.List.{length-take-le, length-map, length-reverse, drop-drop, take-append-drop}
+use Rattle.std.proofs.lemmas.List.{length-take-le, length-map, length-reverse, length-set, drop-drop, take-append-drop}
 use Rattle.std.proofs.lemmas.List.Folds.{list_all-append}
 use Rattle.std.proofs.lemmas.List.Sums.{prefix_len-le-length}
 use Rattle.std.proofs.Math.Dec.{eqb}
+use Rattle.std.proofs.Math.ListN.{set}
 use Rattle.std.proofs.Math.Seq.{drop-cons, take-append_seam}
 use Rattle.cil_specs.specs.Bytes.{is_word_byte, is_string_byte, is_comment_byte}
 use Rattle.cil_specs.specs.Parts.{Part, comment, word, string, opening, closing}
 use Rattle.cil_specs.specs.Trees.{Mark, word_at, string_at, opening_at, closing_before, marks}
+use Rattle.cil_specs.specs.Place.{place_at}
 use Rattle.cil_specs.specs.Reading.{Stops}
 use Rattle.cil_specs.specs.TextFault.{bare_word}
 use Rattle.cil_specs.proofs.PlaceLemmas.{to_right}
 use Rattle.cil_specs.proofs.Runs.{StopsBefore, same_run, both_true, second_true, run-passes, run-stops, ends-word, ends-comment, ends-string, ends-opening, ends-closing}
 use Rattle.cil_text.specs.Image.{place_of, trees_of}
-use Rattle.cil_text.specs.Reader.{IsPlaced, GoesOver, open_lists, open_marks, read_marks}
+use Rattle.cil_text.specs.Reader.{IsPlaced, GoesOver, HaveMarks, IsRead, open_lists}
 use Rattle.cil_text.specs.declared.reader.Open.{Open}
 use Rattle.cil_text.specs.declared.reader.Reader.{Reader}
-use Rattle.cil_text.specs.declared.tree.Tree.{Tree}
-use Rattle.cil_text.specs.declared.tree.Tree.TheVariants.{Word, String, List as a_tree_list}
-use Rattle.cil_text.proofs.Marks.{marks-push, marks-list, open_marks-push, open_lists-push}
+use Rattle.cil_text.specs.declared.node.Node.{Node}
+use Rattle.cil_text.specs.declared.node.Node.TheVariants.{Word, String, List as Listed}
+use Rattle.cil_text.proofs.Marks.{marks_in, whole_word, whole_string, more_marks, open_marks, close_marks, open_lists-push, reverse-push}
 use Rattle.cil_text.proofs.Reading.{front-rest, byte-rest, byte-run, goes-right}
 
 -- what passes one test passes another that asks less
@@ -47,16 +49,23 @@ not_none : (xs : List ℕ) → 0 < length xs → xs ≢ []
 not_none xs some none = omega (arith, some, ap length none)
 
 -- a list is open where there is an open one
-open-some : {A : Type 0} (os : List (Open A)) → 0 < length os → reverse (map (λ o. o.at.offset) os) ≢ []
+open-some : (os : List Open) → 0 < length os → reverse (map (λ o. o.at.offset) os) ≢ []
 open-some os some none = omega (arith, some, sym (length-map os (λ o. o.at.offset)) ∙ sym (length-reverse (map (λ o. o.at.offset) os)) ∙ ap length none)
 
 -- a first byte that passes makes a run of one at least
 run-some : (p : ℕ → Bool) (bytes : List ℕ) (at : ℕ) → at < length bytes → p (get_or bytes at 0) ≡ true → 0 < prefix_len p (drop at bytes)
 run-some p bytes at within is = rw (drop-cons bytes at 0 within) (subst (λ b. 0 < cond b (1 + prefix_len p (drop (suc at) bytes)) 0) (sym is) (omega arith))
 
+-- the marks of a reader with these lists open and these nodes
+read-by : {A : Type 0} (old new : Reader A) (opened : List Open) (nodes : List Node) (seen : List Mark) → new.text.now ≡ old.text.now → new.outer.items ≡ opened → new.nodes.items ≡ nodes
+    → HaveMarks old.text.now (reverse opened) nodes seen → IsRead new seen
+read-by old new opened nodes seen same outer current had =
+    subst (λ text. HaveMarks text (reverse new.outer.items) new.nodes.items seen) (sym same)
+    (subst (λ os. HaveMarks old.text.now (reverse os) new.nodes.items seen) (sym outer) (subst (λ ns. HaveMarks old.text.now (reverse opened) ns seen) (sym current) had))
+
 -- over a comment: the ; and the n bytes before the line's end
 pub goes-comment : {A : Type 0} (old new : Reader A) (n : ℕ) → IsPlaced old → old.at.offset < length old.text.now → get_or old.text.now old.at.offset 0 ≡ 59 → n ≡ prefix_len is_comment_byte (drop (old.at.offset + 1) old.text.now)
-    → place_of new.at ≡ to_right (place_of old.at) (1 + n) → new.outer.items ≡ old.outer.items → new.current.items ≡ old.current.items → new.text.now ≡ old.text.now → (p : Part) × GoesOver old new p
+    → place_of new.at ≡ to_right (place_of old.at) (1 + n) → new.outer.items ≡ old.outer.items → new.nodes.items ≡ old.nodes.items → new.text.now ≡ old.text.now → (p : Part) × GoesOver old new p
 goes-comment old new n placed within byte run at outer current same =
     let bytes : List ℕ = old.text.now in
     let rest : List ℕ = drop (old.at.offset + 1) bytes in
@@ -69,15 +78,16 @@ goes-comment old new n placed within byte run at outer current same =
       goes-right old new (comment text) placed free free (byte-run is_comment_byte bytes old.at.offset 59 n within byte run)
           (ends-comment text _ (subst (StopsBefore is_comment_byte) (sym behind) (run-stops is_comment_byte rest)))
           (ap (λ l. reverse (map (λ o. o.at.offset) l)) outer)
-          (ap (λ l. open_marks l ++ marks (trees_of new.current.items)) outer ∙ ap (λ l. open_marks old.outer.items ++ marks (trees_of l)) current ∙ sym (append-nil _))
+          (λ seen had. read-by old new old.outer.items old.nodes.items (seen ++ []) same outer current (subst (HaveMarks old.text.now (reverse old.outer.items) old.nodes.items) (sym (append-nil seen)) had))
+          (omega (arith, placed.few, ap length current))
           (at ∙ ap (to_right (place_of old.at)) (let e : 1 + n ≡ length (59 ∷ text) = omega (arith, size) in e)) same,
     )
 
 -- over a word: the n word bytes at the front
-pub goes-word : {A : Type 0} (old new : Reader A) (n : ℕ) (w : Bor (List ℕ)) → IsPlaced old → old.at.offset < length old.text.now → is_word_byte (get_or old.text.now old.at.offset 0) ≡ true
-    → n ≡ prefix_len is_word_byte (drop old.at.offset old.text.now) → w.now ≡ take n (drop old.at.offset old.text.now) → 0 < length old.outer.items → place_of new.at ≡ to_right (place_of old.at) n
-    → new.outer.items ≡ old.outer.items → new.current.items ≡ old.current.items ++ Word (record { at = old.at; text = w }) ∷ [] → new.text.now ≡ old.text.now → (p : Part) × GoesOver old new p
-goes-word old new n w placed within byte run is listed at outer current same =
+pub goes-word : {A : Type 0} (old new : Reader A) (n : ℕ) → IsPlaced old → old.at.offset < length old.text.now → is_word_byte (get_or old.text.now old.at.offset 0) ≡ true
+    → n ≡ prefix_len is_word_byte (drop old.at.offset old.text.now) → 0 < length old.outer.items → place_of new.at ≡ to_right (place_of old.at) n
+    → new.outer.items ≡ old.outer.items → new.nodes.items ≡ old.nodes.items ++ Word old.at n ∷ [] → new.text.now ≡ old.text.now → (p : Part) × GoesOver old new p
+goes-word old new n placed within byte run listed at outer current same =
     let bytes : List ℕ = old.text.now in
     let rest : List ℕ = drop old.at.offset bytes in
     let text : List ℕ = take n rest in
@@ -91,10 +101,10 @@ goes-word old new n w placed within byte run is listed at outer current same =
           (front-rest bytes old.at.offset n ∙ ap (λ k. text ++ drop (old.at.offset + k) bytes) (sym size))
           (ends-word text _ (subst (StopsBefore is_word_byte) (sym (there (length text) size)) (run-stops is_word_byte rest)))
           (open-some old.outer.items listed, ap (λ l. reverse (map (λ o. o.at.offset) l)) outer)
-          (ap (λ l. open_marks l ++ marks (trees_of new.current.items)) outer ∙ ap (λ l. open_marks old.outer.items ++ marks (trees_of l)) current
-          ∙ ap (λ l. open_marks old.outer.items ++ l) (marks-push old.current.items (Word (record { at = old.at; text = w })))
-          ∙ sym (append_assoc (open_marks old.outer.items) (marks (trees_of old.current.items)) (word_at (place_of old.at) w.now ∷ []))
-          ∙ ap (λ t. read_marks old ++ word_at (place_of old.at) t ∷ []) is ∙ ap (λ p. read_marks old ++ word_at p text ∷ []) placed.place)
+          (λ seen had. read-by old new old.outer.items (old.nodes.items ++ Word old.at n ∷ []) (seen ++ word_at (place_at bytes old.at.offset) text ∷ []) same outer current
+          (subst (λ p. HaveMarks bytes (reverse old.outer.items) (old.nodes.items ++ Word old.at n ∷ []) (seen ++ word_at p text ∷ [])) placed.place
+          (more_marks bytes (reverse old.outer.items) old.nodes.items (Word old.at n ∷ []) seen had (whole_word bytes old.at n))))
+          (omega (arith, placed.few, ap length current, length-append old.nodes.items (Word old.at n ∷ []), size, some))
           (at ∙ ap (to_right (place_of old.at)) (sym size)) same,
     )
 
@@ -112,63 +122,64 @@ string-here bytes at n within byte room quote =
     ∙ ap (λ l. 34 ∷ l) (sym (append_assoc (take n rest) (34 ∷ []) (drop (at + (n + 2)) bytes)))
 
 -- over a string: n bytes between two quotes
-pub goes-string : {A : Type 0} (old new : Reader A) (n : ℕ) (w : Bor (List ℕ)) → IsPlaced old → old.at.offset < length old.text.now → get_or old.text.now old.at.offset 0 ≡ 34
+pub goes-string : {A : Type 0} (old new : Reader A) (n : ℕ) → IsPlaced old → old.at.offset < length old.text.now → get_or old.text.now old.at.offset 0 ≡ 34
     → n ≡ prefix_len is_string_byte (drop (old.at.offset + 1) old.text.now) → n < length (drop (old.at.offset + 1) old.text.now) → get_or (drop (old.at.offset + 1) old.text.now) n 0 ≡ 34
-    → w.now ≡ take (n + 2) (drop old.at.offset old.text.now) → 0 < length old.outer.items → place_of new.at ≡ to_right (place_of old.at) (n + 2)
-    → new.outer.items ≡ old.outer.items → new.current.items ≡ old.current.items ++ String (record { at = old.at; text = w }) ∷ [] → new.text.now ≡ old.text.now → (p : Part) × GoesOver old new p
-goes-string old new n w placed within byte run room quote is listed at outer current same =
+    → 0 < length old.outer.items → place_of new.at ≡ to_right (place_of old.at) (n + 2)
+    → new.outer.items ≡ old.outer.items → new.nodes.items ≡ old.nodes.items ++ String old.at (n + 2) ∷ [] → new.text.now ≡ old.text.now → (p : Part) × GoesOver old new p
+goes-string old new n placed within byte run room quote listed at outer current same =
     let bytes : List ℕ = old.text.now in
     let rest : List ℕ = drop (old.at.offset + 1) bytes in
     let text : List ℕ = take n rest in
     let passes : list_all is_string_byte text ≡ true = ap (λ k. list_all is_string_byte (take k rest)) run ∙ run-passes is_string_byte rest in
     let whole : length (34 ∷ (text ++ 34 ∷ [])) ≡ n + 2 = omega (arith, length-append text (34 ∷ []), length-take-le n rest (omega (arith, room))) in
     let here : drop old.at.offset bytes ≡ (34 ∷ (text ++ 34 ∷ [])) ++ drop (old.at.offset + (n + 2)) bytes = string-here bytes old.at.offset n within byte room quote in
-    let spelt : w.now ≡ 34 ∷ (text ++ 34 ∷ []) = is ∙ ap (take (n + 2)) here ∙ ap (λ k. take k ((34 ∷ (text ++ 34 ∷ [])) ++ drop (old.at.offset + (n + 2)) bytes)) (sym whole) ∙ take-append_seam (34 ∷ (text ++ 34 ∷ [])) (drop (old.at.offset + (n + 2)) bytes) in (
+    let spelt : take (n + 2) (drop old.at.offset bytes) ≡ 34 ∷ (text ++ 34 ∷ []) = ap (take (n + 2)) here ∙ ap (λ k. take k ((34 ∷ (text ++ 34 ∷ [])) ++ drop (old.at.offset + (n + 2)) bytes)) (sym whole) ∙ take-append_seam (34 ∷ (text ++ 34 ∷ [])) (drop (old.at.offset + (n + 2)) bytes) in (
       string text,
       goes-right old new (string text) placed passes (string-free text passes)
           (here ∙ ap (λ k. (34 ∷ (text ++ 34 ∷ [])) ++ drop (old.at.offset + k) bytes) (sym whole))
           (ends-string text _) (open-some old.outer.items listed, ap (λ l. reverse (map (λ o. o.at.offset) l)) outer)
-          (ap (λ l. open_marks l ++ marks (trees_of new.current.items)) outer ∙ ap (λ l. open_marks old.outer.items ++ marks (trees_of l)) current
-          ∙ ap (λ l. open_marks old.outer.items ++ l) (marks-push old.current.items (String (record { at = old.at; text = w })))
-          ∙ sym (append_assoc (open_marks old.outer.items) (marks (trees_of old.current.items)) (string_at (place_of old.at) w.now ∷ []))
-          ∙ ap (λ t. read_marks old ++ string_at (place_of old.at) t ∷ []) spelt ∙ ap (λ p. read_marks old ++ string_at p (34 ∷ (text ++ 34 ∷ [])) ∷ []) placed.place)
+          (λ seen had. read-by old new old.outer.items (old.nodes.items ++ String old.at (n + 2) ∷ []) (seen ++ string_at (place_at bytes old.at.offset) (34 ∷ (text ++ 34 ∷ [])) ∷ []) same outer current
+          (subst (λ p. HaveMarks bytes (reverse old.outer.items) (old.nodes.items ++ String old.at (n + 2) ∷ []) (seen ++ string_at p (34 ∷ (text ++ 34 ∷ [])) ∷ [])) placed.place
+          (subst (λ t. HaveMarks bytes (reverse old.outer.items) (old.nodes.items ++ String old.at (n + 2) ∷ []) (seen ++ string_at (place_of old.at) t ∷ [])) spelt
+          (more_marks bytes (reverse old.outer.items) old.nodes.items (String old.at (n + 2) ∷ []) seen had (whole_string bytes old.at (n + 2))))))
+          (omega (arith, placed.few, ap length current, length-append old.nodes.items (String old.at (n + 2) ∷ []), whole))
           (at ∙ ap (to_right (place_of old.at)) (sym whole)) same,
     )
 
--- over a (, where the trees read so far are put aside
-pub goes-open : {A : Type 0} (old new : Reader A) (o : Open A) → IsPlaced old → old.at.offset < length old.text.now → get_or old.text.now old.at.offset 0 ≡ 40 → length old.outer.items < 256
-    → o.at ≡ old.at → o.before.items ≡ old.current.items → place_of new.at ≡ to_right (place_of old.at) 1 → new.outer.items ≡ old.outer.items ++ o ∷ [] → new.current.items ≡ [] → new.text.now ≡ old.text.now
-    → GoesOver old new opening
-goes-open old new o placed within byte room here before at outer current same =
+-- over a (, which is a node and open
+pub goes-open : {A : Type 0} (old new : Reader A) (o : Open) (list : Node) → IsPlaced old → old.at.offset < length old.text.now → get_or old.text.now old.at.offset 0 ≡ 40 → length old.outer.items < 256
+    → o.at ≡ old.at → o.node ≡ length old.nodes.items → place_of new.at ≡ to_right (place_of old.at) 1 → new.outer.items ≡ old.outer.items ++ o ∷ [] → new.nodes.items ≡ old.nodes.items ++ list ∷ []
+    → new.text.now ≡ old.text.now → GoesOver old new opening
+goes-open old new o list placed within byte room here counts at outer current same =
     let os = old.outer.items in
+    let bytes : List ℕ = old.text.now in
     goes-right old new opening placed tt refl (byte-rest old.text.now old.at.offset 40 within byte) (ends-opening _)
     (omega (arith, room, length-reverse (map (λ o. o.at.offset) os), length-map os (λ o. o.at.offset)), ap (λ l. reverse (map (λ o. o.at.offset) l)) outer ∙ open_lists-push os o ∙ ap (λ p. p.offset ∷ open_lists old) here)
-    (ap (λ l. open_marks l ++ marks (trees_of new.current.items)) outer ∙ ap (λ l. open_marks (os ++ o ∷ []) ++ marks (trees_of l)) current ∙ append-nil _ ∙ open_marks-push os o
-    ∙ sym (append_assoc (open_marks os) (marks (trees_of o.before.items)) (opening_at (place_of o.at) ∷ []))
-    ∙ ap (λ l. (open_marks os ++ marks (trees_of l)) ++ opening_at (place_of o.at) ∷ []) before ∙ ap (λ p. read_marks old ++ opening_at (place_of p) ∷ []) here
-    ∙ ap (λ p. read_marks old ++ opening_at p ∷ []) placed.place)
+    (λ seen had. read-by old new (os ++ o ∷ []) (old.nodes.items ++ list ∷ []) (seen ++ opening_at (place_at bytes old.at.offset) ∷ []) same outer current
+    (subst (λ opened. HaveMarks bytes opened (old.nodes.items ++ list ∷ []) (seen ++ opening_at (place_at bytes old.at.offset) ∷ [])) (sym (reverse-push os o))
+    (subst (λ p. HaveMarks bytes (o ∷ reverse os) (old.nodes.items ++ list ∷ []) (seen ++ opening_at p ∷ [])) (ap place_of here ∙ placed.place)
+    (open_marks bytes (reverse os) old.nodes.items seen o list had counts))))
+    (omega (arith, placed.few, ap length current, length-append old.nodes.items (list ∷ [])))
     at same
 
-regroup : (P B V C : List Mark) (a : Mark) → P ++ (B ++ (a ∷ (V ++ C))) ≡ ((P ++ (B ++ a ∷ [])) ++ V) ++ C
-regroup P B V C a = simp append_assoc
+-- the marks of a reader that has this list open as the innermost
+pub inside-open : {A : Type 0} (r : Reader A) (os : List Open) (o : Open) (seen : List Mark) → r.outer.items ≡ os ++ o ∷ [] → IsRead r seen → HaveMarks r.text.now (o ∷ reverse os) r.nodes.items seen
+inside-open r os o seen outer had = subst (λ opened. HaveMarks r.text.now opened r.nodes.items seen) (ap reverse outer ∙ reverse-push os o) had
 
--- over a ), where the innermost list goes behind what stands before it
-pub goes-close : {A : Type 0} (old new : Reader A) (o : Open A) (items : Vec (Tree A) A) → IsPlaced old → old.at.offset < length old.text.now → get_or old.text.now old.at.offset 0 ≡ 41
-    → old.outer.items ≡ new.outer.items ++ o ∷ [] → items.items ≡ old.current.items → place_of new.at ≡ to_right (place_of old.at) 1
-    → new.current.items ≡ o.before.items ++ a_tree_list o.at new.at.offset items ∷ [] → new.text.now ≡ old.text.now → GoesOver old new closing
-goes-close old new o items placed within byte outer inside at current same =
+-- over a ), where the innermost list is told its end
+pub goes-close : {A : Type 0} (old new : Reader A) (o : Open) (inner : ℕ) → IsPlaced old → old.at.offset < length old.text.now → get_or old.text.now old.at.offset 0 ≡ 41
+    → old.outer.items ≡ new.outer.items ++ o ∷ [] → inner ≡ length old.nodes.items - o.node - 1 → place_of new.at ≡ to_right (place_of old.at) 1
+    → new.nodes.items ≡ set old.nodes.items o.node (Listed o.at new.at.offset inner) → new.text.now ≡ old.text.now → GoesOver old new closing
+goes-close old new o inner placed within byte outer counts at current same =
     let os = new.outer.items in
-    let P = open_marks os in
-    let B = marks (trees_of o.before.items) in
-    let V = marks (trees_of items.items) in
+    let bytes : List ℕ = old.text.now in
     let end : new.at.offset ≡ old.at.offset + 1 = ap (λ p. p.offset) at in
     goes-right old new closing placed tt refl (byte-rest old.text.now old.at.offset 41 within byte) (ends-closing _)
     (o.at.offset, ap (λ l. reverse (map (λ o. o.at.offset) l)) outer ∙ open_lists-push os o)
-    (ap (λ l. P ++ marks (trees_of l)) current ∙ ap (λ l. P ++ l) (marks-push o.before.items (a_tree_list o.at new.at.offset items) ∙ ap (λ l. B ++ l) (marks-list o.at new.at.offset items))
-    ∙ regroup P B V (closing_before new.at.offset ∷ []) (opening_at (place_of o.at))
-    ∙ ap (λ l. (l ++ V) ++ closing_before new.at.offset ∷ []) (sym (open_marks-push os o) ∙ ap open_marks (sym outer))
-    ∙ ap (λ l. (open_marks old.outer.items ++ marks (trees_of l)) ++ closing_before new.at.offset ∷ []) inside
-    ∙ ap (λ n. read_marks old ++ closing_before n ∷ []) end)
+    (λ seen had. read-by old new os (set old.nodes.items o.node (Listed o.at new.at.offset inner)) (seen ++ closing_before (old.at.offset + 1) ∷ []) same refl current
+    (subst (λ n. HaveMarks bytes (reverse os) (set old.nodes.items o.node (Listed o.at new.at.offset inner)) (seen ++ closing_before n ∷ [])) end
+    (close_marks bytes (reverse os) old.nodes.items seen o new.at.offset inner (inside-open old os o seen outer had) counts)))
+    (omega (arith, placed.few, ap length current, length-set old.nodes.items o.node (Listed o.at new.at.offset inner)))
     at same
 
 -- where no " stands behind the longest run of other bytes, the string isn't closed
@@ -192,6 +203,6 @@ bare-string bytes lists at n none within byte run room quote =
     (none, inr ((text, drop (at + (n + 2)) bytes, whole, passes), refl))
 
 -- no list is open where none stands around
-pub open-none : {A : Type 0} (os : List (Open A)) → length os ≡ 0 → reverse (map (λ o. o.at.offset) os) ≡ []
+pub open-none : (os : List Open) → length os ≡ 0 → reverse (map (λ o. o.at.offset) os) ≡ []
 open-none [] e = refl
 open-none (o ∷ os) e = absurd (omega (arith, e))

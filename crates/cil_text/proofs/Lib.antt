@@ -1,4 +1,5 @@
 pub mod Gaining
+pub mod Nodes
 pub mod Marks
 pub mod Reading
 pub mod Going
@@ -16,4 +17,3 @@ pub mod CheckLemmas
 pub mod Bodies
 pub mod HeadingLemmas
 pub mod WalkLemmas
-pub mod Depth

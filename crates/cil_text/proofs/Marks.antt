@@ -1,43 +1,98 @@
--- The marks of trees and of open lists.
-use Rattle.std.proofs.Common.{◌≡◌, ℕ, List, [], ◌∷◌, ◌++◌, map, reverse, Vec, refl, ap, sym, ◌∙◌, append_assoc}
+-- The marks of nodes, where some lists among them are open.
+use Rattle.std.proofs.Common.{◌≡◌, ℕ, ◌+◌, ◌-◌, ◌≤◌, List, [], ◌∷◌, ◌++◌, length, take, drop, map, reverse, refl, ap, sym, ◌∙◌, subst, append_assoc, append-nil, length-append, arith}
 use Rattle.std.proofs.lemmas.List.{map-append, reverse-append}
-use Rattle.cil_specs.specs.Trees.{Trees, none, opening_at, closing_before, marks}
-use Rattle.cil_text.specs.Image.{place_of, tree_then, row_trees, trees_of}
-use Rattle.cil_text.specs.Reader.{open_marks}
+use Rattle.std.proofs.Math.ListN.{set}
+use Rattle.std.proofs.Math.Seq.{take-append_seam, drop-append_seam, set-append_seam}
+use Rattle.cil_specs.specs.Trees.{Mark, opening_at, closing_before, marks}
+use Rattle.cil_text.specs.Image.{place_of, trees_in}
+use Rattle.cil_text.specs.Reader.{AreWhole, HaveMarks}
 use Rattle.cil_text.specs.declared.place.Place.{Place}
+use Rattle.cil_text.specs.declared.node.Node.{Node}
+use Rattle.cil_text.specs.declared.node.Node.TheVariants.{Word, String, List as Listed}
 use Rattle.cil_text.specs.declared.reader.Open.{Open}
-use Rattle.cil_text.specs.declared.tree.Tree.{Tree, Word, String, List', Row_of-Tree, end_of-Tree, more_of-Tree}
-use Rattle.cil_text.specs.declared.tree.Tree.TheVariants.{List as a_tree_list}
-use Rattle.cil_text.specs.declared.tree.Tree.TheBlock.{items-the_row-Tree, hidden-the_row-Tree-0, items_hidden-the_row-Tree-0}
+use Rattle.cil_text.proofs.Nodes.{list_in}
 
--- the marks of a tree and of what follows
-marks-then : {A : Type 0} (t : Tree A) (rest : Trees) → marks (tree_then t rest) ≡ marks (tree_then t none) ++ marks rest
-marks-then (Word w) rest = refl
-marks-then (String w) rest = refl
-marks-then (List' at end shape items) rest = ap (λ l. opening_at (place_of at) ∷ l) (sym (append_assoc (marks (row_trees items)) (closing_before end ∷ []) (marks rest)))
+-- the marks of the trees that nodes stand for
+abbrev pub marks_in : List ℕ → List Node → List Mark
+marks_in text nodes = marks (trees_in text nodes)
 
-pub marks-push : {A : Type 0} (ts : List (Tree A)) (t : Tree A) → marks (trees_of (ts ++ t ∷ [])) ≡ marks (trees_of ts) ++ marks (tree_then t none)
-marks-push [] t = refl
-marks-push (x ∷ xs) t =
-    marks-then x (trees_of (xs ++ t ∷ [])) ∙ ap (λ l. marks (tree_then x none) ++ l) (marks-push xs t)
-    ∙ sym (append_assoc (marks (tree_then x none)) (marks (trees_of xs)) (marks (tree_then t none))) ∙ ap (λ l. l ++ marks (tree_then t none)) (sym (marks-then x (trees_of xs)))
+whole_more : (text : List ℕ) (nodes more : List Node) → AreWhole text nodes → AreWhole text more → AreWhole text (nodes ++ more)
+whole_more text nodes more first then behind =
+    ap (marks_in text) (append_assoc nodes more behind) ∙ first (more ++ behind) ∙ ap (λ l. marks_in text nodes ++ l) (then behind)
+    ∙ sym (append_assoc (marks_in text nodes) (marks_in text more) (marks_in text behind)) ∙ ap (λ l. l ++ marks_in text behind) (sym (first more))
 
--- the trees in a row are those in the list that it stands for
-pub row-all : {A : Type 0} {n : _} (row : Row_of-Tree A n) → row_trees row ≡ trees_of (items-the_row-Tree A n row)
-row-all end_of-Tree = refl
-row-all (more_of-Tree t rest) = ap (tree_then t) (row-all rest)
+pub whole_word : (text : List ℕ) (at : Place) (len : ℕ) → AreWhole text (Word at len ∷ [])
+whole_word text at len behind = refl
 
--- a list is ( and its trees and )
-pub marks-list : {A : Type 0} (at : Place) (end : ℕ) (items : Vec (Tree A) A) → marks (tree_then (a_tree_list at end items) none) ≡ opening_at (place_of at) ∷ (marks (trees_of items.items) ++ closing_before end ∷ [])
-marks-list {A} at end items =
-    ap (λ t. opening_at (place_of at) ∷ (marks t ++ closing_before end ∷ [])) (row-all (hidden-the_row-Tree-0 A items) ∙ ap trees_of (items_hidden-the_row-Tree-0 A items))
+pub whole_string : (text : List ℕ) (at : Place) (len : ℕ) → AreWhole text (String at len ∷ [])
+whole_string text at len behind = refl
 
-pub open_marks-push : {A : Type 0} (os : List (Open A)) (o : Open A) → open_marks (os ++ o ∷ []) ≡ open_marks os ++ (marks (trees_of o.before.items) ++ opening_at (place_of o.at) ∷ [])
-open_marks-push [] o = refl
-open_marks-push (x ∷ xs) o =
-    ap (λ l. marks (trees_of x.before.items) ++ opening_at (place_of x.at) ∷ l) (open_marks-push xs o)
-    ∙ sym (append_assoc (marks (trees_of x.before.items)) (opening_at (place_of x.at) ∷ open_marks xs) (marks (trees_of o.before.items) ++ opening_at (place_of o.at) ∷ []))
+-- a list that says how many nodes are inside it
+list-before : (text : List ℕ) (at : Place) (end : ℕ) (inside behind : List Node)
+    → marks_in text (Listed at end (length inside) ∷ (inside ++ behind)) ≡ opening_at (place_of at) ∷ (marks_in text inside ++ closing_before end ∷ marks_in text behind)
+list-before text at end inside behind =
+    ap marks (list_in text at end (length inside) (inside ++ behind))
+    ∙ (λ i. opening_at (place_of at) ∷ (marks_in text (take-append_seam inside behind i) ++ closing_before end ∷ marks_in text (drop-append_seam inside behind i)))
+
+list-alone : (text : List ℕ) (at : Place) (end : ℕ) (inside : List Node) → marks_in text (Listed at end (length inside) ∷ inside) ≡ opening_at (place_of at) ∷ (marks_in text inside ++ closing_before end ∷ [])
+list-alone text at end inside = ap (λ l. marks_in text (Listed at end (length inside) ∷ l)) (sym (append-nil inside)) ∙ list-before text at end inside []
+
+whole_list : (text : List ℕ) (at : Place) (end : ℕ) (inside : List Node) → AreWhole text (Listed at end (length inside) ∷ inside)
+whole_list text at end inside behind =
+    list-before text at end inside behind ∙ ap (λ l. opening_at (place_of at) ∷ l) (sym (append_assoc (marks_in text inside) (closing_before end ∷ []) (marks_in text behind)))
+    ∙ ap (λ l. l ++ marks_in text behind) (sym (list-alone text at end inside))
+
+-- nodes behind the others
+pub more_marks : (text : List ℕ) (opened : List Open) (nodes more : List Node) (seen : List Mark) → HaveMarks text opened nodes seen → AreWhole text more → HaveMarks text opened (nodes ++ more) (seen ++ marks_in text more)
+more_marks text [] nodes more seen had whole = (whole_more text nodes more had.0 whole, ap (λ l. l ++ marks_in text more) had.1 ∙ sym (had.0 more))
+more_marks text (o ∷ around) nodes more seen had whole =
+    let before = had.0 in
+    let inside = had.1 in
+    let first = had.3 in (
+      before,
+      inside ++ more,
+      had.2,
+      first,
+      ap (λ l. l ++ more) had.4 ∙ append_assoc before (had.2 ∷ inside) more,
+      had.5,
+      whole_more text inside more had.6 whole,
+      had.7,
+      ap (λ l. l ++ marks_in text more) had.8 ∙ append_assoc first (opening_at (place_of o.at) ∷ marks_in text inside) (marks_in text more)
+          ∙ ap (λ l. first ++ opening_at (place_of o.at) ∷ l) (sym (had.6 more)),
+    )
+
+-- one more list is open
+pub open_marks : (text : List ℕ) (opened : List Open) (nodes : List Node) (seen : List Mark) (o : Open) (list : Node) → HaveMarks text opened nodes seen → o.node ≡ length nodes
+    → HaveMarks text (o ∷ opened) (nodes ++ list ∷ []) (seen ++ opening_at (place_of o.at) ∷ [])
+open_marks text opened nodes seen o list had at = (nodes, [], list, seen, refl, at, (λ behind. refl), had, refl)
+
+-- the innermost open list is a node
+pub open_within : (text : List ℕ) (around : List Open) (nodes : List Node) (seen : List Mark) (o : Open) → HaveMarks text (o ∷ around) nodes seen → o.node + 1 ≤ length nodes
+open_within text around nodes seen o had =
+    let all : length nodes ≡ length (had.0 ++ had.2 ∷ had.1) = ap length had.4 in
+    omega (arith, all, had.5, length-append had.0 (had.2 ∷ had.1))
+
+-- the innermost open list, closed
+pub close_marks : (text : List ℕ) (around : List Open) (nodes : List Node) (seen : List Mark) (o : Open) (end inner : ℕ) → HaveMarks text (o ∷ around) nodes seen → inner ≡ length nodes - o.node - 1
+    → HaveMarks text around (set nodes o.node (Listed o.at end inner)) (seen ++ closing_before end ∷ [])
+close_marks text around nodes seen o end inner had counts =
+    let before = had.0 in
+    let inside = had.1 in
+    let first = had.3 in
+    let all : length nodes ≡ length (before ++ had.2 ∷ inside) = ap length had.4 in
+    let size : length inside ≡ inner = omega (arith, all, had.5, counts, length-append before (had.2 ∷ inside)) in
+    let closed = more_marks text around before (Listed o.at end (length inside) ∷ inside) first had.7 (whole_list text o.at end inside) in
+    let written : before ++ Listed o.at end (length inside) ∷ inside ≡ set nodes o.node (Listed o.at end inner) =
+    ap (λ n. before ++ Listed o.at end n ∷ inside) size ∙ sym (set-append_seam before had.2 inside (Listed o.at end inner))
+    ∙ (λ i. set (sym had.4 i) (sym had.5 i) (Listed o.at end inner)) in
+    let told : first ++ marks_in text (Listed o.at end (length inside) ∷ inside) ≡ seen ++ closing_before end ∷ [] =
+    ap (λ l. first ++ l) (list-alone text o.at end inside) ∙ sym (append_assoc first (opening_at (place_of o.at) ∷ marks_in text inside) (closing_before end ∷ []))
+    ∙ ap (λ l. l ++ closing_before end ∷ []) (sym had.8) in
+    subst (HaveMarks text around (set nodes o.node (Listed o.at end inner))) told (subst (λ l. HaveMarks text around l (first ++ marks_in text (Listed o.at end (length inside) ∷ inside))) written closed)
 
 -- one more open list is the innermost
-pub open_lists-push : {A : Type 0} (os : List (Open A)) (o : Open A) → reverse (map (λ o. o.at.offset) (os ++ o ∷ [])) ≡ o.at.offset ∷ reverse (map (λ o. o.at.offset) os)
+pub open_lists-push : (os : List Open) (o : Open) → reverse (map (λ o. o.at.offset) (os ++ o ∷ [])) ≡ o.at.offset ∷ reverse (map (λ o. o.at.offset) os)
 open_lists-push os o = ap reverse (map-append (λ o. o.at.offset) os (o ∷ [])) ∙ reverse-append (map (λ o. o.at.offset) os) (o.at.offset ∷ [])
+
+pub reverse-push : (os : List Open) (o : Open) → reverse (os ++ o ∷ []) ≡ o ∷ reverse os
+reverse-push os o = reverse-append os (o ∷ [])

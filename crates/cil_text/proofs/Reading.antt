@@ -7,11 +7,11 @@ use Rattle.std.proofs.lemmas.List.Sums.{prefix_len-le-length}
 use Rattle.cil_specs.specs.Bytes.{is_comment_byte}
 use Rattle.cil_specs.specs.Place.{is_line_feed, place_at}
 use Rattle.cil_specs.specs.Parts.{Part, spelling, IsPart, EndsBefore, Moves}
-use Rattle.cil_specs.specs.Trees.{told}
+use Rattle.cil_specs.specs.Trees.{Mark, told}
 use Rattle.cil_specs.proofs.PlaceLemmas.{to_right, place_at-run, place_at-small}
 use Rattle.cil_specs.proofs.Runs.{all-at}
 use Rattle.cil_text.specs.Image.{place_of}
-use Rattle.cil_text.specs.Reader.{IsPlaced, GoesOver, open_lists, read_marks}
+use Rattle.cil_text.specs.Reader.{IsPlaced, GoesOver, IsRead, open_lists}
 use Rattle.cil_text.specs.declared.reader.Reader.{Reader}
 
 -- lines and columns are no greater than the offset and one
@@ -48,8 +48,8 @@ front-rest bytes at n = sym (take-append-drop n (drop at bytes)) ∙ ap (λ l. t
 
 -- the reader's place after a part with no line feed in it
 pub placed-right : {A : Type 0} (old new : Reader A) (text : List ℕ) → IsPlaced old → list_all is_comment_byte text ≡ true → drop old.at.offset old.text.now ≡ text ++ drop (old.at.offset + length text) old.text.now
-    → place_of new.at ≡ to_right (place_of old.at) (length text) → new.text.now ≡ old.text.now → IsPlaced new
-placed-right old new text placed free here at same =
+    → place_of new.at ≡ to_right (place_of old.at) (length text) → new.text.now ≡ old.text.now → length new.nodes.items ≤ old.at.offset + length text → (seen : List Mark) × IsRead new seen → IsPlaced new
+placed-right old new text placed free here at same few read =
     let bytes : List ℕ = old.text.now in
     let offset : new.at.offset ≡ old.at.offset + length text = ap (λ p. p.offset) at in
     let within : old.at.offset + length text ≤ length bytes = front-within bytes text (drop (old.at.offset + length text) bytes) old.at.offset placed.within here in
@@ -60,14 +60,17 @@ placed-right old new text placed free here at same =
           ∙ ap (place_at bytes) (sym offset) ∙ ap (λ l. place_at l new.at.offset) (sym same);
       within = omega (arith, offset, within, ap length same);
       small = omega (arith, placed.small, ap length same);
+      few = omega (arith, offset, few);
+      read = read;
     }
 
 -- a step over a part with no line feed in it
 pub goes-right : {A : Type 0} (old new : Reader A) (part : Part) → IsPlaced old → IsPart part → list_all is_comment_byte (spelling part) ≡ true
     → drop old.at.offset old.text.now ≡ spelling part ++ drop (old.at.offset + length (spelling part)) old.text.now → EndsBefore part (drop (old.at.offset + length (spelling part)) old.text.now)
-    → Moves (open_lists old) old.at.offset part (open_lists new) → read_marks new ≡ read_marks old ++ told old.text.now old.at.offset (part ∷ [])
+    → Moves (open_lists old) old.at.offset part (open_lists new) → ((seen : List Mark) → IsRead old seen → IsRead new (seen ++ told old.text.now old.at.offset (part ∷ [])))
+    → length new.nodes.items ≤ old.at.offset + length (spelling part)
     → place_of new.at ≡ to_right (place_of old.at) (length (spelling part)) → new.text.now ≡ old.text.now → GoesOver old new part
-goes-right old new part placed is free here ends moves marks at same =
+goes-right old new part placed is free here ends moves marks few at same =
     let offset : new.at.offset ≡ old.at.offset + length (spelling part) = ap (λ p. p.offset) at in
     record {
       is = is;
@@ -76,7 +79,7 @@ goes-right old new part placed is free here ends moves marks at same =
       moves = moves;
       told_more = marks;
       same = same;
-      placed = placed-right old new (spelling part) placed free here at same;
+      placed = placed-right old new (spelling part) placed free here at same few (placed.read.0 ++ told old.text.now old.at.offset (part ∷ []), marks placed.read.0 placed.read.1);
     }
 
 -- what stands at an offset, and behind it

@@ -1,29 +1,17 @@
--- The lists in trees, expressions and statements.
+-- The lists in expressions and statements.
 use Rattle.std.proofs.Common.{◌≡◌, ℕ, Vec, refl, ap, ◌∙◌}
-use Rattle.cil_specs.specs.Trees.{Trees, a_list}
 use Rattle.cil_specs.specs.Expr.{elements}
 use Rattle.cil_specs.specs.Statements.{block, optional, Statements, statement}
-use Rattle.cil_text.specs.Image.{place_of, tree_then, row_trees, trees_of, expr_of, row_expr, word_of, statement_then, row_statements, statements_of}
+use Rattle.cil_text.specs.Image.{place_of, expr_of, row_expr, word_of, statement_then, row_statements, statements_of}
 use Rattle.cil_text.specs.Expr.{exprs_of}
 use Rattle.cil_text.specs.declared.place.Place.{Place}
 use Rattle.cil_text.specs.declared.word.Word.{Word}
-use Rattle.cil_text.specs.declared.tree.Tree.{Tree, Row_of-Tree, end_of-Tree, more_of-Tree}
-use Rattle.cil_text.specs.declared.tree.Tree.TheVariants.{List as list}
-use Rattle.cil_text.specs.declared.tree.Tree.TheBlock.{items-the_row-Tree, hidden-the_row-Tree-0, items_hidden-the_row-Tree-0}
 use Rattle.cil_text.specs.declared.statement.Expr.{Expr, Row_of-Expr, end_of-Expr, more_of-Expr}
 use Rattle.cil_text.specs.declared.statement.Expr.TheVariants.{Union}
 use Rattle.cil_text.specs.declared.statement.Expr.TheBlock.{items-the_row-Expr, hidden-the_row-Expr-0, items_hidden-the_row-Expr-0}
 use Rattle.cil_text.specs.declared.statement.Statement.{Statement, Row_of-Statement, end_of-Statement, more_of-Statement}
 use Rattle.cil_text.specs.declared.statement.Statement.TheVariants.{Block, Optional}
 use Rattle.cil_text.specs.declared.statement.Statement.TheBlock.{items-the_row-Statement, hidden-the_row-Statement-0, items_hidden-the_row-Statement-0}
-
-row-trees : {A : Type 0} {n : _} → (k : Row_of-Tree A n) → row_trees k ≡ trees_of (items-the_row-Tree A n k)
-row-trees end_of-Tree = refl
-row-trees (more_of-Tree t rest) = ap (tree_then t) (row-trees rest)
-
--- a list is its place and end and its trees
-pub list_then : {A : Type 0} → (at : Place) (end : ℕ) (v : Vec (Tree A) A) (rest : Trees) → tree_then (list at end v) rest ≡ a_list (place_of at) end (trees_of v.items) rest
-list_then {A} at end v rest = ap (λ items. a_list (place_of at) end items rest) (row-trees (hidden-the_row-Tree-0 A v) ∙ ap trees_of (items_hidden-the_row-Tree-0 A v))
 
 row-exprs : {A : Type 0} {n : _} → (k : Row_of-Expr A n) → row_expr k ≡ exprs_of (items-the_row-Expr A n k)
 row-exprs end_of-Expr = refl

@@ -1,5 +1,5 @@
 -- Statements one after the other, and the first fault among them.
-use Rattle.std.proofs.Common.{◌≡◌, ℕ, ◌+◌, ◌-◌, inl, inr, Bool, ◌||◌, List, [], ◌∷◌, ◌++◌, Vec, refl, sym, ◌∙◌, ap, subst, IsTrue, arith}
+use Rattle.std.proofs.Common.{◌≡◌, ℕ, ◌+◌, ◌-◌, ◌≤◌, inl, inr, Bool, ◌||◌, List, [], ◌∷◌, ◌++◌, Vec, refl, sym, ◌∙◌, ap, subst, IsTrue, arith}
 use Rattle.std.proofs.lemmas.Bool.{true≢false}
 use Rattle.cil_specs.specs.Place.{Place}
 use Rattle.cil_specs.specs.TextFault.{TextFault, IsNoLater}
@@ -15,10 +15,11 @@ use Rattle.cil_text.specs.Image.{tree_then, statement_then, statements_of}
 use Rattle.cil_text.specs.Form.{form_of, body_of, HasBody}
 use Rattle.cil_text.specs.Walk.{IsHeading, IsStatement, IsFaultOf, IsFirstOf, IsFirstAmong}
 use Rattle.cil_text.specs.declared.place.Place as code_place
-use Rattle.cil_text.specs.declared.tree.Tree.{Tree, Tree-F, out-Tree, roll-Tree, roll-out-Tree}
-use Rattle.cil_text.specs.declared.tree.Tree.TheOpen as opened
-use Rattle.cil_text.specs.declared.tree.Tree.TheVariants.{List as list, rolls-Word, rolls-String, rolls-List}
+use Rattle.cil_text.specs.declared.tree.Tree.{Tree}
+use Rattle.cil_text.specs.declared.tree.Tree.TheVariants.{Word, String, List as Listed}
+use Rattle.cil_text.specs.declared.tree.TreeSlice.{TreeSlice}
 use Rattle.cil_text.specs.declared.statement.Statement.{Statement}
+use Rattle.cil_text.proofs.Nodes.{tree_size}
 
 -- only blocks and optionals have inner statements
 body-is : (form : Form) (operands inner : Trees) (inside : Bool) (body : Statements) → OperandsFit operands form inner → Shapes inside inner body → body_of form body ≡ body
@@ -130,10 +131,19 @@ found_fault inside all at end parts rest found fault so_far is = record {
     by low high order other (inr (inr h)) = inl (omega (arith, (list_within inside at end parts rest low high fault order is.is).1, (fault_within rest inside end high other (order_list low at end parts rest high order).3 h).0))
 
 -- a tree among lists is one
-pub no_other : {A : Type 0} → (tree : Tree A) (rest : Trees) → ((at : code_place.Place) (end : ℕ) (v : Vec (Tree A) A) → tree ≡ list at end v → ⊥) → IsTrue (are_lists (tree_then tree rest)) → ⊥
-no_other {A} tree rest not_list lists = by (out-Tree A tree) (sym (roll-out-Tree A tree))
+pub no_other : (tree : Tree) (rest : Trees) → ((at : code_place.Place) (end : ℕ) (items : TreeSlice) → tree ≡ Listed at end items → ⊥) → IsTrue (are_lists (tree_then tree rest)) → ⊥
+no_other (Word w) rest not_list lists = true≢false (sym lists)
+no_other (String w) rest not_list lists = true≢false (sym lists)
+no_other (Listed at end items) rest not_list lists = not_list at end items refl
+
+-- what stands inside is no more than all
+pub fits_size : (form : Form) (parts inner : Trees) → Fits parts form inner → tree_size inner ≤ tree_size parts
+fits_size form parts inner fits =
+    let b = fits_begin parts form inner fits in
+    let all : tree_size parts ≡ tree_size b.1 + 1 = ap tree_size b.2 in
+    omega (arith, all, by form b.1 b.3)
   where
-    by : (o : Tree-F A (Tree A)) → tree ≡ roll-Tree A o → ⊥
-    by (opened.Word w) is = true≢false (sym lists ∙ ap (λ tree. are_lists (tree_then tree rest)) (is ∙ rolls-Word w))
-    by (opened.String w) is = true≢false (sym lists ∙ ap (λ tree. are_lists (tree_then tree rest)) (is ∙ rolls-String w))
-    by (opened.List at end v) is = not_list at end v (is ∙ rolls-List at end v)
+    by : (form : Form) (operands : Trees) → OperandsFit operands form inner → tree_size inner ≤ tree_size operands
+    by (spec.block id) operands h = let e : tree_size operands ≡ tree_size inner + 1 = ap tree_size h.0 in omega (arith, e)
+    by (spec.optional id) operands h = let e : tree_size operands ≡ tree_size inner + 1 = ap tree_size h.0 in omega (arith, e)
+    by _ operands h = let e : tree_size inner ≡ 0 = ap tree_size h.1 in omega (arith, e)

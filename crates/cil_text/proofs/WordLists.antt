@@ -1,15 +1,15 @@
 -- Words one after the other.
-use Rattle.std.proofs.Common.{◌≡◌, ◌≢◌, List, [], ◌∷◌, ◌++◌, ◌&&◌, map, refl, sym, ◌∙◌, ap}
-use Rattle.std.specs.List.{list_all}
+use Rattle.std.proofs.Common.{◌≡◌, ◌≢◌, List, [], ◌∷◌, ◌++◌, map, refl, sym, ◌∙◌, ap}
 use Rattle.std.proofs.lemmas.List.{map-append}
 use Rattle.cil_specs.specs.Names as spec
-use Rattle.cil_specs.specs.Trees.{Trees, none, are_lists}
+use Rattle.cil_specs.specs.Trees.{Trees, none}
 use Rattle.cil_specs.specs.Shape.{put_word, all_words}
-use Rattle.cil_text.specs.Image.{word_of, tree_then, trees_of}
+use Rattle.cil_text.specs.Image.{word_of, tree_then}
 use Rattle.cil_text.specs.declared.word.Word.{Word}
-use Rattle.cil_text.specs.declared.tree.Tree.{Tree, String, List'}
-use Rattle.cil_text.specs.declared.tree.Tree as declared
+use Rattle.cil_text.specs.declared.tree.Tree.{Tree}
 use Rattle.cil_text.specs.declared.tree.Tree.TheVariants as trees
+use Rattle.cil_text.specs.declared.tree.TreeSlice.{TreeSlice}
+use Rattle.cil_text.specs.declared.place.Place.{Place}
 
 -- the words, and then the rest
 abbrev pub words_then : List spec.Word → Trees → Trees
@@ -28,7 +28,7 @@ words_then-none : (ws : List spec.Word) → words_then ws none ≡ all_words ws
 words_then-none [] = refl
 words_then-none (w ∷ ws) = ap (put_word w) (words_then-none ws)
 
-pub words_next : {A : Type 0} → (all rest : Trees) (found : List Word) (tree : Tree A) (w : Word) → tree ≡ trees.Word w → AreSoFar all (tree_then tree rest) found → AreSoFar all rest (found ++ w ∷ [])
+pub words_next : (all rest : Trees) (found : List Word) (tree : Tree) (w : Word) → tree ≡ trees.Word w → AreSoFar all (tree_then tree rest) found → AreSoFar all rest (found ++ w ∷ [])
 words_next all rest found tree w is so_far = record {
   front =
       so_far.front ∙ ap (λ tree. words_then (map word_of found) (tree_then tree rest)) is
@@ -48,19 +48,9 @@ pub words_none : (all rest : Trees) (found : List Word) → AreSoFar all rest fo
 words_none all rest found so_far other vs h = no_words (map word_of found) rest other vs (sym so_far.front ∙ h)
 
 -- a tree that is no word is none of words
-pub not_words : {A : Type 0} → (tree : Tree A) (rest : Trees) → ((w : Word) → tree ≡ trees.Word w → ⊥) → (vs : List spec.Word) → tree_then tree rest ≢ all_words vs
-not_words (declared.Word w) rest other vs h = other w refl
-not_words (String w) rest other [] h = absurd cc
-not_words (String w) rest other (v ∷ vs) h = absurd cc
-not_words (List' at end shape items) rest other [] h = absurd cc
-not_words (List' at end shape items) rest other (v ∷ vs) h = absurd cc
-
-lists-more : {A : Type 0} → (t : Tree A) (rest : Trees) → are_lists (tree_then t rest) ≡ (are_lists (tree_then t none) && are_lists rest)
-lists-more (declared.Word w) rest = refl
-lists-more (String w) rest = refl
-lists-more (List' at end shape items) rest = refl
-
--- each tree is a list
-pub all_lists : {A : Type 0} → (ts : List (Tree A)) → list_all (λ t. are_lists (tree_then t none)) ts ≡ are_lists (trees_of ts)
-all_lists [] = refl
-all_lists (t ∷ ts) = ap (λ b. are_lists (tree_then t none) && b) (all_lists ts) ∙ sym (lists-more t (trees_of ts))
+pub not_words : (tree : Tree) (rest : Trees) → ((w : Word) → tree ≡ trees.Word w → ⊥) → (vs : List spec.Word) → tree_then tree rest ≢ all_words vs
+not_words (trees.Word w) rest other vs h = other w refl
+not_words (trees.String w) rest other [] h = absurd cc
+not_words (trees.String w) rest other (v ∷ vs) h = absurd cc
+not_words (trees.List at end items) rest other [] h = absurd cc
+not_words (trees.List at end items) rest other (v ∷ vs) h = absurd cc

@@ -1,5 +1,5 @@
 -- The values of the definitions that those of the code stand for.
-use Rattle.std.specs.Prelude.{ℕ, List, [], ◌∷◌, map}
+use Rattle.std.specs.Prelude.{ℕ, zero, suc, List, [], ◌∷◌, length, take, drop, map}
 use Rattle.cil_specs.specs.Bytes.{hex}
 use Rattle.cil_specs.specs.Place as spec
 use Rattle.cil_specs.specs.Names as spec_names
@@ -12,8 +12,11 @@ use Rattle.cil_specs.specs.Statements as spec_statements
 use Rattle.cil_specs.specs.Statements.{allow, auditallow, dontaudit, neverallow, itself, the_named, block, optional, type_name, type_alias, alias_actual, type_attribute, attribute_set, common, class, class_common, class_order, rule, Statements, no_more, statement}
 use Rattle.cil_text.specs.declared.place.Place.{Place}
 use Rattle.cil_text.specs.declared.word.Word.{Word}
-use Rattle.cil_text.specs.declared.tree.Tree as trees
-use Rattle.cil_text.specs.declared.tree.Tree.{Tree, String, List', Row_of-Tree, end_of-Tree, more_of-Tree}
+use Rattle.cil_text.specs.declared.node.Node.{Node}
+use Rattle.cil_text.specs.declared.node.Node.TheVariants as nodes
+use Rattle.cil_text.specs.declared.tree.Tree.{Tree}
+use Rattle.cil_text.specs.declared.tree.Tree.TheVariants as trees
+use Rattle.cil_text.specs.declared.tree.TreeSlice.{TreeSlice}
 use Rattle.cil_text.specs.declared.fault.TextFaultKind.{TextFaultKind}
 use Rattle.cil_text.specs.declared.fault.TextFaultKind.TheVariants.{BadByte, Unbalanced, Unclosed, UnclosedString, TooDeep, BareWord, Unsupported, Misshapen, BadName, Reserved, NotInOptional}
 use Rattle.cil_text.specs.declared.fault.ShownWord.{ShownWord}
@@ -33,20 +36,27 @@ place_of p = record { offset = p.offset; line = p.line; column = p.column }
 abbrev pub word_of : Word → spec_names.Word
 word_of w = record { at = place_of w.at; text = w.text.now }
 
-abbrev mutual
-  -- the tree, and then the rest
-  pub tree_then : {A : Type 0} → Tree A → Trees → Trees
-  tree_then (trees.Word w) rest = a_word (place_of w.at) w.text.now rest
-  tree_then (String w) rest = a_string (place_of w.at) w.text.now rest
-  tree_then (List' at end shape items) rest = a_list (place_of at) end (row_trees items) rest
+-- The trees that nodes stand for, of the first so many of them. The trees of a list are as many nodes behind it as it says, or
+-- all where there are fewer.
+abbrev pub trees_upto : List ℕ → ℕ → List Node → Trees
+trees_upto text zero nodes = none
+trees_upto text (suc n) [] = none
+trees_upto text (suc n) (nodes.Word at len ∷ behind) = a_word (place_of at) (take len (drop at.offset text)) (trees_upto text n behind)
+trees_upto text (suc n) (nodes.String at len ∷ behind) = a_string (place_of at) (take len (drop at.offset text)) (trees_upto text n behind)
+trees_upto text (suc n) (nodes.List at end inner ∷ behind) = a_list (place_of at) end (trees_upto text n (take inner behind)) (trees_upto text n (drop inner behind))
 
-  pub row_trees : {A : Type 0} {n : _} → Row_of-Tree A n → Trees
-  row_trees end_of-Tree = none
-  row_trees (more_of-Tree t rest) = tree_then t (row_trees rest)
+-- the trees of a text that nodes stand for
+abbrev pub trees_in : List ℕ → List Node → Trees
+trees_in text nodes = trees_upto text (length nodes) nodes
 
-abbrev pub trees_of : {A : Type 0} → List (Tree A) → Trees
-trees_of [] = none
-trees_of (t ∷ ts) = tree_then t (trees_of ts)
+abbrev pub trees_of : TreeSlice → Trees
+trees_of s = trees_in s.text.now s.nodes.now
+
+-- the tree, and then the rest
+abbrev pub tree_then : Tree → Trees → Trees
+tree_then (trees.Word w) rest = a_word (place_of w.at) w.text.now rest
+tree_then (trees.String w) rest = a_string (place_of w.at) w.text.now rest
+tree_then (trees.List at end items) rest = a_list (place_of at) end (trees_of items) rest
 
 abbrev pub kind_of : TextFaultKind → spec_faults.TextFaultKind
 kind_of BadByte = bad_byte

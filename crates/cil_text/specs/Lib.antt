@@ -1,5 +1,7 @@
 pub mod Device
 pub mod Image
+pub mod Tree
+pub mod Forest
 pub mod Reader
 pub mod Name
 pub mod Keyword

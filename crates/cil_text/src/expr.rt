@@ -1,15 +1,15 @@
 //! Recognising set expressions.
 
-ghost use Rattle.std.specs.Prelude.{◌≡◌, ℕ, drop, IfOk, IfSome, MatchOption};
+ghost use Rattle.std.specs.Prelude.{◌≡◌, ℕ, IfOk, MatchOption};
 ghost use Rattle.cil_specs.specs.Place.{Place as SpecPlace};
 ghost use Rattle.cil_specs.specs.Trees.{a_list};
 ghost use Rattle.cil_specs.specs.Expr.{HasNoOperator};
 ghost use Rattle.cil_text.specs.Image.{trees_of, tree_then};
 ghost use Rattle.cil_text.specs.Expr.{operator_word, SpellsExpr, SpellsElements, SpellsOperation, SpellsOne, SpellsTwo, BeginsOperation};
 
-use crate::split::split_word;
+use crate::split::{only_tree, split_word};
 use crate::statement::Expr;
-use crate::tree::Tree;
+use crate::tree::{Tree, TreeSlice};
 use crate::words::look_up;
 use std::alloc::{AllocError, Allocator};
 
@@ -51,16 +51,16 @@ impl Operator {
 #[cycle(expression)]
 pub fn expression<'a, A: Allocator + Copy>(
     alloc: A,
-    tree: &Tree<'a, A>,
+    tree: Tree<'_, 'a>,
 ) -> Result<Option<Expr<'a, A>>, AllocError>
-    ensures { IfOk result (SpellsExpr (tree_then tree.now)) }
+    ensures { IfOk result (SpellsExpr (tree_then tree.entry)) }
 {
     match tree {
         Tree::Word(word) => {
             if word.text == b"all".as_slice() {
                 Ok(Some(Expr::All))
             } else {
-                Ok(Some(Expr::Name(*word)))
+                Ok(Some(Expr::Name(word)))
             }
         }
         Tree::String(_) => Ok(None),
@@ -69,12 +69,9 @@ pub fn expression<'a, A: Allocator + Copy>(
 }
 
 /// The operator that stands first in a list, and its operands.
-fn split_operator<'t, 'a, A: Allocator + Copy>(
-    items: &'t [Tree<'a, A>],
-) -> Option<(Operator, &'t [Tree<'a, A>])>
-    ensures operation { MatchOption result (HasNoOperator (trees_of items.now))
-        (λ found. BeginsOperation (trees_of items.now) found.0 (trees_of found.1.now)) }
-    ensures rest { IfSome result (λ found. found.1.now ≡ drop 1 items.now) }
+fn split_operator<'t, 'a>(items: TreeSlice<'t, 'a>) -> Option<(Operator, TreeSlice<'t, 'a>)>
+    ensures { MatchOption result (HasNoOperator (trees_of items.entry))
+        (λ found. BeginsOperation (trees_of items.entry) found.0 (trees_of found.1)) }
 {
     let (word, operands) = split_word(items)?;
     Some((Operator::find(word.text)?, operands))
@@ -84,10 +81,10 @@ fn split_operator<'t, 'a, A: Allocator + Copy>(
 #[cycle(expression)]
 fn list_expression<'a, A: Allocator + Copy>(
     alloc: A,
-    items: &[Tree<'a, A>],
+    items: TreeSlice<'_, 'a>,
 ) -> Result<Option<Expr<'a, A>>, AllocError>
     ensures { IfOk result (λ found. (at : SpecPlace) (end : ℕ)
-        → SpellsExpr (a_list at end (trees_of items.now)) found) }
+        → SpellsExpr (a_list at end (trees_of items.entry)) found) }
 {
     if let Some((operator, operands)) = split_operator(items) {
         return operation(alloc, operator, operands);
@@ -102,16 +99,18 @@ fn list_expression<'a, A: Allocator + Copy>(
 #[cycle(expression)]
 fn elements<'a, A: Allocator + Copy>(
     alloc: A,
-    trees: &[Tree<'a, A>],
+    trees: TreeSlice<'_, 'a>,
 ) -> Result<Option<Vec<Expr<'a, A>, A>>, AllocError>
-    ensures { IfOk result (SpellsElements (trees_of trees.now)) }
+    ensures { IfOk result (SpellsElements (trees_of trees.entry)) }
 {
     let mut elements = Vec::with_capacity(alloc, trees.len())?;
-    for tree in trees {
+    let mut rest = trees;
+    while let Some((tree, behind)) = rest.split_first() {
         match expression(alloc, tree)? {
             Some(element) => elements.push(element)?,
             None => return Ok(None),
         }
+        rest = behind;
     }
     Ok(Some(elements))
 }
@@ -121,9 +120,9 @@ fn elements<'a, A: Allocator + Copy>(
 fn operation<'a, A: Allocator + Copy>(
     alloc: A,
     operator: Operator,
-    operands: &[Tree<'a, A>],
+    operands: TreeSlice<'_, 'a>,
 ) -> Result<Option<Expr<'a, A>>, AllocError>
-    ensures { IfOk result (SpellsOperation (operator_word operator) (trees_of operands.now)) }
+    ensures { IfOk result (SpellsOperation (operator_word operator) (trees_of operands.entry)) }
 {
     match operator {
         Operator::All => Ok(operands.is_empty().then_some(Expr::All)),
@@ -149,11 +148,11 @@ fn operation<'a, A: Allocator + Copy>(
 #[cycle(expression)]
 fn one_operand<'a, A: Allocator + Copy>(
     alloc: A,
-    operands: &[Tree<'a, A>],
+    operands: TreeSlice<'_, 'a>,
 ) -> Result<Option<Box<Expr<'a, A>, A>>, AllocError>
-    ensures { IfOk result (SpellsOne (trees_of operands.now)) }
+    ensures { IfOk result (SpellsOne (trees_of operands.entry)) }
 {
-    let [x] = operands else {
+    let Some(x) = only_tree(operands) else {
         return Ok(None);
     };
     match expression(alloc, x)? {
@@ -165,11 +164,14 @@ fn one_operand<'a, A: Allocator + Copy>(
 #[cycle(expression)]
 fn two_operands<'a, A: Allocator + Copy>(
     alloc: A,
-    operands: &[Tree<'a, A>],
+    operands: TreeSlice<'_, 'a>,
 ) -> Result<Option<(Box<Expr<'a, A>, A>, Box<Expr<'a, A>, A>)>, AllocError>
-    ensures { IfOk result (SpellsTwo (trees_of operands.now)) }
+    ensures { IfOk result (SpellsTwo (trees_of operands.entry)) }
 {
-    let [x, y] = operands else {
+    let Some((x, rest)) = operands.split_first() else {
+        return Ok(None);
+    };
+    let Some(y) = only_tree(rest) else {
         return Ok(None);
     };
     let Some(x) = expression(alloc, x)? else {

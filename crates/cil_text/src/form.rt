@@ -10,18 +10,20 @@ ghost use Rattle.cil_text.specs.Form.{FitsAs, IsWithoutUnordered, AreClasses, Ar
 use crate::expr::expression;
 use crate::keyword::Keyword;
 use crate::place::Place;
-use crate::split::{are_lists, only_list, only_word, split_word, two_words, word_and_list, words};
+use crate::split::{
+    are_lists, only_list, only_tree, only_word, split_word, two_words, word_and_list, words,
+};
 use crate::statement::{Expr, RuleKind, Statement, Target};
-use crate::tree::Tree;
+use crate::tree::TreeSlice;
 use crate::word::Word;
 use std::alloc::{AllocError, Allocator};
 
 fn block<'a, A: Allocator + Copy>(
     alloc: A,
     at: Place,
-    operands: &[Tree<'a, A>],
+    operands: TreeSlice<'_, 'a>,
 ) -> Option<Statement<'a, A>>
-    ensures { FitsAs (place_of at) Keyword.Block (trees_of operands.now) result }
+    ensures { FitsAs (place_of at) Keyword.Block (trees_of operands.entry) result }
 {
     let (id, inner) = split_word(operands)?;
     if !are_lists(inner) {
@@ -37,9 +39,9 @@ fn block<'a, A: Allocator + Copy>(
 fn optional<'a, A: Allocator + Copy>(
     alloc: A,
     at: Place,
-    operands: &[Tree<'a, A>],
+    operands: TreeSlice<'_, 'a>,
 ) -> Option<Statement<'a, A>>
-    ensures { FitsAs (place_of at) Keyword.Optional (trees_of operands.now) result }
+    ensures { FitsAs (place_of at) Keyword.Optional (trees_of operands.entry) result }
 {
     let (id, inner) = split_word(operands)?;
     if !are_lists(inner) {
@@ -52,15 +54,15 @@ fn optional<'a, A: Allocator + Copy>(
     })
 }
 
-fn type_name<'a, A: Allocator>(at: Place, operands: &[Tree<'a, A>]) -> Option<Statement<'a, A>>
-    ensures { FitsAs (place_of at) Keyword.TypeName (trees_of operands.now) result }
+fn type_name<'a, A: Allocator>(at: Place, operands: TreeSlice<'_, 'a>) -> Option<Statement<'a, A>>
+    ensures { FitsAs (place_of at) Keyword.TypeName (trees_of operands.entry) result }
 {
     let id = only_word(operands)?;
     Some(Statement::TypeName { at, id })
 }
 
-fn type_alias<'a, A: Allocator>(at: Place, operands: &[Tree<'a, A>]) -> Option<Statement<'a, A>>
-    ensures { FitsAs (place_of at) Keyword.TypeAlias (trees_of operands.now) result }
+fn type_alias<'a, A: Allocator>(at: Place, operands: TreeSlice<'_, 'a>) -> Option<Statement<'a, A>>
+    ensures { FitsAs (place_of at) Keyword.TypeAlias (trees_of operands.entry) result }
 {
     let id = only_word(operands)?;
     Some(Statement::TypeAlias { at, id })
@@ -68,16 +70,16 @@ fn type_alias<'a, A: Allocator>(at: Place, operands: &[Tree<'a, A>]) -> Option<S
 
 fn type_alias_actual<'a, A: Allocator>(
     at: Place,
-    operands: &[Tree<'a, A>],
+    operands: TreeSlice<'_, 'a>,
 ) -> Option<Statement<'a, A>>
-    ensures { FitsAs (place_of at) Keyword.TypeAliasActual (trees_of operands.now) result }
+    ensures { FitsAs (place_of at) Keyword.TypeAliasActual (trees_of operands.entry) result }
 {
     let (alias, actual) = two_words(operands)?;
     Some(Statement::TypeAliasActual { at, alias, actual })
 }
 
-fn type_attribute<'a, A: Allocator>(at: Place, operands: &[Tree<'a, A>]) -> Option<Statement<'a, A>>
-    ensures { FitsAs (place_of at) Keyword.TypeAttribute (trees_of operands.now) result }
+fn type_attribute<'a, A: Allocator>(at: Place, operands: TreeSlice<'_, 'a>) -> Option<Statement<'a, A>>
+    ensures { FitsAs (place_of at) Keyword.TypeAttribute (trees_of operands.entry) result }
 {
     let id = only_word(operands)?;
     Some(Statement::TypeAttribute { at, id })
@@ -86,14 +88,14 @@ fn type_attribute<'a, A: Allocator>(at: Place, operands: &[Tree<'a, A>]) -> Opti
 /// An attribute and a set expression.
 fn attribute_and_set<'a, A: Allocator + Copy>(
     alloc: A,
-    operands: &[Tree<'a, A>],
+    operands: TreeSlice<'_, 'a>,
 ) -> Result<Option<(Word<'a>, Expr<'a, A>)>, AllocError>
-    ensures { IfOk result (IsAttributeAndSet (trees_of operands.now)) }
+    ensures { IfOk result (IsAttributeAndSet (trees_of operands.entry)) }
 {
     let Some((attribute, rest)) = split_word(operands) else {
         return Ok(None);
     };
-    let [set] = rest else {
+    let Some(set) = only_tree(rest) else {
         return Ok(None);
     };
     match expression(alloc, set)? {
@@ -105,9 +107,9 @@ fn attribute_and_set<'a, A: Allocator + Copy>(
 fn type_attribute_set<'a, A: Allocator + Copy>(
     alloc: A,
     at: Place,
-    operands: &[Tree<'a, A>],
+    operands: TreeSlice<'_, 'a>,
 ) -> Result<Option<Statement<'a, A>>, AllocError>
-    ensures { IfOk result (FitsAs (place_of at) Keyword.TypeAttributeSet (trees_of operands.now)) }
+    ensures { IfOk result (FitsAs (place_of at) Keyword.TypeAttributeSet (trees_of operands.entry)) }
 {
     match attribute_and_set(alloc, operands)? {
         Some((attribute, expr)) => Ok(Some(Statement::TypeAttributeSet {
@@ -122,9 +124,9 @@ fn type_attribute_set<'a, A: Allocator + Copy>(
 fn common<'a, A: Allocator + Copy>(
     alloc: A,
     at: Place,
-    operands: &[Tree<'a, A>],
+    operands: TreeSlice<'_, 'a>,
 ) -> Result<Option<Statement<'a, A>>, AllocError>
-    ensures { IfOk result (FitsAs (place_of at) Keyword.Common (trees_of operands.now)) }
+    ensures { IfOk result (FitsAs (place_of at) Keyword.Common (trees_of operands.entry)) }
 {
     match word_and_list(alloc, operands)? {
         Some((id, permissions)) => Ok(Some(Statement::Common {
@@ -139,9 +141,9 @@ fn common<'a, A: Allocator + Copy>(
 fn class<'a, A: Allocator + Copy>(
     alloc: A,
     at: Place,
-    operands: &[Tree<'a, A>],
+    operands: TreeSlice<'_, 'a>,
 ) -> Result<Option<Statement<'a, A>>, AllocError>
-    ensures { IfOk result (FitsAs (place_of at) Keyword.Class (trees_of operands.now)) }
+    ensures { IfOk result (FitsAs (place_of at) Keyword.Class (trees_of operands.entry)) }
 {
     match word_and_list(alloc, operands)? {
         Some((id, permissions)) => Ok(Some(Statement::Class {
@@ -153,16 +155,16 @@ fn class<'a, A: Allocator + Copy>(
     }
 }
 
-fn class_common<'a, A: Allocator>(at: Place, operands: &[Tree<'a, A>]) -> Option<Statement<'a, A>>
-    ensures { FitsAs (place_of at) Keyword.ClassCommon (trees_of operands.now) result }
+fn class_common<'a, A: Allocator>(at: Place, operands: TreeSlice<'_, 'a>) -> Option<Statement<'a, A>>
+    ensures { FitsAs (place_of at) Keyword.ClassCommon (trees_of operands.entry) result }
 {
     let (class, common) = two_words(operands)?;
     Some(Statement::ClassCommon { at, class, common })
 }
 
 /// The trees behind the keyword `unordered`, or all of them where another tree stands first.
-fn without_unordered<'t, 'a, A: Allocator>(trees: &'t [Tree<'a, A>]) -> &'t [Tree<'a, A>]
-    ensures { IsWithoutUnordered (trees_of trees.now) (trees_of result.now) }
+fn without_unordered<'t, 'a>(trees: TreeSlice<'t, 'a>) -> TreeSlice<'t, 'a>
+    ensures { IsWithoutUnordered (trees_of trees.entry) (trees_of result) }
 {
     let Some((first, rest)) = split_word(trees) else {
         return trees;
@@ -176,9 +178,9 @@ fn without_unordered<'t, 'a, A: Allocator>(trees: &'t [Tree<'a, A>]) -> &'t [Tre
 /// The classes of a list, with or without the keyword `unordered` in front.
 fn class_list<'a, A: Allocator + Copy>(
     alloc: A,
-    operands: &[Tree<'a, A>],
+    operands: TreeSlice<'_, 'a>,
 ) -> Result<Option<Vec<Word<'a>, A>>, AllocError>
-    ensures { IfOk result (AreClasses (trees_of operands.now)) }
+    ensures { IfOk result (AreClasses (trees_of operands.entry)) }
 {
     match only_list(operands) {
         Some(items) => words(alloc, without_unordered(items)),
@@ -189,9 +191,9 @@ fn class_list<'a, A: Allocator + Copy>(
 fn class_order<'a, A: Allocator + Copy>(
     alloc: A,
     at: Place,
-    operands: &[Tree<'a, A>],
+    operands: TreeSlice<'_, 'a>,
 ) -> Result<Option<Statement<'a, A>>, AllocError>
-    ensures { IfOk result (FitsAs (place_of at) Keyword.ClassOrder (trees_of operands.now)) }
+    ensures { IfOk result (FitsAs (place_of at) Keyword.ClassOrder (trees_of operands.entry)) }
 {
     match class_list(alloc, operands)? {
         Some(classes) => Ok(Some(Statement::ClassOrder { at, classes })),
@@ -214,9 +216,9 @@ fn target_at(word: Word) -> Target
 /// The class and the permissions of a rule.
 fn class_and_permissions<'a, A: Allocator + Copy>(
     alloc: A,
-    trees: &[Tree<'a, A>],
+    trees: TreeSlice<'_, 'a>,
 ) -> Result<Option<(Word<'a>, Vec<Word<'a>, A>)>, AllocError>
-    ensures { IfOk result (AreClassAndPermissions (trees_of trees.now)) }
+    ensures { IfOk result (AreClassAndPermissions (trees_of trees.entry)) }
 {
     match only_list(trees) {
         Some(items) => word_and_list(alloc, items),
@@ -228,9 +230,9 @@ fn rule<'a, A: Allocator + Copy>(
     alloc: A,
     at: Place,
     kind: RuleKind,
-    operands: &[Tree<'a, A>],
+    operands: TreeSlice<'_, 'a>,
 ) -> Result<Option<Statement<'a, A>>, AllocError>
-    ensures { IfOk result (FitsAs (place_of at) (Keyword.Rule kind) (trees_of operands.now)) }
+    ensures { IfOk result (FitsAs (place_of at) (Keyword.Rule kind) (trees_of operands.entry)) }
 {
     let Some((source, rest)) = split_word(operands) else {
         return Ok(None);
@@ -256,9 +258,9 @@ pub fn fit<'a, A: Allocator + Copy>(
     alloc: A,
     at: Place,
     keyword: Keyword,
-    operands: &[Tree<'a, A>],
+    operands: TreeSlice<'_, 'a>,
 ) -> Result<Option<Statement<'a, A>>, AllocError>
-    ensures { IfOk result (FitsAs (place_of at) keyword (trees_of operands.now)) }
+    ensures { IfOk result (FitsAs (place_of at) keyword (trees_of operands.entry)) }
 {
     match keyword {
         Keyword::Block => Ok(block(alloc, at, operands)),

@@ -6,11 +6,9 @@ ghost use Rattle.cil_specs.specs.Bytes.{is_white as white_byte, is_word_byte as 
 
 use crate::fault::{ShownWord, TextFault, TextFaultKind};
 use crate::forest::Forest;
+use crate::node::Node;
 use crate::place::Place;
-use crate::tree::Tree;
-use crate::word::Word;
 use std::alloc::{AllocError, Allocator};
-use std::mem;
 
 /// The greatest number of lists within one another.
 const GREATEST_DEPTH: usize = 256;
@@ -76,20 +74,20 @@ fn closed_len(inside: &[u8]) -> Option<usize>
     }
 }
 
-/// A list that is open, with the trees that stand before it in the list around it.
-#[derive(Drop)]
-struct Open<'a, A: Allocator> {
+/// A list that is open, and which of the nodes it is.
+#[derive(Clone, Copy)]
+struct Open {
     at: Place,
-    before: Vec<Tree<'a, A>, A>,
+    node: usize,
 }
 
-/// What was read of a text so far. The trees of the innermost open list stand apart from those around it.
+/// What was read of a text so far. The nodes of open lists don't tell their ends yet.
 #[derive(Drop)]
 struct Reader<'a, A: Allocator> {
     text: &'a [u8],
     at: Place,
-    outer: Vec<Open<'a, A>, A>,
-    current: Vec<Tree<'a, A>, A>,
+    outer: Vec<Open, A>,
+    nodes: Vec<Node, A>,
 }
 
 ghost use Rattle.cil_specs.proofs.PlaceLemmas.{to_right as moved_right, next_line as moved_down};
@@ -186,7 +184,10 @@ impl<'a, A: Allocator + Copy> Reader<'a, A> {
         if self.outer.is_empty() {
             return Err(self.fault(TextFaultKind::BareWord, ShownWord::Text(text)));
         }
-        self.current.push(Tree::Word(Word { at: self.at, text }))?;
+        self.nodes.push(Node::Word {
+            at: self.at,
+            len: len as u32,
+        })?;
         self.at = to_right(self.at, len);
         Ok(())
     }
@@ -206,14 +207,16 @@ impl<'a, A: Allocator + Copy> Reader<'a, A> {
         if self.outer.is_empty() {
             return Err(self.fault(TextFaultKind::BareWord, ShownWord::Text(b"\"")));
         }
-        let text = &self.rest(0)[..len + 2];
-        self.current.push(Tree::String(Word { at: self.at, text }))?;
+        self.nodes.push(Node::String {
+            at: self.at,
+            len: len as u32 + 2,
+        })?;
         self.at = to_right(self.at, len + 2);
         Ok(())
     }
 
     /// Over a `(`, unless it is one too many within one another.
-    fn open(&mut self, alloc: A) -> Result<(), TextFault<'a>>
+    fn open(&mut self) -> Result<(), TextFault<'a>>
         requires placed { IsPlaced self.old }
         requires within { self.old.at.offset < length self.old.text.now }
         requires byte { slice_index self.old.text.now self.old.at.offset ≡ 40 }
@@ -223,10 +226,14 @@ impl<'a, A: Allocator + Copy> Reader<'a, A> {
         if self.outer.len() >= GREATEST_DEPTH {
             return Err(self.fault(TextFaultKind::TooDeep, ShownWord::Text(b"(")));
         }
-        let before = mem::replace(&mut self.current, Vec::new(alloc));
         self.outer.push(Open {
             at: self.at,
-            before,
+            node: self.nodes.len(),
+        })?;
+        self.nodes.push(Node::List {
+            at: self.at,
+            end: 0,
+            inner: 0,
         })?;
         self.at = to_right(self.at, 1);
         Ok(())
@@ -243,19 +250,18 @@ impl<'a, A: Allocator + Copy> Reader<'a, A> {
         let Some(open) = self.outer.pop() else {
             return Err(self.fault(TextFaultKind::Unbalanced, ShownWord::Text(b")")));
         };
-        let Open { at, before } = open;
-        let items = mem::replace(&mut self.current, before);
+        let inner = self.nodes.len() - open.node - 1;
         self.at = to_right(self.at, 1);
-        self.current.push(Tree::List {
-            at,
+        self.nodes[open.node] = Node::List {
+            at: open.at,
             end: self.at.offset,
-            items,
-        })?;
+            inner: inner as u32,
+        };
         Ok(())
     }
 
     /// Over one part, or the fault why none begins here.
-    fn step(&mut self, alloc: A) -> Result<(), TextFault<'a>>
+    fn step(&mut self) -> Result<(), TextFault<'a>>
         requires placed { IsPlaced self.old }
         requires within { self.old.at.offset < length self.old.text.now }
         ensures ok { OnOk result ((p : Part) × GoesOver self.old self.new p) }
@@ -275,7 +281,7 @@ impl<'a, A: Allocator + Copy> Reader<'a, A> {
                 Ok(())
             }
             b'"' => self.take_string(),
-            b'(' => self.open(alloc),
+            b'(' => self.open(),
             b')' => self.close(),
             _ => Err(self.fault(TextFaultKind::BadByte, ShownWord::Byte(b))),
         }
@@ -285,7 +291,8 @@ impl<'a, A: Allocator + Copy> Reader<'a, A> {
 ghost use Rattle.std.specs.Prelude.{◌≤◌, IfOk, IfErr};
 ghost use Rattle.cil_specs.specs.Trees.{Trees, Reads};
 ghost use Rattle.cil_specs.specs.Reading.{IsReadingFault};
-ghost use Rattle.cil_text.specs.Image.{trees_of, FaultIs, IsMemory};
+ghost use Rattle.cil_text.specs.Image.{FaultIs, IsMemory};
+ghost use Rattle.cil_text.specs.Forest.{forest_of};
 
 /// Goes over a text to its end.
 fn read_parts<'a, A: Allocator + Copy>(
@@ -293,7 +300,7 @@ fn read_parts<'a, A: Allocator + Copy>(
     text: &'a [u8],
 ) -> Result<Forest<'a, A>, TextFault<'a>>
     requires { length text.now ≤ 16777216 }
-    ensures ok { IfOk result (λ forest. Reads text.now (trees_of forest.trees.items)) }
+    ensures ok { IfOk result (λ forest. Reads text.now (forest_of forest)) }
     ensures err { IfErr result (λ fault. FaultIs fault (IsReadingFault text.now)) }
 {
     let mut reader = Reader {
@@ -304,14 +311,15 @@ fn read_parts<'a, A: Allocator + Copy>(
             column: 1,
         },
         outer: Vec::new(alloc),
-        current: Vec::new(alloc),
+        nodes: Vec::new(alloc),
     };
     while (reader.at.offset as usize) < text.len() {
-        reader.step(alloc)?;
+        reader.step()?;
     }
     let Reader {
+        text,
         mut outer,
-        current,
+        nodes,
         ..
     } = reader;
     match outer.pop() {
@@ -320,7 +328,7 @@ fn read_parts<'a, A: Allocator + Copy>(
             at: innermost.at,
             word: ShownWord::Text(b"("),
         }),
-        None => Ok(Forest { trees: current }),
+        None => Ok(Forest { text, nodes }),
     }
 }
 
@@ -333,7 +341,7 @@ pub fn read<'a, A: Allocator + Copy>(
     text: &'a [u8],
 ) -> Result<Forest<'a, A>, TextFault<'a>>
     requires { length text.now ≤ 16777216 }
-    ensures ok { IfOk result (λ forest. Reads text.now (trees_of forest.trees.items)) }
+    ensures ok { IfOk result (λ forest. Reads text.now (forest_of forest)) }
     ensures err { IfErr result (λ fault. FaultIs fault (IsReadingFault text.now)) }
     // What is spelt so is read, unless memory runs out; a text has one reading or one fault, as the laws say.
     ensures spelt { (trees : Trees) → Reads text.now trees → IfErr result IsMemory }

@@ -1,56 +1,60 @@
 //! Trees from the front on, as the forms of statements ask for them.
 
-ghost use Rattle.std.specs.Prelude.{◌≡◌, ◌≢◌, drop, IfOk, IfSome, MatchOption};
+ghost use Rattle.std.specs.Prelude.{◌≡◌, ◌≢◌, false, IfOk, MatchOption};
 ghost use Rattle.cil_specs.specs.Names.{Word as SpecWord};
 ghost use Rattle.cil_specs.specs.Trees.{Trees, none, are_lists};
 ghost use Rattle.cil_specs.specs.Expr.{IsListThen};
 ghost use Rattle.cil_specs.specs.Shape.{put_word};
 ghost use Rattle.cil_text.specs.Image.{tree_then, trees_of, word_of};
+ghost use Rattle.cil_text.specs.Tree.{is_one};
 ghost use Rattle.cil_text.specs.Split.{AreWords, AreWordList, AreWordAndList};
 
-use crate::tree::Tree;
+use crate::tree::{Tree, TreeSlice};
 use crate::word::Word;
 use std::alloc::{AllocError, Allocator};
 
 /// The word in front, and the trees behind it.
-pub fn split_word<'t, 'a, A: Allocator>(
-    trees: &'t [Tree<'a, A>],
-) -> Option<(Word<'a>, &'t [Tree<'a, A>])>
-    ensures word { MatchOption result
-        ((word : SpecWord) (rest : Trees) → trees_of trees.now ≢ put_word word rest)
-        (λ found. trees_of trees.now ≡ put_word (word_of found.0) (trees_of found.1.now)) }
-    ensures rest { IfSome result (λ found. found.1.now ≡ drop 1 trees.now) }
+pub fn split_word<'t, 'a>(trees: TreeSlice<'t, 'a>) -> Option<(Word<'a>, TreeSlice<'t, 'a>)>
+    ensures { MatchOption result
+        ((word : SpecWord) (rest : Trees) → trees_of trees.entry ≢ put_word word rest)
+        (λ found. trees_of trees.entry ≡ put_word (word_of found.0) (trees_of found.1)) }
 {
-    let [first, rest @ ..] = trees else {
-        return None;
-    };
+    let (first, rest) = trees.split_first()?;
     let Tree::Word(word) = first else {
         return None;
     };
-    Some((*word, rest))
+    Some((word, rest))
 }
 
 /// The trees of the list in front, and the trees behind it.
-fn split_list<'t, 'a, A: Allocator>(
-    trees: &'t [Tree<'a, A>],
-) -> Option<(&'t [Tree<'a, A>], &'t [Tree<'a, A>])>
+fn split_list<'t, 'a>(trees: TreeSlice<'t, 'a>) -> Option<(TreeSlice<'t, 'a>, TreeSlice<'t, 'a>)>
     ensures { MatchOption result
-        ((items rest : Trees) → IsListThen (trees_of trees.now) items rest → ⊥)
-        (λ found. IsListThen (trees_of trees.now) (trees_of found.0.now) (trees_of found.1.now)) }
+        ((items rest : Trees) → IsListThen (trees_of trees.entry) items rest → ⊥)
+        (λ found. IsListThen (trees_of trees.entry) (trees_of found.0) (trees_of found.1)) }
 {
-    let [first, rest @ ..] = trees else {
-        return None;
-    };
+    let (first, rest) = trees.split_first()?;
     let Tree::List { items, .. } = first else {
         return None;
     };
     Some((items, rest))
 }
 
+/// A tree and nothing else.
+pub fn only_tree<'t, 'a>(trees: TreeSlice<'t, 'a>) -> Option<Tree<'t, 'a>>
+    ensures { MatchOption result (is_one (trees_of trees.entry) ≡ false)
+        (λ tree. trees_of trees.entry ≡ tree_then tree none) }
+{
+    let (tree, rest) = trees.split_first()?;
+    if !rest.is_empty() {
+        return None;
+    }
+    Some(tree)
+}
+
 /// A word and nothing else.
-pub fn only_word<'a, A: Allocator>(trees: &[Tree<'a, A>]) -> Option<Word<'a>>
-    ensures { MatchOption result ((word : SpecWord) → trees_of trees.now ≢ put_word word none)
-        (λ word. trees_of trees.now ≡ put_word (word_of word) none) }
+pub fn only_word<'a>(trees: TreeSlice<'_, 'a>) -> Option<Word<'a>>
+    ensures { MatchOption result ((word : SpecWord) → trees_of trees.entry ≢ put_word word none)
+        (λ word. trees_of trees.entry ≡ put_word (word_of word) none) }
 {
     let (word, rest) = split_word(trees)?;
     if !rest.is_empty() {
@@ -60,21 +64,21 @@ pub fn only_word<'a, A: Allocator>(trees: &[Tree<'a, A>]) -> Option<Word<'a>>
 }
 
 /// Two words and nothing else.
-pub fn two_words<'a, A: Allocator>(trees: &[Tree<'a, A>]) -> Option<(Word<'a>, Word<'a>)>
+pub fn two_words<'a>(trees: TreeSlice<'_, 'a>) -> Option<(Word<'a>, Word<'a>)>
     ensures { MatchOption result
-        ((first second : SpecWord) → trees_of trees.now ≢ put_word first (put_word second none))
+        ((first second : SpecWord) → trees_of trees.entry ≢ put_word first (put_word second none))
         (λ found.
-        trees_of trees.now ≡ put_word (word_of found.0) (put_word (word_of found.1) none)) }
+        trees_of trees.entry ≡ put_word (word_of found.0) (put_word (word_of found.1) none)) }
 {
     let (first, rest) = split_word(trees)?;
     Some((first, only_word(rest)?))
 }
 
 /// The trees of a list, with nothing behind it.
-pub fn only_list<'t, 'a, A: Allocator>(trees: &'t [Tree<'a, A>]) -> Option<&'t [Tree<'a, A>]>
+pub fn only_list<'t, 'a>(trees: TreeSlice<'t, 'a>) -> Option<TreeSlice<'t, 'a>>
     ensures { MatchOption result
-        ((items : Trees) → IsListThen (trees_of trees.now) items none → ⊥)
-        (λ items. IsListThen (trees_of trees.now) (trees_of items.now) none) }
+        ((items : Trees) → IsListThen (trees_of trees.entry) items none → ⊥)
+        (λ items. IsListThen (trees_of trees.entry) (trees_of items) none) }
 {
     let (items, rest) = split_list(trees)?;
     if !rest.is_empty() {
@@ -83,32 +87,35 @@ pub fn only_list<'t, 'a, A: Allocator>(trees: &'t [Tree<'a, A>]) -> Option<&'t [
     Some(items)
 }
 
-fn is_list<A: Allocator>(tree: &Tree<A>) -> bool
-    ensures { result ≡ are_lists (tree_then tree.now none) }
-{
-    matches!(tree, Tree::List { .. })
-}
-
 /// Whether each of the trees is a list.
-pub fn are_lists<A: Allocator>(trees: &[Tree<A>]) -> bool
-    ensures { result ≡ are_lists (trees_of trees.now) }
+pub fn are_lists(trees: TreeSlice<'_, '_>) -> bool
+    ensures { result ≡ are_lists (trees_of trees.entry) }
 {
-    trees.iter().all(|tree| is_list(tree))
+    let mut rest = trees;
+    while let Some((tree, behind)) = rest.split_first() {
+        if !matches!(tree, Tree::List { .. }) {
+            return false;
+        }
+        rest = behind;
+    }
+    true
 }
 
 /// Words and nothing else.
 pub fn words<'a, A: Allocator + Copy>(
     alloc: A,
-    trees: &[Tree<'a, A>],
+    trees: TreeSlice<'_, 'a>,
 ) -> Result<Option<Vec<Word<'a>, A>>, AllocError>
-    ensures { IfOk result (AreWords (trees_of trees.now)) }
+    ensures { IfOk result (AreWords (trees_of trees.entry)) }
 {
     let mut words = Vec::with_capacity(alloc, trees.len())?;
-    for tree in trees {
+    let mut rest = trees;
+    while let Some((tree, behind)) = rest.split_first() {
         let Tree::Word(word) = tree else {
             return Ok(None);
         };
-        words.push(*word)?;
+        words.push(word)?;
+        rest = behind;
     }
     Ok(Some(words))
 }
@@ -116,9 +123,9 @@ pub fn words<'a, A: Allocator + Copy>(
 /// A list of words and nothing else.
 pub fn word_list<'a, A: Allocator + Copy>(
     alloc: A,
-    trees: &[Tree<'a, A>],
+    trees: TreeSlice<'_, 'a>,
 ) -> Result<Option<Vec<Word<'a>, A>>, AllocError>
-    ensures { IfOk result (AreWordList (trees_of trees.now)) }
+    ensures { IfOk result (AreWordList (trees_of trees.entry)) }
 {
     match only_list(trees) {
         Some(items) => words(alloc, items),
@@ -129,9 +136,9 @@ pub fn word_list<'a, A: Allocator + Copy>(
 /// A word, a list of words and nothing else.
 pub fn word_and_list<'a, A: Allocator + Copy>(
     alloc: A,
-    trees: &[Tree<'a, A>],
+    trees: TreeSlice<'_, 'a>,
 ) -> Result<Option<(Word<'a>, Vec<Word<'a>, A>)>, AllocError>
-    ensures { IfOk result (AreWordAndList (trees_of trees.now)) }
+    ensures { IfOk result (AreWordAndList (trees_of trees.entry)) }
 {
     let Some((word, rest)) = split_word(trees) else {
         return Ok(None);

@@ -1,10 +1,11 @@
 //! Recognising the statements that trees spell.
 
-ghost use Rattle.std.specs.Prelude.{◌≡◌, ℕ, ◌&&◌, ◌||◌, false, not, drop, IfOk, IfErr, IsTrue};
+ghost use Rattle.std.specs.Prelude.{◌≡◌, ◌&&◌, ◌||◌, false, not, IfOk, IfErr, IsTrue};
 ghost use Rattle.cil_specs.specs.Trees.{are_lists};
 ghost use Rattle.cil_specs.specs.Statements.{is_optional};
 ghost use Rattle.cil_specs.specs.Shape.{is_among, outside_optionals, Shapes, IsFirstShapeFault};
 ghost use Rattle.cil_text.specs.Image.{place_of, trees_of, statements_of, FaultIs};
+ghost use Rattle.cil_text.specs.Forest.{forest_of};
 ghost use Rattle.cil_text.specs.Keyword.{spelling};
 ghost use Rattle.cil_text.specs.Form.{form_of, has_body, inner_of, HasBody};
 ghost use Rattle.cil_text.specs.Walk.{IsHeading, IsStatement, IsFirstOf, IsFirstAmong};
@@ -18,7 +19,7 @@ use crate::module::Module;
 use crate::place::Place;
 use crate::split::split_word;
 use crate::statement::Statement;
-use crate::tree::Tree;
+use crate::tree::{Tree, TreeSlice};
 use std::alloc::Allocator;
 
 fn holds_others<A: Allocator>(statement: &Statement<A>) -> bool
@@ -33,18 +34,16 @@ fn holds_others<A: Allocator>(statement: &Statement<A>) -> bool
 /// The trees of the statements inside a statement, among its operands.
 fn inner_trees<'t, 'a, A: Allocator>(
     statement: &Statement<'a, A>,
-    operands: &'t [Tree<'a, A>],
-) -> &'t [Tree<'a, A>]
-    ensures trees { trees_of result.now
-        ≡ inner_of (form_of statement.now) (trees_of operands.now) }
-    ensures part { (k : ℕ) × (result.now ≡ drop k operands.now) }
+    operands: TreeSlice<'t, 'a>,
+) -> TreeSlice<'t, 'a>
+    ensures { trees_of result ≡ inner_of (form_of statement.now) (trees_of operands.entry) }
 {
     if !holds_others(statement) {
-        return &operands[operands.len()..];
+        return operands.end();
     }
-    match operands {
-        [_, inner @ ..] => inner,
-        [] => operands,
+    match operands.split_first() {
+        Some((_, inner)) => inner,
+        None => operands,
     }
 }
 
@@ -89,13 +88,12 @@ fn heading<'t, 'a, A: Allocator + Copy>(
     alloc: A,
     inside: bool,
     at: Place,
-    items: &'t [Tree<'a, A>],
-) -> Result<(Statement<'a, A>, &'t [Tree<'a, A>]), TextFault<'a>>
+    items: TreeSlice<'t, 'a>,
+) -> Result<(Statement<'a, A>, TreeSlice<'t, 'a>), TextFault<'a>>
     ensures ok { IfOk result
-        (λ found. IsHeading inside (place_of at) (trees_of items.now) found.0 (trees_of found.1.now)) }
-    ensures part { IfOk result (λ found. (k : ℕ) × (found.1.now ≡ drop k items.now)) }
+        (λ found. IsHeading inside (place_of at) (trees_of items.entry) found.0 (trees_of found.1)) }
     ensures err { IfErr result
-        (λ fault. FaultIs fault (IsFirstOf inside (place_of at) (trees_of items.now))) }
+        (λ fault. FaultIs fault (IsFirstOf inside (place_of at) (trees_of items.entry))) }
 {
     let Some((first, operands)) = split_word(items) else {
         return Err(TextFault::Found {
@@ -124,11 +122,11 @@ fn statement<'a, A: Allocator + Copy>(
     alloc: A,
     inside: bool,
     at: Place,
-    items: &[Tree<'a, A>],
+    items: TreeSlice<'_, 'a>,
 ) -> Result<Statement<'a, A>, TextFault<'a>>
-    ensures ok { IfOk result (IsStatement inside (place_of at) (trees_of items.now)) }
+    ensures ok { IfOk result (IsStatement inside (place_of at) (trees_of items.entry)) }
     ensures err { IfErr result
-        (λ fault. FaultIs fault (IsFirstOf inside (place_of at) (trees_of items.now))) }
+        (λ fault. FaultIs fault (IsFirstOf inside (place_of at) (trees_of items.entry))) }
 {
     let (statement, inner) = heading(alloc, inside, at, items)?;
     let body = statements(alloc, is_inside(inside, &statement), inner)?;
@@ -140,20 +138,22 @@ fn statement<'a, A: Allocator + Copy>(
 fn statements<'a, A: Allocator + Copy>(
     alloc: A,
     inside: bool,
-    trees: &[Tree<'a, A>],
+    trees: TreeSlice<'_, 'a>,
 ) -> Result<Vec<Statement<'a, A>, A>, TextFault<'a>>
-    requires lists { IsTrue (are_lists (trees_of trees.now)) }
+    requires lists { IsTrue (are_lists (trees_of trees)) }
     ensures ok { IfOk result
-        (λ found. Shapes inside (trees_of trees.now) (statements_of found.items)) }
+        (λ found. Shapes inside (trees_of trees.entry) (statements_of found.items)) }
     ensures err { IfErr result
-        (λ fault. FaultIs fault (IsFirstAmong inside (trees_of trees.now))) }
+        (λ fault. FaultIs fault (IsFirstAmong inside (trees_of trees.entry))) }
 {
     let mut found = Vec::with_capacity(alloc, trees.len())?;
-    for tree in trees {
+    let mut rest = trees;
+    while let Some((tree, behind)) = rest.split_first() {
         let Tree::List { at, items, .. } = tree else {
             unreachable!("a tree that is no list");
         };
-        found.push(statement(alloc, inside, *at, items)?)?;
+        found.push(statement(alloc, inside, at, items)?)?;
+        rest = behind;
     }
     Ok(found)
 }
@@ -171,10 +171,10 @@ pub fn shape<'a, A: Allocator + Copy>(
     forest: Forest<'a, A>,
 ) -> Result<Module<'a, A>, TextFault<'a>>
     ensures ok { IfOk result (λ found.
-        Shapes false (trees_of forest.entry.trees.items) (statements_of found.statements.items)) }
+        Shapes false (forest_of forest.entry) (statements_of found.statements.items)) }
     ensures err { IfErr result
-        (λ fault. FaultIs fault (IsFirstShapeFault (trees_of forest.entry.trees.items))) }
+        (λ fault. FaultIs fault (IsFirstShapeFault (forest_of forest.entry))) }
 {
-    let statements = statements(alloc, false, &forest.trees)?;
+    let statements = statements(alloc, false, forest.trees())?;
     Ok(Module { statements })
 }

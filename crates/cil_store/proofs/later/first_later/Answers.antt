@@ -1,14 +1,14 @@
 use Rattle.std.proofs.Common.{ap, ◌∙◌}
-use Rattle.cil_text.specs.Image.{trees_of}
+use Rattle.cil_text.specs.Forest.{forest_of}
 use Rattle.cil_store.specs.Later.{later_word}
 use Rattle.cil_store.proofs.LaterLemmas.{some_first, none_later}
 use Rattle.cil_store.proofs.later.first_later.Goals as goal
 
 pub returns-clause-some : goal.returns-clause-some
 returns-clause-some g c =
-    some_first (trees_of c.args.forest.now.trees.items) 16777216 c.first_later_word.result c.args.forest.now.ordered
-    (c.first_later_word.ensures ∙ ap (λ items. later_word (trees_of items)) c.deref.ensures.value)
+    some_first (forest_of c.args.forest.now) 16777216 c.first_later_word.result c.args.forest.now.ordered
+    (c.first_later_word.ensures ∙ ap later_word c.trees.ensures)
 
 pub returns-clause-none : goal.returns-clause-none
 returns-clause-none g c =
-    none_later (trees_of c.args.forest.now.trees.items) c.first_later_word.result (c.first_later_word.ensures ∙ ap (λ items. later_word (trees_of items)) c.deref.ensures.value)
+    none_later (forest_of c.args.forest.now) c.first_later_word.result (c.first_later_word.ensures ∙ ap later_word c.trees.ensures)

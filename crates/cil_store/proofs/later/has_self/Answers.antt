@@ -1,19 +1,17 @@
-use Rattle.std.proofs.Common.{◌+◌, ◌||◌, drop, ap, sym, ◌∙◌}
+use Rattle.std.proofs.Common.{◌||◌, ap, sym, ◌∙◌}
 use Rattle.cil_specs.specs.Next.{has_self}
 use Rattle.cil_text.specs.Image.{trees_of}
 use Rattle.cil_store.proofs.LaterLemmas.{self_from}
 use Rattle.cil_store.proofs.later.has_self.Goals as goal
 
 pub returns-then-is_self : goal.returns-then-is_self
-returns-then-is_self g c =
-    let trees = c.args.trees.now in
-    let i = c.loop-tree.tree-index in
-    sym (self_from trees i c.tree-item.result c.is_self.result c.loop-tree-test.true c.tree-item.is c.loop-tree.invariant c.is_self.ensures
-    ∙ ap (λ b. b || has_self (trees_of (drop (i + 1) trees))) c.if-is_self.true)
+returns-then-is_self c =
+    let behind = trees_of c.in-Some.behind in
+    sym (self_from (trees_of c.args.trees) (trees_of c.loop-tree.rest) c.in-Some.tree behind c.is_self.result c.loop-tree.invariant c.in-Some.ensures c.is_self.ensures
+    ∙ ap (λ b. b || has_self behind) c.if-is_self.true)
 
 pub loop-tree-preserved : goal.loop-tree-preserved
-loop-tree-preserved g c =
-    let trees = c.args.trees.now in
-    let i = c.loop-tree.tree-index in
-    self_from trees i c.tree-item.result c.is_self.result c.loop-tree-test.true c.tree-item.is c.loop-tree.invariant c.is_self.ensures
-    ∙ ap (λ b. b || has_self (trees_of (drop (i + 1) trees))) c.if-is_self.false
+loop-tree-preserved c =
+    let behind = trees_of c.in-Some.behind in
+    self_from (trees_of c.args.trees) (trees_of c.loop-tree.rest) c.in-Some.tree behind c.is_self.result c.loop-tree.invariant c.in-Some.ensures c.is_self.ensures
+    ∙ ap (λ b. b || has_self behind) c.if-is_self.false

@@ -1,52 +1,52 @@
-use Rattle.std.proofs.Common.{◌≡◌, ◌∙◌, ◌+◌, ◌≤◌, length, drop, ap, sym, subst, refl, inl, rules, arith, codes}
-use denote.Param.Weighed.{most}
+use Rattle.std.proofs.Common.{◌≡◌, ◌∙◌, ◌+◌, ap, sym, subst, refl, inl, rules, arith, codes}
 use Rattle.std.proofs.lemmas.Result.{IfOk-weaker}
 use Rattle.std.proofs.lemmas.Slice.Eq.{bytes_eq-Decides}
-use Rattle.std.proofs.lemmas.List.{drop_all}
 use Rattle.cil_specs.specs.Trees.{none, a_word, a_list}
 use Rattle.cil_specs.specs.Expr.{opposite, both, either, one_of, Expresses}
+use Rattle.std.proofs.lemmas.Bool.{true≢false}
+use Rattle.cil_specs.proofs.ExprSame.{none_expresses}
 use Rattle.cil_specs.proofs.ExprLemmas.{string_spells, union_spelt, union_is, no_not, no_and, no_or, no_xor}
 use Rattle.cil_text.specs.Image.{place_of, trees_of, tree_then, expr_of}
 use Rattle.cil_text.specs.Expr.{operator_word, exprs_of, SpellsExpr, SpellsElements, SpellsOperation, SpellsOne, SpellsTwo}
 use Rattle.cil_text.specs.declared.expr.Operator.TheVariants.{And, Or, Xor, Not}
-use Rattle.cil_text.specs.declared.tree.Tree.{Tree}
-use Rattle.cil_text.specs.declared.tree.Tree.TheViews.{size-Tree}
-use Rattle.cil_text.proofs.Rows.{list_then, union_of}
-use Rattle.cil_text.proofs.Elements.{at_tree, rest_is, one_tree, two_trees, only_tree, pair_trees, HasFound, found_first, found_next, found_none, found_all}
-use Rattle.cil_text.proofs.Spells.{most-tail, operation_found, operation_misfit, all_found}
+use Rattle.cil_text.proofs.Rows.{union_of}
+use Rattle.cil_text.proofs.Nodes.{tree_size, size_first, size_behind}
+use Rattle.cil_text.proofs.Elements.{rest_is, one_tree, HasFound, found_first, found_next, found_none, found_all}
+use Rattle.cil_text.proofs.Spells.{operation_found, operation_misfit, all_found}
 use Rattle.cil_text.proofs.expr.+expression.Goals as goal
-use Rattle.cil_text.proofs.expr.+expression.Goals.{one_operand-in_default-via-then-operands-lt1, one_operand-in_default-via-else-operands-lt1+else-operands-lt2, two_operands-in_default-via-then-operands-lt2, two_operands-in_default-via-else-operands-lt2+else-operands-lt3}
 
 pub elements-loop-tree-init : goal.elements-loop-tree-init
 elements-loop-tree-init g t c =
-    let all = trees_of c.args.trees.now in
-    subst (HasFound all all) (sym c.in_ok-elements.ensures.items) (found_first all)
+    let all = trees_of c.args.trees in
+    record { found = subst (HasFound all all) (sym c.in_ok-elements.ensures.items) (found_first all); smaller = omega arith }
 
 pub elements-returns-in-None : goal.elements-returns-in-None
 elements-returns-in-None g t c =
-    let trees = c.args.trees.now in
-    let i = c.loop-tree.tree-index in
-    let tree = c.tree-item.result in
-    found_none (trees_of trees) (trees_of (drop (i + 1) trees)) c.loop-tree.elements.items tree
-    (subst (λ rest. HasFound (trees_of trees) rest c.loop-tree.elements.items) (at_tree trees i tree c.loop-tree-test.true c.tree-item.is) c.loop-tree.invariant)
+    let trees = trees_of c.args.trees in
+    let tree = c.in-Some.tree in
+    found_none trees (trees_of c.in-Some.behind) c.loop-tree.elements.items tree (subst (λ rest. HasFound trees rest c.loop-tree.elements.items) c.in-Some.ensures c.loop-tree.invariant.found)
     (subst (SpellsExpr (tree_then tree)) c.in-None.is c.in_ok-element.ensures)
 
 pub elements-loop-tree-preserved : goal.elements-loop-tree-preserved
 elements-loop-tree-preserved g t c =
-    let trees = c.args.trees.now in
-    let i = c.loop-tree.tree-index in
-    let tree = c.tree-item.result in
-    let rest = trees_of (drop (i + 1) trees) in
-    subst (HasFound (trees_of trees) rest) (sym c.in_ok-push-in-Some.ensures.items)
-    (found_next (trees_of trees) rest c.loop-tree.elements.items tree c.in-Some.element
-    (subst (λ rest. HasFound (trees_of trees) rest c.loop-tree.elements.items) (at_tree trees i tree c.loop-tree-test.true c.tree-item.is) c.loop-tree.invariant)
-    (subst (SpellsExpr (tree_then tree)) c.in-Some.is c.in_ok-element.ensures))
+    let trees = trees_of c.args.trees in
+    let tree = c.in-Some.tree in
+    let rest = trees_of c.in-Some.behind in
+    record {
+      found = subst (HasFound trees rest) (sym c.in_ok-push-in-Some-2.ensures.items)
+          (found_next trees rest c.loop-tree.elements.items tree c.in-Some-2.element (subst (λ rest. HasFound trees rest c.loop-tree.elements.items) c.in-Some.ensures c.loop-tree.invariant.found)
+          (subst (SpellsExpr (tree_then tree)) c.in-Some-2.is c.in_ok-element.ensures));
+      smaller = omega (arith, c.loop-tree.invariant.smaller, size_behind (trees_of c.loop-tree.rest) tree rest c.in-Some.ensures);
+    }
+
+pub elements-expression-requires : goal.elements-expression-requires
+elements-expression-requires g t c κs within =
+    (omega (arith, c.decreases, c.loop-tree.invariant.smaller, size_first (trees_of c.loop-tree.rest) c.in-Some.tree (trees_of c.in-Some.behind) c.in-Some.ensures), within)
 
 pub elements-returns : goal.elements-returns
 elements-returns g t c =
-    let trees = c.args.trees.now in
-    found_all (trees_of trees) c.loop-tree.elements.items
-    (subst (λ rest. HasFound (trees_of trees) (trees_of rest) c.loop-tree.elements.items) (drop_all c.loop-tree.tree-index trees c.loop-tree-test.false) c.loop-tree.invariant)
+    let trees = trees_of c.args.trees in
+    found_all trees c.loop-tree.elements.items (subst (λ rest. HasFound trees rest c.loop-tree.elements.items) c.in_default.ensures c.loop-tree.invariant.found)
 
 pub expression-returns-then-eq : goal.expression-returns-then-eq
 expression-returns-then-eq g t c rest =
@@ -62,124 +62,105 @@ expression-returns-in-String g t c e rest after h =
 pub expression-returns-in-List : goal.expression-returns-in-List
 expression-returns-in-List g t c =
     let list = c.in-List in
-    IfOk-weaker c.list_expression.result _ (SpellsExpr (tree_then c.args.tree.now))
+    IfOk-weaker c.list_expression.result _ (SpellsExpr (tree_then c.args.tree))
     (λ found h. subst (λ front. SpellsExpr front found)
-    (λ i rest. (ap (λ items. a_list (place_of list.at) list.end (trees_of items) rest) c.deref.ensures.value ∙ sym (list_then list.at list.end list.items rest) ∙ sym (ap (λ tree. tree_then tree rest) list.is)) i)
+    (λ i rest. ap (λ tree. tree_then tree rest) (sym list.is) i)
     (h (place_of list.at) list.end)) c.list_expression.ensures
 
 pub list_expression-operation-requires : goal.list_expression-operation-requires
 list_expression-operation-requires g t c κs within =
-    let depth = λ (tree : Tree g.row.A.Denot). size-Tree g.row.A.Denot tree in
-    let behind = subst (λ operands. most depth operands ≤ most depth c.args.items.now) (sym c.in-Some.ensures.rest) (most-tail depth c.args.items.now) in
-    (omega (arith, c.decreases), within)
+    let all : tree_size (trees_of c.args.items) ≡ tree_size (trees_of c.in-Some.operands) + 1 = ap tree_size c.in-Some.ensures.1 in
+    (omega (arith, c.decreases, all), within)
 
 pub list_expression-returns-in-Some : goal.list_expression-returns-in-Some
 list_expression-returns-in-Some g t c =
-    let begins = c.in-Some.ensures.operation in
-    IfOk-weaker c.operation.result (SpellsOperation (operator_word c.in-Some.operator) (trees_of c.in-Some.operands.now)) _
+    let begins = c.in-Some.ensures in
+    IfOk-weaker c.operation.result (SpellsOperation (operator_word c.in-Some.operator) (trees_of c.in-Some.operands)) _
     (λ found h at end. subst (λ items. SpellsExpr (a_list at end items) found) (sym begins.1) (h at begins.0 end)) c.operation.ensures
 
 pub list_expression-returns-in-None : goal.list_expression-returns-in-None
 list_expression-returns-in-None g t c at end e rest after h =
-    let items = trees_of c.args.items.now in
+    let items = trees_of c.args.items in
     let other = subst (SpellsElements items) c.in-None.is c.in_ok-elements.ensures in
-    other e (union_is at end items rest after e c.in_default.ensures.operation h)
+    other e (union_is at end items rest after e c.in_default.ensures h)
 
 pub one_operand-returns-in_default : goal.one_operand-returns-in_default
-one_operand-returns-in_default g t c e h =
-    let one : length c.args.operands.now ≡ 1 = one_tree c.args.operands.now e h in
-    elim c.in_default.branch [
-      | one_operand-in_default-via-then-operands-lt1 w ↦ absurd (grind arith)
-      | one_operand-in_default-via-else-operands-lt1+else-operands-lt2 w ↦ absurd (grind arith)
-    ]
+one_operand-returns-in_default g t c e h = true≢false (sym (one_tree (trees_of c.args.operands) e h) ∙ c.in_default.ensures)
 
-pub one_operand-returns-in_ok-new-in-Some : goal.one_operand-returns-in_ok-new-in-Some
-one_operand-returns-in_ok-new-in-Some g t c =
-    let tree = c.x-item.result in
-    let spelt = subst (SpellsExpr (tree_then tree)) c.in-Some.is c.in_ok-x.ensures in
-    subst (λ x. Expresses (trees_of c.args.operands.now) (expr_of x) none) (sym c.in_ok-new-in-Some.ensures.ok)
-    (subst (λ trees. Expresses trees (expr_of c.in-Some.x) none) (sym (only_tree c.args.operands.now tree (omega arith) c.x-item.is)) (spelt none))
+pub one_operand-returns-in_ok-new-in-Some-2 : goal.one_operand-returns-in_ok-new-in-Some-2
+one_operand-returns-in_ok-new-in-Some-2 g t c =
+    let tree = c.in-Some.x in
+    let spelt = subst (SpellsExpr (tree_then tree)) c.in-Some-2.is c.in_ok-x.ensures in
+    subst (λ x. Expresses (trees_of c.args.operands) (expr_of x) none) (sym c.in_ok-new-in-Some-2.ensures.ok)
+    (subst (λ trees. Expresses trees (expr_of c.in-Some-2.x) none) (sym c.in-Some.ensures) (spelt none))
 
 pub operation-returns-in-All : goal.operation-returns-in-All
-operation-returns-in-All g t c = all_found c.args.operator c.args.operands.now c.then_some.result c.is_empty.result c.in-All.is c.is_empty.ensures c.then_some.ensures
+operation-returns-in-All g t c = all_found c.args.operator (trees_of c.args.operands) c.then_some.result c.is_empty.result c.in-All.is c.is_empty.ensures c.then_some.ensures
 
 pub operation-returns-in-Some : goal.operation-returns-in-Some
 operation-returns-in-Some g t c =
-    let operands = trees_of c.args.operands.now in
+    let operands = trees_of c.args.operands in
     operation_found c.args.operator Not operands (opposite (expr_of c.in-Some.x.value)) c.in-Not.is refl (subst (SpellsOne operands) c.in-Some.is c.in_ok-x-in-Not.ensures)
 
 pub operation-returns-in-None : goal.operation-returns-in-None
 operation-returns-in-None g t c =
-    let operands = trees_of c.args.operands.now in
+    let operands = trees_of c.args.operands in
     let other = subst (SpellsOne operands) c.in-None.is c.in_ok-x-in-Not.ensures in
     operation_misfit c.args.operator Not operands c.in-Not.is (λ e. no_not operands e other)
 
 pub operation-returns-in-Some-2 : goal.operation-returns-in-Some-2
 operation-returns-in-Some-2 g t c =
-    let operands = trees_of c.args.operands.now in
+    let operands = trees_of c.args.operands in
     operation_found c.args.operator And operands (both (expr_of c.in-Some-2.x.value) (expr_of c.in-Some-2.y.value)) c.in-And.is refl (subst (SpellsTwo operands) c.in-Some-2.is c.in_ok-x-in-And.ensures)
 
 pub operation-returns-in-None-2 : goal.operation-returns-in-None-2
 operation-returns-in-None-2 g t c =
-    let operands = trees_of c.args.operands.now in
+    let operands = trees_of c.args.operands in
     let other = subst (SpellsTwo operands) c.in-None-2.is c.in_ok-x-in-And.ensures in
     operation_misfit c.args.operator And operands c.in-And.is (λ e. no_and operands e (λ x y p. other x y p.0 p.1 p.2))
 
 pub operation-returns-in-Some-3 : goal.operation-returns-in-Some-3
 operation-returns-in-Some-3 g t c =
-    let operands = trees_of c.args.operands.now in
+    let operands = trees_of c.args.operands in
     operation_found c.args.operator Or operands (either (expr_of c.in-Some-3.x.value) (expr_of c.in-Some-3.y.value)) c.in-Or.is refl (subst (SpellsTwo operands) c.in-Some-3.is c.in_ok-x-in-Or.ensures)
 
 pub operation-returns-in-None-3 : goal.operation-returns-in-None-3
 operation-returns-in-None-3 g t c =
-    let operands = trees_of c.args.operands.now in
+    let operands = trees_of c.args.operands in
     let other = subst (SpellsTwo operands) c.in-None-3.is c.in_ok-x-in-Or.ensures in
     operation_misfit c.args.operator Or operands c.in-Or.is (λ e. no_or operands e (λ x y p. other x y p.0 p.1 p.2))
 
 pub operation-returns-in-Some-4 : goal.operation-returns-in-Some-4
 operation-returns-in-Some-4 g t c =
-    let operands = trees_of c.args.operands.now in
+    let operands = trees_of c.args.operands in
     operation_found c.args.operator Xor operands (one_of (expr_of c.in-Some-4.x.value) (expr_of c.in-Some-4.y.value)) c.in-Xor.is refl (subst (SpellsTwo operands) c.in-Some-4.is c.in_ok-x-in-Xor.ensures)
 
 pub operation-returns-in-None-4 : goal.operation-returns-in-None-4
 operation-returns-in-None-4 g t c =
-    let operands = trees_of c.args.operands.now in
+    let operands = trees_of c.args.operands in
     let other = subst (SpellsTwo operands) c.in-None-4.is c.in_ok-x-in-Xor.ensures in
     operation_misfit c.args.operator Xor operands c.in-Xor.is (λ e. no_xor operands e (λ x y p. other x y p.0 p.1 p.2))
 
 pub two_operands-returns-in_default : goal.two_operands-returns-in_default
-two_operands-returns-in_default g t c x y second h k =
-    let two : length c.args.operands.now ≡ 2 = two_trees c.args.operands.now x y second h k in
-    elim c.in_default.branch [
-      | two_operands-in_default-via-then-operands-lt2 w ↦ absurd (grind arith)
-      | two_operands-in_default-via-else-operands-lt2+else-operands-lt3 w ↦ absurd (grind arith)
-    ]
+two_operands-returns-in_default g t c x y second h k = none_expresses x second (subst (λ trees. Expresses trees x second) c.in_default.ensures h)
+
+pub two_operands-returns-in_default-only_tree : goal.two_operands-returns-in_default-only_tree
+two_operands-returns-in_default-only_tree g t c x y second h k =
+    let rest = trees_of c.in-Some.rest in
+    let same = rest_is c.in-Some.x rest second x (subst (λ trees. Expresses trees x second) c.in-Some.ensures h) in
+    true≢false (sym (one_tree rest y (subst (λ rest. Expresses rest y none) (sym same) k)) ∙ c.in_default-only_tree.ensures)
 
 pub two_operands-returns-in_default-3 : goal.two_operands-returns-in_default-3
 two_operands-returns-in_default-3 g t c x y second h k =
-    let first = c.x-item.result in
-    let last = c.y-item.result in
-    let two = pair_trees c.args.operands.now first last (omega arith) c.x-item.is c.y-item.is in
-    let rest = rest_is first (tree_then last none) second x (subst (λ trees. Expresses trees x second) two h) in
+    let rest = trees_of c.in-Some.rest in
+    let last = c.in-Some-only_tree.y in
+    let same = rest_is c.in-Some.x rest second x (subst (λ trees. Expresses trees x second) c.in-Some.ensures h) in
     let other = subst (SpellsExpr (tree_then last)) c.in_default-3.is c.in_ok-y.ensures in
-    other y none none (subst (λ trees. Expresses trees y none) (sym rest) k)
-
-pub two_operands-returns : goal.two_operands-returns
-two_operands-returns g t c =
-    let first = c.x-item.result in
-    let last = c.y-item.result in
-    let two = pair_trees c.args.operands.now first last (omega arith) c.x-item.is c.y-item.is in
-    let x = subst (SpellsExpr (tree_then first)) c.in-Some.is c.in_ok-x.ensures in
-    let y = subst (SpellsExpr (tree_then last)) c.in-Some-2.is c.in_ok-y.ensures in (
-      tree_then last none,
-      subst (λ x. Expresses (trees_of c.args.operands.now) (expr_of x) (tree_then last none)) (sym c.in_ok-new.ensures.ok)
-          (subst (λ trees. Expresses trees (expr_of c.in-Some.x) (tree_then last none)) (sym two) (x (tree_then last none))),
-      subst (λ y. Expresses (tree_then last none) (expr_of y) none) (sym c.in_ok-new-2.ensures.ok) (y none),
-    )
+    other y none none (subst (λ trees. Expresses trees y none) (sym same ∙ c.in-Some-only_tree.ensures) k)
 
 pub list_expression-returns-in-Some-2 : goal.list_expression-returns-in-Some-2
 list_expression-returns-in-Some-2 g t c at end rest =
-    let items = trees_of c.args.items.now in
+    let items = trees_of c.args.items in
     let elements = c.in-Some-2.elements in
     subst (λ e. Expresses (a_list at end items rest) e rest) (sym (union_of elements))
-    (union_spelt at end items rest (exprs_of elements.items) c.in_default.ensures.operation (subst (SpellsElements items) c.in-Some-2.is c.in_ok-elements.ensures))
+    (union_spelt at end items rest (exprs_of elements.items) c.in_default.ensures (subst (SpellsElements items) c.in-Some-2.is c.in_ok-elements.ensures))

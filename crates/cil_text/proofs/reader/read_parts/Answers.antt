@@ -3,7 +3,7 @@ use Rattle.cil_specs.specs.Reading.{IsReadingFault}
 use Rattle.cil_specs.specs.TextFault.{unclosed}
 use Rattle.cil_specs.specs.Trees.{Reads}
 use Rattle.cil_specs.proofs.Order.{reading-lists, reading-in_order}
-use Rattle.cil_text.specs.Image.{place_of, trees_of}
+use Rattle.cil_text.specs.Image.{place_of, trees_in}
 use Rattle.cil_text.proofs.Ends.{goes-ahead, reads-more, reads-all, reads-unclosed}
 use Rattle.cil_text.proofs.reader.read_parts.Goals as goal
 
@@ -33,8 +33,8 @@ pub invariant_of-result : goal.invariant_of-result
 invariant_of-result g c =
     let was = c.loop-reader.invariant in
     let none : c.loop-reader.reader.outer.items ≡ [] = search (rules, c.in-None.ensures.variant) in
-    let reads : Reads c.loop-reader.reader.text.now (trees_of c.loop-reader.reader.current.items) = reads-all c.loop-reader.reader was.read.0 was.placed was.read.1 (omega (arith, ap length was.same)) none in
+    let reads : Reads c.loop-reader.reader.text.now (trees_in c.loop-reader.reader.text.now c.loop-reader.reader.nodes.items) = reads-all c.loop-reader.reader was.read.0 was.placed was.read.1 (omega (arith, ap length was.same)) none in
     record {
-      lists = reading-lists c.loop-reader.reader.text.now (trees_of c.loop-reader.reader.current.items) reads;
-      ordered = reading-in_order c.loop-reader.reader.text.now (trees_of c.loop-reader.reader.current.items) 16777216 reads was.placed.small;
+      lists = reading-lists c.loop-reader.reader.text.now (trees_in c.loop-reader.reader.text.now c.loop-reader.reader.nodes.items) reads;
+      ordered = reading-in_order c.loop-reader.reader.text.now (trees_in c.loop-reader.reader.text.now c.loop-reader.reader.nodes.items) 16777216 reads was.placed.small;
     }

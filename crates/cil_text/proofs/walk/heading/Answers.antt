@@ -1,5 +1,4 @@
-use Rattle.std.proofs.Common.{◌+◌, ◌∙◌, sym, ap, subst, drop, IsTrue}
-use Rattle.std.proofs.lemmas.List.{drop-drop}
+use Rattle.std.proofs.Common.{◌∙◌, sym, ap, subst, IsTrue}
 use Rattle.cil_specs.specs.Statements.{words_of}
 use Rattle.cil_specs.specs.Shape.{is_among, keywords, outside_optionals, put_word, Fits, IsAllowed}
 use Rattle.cil_text.specs.Image.{place_of, word_of, trees_of, FaultIs}
@@ -11,34 +10,34 @@ use Rattle.cil_text.proofs.FirstBad.{found_is, handed_on}
 use Rattle.cil_text.proofs.walk.heading.Goals as goal
 
 pub returns-in_default-clause-err : goal.returns-in_default-clause-err
-returns-in_default-clause-err g c = no_first_word c.args.inside (place_of c.args.at) (trees_of c.args.items.now) c.in_default.ensures.word
+returns-in_default-clause-err g c = no_first_word c.args.inside (place_of c.args.at) (trees_of c.args.items) c.in_default.ensures
 
 pub returns-in_default-find-clause-err : goal.returns-in_default-find-clause-err
 returns-in_default-find-clause-err g c =
-    let parts = trees_of c.args.items.now in
+    let parts = trees_of c.args.items in
     let first = word_of c.in-Some.first in
-    let operands = trees_of c.in-Some.operands.now in
+    let operands = trees_of c.in-Some.operands in
     subst (λ fault. FaultIs fault (IsFirstOf c.args.inside (place_of c.args.at) parts)) (sym c.fault_at.ensures)
-    (unsupported_first c.args.inside (place_of c.args.at) parts first operands c.in-Some.ensures.word c.in_default-find.ensures)
+    (unsupported_first c.args.inside (place_of c.args.at) parts first operands c.in-Some.ensures c.in_default-find.ensures)
 
 pub returns-in_default-2-clause-err : goal.returns-in_default-2-clause-err
 returns-in_default-2-clause-err g c =
-    let parts = trees_of c.args.items.now in
+    let parts = trees_of c.args.items in
     let first = word_of c.in-Some.first in
-    let operands = trees_of c.in-Some.operands.now in
+    let operands = trees_of c.in-Some.operands in
     let at = place_of c.args.at in
     let keyword = c.in-Some-find.keyword in
     let spelt = c.in-Some-find.ensures in
     let misfit = subst (FitsAs at keyword operands) c.in_default-2.is c.in_ok-statement.ensures in
     subst (λ fault. FaultIs fault (IsFirstOf c.args.inside at parts)) (sym c.fault_at-in_default-2.ensures)
-    (misfit_first c.args.inside at parts first operands c.in-Some.ensures.word (ap (is_among keywords) spelt ∙ spelling_is keyword)
+    (misfit_first c.args.inside at parts first operands c.in-Some.ensures (ap (is_among keywords) spelt ∙ spelling_is keyword)
     (λ form inner fits. misfit first.at form inner (subst (λ text. Fits (put_word (record { at = first.at; text = text }) operands) form inner) spelt fits)))
 
 pub returns-then-not-may_stand-clause-err : goal.returns-then-not-may_stand-clause-err
 returns-then-not-may_stand-clause-err g c =
-    let parts = trees_of c.args.items.now in
+    let parts = trees_of c.args.items in
     let first = word_of c.in-Some.first in
-    let operands = trees_of c.in-Some.operands.now in
+    let operands = trees_of c.in-Some.operands in
     let at = place_of c.args.at in
     let keyword = c.in-Some-find.keyword in
     let spelt = c.in-Some-find.ensures in
@@ -46,14 +45,14 @@ returns-then-not-may_stand-clause-err g c =
     let fits = subst (FitsAs at keyword operands) c.in-Some-2.is c.in_ok-statement.ensures in
     let test = forbidden_by c.args.inside (is_among outside_optionals (spelling keyword)) c.may_stand.result c.may_stand.ensures c.if-not-may_stand.true in
     subst (λ fault. FaultIs fault (IsFirstOf c.args.inside at parts)) (sym c.fault_at-then-not-may_stand.ensures)
-    (outside_first c.args.inside at parts first operands form (inner_of form operands) c.in-Some.ensures.word test.0 (ap (is_among outside_optionals) spelt ∙ test.1)
+    (outside_first c.args.inside at parts first operands form (inner_of form operands) c.in-Some.ensures test.0 (ap (is_among outside_optionals) spelt ∙ test.1)
     (fits_word first operands keyword form (inner_of form operands) spelt (fits.1 first.at)))
 
 pub returns-in_err-check_statement-clause-err : goal.returns-in_err-check_statement-clause-err
 returns-in_err-check_statement-clause-err g c =
-    let parts = trees_of c.args.items.now in
+    let parts = trees_of c.args.items in
     let first = word_of c.in-Some.first in
-    let operands = trees_of c.in-Some.operands.now in
+    let operands = trees_of c.in-Some.operands in
     let at = place_of c.args.at in
     let keyword = c.in-Some-find.keyword in
     let spelt = c.in-Some-find.ensures in
@@ -63,14 +62,14 @@ returns-in_err-check_statement-clause-err g c =
     ap (is_among outside_optionals) spelt ∙ allowed_by c.args.inside (is_among outside_optionals (spelling keyword)) c.may_stand.result c.may_stand.ensures c.if-not-may_stand.false within in
     handed_on (IsFirstOf c.args.inside at parts) c.from_residual-in_err-check_statement.result c.in_err-check_statement.field-0.0 c.from_residual-in_err-check_statement.ensures.1
     (found_is (IsFirstBad (words_of form)) (IsFirstOf c.args.inside at parts) c.in_err-check_statement.field-0.0
-    (λ fault bad. bad_word_first c.args.inside at parts first operands form (inner_of form operands) fault c.in-Some.ensures.word
+    (λ fault bad. bad_word_first c.args.inside at parts first operands form (inner_of form operands) fault c.in-Some.ensures
     (fits_word first operands keyword form (inner_of form operands) spelt (fits.1 first.at)) allowed bad) c.in_err-check_statement.ensures)
 
 pub returns-clause-ok : goal.returns-clause-ok
 returns-clause-ok g c =
-    let parts = trees_of c.args.items.now in
+    let parts = trees_of c.args.items in
     let first = word_of c.in-Some.first in
-    let operands = trees_of c.in-Some.operands.now in
+    let operands = trees_of c.in-Some.operands in
     let at = place_of c.args.at in
     let keyword = c.in-Some-find.keyword in
     let spelt = c.in-Some-find.ensures in
@@ -81,13 +80,8 @@ returns-clause-ok g c =
     record {
       place = fits.0;
       fits =
-          subst (Fits parts form) (sym c.inner_trees-inner.ensures.trees)
-          (subst (λ parts. Fits parts form (inner_of form operands)) (sym c.in-Some.ensures.word) (fits_word first operands keyword form (inner_of form operands) spelt (fits.1 first.at)));
-      allowed = subst (IsAllowed c.args.inside) (sym c.in-Some.ensures.word) allowed;
+          subst (Fits parts form) (sym c.inner_trees-inner.ensures)
+          (subst (λ parts. Fits parts form (inner_of form operands)) (sym c.in-Some.ensures) (fits_word first operands keyword form (inner_of form operands) spelt (fits.1 first.at)));
+      allowed = subst (IsAllowed c.args.inside) (sym c.in-Some.ensures) allowed;
       good = c.in_ok-check_statement.ensures;
     }
-
-pub returns-clause-part : goal.returns-clause-part
-returns-clause-part g c =
-    let part = c.inner_trees-inner.ensures.part in
-    (1 + part.0, part.1 ∙ ap (drop part.0) c.in-Some.ensures.rest ∙ drop-drop part.0 1 c.args.items.now)

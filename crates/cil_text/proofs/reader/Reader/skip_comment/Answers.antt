@@ -23,5 +23,5 @@ to_right-self-requires-clause-column g c =
 
 pub returns : goal.returns
 returns g c =
-    goes-comment c.args.self.now (record { text = c.args.self.now.text; at = c.to_right-self.result; outer = c.args.self.now.outer; current = c.args.self.now.current }) c.comment_len-len.result
+    goes-comment c.args.self.now (record { text = c.args.self.now.text; at = c.to_right-self.result; outer = c.args.self.now.outer; nodes = c.args.self.now.nodes }) c.comment_len-len.result
     c.requires.placed c.requires.within c.requires.byte (c.comment_len-len.ensures ∙ ap (prefix_len is_comment_byte) c.rest.ensures) c.to_right-self.ensures refl refl refl

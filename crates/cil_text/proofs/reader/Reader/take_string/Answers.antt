@@ -26,7 +26,6 @@ pub returns-clause-ok : goal.returns-clause-ok
 returns-clause-ok g c =
     let inside = c.rest-inside.ensures in
     let found = c.in-Some.ensures.some in
-    let here : c.rest.result.now ≡ drop c.args.self.now.at.offset c.args.self.now.text.now = c.rest.ensures ∙ ap (λ n. drop n c.args.self.now.text.now) (add-zero c.args.self.now.at.offset) in
-    goes-string c.args.self.now (record { text = c.args.self.now.text; at = c.to_right-self.result; outer = c.args.self.now.outer; current = c.push.new.self }) c.in-Some.len _
+    goes-string c.args.self.now (record { text = c.args.self.now.text; at = c.to_right-self.result; outer = c.args.self.now.outer; nodes = c.push.new.self }) c.in-Some.len
     c.requires.placed c.requires.within c.requires.byte (found.0 ∙ ap (prefix_len is_string_byte) inside) (subst (λ (l : List ℕ). c.in-Some.len < length l) inside found.1) (sym (ap (λ l. get_or l c.in-Some.len 0) inside) ∙ found.2)
-    (ap (take (c.in-Some.len + 2)) here) (search rules) c.to_right-self.ensures refl c.in_ok-push.ensures.items refl
+    (search rules) c.to_right-self.ensures refl c.in_ok-push.ensures.items refl

@@ -1,0 +1,7 @@
+use Rattle.std.proofs.Common.{◌≡◌, ◌+◌}
+use Rattle.cil_text.specs.Image.{trees_of}
+use Rattle.cil_text.specs.Tree.{tree_count}
+use Rattle.cil_text.proofs.tree.TreeSlice.len.Given as goal
+
+abbrev pub invariant-loop-count : goal.invariant-loop-count
+invariant-loop-count l = l.count + tree_count (trees_of l.rest) ≡ tree_count (trees_of l.self)
