@@ -1,0 +1,7 @@
+//! Modules kept parsed.
+
+#![tactic(auto)]
+
+mod lists;
+
+pub use lists::Lists;
