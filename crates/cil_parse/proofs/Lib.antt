@@ -1,1 +1,4 @@
 pub mod ListLemmas
+pub mod SplitLemmas
+pub mod LexiconLemmas
+pub mod AddsLemmas

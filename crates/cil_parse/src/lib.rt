@@ -1,7 +1,7 @@
-//! Modules kept parsed.
-
+//! Modules kept parsed: each word numbered once, each statement a row.
 #![tactic(auto)]
 
+mod lexicon;
 mod lists;
 
-pub use lists::Lists;
+pub use lexicon::Lexicon;
