@@ -2,3 +2,4 @@ pub mod ListLemmas
 pub mod SplitLemmas
 pub mod LexiconLemmas
 pub mod AddsLemmas
+pub mod BuilderLemmas

@@ -1,2 +1,5 @@
 pub mod Lists
 pub mod Lexicon
+pub mod Forms
+pub mod Flat
+pub mod Builder
