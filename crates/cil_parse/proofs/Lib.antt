@@ -3,3 +3,5 @@ pub mod SplitLemmas
 pub mod LexiconLemmas
 pub mod AddsLemmas
 pub mod BuilderLemmas
+pub mod FlatLemmas
+pub mod PlaceLemmas

@@ -1,15 +1,19 @@
 -- What was gone over of a module.
-use Rattle.std.specs.Prelude.{◌≡◌, ℕ, List, [], ◌++◌, map, Option, Some, slice_get}
+use Rattle.std.specs.Prelude.{◌≡◌, ℕ, List, [], ◌∷◌, ◌++◌, length, map, Option, Some, slice_get}
 use Rattle.std.specs.Option.{option_map}
 use Rattle.cil_specs.specs.Place.{Place}
 use Rattle.cil_specs.specs.Names.{Word}
+use Rattle.cil_specs.specs.Statements.{Form, Statements}
 use Rattle.cil_specs.specs.Expr.{Expr, named_words}
 use Rattle.cil_text.specs.Image.{place_of}
+use Rattle.cil_text.specs.Form.{form_of, at_of}
+use Rattle.cil_text.specs.declared.statement.Statement.{Statement}
 use Rattle.cil_parse.specs.Lexicon.{texts_in, IsLexicon}
 use Rattle.cil_parse.specs.Forms.{expr_nodes, kind_of, words_in, nodes_in}
-use Rattle.cil_parse.specs.Flat.{FlatStatement}
+use Rattle.cil_parse.specs.Flat.{FlatStatement, flat}
 use Rattle.cil_parse.specs.declared.builder.Builder.{Builder}
 use Rattle.cil_parse.specs.declared.row.NumberedWord.{NumberedWord}
+use Rattle.cil_parse.specs.declared.row.Around.{Around}
 use Rattle.cil_parse.specs.declared.row.Row.{Row}
 use Rattle.cil_parse.specs.declared.row.SetNode.{SetNode}
 use Rattle.cil_parse.specs.declared.row.StatementKind.{StatementKind}
@@ -44,3 +48,23 @@ pub record Adds {A : Type 0} (old new : Builder A) (words : List Word) (nodes : 
 -- those of a set expression
 abbrev pub AddsExpr : {A : Type 0} → Builder A → Builder A → Expr → Type 0
 AddsExpr old new expr = Adds old new (named_words expr) (expr_nodes expr)
+
+-- those of a statement
+abbrev pub AddsForm : {A : Type 0} → Builder A → Builder A → Form → Type 0
+AddsForm old new form = Adds old new (words_in form) (nodes_in form)
+
+-- the statement that came is whole
+pub record Closes {A : Type 0} (old new : Builder A) (row : Row) : Type 0 where
+  pub goes : (list : List FlatStatement) (words : List Word) (nodes : List SetNode) (f : FlatStatement) → IsAt old list words nodes → words_in f.form ≡ words → nodes_in f.form ≡ nodes → row_of row ≡ row_for f → IsAt new (list ++ f ∷ []) [] []
+
+-- more statements came
+pub record Puts {A : Type 0} (old new : Builder A) (more : List FlatStatement) : Type 0 where
+  pub goes : (list : List FlatStatement) → IsAt old list [] [] → IsAt new (list ++ more) [] []
+
+-- the statements came, with these around them
+pub record Places {A : Type 0} (old new : Builder A) (around : Around) (statements : Statements) : Type 0 where
+  pub goes : (list : List FlatStatement) → IsAt old list [] [] → IsAt new (list ++ flat around.block around.optional (length list) statements) [] []
+
+-- a statement but for those inside it
+abbrev pub top : {A : Type 0} → Around → Statement A → List FlatStatement
+top around s = record { at = at_of s; form = form_of s; block = around.block; optional = around.optional } ∷ []

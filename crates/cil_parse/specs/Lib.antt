@@ -3,3 +3,4 @@ pub mod Lexicon
 pub mod Forms
 pub mod Flat
 pub mod Builder
+pub mod Parsed

@@ -4,7 +4,8 @@
 mod builder;
 mod lexicon;
 mod lists;
+mod parsed;
 mod row;
 
-pub use builder::Builder;
+pub use parsed::{ParsedModule, StatementView};
 pub use row::{NumberedWord, SetNode, StatementKind};
