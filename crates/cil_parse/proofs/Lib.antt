@@ -5,3 +5,4 @@ pub mod AddsLemmas
 pub mod BuilderLemmas
 pub mod FlatLemmas
 pub mod PlaceLemmas
+pub mod ParsedLemmas

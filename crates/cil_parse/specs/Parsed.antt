@@ -1,10 +1,12 @@
 -- Modules kept parsed.
-use Rattle.std.specs.Prelude.{◌≡◌, ℕ, List, map, length, Some}
+use Rattle.std.specs.Prelude.{◌≡◌, ℕ, List, [], map, length, Some}
 use Rattle.cil_specs.specs.Statements.{Statements}
 use Rattle.cil_text.specs.Image.{place_of}
+use Rattle.cil_parse.specs.Lexicon.{texts_in}
 use Rattle.cil_parse.specs.Forms.{kind_of, words_in, nodes_in}
 use Rattle.cil_parse.specs.Flat.{FlatStatement, flat}
-use Rattle.cil_parse.specs.Builder.{read, row_of, row_for}
+use Rattle.cil_parse.specs.Builder.{read, row_of, row_for, IsAt}
+use Rattle.cil_parse.specs.declared.builder.Builder.{Builder}
 use Rattle.cil_parse.specs.declared.parsed.ParsedModule.{ParsedModule}
 use Rattle.cil_parse.specs.declared.parsed.StatementView.{StatementView}
 
@@ -34,3 +36,14 @@ pub record IsShown (texts : List (List ℕ)) (v : StatementView) (f : FlatStatem
   pub optional : v.optional ≡ f.optional
   pub words : map (read texts) v.words.now ≡ map Some (words_in f.form)
   pub nodes : v.nodes.now ≡ nodes_in f.form
+
+-- statements were gone over, and none is begun
+abbrev pub IsWhole : {A : Type 0} → Builder A → Type 0
+IsWhole b = (list : List FlatStatement) × IsAt b list [] []
+
+-- the module is what the builder went over
+pub record IsOwned {A : Type 0} (b : Builder A) (p : ParsedModule A) : Type 0 where
+  pub texts : texts_of p ≡ texts_in b.lexicon
+  pub words : p.words ≡ b.words
+  pub nodes : p.nodes ≡ b.nodes
+  pub rows : p.rows ≡ b.rows

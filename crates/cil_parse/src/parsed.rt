@@ -41,28 +41,33 @@ pub struct StatementView<'p> {
     pub nodes: &'p [SetNode],
 }
 
-/// Copies of names, one behind the other.
-fn copies<A: Allocator + Copy>(alloc: A, names: &[&[u8]]) -> Result<Lists<u8, A>, AllocError>
-    ensures { IfOk result (λ lists. lists ≡ (seen names.now, [])) }
-{
+/// How many bytes names have together.
+fn byte_count(names: &[&[u8]]) -> usize {
     let mut bytes: usize = 0;
     for name in names {
         bytes = bytes.saturating_add(name.len());
     }
-    let mut lists = Lists::with_capacity(alloc, names.len(), bytes)?;
+    bytes
+}
+
+/// Copies of names, one behind the other.
+fn copies<A: Allocator + Copy>(alloc: A, names: &[&[u8]]) -> Result<Lists<u8, A>, AllocError>
+    ensures { IfOk result (λ lists. lists ≡ (seen names.now, [])) }
+{
+    let mut lists = Lists::with_capacity(alloc, names.len(), byte_count(names))?;
     for name in names {
-        lists.extend(name)?;
+        lists.extend(*name)?;
         lists.close()?;
     }
     Ok(lists)
 }
 
 impl<A: Allocator + Copy> ParsedModule<A> {
-    ghost use Rattle.cil_parse.specs.Parsed.{Spells};
+    ghost use Rattle.cil_parse.specs.Parsed.{Spells, IsWhole, IsOwned};
 
     /// The parsed form of a module.
     pub fn of(alloc: A, module: &Module<'_, A>) -> Result<Self, AllocError>
-        ensures { IfOk result (λ p. Spells p (statements_of module.now.statements.items)) }
+        ensures { IfOk result (λ p. Spells p (statements_of «module».now.statements.items)) }
     {
         let mut builder = Builder::new(alloc)?;
         let around = Around {
@@ -70,15 +75,25 @@ impl<A: Allocator + Copy> ParsedModule<A> {
             optional: 0,
         };
         builder.place(around, &module.statements)?;
-        let texts = copies(alloc, builder.lexicon.texts.as_slice())?;
-        let names = copies(alloc, builder.lexicon.names.as_slice())?;
+        let parsed = ParsedModule::owned(alloc, builder)?;
+        Ok(parsed)
+    }
+
+    /// What a builder went over, with words of its own.
+    fn owned(alloc: A, builder: Builder<'_, A>) -> Result<Self, AllocError>
+        requires { IsWhole builder }
+        ensures { IfOk result (IsOwned builder.entry) }
+    {
+        let Builder { lexicon, words, nodes, rows } = builder;
+        let texts = copies(alloc, lexicon.texts.as_slice())?;
+        let names = copies(alloc, lexicon.names.as_slice())?;
         Ok(ParsedModule {
             texts,
             names,
-            components: builder.lexicon.components,
-            words: builder.words,
-            nodes: builder.nodes,
-            rows: builder.rows,
+            components: lexicon.components,
+            words,
+            nodes,
+            rows,
         })
     }
 }
