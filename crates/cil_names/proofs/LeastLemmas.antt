@@ -8,7 +8,7 @@ use Rattle.std.proofs.lemmas.Option.{same_Some, none-some, slice_get_within}
 use Rattle.std.proofs.lemmas.Bool.{leb-true, cases_lt}
 use Rattle.cil_specs.specs.Names.{Word}
 use Rattle.cil_specs.specs.Statements.{Form, block, optional, type_name, type_alias, alias_actual, type_attribute, attribute_set, common, class, class_common, class_order, rule, itself, the_named, rise_from, as_declared, as_referred}
-use Rattle.cil_specs.specs.Expr.{named_words}
+use Rattle.cil_specs.specs.Expr.{leaves}
 use Rattle.cil_specs.specs.Joined.{Placed}
 use Rattle.cil_specs.specs.Lookup.{Table, types, classes, commons, scopes, Optionals, is_within, references, named_permissions, declared_in}
 use Rattle.cil_specs.specs.PolicyFault.{PolicyFaultKind, twice, missing, wrong_kind, alias_twice, alias_unset, second_common, too_many_permissions, PolicyFault, faulty_words, is_again, missing_words, is_unfound, is_lacking, kinds_asked, is_of_another_kind, wrong_kind_words, alias_words, alias_twice_words, has_earlier_actual, element_words, alias_unset_words, is_unset, common_words, second_common_words, has_earlier_common, too_many_words, has_too_many, tables, is_outside, IsFaultOf, IsNoLater}
@@ -118,9 +118,9 @@ sub-references (type_attribute id) = tt
 sub-references (attribute_set attribute expr) =
     inl (
       refl,
-      sub-end (map offset (map (λ (r : Table × Word). r.1) (map (λ w. (types, w)) (named_words expr)))) (map (λ (role, word). word.at.offset) (map as_referred (named_words expr)))
-          (sub-trans (map offset (map (λ (r : Table × Word). r.1) (map (λ w. (types, w)) (named_words expr)))) (map offset (named_words expr)) (map (λ (role, word). word.at.offset) (map as_referred (named_words expr)))
-          (sub-second types (named_words expr)) (sub-referred (named_words expr))),
+      sub-end (map offset (map (λ (r : Table × Word). r.1) (map (λ w. (types, w)) (leaves expr)))) (map (λ (role, word). word.at.offset) (map as_referred (leaves expr)))
+          (sub-trans (map offset (map (λ (r : Table × Word). r.1) (map (λ w. (types, w)) (leaves expr)))) (map offset (leaves expr)) (map (λ (role, word). word.at.offset) (map as_referred (leaves expr)))
+          (sub-second types (leaves expr)) (sub-referred (leaves expr))),
     )
 sub-references (common id permissions) = tt
 sub-references (class id permissions) = tt
@@ -182,7 +182,7 @@ sub-elements (type_alias id) = tt
 sub-elements (alias_actual alias actual) = tt
 sub-elements (type_attribute id) = tt
 sub-elements (attribute_set attribute expr) =
-    sub-skip (map offset (named_words expr)) attribute.at.offset (map (λ (role, word). word.at.offset) (map as_referred (named_words expr))) (sub-referred (named_words expr))
+    sub-skip (map offset (leaves expr)) attribute.at.offset (map (λ (role, word). word.at.offset) (map as_referred (leaves expr))) (sub-referred (leaves expr))
 sub-elements (common id permissions) = tt
 sub-elements (class id permissions) = tt
 sub-elements (class_common the_class the_common) = tt

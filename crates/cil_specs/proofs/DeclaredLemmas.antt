@@ -1,5 +1,5 @@
 -- Where no name is declared twice, each stands in one statement, and is found in a set of optionals if that one stands within it.
-use Rattle.std.proofs.Common.{◌≡◌, ℕ, Bool, true, false, not, ◌&&◌, ◌||◌, cond, List, [], ◌∷◌, ◌++◌, map, Contains, Option, Some, None, is_some, bytes_eq, refl, sym, ap, ◌∙◌, subst, true≢false, append_assoc, if◌then◌else◌}
+use Rattle.std.proofs.Common.{◌≡◌, ℕ, Bool, true, false, not, ◌&&◌, ◌||◌, cond, List, [], ◌∷◌, ◌++◌, filter, Contains, Option, Some, None, is_some, bytes_eq, refl, sym, ap, ◌∙◌, subst, true≢false, append_assoc, if◌then◌else◌}
 use Rattle.std.specs.List.{find, list_any}
 use Rattle.std.proofs.lemmas.Option.{none-some}
 use Rattle.std.proofs.lemmas.Slice.Eq.{bytes_eq-Decides}
@@ -7,11 +7,12 @@ use Rattle.std.proofs.Math.Bool.{and-true}
 use Rattle.cil_specs.specs.Names.{Word}
 use Rattle.cil_specs.specs.Statements.{Form, block, optional, type_name, type_alias, alias_actual, type_attribute, attribute_set, common, class, class_common, class_order, rule, is_optional}
 use Rattle.cil_specs.specs.Joined.{Placed}
-use Rattle.cil_specs.specs.Kept.{erased}
-use Rattle.cil_specs.specs.Lookup.{Table, types, classes, commons, scopes, Optionals, declared_in, is_word, same_namespace, declares, is_within, declaration, holds_of, every_optional}
+use Rattle.cil_specs.specs.Kept.{Optionals, is_within, restricted}
+use Rattle.cil_specs.specs.Lookup.{Table, types, classes, commons, scopes, declared_in, is_word, same_namespace, declares, declaration, holds_of}
 use Rattle.cil_specs.specs.PolicyFault.{PolicyFault, twice, is_again, twice_words, IsFaultOf}
 use Rattle.cil_specs.proofs.Runs.{first_true, second_true}
 use Rattle.cil_specs.proofs.NamesLemmas.{contains-first}
+use Rattle.cil_specs.proofs.RestrictedLemmas.{filter-yes, filter-no}
 use Rattle.cil_specs.proofs.OnceLemmas.{twice-some, passes-among, any-middle}
 
 -- at most one element passes a test
@@ -19,25 +20,25 @@ abbrev pub AtMostOne : {X : Type 0} → (X → Bool) → List X → Type 0
 AtMostOne p [] = Unit {0}
 AtMostOne p (x ∷ xs) = (p x ≡ true → list_any p xs ≡ false) × AtMostOne p xs
 
-none-found : {X : Type 0} (p t : X → Bool) (xs : List X) → list_any p xs ≡ false → is_some (find (λ x. p x && t x) xs) ≡ false
+none-found : {X : Type 0} (p t : X → Bool) (xs : List X) → list_any p xs ≡ false → is_some (find p (filter t xs)) ≡ false
 none-found p t [] none = refl
-none-found p t (x ∷ xs) none = by (p x) refl none (none-found p t xs)
+none-found p t (x ∷ xs) none = by (p x) refl (t x) refl none (none-found p t xs)
   where
-    by : (b : Bool) → p x ≡ b → (b || list_any p xs) ≡ false → (list_any p xs ≡ false → is_some (find (λ y. p y && t y) xs) ≡ false)
-        → is_some (cond (b && t x) (Some x) (find (λ y. p y && t y) xs)) ≡ false
-    by true e none more = absurd (true≢false none)
-    by false e none more = more none
+    by : (b : Bool) → p x ≡ b → (c : Bool) → t x ≡ c → (b || list_any p xs) ≡ false → (list_any p xs ≡ false → is_some (find p (filter t xs)) ≡ false) → is_some (find p (filter t (x ∷ xs))) ≡ false
+    by true e c f none more = absurd (true≢false none)
+    by false e true f none more = ap (λ l. is_some (find p l)) (filter-yes t x xs f) ∙ ap (λ b. is_some (cond b (Some x) (find p (filter t xs)))) e ∙ more none
+    by false e false f none more = ap (λ l. is_some (find p l)) (filter-no t x xs f) ∙ more none
 
--- the one that passes is found by a second test too, if it passes that
-one-found : (p t : Placed → Bool) (xs : List Placed) → AtMostOne p xs → is_some (find (λ x. p x && t x) xs) ≡ holds_of t (find p xs)
+-- the one that passes is found among those that pass a second test, if it passes that
+one-found : (p t : Placed → Bool) (xs : List Placed) → AtMostOne p xs → is_some (find p (filter t xs)) ≡ holds_of t (find p xs)
 one-found p t [] one = refl
 one-found p t (x ∷ xs) one = by (p x) refl (t x) refl (one-found p t xs one.1)
   where
-    by : (b : Bool) → p x ≡ b → (c : Bool) → t x ≡ c → is_some (find (λ y. p y && t y) xs) ≡ holds_of t (find p xs)
-        → is_some (cond (b && c) (Some x) (find (λ y. p y && t y) xs)) ≡ holds_of t (cond b (Some x) (find p xs))
-    by true e true f more = sym f
-    by true e false f more = none-found p t xs (one.0 e) ∙ sym f
-    by false e c f more = more
+    by : (b : Bool) → p x ≡ b → (c : Bool) → t x ≡ c → is_some (find p (filter t xs)) ≡ holds_of t (find p xs) → is_some (find p (filter t (x ∷ xs))) ≡ holds_of t (cond b (Some x) (find p xs))
+    by true e true f more = ap (λ l. is_some (find p l)) (filter-yes t x xs f) ∙ ap (λ b. is_some (cond b (Some x) (find p (filter t xs)))) e ∙ sym f
+    by true e false f more = ap (λ l. is_some (find p l)) (filter-no t x xs f) ∙ none-found p t xs (one.0 e) ∙ sym f
+    by false e true f more = ap (λ l. is_some (find p l)) (filter-yes t x xs f) ∙ ap (λ b. is_some (cond b (Some x) (find p (filter t xs)))) e ∙ more
+    by false e false f more = ap (λ l. is_some (find p l)) (filter-no t x xs f) ∙ more
 
 -- what declares a name in another table than that of blocks and optionals is no optional
 not-optional : (table : Table) (form : Form) (id : Word) → (table ≡ scopes → ⊥) → declared_in table form ≡ Some id → is_optional form ≡ false
@@ -76,7 +77,7 @@ one-namespace (x ∷ xs) (y ∷ ys) e =
     let others = one-namespace xs ys (second_true (bytes_eq x y) (same_namespace xs ys) e) in
     ap (λ z. z ∷ xs) first ∙ ap (λ l. y ∷ l) others
 
-module _ (policy : List Placed) (once : (fault : PolicyFault) → IsFaultOf twice every_optional policy fault → ⊥) (table : Table) (other : table ≡ scopes → ⊥) (namespace : List (List ℕ)) (name : List ℕ) where
+module _ (policy : List Placed) (once : (fault : PolicyFault) → IsFaultOf twice policy fault → ⊥) (table : Table) (other : table ≡ scopes → ⊥) (namespace : List (List ℕ)) (name : List ℕ) where
   -- a statement that declares the name stands behind none that does
   not-again : (before : List Placed) (s : Placed) (after : List Placed) → policy ≡ before ++ s ∷ after → declares table namespace name s ≡ true → list_any (declares table namespace name) before ≡ true → ⊥
   not-again before s after split declared earlier =
@@ -126,17 +127,7 @@ module _ (policy : List Placed) (once : (fault : PolicyFault) → IsFaultOf twic
   pub declared-once : AtMostOne (declares table namespace name) policy
   declared-once = alone [] policy refl
 
--- without its optionals a statement declares the same
-pub once-erased : (table : Table) (namespace : List (List ℕ)) (name : List ℕ) (policy : List Placed) → AtMostOne (declares table namespace name) (map erased policy) → AtMostOne (declares table namespace name) policy
-once-erased table namespace name [] one = tt
-once-erased table namespace name (s ∷ policy) one =
-    (λ declared. sym (any-erased policy) ∙ one.0 declared, once-erased table namespace name policy one.1)
-  where
-    any-erased : (statements : List Placed) → list_any (declares table namespace name) (map erased statements) ≡ list_any (declares table namespace name) statements
-    any-erased [] = refl
-    any-erased (t ∷ statements) = ap (λ b. declares table namespace name t || b) (any-erased statements)
-
 -- a name has a declaration in a set of optionals if its one declaration stands within it
 pub declared-within : (set : Optionals) (policy : List Placed) (table : Table) (namespace : List (List ℕ)) (name : List ℕ) → AtMostOne (declares table namespace name) policy
-    → is_some (declaration set policy table namespace name) ≡ holds_of (is_within set) (find (declares table namespace name) policy)
+    → is_some (declaration (restricted set policy) table namespace name) ≡ holds_of (is_within set) (find (declares table namespace name) policy)
 declared-within set policy table namespace name one = one-found (declares table namespace name) (is_within set) policy one

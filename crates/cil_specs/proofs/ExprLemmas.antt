@@ -5,10 +5,10 @@ use Rattle.std.proofs.lemmas.Slice.Eq.{bytes_eq-Decides}
 use Rattle.std.specs.List.{list_any}
 use Rattle.cil_specs.specs.Place.{Place}
 use Rattle.cil_specs.specs.Trees.{Trees, none, a_word, a_string, a_list}
-use Rattle.cil_specs.specs.Expr.{Expr, every, named, opposite, both, either, one_of, nothing, elements, operators, HasNoOperator, IsOperationThen, Expresses, Lists}
+use Rattle.cil_specs.specs.Expr.{WordExpr, every, named, opposite, both, either, one_of, nothing, elements, operators, HasNoOperator, IsOperationThen, Expresses, Lists}
 
 -- the word of an operation, and of none
-abbrev pub operator_of : Expr → List ℕ
+abbrev pub operator_of : WordExpr → List ℕ
 operator_of every = codes "all"
 operator_of (named word) = []
 operator_of (opposite x) = codes "not"
@@ -19,11 +19,11 @@ operator_of nothing = []
 operator_of (elements x more) = []
 
 -- the trees are two expressions
-abbrev pub ArePair : Trees → Expr → Expr → Type 0
+abbrev pub ArePair : Trees → WordExpr → WordExpr → Type 0
 ArePair operands x y = (second : Trees) × Expresses operands x second × Expresses second y none
 
 -- the trees are the operands of the operation
-abbrev pub AreOperands : Trees → Expr → Type 0
+abbrev pub AreOperands : Trees → WordExpr → Type 0
 AreOperands operands every = operands ≡ none
 AreOperands operands (named word) = ⊥
 AreOperands operands (opposite x) = Expresses operands x none
@@ -38,7 +38,7 @@ operation-parts : (at place : Place) (end : ℕ) (word operator : List ℕ) (ope
 operation-parts at place end word operator operands given rest after h = (cc (h.1.2, h.3), cc (h.1.2, h.3))
 
 -- what a list of an operator and of operands spells
-pub operation_is : (at place : Place) (end : ℕ) (word : List ℕ) (operands rest after : Trees) (e : Expr) → list_any (bytes_eq word) operators ≡ true
+pub operation_is : (at place : Place) (end : ℕ) (word : List ℕ) (operands rest after : Trees) (e : WordExpr) → list_any (bytes_eq word) operators ≡ true
     → Expresses (a_list at end (a_word place word operands) rest) e after → (word ≡ operator_of e) × AreOperands operands e
 operation_is at place end word operands rest after every is (inl h) = absurd cc
 operation_is at place end word operands rest after every is (inr h) = operation-parts at place end word (codes "all") operands none rest after h
@@ -65,23 +65,23 @@ apart v w differ same = true≢false (sym ((bytes_eq-Decides v w).1 same) ∙ di
 
 -- Where operands of an operator fit it in no way, nothing is spelt by the two.
 
-pub no_all : (operands : Trees) (e : Expr) → (operands ≡ none → ⊥) → (codes "all" ≡ operator_of e) × AreOperands operands e → ⊥
+pub no_all : (operands : Trees) (e : WordExpr) → (operands ≡ none → ⊥) → (codes "all" ≡ operator_of e) × AreOperands operands e → ⊥
 no_all operands every other h = other h.1
 no_all operands _ other h = apart _ _ refl h.0
 
-pub no_not : (operands : Trees) (e : Expr) → ((x : Expr) → Expresses operands x none → ⊥) → (codes "not" ≡ operator_of e) × AreOperands operands e → ⊥
+pub no_not : (operands : Trees) (e : WordExpr) → ((x : WordExpr) → Expresses operands x none → ⊥) → (codes "not" ≡ operator_of e) × AreOperands operands e → ⊥
 no_not operands (opposite x) other h = other x h.1
 no_not operands _ other h = apart _ _ refl h.0
 
-pub no_and : (operands : Trees) (e : Expr) → ((x y : Expr) → ArePair operands x y → ⊥) → (codes "and" ≡ operator_of e) × AreOperands operands e → ⊥
+pub no_and : (operands : Trees) (e : WordExpr) → ((x y : WordExpr) → ArePair operands x y → ⊥) → (codes "and" ≡ operator_of e) × AreOperands operands e → ⊥
 no_and operands (both x y) other h = other x y h.1
 no_and operands _ other h = apart _ _ refl h.0
 
-pub no_or : (operands : Trees) (e : Expr) → ((x y : Expr) → ArePair operands x y → ⊥) → (codes "or" ≡ operator_of e) × AreOperands operands e → ⊥
+pub no_or : (operands : Trees) (e : WordExpr) → ((x y : WordExpr) → ArePair operands x y → ⊥) → (codes "or" ≡ operator_of e) × AreOperands operands e → ⊥
 no_or operands (either x y) other h = other x y h.1
 no_or operands _ other h = apart _ _ refl h.0
 
-pub no_xor : (operands : Trees) (e : Expr) → ((x y : Expr) → ArePair operands x y → ⊥) → (codes "xor" ≡ operator_of e) × AreOperands operands e → ⊥
+pub no_xor : (operands : Trees) (e : WordExpr) → ((x y : WordExpr) → ArePair operands x y → ⊥) → (codes "xor" ≡ operator_of e) × AreOperands operands e → ⊥
 no_xor operands (one_of x y) other h = other x y h.1
 no_xor operands _ other h = apart _ _ refl h.0
 
@@ -92,7 +92,7 @@ operation-operator at end items operator given rest after free is h =
     true≢false (sym is ∙ subst HasNoOperator e free)
 
 -- a list with no operator in front spells its elements
-pub union_is : (at : Place) (end : ℕ) (items rest after : Trees) (e : Expr) → HasNoOperator items → Expresses (a_list at end items rest) e after → Lists items e
+pub union_is : (at : Place) (end : ℕ) (items rest after : Trees) (e : WordExpr) → HasNoOperator items → Expresses (a_list at end items rest) e after → Lists items e
 union_is at end items rest after every free (inl h) = absurd cc
 union_is at end items rest after every free (inr h) = absurd (operation-operator at end items (codes "all") none rest after free refl h)
 union_is at end items rest after (named w) free h = absurd cc
@@ -104,13 +104,13 @@ union_is at end items rest after nothing free h = cc
 union_is at end items rest after (elements x more) free h = (h.1, subst (λ t. Expresses t x h.1) (let e : h.0 ≡ items = cc in e) h.4, h.5)
 
 -- the elements of a list with no operator in front are spelt by it
-pub union_spelt : (at : Place) (end : ℕ) (items rest : Trees) (e : Expr) → HasNoOperator items → Lists items e → Expresses (a_list at end items rest) e rest
+pub union_spelt : (at : Place) (end : ℕ) (items rest : Trees) (e : WordExpr) → HasNoOperator items → Lists items e → Expresses (a_list at end items rest) e rest
 union_spelt at end items rest nothing free h = (at, end, λ i. a_list at end (h i) rest)
 union_spelt at end items rest (elements x more) free h = (items, h.0, (at, end, refl), free, h.1, h.2)
 union_spelt at end items rest _ free h = absurd h
 
 -- the expression of an operation is spelt by its operator and operands
-pub operation_spelt : (at place : Place) (end : ℕ) (operands rest : Trees) (e : Expr) → AreOperands operands e → Expresses (a_list at end (a_word place (operator_of e) operands) rest) e rest
+pub operation_spelt : (at place : Place) (end : ℕ) (operands rest : Trees) (e : WordExpr) → AreOperands operands e → Expresses (a_list at end (a_word place (operator_of e) operands) rest) e rest
 operation_spelt at place end operands rest every h = inr (a_word place (codes "all") operands, (at, end, refl), place, λ i. a_word place (codes "all") (h i))
 operation_spelt at place end operands rest (opposite x) h = (operands, (a_word place (codes "not") operands, (at, end, refl), place, refl), h)
 operation_spelt at place end operands rest (both x y) h = (operands, h.0, (a_word place (codes "and") operands, (at, end, refl), place, refl), h.1, h.2)
@@ -119,7 +119,7 @@ operation_spelt at place end operands rest (one_of x y) h = (operands, h.0, (a_w
 operation_spelt at place end operands rest _ h = absurd h
 
 -- a string spells nothing
-pub string_spells : (at : Place) (text : List ℕ) (rest after : Trees) (e : Expr) → Expresses (a_string at text rest) e after → ⊥
+pub string_spells : (at : Place) (text : List ℕ) (rest after : Trees) (e : WordExpr) → Expresses (a_string at text rest) e after → ⊥
 string_spells at text rest after every (inl h) = absurd cc
 string_spells at text rest after every (inr h) = absurd cc
 string_spells at text rest after (named w) h = absurd cc

@@ -1,17 +1,14 @@
 -- Names that are declared twice: what a statement declares, and the same of other statements.
-use Rattle.std.proofs.Common.{◌≡◌, Bool, true, false, ◌&&◌, ◌||◌, cond, List, [], ◌∷◌, ◌++◌, map, filter, flat_map, Option, Some, None, if◌then◌else◌, refl, sym, ap, ◌∙◌, subst, Contains, true≢false, append-nil, arith}
+use Rattle.std.proofs.Common.{◌≡◌, Bool, true, false, ◌||◌, cond, List, [], ◌∷◌, ◌++◌, filter, flat_map, Option, Some, None, if◌then◌else◌, refl, sym, ap, ◌∙◌, subst, Contains, true≢false, append-nil, get_or, drop, arith}
 use Rattle.std.specs.List.{list_any}
 use Rattle.std.specs.Option.{option_to_list}
-use Rattle.std.proofs.lemmas.List.{map-append}
 use Rattle.std.proofs.lemmas.Option.{none-some}
 use Rattle.cil_specs.specs.Names.{Word}
 use Rattle.cil_specs.specs.Statements.{Form, block, optional, type_name, type_alias, alias_actual, type_attribute, attribute_set, common, class, class_common, class_order, rule}
 use Rattle.cil_specs.specs.Joined.{Placed}
-use Rattle.cil_specs.specs.Lookup.{Table, types, classes, commons, scopes, declared_in, every_optional}
-use Rattle.cil_specs.specs.PolicyFault.{PolicyFault, twice, is_again, tables, twice_words, IsAtWordOf, IsFaultOf}
-use Rattle.cil_specs.proofs.Runs.{second_true}
-use Rattle.cil_specs.proofs.RestrictedLemmas.{any-among}
-use Rattle.cil_specs.proofs.RestrictedFaults.{among-split}
+use Rattle.cil_specs.specs.Lookup.{Table, types, classes, commons, scopes, declared_in}
+use Rattle.cil_specs.specs.PolicyFault.{PolicyFault, twice, is_again, tables, twice_words, IsFaultOf}
+use Rattle.cil_specs.proofs.RestrictedLemmas.{filter-yes, filter-no}
 
 -- the table that a statement declares a name in, if it declares one
 pub table_in : Form → Table
@@ -159,25 +156,68 @@ any-middle p (y ∷ before) x after e = by (p y) (any-middle p before x after e)
 
 -- no name of a policy is declared twice
 abbrev pub IsOnce : List Placed → Type 0
-IsOnce policy = (fault : PolicyFault) → IsFaultOf twice every_optional policy fault → ⊥
+IsOnce policy = (fault : PolicyFault) → IsFaultOf twice policy fault → ⊥
 
-any-picked : {X : Type 0} (g : X → Placed) (p : X → Bool) (xs : List X) (test : Placed → Bool) → list_any test (map g (filter p xs)) ≡ true → list_any test (map g xs) ≡ true
-any-picked g p xs test any =
-    let one = passes-among (λ x. p x && test (g x)) xs (sym (any-among p g test (λ x. p x && test (g x)) xs (λ x c. refl)) ∙ any) in
-    ap (λ l. list_any test (map g l)) one.split ∙ ap (list_any test) (map-append g one.before (one.x ∷ one.after))
-    ∙ any-middle test (map g one.before) (g one.x) (map g one.after) (second_true (p one.x) (test (g one.x)) one.passes)
+-- where one that passes a test stands among all
+pub record Split {X : Type 0} (w : X → Bool) (xs : List X) (before' : List X) (x : X) : Type 0 where
+  pub before : List X
+  pub after : List X
+  pub split : xs ≡ before ++ x ∷ after
+  pub passes : w x ≡ true
+  pub in_front : before' ≡ filter w before
+
+no-split : {X : Type 0} (before : List X) (x : X) (after : List X) → [] ≡ before ++ x ∷ after → ⊥
+no-split [] x after e = cc e
+no-split (z ∷ before) x after e = cc e
+
+pub filter-split : {X : Type 0} (w : X → Bool) (xs before : List X) (x : X) (after : List X) → filter w xs ≡ before ++ x ∷ after → Split w xs before x
+filter-split w [] before x after e = absurd (no-split before x after e)
+filter-split {X} w (y ∷ xs) before x after e = by (filter-split w xs) (w y) refl before e
+  where
+    by : ((before : List X) (x : X) (after : List X) → filter w xs ≡ before ++ x ∷ after → Split w xs before x) → (b : Bool) → w y ≡ b
+        → (before : List X) → filter w (y ∷ xs) ≡ before ++ x ∷ after → Split w (y ∷ xs) before x
+    by more true is [] e =
+        let here : x ≡ y = ap (λ l. get_or l 0 x) (sym e ∙ filter-yes w y xs is) in
+        record { before = []; after = xs; split = ap (λ z. z ∷ xs) (sym here); passes = ap w here ∙ is; in_front = refl }
+    by more true is (z ∷ before) e =
+        let here = sym (filter-yes w y xs is) ∙ e in
+        let rest = more before x after (ap (drop 1) here) in
+        record {
+          before = y ∷ rest.before;
+          after = rest.after;
+          split = ap (λ l. y ∷ l) rest.split;
+          passes = rest.passes;
+          in_front = (λ k. sym (ap (λ l. get_or l 0 z) here) k ∷ rest.in_front k) ∙ sym (filter-yes w y rest.before is);
+        }
+    by more false is before e =
+        let rest = more before x after (sym (filter-no w y xs is) ∙ e) in
+        record {
+          before = y ∷ rest.before;
+          after = rest.after;
+          split = ap (λ l. y ∷ l) rest.split;
+          passes = rest.passes;
+          in_front = rest.in_front ∙ sym (filter-no w y rest.before is);
+        }
+
+any-filtered : {X : Type 0} (w test : X → Bool) (xs : List X) → list_any test (filter w xs) ≡ true → list_any test xs ≡ true
+any-filtered w test [] any = any
+any-filtered w test (x ∷ xs) any = by (w x) refl (test x) refl (any-filtered w test xs)
+  where
+    by : (b : Bool) → w x ≡ b → (c : Bool) → test x ≡ c → (list_any test (filter w xs) ≡ true → list_any test xs ≡ true) → (test x || list_any test xs) ≡ true
+    by b e true f more = ap (λ d. d || list_any test xs) f
+    by true e false f more = ap (λ d. d || list_any test xs) f ∙ more (sym (ap (λ d. d || list_any test (filter w xs)) f) ∙ sym (ap (list_any test) (filter-yes w x xs e)) ∙ any)
+    by false e false f more = ap (λ d. d || list_any test xs) f ∙ more (sym (ap (list_any test) (filter-no w x xs e)) ∙ any)
 
 -- what is declared twice among some of the statements is so among all
-pub once-picked : {X : Type 0} (g : X → Placed) (p : X → Bool) (xs : List X) → IsOnce (map g xs) → IsOnce (map g (filter p xs))
-once-picked g p xs once fault is =
-    let one = among-split p g xs is.before is.s is.after is.split in
+pub once-filtered : (w : Placed → Bool) (policy : List Placed) → IsOnce policy → IsOnce (filter w policy)
+once-filtered w policy once fault is =
+    let one = filter-split w policy is.before is.s is.after is.split in
     once fault record {
-      before = map g one.before;
-      s = g one.x;
-      after = map g one.after;
+      before = one.before;
+      s = is.s;
+      after = one.after;
       word = is.word;
-      split = ap (map g) one.split ∙ map-append g one.before (one.x ∷ one.after);
-      is_faulty = twice-more (map g (filter p one.before)) (map g one.before) (g one.x) is.word (λ test. any-picked g p one.before test)
-          (subst (λ l. Contains l is.word) (λ i. twice_words (one.in_front i) (one.is i)) is.is_faulty);
-      is_at = subst (λ (t : Placed). IsAtWordOf fault twice t is.word) one.is is.is_at;
+      split = one.split;
+      is_faulty = twice-more (filter w one.before) one.before is.s is.word (λ test. any-filtered w test one.before) (subst (λ l. Contains l is.word) (λ i. twice_words (one.in_front i) is.s) is.is_faulty);
+      is_at = is.is_at;
     }

@@ -5,7 +5,7 @@ use Rattle.std.proofs.lemmas.List.{map-append}
 use Rattle.cil_specs.specs.Place.{Place}
 use Rattle.cil_specs.specs.Names.{Word, Role}
 use Rattle.cil_specs.specs.Trees.{Trees, none, a_word, a_string, a_list, in_order}
-use Rattle.cil_specs.specs.Expr.{Expr, every, named, opposite, both, either, one_of, nothing, elements, IsOperationThen, Expresses, Lists, named_words}
+use Rattle.cil_specs.specs.Expr.{WordExpr, every, named, opposite, both, either, one_of, nothing, elements, IsOperationThen, Expresses, Lists, leaves}
 use Rattle.cil_specs.specs.Statements.{Target, itself, the_named, as_declared, as_referred, target_words, Form, block, optional, type_name, type_alias, alias_actual, type_attribute, attribute_set, common, class, class_common, class_order, rule, words_of, rise_from}
 use Rattle.cil_specs.specs.Shape.{put_word, all_words, IsWordList, IsTargetThen, IsClassList, IsClassAndPermissions}
 use Rattle.cil_specs.proofs.FormLemmas.{IsNameAndList, OperandsFit}
@@ -119,7 +119,7 @@ put_order w low rest high h =
 
 mutual
   -- the words of an expression
-  pub expr_rises : (e : Expr) (trees rest : Trees) (low high : ℕ) → Expresses trees e rest → IsTrue (in_order low trees high) → RiseThen low (map offset_of (named_words e)) rest high
+  pub expr_rises : (e : WordExpr) (trees rest : Trees) (low high : ℕ) → Expresses trees e rest → IsTrue (in_order low trees high) → RiseThen low (map offset_of (leaves e)) rest high
   expr_rises every trees rest low high (inl h) order =
       let p = order_word low h.0 (codes "all") rest high (subst (λ t. IsTrue (in_order low t high)) h.1 order) in
       (h.0.offset + length (codes "all"), omega (arith, p.0, p.1), p.2)
@@ -128,26 +128,26 @@ mutual
       let p = put_order w low rest high (subst (λ t. IsTrue (in_order low t high)) h.0 order) in
       (p.0, (p.1, p.2), p.3)
   expr_rises (opposite x) trees rest low high h order =
-      rise_operation trees h.0 rest (codes "not") low high (map offset_of (named_words x)) h.1 order (λ from to o. rise_end from (map offset_of (named_words x)) to (expr_rises x h.0 none from to h.2 o))
+      rise_operation trees h.0 rest (codes "not") low high (map offset_of (leaves x)) h.1 order (λ from to o. rise_end from (map offset_of (leaves x)) to (expr_rises x h.0 none from to h.2 o))
   expr_rises (both x y) trees rest low high h order =
-      rise_operation trees h.0 rest (codes "and") low high (map offset_of (named_words x ++ named_words y)) h.2 order
-      (λ from to o. rise_both from (named_words x) (named_words y) h.1 to (expr_rises x h.0 h.1 from to h.3 o) (λ mid m. rise_end mid (map offset_of (named_words y)) to (expr_rises y h.1 none mid to h.4 m)))
+      rise_operation trees h.0 rest (codes "and") low high (map offset_of (leaves x ++ leaves y)) h.2 order
+      (λ from to o. rise_both from (leaves x) (leaves y) h.1 to (expr_rises x h.0 h.1 from to h.3 o) (λ mid m. rise_end mid (map offset_of (leaves y)) to (expr_rises y h.1 none mid to h.4 m)))
   expr_rises (either x y) trees rest low high h order =
-      rise_operation trees h.0 rest (codes "or") low high (map offset_of (named_words x ++ named_words y)) h.2 order
-      (λ from to o. rise_both from (named_words x) (named_words y) h.1 to (expr_rises x h.0 h.1 from to h.3 o) (λ mid m. rise_end mid (map offset_of (named_words y)) to (expr_rises y h.1 none mid to h.4 m)))
+      rise_operation trees h.0 rest (codes "or") low high (map offset_of (leaves x ++ leaves y)) h.2 order
+      (λ from to o. rise_both from (leaves x) (leaves y) h.1 to (expr_rises x h.0 h.1 from to h.3 o) (λ mid m. rise_end mid (map offset_of (leaves y)) to (expr_rises y h.1 none mid to h.4 m)))
   expr_rises (one_of x y) trees rest low high h order =
-      rise_operation trees h.0 rest (codes "xor") low high (map offset_of (named_words x ++ named_words y)) h.2 order
-      (λ from to o. rise_both from (named_words x) (named_words y) h.1 to (expr_rises x h.0 h.1 from to h.3 o) (λ mid m. rise_end mid (map offset_of (named_words y)) to (expr_rises y h.1 none mid to h.4 m)))
+      rise_operation trees h.0 rest (codes "xor") low high (map offset_of (leaves x ++ leaves y)) h.2 order
+      (λ from to o. rise_both from (leaves x) (leaves y) h.1 to (expr_rises x h.0 h.1 from to h.3 o) (λ mid m. rise_end mid (map offset_of (leaves y)) to (expr_rises y h.1 none mid to h.4 m)))
   expr_rises nothing trees rest low high h order =
       rise_list low h.0 h.1 none rest high [] (subst (λ t. IsTrue (in_order low t high)) h.2 order) (λ o. order_none (h.0.offset + 1) (h.1 - 1) o)
   expr_rises (elements x more) trees rest low high h order =
-      rise_list low h.2.0 h.2.1 h.0 rest high (map offset_of (named_words x ++ named_words more)) (subst (λ t. IsTrue (in_order low t high)) h.2.2 order)
-      (λ o. rise_both (h.2.0.offset + 1) (named_words x) (named_words more) h.1 (h.2.1 - 1) (expr_rises x h.0 h.1 (h.2.0.offset + 1) (h.2.1 - 1) h.4 o) (λ mid m. elements_rise more h.1 mid (h.2.1 - 1) h.5 m))
+      rise_list low h.2.0 h.2.1 h.0 rest high (map offset_of (leaves x ++ leaves more)) (subst (λ t. IsTrue (in_order low t high)) h.2.2 order)
+      (λ o. rise_both (h.2.0.offset + 1) (leaves x) (leaves more) h.1 (h.2.1 - 1) (expr_rises x h.0 h.1 (h.2.0.offset + 1) (h.2.1 - 1) h.4 o) (λ mid m. elements_rise more h.1 mid (h.2.1 - 1) h.5 m))
 
-  pub elements_rise : (e : Expr) (trees : Trees) (low high : ℕ) → Lists trees e → IsTrue (in_order low trees high) → RiseTo low (map offset_of (named_words e)) high
+  pub elements_rise : (e : WordExpr) (trees : Trees) (low high : ℕ) → Lists trees e → IsTrue (in_order low trees high) → RiseTo low (map offset_of (leaves e)) high
   elements_rise nothing trees low high h order = order_none low high (subst (λ t. IsTrue (in_order low t high)) h order)
   elements_rise (elements x more) trees low high h order =
-      rise_both low (named_words x) (named_words more) h.0 high (expr_rises x trees h.0 low high h.1 order) (λ mid m. elements_rise more h.0 mid high h.2 m)
+      rise_both low (leaves x) (leaves more) h.0 high (expr_rises x trees h.0 low high h.1 order) (λ mid m. elements_rise more h.0 mid high h.2 m)
   elements_rise _ trees low high h order = absurd h
 
 -- the words of a list and nothing else
@@ -161,11 +161,11 @@ word_list_rises : (ws : List Word) (trees : Trees) (low high : ℕ) → IsWordLi
 word_list_rises ws trees low high h order =
     rise_end low (map offset_of ws) high (rise_list low h.0 h.1 (all_words ws) none high (map offset_of ws) (subst (λ t. IsTrue (in_order low t high)) h.2 order) (λ o. all_rise ws (h.0.offset + 1) (h.1 - 1) o))
 
-declared_offsets : (ws : List Word) → map role_offset (map as_declared ws) ≡ map offset_of ws
+pub declared_offsets : (ws : List Word) → map role_offset (map as_declared ws) ≡ map offset_of ws
 declared_offsets [] = refl
 declared_offsets (w ∷ ws) = ap (λ ns. w.at.offset ∷ ns) (declared_offsets ws)
 
-referred_offsets : (ws : List Word) → map role_offset (map as_referred ws) ≡ map offset_of ws
+pub referred_offsets : (ws : List Word) → map role_offset (map as_referred ws) ≡ map offset_of ws
 referred_offsets [] = refl
 referred_offsets (w ∷ ws) = ap (λ ns. w.at.offset ∷ ns) (referred_offsets ws)
 
@@ -234,9 +234,9 @@ words_rise (type_alias id) operands inner low high h order = one_rises id operan
 words_rise (alias_actual v w) operands inner low high h order = two_rise v w operands inner low high h.0 h.1 order
 words_rise (type_attribute id) operands inner low high h order = one_rises id operands inner low high h.0 h.1 order
 words_rise (attribute_set attribute expr) operands inner low high h order =
-    put_rises attribute (map role_offset (map as_referred (named_words expr))) operands h.0.0 inner low high h.0.1 order
-    (λ from o. end_rises (map role_offset (map as_referred (named_words expr))) inner from high h.1
-    (subst (λ ns. RiseTo from ns high) (sym (referred_offsets (named_words expr))) (rise_end from (map offset_of (named_words expr)) high (expr_rises expr h.0.0 none from high h.0.2 o))))
+    put_rises attribute (map role_offset (map as_referred (leaves expr))) operands h.0.0 inner low high h.0.1 order
+    (λ from o. end_rises (map role_offset (map as_referred (leaves expr))) inner from high h.1
+    (subst (λ ns. RiseTo from ns high) (sym (referred_offsets (leaves expr))) (rise_end from (map offset_of (leaves expr)) high (expr_rises expr h.0.0 none from high h.0.2 o))))
 words_rise (common id permissions) operands inner low high h order = name_and_list_rise id permissions operands inner low high h.0 h.1 order
 words_rise (class id permissions) operands inner low high h order = name_and_list_rise id permissions operands inner low high h.0 h.1 order
 words_rise (class_common v w) operands inner low high h order = two_rise v w operands inner low high h.0 h.1 order

@@ -1,167 +1,122 @@
--- What the statements in kept optionals alone declare, lead to and give is what the policy does by these optionals.
-use Rattle.std.proofs.Common.{◌≡◌, ℕ, Bool, true, false, not, ◌&&◌, ◌||◌, cond, if◌then◌else◌, List, [], ◌∷◌, ◌++◌, map, filter, flat_map, find, Option, Some, None, option_map, option_and_then, is_some, Contains, bytes_eq, refl, sym, ap, ◌∙◌, true≢false}
+-- What is found among the statements that pass a test, and that what stands apart is found alike whatever is kept.
+use Rattle.std.proofs.Common.{◌≡◌, ℕ, Bool, true, false, ◌||◌, cond, if◌then◌else◌, List, [], ◌∷◌, ◌++◌, filter, flat_map, find, Option, Some, None, is_some, not, Contains, bytes_eq, refl, sym, ap, ◌∙◌, true≢false}
 use Rattle.std.specs.List.{list_all, list_any}
 use Rattle.cil_specs.specs.Names.{Word}
-use Rattle.cil_specs.specs.Statements.{Form, block, alias_actual, class_common, stands_apart}
+use Rattle.cil_specs.specs.Statements.{Form, block, common, class, class_common, stands_apart}
 use Rattle.cil_specs.specs.Joined.{Placed}
-use Rattle.cil_specs.specs.Lookup.{Table, types, classes, commons, Optionals, every_optional, is_within, is_word, declares, declaration, block_name, is_block, has_block, leads, holds_of, is_same, listed_by, gives_common, common_permissions, permissions_of, own_permissions, texts, gives_actual, actual_statement, actual_in, actual_of}
-use Rattle.cil_specs.specs.PolicyFault.{is_unfound, is_lacking}
-use Rattle.cil_specs.specs.Kept.{AreApart, erased, restricted}
+use Rattle.cil_specs.specs.Lookup.{Table, classes, commons, declared_in, is_word, same_namespace, declares, declaration, block_name, is_block, has_block, nearest_block, leads, holds_of, is_same, listed_by, gives_common, common_permissions, permissions_of, own_permissions, texts}
+use Rattle.cil_specs.specs.PolicyFault.{is_lacking}
+use Rattle.cil_specs.specs.Kept.{Optionals, is_within, restricted, AreApart}
 use Rattle.cil_specs.proofs.Runs.{first_true}
 use Rattle.cil_specs.proofs.NamesLemmas.{contains-first, contains-other}
-use Rattle.cil_specs.proofs.LeadsLemmas.{leads-mapped}
-use Rattle.cil_specs.proofs.KeptLemmas.{word-some, within-apart}
+use Rattle.cil_specs.proofs.LeadsLemmas.{nearest-same, leads-same}
 
--- Of what passes a test w the images by f, and tests and functions of the images and of all.
-module _ {X Y : Type 0} (w : X → Bool) (f : X → Y) where
-  -- the images of those that pass
-  abbrev pub among : List X → List Y
-  among xs = map f (filter w xs)
+-- Of what passes a test w, tests and functions that see nothing else.
+module _ {X : Type 0} (w : X → Bool) where
+  pub filter-yes : (x : X) (xs : List X) → w x ≡ true → filter w (x ∷ xs) ≡ x ∷ filter w xs
+  filter-yes x xs e = ap (λ b. cond b (x ∷ filter w xs) (filter w xs)) e
 
-  pub among-yes : (x : X) (xs : List X) → w x ≡ true → among (x ∷ xs) ≡ f x ∷ among xs
-  among-yes x xs e = ap (λ b. map f (cond b (x ∷ filter w xs) (filter w xs))) e
+  pub filter-no : (x : X) (xs : List X) → w x ≡ false → filter w (x ∷ xs) ≡ filter w xs
+  filter-no x xs e = ap (λ b. cond b (x ∷ filter w xs) (filter w xs)) e
 
-  pub among-no : (x : X) (xs : List X) → w x ≡ false → among (x ∷ xs) ≡ among xs
-  among-no x xs e = ap (λ b. map f (cond b (x ∷ filter w xs) (filter w xs))) e
-
-  pub find-among : (p : Y → Bool) (q : X → Bool) (xs : List X) → ((x : X) → q x ≡ (w x && p (f x))) → find p (among xs) ≡ option_map f (find q xs)
-  find-among p q [] same = refl
-  find-among p q (x ∷ xs) same = by (w x) refl (find-among p q xs same)
+  pub find-passed : (p : X → Bool) (xs : List X) → ((x : X) → Contains xs x → p x ≡ true → w x ≡ true) → find p (filter w xs) ≡ find p xs
+  find-passed p [] passes = refl
+  find-passed p (x ∷ xs) passes = by (w x) refl (p x) refl (find-passed p xs (λ y c. passes y (contains-other x xs y c)))
     where
-      some : (b : Bool) → find p (among xs) ≡ option_map f (find q xs) → cond b (Some (f x)) (find p (among xs)) ≡ option_map f (cond b (Some x) (find q xs))
-      some true more = refl
-      some false more = more
+      by : (b : Bool) → w x ≡ b → (c : Bool) → p x ≡ c → find p (filter w xs) ≡ find p xs → find p (filter w (x ∷ xs)) ≡ cond (p x) (Some x) (find p xs)
+      by true e c f more = ap (find p) (filter-yes x xs e) ∙ ap (cond (p x) (Some x)) more
+      by false e true f more = absurd (true≢false (sym (passes x (contains-first x xs) f) ∙ e))
+      by false e false f more = ap (find p) (filter-no x xs e) ∙ more ∙ ap (λ b. cond b (Some x) (find p xs)) (sym f)
 
-      by : (b : Bool) → w x ≡ b → find p (among xs) ≡ option_map f (find q xs) → find p (among (x ∷ xs)) ≡ option_map f (cond (q x) (Some x) (find q xs))
-      by true e more = ap (find p) (among-yes x xs e) ∙ some (p (f x)) more ∙ ap (λ b. option_map f (cond b (Some x) (find q xs))) (sym (same x ∙ ap (λ b. b && p (f x)) e))
-      by false e more = ap (find p) (among-no x xs e) ∙ more ∙ ap (λ b. option_map f (cond b (Some x) (find q xs))) (sym (same x ∙ ap (λ b. b && p (f x)) e))
-
-  pub any-among : (p : Y → Bool) (q : X → Bool) (xs : List X) → ((x : X) → Contains xs x → q x ≡ (w x && p (f x))) → list_any p (among xs) ≡ list_any q xs
-  any-among p q [] same = refl
-  any-among p q (x ∷ xs) same = by (w x) refl (any-among p q xs (λ y c. same y (contains-other x xs y c)))
+  pub any-passed : (p : X → Bool) (xs : List X) → ((x : X) → Contains xs x → p x ≡ true → w x ≡ true) → list_any p (filter w xs) ≡ list_any p xs
+  any-passed p [] passes = refl
+  any-passed p (x ∷ xs) passes = by (w x) refl (p x) refl (any-passed p xs (λ y c. passes y (contains-other x xs y c)))
     where
-      this : q x ≡ (w x && p (f x))
-      this = same x (contains-first x xs)
+      by : (b : Bool) → w x ≡ b → (c : Bool) → p x ≡ c → list_any p (filter w xs) ≡ list_any p xs → list_any p (filter w (x ∷ xs)) ≡ (p x || list_any p xs)
+      by true e c f more = ap (list_any p) (filter-yes x xs e) ∙ ap (λ b. p x || b) more
+      by false e true f more = absurd (true≢false (sym (passes x (contains-first x xs) f) ∙ e))
+      by false e false f more = ap (list_any p) (filter-no x xs e) ∙ more ∙ ap (λ b. b || list_any p xs) (sym f)
 
-      by : (b : Bool) → w x ≡ b → list_any p (among xs) ≡ list_any q xs → list_any p (among (x ∷ xs)) ≡ (q x || list_any q xs)
-      by true e more = ap (list_any p) (among-yes x xs e) ∙ (λ k. sym (this ∙ ap (λ b. b && p (f x)) e) k || more k)
-      by false e more = ap (list_any p) (among-no x xs e) ∙ more ∙ ap (λ b. b || list_any q xs) (sym (this ∙ ap (λ b. b && p (f x)) e))
-
-  pub flat_map-among : {Z : Type 0} (g : Y → List Z) (h : X → List Z) (xs : List X) → ((x : X) → w x ≡ true → g (f x) ≡ h x) → ((x : X) → w x ≡ false → h x ≡ []) → flat_map g (among xs) ≡ flat_map h xs
-  flat_map-among g h [] same none = refl
-  flat_map-among {Z} g h (x ∷ xs) same none = by (w x) refl (flat_map-among g h xs same none)
+  pub flat_map-passed : {Z : Type 0} (g : X → List Z) (xs : List X) → ((x : X) → Contains xs x → w x ≡ false → g x ≡ []) → flat_map g (filter w xs) ≡ flat_map g xs
+  flat_map-passed g [] none = refl
+  flat_map-passed g (x ∷ xs) none = by (w x) refl (flat_map-passed g xs (λ y c. none y (contains-other x xs y c)))
     where
-      by : (b : Bool) → w x ≡ b → flat_map g (among xs) ≡ flat_map h xs → flat_map g (among (x ∷ xs)) ≡ h x ++ flat_map h xs
-      by true e more = ap (flat_map g) (among-yes x xs e) ∙ (λ k. same x e k ++ more k)
-      by false e more = ap (flat_map g) (among-no x xs e) ∙ more ∙ ap (λ l. l ++ flat_map h xs) (sym (none x e))
+      by : (b : Bool) → w x ≡ b → flat_map g (filter w xs) ≡ flat_map g xs → flat_map g (filter w (x ∷ xs)) ≡ g x ++ flat_map g xs
+      by true e more = ap (flat_map g) (filter-yes x xs e) ∙ ap (λ l. g x ++ l) more
+      by false e more = ap (flat_map g) (filter-no x xs e) ∙ more ∙ ap (λ l. l ++ flat_map g xs) (sym (none x (contains-first x xs) e))
 
--- a test of a declaration that doesn't look at its optionals
-pub holds-erased : (test : Placed → Bool) (o : Option Placed) → ((s : Placed) → test (erased s) ≡ test s) → holds_of test (option_map erased o) ≡ holds_of test o
-holds-erased test None same = refl
-holds-erased test (Some s) same = same s
+pub word-some : (name : List ℕ) (o : Option Word) → is_word name o ≡ true → is_some o ≡ true
+word-some name None e = e
+word-some name (Some w) e = refl
 
-pub listed-erased : (o : Option Placed) → listed_by (option_map erased o) ≡ listed_by o
-listed-erased None = refl
-listed-erased (Some s) = refl
+-- what declares a name in a table has a word there
+pub declares-some : (table : Table) (namespace : List (List ℕ)) (name : List ℕ) (s : Placed) → declares table namespace name s ≡ true → is_some (declared_in table s.form) ≡ true
+declares-some table namespace name s e = word-some name (declared_in table s.form) (first_true (is_word name (declared_in table s.form)) (same_namespace s.namespace namespace) e)
 
-pub some-erased : (o : Option Placed) → is_some (option_map erased o) ≡ is_some o
-some-erased None = refl
-some-erased (Some s) = refl
+-- what declares a name in the table stands in no optional
+abbrev pub StandsApart : Table → Type 0
+StandsApart table = (form : Form) → is_some (declared_in table form) ≡ true → stands_apart form ≡ true
+
+pub classes-apart : StandsApart classes
+classes-apart (class id permissions) e = refl
+classes-apart _ e = absurd (true≢false (sym e))
+
+pub commons-apart : StandsApart commons
+commons-apart (common id permissions) e = refl
+commons-apart _ e = absurd (true≢false (sym e))
 
 block-apart : (form : Form) → is_some (block_name form) ≡ true → stands_apart form ≡ true
 block-apart (block id) e = refl
 block-apart _ e = absurd (true≢false (sym e))
 
-and-true : (b c : Bool) → (c ≡ true → b ≡ true) → c ≡ (b && c)
-and-true b true e = sym (ap (λ x. x && true) (e refl))
-and-true true false e = refl
-and-true false false e = refl
+gives-apart : (policy : List Placed) (the_class : Placed) (namespace : List (List ℕ)) (form : Form) → gives_common policy the_class namespace form ≡ true → stands_apart form ≡ true
+gives-apart policy the_class namespace (class_common word the_common) e = refl
+gives-apart policy the_class namespace _ e = absurd (true≢false (sym e))
 
-and-order : (b c : Bool) → (b && c) ≡ (c && b)
-and-order true true = refl
-and-order true false = refl
-and-order false true = refl
-and-order false false = refl
+module _ (set : Optionals) (policy : List Placed) (apart : AreApart policy) where
+  -- what stands apart stands within any optionals
+  pub within-apart : (s : Placed) → Contains policy s → stands_apart s.form ≡ true → is_within set s ≡ true
+  within-apart s is_in stands = ap (list_all (set s.module_name)) (apart s is_in stands)
 
-module _ (kept : Optionals) (policy : List Placed) (apart : AreApart policy) where
-  pub declaration-restricted : (table : Table) (namespace : List (List ℕ)) (name : List ℕ)
-      → declaration every_optional (restricted kept policy) table namespace name ≡ option_map erased (declaration kept policy table namespace name)
-  declaration-restricted table namespace name =
-      find-among (is_within kept) erased (λ s. declares table namespace name s && is_within every_optional s) (λ s. declares table namespace name s && is_within kept s) policy
-      (λ s. and-order (declares table namespace name s) (is_within kept s) ∙ ap (λ b. is_within kept s && b) (and-order true (declares table namespace name s)))
-
-  pub has_block-restricted : (namespace : List (List ℕ)) (name : List ℕ) → has_block (restricted kept policy) namespace name ≡ has_block policy namespace name
+  pub has_block-restricted : (namespace : List (List ℕ)) (name : List ℕ) → has_block (restricted set policy) namespace name ≡ has_block policy namespace name
   has_block-restricted namespace name =
-      any-among (is_within kept) erased (is_block namespace name) (is_block namespace name) policy
-      (λ s is_in. and-true (is_within kept s) (is_block namespace name s)
-      (λ e. within-apart policy apart kept s is_in (block-apart s.form (word-some name (block_name s.form) (first_true (is_word name (block_name s.form)) _ e)))))
+      any-passed (is_within set) (is_block namespace name) policy
+      (λ s is_in e. within-apart s is_in (block-apart s.form (word-some name (block_name s.form) (first_true (is_word name (block_name s.form)) (same_namespace s.namespace namespace) e))))
 
-  -- a name leads to the same declaration
-  pub leads-restricted : (table : Table) (namespace : List (List ℕ)) (text : List ℕ)
-      → leads every_optional (restricted kept policy) table namespace text ≡ option_map erased (leads kept policy table namespace text)
-  leads-restricted table = leads-mapped every_optional kept (restricted kept policy) policy erased table (declaration-restricted table) has_block-restricted
+  pub nearest_block-restricted : (namespace : List (List ℕ)) (name : List ℕ) → nearest_block (restricted set policy) namespace name ≡ nearest_block policy namespace name
+  nearest_block-restricted = nearest-same (restricted set policy) policy has_block-restricted
 
-  pub gives_common-restricted : (the_class : Placed) (namespace : List (List ℕ)) (form : Form) → gives_common every_optional (restricted kept policy) the_class namespace form ≡ gives_common kept policy the_class namespace form
-  gives_common-restricted the_class namespace (class_common word the_common) =
-      ap (holds_of (is_same classes the_class)) (leads-restricted classes namespace word.text) ∙ holds-erased (is_same classes the_class) (leads kept policy classes namespace word.text) (λ s. refl)
+  declaration-restricted : (table : Table) → StandsApart table → (namespace : List (List ℕ)) (name : List ℕ) → declaration (restricted set policy) table namespace name ≡ declaration policy table namespace name
+  declaration-restricted table stands namespace name =
+      find-passed (is_within set) (declares table namespace name) policy (λ s is_in e. within-apart s is_in (stands s.form (declares-some table namespace name s e)))
+
+  -- classes and commons are found alike
+  pub leads-restricted : (table : Table) → StandsApart table → (namespace : List (List ℕ)) (text : List ℕ) → leads (restricted set policy) table namespace text ≡ leads policy table namespace text
+  leads-restricted table stands = leads-same (restricted set policy) policy table (declaration-restricted table stands) has_block-restricted
+
+  gives_common-restricted : (the_class : Placed) (namespace : List (List ℕ)) (form : Form) → gives_common (restricted set policy) the_class namespace form ≡ gives_common policy the_class namespace form
+  gives_common-restricted the_class namespace (class_common word the_common) = ap (holds_of (is_same classes the_class)) (leads-restricted classes classes-apart namespace word.text)
   gives_common-restricted the_class namespace _ = refl
 
-  pub common_permissions-restricted : (namespace : List (List ℕ)) (form : Form) → common_permissions every_optional (restricted kept policy) namespace form ≡ common_permissions kept policy namespace form
-  common_permissions-restricted namespace (class_common word the_common) = ap listed_by (leads-restricted commons namespace the_common.text) ∙ listed-erased (leads kept policy commons namespace the_common.text)
+  common_permissions-restricted : (namespace : List (List ℕ)) (form : Form) → common_permissions (restricted set policy) namespace form ≡ common_permissions policy namespace form
+  common_permissions-restricted namespace (class_common word the_common) = ap listed_by (leads-restricted commons commons-apart namespace the_common.text)
   common_permissions-restricted namespace _ = refl
 
-  -- a class has the same permissions
-  pub permissions-restricted : (s : Placed) → permissions_of every_optional (restricted kept policy) s ≡ permissions_of kept policy s
+  -- so are the permissions of a class
+  pub permissions-restricted : (s : Placed) → permissions_of (restricted set policy) s ≡ permissions_of policy s
   permissions-restricted s =
       ap (λ l. texts (own_permissions s.form) ++ l)
-      (flat_map-among (is_within kept) erased
-      (λ t. if is_within every_optional t && gives_common every_optional (restricted kept policy) s t.namespace t.form then common_permissions every_optional (restricted kept policy) t.namespace t.form else [])
-      (λ t. if is_within kept t && gives_common kept policy s t.namespace t.form then common_permissions kept policy t.namespace t.form else []) policy
-      (λ t e. (λ k. if gives_common-restricted s t.namespace t.form k then common_permissions-restricted t.namespace t.form k else [])
-      ∙ ap (λ b. if b && gives_common kept policy s t.namespace t.form then common_permissions kept policy t.namespace t.form else []) (sym e))
-      (λ t e. ap (λ b. if b && gives_common kept policy s t.namespace t.form then common_permissions kept policy t.namespace t.form else []) e))
-
-  pub unfound-restricted : (namespace : List (List ℕ)) (r : Table × Word) → is_unfound every_optional (restricted kept policy) namespace r ≡ is_unfound kept policy namespace r
-  unfound-restricted namespace (table, word) = ap not (ap is_some (leads-restricted table namespace word.text) ∙ some-erased (leads kept policy table namespace word.text))
-
-  pub lacking-restricted : (namespace : List (List ℕ)) (r : Word × Word) → is_lacking every_optional (restricted kept policy) namespace r ≡ is_lacking kept policy namespace r
-  lacking-restricted namespace (the_class, word) =
-      (λ k. holds_of (λ s. not (list_any (bytes_eq word.text) (permissions-restricted s k))) (leads-restricted classes namespace the_class.text k))
-      ∙ holds-erased (λ s. not (list_any (bytes_eq word.text) (permissions_of kept policy s))) (leads kept policy classes namespace the_class.text) (λ s. refl)
-
-  -- an alias is given the same type
-  pub gives_actual-restricted : (alias : Placed) (namespace : List (List ℕ)) (form : Form) → gives_actual every_optional (restricted kept policy) alias namespace form ≡ gives_actual kept policy alias namespace form
-  gives_actual-restricted alias namespace (alias_actual word actual) =
-      ap (holds_of (is_same types alias)) (leads-restricted types namespace word.text) ∙ holds-erased (is_same types alias) (leads kept policy types namespace word.text) (λ s. refl)
-  gives_actual-restricted alias namespace _ = refl
-
-  pub actual_statement-restricted : (alias : Placed) → actual_statement every_optional (restricted kept policy) alias ≡ option_map erased (actual_statement kept policy alias)
-  actual_statement-restricted alias =
-      find-among (is_within kept) erased (λ s. is_within every_optional s && gives_actual every_optional (restricted kept policy) alias s.namespace s.form)
-      (λ s. is_within kept s && gives_actual kept policy alias s.namespace s.form) policy (λ s. ap (λ b. is_within kept s && b) (sym (gives_actual-restricted alias s.namespace s.form)))
-
-  pub actual_in-restricted : (namespace : List (List ℕ)) (form : Form) → actual_in every_optional (restricted kept policy) namespace form ≡ option_map erased (actual_in kept policy namespace form)
-  actual_in-restricted namespace (alias_actual word actual) = leads-restricted types namespace actual.text
-  actual_in-restricted namespace _ = refl
-
-  pub actual_of-restricted : (alias : Placed) → actual_of every_optional (restricted kept policy) alias ≡ option_map erased (actual_of kept policy alias)
-  actual_of-restricted alias = ap (option_and_then (λ s. actual_in every_optional (restricted kept policy) s.namespace s.form)) (actual_statement-restricted alias) ∙ by (actual_statement kept policy alias)
+      ((λ k. flat_map (λ t. if gives_common-restricted s t.namespace t.form k then common_permissions-restricted t.namespace t.form k else []) (restricted set policy))
+      ∙ flat_map-passed (is_within set) (λ t. if gives_common policy s t.namespace t.form then common_permissions policy t.namespace t.form else []) policy none)
     where
-      by : (o : Option Placed) → option_and_then (λ s. actual_in every_optional (restricted kept policy) s.namespace s.form) (option_map erased o) ≡ option_map erased (option_and_then (λ s. actual_in kept policy s.namespace s.form) o)
-      by None = refl
-      by (Some s) = actual_in-restricted s.namespace s.form
+      none : (t : Placed) → Contains policy t → is_within set t ≡ false → (if gives_common policy s t.namespace t.form then common_permissions policy t.namespace t.form else []) ≡ []
+      none t is_in out = by (gives_common policy s t.namespace t.form) refl
+        where
+          by : (b : Bool) → gives_common policy s t.namespace t.form ≡ b → (if b then common_permissions policy t.namespace t.form else []) ≡ []
+          by true e = absurd (true≢false (sym (within-apart t is_in (gives-apart policy s t.namespace t.form e)) ∙ out))
+          by false e = refl
 
--- all statements stand within every optional
-pub every-within : (s : Placed) → is_within every_optional s ≡ true
-every-within s = all s.optionals
-  where
-    all : (ns : List ℕ) → list_all (every_optional s.module_name) ns ≡ true
-    all [] = refl
-    all (n ∷ ns) = all ns
-
-filter-every : (policy : List Placed) → filter (is_within every_optional) policy ≡ policy
-filter-every [] = refl
-filter-every (s ∷ policy) = λ k. cond (every-within s k) (s ∷ filter-every policy k) (filter-every policy k)
-
-pub restricted-every : (policy : List Placed) → restricted every_optional policy ≡ map erased policy
-restricted-every policy = ap (map erased) (filter-every policy)
+  -- and the permissions that a class lacks
+  pub lacking-restricted : (namespace : List (List ℕ)) (r : Word × Word) → is_lacking (restricted set policy) namespace r ≡ is_lacking policy namespace r
+  lacking-restricted namespace (the_class, word) =
+      λ k. holds_of (λ s. not (list_any (bytes_eq word.text) (permissions-restricted s k))) (leads-restricted classes classes-apart namespace the_class.text k)

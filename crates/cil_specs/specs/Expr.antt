@@ -5,16 +5,42 @@ use Rattle.cil_specs.specs.Place.{Place}
 use Rattle.cil_specs.specs.Names.{Word}
 use Rattle.cil_specs.specs.Trees.{Trees, none, a_word, a_string, a_list}
 
--- A list of elements is its first element and the others, or nothing.
-pub data Expr : Type 0 where
-  every : Expr
-  named : Word → Expr
-  opposite : Expr → Expr
-  both : Expr → Expr → Expr
-  either : Expr → Expr → Expr
-  one_of : Expr → Expr → Expr
-  nothing : Expr
-  elements : Expr → Expr → Expr
+-- Expressions over leaves: words as written, or what they lead to. A list of elements is its first element and the others, or nothing.
+pub data Expr (leaf : Type 0) : Type 0 where
+  every : Expr leaf
+  named : leaf → Expr leaf
+  opposite : Expr leaf → Expr leaf
+  both : Expr leaf → Expr leaf → Expr leaf
+  either : Expr leaf → Expr leaf → Expr leaf
+  one_of : Expr leaf → Expr leaf → Expr leaf
+  nothing : Expr leaf
+  elements : Expr leaf → Expr leaf → Expr leaf
+
+-- an expression as written
+abbrev pub WordExpr : Type 0
+WordExpr = Expr Word
+
+-- the leaves of an expression in their order
+abbrev pub leaves : {leaf : Type 0} → Expr leaf → List leaf
+leaves every = []
+leaves (named l) = l ∷ []
+leaves (opposite x) = leaves x
+leaves (both x y) = leaves x ++ leaves y
+leaves (either x y) = leaves x ++ leaves y
+leaves (one_of x y) = leaves x ++ leaves y
+leaves nothing = []
+leaves (elements x more) = leaves x ++ leaves more
+
+-- the expression with other leaves in the place of its own
+abbrev pub map_leaves : {leaf other : Type 0} → (leaf → other) → Expr leaf → Expr other
+map_leaves f every = every
+map_leaves f (named l) = named (f l)
+map_leaves f (opposite x) = opposite (map_leaves f x)
+map_leaves f (both x y) = both (map_leaves f x) (map_leaves f y)
+map_leaves f (either x y) = either (map_leaves f x) (map_leaves f y)
+map_leaves f (one_of x y) = one_of (map_leaves f x) (map_leaves f y)
+map_leaves f nothing = nothing
+map_leaves f (elements x more) = elements (map_leaves f x) (map_leaves f more)
 
 -- the words that are operators where they stand first in a list
 abbrev pub operators : List (List ℕ)
@@ -37,7 +63,7 @@ IsOperationThen trees operator operands rest = (items : Trees) × IsListThen tre
 
 abbrev mutual
   -- the first of the trees spells the expression, and the rest follows
-  pub Expresses : Trees → Expr → Trees → Type 0
+  pub Expresses : Trees → WordExpr → Trees → Type 0
   Expresses trees every rest = ((at : Place) × (trees ≡ a_word at (codes "all") rest)) ⊎ IsOperationThen trees (codes "all") none rest
   Expresses trees (named word) rest = (trees ≡ a_word word.at word.text rest) × (word.text ≢ codes "all")
   Expresses trees (opposite x) rest = (operands : Trees) × IsOperationThen trees (codes "not") operands rest × Expresses operands x none
@@ -48,7 +74,7 @@ abbrev mutual
   Expresses trees (elements x more) rest = (items others : Trees) × IsListThen trees items rest × HasNoOperator items × Expresses items x others × Lists others more
 
   -- the trees spell the elements of the expression one after the other
-  pub Lists : Trees → Expr → Type 0
+  pub Lists : Trees → WordExpr → Type 0
   Lists trees every = ⊥
   Lists trees (named word) = ⊥
   Lists trees (opposite x) = ⊥
@@ -57,14 +83,3 @@ abbrev mutual
   Lists trees (one_of x y) = ⊥
   Lists trees nothing = trees ≡ none
   Lists trees (elements x more) = (others : Trees) × Expresses trees x others × Lists others more
-
--- the words of an expression in the order of the text
-abbrev pub named_words : Expr → List Word
-named_words every = []
-named_words (named word) = word ∷ []
-named_words (opposite x) = named_words x
-named_words (both x y) = named_words x ++ named_words y
-named_words (either x y) = named_words x ++ named_words y
-named_words (one_of x y) = named_words x ++ named_words y
-named_words nothing = []
-named_words (elements x more) = named_words x ++ named_words more

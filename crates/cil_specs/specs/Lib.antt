@@ -12,9 +12,10 @@ pub mod Joined
 pub mod Lookup
 pub mod PolicyFault
 pub mod Rule
+pub mod Kept
+pub mod Meaning
 pub mod Report
 pub mod Store
-pub mod Kept
 pub mod Next
 pub mod Run
 pub mod Script

@@ -1,9 +1,9 @@
 -- What a statement declares and names, and where a name leads.
 use Rattle.std.specs.Prelude.{ℕ, Bool, true, false, ◌&&◌, ◌==◌, List, [], ◌∷◌, ◌++◌, map, flat_map, fold, Option, Some, None, bytes_eq, if◌then◌else◌}
-use Rattle.std.specs.List.{find, list_any, list_all}
+use Rattle.std.specs.List.{find, list_any}
 use Rattle.std.specs.Option.{option_or, option_and_then}
 use Rattle.cil_specs.specs.Names.{Word, components}
-use Rattle.cil_specs.specs.Expr.{named_words}
+use Rattle.cil_specs.specs.Expr.{leaves}
 use Rattle.cil_specs.specs.Statements.{Form, block, optional, type_name, type_alias, alias_actual, type_attribute, attribute_set, common, class, class_common, class_order, rule, target_words}
 use Rattle.cil_specs.specs.Joined.{Placed}
 
@@ -25,18 +25,6 @@ declared_in scopes (block id) = Some id
 declared_in scopes (optional id) = Some id
 declared_in _ _ = None
 
--- a set of optionals, each by its module and its offset
-abbrev pub Optionals : Type 0
-Optionals = List ℕ → ℕ → Bool
-
--- the set of all optionals
-abbrev pub every_optional : Optionals
-every_optional module_name offset = true
-
--- whether all optionals around a statement are in the set
-abbrev pub is_within : Optionals → Placed → Bool
-is_within kept s = list_all (kept s.module_name) s.optionals
-
 -- whether two namespaces are one
 abbrev pub same_namespace : List (List ℕ) → List (List ℕ) → Bool
 same_namespace [] [] = true
@@ -52,9 +40,9 @@ is_word name (Some word) = bytes_eq word.text name
 abbrev pub declares : Table → List (List ℕ) → List ℕ → Placed → Bool
 declares table namespace name s = is_word name (declared_in table s.form) && same_namespace s.namespace namespace
 
--- the first statement that declares the name in the table and the namespace, of those all of whose optionals are in the set
-abbrev pub declaration : Optionals → List Placed → Table → List (List ℕ) → List ℕ → Option Placed
-declaration kept policy table namespace name = find (λ s. declares table namespace name s && is_within kept s) policy
+-- the first statement that declares the name in the table and the namespace
+abbrev pub declaration : List Placed → Table → List (List ℕ) → List ℕ → Option Placed
+declaration policy table namespace name = find (declares table namespace name) policy
 
 -- the name of a block
 abbrev pub block_name : Form → Option Word
@@ -70,9 +58,9 @@ abbrev pub has_block : List Placed → List (List ℕ) → List ℕ → Bool
 has_block policy namespace name = list_any (is_block namespace name) policy
 
 -- Where a plain name leads from a namespace: to its declaration in the nearest namespace outward that has one.
-abbrev pub outward : Optionals → List Placed → Table → List (List ℕ) → List ℕ → Option Placed
-outward kept policy table [] name = declaration kept policy table [] name
-outward kept policy table (inner ∷ outer) name = option_or (declaration kept policy table (inner ∷ outer) name) (outward kept policy table outer name)
+abbrev pub outward : List Placed → Table → List (List ℕ) → List ℕ → Option Placed
+outward policy table [] name = declaration policy table [] name
+outward policy table (inner ∷ outer) name = option_or (declaration policy table (inner ∷ outer) name) (outward policy table outer name)
 
 -- the namespace that the nearest block of a name outward opens
 abbrev pub nearest_block : List Placed → List (List ℕ) → List ℕ → Option (List (List ℕ))
@@ -81,17 +69,17 @@ nearest_block policy (inner ∷ outer) name = if has_block policy (inner ∷ out
 
 -- Where names between dots lead strictly inside a namespace: each but the last to a block there, in which the next is looked up,
 -- and the last to its declaration. There is no way back outward.
-abbrev pub inside : Optionals → List Placed → Table → List (List ℕ) → List (List ℕ) → Option Placed
-inside kept policy table namespace [] = None
-inside kept policy table namespace (name ∷ []) = declaration kept policy table namespace name
-inside kept policy table namespace (name ∷ next ∷ more) = if has_block policy namespace name then inside kept policy table (name ∷ namespace) (next ∷ more) else None
+abbrev pub inside : List Placed → Table → List (List ℕ) → List (List ℕ) → Option Placed
+inside policy table namespace [] = None
+inside policy table namespace (name ∷ []) = declaration policy table namespace name
+inside policy table namespace (name ∷ next ∷ more) = if has_block policy namespace name then inside policy table (name ∷ namespace) (next ∷ more) else None
 
 -- Where names between dots lead from a namespace: a single one outward; of several, the first to the nearest block outward and the
 -- others inside it.
-abbrev pub from_namespace : Optionals → List Placed → Table → List (List ℕ) → List (List ℕ) → Option Placed
-from_namespace kept policy table namespace [] = None
-from_namespace kept policy table namespace (name ∷ []) = outward kept policy table namespace name
-from_namespace kept policy table namespace (name ∷ next ∷ more) = option_and_then (λ inner. inside kept policy table inner (next ∷ more)) (nearest_block policy namespace name)
+abbrev pub from_namespace : List Placed → Table → List (List ℕ) → List (List ℕ) → Option Placed
+from_namespace policy table namespace [] = None
+from_namespace policy table namespace (name ∷ []) = outward policy table namespace name
+from_namespace policy table namespace (name ∷ next ∷ more) = option_and_then (λ inner. inside policy table inner (next ∷ more)) (nearest_block policy namespace name)
 
 -- whether a reference begins with a dot
 abbrev pub is_global : List ℕ → Bool
@@ -99,9 +87,9 @@ is_global [] = false
 is_global (b ∷ bytes) = b == 46
 
 -- Where a reference leads from a namespace. With a leading dot it is looked up in the global namespace alone.
-abbrev pub leads : Optionals → List Placed → Table → List (List ℕ) → List ℕ → Option Placed
-leads kept policy table namespace text =
-    if is_global text then inside kept policy table [] (components text) else from_namespace kept policy table namespace (components text)
+abbrev pub leads : List Placed → Table → List (List ℕ) → List ℕ → Option Placed
+leads policy table namespace text =
+    if is_global text then inside policy table [] (components text) else from_namespace policy table namespace (components text)
 
 -- the names of the blocks from the outside in and the name itself, joined by dots
 abbrev pub full_name : List (List ℕ) → List ℕ → List ℕ
@@ -128,7 +116,7 @@ holds_of test (Some s) = test s
 -- the references of a statement, each with its table, in the order of the text
 abbrev pub references : Form → List (Table × Word)
 references (alias_actual alias actual) = (types, alias) ∷ (types, actual) ∷ []
-references (attribute_set attribute expr) = (types, attribute) ∷ map (λ w. (types, w)) (named_words expr)
+references (attribute_set attribute expr) = (types, attribute) ∷ map (λ w. (types, w)) (leaves expr)
 references (class_common the_class the_common) = (classes, the_class) ∷ (commons, the_common) ∷ []
 references (class_order the_classes) = map (λ w. (classes, w)) the_classes
 references (rule kind source target the_class permissions) = (types, source) ∷ (map (λ w. (types, w)) (target_words target) ++ (classes, the_class) ∷ [])
@@ -153,19 +141,19 @@ listed_by None = []
 listed_by (Some s) = texts (own_permissions s.form)
 
 -- whether a statement in a namespace gives a common to the class
-abbrev pub gives_common : Optionals → List Placed → Placed → List (List ℕ) → Form → Bool
-gives_common kept policy the_class namespace (class_common word the_common) = holds_of (is_same classes the_class) (leads kept policy classes namespace word.text)
-gives_common kept policy the_class namespace _ = false
+abbrev pub gives_common : List Placed → Placed → List (List ℕ) → Form → Bool
+gives_common policy the_class namespace (class_common word the_common) = holds_of (is_same classes the_class) (leads policy classes namespace word.text)
+gives_common policy the_class namespace _ = false
 
 -- the permissions of the common that a statement in a namespace names
-abbrev pub common_permissions : Optionals → List Placed → List (List ℕ) → Form → List (List ℕ)
-common_permissions kept policy namespace (class_common word the_common) = listed_by (leads kept policy commons namespace the_common.text)
-common_permissions kept policy namespace _ = []
+abbrev pub common_permissions : List Placed → List (List ℕ) → Form → List (List ℕ)
+common_permissions policy namespace (class_common word the_common) = listed_by (leads policy commons namespace the_common.text)
+common_permissions policy namespace _ = []
 
 -- the permissions of a class: its own, and those of each common that a statement gives it
-abbrev pub permissions_of : Optionals → List Placed → Placed → List (List ℕ)
-permissions_of kept policy s = texts (own_permissions s.form)
-    ++ flat_map (λ t. if is_within kept t && gives_common kept policy s t.namespace t.form then common_permissions kept policy t.namespace t.form else []) policy
+abbrev pub permissions_of : List Placed → Placed → List (List ℕ)
+permissions_of policy s = texts (own_permissions s.form)
+    ++ flat_map (λ t. if gives_common policy s t.namespace t.form then common_permissions policy t.namespace t.form else []) policy
 
 -- whether a name is among names
 abbrev pub has_name : List (List ℕ) → List ℕ → Bool
@@ -180,22 +168,22 @@ abbrev pub distinct : List (List ℕ) → List (List ℕ)
 distinct names = fold with_name [] names
 
 -- whether a statement in a namespace gives an actual type to the alias
-abbrev pub gives_actual : Optionals → List Placed → Placed → List (List ℕ) → Form → Bool
-gives_actual kept policy alias namespace (alias_actual word actual) = holds_of (is_same types alias) (leads kept policy types namespace word.text)
-gives_actual kept policy alias namespace _ = false
+abbrev pub gives_actual : List Placed → Placed → List (List ℕ) → Form → Bool
+gives_actual policy alias namespace (alias_actual word actual) = holds_of (is_same types alias) (leads policy types namespace word.text)
+gives_actual policy alias namespace _ = false
 
--- the first kept statement that gives an actual type to the alias
-abbrev pub actual_statement : Optionals → List Placed → Placed → Option Placed
-actual_statement kept policy alias = find (λ s. is_within kept s && gives_actual kept policy alias s.namespace s.form) policy
+-- the first statement that gives an actual type to the alias
+abbrev pub actual_statement : List Placed → Placed → Option Placed
+actual_statement policy alias = find (λ s. gives_actual policy alias s.namespace s.form) policy
 
 -- what a statement in a namespace gives to an alias as its actual type
-abbrev pub actual_in : Optionals → List Placed → List (List ℕ) → Form → Option Placed
-actual_in kept policy namespace (alias_actual word actual) = leads kept policy types namespace actual.text
-actual_in kept policy namespace _ = None
+abbrev pub actual_in : List Placed → List (List ℕ) → Form → Option Placed
+actual_in policy namespace (alias_actual word actual) = leads policy types namespace actual.text
+actual_in policy namespace _ = None
 
 -- the actual type of an alias
-abbrev pub actual_of : Optionals → List Placed → Placed → Option Placed
-actual_of kept policy alias = option_and_then (λ s. actual_in kept policy s.namespace s.form) (actual_statement kept policy alias)
+abbrev pub actual_of : List Placed → Placed → Option Placed
+actual_of policy alias = option_and_then (λ s. actual_in policy s.namespace s.form) (actual_statement policy alias)
 
 abbrev pub is_type : Form → Bool
 is_type (type_name id) = true

@@ -7,10 +7,10 @@ use Rattle.std.specs.declared.cmp.Ordering.TheVariants.{Less}
 use Rattle.std.specs.Cmp.Lexicographic.{slice_cmp}
 use Rattle.cil_specs.specs.Place.{Place}
 use Rattle.cil_specs.specs.Names.{Word}
-use Rattle.cil_specs.specs.Expr.{named_words}
+use Rattle.cil_specs.specs.Expr.{leaves}
 use Rattle.cil_specs.specs.Statements.{Form, alias_actual, attribute_set, class_common, rule, target_words, is_optional}
 use Rattle.cil_specs.specs.Joined.{Placed}
-use Rattle.cil_specs.specs.Lookup.{Table, types, classes, commons, scopes, Optionals, declared_in, declares, is_within, leads, holds_of, references, named_permissions, permissions_of, distinct, gives_common, gives_actual, actual_statement, is_type, is_alias, is_attribute}
+use Rattle.cil_specs.specs.Lookup.{Table, types, classes, commons, scopes, declared_in, declares, leads, holds_of, references, named_permissions, permissions_of, distinct, gives_common, gives_actual, actual_statement, is_type, is_alias, is_attribute}
 
 pub data PolicyFaultKind : Type 0 where
   twice : PolicyFaultKind
@@ -49,18 +49,18 @@ tables = types ∷ classes ∷ commons ∷ scopes ∷ []
 abbrev pub twice_words : List Placed → Placed → List Word
 twice_words before s = flat_map (λ table. filter (λ id. list_any (is_again table s id) before) (option_to_list (declared_in table s.form))) tables
 
-abbrev pub is_unfound : Optionals → List Placed → List (List ℕ) → Table × Word → Bool
-is_unfound kept policy namespace (table, word) = not (is_some (leads kept policy table namespace word.text))
+abbrev pub is_unfound : List Placed → List (List ℕ) → Table × Word → Bool
+is_unfound policy namespace (table, word) = not (is_some (leads policy table namespace word.text))
 
 -- whether a class that is found lacks a permission
-abbrev pub is_lacking : Optionals → List Placed → List (List ℕ) → Word × Word → Bool
-is_lacking kept policy namespace (the_class, word) =
-    holds_of (λ s. not (list_any (bytes_eq word.text) (permissions_of kept policy s))) (leads kept policy classes namespace the_class.text)
+abbrev pub is_lacking : List Placed → List (List ℕ) → Word × Word → Bool
+is_lacking policy namespace (the_class, word) =
+    holds_of (λ s. not (list_any (bytes_eq word.text) (permissions_of policy s))) (leads policy classes namespace the_class.text)
 
 -- the references of a statement that lead nowhere, and the permissions that their class lacks
-abbrev pub missing_words : Optionals → List Placed → Placed → List Word
-missing_words kept policy s = map (λ r. r.1) (filter (is_unfound kept policy s.namespace) (references s.form))
-    ++ map (λ p. p.1) (filter (is_lacking kept policy s.namespace) (named_permissions s.form))
+abbrev pub missing_words : List Placed → Placed → List Word
+missing_words policy s = map (λ r. r.1) (filter (is_unfound policy s.namespace) (references s.form))
+    ++ map (λ p. p.1) (filter (is_lacking policy s.namespace) (named_permissions s.form))
 
 -- the references of a statement that have to lead to a type, an alias or an attribute, each with the test of it
 abbrev pub kinds_asked : Form → List ((Form → Bool) × Word)
@@ -68,38 +68,38 @@ kinds_asked (alias_actual alias actual) = (is_alias, alias) ∷ (is_type, actual
 kinds_asked (attribute_set attribute expr) = (is_attribute, attribute) ∷ []
 kinds_asked _ = []
 
-abbrev pub is_of_another_kind : Optionals → List Placed → List (List ℕ) → (Form → Bool) × Word → Bool
-is_of_another_kind kept policy namespace (test, word) = holds_of (λ s. not (test s.form)) (leads kept policy types namespace word.text)
+abbrev pub is_of_another_kind : List Placed → List (List ℕ) → (Form → Bool) × Word → Bool
+is_of_another_kind policy namespace (test, word) = holds_of (λ s. not (test s.form)) (leads policy types namespace word.text)
 
 -- the references of a statement that lead to a thing of another kind
-abbrev pub wrong_kind_words : Optionals → List Placed → Placed → List Word
-wrong_kind_words kept policy s = map (λ r. r.1) (filter (is_of_another_kind kept policy s.namespace) (kinds_asked s.form))
+abbrev pub wrong_kind_words : List Placed → Placed → List Word
+wrong_kind_words policy s = map (λ r. r.1) (filter (is_of_another_kind policy s.namespace) (kinds_asked s.form))
 
 -- the alias of a statement that gives it an actual type
 abbrev pub alias_words : Form → List Word
 alias_words (alias_actual alias actual) = alias ∷ []
 alias_words _ = []
 
--- whether a kept statement before gives an actual type to the alias that a word leads to
-abbrev pub has_earlier_actual : Optionals → List Placed → List Placed → List (List ℕ) → Word → Bool
-has_earlier_actual kept policy before namespace word =
-    holds_of (λ s. list_any (λ t. is_within kept t && gives_actual kept policy s t.namespace t.form) before) (leads kept policy types namespace word.text)
+-- whether a statement before gives an actual type to the alias that a word leads to
+abbrev pub has_earlier_actual : List Placed → List Placed → List (List ℕ) → Word → Bool
+has_earlier_actual policy before namespace word =
+    holds_of (λ s. list_any (λ t. gives_actual policy s t.namespace t.form) before) (leads policy types namespace word.text)
 
-abbrev pub alias_twice_words : Optionals → List Placed → List Placed → Placed → List Word
-alias_twice_words kept policy before s = filter (has_earlier_actual kept policy before s.namespace) (alias_words s.form)
+abbrev pub alias_twice_words : List Placed → List Placed → Placed → List Word
+alias_twice_words policy before s = filter (has_earlier_actual policy before s.namespace) (alias_words s.form)
 
 -- the words of a rule's source and target, and those of a set expression
 abbrev pub element_words : Form → List Word
 element_words (rule kind source target the_class permissions) = source ∷ target_words target
-element_words (attribute_set attribute expr) = named_words expr
+element_words (attribute_set attribute expr) = leaves expr
 element_words _ = []
 
 -- whether a word leads to an alias without an actual type
-abbrev pub is_unset : Optionals → List Placed → List (List ℕ) → Word → Bool
-is_unset kept policy namespace word = holds_of (λ s. is_alias s.form && not (is_some (actual_statement kept policy s))) (leads kept policy types namespace word.text)
+abbrev pub is_unset : List Placed → List (List ℕ) → Word → Bool
+is_unset policy namespace word = holds_of (λ s. is_alias s.form && not (is_some (actual_statement policy s))) (leads policy types namespace word.text)
 
-abbrev pub alias_unset_words : Optionals → List Placed → Placed → List Word
-alias_unset_words kept policy s = filter (is_unset kept policy s.namespace) (element_words s.form)
+abbrev pub alias_unset_words : List Placed → Placed → List Word
+alias_unset_words policy s = filter (is_unset policy s.namespace) (element_words s.form)
 
 -- the class of a statement that gives it a common
 abbrev pub common_words : Form → List Word
@@ -107,63 +107,51 @@ common_words (class_common the_class the_common) = the_class ∷ []
 common_words _ = []
 
 -- whether a statement before gives a common to the class that a word leads to
-abbrev pub has_earlier_common : Optionals → List Placed → List Placed → List (List ℕ) → Word → Bool
-has_earlier_common kept policy before namespace word =
-    holds_of (λ s. list_any (λ t. is_within kept t && gives_common kept policy s t.namespace t.form) before) (leads kept policy classes namespace word.text)
+abbrev pub has_earlier_common : List Placed → List Placed → List (List ℕ) → Word → Bool
+has_earlier_common policy before namespace word =
+    holds_of (λ s. list_any (λ t. gives_common policy s t.namespace t.form) before) (leads policy classes namespace word.text)
 
-abbrev pub second_common_words : Optionals → List Placed → List Placed → Placed → List Word
-second_common_words kept policy before s = filter (has_earlier_common kept policy before s.namespace) (common_words s.form)
+abbrev pub second_common_words : List Placed → List Placed → Placed → List Word
+second_common_words policy before s = filter (has_earlier_common policy before s.namespace) (common_words s.form)
 
 -- whether a class has more than 32 permissions, its common's included, each counted once
-abbrev pub has_too_many : Optionals → List Placed → Placed → Bool
-has_too_many kept policy s = nat_lt 32 (length (distinct (permissions_of kept policy s)))
+abbrev pub has_too_many : List Placed → Placed → Bool
+has_too_many policy s = nat_lt 32 (length (distinct (permissions_of policy s)))
 
-abbrev pub too_many_words : Optionals → List Placed → Placed → List Word
-too_many_words kept policy s = filter (λ id. has_too_many kept policy s) (option_to_list (declared_in classes s.form))
+abbrev pub too_many_words : List Placed → Placed → List Word
+too_many_words policy s = filter (λ id. has_too_many policy s) (option_to_list (declared_in classes s.form))
 
 abbrev pub is_outside : List ℕ → Bool
 is_outside [] = true
 is_outside (at ∷ optionals) = false
 
 -- The words of a statement at which it has a fault of a kind, in the order of the text; before are the statements in front of it
--- in the policy. A name is missing outside optionals alone, and all but the first two kinds look at kept statements.
-abbrev pub faulty_words : PolicyFaultKind → Optionals → List Placed → List Placed → Placed → List Word
-faulty_words twice kept policy before s = twice_words before s
-faulty_words missing kept policy before s = if is_outside s.optionals then missing_words kept policy s else []
-faulty_words wrong_kind kept policy before s = if is_within kept s then wrong_kind_words kept policy s else []
-faulty_words alias_twice kept policy before s = if is_within kept s then alias_twice_words kept policy before s else []
-faulty_words alias_unset kept policy before s = if is_within kept s then alias_unset_words kept policy s else []
-faulty_words second_common kept policy before s = if is_within kept s then second_common_words kept policy before s else []
-faulty_words too_many_permissions kept policy before s = if is_within kept s then too_many_words kept policy s else []
+-- in the policy. A name is missing outside optionals alone.
+abbrev pub faulty_words : PolicyFaultKind → List Placed → List Placed → Placed → List Word
+faulty_words twice policy before s = twice_words before s
+faulty_words missing policy before s = if is_outside s.optionals then missing_words policy s else []
+faulty_words wrong_kind policy before s = wrong_kind_words policy s
+faulty_words alias_twice policy before s = alias_twice_words policy before s
+faulty_words alias_unset policy before s = alias_unset_words policy s
+faulty_words second_common policy before s = second_common_words policy before s
+faulty_words too_many_permissions policy before s = too_many_words policy s
 
 -- a fault of this kind at a word of a statement
 abbrev pub IsAtWordOf : PolicyFault → PolicyFaultKind → Placed → Word → Type 0
 IsAtWordOf fault kind s word = fault ≡ record { kind = kind; module_name = s.module_name; at = word.at; word = word.text }
 
 -- a fault of a policy, at a word of one of its statements
-pub record IsFaultOf (kind : PolicyFaultKind) (kept : Optionals) (policy : List Placed) (fault : PolicyFault) : Type 0 where
+pub record IsFaultOf (kind : PolicyFaultKind) (policy : List Placed) (fault : PolicyFault) : Type 0 where
   pub before : List Placed
   pub s : Placed
   pub after : List Placed
   pub word : Word
   pub split : policy ≡ before ++ s ∷ after
-  pub is_faulty : Contains (faulty_words kind kept policy before s) word
+  pub is_faulty : Contains (faulty_words kind policy before s) word
   pub is_at : IsAtWordOf fault kind s word
-
-abbrev pub IsPolicyFault : Optionals → List Placed → PolicyFault → Type 0
-IsPolicyFault kept policy fault = IsFaultOf fault.kind kept policy fault
 
 -- the one has the lesser code; or the same and the lesser module name; or the same and no greater offset
 abbrev pub IsNoLater : PolicyFault → PolicyFault → Type 0
 IsNoLater f g = (code_of f.kind < code_of g.kind)
     ⊎ ((code_of f.kind ≡ code_of g.kind) × ((slice_cmp nat_cmp f.module_name g.module_name ≡ Less)
     ⊎ ((f.module_name ≡ g.module_name) × (f.at.offset ≤ g.at.offset))))
-
--- the first fault of a policy: the least code, then the least module name by bytes, then the least offset
-pub record IsFirst (kept : Optionals) (policy : List Placed) (fault : PolicyFault) : Type 0 where
-  pub is : IsPolicyFault kept policy fault
-  pub first : (other : PolicyFault) → IsPolicyFault kept policy other → IsNoLater fault other
-
--- a policy with no fault compiles
-abbrev pub Compiles : Optionals → List Placed → Type 0
-Compiles kept policy = (fault : PolicyFault) → IsPolicyFault kept policy fault → ⊥

@@ -1,11 +1,10 @@
--- What a policy resolves to: its types, attributes, classes and rules by full names; the accesses that rules give; and the access table.
-use Rattle.std.specs.Prelude.{ℕ, Bool, true, false, ◌&&◌, ◌==◌, List, [], ◌∷◌, map, flat_map, Option, Some, None, bytes_eq, count_by, nat_lt, if◌then◌else◌}
-use Rattle.std.specs.List.{list_any}
+-- What the statements of a policy resolve to: types, attributes, classes and rules by full names.
+use Rattle.std.specs.Prelude.{◌≡◌, ℕ, Bool, true, false, List, [], ◌∷◌, map, flat_map, Option, Some, None, if◌then◌else◌}
 use Rattle.cil_specs.specs.Place.{Place}
 use Rattle.cil_specs.specs.Names.{Word}
 use Rattle.cil_specs.specs.Statements.{RuleKind, allow, auditallow, dontaudit, neverallow, Form, class, type_alias, type_attribute, rule, Target, itself, the_named}
 use Rattle.cil_specs.specs.Joined.{Placed}
-use Rattle.cil_specs.specs.Lookup.{Table, types, classes, Optionals, is_within, leads, declared_name, permissions_of, distinct, actual_of, is_type, is_attribute}
+use Rattle.cil_specs.specs.Lookup.{Table, types, classes, leads, declared_name, permissions_of, distinct, actual_of, is_type, is_attribute}
 
 -- what a name of a rule leads to, by its full name: a type, an alias's too, or an attribute
 pub data Element : Type 0 where
@@ -27,6 +26,21 @@ pub record Rule : Type 0 where
   pub the_class : List ℕ
   pub permissions : List (List ℕ)
 
+-- what a rule says, wherever it stands
+pub record RuleContent : Type 0 where
+  pub kind : RuleKind
+  pub source : Element
+  pub target : Aim
+  pub the_class : List ℕ
+  pub permissions : List (List ℕ)
+
+abbrev pub content_of : Rule → RuleContent
+content_of r = record { kind = r.kind; source = r.source; target = r.target; the_class = r.the_class; permissions = r.permissions }
+
+-- Two rules are the same as resolved: their modules, offsets and contents are. Line and column don't count.
+abbrev pub IsSameRule : Rule → Rule → Type 0
+IsSameRule r s = (r.module_name ≡ s.module_name) × (r.at.offset ≡ s.at.offset) × (content_of r ≡ content_of s)
+
 -- one access: what the source may do to the target, or may not
 pub record Atom : Type 0 where
   pub kind : RuleKind
@@ -34,6 +48,13 @@ pub record Atom : Type 0 where
   pub target : List ℕ
   pub the_class : List ℕ
   pub permission : List ℕ
+
+-- where a kind stands in the order of the reports
+abbrev pub kind_index : RuleKind → ℕ
+kind_index allow = 0
+kind_index auditallow = 1
+kind_index dontaudit = 2
+kind_index neverallow = 3
 
 -- a type, an attribute or an optional by its full name, and where it is declared
 pub record Declared : Type 0 where
@@ -51,94 +72,62 @@ pub record ClassOf : Type 0 where
 abbrev pub declared_as : Table → Placed → Declared
 declared_as table s = record { module_name = s.module_name; at = s.at; name = declared_name table s }
 
--- the kept types of a policy, in the order of their statements
-abbrev pub types_of : Optionals → List Placed → List Declared
-types_of kept policy = flat_map (λ s. if is_within kept s && is_type s.form then declared_as types s ∷ [] else []) policy
+-- the types of a policy, in the order of their statements
+abbrev pub types_of : List Placed → List Declared
+types_of policy = flat_map (λ s. if is_type s.form then declared_as types s ∷ [] else []) policy
 
-abbrev pub attributes_of : Optionals → List Placed → List Declared
-attributes_of kept policy = flat_map (λ s. if is_within kept s && is_attribute s.form then declared_as types s ∷ [] else []) policy
+abbrev pub attributes_of : List Placed → List Declared
+attributes_of policy = flat_map (λ s. if is_attribute s.form then declared_as types s ∷ [] else []) policy
 
 abbrev pub is_class : Form → Bool
 is_class (class id permissions) = true
 is_class _ = false
 
-abbrev pub class_as : Optionals → List Placed → Placed → ClassOf
-class_as kept policy s = record { module_name = s.module_name; at = s.at; name = declared_name classes s; permissions = distinct (permissions_of kept policy s) }
+abbrev pub class_as : List Placed → Placed → ClassOf
+class_as policy s = record { module_name = s.module_name; at = s.at; name = declared_name classes s; permissions = distinct (permissions_of policy s) }
 
-abbrev pub classes_of : Optionals → List Placed → List ClassOf
-classes_of kept policy = flat_map (λ s. if is_within kept s && is_class s.form then class_as kept policy s ∷ [] else []) policy
+abbrev pub classes_of : List Placed → List ClassOf
+classes_of policy = flat_map (λ s. if is_class s.form then class_as policy s ∷ [] else []) policy
 
 abbrev pub name_or_none : Table → Option Placed → List ℕ
 name_or_none table None = []
 name_or_none table (Some s) = declared_name table s
 
 -- the full name of the class that a word leads to
-abbrev pub class_name : Optionals → List Placed → List (List ℕ) → Word → List ℕ
-class_name kept policy namespace word = name_or_none classes (leads kept policy classes namespace word.text)
+abbrev pub class_name : List Placed → List (List ℕ) → Word → List ℕ
+class_name policy namespace word = name_or_none classes (leads policy classes namespace word.text)
 
 -- the element that a declaration stands for, an alias for its actual type
-abbrev pub element_at : Optionals → List Placed → Placed → Form → Element
-element_at kept policy s (type_attribute id) = an_attribute (declared_name types s)
-element_at kept policy s (type_alias id) = a_type (name_or_none types (actual_of kept policy s))
-element_at kept policy s _ = a_type (declared_name types s)
+abbrev pub element_at : List Placed → Placed → Form → Element
+element_at policy s (type_attribute id) = an_attribute (declared_name types s)
+element_at policy s (type_alias id) = a_type (name_or_none types (actual_of policy s))
+element_at policy s _ = a_type (declared_name types s)
 
-abbrev pub element_or_none : Optionals → List Placed → Option Placed → Element
-element_or_none kept policy None = a_type []
-element_or_none kept policy (Some s) = element_at kept policy s s.form
+abbrev pub element_or_none : List Placed → Option Placed → Element
+element_or_none policy None = a_type []
+element_or_none policy (Some s) = element_at policy s s.form
 
 -- the element that a word leads to
-abbrev pub element_of : Optionals → List Placed → List (List ℕ) → Word → Element
-element_of kept policy namespace word = element_or_none kept policy (leads kept policy types namespace word.text)
+abbrev pub element_of : List Placed → List (List ℕ) → Word → Element
+element_of policy namespace word = element_or_none policy (leads policy types namespace word.text)
 
-abbrev pub aim_of : Optionals → List Placed → List (List ℕ) → Target → Aim
-aim_of kept policy namespace itself = at_itself
-aim_of kept policy namespace (the_named word) = at_element (element_of kept policy namespace word)
+abbrev pub aim_of : List Placed → List (List ℕ) → Target → Aim
+aim_of policy namespace itself = at_itself
+aim_of policy namespace (the_named word) = at_element (element_of policy namespace word)
 
 -- a statement's rule, if it is one
-abbrev pub rule_of : Optionals → List Placed → Placed → Form → List Rule
-rule_of kept policy s (rule kind source target the_class permissions) = record {
+abbrev pub rule_of : List Placed → Placed → Form → List Rule
+rule_of policy s (rule kind source target the_class permissions) = record {
   module_name = s.module_name;
   at = s.at;
   kind = kind;
-  source = element_of kept policy s.namespace source;
-  target = aim_of kept policy s.namespace target;
-  the_class = class_name kept policy s.namespace the_class;
+  source = element_of policy s.namespace source;
+  target = aim_of policy s.namespace target;
+  the_class = class_name policy s.namespace the_class;
   permissions = map (λ w. w.text) permissions;
 } ∷ []
-rule_of kept policy s _ = []
+rule_of policy s _ = []
 
--- the kept rules of a policy
-abbrev pub rules_of : Optionals → List Placed → List Rule
-rules_of kept policy = flat_map (λ s. if is_within kept s then rule_of kept policy s s.form else []) policy
-
--- whether an element holds a type; no attribute has members until set statements are compiled
-abbrev pub holds : Element → List ℕ → Bool
-holds (a_type name) t = bytes_eq name t
-holds (an_attribute name) t = false
-
--- whether a rule's target takes in the type t where s is the source
-abbrev pub aims : Aim → List ℕ → List ℕ → Bool
-aims at_itself s t = bytes_eq s t
-aims (at_element element) s t = holds element t
-
--- whether a rule covers the source s, the target t, the class c and the permission p
-abbrev pub covers : Rule → List ℕ → List ℕ → List ℕ → List ℕ → Bool
-covers r s t c p = holds r.source s && (aims r.target s t && (bytes_eq r.the_class c && list_any (bytes_eq p) r.permissions))
-
--- where a kind stands in the order of the reports
-abbrev pub kind_index : RuleKind → ℕ
-kind_index allow = 0
-kind_index auditallow = 1
-kind_index dontaudit = 2
-kind_index neverallow = 3
-
--- whether a rule gives an access
-abbrev pub gives : Rule → Atom → Bool
-gives r a = (kind_index r.kind == kind_index a.kind) && covers r a.source a.target a.the_class a.permission
-
--- The access table: how many of the rules give an access. Those that none gives aren't in it.
-abbrev pub count_of : List Rule → Atom → ℕ
-count_of rules a = count_by (λ r. gives r a) rules
-
-abbrev pub is_in_table : List Rule → Atom → Bool
-is_in_table rules a = nat_lt 0 (count_of rules a)
+-- the rules of a policy
+abbrev pub rules_of : List Placed → List Rule
+rules_of policy = flat_map (λ s. rule_of policy s s.form) policy

@@ -2,7 +2,7 @@
 use Rattle.std.specs.Prelude.{ℕ, ◌+◌, not, ◌&&◌, ◌||◌, nat_le, Bool, true, false, List, [], ◌∷◌, ◌++◌, map, codes}
 use Rattle.cil_specs.specs.Place.{Place}
 use Rattle.cil_specs.specs.Names.{Word, Role, declared, referred}
-use Rattle.cil_specs.specs.Expr.{Expr, named_words}
+use Rattle.cil_specs.specs.Expr.{WordExpr, leaves}
 
 pub data RuleKind : Type 0 where
   allow : RuleKind
@@ -23,7 +23,7 @@ pub data Form : Type 0 where
   type_alias : Word → Form
   alias_actual : Word → Word → Form
   type_attribute : Word → Form
-  attribute_set : Word → Expr → Form
+  attribute_set : Word → WordExpr → Form
   common : Word → List Word → Form
   class : Word → List Word → Form
   class_common : Word → Word → Form
@@ -62,7 +62,7 @@ words_of (type_name id) = as_declared id ∷ []
 words_of (type_alias id) = as_declared id ∷ []
 words_of (alias_actual alias actual) = as_referred alias ∷ as_referred actual ∷ []
 words_of (type_attribute id) = as_declared id ∷ []
-words_of (attribute_set attribute expr) = as_referred attribute ∷ map as_referred (named_words expr)
+words_of (attribute_set attribute expr) = as_referred attribute ∷ map as_referred (leaves expr)
 words_of (common id permissions) = as_declared id ∷ map as_declared permissions
 words_of (class id permissions) = as_declared id ∷ map as_declared permissions
 words_of (class_common the_class the_common) = as_referred the_class ∷ as_referred the_common ∷ []

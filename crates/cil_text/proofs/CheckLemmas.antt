@@ -3,7 +3,7 @@ use Rattle.std.proofs.Common.{◌≡◌, ℕ, ◌+◌, ◌<◌, List, ◌∷◌,
 use Rattle.std.proofs.Math.Seq.{drop-cons}
 use Rattle.std.proofs.lemmas.List.{map-append}
 use Rattle.cil_specs.specs.Names as spec
-use Rattle.cil_specs.specs.Expr.{named_words}
+use Rattle.cil_specs.specs.Expr.{leaves}
 use Rattle.cil_specs.specs.Statements.{as_referred}
 use Rattle.cil_text.specs.Image.{word_of, expr_of}
 use Rattle.cil_text.specs.Expr.{exprs_of}
@@ -21,15 +21,15 @@ words_from role words i w within =
 
 -- the words of expressions, as references
 abbrev pub of_expr : {A : Type 0} → Expr A → List (spec.Role × spec.Word)
-of_expr x = map as_referred (named_words (expr_of x))
+of_expr x = map as_referred (leaves (expr_of x))
 
 abbrev pub of_exprs : {A : Type 0} → List (Expr A) → List (spec.Role × spec.Word)
-of_exprs xs = map as_referred (named_words (exprs_of xs))
+of_exprs xs = map as_referred (leaves (exprs_of xs))
 
 pub exprs_from : {A : Type 0} → (xs : List (Expr A)) (i : ℕ) (x : Expr A) → i < length xs → x ≡ get_or xs i x → of_exprs (drop i xs) ≡ of_expr x ++ of_exprs (drop (i + 1) xs)
 exprs_from xs i x within is =
-    ap of_exprs (drop-cons xs i x within) ∙ map-append as_referred (named_words (expr_of (get_or xs i x))) (named_words (exprs_of (drop (suc i) xs)))
+    ap of_exprs (drop-cons xs i x within) ∙ map-append as_referred (leaves (expr_of (get_or xs i x))) (leaves (exprs_of (drop (suc i) xs)))
     ∙ ap (λ x. of_expr x ++ of_exprs (drop (suc i) xs)) (sym is) ∙ ap (λ n. of_expr x ++ of_exprs (drop n xs)) (sym (add-one i))
 
-pub of_both : {A : Type 0} → (x y : Expr A) → map as_referred (named_words (expr_of x) ++ named_words (expr_of y)) ≡ of_expr x ++ of_expr y
-of_both x y = map-append as_referred (named_words (expr_of x)) (named_words (expr_of y))
+pub of_both : {A : Type 0} → (x y : Expr A) → map as_referred (leaves (expr_of x) ++ leaves (expr_of y)) ≡ of_expr x ++ of_expr y
+of_both x y = map-append as_referred (leaves (expr_of x)) (leaves (expr_of y))

@@ -31,15 +31,15 @@ is_operator Not = refl
 is_operator All = refl
 
 -- an operator and its operands spell the operation
-pub operation_found : (o p : Operator) (operands : Trees) (e : spec.Expr) → o ≡ p → operator_word p ≡ operator_of e → AreOperands operands e
+pub operation_found : (o p : Operator) (operands : Trees) (e : spec.WordExpr) → o ≡ p → operator_word p ≡ operator_of e → AreOperands operands e
     → (at place : Place) (end : ℕ) (rest : Trees) → Expresses (a_list at end (a_word place (operator_word o) operands) rest) e rest
 operation_found o p operands e is same fits at place end rest =
     subst (λ o. Expresses (a_list at end (a_word place (operator_word o) operands) rest) e rest) (sym is)
     (subst (λ word. Expresses (a_list at end (a_word place word operands) rest) e rest) (sym same) (operation_spelt at place end operands rest e fits))
 
 -- where the operands fit no operation of the operator, the two spell none
-pub operation_misfit : (o p : Operator) (operands : Trees) → o ≡ p → ((e : spec.Expr) → (operator_word p ≡ operator_of e) × AreOperands operands e → ⊥)
-    → (at place : Place) (end : ℕ) (e : spec.Expr) (rest after : Trees) → Expresses (a_list at end (a_word place (operator_word o) operands) rest) e after → ⊥
+pub operation_misfit : (o p : Operator) (operands : Trees) → o ≡ p → ((e : spec.WordExpr) → (operator_word p ≡ operator_of e) × AreOperands operands e → ⊥)
+    → (at place : Place) (end : ℕ) (e : spec.WordExpr) (rest after : Trees) → Expresses (a_list at end (a_word place (operator_word o) operands) rest) e after → ⊥
 operation_misfit o p operands is misfit at place end e rest after h =
     misfit e (operation_is at place end (operator_word p) operands rest after e (is_operator p) (subst (λ o. Expresses (a_list at end (a_word place (operator_word o) operands) rest) e after) is h))
 

@@ -16,18 +16,18 @@ operator_word Xor = codes "xor"
 operator_word Not = codes "not"
 operator_word All = codes "all"
 
-abbrev pub exprs_of : {A : Type 0} → List (Expr A) → spec.Expr
+abbrev pub exprs_of : {A : Type 0} → List (Expr A) → spec.WordExpr
 exprs_of [] = nothing
 exprs_of (x ∷ xs) = elements (expr_of x) (exprs_of xs)
 
 -- the front spells the expression, whatever follows it, or none
 abbrev pub SpellsExpr : {A : Type 0} → (Trees → Trees) → Option (Expr A) → Type 0
-SpellsExpr front None = (expr : spec.Expr) (rest after : Trees) → Expresses (front rest) expr after → ⊥
+SpellsExpr front None = (expr : spec.WordExpr) (rest after : Trees) → Expresses (front rest) expr after → ⊥
 SpellsExpr front (Some x) = (rest : Trees) → Expresses (front rest) (expr_of x) rest
 
 -- the trees spell the elements, or none
 abbrev pub SpellsElements : {A : Type 0} → Trees → Option (Vec (Expr A) A) → Type 0
-SpellsElements trees None = (expr : spec.Expr) → Lists trees expr → ⊥
+SpellsElements trees None = (expr : spec.WordExpr) → Lists trees expr → ⊥
 SpellsElements trees (Some v) = Lists trees (exprs_of v.items)
 
 -- a list of an operator and operands spells the expression, or none
@@ -36,12 +36,12 @@ SpellsOperation operator operands found = (at place : Place) (end : ℕ) → Spe
 
 -- the trees are one expression and nothing else, or not
 abbrev pub SpellsOne : {A : Type 0} → Trees → Option (Box (Expr A) A) → Type 0
-SpellsOne trees None = (expr : spec.Expr) → Expresses trees expr none → ⊥
+SpellsOne trees None = (expr : spec.WordExpr) → Expresses trees expr none → ⊥
 SpellsOne trees (Some x) = Expresses trees (expr_of x.value) none
 
 -- the trees are two expressions and nothing else, or not
 abbrev pub SpellsTwo : {A : Type 0} → Trees → Option (Box (Expr A) A × Box (Expr A) A) → Type 0
-SpellsTwo trees None = (x y : spec.Expr) (second : Trees) → Expresses trees x second → Expresses second y none → ⊥
+SpellsTwo trees None = (x y : spec.WordExpr) (second : Trees) → Expresses trees x second → Expresses second y none → ⊥
 SpellsTwo trees (Some (x, y)) = (second : Trees) × Expresses trees (expr_of x.value) second × Expresses second (expr_of y.value) none
 
 -- the trees are the operator's word and these operands

@@ -77,7 +77,7 @@ FitsAs at keyword operands (Some s) = (at_of s ≡ at) × ((place : spec_place.P
 
 -- the trees are an attribute and an expression, or not
 abbrev pub IsAttributeAndSet : {A : Type 0} → Trees → Option (Word × Expr A) → Type 0
-IsAttributeAndSet trees None = (attribute : spec_names.Word) (set : Trees) (expr : spec_exprs.Expr) → trees ≡ put_word attribute set → Expresses set expr none → ⊥
+IsAttributeAndSet trees None = (attribute : spec_names.Word) (set : Trees) (expr : spec_exprs.WordExpr) → trees ≡ put_word attribute set → Expresses set expr none → ⊥
 IsAttributeAndSet trees (Some (attribute, expr)) = (set : Trees) × (trees ≡ put_word (word_of attribute) set) × Expresses set (expr_of expr) none
 
 -- the trees without the keyword unordered

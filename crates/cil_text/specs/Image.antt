@@ -96,7 +96,7 @@ target_of Itself = itself
 target_of (Named w) = the_named (word_of w)
 
 abbrev mutual
-  pub expr_of : {A : Type 0} → Expr A → spec_exprs.Expr
+  pub expr_of : {A : Type 0} → Expr A → spec_exprs.WordExpr
   expr_of All = every
   expr_of (Name w) = named (word_of w)
   expr_of (Not' p x) = opposite (expr_of x)
@@ -105,7 +105,7 @@ abbrev mutual
   expr_of (Xor' p x q y) = one_of (expr_of x) (expr_of y)
   expr_of (Union' shape items) = row_expr items
 
-  pub row_expr : {A : Type 0} {n : _} → Row_of-Expr A n → spec_exprs.Expr
+  pub row_expr : {A : Type 0} {n : _} → Row_of-Expr A n → spec_exprs.WordExpr
   row_expr end_of-Expr = nothing
   row_expr (more_of-Expr x rest) = elements (expr_of x) (row_expr rest)
 

@@ -1,7 +1,7 @@
 //! Whether the words of a statement are spelt and free as their places ask.
 
 ghost use Rattle.std.specs.Prelude.{◌≡◌, [], ◌∷◌, ◌++◌, map};
-ghost use Rattle.cil_specs.specs.Expr.{named_words};
+ghost use Rattle.cil_specs.specs.Expr.{leaves};
 ghost use Rattle.cil_specs.specs.Statements.{as_declared, as_referred, target_words, words_of};
 ghost use Rattle.cil_text.specs.Image.{word_of, expr_of, target_of};
 ghost use Rattle.cil_text.specs.Name.{role_of};
@@ -47,7 +47,7 @@ fn check_words<'a>(role: Role, words: &[Word<'a>]) -> Result<(), TextFault<'a>>
 
 #[cycle(check)]
 fn check_elements<'a, A: Allocator>(elements: &[Expr<'a, A>]) -> Result<(), TextFault<'a>>
-    ensures { Checks (map as_referred (named_words (exprs_of elements.now))) result }
+    ensures { Checks (map as_referred (leaves (exprs_of elements.now))) result }
 {
     for element in elements {
         check_expr(element)?;
@@ -57,7 +57,7 @@ fn check_elements<'a, A: Allocator>(elements: &[Expr<'a, A>]) -> Result<(), Text
 
 #[cycle(check)]
 fn check_operands<'a, A: Allocator>(x: &Expr<'a, A>, y: &Expr<'a, A>) -> Result<(), TextFault<'a>>
-    ensures { Checks (map as_referred (named_words (expr_of x.now) ++ named_words (expr_of y.now)))
+    ensures { Checks (map as_referred (leaves (expr_of x.now) ++ leaves (expr_of y.now)))
         result }
 {
     check_expr(x)?;
@@ -66,7 +66,7 @@ fn check_operands<'a, A: Allocator>(x: &Expr<'a, A>, y: &Expr<'a, A>) -> Result<
 
 #[cycle(check)]
 fn check_expr<'a, A: Allocator>(expr: &Expr<'a, A>) -> Result<(), TextFault<'a>>
-    ensures { Checks (map as_referred (named_words (expr_of expr.now))) result }
+    ensures { Checks (map as_referred (leaves (expr_of expr.now))) result }
 {
     match expr {
         Expr::All => Ok(()),
@@ -98,7 +98,7 @@ fn check_pair<'a>(first: Word<'a>, second: Word<'a>) -> Result<(), TextFault<'a>
 
 fn check_set<'a, A: Allocator>(attribute: Word<'a>, expr: &Expr<'a, A>) -> Result<(), TextFault<'a>>
     ensures { Checks (as_referred (word_of attribute.entry)
-        ∷ map as_referred (named_words (expr_of expr.now))) result }
+        ∷ map as_referred (leaves (expr_of expr.now))) result }
 {
     check_word(Role::Referred, attribute)?;
     check_expr(expr)

@@ -1,5 +1,5 @@
 use Rattle.std.proofs.Common.{◌+◌, ◌++◌, drop, subst, sym, ap, ◌∙◌, map}
-use Rattle.cil_specs.specs.Expr.{named_words}
+use Rattle.cil_specs.specs.Expr.{leaves}
 use Rattle.cil_specs.specs.Statements.{as_referred}
 use Rattle.cil_text.specs.Image.{expr_of}
 use Rattle.cil_text.specs.Walk.{Checks}
@@ -27,19 +27,19 @@ check_elements-loop-element-preserved g t c =
 pub check_expr-returns-in-Union : goal.check_expr-returns-in-Union
 check_expr-returns-in-Union g t c =
     let elements = c.in-Union.elements in
-    subst (λ e. Checks (map as_referred (named_words e)) c.check_elements.result) (sym (ap expr_of c.in-Union.is ∙ union_of elements))
+    subst (λ e. Checks (map as_referred (leaves e)) c.check_elements.result) (sym (ap expr_of c.in-Union.is ∙ union_of elements))
     (subst (λ items. Checks (of_exprs items) c.check_elements.result) c.deref-in-Union.ensures.value c.check_elements.ensures)
 
 pub check_operands-returns-in_err-check_expr : goal.check_operands-returns-in_err-check_expr
 check_operands-returns-in_err-check_expr g t c =
     let x = c.args.x.now in
     let y = c.args.y.now in
-    let all = map as_referred (named_words (expr_of x) ++ named_words (expr_of y)) in
+    let all = map as_referred (leaves (expr_of x) ++ leaves (expr_of y)) in
     checks_error all (of_expr x) (of_expr y) c.from_residual.result c.in_err-check_expr.field-0.0 (subst (GoesOn all) (of_both x y) (goes_first all)) c.in_err-check_expr.ensures c.from_residual.ensures.1
 
 pub check_operands-returns : goal.check_operands-returns
 check_operands-returns g t c =
     let x = c.args.x.now in
     let y = c.args.y.now in
-    let all = map as_referred (named_words (expr_of x) ++ named_words (expr_of y)) in
+    let all = map as_referred (leaves (expr_of x) ++ leaves (expr_of y)) in
     checks_rest all (of_expr y) c.check_expr-2.result (goes_more all (of_expr x) (of_expr y) (subst (GoesOn all) (of_both x y) (goes_first all)) c.in_ok-check_expr.ensures) c.check_expr-2.ensures

@@ -1,5 +1,5 @@
 use Rattle.std.proofs.Common.{◌+◌, ◌*◌, max, map, drop}
-use Rattle.cil_specs.specs.Expr.{named_words}
+use Rattle.cil_specs.specs.Expr.{leaves}
 use Rattle.cil_specs.specs.Statements.{as_referred}
 use Rattle.cil_text.specs.Expr.{exprs_of}
 use Rattle.cil_text.specs.declared.statement.Expr.TheViews.{size-Expr}
@@ -16,4 +16,4 @@ abbrev pub decreases-check_operands : goal.decreases-check_operands
 decreases-check_operands g l = 2 * max (size-Expr g.row.A.Denot l.x.now) (size-Expr g.row.A.Denot l.y.now) + 1
 
 abbrev pub invariant-check_elements-loop-element : goal.invariant-check_elements-loop-element
-invariant-check_elements-loop-element g l = GoesOn (map as_referred (named_words (exprs_of l.elements))) (map as_referred (named_words (exprs_of (drop l.element-index l.elements))))
+invariant-check_elements-loop-element g l = GoesOn (map as_referred (leaves (exprs_of l.elements))) (map as_referred (leaves (exprs_of (drop l.element-index l.elements))))

@@ -1,5 +1,5 @@
 use Rattle.std.proofs.Common.{[], ◌∷◌, map}
-use Rattle.cil_specs.specs.Expr.{named_words}
+use Rattle.cil_specs.specs.Expr.{leaves}
 use Rattle.cil_specs.specs.Statements.{as_referred}
 use Rattle.cil_text.specs.Image.{word_of, expr_of}
 use Rattle.cil_text.proofs.FirstBad.{goes_first, checks_error}
@@ -8,5 +8,5 @@ use Rattle.cil_text.proofs.check.check_set.Goals as goal
 pub returns-in_err-check_word : goal.returns-in_err-check_word
 returns-in_err-check_word g c =
     let first = as_referred (word_of c.args.attribute) in
-    let rest = map as_referred (named_words (expr_of c.args.expr.now)) in
+    let rest = map as_referred (leaves (expr_of c.args.expr.now)) in
     checks_error (first ∷ rest) (first ∷ []) rest c.from_residual.result c.in_err-check_word.field-0.0 (goes_first (first ∷ rest)) c.in_err-check_word.ensures c.from_residual.ensures.1

@@ -1,0 +1,56 @@
+-- What a policy means: one record, from which the accesses that its rules give and the access table are said.
+use Rattle.std.specs.Prelude.{◌≡◌, ℕ, Bool, false, ◌&&◌, ◌==◌, List, bytes_eq, count_by, nat_lt}
+use Rattle.std.specs.List.{list_any}
+use Rattle.cil_specs.specs.Joined.{Placed}
+use Rattle.cil_specs.specs.Rule.{Element, a_type, an_attribute, Aim, at_itself, at_element, Rule, Atom, kind_index, Declared, ClassOf, types_of, attributes_of, classes_of, rules_of}
+use Rattle.cil_specs.specs.Kept.{Optionals, AreKept, restricted, Compiles, dropped_of}
+
+-- The types, attributes, classes and rules of a policy, in the order of their statements, and the optionals that drop; all by full
+-- names, with their modules and places.
+pub record Meaning : Type 0 where
+  pub types : List Declared
+  pub attributes : List Declared
+  pub classes : List ClassOf
+  pub rules : List Rule
+  pub dropped : List Declared
+
+-- what statements mean, where these optionals drop
+abbrev pub meaning_of : List Placed → List Declared → Meaning
+meaning_of statements dropped = record {
+  types = types_of statements;
+  attributes = attributes_of statements;
+  classes = classes_of statements;
+  rules = rules_of statements;
+  dropped = dropped;
+}
+
+-- The policy keeps these optionals and compiles, and its statements in them mean this.
+pub record Means (policy : List Placed) (kept : Optionals) (meaning : Meaning) : Type 0 where
+  pub are_kept : AreKept policy kept
+  pub compiles : Compiles kept policy
+  pub is : meaning ≡ meaning_of (restricted kept policy) (dropped_of kept policy)
+
+-- whether an element holds a type; no attribute has members until set statements are compiled
+abbrev pub holds : Meaning → Element → List ℕ → Bool
+holds meaning (a_type name) t = bytes_eq name t
+holds meaning (an_attribute name) t = false
+
+-- whether a rule's target takes in the type t where s is the source
+abbrev pub aims : Meaning → Aim → List ℕ → List ℕ → Bool
+aims meaning at_itself s t = bytes_eq s t
+aims meaning (at_element element) s t = holds meaning element t
+
+-- whether a rule covers the source s, the target t, the class c and the permission p
+abbrev pub covers : Meaning → Rule → List ℕ → List ℕ → List ℕ → List ℕ → Bool
+covers meaning r s t c p = holds meaning r.source s && (aims meaning r.target s t && (bytes_eq r.the_class c && list_any (bytes_eq p) r.permissions))
+
+-- whether a rule gives an access
+abbrev pub gives : Meaning → Rule → Atom → Bool
+gives meaning r a = (kind_index r.kind == kind_index a.kind) && covers meaning r a.source a.target a.the_class a.permission
+
+-- The access table: how many of the rules give an access. Those that none gives aren't in it.
+abbrev pub count_of : Meaning → Atom → ℕ
+count_of meaning a = count_by (λ r. gives meaning r a) meaning.rules
+
+abbrev pub is_in_table : Meaning → Atom → Bool
+is_in_table meaning a = nat_lt 0 (count_of meaning a)
