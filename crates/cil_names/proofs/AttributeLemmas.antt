@@ -6,10 +6,8 @@ use Rattle.cil_specs.specs.Names.{Word}
 use Rattle.cil_specs.specs.Statements.{Form, block, optional, type_name, type_alias, alias_actual, type_attribute, attribute_set, common, class, class_common, class_order, rule, itself, the_named, rise_from}
 use Rattle.cil_specs.specs.Joined.{Placed}
 use Rattle.cil_specs.specs.PolicyFault.{PolicyFault, wrong_kind, IsNoLater}
-use Rattle.cil_specs.specs.Lookup.{every_optional}
 use Rattle.cil_specs.specs.Next.{is_attribute_word, rule_elements, IsAttributeFault, IsFirstAttributeFault}
 use Rattle.cil_specs.proofs.NamesLemmas.{contains-cases, contains-first, contains-other, contains-map}
-use Rattle.cil_specs.proofs.RestrictedLemmas.{every-within}
 use Rattle.cil_names.specs.Flat.{offsets_in, offsets_of, AreFlat}
 use Rattle.cil_names.specs.Resolution.{attribute_words}
 use Rattle.cil_names.proofs.FlatLemmas.{before-at}
@@ -56,7 +54,7 @@ sub-rule (rule kind source (the_named target) the_class permissions) = inl (refl
 sub-attributes : (policy : List Placed) (s : Placed) → IsSub (map offset (attribute_words policy s)) (offsets_of s)
 sub-attributes policy s =
     sub-skip (map offset (attribute_words policy s)) s.at.offset (offsets_in s.form)
-    (sub-trans (map offset (attribute_words policy s)) (map offset (rule_elements s.form)) (offsets_in s.form) (sub-filter offset (is_attribute_word every_optional policy s.namespace) (rule_elements s.form))
+    (sub-trans (map offset (attribute_words policy s)) (map offset (rule_elements s.form)) (offsets_in s.form) (sub-filter offset (is_attribute_word policy s.namespace) (rule_elements s.form))
     (sub-rule s.form))
 
 -- each statement in front of a place has no word that leads to an attribute
@@ -83,33 +81,32 @@ record Stands (policy : List Placed) (fault : PolicyFault) : Type 0 where
   contained : Contains (attribute_words policy s) word
   is_at : fault ≡ fault_at wrong_kind s word
 
-stands : (policy : List Placed) (fault : PolicyFault) → IsAttributeFault every_optional policy fault → Stands policy fault
+stands : (policy : List Placed) (fault : PolicyFault) → IsAttributeFault policy fault → Stands policy fault
 stands policy fault is = record {
   place = is.is_in.0;
   s = is.s;
   word = is.word;
   at = slice_get_read policy (length policy) is.is_in.0 is.s refl is.is_in.1 (sym is.is_in.2);
-  contained = is-kept (is_attribute_word every_optional policy is.s.namespace) (rule_elements is.s.form) is.word is.is_word is.is_attribute;
+  contained = is-kept (is_attribute_word policy is.s.namespace) (rule_elements is.s.form) is.word is.is_word is.is_attribute;
   is_at = is.is_at;
 }
 
 contains-none : (word : Word) → Contains [] word → ⊥
 contains-none word c = omega (arith, c.1)
 
-pub none-end : (policy : List Placed) → NoneBelow policy (length policy) → (fault : PolicyFault) → IsAttributeFault every_optional policy fault → ⊥
+pub none-end : (policy : List Placed) → NoneBelow policy (length policy) → (fault : PolicyFault) → IsAttributeFault policy fault → ⊥
 none-end policy none fault is =
     let it = stands policy fault is in
     contains-none it.word (subst (λ l. Contains l it.word) (none it.place (slice_get_within policy it.place it.s it.at) it.s it.at) it.contained)
 
 -- The first such word of the first statement with one is the first fault.
 pub first-attribute : (policy : List Placed) (i : ℕ) (s : Placed) (word : Word) (more : List Word) → AreFlat policy → slice_get policy i ≡ Some s → NoneBelow policy i
-    → attribute_words policy s ≡ word ∷ more → IsFirstAttributeFault every_optional policy (fault_at wrong_kind s word)
+    → attribute_words policy s ≡ word ∷ more → IsFirstAttributeFault policy (fault_at wrong_kind s word)
 first-attribute policy i s word more flat at none found = record {
   is = record {
     s = s;
     word = word;
     is_in = (i, slice_get_within policy i s at, get_or_from_slice_get policy i s s at);
-    is_kept = every-within s;
     is_word = asked.0;
     is_attribute = asked.1;
     is_at = refl;
@@ -119,8 +116,8 @@ first-attribute policy i s word more flat at none found = record {
       subst (IsNoLater (fault_at wrong_kind s word)) (sym it.is_at) (no-earlier it.place it.s it.word it.at it.contained);
 }
   where
-    asked : Contains (rule_elements s.form) word × (is_attribute_word every_optional policy s.namespace word ≡ true)
-    asked = kept-is (is_attribute_word every_optional policy s.namespace) (rule_elements s.form) word (subst (λ l. Contains l word) (sym found) (contains-first word more))
+    asked : Contains (rule_elements s.form) word × (is_attribute_word policy s.namespace word ≡ true)
+    asked = kept-is (is_attribute_word policy s.namespace) (rule_elements s.form) word (subst (λ l. Contains l word) (sym found) (contains-first word more))
 
     sub : IsSub (word.at.offset ∷ map offset more) (offsets_of s)
     sub = subst (λ l. IsSub (map offset l) (offsets_of s)) found (sub-attributes policy s)

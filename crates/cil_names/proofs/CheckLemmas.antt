@@ -6,9 +6,8 @@ use Rattle.cil_specs.specs.Names.{Word}
 use Rattle.cil_specs.specs.Joined.{Placed}
 use Rattle.cil_specs.specs.PolicyFault as spec
 use Rattle.cil_specs.specs.PolicyFault.{twice, missing, wrong_kind, alias_twice, alias_unset, second_common, too_many_permissions, code_of, IsAtWordOf, IsFaultOf, IsNoLater, IsFirst, Compiles}
-use Rattle.cil_specs.specs.Lookup.{every_optional}
 use Rattle.cil_names.specs.Image.{policy_kind_of, IsFoundFault}
-use Rattle.cil_names.specs.Flat.{IsLeast}
+use Rattle.cil_names.specs.Flat.{IsLeast, IsFaultless}
 use Rattle.cil_names.specs.Placed.{placed_of}
 use Rattle.cil_names.specs.declared.fault.PolicyFaultKind.{PolicyFaultKind}
 use Rattle.cil_names.specs.declared.fault.PolicyFaultKind.TheVariants.{Twice, Missing, WrongKind, AliasTwice, AliasUnset, SecondCommon, TooManyPermissions}
@@ -18,10 +17,10 @@ use Rattle.cil_names.specs.declared.placed.PlacedStatement.{PlacedStatement}
 use Rattle.cil_names.proofs.LeastLemmas.{fault_at}
 
 -- what holds of the fault at a word of a statement holds of the one that is made there
-pub found-at : {A : Type 0} (fault : PolicyFault) (P : spec.PolicyFault → Type 0) (kind : spec.PolicyFaultKind) (p : PlacedStatement A) (word : Word) (spaces : List (List (List ℕ)))
-    → IsFoundFault fault (λ f. (around : List (List (List ℕ))) → IsAtWordOf f kind (placed_of around p) word) → P (fault_at kind (placed_of spaces p) word) → IsFoundFault fault P
-found-at Memory P kind p word spaces is holds = is
-found-at (Found code module_name at text) P kind p word spaces is holds = subst P (sym (is spaces)) holds
+pub found-at : {A : Type 0} (fault : PolicyFault) (P : spec.PolicyFault → Type 0) (kind : spec.PolicyFaultKind) (p : PlacedStatement A) (word : Word) (spaces : List (List (List ℕ))) (chains : List (List ℕ))
+    → IsFoundFault fault (λ f. (around : List (List (List ℕ))) (optionals : List (List ℕ)) → IsAtWordOf f kind (placed_of around optionals p) word) → P (fault_at kind (placed_of spaces chains p) word) → IsFoundFault fault P
+found-at Memory P kind p word spaces chains is holds = is
+found-at (Found code module_name at text) P kind p word spaces chains is holds = subst P (sym (is spaces chains)) holds
 
 pub found-weaker : (fault : PolicyFault) (P Q : spec.PolicyFault → Type 0) → ((f : spec.PolicyFault) → P f → Q f) → IsFoundFault fault P → IsFoundFault fault Q
 found-weaker Memory P Q weaker is = is
@@ -37,7 +36,7 @@ first-none (w ∷ words) is = absurd (none-some w is)
 
 -- no fault of a code below 42 and some
 abbrev pub NoneBelow : List Placed → ℕ → Type 0
-NoneBelow policy n = (fault : spec.PolicyFault) → IsFaultOf fault.kind every_optional policy fault → code_of fault.kind < 42 + n → ⊥
+NoneBelow policy n = (fault : spec.PolicyFault) → IsFaultOf fault.kind policy fault → code_of fault.kind < 42 + n → ⊥
 
 -- a kind by its code
 abbrev kind_at : ℕ → spec.PolicyFaultKind
@@ -55,8 +54,8 @@ at-code too_many_permissions = refl
 same-code : (a b : spec.PolicyFaultKind) → code_of a ≡ code_of b → a ≡ b
 same-code a b e = sym (at-code a) ∙ ap kind_at e ∙ at-code b
 
-pub none-first : (policy : List Placed) → ((fault : spec.PolicyFault) → IsFaultOf twice every_optional policy fault → ⊥) → NoneBelow policy 0
-none-first policy once fault is less = once fault (subst (λ k. IsFaultOf k every_optional policy fault) (below fault.kind less) is)
+pub none-first : (policy : List Placed) → ((fault : spec.PolicyFault) → IsFaultOf twice policy fault → ⊥) → NoneBelow policy 0
+none-first policy once fault is less = once fault (subst (λ k. IsFaultOf k policy fault) (below fault.kind less) is)
   where
     below : (kind : spec.PolicyFaultKind) → code_of kind < 42 + 0 → kind ≡ twice
     below twice less = refl
@@ -82,14 +81,14 @@ checked-code (suc (suc (suc (suc (suc (suc n)))))) less = absurd (omega (arith, 
 pub checked-once : (n : ℕ) → n < 6 → get_or checked n Twice ≡ Twice → ⊥
 checked-once n less e = let code : 41 ≡ 42 + n = sym (ap (λ k. code_of (policy_kind_of k)) e) ∙ checked-code n less in omega (arith, code)
 
-pub none-next : (policy : List Placed) (n : ℕ) (kind : spec.PolicyFaultKind) → code_of kind ≡ 42 + n → ((fault : spec.PolicyFault) → IsFaultOf kind every_optional policy fault → ⊥)
+pub none-next : (policy : List Placed) (n : ℕ) (kind : spec.PolicyFaultKind) → code_of kind ≡ 42 + n → ((fault : spec.PolicyFault) → IsFaultOf kind policy fault → ⊥)
     → NoneBelow policy n → NoneBelow policy (n + 1)
 none-next policy n kind code none so_far fault is less = elim (cases_order (code_of fault.kind) (42 + n)) [
-  | inl same ↦ none fault (subst (λ k. IsFaultOf k every_optional policy fault) (same-code fault.kind kind (same ∙ sym code)) is)
+  | inl same ↦ none fault (subst (λ k. IsFaultOf k policy fault) (same-code fault.kind kind (same ∙ sym code)) is)
   | inr other ↦ elim other [ inl lesser ↦ so_far fault is lesser | inr greater ↦ omega (arith, less, greater) ]
 ]
 
-pub none-all : (policy : List Placed) (n : ℕ) → 5 < n → NoneBelow policy n → Compiles every_optional policy
+pub none-all : (policy : List Placed) (n : ℕ) → 5 < n → NoneBelow policy n → IsFaultless policy
 none-all policy n all none fault is = none fault is (let le : code_of fault.kind < 48 = below fault.kind in omega (arith, le, all))
   where
     below : (kind : spec.PolicyFaultKind) → code_of kind < 48
@@ -103,11 +102,11 @@ none-all policy n all none fault is = none fault is (let le : code_of fault.kind
 
 -- the least fault of the first kind with one is the first
 pub first-least : (policy : List Placed) (n : ℕ) (kind : spec.PolicyFaultKind) → code_of kind ≡ 42 + n → NoneBelow policy n → (fault : spec.PolicyFault)
-    → IsLeast (IsFaultOf kind every_optional policy) fault → IsFirst every_optional policy fault
+    → IsLeast (IsFaultOf kind policy) fault → IsFirst policy fault
 first-least policy n kind code none fault least = record {
-  is = subst (λ k. IsFaultOf k every_optional policy fault) (sym own) least.is;
+  is = subst (λ k. IsFaultOf k policy fault) (sym own) least.is;
   first = λ other is. elim (cases_order (code_of other.kind) (42 + n)) [
-    | inl same ↦ least.first other (subst (λ k. IsFaultOf k every_optional policy other) (same-code other.kind kind (same ∙ sym code)) is)
+    | inl same ↦ least.first other (subst (λ k. IsFaultOf k policy other) (same-code other.kind kind (same ∙ sym code)) is)
     | inr unlike ↦ elim unlike [
       | inl lesser ↦ absurd (none other is lesser)
       | inr greater ↦ (let c : code_of fault.kind ≡ 42 + n = ap code_of own ∙ code in inl (omega (arith, c, greater)))

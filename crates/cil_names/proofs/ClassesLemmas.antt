@@ -10,10 +10,9 @@ use Rattle.std.proofs.lemmas.Grind.{flat_map-append}
 use Rattle.cil_specs.specs.Names.{Word}
 use Rattle.cil_specs.specs.Statements.{Form, block, optional, type_name, type_alias, alias_actual, type_attribute, attribute_set, common, class, class_common, class_order, rule}
 use Rattle.cil_specs.specs.Joined.{Placed}
-use Rattle.cil_specs.specs.Lookup.{classes, commons, is_same, holds_of, leads, listed_by, gives_common, common_permissions, own_permissions, texts, with_name, distinct, every_optional}
+use Rattle.cil_specs.specs.Lookup.{classes, commons, is_same, holds_of, leads, listed_by, gives_common, common_permissions, own_permissions, texts, with_name, distinct}
 use Rattle.cil_specs.specs.Rule.{is_class}
 use Rattle.cil_specs.proofs.NamesLemmas.{all-weaker, all-append}
-use Rattle.cil_specs.proofs.RestrictedLemmas.{every-within}
 use Rattle.cil_names.specs.Policy.{IsLead}
 use Rattle.cil_names.specs.Gifts.{given_lead}
 use Rattle.cil_names.specs.Classes.{SeenClasses, permissions_at, common_word, given_permissions, GivesTo, IsGiven, HasPermissionsOf}
@@ -23,13 +22,11 @@ use Rattle.cil_names.proofs.FirstsLemmas.{gives-lead, lead-same}
 
 -- what a statement gives to a class, where its first word leads to it
 given-lead : (policy : List Placed) (s t : Placed) → given_permissions policy s t
-    ≡ (if holds_of (is_same classes s) (given_lead Common every_optional policy t) then common_permissions every_optional policy t.namespace t.form else [])
-given-lead policy s t =
-    ap (λ b. if b && gives_common every_optional policy s t.namespace t.form then common_permissions every_optional policy t.namespace t.form else []) (every-within t)
-    ∙ ap (λ b. if b then common_permissions every_optional policy t.namespace t.form else []) (gives-lead Common every_optional policy s t)
+    ≡ (if holds_of (is_same classes s) (given_lead Common policy t) then common_permissions policy t.namespace t.form else [])
+given-lead policy s t = ap (λ b. if b then common_permissions policy t.namespace t.form else []) (gives-lead Common policy s t)
 
-common-lead : (policy : List Placed) (namespace : List (List ℕ)) (form : Form) → common_permissions every_optional policy namespace form
-    ≡ listed_by (option_and_then (λ w. leads every_optional policy commons namespace w.text) (common_word form))
+common-lead : (policy : List Placed) (namespace : List (List ℕ)) (form : Form) → common_permissions policy namespace form
+    ≡ listed_by (option_and_then (λ w. leads policy commons namespace w.text) (common_word form))
 common-lead policy namespace (block id) = refl
 common-lead policy namespace (optional id) = refl
 common-lead policy namespace (type_name id) = refl
@@ -44,13 +41,13 @@ common-lead policy namespace (class_order the_classes) = refl
 common-lead policy namespace (rule kind source target the_class permissions) = refl
 
 -- the permissions of the common to the class that its first word leads to
-pub given-some : (policy : List Placed) (t : Placed) (place : ℕ) (word : Word) (lead : Option Placed) (names : List (List ℕ)) → IsLead classes policy (Some place) (given_lead Common every_optional policy t)
-    → Some word ≡ common_word t.form → leads every_optional policy commons t.namespace word.text ≡ lead → names ≡ listed_by lead → GivesTo policy t place names
+pub given-some : (policy : List Placed) (t : Placed) (place : ℕ) (word : Word) (lead : Option Placed) (names : List (List ℕ)) → IsLead classes policy (Some place) (given_lead Common policy t)
+    → Some word ≡ common_word t.form → leads policy commons t.namespace word.text ≡ lead → names ≡ listed_by lead → GivesTo policy t place names
 given-some policy t place word lead names to is led named i s at first =
     given-lead policy s t
-    ∙ ap (λ b. if b then common_permissions every_optional policy t.namespace t.form else []) (sym (lead-same classes policy i place s (given_lead Common every_optional policy t) at first to))
+    ∙ ap (λ b. if b then common_permissions policy t.namespace t.form else []) (sym (lead-same classes policy i place s (given_lead Common policy t) at first to))
     ∙ ap (λ l. if i == place then l else [])
-    (common-lead policy t.namespace t.form ∙ ap (λ o. listed_by (option_and_then (λ w. leads every_optional policy commons t.namespace w.text) o)) (sym is) ∙ ap listed_by led ∙ sym named)
+    (common-lead policy t.namespace t.form ∙ ap (λ o. listed_by (option_and_then (λ w. leads policy commons t.namespace w.text) o)) (sym is) ∙ ap listed_by led ∙ sym named)
 
 map-same : {X : Type 0} (o : Option X) → o ≡ option_map (λ x. x) o
 map-same None = refl

@@ -1,5 +1,5 @@
 -- What statements declare, and the entries that have it.
-use Rattle.std.proofs.Common.{◌≡◌, ℕ, zero, suc, ◌+◌, ◌<◌, ◌≤◌, Bool, true, false, not, ◌&&◌, ◌==◌, cond, List, [], ◌∷◌, ◌++◌, length, get_or, slice_get, take, drop, Contains, Option, Some, None, is_some, bytes_eq, position, if◌then◌else◌, refl, sym, ap, ◌∙◌, subst, true≢false, arith}
+use Rattle.std.proofs.Common.{◌≡◌, ℕ, zero, suc, ◌+◌, ◌<◌, ◌≤◌, Bool, true, false, not, ◌&&◌, ◌==◌, cond, List, [], ◌∷◌, ◌++◌, length, get_or, slice_get, take, drop, Contains, Option, Some, None, is_some, bytes_eq, position, if◌then◌else◌, refl, sym, ap, ◌∙◌, subst, true≢false, arith, map}
 use Rattle.std.specs.List.{list_any, IsDistinct}
 use Rattle.std.specs.Map.{lookup}
 use Rattle.std.specs.Option.{option_or, option_to_list}
@@ -10,11 +10,11 @@ use Rattle.indexmap.specs.IndexMap.{insert_entry}
 use Rattle.cil_specs.specs.Names.{Word}
 use Rattle.cil_specs.specs.Statements.{is_optional}
 use Rattle.cil_specs.specs.Joined.{Placed}
-use Rattle.cil_specs.specs.Lookup.{Table, types, classes, commons, scopes, declared_in, declares, is_word, same_namespace, every_optional}
+use Rattle.cil_specs.specs.Lookup.{Table, types, classes, commons, scopes, declared_in, declares, is_word, same_namespace}
 use Rattle.cil_specs.specs.PolicyFault.{twice, is_again, twice_words, faulty_words, IsFaultOf}
 use Rattle.cil_specs.proofs.Runs.{both_true, first_true, second_true}
 use Rattle.cil_names.specs.Spaces.{Namespace}
-use Rattle.cil_names.specs.Policy.{table_of, is_table, is_key, HasDeclaredIn, HasDeclared, IsTaken, IsFlat}
+use Rattle.cil_names.specs.Policy.{table_of, is_table, is_key, HasDeclaredIn, IsTaken, IsFlat, placed_as}
 use Rattle.cil_names.specs.Flat.{IsLeast}
 use Rattle.cil_names.specs.Placed.{form_of, placed_of, policy_of}
 use Rattle.cil_names.specs.declared.placed.PlacedStatement.{PlacedStatement}
@@ -31,6 +31,7 @@ use Rattle.cil_names.specs.declared.kinds.Table as code
 use Rattle.cil_names.specs.declared.kinds.Table.TheVariants.{Types, Classes, Commons, Scopes}
 use Rattle.cil_names.specs.declared.policy.Key.{Key}
 use Rattle.cil_names.proofs.NameSets.{bytes_eq-refl, bytes_eq-true}
+use Rattle.cil_names.specs.Nested.{chains_by}
 use Rattle.cil_names.proofs.SpaceLemmas.{same_namespace-refl, distinct-place}
 
 same-bool : (a b : Bool) → (a ≡ true → b ≡ true) → (b ≡ true → a ≡ true) → a ≡ b
@@ -302,57 +303,57 @@ slice_get-front (y ∷ xs) zero j x at = absurd (none-some x at)
 slice_get-front (y ∷ xs) (suc i) zero x at = (omega arith, at)
 slice_get-front (y ∷ xs) (suc i) (suc j) x at = let more = slice_get-front xs i j x at in (omega (arith, more.0), more.1)
 
-once-front : (policy : List Placed) (i : ℕ) → NoneFaultyBelow twice every_optional policy i → IsOnce (take i policy)
+once-front : (policy : List Placed) (i : ℕ) → NoneFaultyBelow twice policy i → IsOnce (take i policy)
 once-front policy i below =
-    none-faulty-end twice every_optional (take i policy) λ j less s at.
+    none-faulty-end twice (take i policy) λ j less s at.
     let there = slice_get-front policy i j s at in
     ap (λ before. twice_words before s) (take-take j i policy (omega (arith, there.0))) ∙ below j there.0 s there.1
 
 -- the entries have one more statement, and no name is declared twice in front of the next
 pub declared-next : {A : Type 0} (flat : Flat A) (i : ℕ) (p : PlacedStatement A) (new : List (Key × ℕ)) → i < length flat.statements.items → p ≡ get_or flat.statements.items i p
-    → IsTaken flat.spaces (policy_of flat.spaces (take i flat.statements.items)) (placed_of flat.spaces p) new None → HasDeclared flat.spaces (take (i + 1) flat.statements.items) new
+    → IsTaken flat.spaces (map (placed_as flat) (take i flat.statements.items)) (placed_as flat p) new None → HasDeclaredIn flat.spaces (map (placed_as flat) (take (i + 1) flat.statements.items)) new
 declared-next flat i p new within is taken =
-    subst (λ policy. HasDeclaredIn flat.spaces policy new) (sym (policy-next flat.spaces flat.statements.items i p within is)) (taken.declared refl)
+    subst (λ policy. HasDeclaredIn flat.spaces policy new) (sym (policy-next flat.spaces (chains_by flat.optionals.items) flat.statements.items i p within is)) (taken.declared refl)
 
 faulty-here : {A : Type 0} (flat : Flat A) (i : ℕ) (p : PlacedStatement A) (new : List (Key × ℕ)) (found : Option Word)
-    → IsTaken flat.spaces (policy_of flat.spaces (take i flat.statements.items)) (placed_of flat.spaces p) new found
-    → faulty_words twice every_optional (policy_of flat.spaces flat.statements.items) (take i (policy_of flat.spaces flat.statements.items)) (placed_of flat.spaces p) ≡ option_to_list found
-faulty-here flat i p new found taken = ap (λ before. twice_words before (placed_of flat.spaces p)) (policy-take flat.spaces flat.statements.items i) ∙ taken.words
+    → IsTaken flat.spaces (map (placed_as flat) (take i flat.statements.items)) (placed_as flat p) new found
+    → faulty_words twice (map (placed_as flat) flat.statements.items) (take i (map (placed_as flat) flat.statements.items)) (placed_as flat p) ≡ option_to_list found
+faulty-here flat i p new found taken = ap (λ before. twice_words before (placed_as flat p)) (policy-take flat.spaces (chains_by flat.optionals.items) flat.statements.items i) ∙ taken.words
 
 pub once-next : {A : Type 0} (flat : Flat A) (i : ℕ) (p : PlacedStatement A) (new : List (Key × ℕ)) → i < length flat.statements.items → p ≡ get_or flat.statements.items i p
-    → NoneFaultyBelow twice every_optional (policy_of flat.spaces flat.statements.items) i → IsTaken flat.spaces (policy_of flat.spaces (take i flat.statements.items)) (placed_of flat.spaces p) new None
-    → NoneFaultyBelow twice every_optional (policy_of flat.spaces flat.statements.items) (i + 1)
+    → NoneFaultyBelow twice (map (placed_as flat) flat.statements.items) i → IsTaken flat.spaces (map (placed_as flat) (take i flat.statements.items)) (placed_as flat p) new None
+    → NoneFaultyBelow twice (map (placed_as flat) flat.statements.items) (i + 1)
 once-next flat i p new within is below taken =
     let items = flat.statements.items in
-    none-faulty-next twice every_optional (policy_of flat.spaces items) i (placed_of flat.spaces p) (policy-get flat.spaces items i p (slice_get_read items (length items) i p refl within is)) (faulty-here flat i p new None taken) below
+    none-faulty-next twice (map (placed_as flat) items) i (placed_as flat p) (policy-get flat.spaces (chains_by flat.optionals.items) items i p (slice_get_read items (length items) i p refl within is)) (faulty-here flat i p new None taken) below
 
 -- a name that is declared already is the first such fault
 pub twice-least : {A : Type 0} (flat : Flat A) (i : ℕ) (p : PlacedStatement A) (new : List (Key × ℕ)) (w : Word) → IsFlat flat → i < length flat.statements.items → p ≡ get_or flat.statements.items i p
-    → NoneFaultyBelow twice every_optional (policy_of flat.spaces flat.statements.items) i → IsTaken flat.spaces (policy_of flat.spaces (take i flat.statements.items)) (placed_of flat.spaces p) new (Some w)
-    → IsLeast (IsFaultOf twice every_optional (policy_of flat.spaces flat.statements.items)) (fault_at twice (placed_of flat.spaces p) w)
+    → NoneFaultyBelow twice (map (placed_as flat) flat.statements.items) i → IsTaken flat.spaces (map (placed_as flat) (take i flat.statements.items)) (placed_as flat p) new (Some w)
+    → IsLeast (IsFaultOf twice (map (placed_as flat) flat.statements.items)) (fault_at twice (placed_as flat p) w)
 twice-least flat i p new w is_flat within is below taken =
     let items = flat.statements.items in
-    least-at twice every_optional (policy_of flat.spaces items) i (placed_of flat.spaces p) w [] is_flat.is_flat (policy-get flat.spaces items i p (slice_get_read items (length items) i p refl within is)) below
+    least-at twice (map (placed_as flat) items) i (placed_as flat p) w [] is_flat.is_flat (policy-get flat.spaces (chains_by flat.optionals.items) items i p (slice_get_read items (length items) i p refl within is)) below
     (faulty-here flat i p new (Some w) taken)
 
-pub twice-none : {A : Type 0} (flat : Flat A) (i : ℕ) → length flat.statements.items ≤ i → NoneFaultyBelow twice every_optional (policy_of flat.spaces flat.statements.items) i
-    → IsOnce (policy_of flat.spaces flat.statements.items)
+pub twice-none : {A : Type 0} (flat : Flat A) (i : ℕ) → length flat.statements.items ≤ i → NoneFaultyBelow twice (map (placed_as flat) flat.statements.items) i
+    → IsOnce (map (placed_as flat) flat.statements.items)
 twice-none flat i past below =
-    let size : length (policy_of flat.spaces flat.statements.items) ≡ length flat.statements.items = length-map flat.statements.items (placed_of flat.spaces) in
-    none-faulty-end twice every_optional (policy_of flat.spaces flat.statements.items) (λ j less s at. below j (omega (arith, less, size, past)) s at)
+    let size : length (map (placed_as flat) flat.statements.items) ≡ length flat.statements.items = length-map flat.statements.items (placed_as flat) in
+    none-faulty-end twice (map (placed_as flat) flat.statements.items) (λ j less s at. below j (omega (arith, less, size, past)) s at)
 
 -- no name is declared twice by the statements in front of a place, where none of them has a faulty word
-pub once-below : {A : Type 0} (flat : Flat A) (i : ℕ) → NoneFaultyBelow twice every_optional (policy_of flat.spaces flat.statements.items) i → IsOnce (policy_of flat.spaces (take i flat.statements.items))
-once-below flat i below = subst IsOnce (policy-take flat.spaces flat.statements.items i) (once-front (policy_of flat.spaces flat.statements.items) i below)
+pub once-below : {A : Type 0} (flat : Flat A) (i : ℕ) → NoneFaultyBelow twice (map (placed_as flat) flat.statements.items) i → IsOnce (map (placed_as flat) (take i flat.statements.items))
+once-below flat i below = subst IsOnce (policy-take flat.spaces (chains_by flat.optionals.items) flat.statements.items i) (once-front (map (placed_as flat) flat.statements.items) i below)
 
 -- The first statement that declares a name stands in front of the next.
 pub record IsKnown {A : Type 0} (flat : Flat A) (i : ℕ) (p : PlacedStatement A) (table : Table) (w : Word) (k : ℕ) : Type 0 where
-  pub first : position (declares table (get_or flat.spaces p.namespace []) w.text) (policy_of flat.spaces (take i flat.statements.items)) ≡ Some k
+  pub first : position (declares table (get_or flat.spaces p.namespace []) w.text) (map (placed_as flat) (take i flat.statements.items)) ≡ Some k
   pub within : k < length flat.statements.items
-  pub found : (q : PlacedStatement A) → q ≡ get_or flat.statements.items k q → slice_get (policy_of flat.spaces (take i flat.statements.items)) k ≡ Some (placed_of flat.spaces q)
+  pub found : (q : PlacedStatement A) → q ≡ get_or flat.statements.items k q → slice_get (map (placed_as flat) (take i flat.statements.items)) k ≡ Some (placed_as flat q)
 
 pub known-some : {A : Type 0} (flat : Flat A) (i : ℕ) (p : PlacedStatement A) (key : Key) (w : Word) (entries : List (Key × ℕ)) (k : ℕ) → IsFlat flat → slice_get flat.statements.items i ≡ Some p
-    → HasDeclared flat.spaces (take i flat.statements.items) entries → key.namespace ≡ p.namespace → key.name.now ≡ w.text → lookup (is_key key.table key.namespace key.name.now) entries ≡ Some k
+    → HasDeclaredIn flat.spaces (map (placed_as flat) (take i flat.statements.items)) entries → key.namespace ≡ p.namespace → key.name.now ≡ w.text → lookup (is_key key.table key.namespace key.name.now) entries ≡ Some k
     → IsKnown flat i p (table_of key.table) w k
 known-some {A = A} flat i p key w entries k is_flat at has here text there = record { first = first; within = within; found = found }
   where
@@ -362,14 +363,14 @@ known-some {A = A} flat i p key w entries k is_flat at has here text there = rec
     low : p.namespace < length flat.spaces
     low = all-at (λ q. q.namespace < length flat.spaces) items i p is_flat.within at
 
-    first : position (declares (table_of key.table) (get_or flat.spaces p.namespace []) w.text) (policy_of flat.spaces (take i items)) ≡ Some k
+    first : position (declares (table_of key.table) (get_or flat.spaces p.namespace []) w.text) (map (placed_as flat) (take i items)) ≡ Some k
     first =
-        sym (known flat.spaces (policy_of flat.spaces (take i items)) (placed_of flat.spaces p) key w entries has (subst (λ n. n < length flat.spaces) (sym here) low) (ap (λ n. get_or flat.spaces n []) (sym here)) text) ∙ there
+        sym (known flat.spaces (map (placed_as flat) (take i items)) (placed_as flat p) key w entries has (subst (λ n. n < length flat.spaces) (sym here) low) (ap (λ n. get_or flat.spaces n []) (sym here)) text) ∙ there
 
     before : k < length (take i items)
     before =
-        let size = length-map (take i items) (placed_of flat.spaces) in
-        let in_policy = (position-Some (declares (table_of key.table) (get_or flat.spaces p.namespace []) w.text) (policy_of flat.spaces (take i items)) k (placed_of flat.spaces p) first).0 in
+        let size = length-map (take i items) (placed_as flat) in
+        let in_policy = (position-Some (declares (table_of key.table) (get_or flat.spaces p.namespace []) w.text) (map (placed_as flat) (take i items)) k (placed_as flat p) first).0 in
         omega (arith, size, in_policy)
 
     front : length (take i items) ≡ i
@@ -381,19 +382,19 @@ known-some {A = A} flat i p key w entries k is_flat at has here text there = rec
     within : k < length items
     within = omega (arith, before, front, inside)
 
-    found : (q : PlacedStatement A) → q ≡ get_or items k q → slice_get (policy_of flat.spaces (take i items)) k ≡ Some (placed_of flat.spaces q)
+    found : (q : PlacedStatement A) → q ≡ get_or items k q → slice_get (map (placed_as flat) (take i items)) k ≡ Some (placed_as flat q)
     found q is =
-        policy-get flat.spaces (take i items) k q
+        policy-get flat.spaces (chains_by flat.optionals.items) (take i items) k q
         (slice_get_read (take i items) (length (take i items)) k q refl before (is ∙ sym (get_or-take i items k q (omega (arith, before, front)))))
 
 -- a name that no statement in front declares
 pub taken-first : {A : Type 0} (flat : Flat A) (i : ℕ) (p : PlacedStatement A) (key : Key) (w : Word) (entries new : List (Key × ℕ)) → IsFlat flat → slice_get flat.statements.items i ≡ Some p
-    → HasDeclared flat.spaces (take i flat.statements.items) entries → key.namespace ≡ p.namespace → key.name.now ≡ w.text → declared_in (table_of key.table) (form_of p.statement.now) ≡ Some w
-    → lookup (is_key key.table key.namespace key.name.now) entries ≡ None → new ≡ entries ++ (key, i) ∷ [] → IsTaken flat.spaces (policy_of flat.spaces (take i flat.statements.items)) (placed_of flat.spaces p) new None
+    → HasDeclaredIn flat.spaces (map (placed_as flat) (take i flat.statements.items)) entries → key.namespace ≡ p.namespace → key.name.now ≡ w.text → declared_in (table_of key.table) (form_of p.statement.now) ≡ Some w
+    → lookup (is_key key.table key.namespace key.name.now) entries ≡ None → new ≡ entries ++ (key, i) ∷ [] → IsTaken flat.spaces (map (placed_as flat) (take i flat.statements.items)) (placed_as flat p) new None
 taken-first flat i p key w entries new is_flat at has here text e absent pushed =
     let items = flat.statements.items in
-    let policy = policy_of flat.spaces (take i items) in
+    let policy = map (placed_as flat) (take i items) in
     let low = subst (λ n. n < length flat.spaces) (sym here) (all-at (λ q. q.namespace < length flat.spaces) items i p is_flat.within at) in
     let same = ap (λ n. get_or flat.spaces n []) (sym here) in
-    taken-new flat.spaces policy (placed_of flat.spaces p) key w entries new i has is_flat.distinct low same text e (length-map (take i items) (placed_of flat.spaces) ∙ take-length items i p at)
-    (sym (known flat.spaces policy (placed_of flat.spaces p) key w entries has low same text) ∙ absent) pushed
+    taken-new flat.spaces policy (placed_as flat p) key w entries new i has is_flat.distinct low same text e (length-map (take i items) (placed_as flat) ∙ take-length items i p at)
+    (sym (known flat.spaces policy (placed_as flat p) key w entries has low same text) ∙ absent) pushed

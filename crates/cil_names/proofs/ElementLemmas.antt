@@ -6,14 +6,13 @@ use Rattle.std.proofs.lemmas.Option.{none-some, same_Some}
 use Rattle.cil_specs.specs.Names.{Word}
 use Rattle.cil_specs.specs.Statements.{Form, block, optional, type_name, type_alias, alias_actual, type_attribute, attribute_set, common, class, class_common, class_order, rule}
 use Rattle.cil_specs.specs.Joined.{Placed}
-use Rattle.cil_specs.specs.Lookup.{Table, types, classes, declared_in, is_within, holds_of, gives_actual, actual_statement, actual_in, actual_of, is_type, is_alias, is_attribute, references, leads, every_optional}
+use Rattle.cil_specs.specs.Lookup.{Table, types, classes, declared_in, holds_of, gives_actual, actual_statement, actual_in, actual_of, is_type, is_alias, is_attribute, references, leads}
 use Rattle.cil_specs.specs.PolicyFault.{Compiles, kinds_asked}
 use Rattle.cil_specs.specs.Rule.{a_type, an_attribute, name_or_none, element_at, element_or_none}
 use Rattle.cil_specs.proofs.NamesLemmas.{contains-first, contains-other}
 use Rattle.cil_specs.proofs.Runs.{second_true}
-use Rattle.cil_specs.proofs.RestrictedLemmas.{every-within}
 use Rattle.cil_names.specs.First.{IsFirstOf}
-use Rattle.cil_names.specs.Flat.{AreFlat}
+use Rattle.cil_names.specs.Flat.{AreFlat, IsFaultless}
 use Rattle.cil_names.specs.FullNames.{full_name_of}
 use Rattle.cil_names.specs.Gifts.{first_at, gives, HasFirsts}
 use Rattle.cil_names.specs.Numbering.{is_numbered}
@@ -123,10 +122,10 @@ actual-numbered None is = is
 actual-numbered (Some s) is = ap is_numbered (type-form s.form is).1
 
 pub alias-is-set : (policy : List Placed) (o : Option Placed) → IsKindAt (Some Alias) o
-    → holds_of (λ s. not (is_alias s.form && not (is_some (actual_statement every_optional policy s)))) o ≡ true → holds_of (λ s. is_some (actual_statement every_optional policy s)) o ≡ true
+    → holds_of (λ s. not (is_alias s.form && not (is_some (actual_statement policy s)))) o ≡ true → holds_of (λ s. is_some (actual_statement policy s)) o ≡ true
 alias-is-set policy None is set = set
 alias-is-set policy (Some s) is set =
-    twice-not (is_some (actual_statement every_optional policy s)) ∙ ap (λ b. not (b && not (is_some (actual_statement every_optional policy s)))) (sym is) ∙ set
+    twice-not (is_some (actual_statement policy s)) ∙ ap (λ b. not (b && not (is_some (actual_statement policy s)))) (sym is) ∙ set
   where
     twice-not : (b : Bool) → b ≡ not (not b)
     twice-not true = refl
@@ -134,26 +133,26 @@ alias-is-set policy (Some s) is set =
 
 -- the elements that declarations stand for
 pub element-type : (policy : List Placed) (o : Option Placed) (name : List ℕ) → IsKindAt (Some «Type») o → LeadsIn types policy o → option_map full_name_of o ≡ Some name
-    → a_type name ≡ element_or_none every_optional policy o
+    → a_type name ≡ element_or_none policy o
 element-type policy None name is there named = absurd is
 element-type policy (Some s) name is there named =
-    ap a_type (name-led types policy (Some s) name there named) ∙ sym (ap (element_at every_optional policy s) (type-form s.form is).1)
+    ap a_type (name-led types policy (Some s) name there named) ∙ sym (ap (element_at policy s) (type-form s.form is).1)
 
 pub element-attribute : (policy : List Placed) (o : Option Placed) (name : List ℕ) → IsKindAt (Some Attribute) o → LeadsIn types policy o → option_map full_name_of o ≡ Some name
-    → an_attribute name ≡ element_or_none every_optional policy o
+    → an_attribute name ≡ element_or_none policy o
 element-attribute policy None name is there named = absurd is
 element-attribute policy (Some s) name is there named =
-    ap an_attribute (name-led types policy (Some s) name there named) ∙ sym (ap (element_at every_optional policy s) (attribute-form s.form is).1)
+    ap an_attribute (name-led types policy (Some s) name there named) ∙ sym (ap (element_at policy s) (attribute-form s.form is).1)
 
 actual-name : (p : Option Placed) (name : List ℕ) → holds_of (λ s. is_type s.form) p ≡ true → option_map full_name_of p ≡ Some name → name ≡ name_or_none types p
 actual-name None name is named = absurd (none-some name named)
 actual-name (Some u) name is named = sym (same_Some (full_name_of u) name named) ∙ full-name-in types u (type-declared u.form is)
 
-pub element-alias : (policy : List Placed) (o p : Option Placed) (name : List ℕ) → IsKindAt (Some Alias) o → ((s : Placed) → o ≡ Some s → p ≡ actual_of every_optional policy s)
-    → holds_of (λ s. is_type s.form) p ≡ true → option_map full_name_of p ≡ Some name → a_type name ≡ element_or_none every_optional policy o
+pub element-alias : (policy : List Placed) (o p : Option Placed) (name : List ℕ) → IsKindAt (Some Alias) o → ((s : Placed) → o ≡ Some s → p ≡ actual_of policy s)
+    → holds_of (λ s. is_type s.form) p ≡ true → option_map full_name_of p ≡ Some name → a_type name ≡ element_or_none policy o
 element-alias policy None p name is actual type named = absurd is
 element-alias policy (Some s) p name is actual type named =
-    ap a_type (actual-name p name type named) ∙ ap (λ q. a_type (name_or_none types q)) (actual s refl) ∙ sym (ap (element_at every_optional policy s) (alias-form s.form is).1)
+    ap a_type (actual-name p name type named) ∙ ap (λ q. a_type (name_or_none types q)) (actual s refl) ∙ sym (ap (element_at policy s) (alias-form s.form is).1)
 
 find-place : {X : Type 0} (p q : X → Bool) → ((x : X) → p x ≡ q x) → (xs : List X) → find p xs ≡ option_and_then (slice_get xs) (position q xs)
 find-place p q same [] = refl
@@ -176,7 +175,7 @@ find-holds p (y ∷ ys) x e = by (p y) refl e (find-holds p ys x)
     by true here e more = ap p (sym (same_Some y x e)) ∙ here
     by false here e more = more e
 
-gives-form : (policy : List Placed) (s : Placed) (namespace : List (List ℕ)) (form : Form) → gives_actual every_optional policy s namespace form ≡ true
+gives-form : (policy : List Placed) (s : Placed) (namespace : List (List ℕ)) (form : Form) → gives_actual policy s namespace form ≡ true
     → (alias : Word) × (actual : Word) × (form ≡ alias_actual alias actual)
 gives-form policy s namespace (alias_actual alias actual) e = (alias, actual, refl)
 gives-form policy s namespace (block id) e = absurd (true≢false (sym e))
@@ -196,64 +195,61 @@ pub record IsActual (policy : List Placed) (s : Placed) (place : ℕ) : Type 0 w
   pub t : Placed
   pub at : slice_get policy place ≡ Some t
   pub within : place < length policy
-  pub statement : actual_statement every_optional policy s ≡ Some t
-  pub led : is_some (actual_in every_optional policy t.namespace t.form) ≡ true
-  pub type : holds_of (λ u. is_type u.form) (actual_in every_optional policy t.namespace t.form) ≡ true
+  pub statement : actual_statement policy s ≡ Some t
+  pub led : is_some (actual_in policy t.namespace t.form) ≡ true
+  pub type : holds_of (λ u. is_type u.form) (actual_in policy t.namespace t.form) ≡ true
 
 holds-led : (test : Form → Bool) (o : Option Placed) → is_some o ≡ true → ((u : Placed) → o ≡ Some u → test u.form ≡ true) → holds_of (λ u. test u.form) o ≡ true
 holds-led test None some each = some
 holds-led test (Some u) some each = each u refl
 
-module _ (policy : List Placed) (compiles : Compiles every_optional policy) (flat : AreFlat policy) where
-  given : (s : Placed) (place : ℕ) (t : Placed) → slice_get policy place ≡ Some t → actual_statement every_optional policy s ≡ Some t → IsActual policy s place
+module _ (policy : List Placed) (compiles : IsFaultless policy) (flat : AreFlat policy) where
+  given : (s : Placed) (place : ℕ) (t : Placed) → slice_get policy place ≡ Some t → actual_statement policy s ≡ Some t → IsActual policy s place
   given s place t at statement =
       let here = at-place policy place t at in
-      let top : t.optionals ≡ [] = (plain-at policy place t flat at).optionals in
-      let gives_it : gives_actual every_optional policy s t.namespace t.form ≡ true =
-      second_true (is_within every_optional t) (gives_actual every_optional policy s t.namespace t.form)
-      (find-holds (λ u. is_within every_optional u && gives_actual every_optional policy s u.namespace u.form) policy t statement) in
+      let gives_it : gives_actual policy s t.namespace t.form ≡ true =
+      find-holds (λ u. gives_actual policy s u.namespace u.form) policy t statement in
       let form = gives-form policy s t.namespace t.form gives_it in
       let alias : Word = form.0 in
       let actual : Word = form.1 in
       let is : t.form ≡ alias_actual alias actual = form.2 in
-      let some : is_some (leads every_optional policy types t.namespace actual.text) ≡ true =
-      word-found every_optional policy compiles t here.1 top types actual
+      let some : is_some (leads policy types t.namespace actual.text) ≡ true =
+      word-found policy compiles t here.1 types actual
       (subst (λ f. Contains (references f) (types, actual)) (sym is) (contains-other (types, alias) ((types, actual) ∷ []) (types, actual) (contains-first (types, actual) []))) in
-      let type : holds_of (λ u. is_type u.form) (leads every_optional policy types t.namespace actual.text) ≡ true =
-      holds-led is_type (leads every_optional policy types t.namespace actual.text) some
-      (λ u led. kind-found every_optional policy compiles t here.1 top is_type actual
+      let type : holds_of (λ u. is_type u.form) (leads policy types t.namespace actual.text) ≡ true =
+      holds-led is_type (leads policy types t.namespace actual.text) some
+      (λ u led. kind-found policy compiles t here.1 is_type actual
       (subst (λ f. Contains (kinds_asked f) (is_type, actual)) (sym is) (contains-other (is_alias, alias) ((is_type, actual) ∷ []) (is_type, actual) (contains-first (is_type, actual) []))) u led) in
       record {
         t = t;
         at = at;
         within = here.0;
         statement = statement;
-        led = ap (λ f. is_some (actual_in every_optional policy t.namespace f)) is ∙ some;
-        type = ap (λ f. holds_of (λ u. is_type u.form) (actual_in every_optional policy t.namespace f)) is ∙ type;
+        led = ap (λ f. is_some (actual_in policy t.namespace f)) is ∙ some;
+        type = ap (λ f. holds_of (λ u. is_type u.form) (actual_in policy t.namespace f)) is ∙ type;
       }
 
   pub actual-at : (firsts : List (ℕ × ℕ)) (i : ℕ) → HasFirsts Actual policy firsts → IsFirstOf types policy i
-      → holds_of (λ s. is_some (actual_statement every_optional policy s)) (slice_get policy i) ≡ true
+      → holds_of (λ s. is_some (actual_statement policy s)) (slice_get policy i) ≡ true
       → (s : Placed) × (slice_get policy i ≡ Some s) × (n : ℕ) × (first_at firsts i ≡ Some n) × IsActual policy s n
   actual-at firsts i has first set = by (slice_get policy i) refl set
     where
-      place-of : (s : Placed) (o : Option ℕ) → position (gives Actual every_optional policy s) policy ≡ o → is_some (actual_statement every_optional policy s) ≡ true
-          → (n : ℕ) × (position (gives Actual every_optional policy s) policy ≡ Some n) × IsActual policy s n
+      place-of : (s : Placed) (o : Option ℕ) → position (gives Actual policy s) policy ≡ o → is_some (actual_statement policy s) ≡ true
+          → (n : ℕ) × (position (gives Actual policy s) policy ≡ Some n) × IsActual policy s n
       place-of s o e some =
-          statement-of o e (actual_statement every_optional policy s) refl some
-          (find-place (λ t. is_within every_optional t && gives_actual every_optional policy s t.namespace t.form) (gives Actual every_optional policy s)
-          (λ t. ap (λ b. b && gives_actual every_optional policy s t.namespace t.form) (every-within t)) policy)
+          statement-of o e (actual_statement policy s) refl some
+          (find-place (λ t. gives_actual policy s t.namespace t.form) (gives Actual policy s) (λ t. refl) policy)
         where
-          statement-of : (o : Option ℕ) → position (gives Actual every_optional policy s) policy ≡ o → (q : Option Placed) → actual_statement every_optional policy s ≡ q → is_some q ≡ true
-              → actual_statement every_optional policy s ≡ option_and_then (slice_get policy) (position (gives Actual every_optional policy s) policy)
-              → (n : ℕ) × (position (gives Actual every_optional policy s) policy ≡ Some n) × IsActual policy s n
+          statement-of : (o : Option ℕ) → position (gives Actual policy s) policy ≡ o → (q : Option Placed) → actual_statement policy s ≡ q → is_some q ≡ true
+              → actual_statement policy s ≡ option_and_then (slice_get policy) (position (gives Actual policy s) policy)
+              → (n : ℕ) × (position (gives Actual policy s) policy ≡ Some n) × IsActual policy s n
           statement-of o e None f some same = absurd (true≢false (sym some))
           statement-of None e (Some t) f some same = absurd (none-some t (ap (option_and_then (slice_get policy)) (sym e) ∙ sym same ∙ f))
           statement-of (Some n) e (Some t) f some same = (n, e, given s n t (ap (option_and_then (slice_get policy)) (sym e) ∙ sym same ∙ f) f)
 
-      by : (o : Option Placed) → slice_get policy i ≡ o → holds_of (λ s. is_some (actual_statement every_optional policy s)) o ≡ true
+      by : (o : Option Placed) → slice_get policy i ≡ o → holds_of (λ s. is_some (actual_statement policy s)) o ≡ true
           → (s : Placed) × (slice_get policy i ≡ Some s) × (n : ℕ) × (first_at firsts i ≡ Some n) × IsActual policy s n
       by None at some = absurd (true≢false (sym some))
       by (Some s) at some =
-          let found = place-of s (position (gives Actual every_optional policy s) policy) refl some in
+          let found = place-of s (position (gives Actual policy s) policy) refl some in
           (s, at, found.0, has i s at first ∙ found.1, found.2)

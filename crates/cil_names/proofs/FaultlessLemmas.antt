@@ -1,4 +1,4 @@
--- What holds of the names and words of a policy that compiles.
+-- What holds of the names and words of a policy without faults.
 use Rattle.std.proofs.Common.{◌≡◌, inl, inr, ℕ, zero, suc, Bool, true, false, not, ◌&&◌, ◌||◌, List, [], ◌∷◌, ◌++◌, length, take, drop, map, filter, flat_map, position, slice_get, Contains, Some, is_some, option_map, cond, refl, sym, ap, ◌∙◌, subst, true≢false, arith, if◌then◌else◌}
 use Rattle.std.specs.List.{list_any}
 use Rattle.std.specs.Option.{option_to_list}
@@ -7,11 +7,12 @@ use Rattle.std.proofs.lemmas.List.Elements.{Contains-append_left, Contains-appen
 use Rattle.cil_specs.specs.Names.{Word}
 use Rattle.cil_specs.specs.Statements.{Form, block, optional, type_name, type_alias, alias_actual, type_attribute, attribute_set, common, class, class_common, class_order, rule, is_optional}
 use Rattle.cil_specs.specs.Joined.{Placed}
-use Rattle.cil_specs.specs.Lookup.{Table, types, classes, word_text, is_word, Optionals, declared_in, declares, is_same, is_within, same_namespace, leads, has_name, holds_of, references, named_permissions, permissions_of, actual_statement, is_alias}
-use Rattle.cil_specs.specs.PolicyFault.{PolicyFaultKind, twice, missing, wrong_kind, alias_unset, faulty_words, Compiles, tables, twice_words, is_unfound, is_lacking, missing_words, kinds_asked, is_of_another_kind, wrong_kind_words, element_words, is_unset, alias_unset_words, is_outside}
+use Rattle.cil_specs.specs.Lookup.{Table, types, classes, word_text, is_word, declared_in, declares, is_same, same_namespace, leads, has_name, holds_of, references, named_permissions, permissions_of, actual_statement, is_alias}
+use Rattle.cil_specs.specs.PolicyFault.{PolicyFaultKind, twice, missing, wrong_kind, alias_unset, faulty_words, tables, twice_words, is_unfound, is_lacking, missing_words, kinds_asked, is_of_another_kind, wrong_kind_words, element_words, is_unset, alias_unset_words, is_outside}
 use Rattle.cil_specs.specs.Rule.{is_class}
 use Rattle.cil_specs.proofs.NamesLemmas.{contains-first, contains-other, contains-cases, contains-map, around}
 use Rattle.cil_names.specs.First.{IsFirstOf}
+use Rattle.cil_names.specs.Flat.{IsFaultless}
 use Rattle.cil_names.proofs.PositionLemmas.{position-cons, any-same}
 use Rattle.cil_names.proofs.NameSets.{bytes_eq-refl}
 
@@ -35,57 +36,50 @@ not-false : (b : Bool) → (b ≡ false → ⊥) → b ≡ true
 not-false true never = refl
 not-false false never = absurd (never refl)
 
-module _ (kept : Optionals) (policy : List Placed) (compiles : Compiles kept policy) where
-  no-faulty : (kind : PolicyFaultKind) (before : List Placed) (s : Placed) (after : List Placed) → policy ≡ before ++ s ∷ after → (word : Word) → Contains (faulty_words kind kept policy before s) word → ⊥
+module _ (policy : List Placed) (faultless : IsFaultless policy) where
+  no-faulty : (kind : PolicyFaultKind) (before : List Placed) (s : Placed) (after : List Placed) → policy ≡ before ++ s ∷ after → (word : Word) → Contains (faulty_words kind policy before s) word → ⊥
   no-faulty kind before s after split word is =
-      compiles (record { kind = kind; module_name = s.module_name; at = word.at; word = word.text })
+      faultless.none (record { kind = kind; module_name = s.module_name; at = word.at; word = word.text })
       (record { before = before; s = s; after = after; word = word; split = split; is_faulty = is; is_at = refl })
 
-  module _ (s : Placed) (there : Contains policy s) (top : s.optionals ≡ []) where
-    within : is_within kept s ≡ true
-    within = ap (λ o. is_within kept (record { module_name = s.module_name; at = s.at; form = s.form; namespace = s.namespace; optionals = o })) top
-
-    no-missing : (word : Word) → Contains (missing_words kept policy s) word → ⊥
-    no-missing word is =
-        let a = around policy s there in
-        no-faulty missing a.before s a.after a.whole word (subst (λ o. Contains (if is_outside o then missing_words kept policy s else []) word) (sym top) is)
+  module _ (s : Placed) (there : Contains policy s) where
+    no-missing : (word : Word) → Contains (missing_words policy s) word → ⊥
+    no-missing word is = (let none : Contains [] word = subst (λ l. Contains l word) (faultless.found s there) is in omega (arith, none.1))
 
     -- each reference leads somewhere
-    pub word-found : (table : Table) (word : Word) → Contains (references s.form) (table, word) → is_some (leads kept policy table s.namespace word.text) ≡ true
-    word-found table word is = not-false (is_some (leads kept policy table s.namespace word.text)) λ e.
+    pub word-found : (table : Table) (word : Word) → Contains (references s.form) (table, word) → is_some (leads policy table s.namespace word.text) ≡ true
+    word-found table word is = not-false (is_some (leads policy table s.namespace word.text)) λ e.
         no-missing word
-        (Contains-append_left (map (λ r. r.1) (filter (is_unfound kept policy s.namespace) (references s.form))) (map (λ p. p.1) (filter (is_lacking kept policy s.namespace) (named_permissions s.form))) word
-        (contains-map (λ r. r.1) (filter (is_unfound kept policy s.namespace) (references s.form)) (table, word)
-        (contains-filter (is_unfound kept policy s.namespace) (references s.form) (table, word) is (ap not e))))
+        (Contains-append_left (map (λ r. r.1) (filter (is_unfound policy s.namespace) (references s.form))) (map (λ p. p.1) (filter (is_lacking policy s.namespace) (named_permissions s.form))) word
+        (contains-map (λ r. r.1) (filter (is_unfound policy s.namespace) (references s.form)) (table, word)
+        (contains-filter (is_unfound policy s.namespace) (references s.form) (table, word) is (ap not e))))
 
     -- a class that is found has each permission
-    pub permission-found : (the_class word : Word) → Contains (named_permissions s.form) (the_class, word) → (t : Placed) → leads kept policy classes s.namespace the_class.text ≡ Some t
-        → has_name (permissions_of kept policy t) word.text ≡ true
-    permission-found the_class word is t led = not-false (has_name (permissions_of kept policy t) word.text) λ e.
+    pub permission-found : (the_class word : Word) → Contains (named_permissions s.form) (the_class, word) → (t : Placed) → leads policy classes s.namespace the_class.text ≡ Some t
+        → has_name (permissions_of policy t) word.text ≡ true
+    permission-found the_class word is t led = not-false (has_name (permissions_of policy t) word.text) λ e.
         no-missing word
-        (Contains-append_right (map (λ r. r.1) (filter (is_unfound kept policy s.namespace) (references s.form))) (map (λ p. p.1) (filter (is_lacking kept policy s.namespace) (named_permissions s.form))) word
-        (contains-map (λ p. p.1) (filter (is_lacking kept policy s.namespace) (named_permissions s.form)) (the_class, word)
-        (contains-filter (is_lacking kept policy s.namespace) (named_permissions s.form) (the_class, word) is
-        (ap (holds_of (λ u. not (has_name (permissions_of kept policy u) word.text))) led ∙ ap not e))))
+        (Contains-append_right (map (λ r. r.1) (filter (is_unfound policy s.namespace) (references s.form))) (map (λ p. p.1) (filter (is_lacking policy s.namespace) (named_permissions s.form))) word
+        (contains-map (λ p. p.1) (filter (is_lacking policy s.namespace) (named_permissions s.form)) (the_class, word)
+        (contains-filter (is_lacking policy s.namespace) (named_permissions s.form) (the_class, word) is
+        (ap (holds_of (λ u. not (has_name (permissions_of policy u) word.text))) led ∙ ap not e))))
 
     -- a reference that has to lead to a thing of a kind does
-    pub kind-found : (test : Form → Bool) (word : Word) → Contains (kinds_asked s.form) (test, word) → (t : Placed) → leads kept policy types s.namespace word.text ≡ Some t → test t.form ≡ true
+    pub kind-found : (test : Form → Bool) (word : Word) → Contains (kinds_asked s.form) (test, word) → (t : Placed) → leads policy types s.namespace word.text ≡ Some t → test t.form ≡ true
     kind-found test word is t led = not-false (test t.form) λ e.
         let a = around policy s there in
         no-faulty wrong_kind a.before s a.after a.whole word
-        (subst (λ b. Contains (if b then wrong_kind_words kept policy s else []) word) (sym within)
-        (contains-map (λ r. r.1) (filter (is_of_another_kind kept policy s.namespace) (kinds_asked s.form)) (test, word)
-        (contains-filter (is_of_another_kind kept policy s.namespace) (kinds_asked s.form) (test, word) is (ap (holds_of (λ u. not (test u.form))) led ∙ ap not e))))
+        (contains-map (λ r. r.1) (filter (is_of_another_kind policy s.namespace) (kinds_asked s.form)) (test, word)
+        (contains-filter (is_of_another_kind policy s.namespace) (kinds_asked s.form) (test, word) is (ap (holds_of (λ u. not (test u.form))) led ∙ ap not e)))
 
     -- an alias that a rule names has an actual type
-    pub alias-set : (word : Word) → Contains (element_words s.form) word → (t : Placed) → leads kept policy types s.namespace word.text ≡ Some t → is_alias t.form ≡ true
-        → is_some (actual_statement kept policy t) ≡ true
-    alias-set word is t led alias = not-false (is_some (actual_statement kept policy t)) λ e.
+    pub alias-set : (word : Word) → Contains (element_words s.form) word → (t : Placed) → leads policy types s.namespace word.text ≡ Some t → is_alias t.form ≡ true
+        → is_some (actual_statement policy t) ≡ true
+    alias-set word is t led alias = not-false (is_some (actual_statement policy t)) λ e.
         let a = around policy s there in
         no-faulty alias_unset a.before s a.after a.whole word
-        (subst (λ b. Contains (if b then alias_unset_words kept policy s else []) word) (sym within)
-        (contains-filter (is_unset kept policy s.namespace) (element_words s.form) word is
-        (ap (holds_of (λ u. is_alias u.form && not (is_some (actual_statement kept policy u)))) led ∙ ap (λ b. b && not (is_some (actual_statement kept policy t))) alias ∙ ap not e)))
+        (contains-filter (is_unset policy s.namespace) (element_words s.form) word is
+        (ap (holds_of (λ u. is_alias u.form && not (is_some (actual_statement policy u)))) led ∙ ap (λ b. b && not (is_some (actual_statement policy t))) alias ∙ ap not e))
 
   class-form : (form : Form) → is_class form ≡ true → (id : Word) × (permissions : List Word) × (form ≡ class id permissions)
   class-form (class id permissions) e = (id, permissions, refl)

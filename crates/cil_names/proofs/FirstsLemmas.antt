@@ -7,7 +7,7 @@ use Rattle.std.proofs.lemmas.List.Quantifiers.{position-Some}
 use Rattle.cil_specs.specs.Names.{Word}
 use Rattle.cil_specs.specs.Statements.{Form, block, optional, type_name, type_alias, alias_actual, type_attribute, attribute_set, common, class, class_common, class_order, rule}
 use Rattle.cil_specs.specs.Joined.{Placed}
-use Rattle.cil_specs.specs.Lookup.{Table, declared_in, declares, same_namespace, is_word, is_same, word_text, holds_of, Optionals, leads, every_optional}
+use Rattle.cil_specs.specs.Lookup.{Table, declared_in, declares, same_namespace, is_word, is_same, word_text, holds_of, leads}
 use Rattle.cil_specs.proofs.Runs.{first_true, second_true}
 use Rattle.cil_specs.proofs.DeclaredLemmas.{one-namespace}
 use Rattle.cil_names.specs.First.{IsFirstOf}
@@ -22,11 +22,11 @@ use Rattle.cil_names.proofs.PositionLemmas.{at_if, position-same, position-next}
 use Rattle.cil_names.proofs.NameSets.{bytes_eq-true}
 
 -- what a statement gives something to is where its word leads
-pub gives-lead : (gift : Gift) (kept : Optionals) (policy : List Placed) (s t : Placed) → gives gift kept policy s t ≡ holds_of (is_same (gift_table gift) s) (given_lead gift kept policy t)
-gives-lead gift kept policy s t = by gift t.form
+pub gives-lead : (gift : Gift) (policy : List Placed) (s t : Placed) → gives gift policy s t ≡ holds_of (is_same (gift_table gift) s) (given_lead gift policy t)
+gives-lead gift policy s t = by gift t.form
   where
-    by : (gift : Gift) (form : Form) → gives gift kept policy s (record { module_name = t.module_name; at = t.at; form = form; namespace = t.namespace; optionals = t.optionals })
-        ≡ holds_of (is_same (gift_table gift) s) (option_and_then (λ w. leads kept policy (gift_table gift) t.namespace w.text) (given_word gift form))
+    by : (gift : Gift) (form : Form) → gives gift policy s (record { module_name = t.module_name; at = t.at; form = form; namespace = t.namespace; optionals = t.optionals })
+        ≡ holds_of (is_same (gift_table gift) s) (option_and_then (λ w. leads policy (gift_table gift) t.namespace w.text) (given_word gift form))
     by Actual (block id) = refl
     by Actual (optional id) = refl
     by Actual (type_name id) = refl
@@ -126,27 +126,27 @@ lead-same table policy i k s lead is first led = by (slice_get policy k) refl
 
 -- what is given by one statement more
 pub firsts-next : (gift : Gift) (policy : List Placed) (place : ℕ) (t : Placed) (found : Option ℕ) (old new : List (ℕ × ℕ)) → slice_get policy place ≡ Some t
-    → IsLead (gift_table gift) policy found (given_lead gift every_optional policy t) → new ≡ with_found old found place
+    → IsLead (gift_table gift) policy found (given_lead gift policy t) → new ≡ with_found old found place
     → HasFirstsOf gift policy (take place policy) old → HasFirstsOf gift policy (take (place + 1) policy) new
 firsts-next gift policy place t found old new here led more so_far i s is first =
     ap (λ l. first_at l i) more ∙ by found led
-    ∙ ap (λ b. option_or (position (gives gift every_optional policy s) (take place policy)) (at_if b place)) (sym (gives-lead gift every_optional policy s t))
-    ∙ sym (position-next (gives gift every_optional policy s) policy place t here)
+    ∙ ap (λ b. option_or (position (gives gift policy s) (take place policy)) (at_if b place)) (sym (gives-lead gift policy s t))
+    ∙ sym (position-next (gives gift policy s) policy place t here)
   where
-    same : first_at old i ≡ position (gives gift every_optional policy s) (take place policy)
+    same : first_at old i ≡ position (gives gift policy s) (take place policy)
     same = so_far i s is first
 
     none : (o : Option ℕ) → o ≡ option_or o None
     none None = refl
     none (Some n) = refl
 
-    by : (found : Option ℕ) → IsLead (gift_table gift) policy found (given_lead gift every_optional policy t)
+    by : (found : Option ℕ) → IsLead (gift_table gift) policy found (given_lead gift policy t)
         → first_at (with_found old found place) i
-        ≡ option_or (position (gives gift every_optional policy s) (take place policy)) (at_if (holds_of (is_same (gift_table gift) s) (given_lead gift every_optional policy t)) place)
-    by None led = same ∙ none (position (gives gift every_optional policy s) (take place policy)) ∙ ap (λ o. option_or (position (gives gift every_optional policy s) (take place policy)) (at_if (holds_of (is_same (gift_table gift) s) o) place)) led.is
+        ≡ option_or (position (gives gift policy s) (take place policy)) (at_if (holds_of (is_same (gift_table gift) s) (given_lead gift policy t)) place)
+    by None led = same ∙ none (position (gives gift policy s) (take place policy)) ∙ ap (λ o. option_or (position (gives gift policy s) (take place policy)) (at_if (holds_of (is_same (gift_table gift) s) o) place)) led.is
     by (Some k) led =
         noted-at old i k place ∙ ap (λ o. option_or o (at_if (i == k) place)) same
-        ∙ ap (λ b. option_or (position (gives gift every_optional policy s) (take place policy)) (at_if b place)) (lead-same (gift_table gift) policy i k s (given_lead gift every_optional policy t) is first led)
+        ∙ ap (λ b. option_or (position (gives gift policy s) (take place policy)) (at_if b place)) (lead-same (gift_table gift) policy i k s (given_lead gift policy t) is first led)
 
 -- what an insertion notes where none is noted
 pub insert-new : {S : Type 0} (m : IndexMap ℕ ℕ S) (to place : ℕ) (old new : List (ℕ × ℕ)) → m.entries ≡ old → is_some (get eqb m to) ≡ false → new ≡ insert_entry eqb m.entries to place

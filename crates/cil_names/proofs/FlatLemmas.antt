@@ -1,4 +1,4 @@
--- The joined policy of modules whose statements are plain is flat, without its optionals.
+-- The joined policy of modules whose statements are plain is flat.
 use Rattle.std.proofs.Common.{◌≡◌, inl, inr, ℕ, zero, suc, ◌<◌, ◌≤◌, true, List, [], ◌∷◌, ◌++◌, ◌&&◌, Some, slice_get, map, refl, sym, ap, ◌∙◌, subst, arith, true≢false}
 use Rattle.std.specs.List.{AllByRecursion, list_all}
 use Rattle.std.specs.Ordering.{is_lt, ordering_reverse}
@@ -6,7 +6,6 @@ use Rattle.std.specs.declared.cmp.Ordering.{Ordering}
 use Rattle.std.specs.declared.cmp.Ordering.TheVariants.{Less, Equal, Greater}
 use Rattle.std.proofs.lemmas.Bool.{cases_order}
 use Rattle.std.proofs.lemmas.Cmp.{nat_list_cmp_total}
-use Rattle.std.proofs.lemmas.List.{map-append}
 use Rattle.std.proofs.lemmas.Option.{none-some, same_Some}
 use Rattle.cil_specs.specs.Place.{Place}
 use Rattle.cil_specs.specs.Statements.{Form, statement_offsets, rise_from, Statements, no_more, statement}
@@ -16,7 +15,6 @@ use Rattle.cil_specs.specs.Report.{name_cmp, names_rise}
 use Rattle.cil_specs.proofs.Runs.{first_true, second_true}
 use Rattle.cil_specs.proofs.NamesLemmas.{all-weaker, all-append, all-first, all-second, all-contained, contains-first, rises-low, rises-less, rises-append}
 use Rattle.cil_names.specs.Flat.{offsets_in, offsets_of, IsPlain, IsBefore, AreFlat}
-use Rattle.cil_names.specs.Nested.{erased}
 
 -- flat lists one after the other
 flat-append : (xs ys : List Placed) → AreFlat xs → AreFlat ys → AllByRecursion (λ s. AllByRecursion (IsBefore s) ys) xs → AreFlat (xs ++ ys)
@@ -82,16 +80,16 @@ flat-more name P s low high inner others here plain below each le inner_flat oth
   );
 }
 
-placed-at : List ℕ → List (List ℕ) → Place → Form → Placed
-placed-at name namespace at form = record { module_name = name; at = at; form = form; namespace = namespace; optionals = [] }
+placed-at : List ℕ → List (List ℕ) → List ℕ → Place → Form → Placed
+placed-at name namespace optionals at form = record { module_name = name; at = at; form = form; namespace = namespace; optionals = optionals }
 
 -- the statements of a module, or of one of its blocks and optionals, in the order of the text
 module-flat : (name : List ℕ) (namespace : List (List ℕ)) (optionals : List ℕ) (low : ℕ) (P : ℕ → Type 0) (statements : Statements) → is_plain statements ≡ true → rise_from low (statement_offsets statements) ≡ true
-    → AllByRecursion P (statement_offsets statements) → IsModuleFlat name P (map erased (placed name namespace optionals statements))
+    → AllByRecursion P (statement_offsets statements) → IsModuleFlat name P (placed name namespace optionals statements)
 unfolding placed-at
 module-flat name namespace optionals low P no_more plain rising each = record { flat = tt; inside = tt }
 module-flat name namespace optionals low P (statement at form body more) plain rising each =
-    let s = placed-at name namespace at form in
+    let s = placed-at name namespace optionals at form in
     let around = optionals_inside form at optionals in
     let inner = placed name (namespace_inside form namespace) around body in
     let behind = placed name namespace optionals more in
@@ -107,10 +105,9 @@ module-flat name namespace optionals low P (statement at form body more) plain r
     let behind_flat = module-flat name namespace optionals others.high (From P others.high) more
     (second_true (is_plain body) (is_plain more) plain_others) others.second
     (all-both P (λ n. others.high ≤ n) (statement_offsets more) (all-second P (statement_offsets body) (statement_offsets more) each_others) (rises-low others.high (statement_offsets more) others.second)) in
-    let own : IsPlain s = record { plain = plain_form; optionals = refl; rising = rises-less low 0 (offsets_of s) (omega arith) parts.first } in
-    subst (λ l. IsModuleFlat name P (s ∷ l)) (sym (map-append erased inner behind))
-    (flat-more name P s parts.high others.high (map erased inner) (map erased behind) refl own parts.below
-    (all-first P (offsets_of s) (statement_offsets body ++ statement_offsets more) each) others.no_less inner_flat behind_flat)
+    let own : IsPlain s = record { plain = plain_form; rising = rises-less low 0 (offsets_of s) (omega arith) parts.first } in
+    flat-more name P s parts.high others.high inner behind refl own parts.below
+    (all-first P (offsets_of s) (statement_offsets body ++ statement_offsets more) each) others.no_less inner_flat behind_flat
 
 -- a name that comes first is less than all others
 names_rise-first : (name : List ℕ) (names : List (List ℕ)) → names_rise (name ∷ names) ≡ true → AllByRecursion (λ n. name_cmp name n ≡ Less) names
@@ -133,36 +130,36 @@ names_rise-others name (n ∷ names) rise = second_true (is_lt (name_cmp name n)
 abbrev pub IsRising : Module → Type 0
 IsRising m = rise_from 0 (statement_offsets m.statements) ≡ true
 
--- the statements of a module, without their optionals
+-- the statements of a module
 module_top : Module → List Placed
-module_top m = map erased (placed m.name [] [] m.statements)
+module_top m = placed m.name [] [] m.statements
 
 module-top : (m : Module) → is_plain m.statements ≡ true → IsRising m → IsModuleFlat m.name (λ n. 0 ≤ n) (module_top m)
 unfolding module_top
 module-top m plain rising = module-flat m.name [] [] 0 (λ n. 0 ≤ n) m.statements plain rising (rises-low 0 (statement_offsets m.statements) rising)
 
-top-then : (m : Module) (modules : List Module) → map erased (joined (m ∷ modules)) ≡ module_top m ++ map erased (joined modules)
+top-then : (m : Module) (modules : List Module) → joined (m ∷ modules) ≡ module_top m ++ joined modules
 unfolding module_top
-top-then m modules = map-append erased (placed m.name [] [] m.statements) (joined modules)
+top-then m modules = refl
 
 -- what holds of each module's name holds of the module name of each statement
 joined-names : (P : List ℕ → Type 0) (modules : List Module) → list_all (λ m. is_plain m.statements) modules ≡ true → AllByRecursion IsRising modules
-    → AllByRecursion P (map (λ m. m.name) modules) → AllByRecursion (λ s. P s.module_name) (map erased (joined modules))
+    → AllByRecursion P (map (λ m. m.name) modules) → AllByRecursion (λ s. P s.module_name) (joined modules)
 joined-names P [] plain rising all = tt
 joined-names P (m ∷ modules) plain rising all =
     let flat = module-top m (first_true (is_plain m.statements) (list_all (λ m. is_plain m.statements) modules) plain) rising.0 in
     subst (AllByRecursion (λ s. P s.module_name)) (sym (top-then m modules))
-    (all-append (λ s. P s.module_name) (module_top m) (map erased (joined modules))
+    (all-append (λ s. P s.module_name) (module_top m) (joined modules)
     (all-weaker (StandsIn m.name (λ n. 0 ≤ n)) (λ s. P s.module_name) (λ s stands. subst P (sym stands.here) all.0) (module_top m) flat.inside)
     (joined-names P modules (second_true (is_plain m.statements) (list_all (λ m. is_plain m.statements) modules) plain) rising.1 all.1))
 
 pub joined-flat : (modules : List Module) → names_rise (map (λ m. m.name) modules) ≡ true → list_all (λ m. is_plain m.statements) modules ≡ true → AllByRecursion IsRising modules
-    → AreFlat (map erased (joined modules))
+    → AreFlat (joined modules)
 joined-flat [] ordered plain rising = tt
 joined-flat (m ∷ modules) ordered plain rising =
     let flat = module-top m (first_true (is_plain m.statements) (list_all (λ m. is_plain m.statements) modules) plain) rising.0 in
     let others = second_true (is_plain m.statements) (list_all (λ m. is_plain m.statements) modules) plain in
-    let behind = map erased (joined modules) in
+    let behind = joined modules in
     let greater = joined-names (λ n. name_cmp m.name n ≡ Less) modules others rising.1 (names_rise-first m.name (map (λ m. m.name) modules) ordered) in
     subst AreFlat (sym (top-then m modules))
     (flat-append (module_top m) behind flat.flat

@@ -8,22 +8,22 @@ use Rattle.std.proofs.lemmas.List.{length-map}
 use Rattle.std.proofs.lemmas.List.Folds.{list_any-append, list_all-append}
 use Rattle.std.proofs.Math.Bool.{or-false}
 use Rattle.cil_specs.specs.Joined.{Placed}
-use Rattle.cil_specs.specs.Lookup.{Table, scopes, Optionals, declares, is_within, declaration, has_block, outward, nearest_block, inside, from_namespace, holds_of, every_optional}
+use Rattle.cil_specs.specs.Lookup.{Table, scopes, declares, declaration, has_block, outward, nearest_block, inside, from_namespace, holds_of}
 use Rattle.cil_specs.specs.PolicyFault.{PolicyFault, twice, IsFaultOf}
 use Rattle.cil_specs.proofs.Runs.{both_true}
-use Rattle.cil_specs.proofs.DeclaredLemmas.{AtMostOne, declared-once, once-erased, declared-within}
-use Rattle.cil_specs.proofs.ErasedLemmas.{has_block-erased, nearest_block-erased}
+use Rattle.cil_specs.specs.Kept.{Optionals, is_within, restricted, AreApart}
+use Rattle.cil_specs.proofs.DeclaredLemmas.{declared-once, declared-within}
+use Rattle.cil_specs.proofs.RestrictedLemmas.{has_block-restricted, nearest_block-restricted}
 use Rattle.cil_names.specs.Spaces.{Namespace}
-use Rattle.cil_names.specs.Placed.{policy_of, placed_of}
-use Rattle.cil_names.specs.Policy.{policy_in, table_of, IsLead}
+use Rattle.cil_names.specs.Policy.{placed_in, policy_in, table_of, IsLead}
 use Rattle.cil_names.specs.Needs.{IsGathered}
 use Rattle.cil_names.specs.declared.kinds.Table as code
 use Rattle.cil_names.specs.declared.kinds.Table.TheVariants.{Types, Classes, Commons, Scopes}
-use Rattle.cil_names.specs.Nested.{optionals_among, chains_of, nested_of, nested_policy_of, nested_in, module_at, has_number, IsAmong, IsNested}
+use Rattle.cil_names.specs.Nested.{module_at, has_number, IsAmong, IsNested}
 use Rattle.cil_names.specs.declared.placed.PlacedStatement.{PlacedStatement}
 use Rattle.cil_names.specs.declared.policy.Policy.{Policy}
 use Rattle.cil_names.proofs.KeptLemmas.{within-number}
-use Rattle.cil_names.proofs.NestedLemmas.{chain-none, around-number, nested-places, erased-nested}
+use Rattle.cil_names.proofs.NestedLemmas.{chain-none, around-number, nested-among}
 use Rattle.cil_names.proofs.LookupLemmas.{is_dot, first-part, declaration-lead, no-lead}
 use Rattle.cil_names.proofs.ResolutionLemmas.{none-there}
 use Rattle.cil_names.proofs.PositionLemmas.{position-cons, all-at}
@@ -49,11 +49,11 @@ position-map p f (x ∷ xs) =
 
 -- whether a set has the number of the optional in which the statement at a place stands
 abbrev pub has_statement : {A : Type 0} → List (PlacedStatement A) → Optionals → Option (PlacedStatement A) → Bool
-has_statement statements set None = false
-has_statement statements set (Some p) = has_number statements set p.optional
+has_statement optionals set None = false
+has_statement optionals set (Some p) = has_number optionals set p.optional
 
-abbrev pub has_place : {A : Type 0} → List (PlacedStatement A) → Optionals → Option ℕ → Bool
-has_place statements set found = has_statement statements set (option_and_then (slice_get statements) found)
+abbrev pub has_place : {A : Type 0} → List (PlacedStatement A) → List (PlacedStatement A) → Optionals → Option ℕ → Bool
+has_place statements optionals set found = has_statement optionals set (option_and_then (slice_get statements) found)
 
 -- two places of one lead are one
 lead-one : (table : Table) (policy : List Placed) (found other : Option ℕ) (lead : Option Placed) → IsLead table policy found lead → IsLead table policy other lead → found ≡ other
@@ -66,62 +66,57 @@ lead-one table policy (Some i) (Some j) lead one two = by (slice_get policy i) r
     by None e = absurd (none-there policy i e one.within)
     by (Some s) e = sym (one.first s e) ∙ two.first s (two.is ∙ sym one.is ∙ e)
 
-module _ {A : Type 0} (spaces : List Namespace) (statements : List (PlacedStatement A)) (among : AllByRecursion (IsAmong (optionals_among statements)) statements)
-    (once : (fault : PolicyFault) → IsFaultOf twice every_optional (policy_of spaces statements) fault → ⊥) (table : Table) (other : table ≡ scopes → ⊥) (set : Optionals) where
+module _ {A : Type 0} (p : Policy A) (nested : IsNested p.statements.items p.optionals.items) (apart : AreApart (policy_in p)) (once : (fault : PolicyFault) → IsFaultOf twice (policy_in p) fault → ⊥)
+    (table : Table) (other : table ≡ scopes → ⊥) (set : Optionals) where
   -- a declaration is found in a set that has its number
   pub declaration-number : (namespace : Namespace) (name : List ℕ)
-      → is_some (declaration set (nested_policy_of spaces statements) table namespace name) ≡ has_place statements set (position (declares table namespace name) (policy_of spaces statements))
+      → is_some (declaration (restricted set (policy_in p)) table namespace name) ≡ has_place p.statements.items p.optionals.items set (position (declares table namespace name) (policy_in p))
   declaration-number namespace name =
-      declared-within set (nested_policy_of spaces statements) table namespace name
-      (once-erased table namespace name (nested_policy_of spaces statements)
-      (subst (AtMostOne (declares table namespace name)) (sym (erased-nested spaces (chains_of statements) statements)) (declared-once (policy_of spaces statements) once table other namespace name)))
-      ∙ ap (holds_of (is_within set)) (find-map (declares table namespace name) (nested_of spaces (chains_of statements)) statements)
-      ∙ by (position (λ p. declares table namespace name (placed_of spaces p)) statements)
-      ∙ ap (has_place statements set) (sym (position-map (declares table namespace name) (placed_of spaces) statements))
+      declared-within set (policy_in p) table namespace name (declared-once (policy_in p) once table other namespace name)
+      ∙ ap (holds_of (is_within set)) (find-map (declares table namespace name) (placed_in p) p.statements.items)
+      ∙ by (position (λ s. declares table namespace name (placed_in p s)) p.statements.items)
+      ∙ ap (has_place p.statements.items p.optionals.items set) (sym (position-map (declares table namespace name) (placed_in p) p.statements.items))
     where
-      here : (ps : List (PlacedStatement A)) (i : ℕ) → AllByRecursion (IsAmong (optionals_among statements)) ps
-          → holds_of (is_within set) (option_map (nested_of spaces (chains_of statements)) (slice_get ps i)) ≡ has_statement statements set (slice_get ps i)
+      here : (ss : List (PlacedStatement A)) (i : ℕ) → AllByRecursion (IsAmong p.optionals.items) ss → holds_of (is_within set) (option_map (placed_in p) (slice_get ss i)) ≡ has_statement p.optionals.items set (slice_get ss i)
       here [] i all = refl
-      here (p ∷ ps) zero all = within-number statements set p all.0
-      here (p ∷ ps) (suc i) all = here ps i all.1
+      here (s ∷ ss) zero all = within-number p.optionals.items set s all.0
+      here (s ∷ ss) (suc i) all = here ss i all.1
 
-      by : (o : Option ℕ) → holds_of (is_within set) (option_map (nested_of spaces (chains_of statements)) (option_and_then (slice_get statements) o)) ≡ has_place statements set o
+      by : (o : Option ℕ) → holds_of (is_within set) (option_map (placed_in p) (option_and_then (slice_get p.statements.items) o)) ≡ has_place p.statements.items p.optionals.items set o
       by None = refl
-      by (Some i) = here statements i among
+      by (Some i) = here p.statements.items i (nested-among p.statements.items p.optionals.items nested)
 
   -- where it is none, and where it is that of a statement
-  pub declaration-none : (namespace : Namespace) (name : List ℕ) → None ≡ position (declares table namespace name) (policy_of spaces statements)
-      → is_some (declaration set (nested_policy_of spaces statements) table namespace name) ≡ false
-  declaration-none namespace name none = declaration-number namespace name ∙ ap (has_place statements set) (sym none)
+  pub declaration-none : (namespace : Namespace) (name : List ℕ) → None ≡ position (declares table namespace name) (policy_in p)
+      → is_some (declaration (restricted set (policy_in p)) table namespace name) ≡ false
+  declaration-none namespace name none = declaration-number namespace name ∙ ap (has_place p.statements.items p.optionals.items set) (sym none)
 
-  pub declaration-at : (namespace : Namespace) (name : List ℕ) (i : ℕ) (p : PlacedStatement A) → Some i ≡ position (declares table namespace name) (policy_of spaces statements) → slice_get statements i ≡ Some p
-      → is_some (declaration set (nested_policy_of spaces statements) table namespace name) ≡ has_number statements set p.optional
-  declaration-at namespace name i p found at = declaration-number namespace name ∙ ap (has_place statements set) (sym found) ∙ ap (has_statement statements set) at
+  pub declaration-at : (namespace : Namespace) (name : List ℕ) (i : ℕ) (s : PlacedStatement A) → Some i ≡ position (declares table namespace name) (policy_in p) → slice_get p.statements.items i ≡ Some s
+      → is_some (declaration (restricted set (policy_in p)) table namespace name) ≡ has_number p.optionals.items set s.optional
+  declaration-at namespace name i s found at = declaration-number namespace name ∙ ap (has_place p.statements.items p.optionals.items set) (sym found) ∙ ap (has_statement p.optionals.items set) at
 
   -- and where names between dots lead
-  pub inside-number : (namespace : Namespace) (names : List (List ℕ)) (found : Option ℕ) → IsLead table (policy_of spaces statements) found (inside every_optional (policy_of spaces statements) table namespace names)
-      → is_some (inside set (nested_policy_of spaces statements) table namespace names) ≡ has_place statements set found
-  inside-number namespace [] found lead = ap (has_place statements set) (lead-one table (policy_of spaces statements) None found None (no-lead table (policy_of spaces statements) None refl) lead)
+  pub inside-number : (namespace : Namespace) (names : List (List ℕ)) (found : Option ℕ) → IsLead table (policy_in p) found (inside (policy_in p) table namespace names)
+      → is_some (inside (restricted set (policy_in p)) table namespace names) ≡ has_place p.statements.items p.optionals.items set found
+  inside-number namespace [] found lead = ap (has_place p.statements.items p.optionals.items set) (lead-one table (policy_in p) None found None (no-lead table (policy_in p) None refl) lead)
   inside-number namespace (name ∷ []) found lead =
-      let places = declaration-lead table (policy_of spaces statements) namespace name (position (declares table namespace name) (policy_of spaces statements)) refl in
-      declaration-number namespace name ∙ ap (has_place statements set) (lead-one table (policy_of spaces statements) _ found _ places lead)
+      let places = declaration-lead table (policy_in p) namespace name (position (declares table namespace name) (policy_in p)) refl in
+      declaration-number namespace name ∙ ap (has_place p.statements.items p.optionals.items set) (lead-one table (policy_in p) _ found _ places lead)
   inside-number namespace (name ∷ next ∷ more) found lead =
-      by (has_block (policy_of spaces statements) namespace name) refl lead (inside-number (name ∷ namespace) (next ∷ more) found)
+      by (has_block (policy_in p) namespace name) refl lead (inside-number (name ∷ namespace) (next ∷ more) found)
     where
-      same : has_block (nested_policy_of spaces statements) namespace name ≡ has_block (policy_of spaces statements) namespace name
-      same = sym (has_block-erased (nested_policy_of spaces statements) namespace name) ∙ ap (λ l. has_block l namespace name) (erased-nested spaces (chains_of statements) statements)
+      same : has_block (restricted set (policy_in p)) namespace name ≡ has_block (policy_in p) namespace name
+      same = has_block-restricted set (policy_in p) apart namespace name
 
-      by : (b : Bool) → has_block (policy_of spaces statements) namespace name ≡ b
-          → IsLead table (policy_of spaces statements) found (if b then inside every_optional (policy_of spaces statements) table (name ∷ namespace) (next ∷ more) else None)
-          → (IsLead table (policy_of spaces statements) found (inside every_optional (policy_of spaces statements) table (name ∷ namespace) (next ∷ more))
-          → is_some (inside set (nested_policy_of spaces statements) table (name ∷ namespace) (next ∷ more)) ≡ has_place statements set found)
-          → is_some (if has_block (nested_policy_of spaces statements) namespace name then inside set (nested_policy_of spaces statements) table (name ∷ namespace) (next ∷ more) else None) ≡ has_place statements set found
-      by true e there deeper =
-          ap (λ b. is_some (if b then inside set (nested_policy_of spaces statements) table (name ∷ namespace) (next ∷ more) else None)) (same ∙ e)
-          ∙ deeper there
+      by : (b : Bool) → has_block (policy_in p) namespace name ≡ b → IsLead table (policy_in p) found (if b then inside (policy_in p) table (name ∷ namespace) (next ∷ more) else None)
+          → (IsLead table (policy_in p) found (inside (policy_in p) table (name ∷ namespace) (next ∷ more))
+          → is_some (inside (restricted set (policy_in p)) table (name ∷ namespace) (next ∷ more)) ≡ has_place p.statements.items p.optionals.items set found)
+          → is_some (if has_block (restricted set (policy_in p)) namespace name then inside (restricted set (policy_in p)) table (name ∷ namespace) (next ∷ more) else None)
+          ≡ has_place p.statements.items p.optionals.items set found
+      by true e there deeper = ap (λ b. is_some (if b then inside (restricted set (policy_in p)) table (name ∷ namespace) (next ∷ more) else None)) (same ∙ e) ∙ deeper there
       by false e there deeper =
-          ap (λ b. is_some (if b then inside set (nested_policy_of spaces statements) table (name ∷ namespace) (next ∷ more) else None)) (same ∙ e)
-          ∙ ap (has_place statements set) (lead-one table (policy_of spaces statements) None found None (no-lead table (policy_of spaces statements) None refl) there)
+          ap (λ b. is_some (if b then inside (restricted set (policy_in p)) table (name ∷ namespace) (next ∷ more) else None)) (same ∙ e)
+          ∙ ap (has_place p.statements.items p.optionals.items set) (lead-one table (policy_in p) None found None (no-lead table (policy_in p) None refl) there)
 
 -- one of two is there
 pub either-some : {X : Type 0} (o p : Option X) → is_some (option_or o p) ≡ (is_some o || is_some p)
@@ -129,20 +124,20 @@ either-some None p = refl
 either-some (Some x) p = refl
 
 -- a plain name from the global namespace, and from another one
-pub outward-last : (set : Optionals) (policy : List Placed) (table : Table) (namespace : Namespace) (name : List ℕ) → namespace ≡ []
-    → is_some (outward set policy table namespace name) ≡ is_some (declaration set policy table namespace name)
-outward-last set policy table namespace name e =
-    ap (λ n. is_some (outward set policy table n name)) e ∙ sym (ap (λ n. is_some (declaration set policy table n name)) e)
+pub outward-last : (policy : List Placed) (table : Table) (namespace : Namespace) (name : List ℕ) → namespace ≡ []
+    → is_some (outward policy table namespace name) ≡ is_some (declaration policy table namespace name)
+outward-last policy table namespace name e =
+    ap (λ n. is_some (outward policy table n name)) e ∙ sym (ap (λ n. is_some (declaration policy table n name)) e)
 
-pub outward-more : (set : Optionals) (policy : List Placed) (table : Table) (namespace : Namespace) (name inner : List ℕ) (outer : Namespace) → namespace ≡ inner ∷ outer
-    → is_some (outward set policy table namespace name) ≡ (is_some (declaration set policy table namespace name) || is_some (outward set policy table outer name))
-outward-more set policy table namespace name inner outer e =
-    ap (λ n. is_some (outward set policy table n name)) e ∙ either-some (declaration set policy table (inner ∷ outer) name) (outward set policy table outer name)
-    ∙ sym (ap (λ n. is_some (declaration set policy table n name) || is_some (outward set policy table outer name)) e)
+pub outward-more : (policy : List Placed) (table : Table) (namespace : Namespace) (name inner : List ℕ) (outer : Namespace) → namespace ≡ inner ∷ outer
+    → is_some (outward policy table namespace name) ≡ (is_some (declaration policy table namespace name) || is_some (outward policy table outer name))
+outward-more policy table namespace name inner outer e =
+    ap (λ n. is_some (outward policy table n name)) e ∙ either-some (declaration policy table (inner ∷ outer) name) (outward policy table outer name)
+    ∙ sym (ap (λ n. is_some (declaration policy table n name) || is_some (outward policy table outer name)) e)
 
 -- a set has none
-pub has-none : {A : Type 0} (statements : List (PlacedStatement A)) (set : Optionals) → has_number statements set 0 ≡ true
-has-none statements set = ap (list_all (set (module_at statements 0))) (chain-none statements)
+pub has-none : {A : Type 0} (optionals : List (PlacedStatement A)) (set : Optionals) → has_number optionals set 0 ≡ true
+has-none optionals set = ap (list_all (set (module_at optionals 0))) (chain-none optionals)
 
 pub other-table : (table : code.Table) → (table ≡ Scopes → ⊥) → table_of table ≡ scopes → ⊥
 other-table Types other e = cc
@@ -151,33 +146,32 @@ other-table Commons other e = cc
 other-table Scopes other e = other refl
 
 -- a plain name that is declared here is found
-pub outward-here : (set : Optionals) (policy : List Placed) (table : Table) (namespace : Namespace) (name : List ℕ) → is_some (declaration set policy table namespace name) ≡ true
-    → is_some (outward set policy table namespace name) ≡ true
-outward-here set policy table [] name here = here
-outward-here set policy table (inner ∷ outer) name here =
-    either-some (declaration set policy table (inner ∷ outer) name) (outward set policy table outer name) ∙ ap (λ b. b || is_some (outward set policy table outer name)) here
+pub outward-here : (policy : List Placed) (table : Table) (namespace : Namespace) (name : List ℕ) → is_some (declaration policy table namespace name) ≡ true
+    → is_some (outward policy table namespace name) ≡ true
+outward-here policy table [] name here = here
+outward-here policy table (inner ∷ outer) name here =
+    either-some (declaration policy table (inner ∷ outer) name) (outward policy table outer name) ∙ ap (λ b. b || is_some (outward policy table outer name)) here
 
 -- the number of a statement's optional is one of those that there are
-pub number-below : {A : Type 0} (statements : List (PlacedStatement A)) (places : List ℕ) (i : ℕ) (s : PlacedStatement A) → IsNested statements places → slice_get statements i ≡ Some s
-    → nat_lt s.optional (length places + 1) ≡ true
-number-below statements places i s nested at =
-    let number = around-number (optionals_among statements) s.optional s.module_name.now (all-at (IsAmong (optionals_among statements)) statements i s nested.among at) in
-    let size = nested-places statements places nested in
-    lt-ltb s.optional (length places + 1) (omega arith)
+pub number-below : {A : Type 0} (statements optionals : List (PlacedStatement A)) (i : ℕ) (s : PlacedStatement A) → IsNested statements optionals → slice_get statements i ≡ Some s
+    → nat_lt s.optional (length optionals + 1) ≡ true
+number-below statements optionals i s nested at =
+    let number = around-number optionals s.optional s.module_name.now (all-at (IsAmong optionals) statements i s (nested-among statements optionals nested) at) in
+    lt-ltb s.optional (length optionals + 1) (omega arith)
 
 -- the statement at a place of the policy
-pub read-at : {A : Type 0} (spaces : List Namespace) (statements ps : List (PlacedStatement A)) (i : ℕ) (s : PlacedStatement A) → i < length (policy_of spaces statements) → ps ≡ statements → s ≡ get_or ps i s
-    → slice_get statements i ≡ Some s
-read-at spaces statements ps i s within same is =
-    let size : length (policy_of spaces statements) ≡ length statements = length-map statements (placed_of spaces) in
-    slice_get_read statements (length statements) i s refl (omega (arith, within, size)) (is ∙ ap (λ l. get_or l i s) same)
+pub read-at : {A : Type 0} (p : Policy A) (ps : List (PlacedStatement A)) (i : ℕ) (s : PlacedStatement A) → i < length (policy_in p) → ps ≡ p.statements.items → s ≡ get_or ps i s
+    → slice_get p.statements.items i ≡ Some s
+read-at p ps i s within same is =
+    let size : length (policy_in p) ≡ length p.statements.items = length-map p.statements.items (placed_in p) in
+    slice_get_read p.statements.items (length p.statements.items) i s refl (omega (arith, within, size)) (is ∙ ap (λ l. get_or l i s) same)
 
-module _ {A : Type 0} (p : Policy A) (nested : IsNested p.statements.items p.optionals.items) (once : (fault : PolicyFault) → IsFaultOf twice every_optional (policy_in p) fault → ⊥)
+module _ {A : Type 0} (p : Policy A) (nested : IsNested p.statements.items p.optionals.items) (apart : AreApart (policy_in p)) (once : (fault : PolicyFault) → IsFaultOf twice (policy_in p) fault → ⊥)
     (table : code.Table) (other : table ≡ Scopes → ⊥) where
   -- a declaration at a place
   pub found-at : (namespace : Namespace) (name : List ℕ) (i : ℕ) (s : PlacedStatement A) → Some i ≡ position (declares (table_of table) namespace name) (policy_in p) → slice_get p.statements.items i ≡ Some s
-      → (set : Optionals) → is_some (declaration set (nested_in p) (table_of table) namespace name) ≡ has_number p.statements.items set s.optional
-  found-at namespace name i s found at set = declaration-at p.spaces p.statements.items nested.among once (table_of table) (other-table table other) set namespace name i s found at
+      → (set : Optionals) → is_some (declaration (restricted set (policy_in p)) (table_of table) namespace name) ≡ has_number p.optionals.items set s.optional
+  found-at namespace name i s found at set = declaration-at p nested apart once (table_of table) (other-table table other) set namespace name i s found at
 
   pub declared-place : (namespace : Namespace) (name : List ℕ) (i : ℕ) → Some i ≡ position (declares (table_of table) namespace name) (policy_in p) → i < length (policy_in p)
   declared-place namespace name i found = (declaration-lead (table_of table) (policy_in p) namespace name (Some i) found).within
@@ -186,7 +180,7 @@ module _ {A : Type 0} (p : Policy A) (nested : IsNested p.statements.items p.opt
       → slice_get p.statements.items i ≡ Some s → more ≡ from ++ s.optional ∷ [] → IsGathered p (table_of table) namespace name from more
   gathered-one namespace name i s from more found at pushed = record {
     found = λ set.
-        let has : ℕ → Bool = has_number p.statements.items set in
+        let has : ℕ → Bool = has_number p.optionals.items set in
         ap (λ b. list_any has from || b) (found-at namespace name i s found at set ∙ sym (or-false (has s.optional))) ∙ sym (list_any-append has from (s.optional ∷ [])) ∙ ap (list_any has) (sym pushed);
     below = λ low.
         let below : ℕ → Bool = λ o. nat_lt o (length p.optionals.items + 1) in
@@ -197,22 +191,22 @@ module _ {A : Type 0} (p : Policy A) (nested : IsNested p.statements.items p.opt
   pub gathered-none : (namespace : Namespace) (name : List ℕ) (from more : List ℕ) → None ≡ position (declares (table_of table) namespace name) (policy_in p) → more ≡ from → IsGathered p (table_of table) namespace name from more
   gathered-none namespace name from more none same = record {
     found = λ set.
-        let has : ℕ → Bool = has_number p.statements.items set in
-        ap (λ b. list_any has from || b) (declaration-none p.spaces p.statements.items nested.among once (table_of table) (other-table table other) set namespace name none) ∙ or-false (list_any has from) ∙ ap (list_any has) (sym same);
+        let has : ℕ → Bool = has_number p.optionals.items set in
+        ap (λ b. list_any has from || b) (declaration-none p nested apart once (table_of table) (other-table table other) set namespace name none) ∙ or-false (list_any has from) ∙ ap (list_any has) (sym same);
     below = λ low. ap (list_all (λ o. nat_lt o (length p.optionals.items + 1))) same ∙ low;
   }
 
   -- where names between dots lead
-  pub inside-found : (namespace : Namespace) (names : List (List ℕ)) (found : Option ℕ) → IsLead (table_of table) (policy_in p) found (inside every_optional (policy_in p) (table_of table) namespace names)
-      → (set : Optionals) → is_some (inside set (nested_in p) (table_of table) namespace names) ≡ has_place p.statements.items set found
-  inside-found namespace names found lead set = inside-number p.spaces p.statements.items nested.among once (table_of table) (other-table table other) set namespace names found lead
+  pub inside-found : (namespace : Namespace) (names : List (List ℕ)) (found : Option ℕ) → IsLead (table_of table) (policy_in p) found (inside (policy_in p) (table_of table) namespace names)
+      → (set : Optionals) → is_some (inside (restricted set (policy_in p)) (table_of table) namespace names) ≡ has_place p.statements.items p.optionals.items set found
+  inside-found namespace names found lead set = inside-number p nested apart once (table_of table) (other-table table other) set namespace names found lead
 
   -- names between dots: the first leads to the nearest block, and the others lead inside it
   pub from-nearest : (namespace : Namespace) (text first more : List ℕ) → slice_split is_dot text ≡ first ∷ slice_split is_dot more → (set : Optionals)
-      → from_namespace set (nested_in p) (table_of table) namespace (slice_split is_dot text) ≡ option_and_then (λ inner. inside set (nested_in p) (table_of table) inner (slice_split is_dot more)) (nearest_block (policy_in p) namespace first)
+      → from_namespace (restricted set (policy_in p)) (table_of table) namespace (slice_split is_dot text)
+      ≡ option_and_then (λ inner. inside (restricted set (policy_in p)) (table_of table) inner (slice_split is_dot more)) (nearest_block (policy_in p) namespace first)
   from-nearest namespace text first more split set =
       let part = first-part more in
-      ap (from_namespace set (nested_in p) (table_of table) namespace) (split ∙ ap (λ l. first ∷ l) part.2)
-      ∙ ap (λ l. option_and_then (λ inner. inside set (nested_in p) (table_of table) inner l) (nearest_block (nested_in p) namespace first)) (sym part.2)
-      ∙ ap (option_and_then (λ inner. inside set (nested_in p) (table_of table) inner (slice_split is_dot more)))
-      (sym (nearest_block-erased (nested_in p) namespace first) ∙ ap (λ l. nearest_block l namespace first) (erased-nested p.spaces (chains_of p.statements.items) p.statements.items))
+      ap (from_namespace (restricted set (policy_in p)) (table_of table) namespace) (split ∙ ap (λ l. first ∷ l) part.2)
+      ∙ ap (λ l. option_and_then (λ inner. inside (restricted set (policy_in p)) (table_of table) inner l) (nearest_block (restricted set (policy_in p)) namespace first)) (sym part.2)
+      ∙ ap (option_and_then (λ inner. inside (restricted set (policy_in p)) (table_of table) inner (slice_split is_dot more))) (nearest_block-restricted set (policy_in p) apart namespace first)

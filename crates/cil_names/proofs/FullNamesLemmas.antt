@@ -5,6 +5,7 @@ use Rattle.std.specs.Option.{option_or}
 use Rattle.std.proofs.lemmas.List.{length-map, take_more, map-append, get_or-map, get_or_append_left, get_or-append-add}
 use Rattle.std.proofs.lemmas.List.Sums.{fold-append}
 use Rattle.cil_specs.specs.Names.{Word}
+use Rattle.cil_specs.specs.Joined.{Placed}
 use Rattle.cil_specs.specs.Statements.{Form, block, optional, type_name, type_alias, alias_actual, type_attribute, attribute_set, common, class, class_common, class_order, rule}
 use Rattle.cil_specs.specs.Lookup.{Table, types, classes, commons, scopes, declared_in, full_name}
 use Rattle.cil_names.proofs.SpaceLemmas.{length-spaces_of}
@@ -110,13 +111,13 @@ names-are spaces blocks names is all n name within =
     ap (λ l. name_in l n name) (all ∙ ap (map space_text) (sym is)) ∙ name_in-spaces spaces n name (subst AreRooted (sym is) (rooted-of blocks)) within
 
 -- the full name of one more statement
-pub full-name-next : {A : Type 0} (spaces : List Namespace) (statements : List (PlacedStatement A)) (i : ℕ) (p : PlacedStatement A) (names more : List (List ℕ)) (name : List ℕ)
-    → i < length statements → p ≡ get_or statements i p → names ≡ map full_name_of (policy_of spaces (take i statements))
-    → more ≡ names ++ name ∷ [] → name ≡ full_name_of (placed_of spaces p) → more ≡ map full_name_of (policy_of spaces (take (i + 1) statements))
-full-name-next spaces statements i p names more name within is so_far pushed named =
-    pushed ∙ ap (λ l. l ++ name ∷ []) so_far ∙ ap (λ n. map full_name_of (policy_of spaces (take i statements)) ++ n ∷ []) named
-    ∙ sym (map-append full_name_of (policy_of spaces (take i statements)) (placed_of spaces p ∷ []))
-    ∙ ap (map full_name_of) (sym (map-append (placed_of spaces) (take i statements) (p ∷ [])) ∙ ap (policy_of spaces) (sym (take_more statements i p within ∙ ap (λ q. take i statements ++ q ∷ []) (sym is))))
+pub full-name-next : {A : Type 0} (place : PlacedStatement A → Placed) (statements : List (PlacedStatement A)) (i : ℕ) (p : PlacedStatement A) (names more : List (List ℕ)) (name : List ℕ)
+    → i < length statements → p ≡ get_or statements i p → names ≡ map full_name_of (map place (take i statements))
+    → more ≡ names ++ name ∷ [] → name ≡ full_name_of (place p) → more ≡ map full_name_of (map place (take (i + 1) statements))
+full-name-next place statements i p names more name within is so_far pushed named =
+    pushed ∙ ap (λ l. l ++ name ∷ []) so_far ∙ ap (λ n. map full_name_of (map place (take i statements)) ++ n ∷ []) named
+    ∙ sym (map-append full_name_of (map place (take i statements)) (place p ∷ []))
+    ∙ ap (map full_name_of) (sym (map-append place (take i statements) (p ∷ [])) ∙ ap (map place) (sym (take_more statements i p within ∙ ap (λ q. take i statements ++ q ∷ []) (sym is))))
 
 -- what a statement declares, it declares in one table
 pub declared_id-some : (table : Table) (form : Form) (id : Word) → declared_in table form ≡ Some id → declared_id form ≡ Some id
@@ -171,13 +172,13 @@ all-at P (y ∷ ys) zero x all within is = subst P (sym is) all.0
 all-at P (y ∷ ys) (suc i) x all within is = all-at P ys i x all.1 (omega (arith, within)) is
 
 -- the full name of a statement that declares a name in a table
-pub full-name-some : {A : Type 0} (spaces : List Namespace) (p : PlacedStatement A) (table : Table) (id : Word) (name : List ℕ) → declared_in table (form_of p.statement.now) ≡ Some id
-    → name ≡ full_name (get_or spaces p.namespace []) id.text → name ≡ full_name_of (placed_of spaces p)
-full-name-some spaces p table id name declared named = named ∙ ap (full_name_or (get_or spaces p.namespace [])) (sym (declared_id-some table (form_of p.statement.now) id declared))
+pub full-name-some : {A : Type 0} (spaces : List Namespace) (chains : List (List ℕ)) (p : PlacedStatement A) (table : Table) (id : Word) (name : List ℕ) → declared_in table (form_of p.statement.now) ≡ Some id
+    → name ≡ full_name (get_or spaces p.namespace []) id.text → name ≡ full_name_of (placed_of spaces chains p)
+full-name-some spaces chains p table id name declared named = named ∙ ap (full_name_or (get_or spaces p.namespace [])) (sym (declared_id-some table (form_of p.statement.now) id declared))
 
-pub full-name-none : {A : Type 0} (spaces : List Namespace) (p : PlacedStatement A) (name : List ℕ) → ((table : Table) → declared_in table (form_of p.statement.now) ≡ None)
-    → name ≡ [] → name ≡ full_name_of (placed_of spaces p)
-full-name-none spaces p name none named = named ∙ ap (full_name_or (get_or spaces p.namespace [])) (sym (declared_id-none (form_of p.statement.now) none))
+pub full-name-none : {A : Type 0} (spaces : List Namespace) (chains : List (List ℕ)) (p : PlacedStatement A) (name : List ℕ) → ((table : Table) → declared_in table (form_of p.statement.now) ≡ None)
+    → name ≡ [] → name ≡ full_name_of (placed_of spaces chains p)
+full-name-none spaces chains p name none named = named ∙ ap (full_name_or (get_or spaces p.namespace [])) (sym (declared_id-none (form_of p.statement.now) none))
 
 -- a name by the names of namespaces
 pub named-at : (spaces now : List Namespace) (names front : List (List ℕ)) (n : ℕ) (name : List ℕ) → now ≡ spaces → front ≡ names → n < length spaces

@@ -1,106 +1,110 @@
 -- What is judged of the statements in kept optionals holds of the policy by these.
-use Rattle.std.proofs.Common.{◌≡◌, inl, inr, ℕ, Bool, true, false, cond, List, [], ◌∷◌, map, filter, get_or, drop, slice_index_or, Result, Ok, Err, IfOk, IfErr, OnOk, refl, sym, ap, ◌∙◌, subst}
+use Rattle.std.proofs.Common.{◌≡◌, ◌<◌, inl, inr, Bool, true, false, cond, List, [], ◌∷◌, filter, Contains, refl, sym, ap, ◌∙◌, subst, arith, true≢false}
 use Rattle.cil_specs.specs.Joined.{Placed}
-use Rattle.cil_specs.specs.Lookup.{Optionals, every_optional, is_within}
-use Rattle.cil_specs.specs.PolicyFault.{PolicyFault, twice, IsFaultOf, IsFirst, Compiles}
+use Rattle.cil_specs.specs.PolicyFault.{PolicyFaultKind, PolicyFault, twice, missing, wrong_kind, alias_twice, alias_unset, second_common, too_many_permissions, code_of, IsFaultOf, IsNoLater}
 use Rattle.cil_specs.specs.Rule.{Declared}
-use Rattle.cil_specs.specs.Kept.{IsGood, AreKept, AreApart, erased, dropped_of, IsFirstFault}
-use Rattle.cil_specs.specs.Next.{IsCompiledWhole, IsRefusedFor, first_fault, IsPolicyFaultOf}
+use Rattle.cil_specs.specs.Kept.{Optionals, is_within, restricted, AreKept, AreApart, judged, IsPolicyFault, IsFirst, Compiles, IsFirstFault}
+use Rattle.cil_specs.specs.Meaning.{Meaning, meaning_of, Means}
+use Rattle.cil_specs.specs.Next.{IsFirstAttributeFault, HasTypesAlone, first_fault, first_attribute, IsPolicyFaultOf}
+use Rattle.cil_specs.proofs.NamesLemmas.{contains-first, contains-other, contains-cases}
+use Rattle.cil_specs.proofs.ExistsLemmas.{kept-exists}
 use Rattle.cil_specs.proofs.KeptLemmas.{kept-good}
-use Rattle.cil_specs.proofs.RestrictedFaults.{twice-outside, twice-first, compiles-restricted, first-restricted, compiled-restricted, refused-restricted}
-use Rattle.cil_specs.proofs.RestrictedContents.{types-restricted, attributes-restricted, classes-restricted, rules-restricted}
-use Rattle.cil_names.specs.Flat.{IsLeast}
-use Rattle.cil_names.specs.Image.{PolicyFaultIs}
-use Rattle.cil_names.specs.Nested.{nested_of, nested_policy_of, chains_of, set_of, IsJudged}
-use Rattle.cil_names.specs.Placed.{placed_of, policy_of}
-use Rattle.cil_names.specs.Resolved.{dropped_with, dropped_in, HasContents, IsPolicy}
-use Rattle.cil_names.specs.declared.fault.PolicyFault as code
-use Rattle.cil_names.specs.declared.numbered.DroppedOptional.{DroppedOptional}
-use Rattle.cil_names.specs.declared.placed.PlacedStatement.{PlacedStatement}
-use Rattle.cil_names.specs.declared.resolved.Resolved.{Resolved}
-use Rattle.cil_names.proofs.FaultLemmas.{fault-weaker}
-use Rattle.cil_names.proofs.NestedLemmas.{erased-nested}
+use Rattle.cil_specs.proofs.OnceLemmas.{once-filtered}
+use Rattle.cil_names.specs.Flat.{IsFaultIn, IsFaultless, IsLeast}
+use Rattle.cil_names.specs.Nested.{AreFoundInside, IsJudged}
+use Rattle.cil_names.proofs.KeptLemmas.{within-directly}
 
--- what passes a test of images that tells the same as one of all
-filter-behind : {X Y Z : Type 0} (f : X → Y) (g : Y → Z) (e : X → Z) (p : Y → Bool) (q : X → Bool) → ((x : X) → g (f x) ≡ e x) → (xs : List X) → map p (map f xs) ≡ map q xs
-    → map e (filter q xs) ≡ map g (filter p (map f xs))
-filter-behind f g e p q same [] tells = refl
-filter-behind f g e p q same (x ∷ xs) tells =
-    ap (λ b. map e (cond b (x ∷ filter q xs) (filter q xs))) (sym (ap (λ l. get_or l 0 (q x)) tells)) ∙ by (p (f x)) (filter-behind f g e p q same xs (ap (drop 1) tells))
+-- what passes a test is there and passes it
+filter-contained : {X : Type 0} (w : X → Bool) (xs : List X) (x : X) → Contains (filter w xs) x → Contains xs x × (w x ≡ true)
+filter-contained w [] x c = absurd (omega (arith, c.1))
+filter-contained w (y ∷ ys) x c = by (w y) refl c
   where
-    by : (b : Bool) → map e (filter q xs) ≡ map g (filter p (map f xs)) → map e (cond b (x ∷ filter q xs) (filter q xs)) ≡ map g (cond b (f x ∷ filter p (map f xs)) (filter p (map f xs)))
-    by true more = λ k. sym (same x) k ∷ more k
-    by false more = more
+    more : Contains ys x × (w x ≡ true) → Contains (y ∷ ys) x × (w x ≡ true)
+    more there = (contains-other y ys x there.0, there.1)
 
--- the statements whose optionals are marked are those in kept optionals
-pub judged-is : {A : Type 0} (spaces : List (List (List ℕ))) (statements : List (PlacedStatement A)) (marks seen again : List Bool) (modules names : List (List ℕ)) (made : List (DroppedOptional A)) (policy others : List Placed)
-    → seen ≡ marks → again ≡ marks → names ≡ modules → nested_policy_of spaces statements ≡ policy → AreApart (nested_policy_of spaces statements)
-    → ((fault : PolicyFault) → IsFaultOf twice every_optional (policy_of spaces statements) fault → ⊥) → AreKept (nested_policy_of spaces statements) (set_of statements marks)
-    → map (λ s. is_within (set_of statements marks) s) (nested_policy_of spaces statements) ≡ map (λ p. slice_index_or marks p.optional false) statements
-    → map (dropped_with modules) made ≡ dropped_of (set_of statements seen) (nested_policy_of spaces statements)
-    → others ≡ policy_of spaces (filter (λ p. slice_index_or again p.optional false) statements) → IsJudged policy others (map (dropped_with names) made)
-judged-is spaces statements marks seen again modules names made policy others is_seen is_again are is apart once kept within drop these =
-    subst (λ p. IsJudged p others (map (dropped_with names) made)) is
-    (record {
-      kept = set_of statements marks;
-      are_kept = kept;
-      apart = apart;
-      once = λ fault f. once fault (subst (λ p. IsFaultOf twice every_optional p fault) (erased-nested spaces (chains_of statements) statements) (twice-outside (nested_policy_of spaces statements) fault f));
-      others_are = these ∙ (λ k. policy_of spaces (filter (λ p. slice_index_or (is_again k) p.optional false) statements))
-          ∙ filter-behind (nested_of spaces (chains_of statements)) erased (placed_of spaces) (λ s. is_within (set_of statements marks) s) (λ p. slice_index_or marks p.optional false) (λ p. refl) statements within;
-      dropped_are = (λ k. map (dropped_with (are k)) made) ∙ drop ∙ (λ k. dropped_of (set_of statements (is_seen k)) (nested_policy_of spaces statements));
-    })
+    by : (b : Bool) → w y ≡ b → Contains (cond b (y ∷ filter w ys) (filter w ys)) x → Contains (y ∷ ys) x × (w x ≡ true)
+    by false e d = more (filter-contained w ys x d)
+    by true e d = elim (contains-cases y (filter w ys) x d) [
+      | inl same ↦ (subst (Contains (y ∷ ys)) same (contains-first y ys), ap w (sym same) ∙ e)
+      | inr others ↦ more (filter-contained w ys x others)
+    ]
 
--- the least name that is declared twice is the first fault
-pub twice-fault : (policy : List Placed) (fault : PolicyFault) → IsLeast (IsFaultOf twice every_optional policy) fault → IsFirstFault policy fault
-twice-fault policy fault least = inl (λ kept. twice-first policy fault least.is least.first kept)
+-- the statements in kept optionals have their names found
+pub kept-inside : (policy : List Placed) (kept : Optionals) → AreApart policy → AreKept policy kept → AreFoundInside (restricted kept policy)
+kept-inside policy kept apart are s there inside =
+    let from = filter-contained (is_within kept) policy s there in
+    (kept-good policy kept apart are).found s from.0 (within-directly kept s.module_name s.optionals inside from.1)
+
+-- The least name that is declared twice is the first fault, whatever is kept.
+twice-first : (kept : Optionals) (policy : List Placed) (fault : PolicyFault) → IsLeast (IsFaultOf twice policy) fault → IsFirst kept policy fault
+twice-first kept policy fault least = record {
+  is = subst (λ kind. IsFaultOf kind (judged kind kept policy) fault) (sym its) least.is;
+  first = λ other. by other other.kind refl;
+}
+  where
+    its : fault.kind ≡ twice
+    its = ap (λ g. g.kind) least.is.is_at
+
+    less : (other : PolicyFault) (kind : PolicyFaultKind) → other.kind ≡ kind → 41 < code_of kind → IsNoLater fault other
+    less other kind e more = inl (omega (arith, ap code_of its, ap code_of e, more))
+
+    by : (other : PolicyFault) (kind : PolicyFaultKind) → other.kind ≡ kind → IsPolicyFault kept policy other → IsNoLater fault other
+    by other twice e g = least.first other (subst (λ k. IsFaultOf k (judged k kept policy) other) e g)
+    by other missing e g = less other missing e (omega arith)
+    by other wrong_kind e g = less other wrong_kind e (omega arith)
+    by other alias_twice e g = less other alias_twice e (omega arith)
+    by other alias_unset e g = less other alias_unset e (omega arith)
+    by other second_common e g = less other second_common e (omega arith)
+    by other too_many_permissions e g = less other too_many_permissions e (omega arith)
+
+pub twice-fault : (policy : List Placed) → AreApart policy → (fault : PolicyFault) → IsLeast (IsFaultOf twice policy) fault → IsFirstFault policy fault
+twice-fault policy apart fault least = let kept = kept-exists policy apart in (kept.0, kept.1, twice-first kept.0 policy fault least)
 
 -- a first fault is one that the policy is refused for
 pub first-refused : (policy : List Placed) (fault : PolicyFault) → IsFirstFault policy fault → IsPolicyFaultOf policy fault
-first-refused policy fault (inl all) = inl (λ kept. first_fault (all kept))
-first-refused policy fault (inr (kept, are, first)) = inr (kept, are, first_fault first)
+first-refused policy fault (kept, are, first) = (kept, are, first_fault first)
 
--- what follows from what holds of the fault of a result
-pub err-weaker : {T : Type 0} (result : Result T code.PolicyFault) (P Q : PolicyFault → Type 0) → ((f : PolicyFault) → P f → Q f) → IfErr result (λ fault. PolicyFaultIs fault P) → IfErr result (λ fault. PolicyFaultIs fault Q)
-err-weaker (Ok t) P Q weaker is = tt
-err-weaker (Err fault) P Q weaker is = fault-weaker fault P Q weaker is
+-- Where no name is declared twice, the faults of a policy are those of its statements in kept optionals.
+module _ (kept : Optionals) (policy : List Placed) (once : (fault : PolicyFault) → IsFaultOf twice policy fault → ⊥) where
+  fault-within : (fault : PolicyFault) → IsPolicyFault kept policy fault → IsFaultIn (restricted kept policy) fault
+  fault-within fault f = by fault.kind refl f
+    where
+      by : (kind : PolicyFaultKind) → fault.kind ≡ kind → IsFaultOf kind (judged kind kept policy) fault → IsFaultOf kind (restricted kept policy) fault
+      by twice e f = absurd (once fault f)
+      by missing e f = f
+      by wrong_kind e f = f
+      by alias_twice e f = f
+      by alias_unset e f = f
+      by second_common e f = f
+      by too_many_permissions e f = f
 
-module _ (policy others : List Placed) (dropped : List Declared) (judged : IsJudged policy others dropped) where
-  good : IsGood policy judged.kept
-  good = kept-good policy judged.kept judged.apart judged.are_kept
+  fault-of-within : (fault : PolicyFault) → IsFaultIn (restricted kept policy) fault → IsPolicyFault kept policy fault
+  fault-of-within fault f = by fault.kind f
+    where
+      by : (kind : PolicyFaultKind) → IsFaultOf kind (restricted kept policy) fault → IsFaultOf kind (judged kind kept policy) fault
+      by twice f = absurd (once-filtered (is_within kept) policy once fault f)
+      by missing f = f
+      by wrong_kind f = f
+      by alias_twice f = f
+      by alias_unset f = f
+      by second_common f = f
+      by too_many_permissions f = f
 
-  pub judged-compiles : Compiles every_optional others → Compiles judged.kept policy
-  judged-compiles compiles = compiles-restricted judged.kept policy judged.apart good judged.once (subst (Compiles every_optional) judged.others_are compiles)
+module _ (policy others : List Placed) (dropped : List Declared) (is : IsJudged policy others dropped) where
+  compiles : IsFaultless others → Compiles is.kept policy
+  compiles faultless fault f = faultless.none fault (subst (λ p. IsFaultIn p fault) (sym is.others_are) (fault-within is.kept policy is.once fault f))
 
-  pub judged-compiled : IsCompiledWhole every_optional others → IsCompiledWhole judged.kept policy
-  judged-compiled compiled = compiled-restricted judged.kept policy judged.apart good judged.once (subst (IsCompiledWhole every_optional) judged.others_are compiled)
+  pub judged-means : (meaning : Meaning) → IsFaultless others → meaning ≡ meaning_of others dropped → Means policy is.kept meaning
+  judged-means meaning faultless same = record { are_kept = is.are_kept; compiles = compiles faultless; is = same ∙ (λ i. meaning_of (is.others_are i) (is.dropped_are i)) }
 
-  pub judged-first : (fault : PolicyFault) → IsFirst every_optional others fault → IsFirstFault policy fault
-  judged-first fault first = inr (judged.kept, judged.are_kept, first-restricted judged.kept policy judged.apart good judged.once fault (subst (λ p. IsFirst every_optional p fault) judged.others_are first))
+  pub judged-alone : HasTypesAlone others → HasTypesAlone (restricted is.kept policy)
+  judged-alone alone = subst HasTypesAlone is.others_are alone
 
-  pub judged-refused : (fault : PolicyFault) → IsRefusedFor every_optional others fault → IsPolicyFaultOf policy fault
-  judged-refused fault refused =
-      inr (judged.kept, judged.are_kept, refused-restricted judged.kept policy judged.apart good judged.once fault (subst (λ p. IsRefusedFor every_optional p fault) judged.others_are refused))
+  pub judged-first : (fault : PolicyFault) → IsLeast (IsFaultIn others) fault → IsFirstFault policy fault
+  judged-first fault least = (is.kept, is.are_kept, record {
+    is = fault-of-within is.kept policy is.once fault (subst (λ p. IsFaultIn p fault) is.others_are least.is);
+    first = λ other f. least.first other (subst (λ p. IsFaultIn p other) (sym is.others_are) (fault-within is.kept policy is.once other f));
+  })
 
-  -- it is what the policy resolves to, by the kept optionals
-  pub judged-policy : {A : Type 0} (Holds : Optionals → Type 0) (r : Resolved A) → Holds judged.kept → HasContents every_optional others r → dropped_in r ≡ dropped → IsPolicy Holds policy r
-  judged-policy Holds r holds contents drop =
-      let same = subst (λ p. HasContents every_optional p r) judged.others_are contents in
-      record {
-        kept = judged.kept;
-        are_kept = judged.are_kept;
-        holds = holds;
-        contents = record {
-          types = same.types ∙ types-restricted judged.kept policy;
-          attributes = same.attributes ∙ attributes-restricted judged.kept policy;
-          classes = same.classes ∙ classes-restricted judged.kept policy judged.apart;
-          rules = same.rules ∙ rules-restricted judged.kept policy judged.apart;
-        };
-        dropped = drop ∙ judged.dropped_are;
-      }
-
-  -- so of a result, if something more of it holds
-  pub judged-result : {A F : Type 0} (Holds : Optionals → Type 0) (More : Type 0) (result : Result (Resolved A) F) → (More → Holds judged.kept) → OnOk result More → IfOk result (HasContents every_optional others)
-      → IfOk result (λ r. dropped_in r ≡ dropped) → IfOk result (IsPolicy Holds policy)
-  judged-result Holds More (Ok r) holds more contents drop = judged-policy Holds r (holds more) contents drop
-  judged-result Holds More (Err fault) holds more contents drop = tt
+  pub judged-attribute : (fault : PolicyFault) → IsFaultless others → IsFirstAttributeFault others fault → IsPolicyFaultOf policy fault
+  judged-attribute fault faultless first = (is.kept, is.are_kept, first_attribute (compiles faultless) (subst (λ p. IsFirstAttributeFault p fault) is.others_are first))

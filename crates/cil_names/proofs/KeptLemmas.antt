@@ -7,8 +7,7 @@ use Rattle.std.proofs.lemmas.List.Folds.{list_any_at}
 use Rattle.std.proofs.lemmas.List.Quantifiers.{position-Some}
 use Rattle.std.proofs.lemmas.Option.{none-some, same_Some, get_or_from_slice_get, slice_get-map, slice_get-get_or, slice_get_within, slice_get_cases}
 use Rattle.cil_specs.specs.Joined.{Placed}
-use Rattle.cil_specs.specs.Lookup.{Optionals, is_within}
-use Rattle.cil_specs.specs.Kept.{is_optional_at, is_member, has_innermost, is_directly_in, IsGood, AreKept}
+use Rattle.cil_specs.specs.Kept.{Optionals, is_within, restricted, is_optional_at, is_member, has_innermost, is_directly_in, IsGood, AreKept}
 use Rattle.cil_specs.proofs.Runs.{both_true, first_true, second_true}
 use Rattle.cil_specs.proofs.NamesLemmas.{all-contained, contains-first, contains-other, contains-map, contains-mapped, contains-middle}
 use Rattle.cil_specs.proofs.OnceLemmas.{passes-among}
@@ -16,11 +15,11 @@ use Rattle.cil_names.specs.Flat.{AreFlat}
 use Rattle.cil_names.specs.Placed.{at_of, placed_of, policy_of}
 use Rattle.cil_names.specs.Spaces.{Namespace}
 use Rattle.cil_names.specs.Needs.{is_met, are_met, is_need_below, AreFoundWithin}
-use Rattle.cil_names.specs.Nested.{is_optional_statement, optionals_among, chains_of, nested_of, nested_policy_of, IsAmong, IsNested, module_at, has_number, is_at, mark_at, set_of}
+use Rattle.cil_names.specs.Nested.{is_optional_statement, optionals_among, chains_by, IsAmong, IsNested, module_at, has_number, is_at, mark_at, set_of}
 use Rattle.cil_names.specs.declared.greatest.Need.{Need}
 use Rattle.cil_names.specs.declared.placed.PlacedStatement.{PlacedStatement}
 use Rattle.cil_names.proofs.FlatLemmas.{one-offset}
-use Rattle.cil_names.proofs.NestedLemmas.{chain-none, chain-of-optional, around-number}
+use Rattle.cil_names.proofs.NestedLemmas.{chain-none, chain-of-optional, around-number, nested-among, nested-inside}
 use Rattle.cil_names.proofs.NameSets.{bytes_eq-refl, bytes_eq-true}
 use Rattle.cil_names.proofs.PositionLemmas.{any-position}
 use Rattle.cil_names.proofs.RestrictLemmas.{flat-picked}
@@ -108,22 +107,33 @@ all-met-same f g n same (need ∷ needs) below =
 
 -- optionals are told apart by their modules and offsets
 abbrev pub AreToldApart : {A : Type 0} → List (PlacedStatement A) → Type 0
-AreToldApart {A} statements = (i j : ℕ) (p q : PlacedStatement A) → slice_get (optionals_among statements) i ≡ Some p → slice_get (optionals_among statements) j ≡ Some q
+AreToldApart {A} optionals = (i j : ℕ) (p q : PlacedStatement A) → slice_get optionals i ≡ Some p → slice_get optionals j ≡ Some q
     → p.module_name.now ≡ q.module_name.now → (at_of p.statement.now).offset ≡ (at_of q.statement.now).offset → i ≡ j
 
+-- an optional of statements, by its number
+pub in-optionals : {A : Type 0} (statements optionals : List (PlacedStatement A)) → IsNested statements optionals → (k : ℕ) (o : PlacedStatement A) → slice_get optionals k ≡ Some o → IsPassing is_optional_statement statements o
+in-optionals statements optionals nested k o at = filter-in is_optional_statement statements k o (ap (λ os. slice_get os k) (sym nested.optionals_are) ∙ at)
+
+pub number-of : {A : Type 0} (statements optionals : List (PlacedStatement A)) → IsNested statements optionals → (p : PlacedStatement A) → Contains statements p → is_optional_statement p ≡ true → (k : ℕ) × (slice_get optionals k ≡ Some p)
+number-of statements optionals nested p c is =
+    let place = filter-place is_optional_statement statements p c is in
+    (place.0, ap (λ os. slice_get os place.0) nested.optionals_are ∙ place.1)
+
 -- optionals of flat statements are told apart
-pub told-apart : {A : Type 0} (spaces : List Namespace) (statements : List (PlacedStatement A)) → AreFlat (policy_of spaces statements) → AreToldApart statements
-told-apart spaces statements flat i j p q at there named placed =
-    let get : (k : ℕ) (o : _) → slice_get (optionals_among statements) k ≡ Some o → slice_get (policy_of spaces (optionals_among statements)) k ≡ Some (placed_of spaces o) =
-    λ k o e. slice_get-map (placed_of spaces) (optionals_among statements) k ∙ ap (option_map (placed_of spaces)) e in
-    one-offset (policy_of spaces (optionals_among statements)) i j (placed_of spaces p) (placed_of spaces q) (flat-picked (placed_of spaces) is_optional_statement statements flat)
-    (get i p at) (get j q there) named placed
+pub told-apart : {A : Type 0} (place : PlacedStatement A → Placed) (statements : List (PlacedStatement A)) → ((p : PlacedStatement A) → (place p).module_name ≡ p.module_name.now)
+    → ((p : PlacedStatement A) → (place p).at ≡ at_of p.statement.now) → AreFlat (map place statements) → (optionals : List (PlacedStatement A)) → IsNested statements optionals → AreToldApart optionals
+told-apart place statements named_so placed_so flat optionals nested i j p q at there named placed =
+    one-offset (map place (optionals_among statements)) i j (place p) (place q) (flat-picked place is_optional_statement statements flat)
+    (get i p at) (get j q there) (named_so p ∙ named ∙ sym (named_so q)) (ap (λ a. a.offset) (placed_so p) ∙ placed ∙ sym (ap (λ a. a.offset) (placed_so q)))
+  where
+    get : (k : ℕ) (o : _) → slice_get optionals k ≡ Some o → slice_get (map place (optionals_among statements)) k ≡ Some (place o)
+    get k o e = slice_get-map place (optionals_among statements) k ∙ ap (option_map place) (ap (λ os. slice_get os k) (sym nested.optionals_are) ∙ e)
 
 -- the set of the marked optionals has an optional if its number is marked
-pub mark-of : {A : Type 0} (statements : List (PlacedStatement A)) (marks : List Bool) → AreToldApart statements → (k : ℕ) (o : PlacedStatement A) → slice_get (optionals_among statements) k ≡ Some o
-    → set_of statements marks o.module_name.now (at_of o.statement.now).offset ≡ get_or marks (suc k) false
-mark-of {A} statements marks apart k o at =
-    ap (mark_at marks) (position-one (is_at name offset) (optionals_among statements) k o at (both_true (bytes_eq name name) (offset == offset) (bytes_eq-refl name) (eq-eqb offset offset refl)) one)
+pub mark-of : {A : Type 0} (optionals : List (PlacedStatement A)) (marks : List Bool) → AreToldApart optionals → (k : ℕ) (o : PlacedStatement A) → slice_get optionals k ≡ Some o
+    → set_of optionals marks o.module_name.now (at_of o.statement.now).offset ≡ get_or marks (suc k) false
+mark-of {A} optionals marks apart k o at =
+    ap (mark_at marks) (position-one (is_at name offset) optionals k o at (both_true (bytes_eq name name) (offset == offset) (bytes_eq-refl name) (eq-eqb offset offset refl)) one)
   where
     name : List ℕ
     name = o.module_name.now
@@ -131,57 +141,57 @@ mark-of {A} statements marks apart k o at =
     offset : ℕ
     offset = (at_of o.statement.now).offset
 
-    one : (j : ℕ) (q : PlacedStatement A) → slice_get (optionals_among statements) j ≡ Some q → is_at name offset q ≡ true → j ≡ k
+    one : (j : ℕ) (q : PlacedStatement A) → slice_get optionals j ≡ Some q → is_at name offset q ≡ true → j ≡ k
     one j q there is =
         apart j k q o there at (sym (bytes_eq-true name q.module_name.now (first_true (bytes_eq name q.module_name.now) (offset == (at_of q.statement.now).offset) is)))
         (sym (eqb-true offset (at_of q.statement.now).offset (second_true (bytes_eq name q.module_name.now) (offset == (at_of q.statement.now).offset) is)))
 
 -- the module of an optional's number is its own
-pub module-of : {A : Type 0} (statements : List (PlacedStatement A)) (k : ℕ) (o : PlacedStatement A) → slice_get (optionals_among statements) k ≡ Some o → module_at statements (suc k) ≡ o.module_name.now
-module-of statements k o at = rw at refl
+pub module-of : {A : Type 0} (optionals : List (PlacedStatement A)) (k : ℕ) (o : PlacedStatement A) → slice_get optionals k ≡ Some o → module_at optionals (suc k) ≡ o.module_name.now
+module-of optionals k o at = rw at refl
 
 -- a statement stands within a set if the optional around it has its number there
-pub within-number : {A : Type 0} (statements : List (PlacedStatement A)) (set : Optionals) (p : PlacedStatement A) → IsAmong (optionals_among statements) p
-    → list_all (set p.module_name.now) (get_or (chains_of statements) p.optional []) ≡ has_number statements set p.optional
-within-number {A} statements set p among = elim among [
+pub within-number : {A : Type 0} (optionals : List (PlacedStatement A)) (set : Optionals) (p : PlacedStatement A) → IsAmong optionals p
+    → list_all (set p.module_name.now) (get_or (chains_by optionals) p.optional []) ≡ has_number optionals set p.optional
+within-number {A} optionals set p among = elim among [
   | inl none ↦ none_in none
-  | inr inside ↦ ap (λ name. list_all (set name) (get_or (chains_of statements) p.optional [])) (sym (ap (module_at statements) inside.2 ∙ module-of statements inside.0 inside.1 inside.3 ∙ inside.4))
+  | inr inside ↦ ap (λ name. list_all (set name) (get_or (chains_by optionals) p.optional [])) (sym (ap (module_at optionals) inside.2 ∙ module-of optionals inside.0 inside.1 inside.3 ∙ inside.4))
 ]
   where
-    empty : (name : List ℕ) (n : ℕ) → n ≡ 0 → list_all (set name) (get_or (chains_of statements) n []) ≡ true
-    empty name n none = ap (λ m. list_all (set name) (get_or (chains_of statements) m [])) none ∙ ap (list_all (set name)) (chain-none statements)
+    empty : (name : List ℕ) (n : ℕ) → n ≡ 0 → list_all (set name) (get_or (chains_by optionals) n []) ≡ true
+    empty name n none = ap (λ m. list_all (set name) (get_or (chains_by optionals) m [])) none ∙ ap (list_all (set name)) (chain-none optionals)
 
-    none_in : p.optional ≡ 0 → list_all (set p.module_name.now) (get_or (chains_of statements) p.optional []) ≡ has_number statements set p.optional
-    none_in none = empty p.module_name.now p.optional none ∙ sym (empty (module_at statements p.optional) p.optional none)
+    none_in : p.optional ≡ 0 → list_all (set p.module_name.now) (get_or (chains_by optionals) p.optional []) ≡ has_number optionals set p.optional
+    none_in none = empty p.module_name.now p.optional none ∙ sym (empty (module_at optionals p.optional) p.optional none)
 
 -- an optional has its number in a set if it is there itself and so is the one around it
-pub number-next : {A : Type 0} (statements : List (PlacedStatement A)) (places : List ℕ) → IsNested statements places → (set : Optionals) (k : ℕ) (o : PlacedStatement A)
-    → slice_get (optionals_among statements) k ≡ Some o → has_number statements set (suc k) ≡ (set o.module_name.now (at_of o.statement.now).offset && has_number statements set o.optional)
-number-next statements places nested set k o at =
-    let there = filter-in is_optional_statement statements k o at in
-    ap (λ name. list_all (set name) (get_or (chains_of statements) (suc k) [])) (module-of statements k o at)
-    ∙ ap (list_all (set o.module_name.now)) (chain-of-optional statements k o at (nested.inside k o at))
-    ∙ ap (λ b. set o.module_name.now (at_of o.statement.now).offset && b) (within-number statements set o (all-contained (IsAmong (optionals_among statements)) statements o nested.among there.contained))
+pub number-next : {A : Type 0} (statements optionals : List (PlacedStatement A)) → IsNested statements optionals → (set : Optionals) (k : ℕ) (o : PlacedStatement A)
+    → slice_get optionals k ≡ Some o → has_number optionals set (suc k) ≡ (set o.module_name.now (at_of o.statement.now).offset && has_number optionals set o.optional)
+number-next statements optionals nested set k o at =
+    let there = in-optionals statements optionals nested k o at in
+    ap (λ name. list_all (set name) (get_or (chains_by optionals) (suc k) [])) (module-of optionals k o at)
+    ∙ ap (list_all (set o.module_name.now)) (chain-of-optional optionals k o at (nested-inside statements optionals nested k o at))
+    ∙ ap (λ b. set o.module_name.now (at_of o.statement.now).offset && b) (within-number optionals set o (all-contained (IsAmong optionals) statements o (nested-among statements optionals nested) there.contained))
 
 -- the marks are the greatest set of numbers in which the needs are met, and the needs are those of the statements in optionals
-pub record AreGreatest {A : Type 0} (statements : List (PlacedStatement A)) (policy : List Placed) (needs : List (Need A)) (marks : List Bool) : Type 0 where
-  pub below : IsTrue (list_all (is_need_below (length (optionals_among statements) + 1)) needs)
-  pub inside : (has : ℕ → Bool) → IsTrue (are_met has needs) → (k : ℕ) (o : PlacedStatement A) → slice_get (optionals_among statements) k ≡ Some o → IsTrue (has (suc k)) → o.optional ≢ 0 → IsTrue (has o.optional)
-  pub found : (set : Optionals) → IsTrue (are_met (has_number statements set) needs) ↔ AreFoundWithin policy set
+pub record AreGreatest {A : Type 0} (optionals : List (PlacedStatement A)) (policy : List Placed) (needs : List (Need A)) (marks : List Bool) : Type 0 where
+  pub below : IsTrue (list_all (is_need_below (length optionals + 1)) needs)
+  pub inside : (has : ℕ → Bool) → IsTrue (are_met has needs) → (k : ℕ) (o : PlacedStatement A) → slice_get optionals k ≡ Some o → IsTrue (has (suc k)) → o.optional ≢ 0 → IsTrue (has o.optional)
+  pub found : (set : Optionals) → IsTrue (are_met (has_number optionals set) needs) ↔ AreFoundWithin policy set
   pub outside : get_or marks 0 false ≡ true
   pub met : IsTrue (are_met (λ n. get_or marks n false) needs)
-  pub greatest : (has : ℕ → Bool) → IsTrue (are_met has needs) → (n : ℕ) → n ≤ length (optionals_among statements) → IsTrue (has n) → get_or marks n false ≡ true
+  pub greatest : (has : ℕ → Bool) → IsTrue (are_met has needs) → (n : ℕ) → n ≤ length optionals → IsTrue (has n) → get_or marks n false ≡ true
 
 -- what is said of the needs and of the marks, where there are any
-pub are-greatest : {A E : Type 0} (statements : List (PlacedStatement A)) (policy : List Placed) (needs : List (Need A)) (count : ℕ) → count ≡ length (optionals_among statements)
+pub are-greatest : {A E : Type 0} (optionals : List (PlacedStatement A)) (policy : List Placed) (needs : List (Need A)) (count : ℕ) → count ≡ length optionals
     → IsTrue (list_all (is_need_below (count + 1)) needs)
-    → ((has : ℕ → Bool) → IsTrue (are_met has needs) → (k : ℕ) (o : PlacedStatement A) → slice_get (optionals_among statements) k ≡ Some o → IsTrue (has (suc k)) → o.optional ≢ 0 → IsTrue (has o.optional))
-    → ((set : Optionals) → IsTrue (are_met (has_number statements set) needs) ↔ AreFoundWithin policy set)
+    → ((has : ℕ → Bool) → IsTrue (are_met has needs) → (k : ℕ) (o : PlacedStatement A) → slice_get optionals k ≡ Some o → IsTrue (has (suc k)) → o.optional ≢ 0 → IsTrue (has o.optional))
+    → ((set : Optionals) → IsTrue (are_met (has_number optionals set) needs) ↔ AreFoundWithin policy set)
     → (r : Result (Vec Bool A) E) → IfOk r (λ kept. get_or kept.items 0 false ≡ true) → IfOk r (λ kept. IsTrue (are_met (λ n. get_or kept.items n false) needs))
     → IfOk r (λ kept. (has : ℕ → Bool) → IsTrue (are_met has needs) → (n : ℕ) → n ≤ count → IsTrue (has n) → get_or kept.items n false ≡ true)
-    → IfOk r (λ kept. AreGreatest statements policy needs kept.items)
-are-greatest statements policy needs count is below inside found (Err e) outside met greatest = tt
-are-greatest statements policy needs count is below inside found (Ok kept) outside met greatest = record {
+    → IfOk r (λ kept. AreGreatest optionals policy needs kept.items)
+are-greatest optionals policy needs count is below inside found (Err e) outside met greatest = tt
+are-greatest optionals policy needs count is below inside found (Ok kept) outside met greatest = record {
   below = subst (λ n. IsTrue (list_all (is_need_below (n + 1)) needs)) is below;
   inside = inside;
   found = found;
@@ -191,106 +201,106 @@ are-greatest statements policy needs count is below inside found (Ok kept) outsi
 }
 
 -- the optional around a marked one is marked
-outer-marked : {A : Type 0} (statements : List (PlacedStatement A)) (policy : List Placed) (needs : List (Need A)) (marks : List Bool) → AreGreatest statements policy needs marks
-    → (k : ℕ) (o : PlacedStatement A) → slice_get (optionals_among statements) k ≡ Some o → get_or marks (suc k) false ≡ true → get_or marks o.optional false ≡ true
-outer-marked statements policy needs marks are k o at marked = by o.optional refl
+outer-marked : {A : Type 0} (optionals : List (PlacedStatement A)) (policy : List Placed) (needs : List (Need A)) (marks : List Bool) → AreGreatest optionals policy needs marks
+    → (k : ℕ) (o : PlacedStatement A) → slice_get optionals k ≡ Some o → get_or marks (suc k) false ≡ true → get_or marks o.optional false ≡ true
+outer-marked optionals policy needs marks are k o at marked = by o.optional refl
   where
     by : (n : ℕ) → o.optional ≡ n → get_or marks o.optional false ≡ true
     by zero is = ap (λ m. get_or marks m false) is ∙ are.outside
     by (suc m) is = are.inside (λ n. get_or marks n false) are.met k o at marked (λ none. absurd (omega (arith, is, none)))
 
 -- a number is in the set of the marked optionals if it is marked
-pub number-marked : {A : Type 0} (statements : List (PlacedStatement A)) (places : List ℕ) → IsNested statements places → AreToldApart statements → (policy : List Placed) (needs : List (Need A)) (marks : List Bool)
-    → AreGreatest statements policy needs marks → (n : ℕ) → n ≤ length (optionals_among statements) → has_number statements (set_of statements marks) n ≡ get_or marks n false
-number-marked {A} statements places nested apart policy needs marks are n within = up_to n n (omega arith) within
+pub number-marked : {A : Type 0} (statements optionals : List (PlacedStatement A)) → IsNested statements optionals → AreToldApart optionals → (policy : List Placed) (needs : List (Need A)) (marks : List Bool)
+    → AreGreatest optionals policy needs marks → (n : ℕ) → n ≤ length optionals → has_number optionals (set_of optionals marks) n ≡ get_or marks n false
+number-marked {A} statements optionals nested apart policy needs marks are n within = up_to n n (omega arith) within
   where
     kept : Optionals
-    kept = set_of statements marks
+    kept = set_of optionals marks
 
     and_same : (b c : Bool) → (b ≡ true → c ≡ true) → (b && c) ≡ b
     and_same true c if_true = if_true refl
     and_same false c if_true = refl
 
-    at_zero : (n : ℕ) → n ≡ 0 → has_number statements kept n ≡ get_or marks n false
+    at_zero : (n : ℕ) → n ≡ 0 → has_number optionals kept n ≡ get_or marks n false
     at_zero n none =
-        ap (has_number statements kept) none ∙ ap (list_all (kept [])) (chain-none statements) ∙ sym (ap (λ m. get_or marks m false) none ∙ are.outside)
+        ap (has_number optionals kept) none ∙ ap (list_all (kept [])) (chain-none optionals) ∙ sym (ap (λ m. get_or marks m false) none ∙ are.outside)
 
-    at_next : (k : ℕ) (o : PlacedStatement A) → slice_get (optionals_among statements) k ≡ Some o → has_number statements kept o.optional ≡ get_or marks o.optional false
-        → has_number statements kept (suc k) ≡ get_or marks (suc k) false
+    at_next : (k : ℕ) (o : PlacedStatement A) → slice_get optionals k ≡ Some o → has_number optionals kept o.optional ≡ get_or marks o.optional false
+        → has_number optionals kept (suc k) ≡ get_or marks (suc k) false
     at_next k o at outer =
-        number-next statements places nested kept k o at
-        ∙ ap (λ b. b && has_number statements kept o.optional) (mark-of statements marks apart k o at)
+        number-next statements optionals nested kept k o at
+        ∙ ap (λ b. b && has_number optionals kept o.optional) (mark-of optionals marks apart k o at)
         ∙ ap (λ b. get_or marks (suc k) false && b) outer
-        ∙ and_same (get_or marks (suc k) false) (get_or marks o.optional false) (outer-marked statements policy needs marks are k o at)
+        ∙ and_same (get_or marks (suc k) false) (get_or marks o.optional false) (outer-marked optionals policy needs marks are k o at)
 
-    up_to : (m n : ℕ) → n ≤ m → n ≤ length (optionals_among statements) → has_number statements kept n ≡ get_or marks n false
+    up_to : (m n : ℕ) → n ≤ m → n ≤ length optionals → has_number optionals kept n ≡ get_or marks n false
     up_to m zero le within = at_zero zero refl
     up_to zero (suc k) le within = absurd (omega arith)
-    up_to (suc m) (suc k) le within = elim (slice_get_cases (optionals_among statements) k).1 [
-      | inl there ↦ at_next k there.0 there.2 (let low = nested.inside k there.0 there.2 in up_to m there.0.optional (omega arith) (omega arith))
+    up_to (suc m) (suc k) le within = elim (slice_get_cases optionals k).1 [
+      | inl there ↦ at_next k there.0 there.2 (let low = nested-inside statements optionals nested k there.0 there.2 in up_to m there.0.optional (omega arith) (omega arith))
       | inr past ↦ absurd (omega (arith, past.0))
     ]
 
 -- a statement within a set stands directly in it, if in any optional
-within-directly : (set : Optionals) (name ats : List ℕ) → (ats ≡ [] → ⊥) → list_all (set name) ats ≡ true → has_innermost set name ats ≡ true
+pub within-directly : (set : Optionals) (name ats : List ℕ) → (ats ≡ [] → ⊥) → list_all (set name) ats ≡ true → has_innermost set name ats ≡ true
 within-directly set name [] some all = absurd (some refl)
 within-directly set name (at ∷ ats) some all = first_true (set name at) (list_all (set name) ats) all
 
-module _ {A : Type 0} (statements : List (PlacedStatement A)) (places : List ℕ) (nested : IsNested statements places) (apart : AreToldApart statements) (spaces : List Namespace) (needs : List (Need A)) (marks : List Bool)
-    (are : AreGreatest statements (nested_policy_of spaces statements) needs marks) where
+module _ {A : Type 0} (statements optionals : List (PlacedStatement A)) (nested : IsNested statements optionals) (apart : AreToldApart optionals) (spaces : List Namespace) (needs : List (Need A)) (marks : List Bool)
+    (are : AreGreatest optionals (policy_of spaces (chains_by optionals) statements) needs marks) where
   abbrev policy : List Placed
-  policy = nested_policy_of spaces statements
+  policy = policy_of spaces (chains_by optionals) statements
 
   abbrev kept : Optionals
-  kept = set_of statements marks
+  kept = set_of optionals marks
 
   abbrev as_placed : PlacedStatement A → Placed
-  as_placed = nested_of spaces (chains_of statements)
+  as_placed = placed_of spaces (chains_by optionals)
 
-  marked : (n : ℕ) → n ≤ length (optionals_among statements) → has_number statements kept n ≡ get_or marks n false
-  marked n within = number-marked statements places nested apart policy needs marks are n within
+  marked : (n : ℕ) → n ≤ length optionals → has_number optionals kept n ≡ get_or marks n false
+  marked n within = number-marked statements optionals nested apart policy needs marks are n within
 
-  among-of : (p : PlacedStatement A) → Contains statements p → IsAmong (optionals_among statements) p
-  among-of p c = all-contained (IsAmong (optionals_among statements)) statements p nested.among c
+  among-of : (p : PlacedStatement A) → Contains statements p → IsAmong optionals p
+  among-of p c = all-contained (IsAmong optionals) statements p (nested-among statements optionals nested) c
 
   -- a statement is within the marked optionals if the number of the one around it is marked
   pub within-marked : (p : PlacedStatement A) → Contains statements p → is_within kept (as_placed p) ≡ get_or marks p.optional false
-  within-marked p c = within-number statements kept p (among-of p c) ∙ marked p.optional (around-number (optionals_among statements) p.optional p.module_name.now (among-of p c))
+  within-marked p c = within-number optionals kept p (among-of p c) ∙ marked p.optional (around-number optionals p.optional p.module_name.now (among-of p c))
 
   kept-of_policy : (name : List ℕ) (at : ℕ) → kept name at ≡ true → list_any (is_optional_at name at) policy ≡ true
-  kept-of_policy name at has = by (position (is_at name at) (optionals_among statements)) refl
+  kept-of_policy name at has = by (position (is_at name at) optionals) refl
     where
-      by : (o : Option ℕ) → position (is_at name at) (optionals_among statements) ≡ o → list_any (is_optional_at name at) policy ≡ true
+      by : (o : Option ℕ) → position (is_at name at) optionals ≡ o → list_any (is_optional_at name at) policy ≡ true
       by None e = absurd (true≢false (sym has ∙ ap (mark_at marks) e))
       by (Some k) e =
-          let there = position-there (is_at name at) (optionals_among statements) k e in
+          let there = position-there (is_at name at) optionals k e in
           let o = there.0 in
-          let among = filter-in is_optional_statement statements k o there.1 in
+          let among = in-optionals statements optionals nested k o there.1 in
           any-contained (is_optional_at name at) policy (as_placed o) (contains-map as_placed statements o among.contained) (both_true (is_optional_statement o) (is_at name at o) among.passes there.2)
 
   kept-around : (p : PlacedStatement A) → Contains statements p → is_member kept (as_placed p) ≡ true → is_within kept (as_placed p) ≡ true
   kept-around p c member =
       let offset = (at_of p.statement.now).offset in
-      let place = filter-place is_optional_statement statements p c (first_true (is_optional_statement p) (kept p.module_name.now offset) member) in
-      let is_marked = sym (mark-of statements marks apart place.0 p place.1) ∙ second_true (is_optional_statement p) (kept p.module_name.now offset) member in
-      within-marked p c ∙ outer-marked statements policy needs marks are place.0 p place.1 is_marked
+      let place = number-of statements optionals nested p c (first_true (is_optional_statement p) (kept p.module_name.now offset) member) in
+      let is_marked = sym (mark-of optionals marks apart place.0 p place.1) ∙ second_true (is_optional_statement p) (kept p.module_name.now offset) member in
+      within-marked p c ∙ outer-marked optionals policy needs marks are place.0 p place.1 is_marked
 
   kept-directly : (p : PlacedStatement A) → Contains statements p → is_directly_in kept (as_placed p) ≡ true → is_within kept (as_placed p) ≡ true
   kept-directly p c directly = within-marked p c ∙ (elim (among-of p c) [
-    | inl none ↦ absurd (true≢false (sym directly ∙ ap (λ n. has_innermost kept p.module_name.now (get_or (chains_of statements) n [])) none ∙ ap (has_innermost kept p.module_name.now) (chain-none statements)))
+    | inl none ↦ absurd (true≢false (sym directly ∙ ap (λ n. has_innermost kept p.module_name.now (get_or (chains_by optionals) n [])) none ∙ ap (has_innermost kept p.module_name.now) (chain-none optionals)))
     | inr inside ↦ by inside.0 inside.1 inside.2 inside.3 inside.4
   ])
     where
-      by : (k : ℕ) (o : PlacedStatement A) → p.optional ≡ suc k → slice_get (optionals_among statements) k ≡ Some o → o.module_name.now ≡ p.module_name.now → get_or marks p.optional false ≡ true
+      by : (k : ℕ) (o : PlacedStatement A) → p.optional ≡ suc k → slice_get optionals k ≡ Some o → o.module_name.now ≡ p.module_name.now → get_or marks p.optional false ≡ true
       by k o number at one =
-          let chain = ap (λ n. get_or (chains_of statements) n []) number ∙ chain-of-optional statements k o at (nested.inside k o at) in
+          let chain = ap (λ n. get_or (chains_by optionals) n []) number ∙ chain-of-optional optionals k o at (nested-inside statements optionals nested k o at) in
           let has : kept p.module_name.now (at_of o.statement.now).offset ≡ true = sym (ap (has_innermost kept p.module_name.now) chain) ∙ directly in
-          ap (λ n. get_or marks n false) number ∙ sym (mark-of statements marks apart k o at) ∙ ap (λ name. kept name (at_of o.statement.now).offset) one ∙ has
+          ap (λ n. get_or marks n false) number ∙ sym (mark-of optionals marks apart k o at) ∙ ap (λ name. kept name (at_of o.statement.now).offset) one ∙ has
 
   kept-found : AreFoundWithin policy kept
   kept-found =
       (are.found kept).0 (
-      all-met-same (has_number statements kept) (λ n. get_or marks n false) (length (optionals_among statements) + 1) (λ n low. marked n (omega arith)) needs are.below
+      all-met-same (has_number optionals kept) (λ n. get_or marks n false) (length optionals + 1) (λ n low. marked n (omega arith)) needs are.below
       ∙ are.met)
 
   -- the marked optionals are a good set
@@ -321,14 +331,14 @@ module _ {A : Type 0} (statements : List (PlacedStatement A)) (places : List ℕ
           let here = second_true (is_optional_statement p) (is_at name at p) is in
           let named : name ≡ p.module_name.now = bytes_eq-true name p.module_name.now (first_true (bytes_eq name p.module_name.now) (at == offset) here) in
           let placed : at ≡ offset = eqb-true at offset (second_true (bytes_eq name p.module_name.now) (at == offset) here) in
-          let place = filter-place is_optional_statement statements p c optional in
+          let place = number-of statements optionals nested p c optional in
           let member : set p.module_name.now offset ≡ true = sym (λ i. set (named i) (placed i)) ∙ has in
           let around = good.around (as_placed p) (contains-map as_placed statements p c) (both_true (is_optional_statement p) (set p.module_name.now offset) optional member) in
-          let outer : has_number statements set p.optional ≡ true = sym (within-number statements set p (among-of p c)) ∙ around in
-          let number : has_number statements set (suc place.0) ≡ true = number-next statements places nested set place.0 p place.1 ∙ both_true (set p.module_name.now offset) (has_number statements set p.optional) member outer in
-          let low = slice_get_within (optionals_among statements) place.0 p place.1 in
-          let is_marked = are.greatest (has_number statements set) ((are.found set).1 (good-found set good)) (suc place.0) (omega arith) number in
-          (λ i. kept (named i) (placed i)) ∙ mark-of statements marks apart place.0 p place.1 ∙ is_marked
+          let outer : has_number optionals set p.optional ≡ true = sym (within-number optionals set p (among-of p c)) ∙ around in
+          let number : has_number optionals set (suc place.0) ≡ true = number-next statements optionals nested set place.0 p place.1 ∙ both_true (set p.module_name.now offset) (has_number optionals set p.optional) member outer in
+          let low = slice_get_within optionals place.0 p place.1 in
+          let is_marked = are.greatest (has_number optionals set) ((are.found set).1 (good-found set good)) (suc place.0) (omega arith) number in
+          (λ i. kept (named i) (placed i)) ∙ mark-of optionals marks apart place.0 p place.1 ∙ is_marked
 
   -- so they are the kept optionals
   pub are-kept : AreKept policy kept

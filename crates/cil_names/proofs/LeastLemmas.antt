@@ -10,7 +10,7 @@ use Rattle.cil_specs.specs.Names.{Word}
 use Rattle.cil_specs.specs.Statements.{Form, block, optional, type_name, type_alias, alias_actual, type_attribute, attribute_set, common, class, class_common, class_order, rule, itself, the_named, rise_from, as_declared, as_referred}
 use Rattle.cil_specs.specs.Expr.{leaves}
 use Rattle.cil_specs.specs.Joined.{Placed}
-use Rattle.cil_specs.specs.Lookup.{Table, types, classes, commons, scopes, Optionals, is_within, references, named_permissions, declared_in}
+use Rattle.cil_specs.specs.Lookup.{Table, types, classes, commons, scopes, references, named_permissions, declared_in}
 use Rattle.cil_specs.specs.PolicyFault.{PolicyFaultKind, twice, missing, wrong_kind, alias_twice, alias_unset, second_common, too_many_permissions, PolicyFault, faulty_words, is_again, missing_words, is_unfound, is_lacking, kinds_asked, is_of_another_kind, wrong_kind_words, alias_words, alias_twice_words, has_earlier_actual, element_words, alias_unset_words, is_unset, common_words, second_common_words, has_earlier_common, too_many_words, has_too_many, tables, is_outside, IsFaultOf, IsNoLater}
 use Rattle.cil_specs.proofs.Runs.{both_true, first_true, second_true}
 use Rattle.cil_specs.proofs.PartLemmas.{all-middle}
@@ -134,16 +134,16 @@ sub-references (rule kind source itself the_class permissions) =
 sub-references (rule kind source (the_named target) the_class permissions) =
     inl (refl, inl (refl, inl (refl, sub-permissions the_class permissions)))
 
-sub-missing : (kept : Optionals) (policy : List Placed) (s : Placed) → IsSub (map offset (missing_words kept policy s)) (offsets_in s.form)
-sub-missing kept policy s =
-    let lost = filter (is_unfound kept policy s.namespace) (references s.form) in
-    let lacked = filter (is_lacking kept policy s.namespace) (named_permissions s.form) in
+sub-missing : (policy : List Placed) (s : Placed) → IsSub (map offset (missing_words policy s)) (offsets_in s.form)
+sub-missing policy s =
+    let lost = filter (is_unfound policy s.namespace) (references s.form) in
+    let lacked = filter (is_lacking policy s.namespace) (named_permissions s.form) in
     subst (λ l. IsSub l (offsets_in s.form)) (sym (map-append offset (map (λ r. r.1) lost) (map (λ p. p.1) lacked)))
     (sub-trans (map offset (map (λ r. r.1) lost) ++ map offset (map (λ p. p.1) lacked))
     (map offset (map (λ r. r.1) (references s.form)) ++ map offset (map (λ p. p.1) (named_permissions s.form))) (offsets_in s.form)
     (sub-append (map offset (map (λ r. r.1) lost)) (map offset (map (λ r. r.1) (references s.form))) (map offset (map (λ p. p.1) lacked)) (map offset (map (λ p. p.1) (named_permissions s.form)))
-    (sub-filter-second (is_unfound kept policy s.namespace) (references s.form))
-    (sub-filter-second (is_lacking kept policy s.namespace) (named_permissions s.form)))
+    (sub-filter-second (is_unfound policy s.namespace) (references s.form))
+    (sub-filter-second (is_lacking policy s.namespace) (named_permissions s.form)))
     (sub-references s.form))
 
 sub-kinds : (form : Form) → IsSub (map offset (map (λ r. r.1) (kinds_asked form))) (offsets_in form)
@@ -251,43 +251,42 @@ sub-if true words ns sub = sub
 sub-if false words ns sub = tt
 
 -- the faulty words of a statement are words of it, in the order of the text
-sub-faulty_words : (kind : PolicyFaultKind) (kept : Optionals) (policy before : List Placed) (s : Placed) → IsSub (map offset (faulty_words kind kept policy before s)) (offsets_in s.form)
-sub-faulty_words twice kept policy before s = sub-chosen (λ table id. list_any (is_again table s id) before) s.form
-sub-faulty_words missing kept policy before s = sub-if (is_outside s.optionals) (missing_words kept policy s) (offsets_in s.form) (sub-missing kept policy s)
-sub-faulty_words wrong_kind kept policy before s =
-    sub-if (is_within kept s) (wrong_kind_words kept policy s) (offsets_in s.form)
-    (sub-trans (map offset (wrong_kind_words kept policy s)) (map offset (map (λ r. r.1) (kinds_asked s.form))) (offsets_in s.form) (sub-filter-second (is_of_another_kind kept policy s.namespace) (kinds_asked s.form)) (sub-kinds s.form))
-sub-faulty_words alias_twice kept policy before s =
-    sub-if (is_within kept s) (alias_twice_words kept policy before s) (offsets_in s.form) (sub-some s.form (has_earlier_actual kept policy before s.namespace) (alias_words s.form) (sub-aliases s.form))
-sub-faulty_words alias_unset kept policy before s =
-    sub-if (is_within kept s) (alias_unset_words kept policy s) (offsets_in s.form) (sub-some s.form (is_unset kept policy s.namespace) (element_words s.form) (sub-elements s.form))
-sub-faulty_words second_common kept policy before s =
-    sub-if (is_within kept s) (second_common_words kept policy before s) (offsets_in s.form) (sub-some s.form (has_earlier_common kept policy before s.namespace) (common_words s.form) (sub-commons s.form))
-sub-faulty_words too_many_permissions kept policy before s =
-    sub-if (is_within kept s) (too_many_words kept policy s) (offsets_in s.form) (sub-some s.form (λ id. has_too_many kept policy s) (option_to_list (declared_in classes s.form)) (sub-classes s.form))
+sub-faulty_words : (kind : PolicyFaultKind) (policy before : List Placed) (s : Placed) → IsSub (map offset (faulty_words kind policy before s)) (offsets_in s.form)
+sub-faulty_words twice policy before s = sub-chosen (λ table id. list_any (is_again table s id) before) s.form
+sub-faulty_words missing policy before s = sub-if (is_outside s.optionals) (missing_words policy s) (offsets_in s.form) (sub-missing policy s)
+sub-faulty_words wrong_kind policy before s =
+    sub-trans (map offset (wrong_kind_words policy s)) (map offset (map (λ r. r.1) (kinds_asked s.form))) (offsets_in s.form) (sub-filter-second (is_of_another_kind policy s.namespace) (kinds_asked s.form)) (sub-kinds s.form)
+sub-faulty_words alias_twice policy before s =
+    sub-some s.form (has_earlier_actual policy before s.namespace) (alias_words s.form) (sub-aliases s.form)
+sub-faulty_words alias_unset policy before s =
+    sub-some s.form (is_unset policy s.namespace) (element_words s.form) (sub-elements s.form)
+sub-faulty_words second_common policy before s =
+    sub-some s.form (has_earlier_common policy before s.namespace) (common_words s.form) (sub-commons s.form)
+sub-faulty_words too_many_permissions policy before s =
+    sub-some s.form (λ id. has_too_many policy s) (option_to_list (declared_in classes s.form)) (sub-classes s.form)
 
-pub sub-faulty : (kind : PolicyFaultKind) (kept : Optionals) (policy before : List Placed) (s : Placed) → IsSub (map offset (faulty_words kind kept policy before s)) (offsets_of s)
-sub-faulty kind kept policy before s = sub-skip (map offset (faulty_words kind kept policy before s)) s.at.offset (offsets_in s.form) (sub-faulty_words kind kept policy before s)
+pub sub-faulty : (kind : PolicyFaultKind) (policy before : List Placed) (s : Placed) → IsSub (map offset (faulty_words kind policy before s)) (offsets_of s)
+sub-faulty kind policy before s = sub-skip (map offset (faulty_words kind policy before s)) s.at.offset (offsets_in s.form) (sub-faulty_words kind policy before s)
 
 -- the fault at a word of a statement
 abbrev pub fault_at : PolicyFaultKind → Placed → Word → PolicyFault
 fault_at kind s word = record { kind = kind; module_name = s.module_name; at = word.at; word = word.text }
 
 -- each statement in front of a place has no faulty word of the kind
-abbrev pub NoneFaultyBelow : PolicyFaultKind → Optionals → List Placed → ℕ → Type 0
-NoneFaultyBelow kind kept policy n = (j : ℕ) → j < n → (s : Placed) → slice_get policy j ≡ Some s → faulty_words kind kept policy (take j policy) s ≡ []
+abbrev pub NoneFaultyBelow : PolicyFaultKind → List Placed → ℕ → Type 0
+NoneFaultyBelow kind policy n = (j : ℕ) → j < n → (s : Placed) → slice_get policy j ≡ Some s → faulty_words kind policy (take j policy) s ≡ []
 
-pub none-faulty-first : (kind : PolicyFaultKind) (kept : Optionals) (policy : List Placed) → NoneFaultyBelow kind kept policy 0
-none-faulty-first kind kept policy j less s at = absurd (omega (arith, less))
+pub none-faulty-first : (kind : PolicyFaultKind) (policy : List Placed) → NoneFaultyBelow kind policy 0
+none-faulty-first kind policy j less s at = absurd (omega (arith, less))
 
-pub none-faulty-next : (kind : PolicyFaultKind) (kept : Optionals) (policy : List Placed) (n : ℕ) (s : Placed) → slice_get policy n ≡ Some s → faulty_words kind kept policy (take n policy) s ≡ []
-    → NoneFaultyBelow kind kept policy n → NoneFaultyBelow kind kept policy (n + 1)
-none-faulty-next kind kept policy n s at none below j less t there = elim (cases_lt j n) [
+pub none-faulty-next : (kind : PolicyFaultKind) (policy : List Placed) (n : ℕ) (s : Placed) → slice_get policy n ≡ Some s → faulty_words kind policy (take n policy) s ≡ []
+    → NoneFaultyBelow kind policy n → NoneFaultyBelow kind policy (n + 1)
+none-faulty-next kind policy n s at none below j less t there = elim (cases_lt j n) [
   | inl lesser ↦ below j lesser t there
   | inr no_less ↦
       let same : j ≡ n = (omega (arith, less, no_less)) in
       let is : t ≡ s = same_Some t s (sym there ∙ ap (slice_get policy) same ∙ at) in
-      ap (λ k. faulty_words kind kept policy (take k policy) t) same ∙ ap (faulty_words kind kept policy (take n policy)) is ∙ none
+      ap (λ k. faulty_words kind policy (take k policy) t) same ∙ ap (faulty_words kind policy (take n policy)) is ∙ none
 ]
 
 -- a list around the element at a place
@@ -310,18 +309,18 @@ at-middle [] x ys = refl
 at-middle (z ∷ xs) x ys = at-middle xs x ys
 
 -- no faulty word stands in front of a statement and what is before it
-none-before : (kind : PolicyFaultKind) (kept : Optionals) (policy : List Placed) (n : ℕ) (before : List Placed) (s : Placed) (after : List Placed) → NoneFaultyBelow kind kept policy n
-    → policy ≡ before ++ s ∷ after → length before < n → faulty_words kind kept policy before s ≡ []
-none-before kind kept policy n before s after none split less =
-    ap (λ l. faulty_words kind kept policy l s) (sym (take-append_seam before (s ∷ after)) ∙ ap (take (length before)) (sym split))
+none-before : (kind : PolicyFaultKind) (policy : List Placed) (n : ℕ) (before : List Placed) (s : Placed) (after : List Placed) → NoneFaultyBelow kind policy n
+    → policy ≡ before ++ s ∷ after → length before < n → faulty_words kind policy before s ≡ []
+none-before kind policy n before s after none split less =
+    ap (λ l. faulty_words kind policy l s) (sym (take-append_seam before (s ∷ after)) ∙ ap (take (length before)) (sym split))
     ∙ none (length before) less s (ap (λ l. slice_get l (length before)) split ∙ at-middle before s after)
 
 -- where no statement has a faulty word there is no fault of the kind
-pub none-faulty-end : (kind : PolicyFaultKind) (kept : Optionals) (policy : List Placed) → NoneFaultyBelow kind kept policy (length policy) → (fault : PolicyFault) → IsFaultOf kind kept policy fault → ⊥
-none-faulty-end kind kept policy none fault is =
+pub none-faulty-end : (kind : PolicyFaultKind) (policy : List Placed) → NoneFaultyBelow kind policy (length policy) → (fault : PolicyFault) → IsFaultOf kind policy fault → ⊥
+none-faulty-end kind policy none fault is =
     let size : length policy ≡ length is.before + suc (length is.after) = ap length is.split ∙ length-append is.before (is.s ∷ is.after) in
     let less : length is.before < length policy = (omega (arith, size)) in
-    contains-none is.word (subst (λ l. Contains l is.word) (none-before kind kept policy (length policy) is.before is.s is.after none is.split less) is.is_faulty)
+    contains-none is.word (subst (λ l. Contains l is.word) (none-before kind policy (length policy) is.before is.s is.after none is.split less) is.is_faulty)
   where
     contains-none : (w : Word) → Contains [] w → ⊥
     contains-none w c = omega (arith, c.1)
@@ -340,9 +339,9 @@ no-less low n ns m rise c = elim (contains-cases n ns m c) [
 ]
 
 -- The first faulty word of the first statement with one is the least fault of its kind.
-pub least-at : (kind : PolicyFaultKind) (kept : Optionals) (policy : List Placed) (i : ℕ) (s : Placed) (word : Word) (more : List Word) → AreFlat policy → slice_get policy i ≡ Some s
-    → NoneFaultyBelow kind kept policy i → faulty_words kind kept policy (take i policy) s ≡ word ∷ more → IsLeast (IsFaultOf kind kept policy) (fault_at kind s word)
-least-at kind kept policy i s word more flat at none faulty = record {
+pub least-at : (kind : PolicyFaultKind) (policy : List Placed) (i : ℕ) (s : Placed) (word : Word) (more : List Word) → AreFlat policy → slice_get policy i ≡ Some s
+    → NoneFaultyBelow kind policy i → faulty_words kind policy (take i policy) s ≡ word ∷ more → IsLeast (IsFaultOf kind policy) (fault_at kind s word)
+least-at kind policy i s word more flat at none faulty = record {
   is = record {
     before = take i policy;
     s = s;
@@ -362,7 +361,7 @@ least-at kind kept policy i s word more flat at none faulty = record {
     amidst = flat-amidst (take i policy) s (drop (i + 1) policy) (subst AreFlat split flat)
 
     sub : IsSub (word.at.offset ∷ map offset more) (offsets_of s)
-    sub = subst (λ l. IsSub (map offset l) (offsets_of s)) faulty (sub-faulty kind kept policy (take i policy) s)
+    sub = subst (λ l. IsSub (map offset l) (offsets_of s)) faulty (sub-faulty kind policy (take i policy) s)
 
     rises : rise_from 0 (word.at.offset ∷ map offset more) ≡ true
     rises = sub-rises 0 (word.at.offset ∷ map offset more) (offsets_of s) sub amidst.plain.rising
@@ -370,19 +369,19 @@ least-at kind kept policy i s word more flat at none faulty = record {
     here : Contains (offsets_of s) word.at.offset
     here = sub-contains (word.at.offset ∷ map offset more) (offsets_of s) word.at.offset sub (contains-first word.at.offset (map offset more))
 
-    no-earlier : (other : PolicyFault) (is : IsFaultOf kind kept policy other) → IsNoLater (fault_at kind s word) (fault_at kind is.s is.word)
+    no-earlier : (other : PolicyFault) (is : IsFaultOf kind policy other) → IsNoLater (fault_at kind s word) (fault_at kind is.s is.word)
     no-earlier other is = elim (stands (take i policy) s (drop (i + 1) policy) is.before is.s is.after (sym split ∙ is.split)) [
       | same_place same t ↦
-          let contained : Contains (word ∷ more) is.word = subst (λ l. Contains l is.word) (ap (λ b. faulty_words kind kept policy b is.s) same ∙ ap (faulty_words kind kept policy (take i policy)) t ∙ faulty) is.is_faulty in
+          let contained : Contains (word ∷ more) is.word = subst (λ l. Contains l is.word) (ap (λ b. faulty_words kind policy b is.s) same ∙ ap (faulty_words kind policy (take i policy)) t ∙ faulty) is.is_faulty in
           inr (refl, inr (ap (λ p. p.module_name) (sym t), no-less 0 word.at.offset (map offset more) is.word.at.offset rises (contains-map offset (word ∷ more) is.word contained)))
       | later between others front behind ↦
           no-later kind s is.s word is.word (all-middle (IsBefore s) between is.s others (subst (AllByRecursion (IsBefore s)) behind amidst.in_front)) here
-          (sub-contains (map offset (faulty_words kind kept policy is.before is.s)) (offsets_of is.s) is.word.at.offset (sub-faulty kind kept policy is.before is.s)
-          (contains-map offset (faulty_words kind kept policy is.before is.s) is.word is.is_faulty))
+          (sub-contains (map offset (faulty_words kind policy is.before is.s)) (offsets_of is.s) is.word.at.offset (sub-faulty kind policy is.before is.s)
+          (contains-map offset (faulty_words kind policy is.before is.s) is.word is.is_faulty))
       | earlier between front ↦
           let size : length (take i policy) ≡ length is.before + suc (length between) = ap length front ∙ length-append is.before (is.s ∷ between) in
           let within : i < length policy = slice_get_within policy i s at in
           let le : length (take i policy) ≡ i = length-take-le i policy (omega (arith, within)) in
-          let c : Contains [] is.word = subst (λ l. Contains l is.word) (none-before kind kept policy i is.before is.s is.after none is.split (omega (arith, size, le))) is.is_faulty in
+          let c : Contains [] is.word = subst (λ l. Contains l is.word) (none-before kind policy i is.before is.s is.after none is.split (omega (arith, size, le))) is.is_faulty in
           absurd (omega (arith, c.1))
     ]

@@ -7,7 +7,7 @@ pub mod PlacedLemmas
 pub mod SpaceLemmas
 pub mod LookupLemmas
 pub mod DeclareLemmas
-pub mod TwiceLemmas
+pub mod ModulesApart
 pub mod RestrictLemmas
 pub mod PositionLemmas
 pub mod FirstsLemmas
@@ -24,8 +24,8 @@ pub mod ElementLemmas
 pub mod RuleLemmas
 pub mod MadeLemmas
 pub mod AttributeLemmas
-pub mod JudgedLemmas
 pub mod KeptLemmas
+pub mod JudgedLemmas
 pub mod DroppedLemmas
 pub mod GreatestLemmas
 pub mod FoundLemmas

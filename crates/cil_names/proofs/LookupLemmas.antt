@@ -12,7 +12,7 @@ use Rattle.std.proofs.lemmas.List.Splits.{slice_split_first}
 use Rattle.std.proofs.lemmas.Option.{cond_some, slice_get_past, slice_get_cases, get_or_from_slice_get}
 use Rattle.cil_specs.specs.Names.{Word}
 use Rattle.cil_specs.specs.Joined.{Placed}
-use Rattle.cil_specs.specs.Lookup.{Table, declared_in, is_word, declares, is_same, is_within, same_namespace, declaration, has_block, outward, nearest_block, inside, from_namespace, word_text, every_optional}
+use Rattle.cil_specs.specs.Lookup.{Table, declared_in, is_word, declares, is_same, same_namespace, declaration, has_block, outward, nearest_block, inside, from_namespace, word_text}
 use Rattle.cil_specs.proofs.Runs.{first_true, second_true}
 use Rattle.cil_specs.proofs.DeclaredLemmas.{one-namespace}
 use Rattle.cil_names.specs.First.{IsFirstOf}
@@ -84,23 +84,6 @@ if-some : {X : Type 0} (o : Option X) (P : X → Type 0) → ((x : X) → o ≡ 
 if-some None P h = tt
 if-some (Some x) P h = h x refl
 
-and-true : (b : Bool) → (b && true) ≡ b
-and-true true = refl
-and-true false = refl
-
--- all statements are in the set of all optionals
-always-within : (s : Placed) → is_within every_optional s ≡ true
-always-within s = all s.optionals
-  where
-    all : (offsets : List ℕ) → list_all (every_optional s.module_name) offsets ≡ true
-    all [] = refl
-    all (n ∷ offsets) = all offsets
-
-declaration-find : (policy : List Placed) (table : Table) (namespace : Namespace) (name : List ℕ)
-    → declaration every_optional policy table namespace name ≡ find (declares table namespace name) policy
-declaration-find policy table namespace name =
-    λ i. find (λ s. (ap (λ b. declares table namespace name s && b) (always-within s) ∙ and-true (declares table namespace name s)) i) policy
-
 -- what declares the name declares the same as what is found
 declares-same : (table : Table) (namespace : Namespace) (name : List ℕ) (s : Placed) → declares table namespace name s ≡ true → is_same table s ≡ declares table namespace name
 declares-same table namespace name s e =
@@ -114,9 +97,9 @@ declares-same table namespace name s e =
 
 -- a declaration, by its place
 pub declaration-lead : (table : Table) (policy : List Placed) (namespace : Namespace) (name : List ℕ) (found : Option ℕ) → found ≡ position (declares table namespace name) policy
-    → IsLead table policy found (declaration every_optional policy table namespace name)
-declaration-lead table policy namespace name found e = subst (λ f. IsLead table policy f (declaration every_optional policy table namespace name)) (sym e) (record {
-  is = position-get (declares table namespace name) policy ∙ sym (declaration-find policy table namespace name);
+    → IsLead table policy found (declaration policy table namespace name)
+declaration-lead table policy namespace name found e = subst (λ f. IsLead table policy f (declaration policy table namespace name)) (sym e) (record {
+  is = position-get (declares table namespace name) policy;
   within = if-some (position (declares table namespace name) policy) (λ i. i < length policy) within;
   first = if-some (position (declares table namespace name) policy) (IsFirstOf table policy) first;
 })
@@ -139,30 +122,30 @@ no-lead table policy lead e = record { is = sym e; within = tt; first = tt }
 
 -- a plain name is looked up here first
 pub outward-here : (table : Table) (policy : List Placed) (namespace : Namespace) (name : List ℕ) (i : ℕ)
-    → IsLead table policy (Some i) (declaration every_optional policy table namespace name) → IsLead table policy (Some i) (outward every_optional policy table namespace name)
+    → IsLead table policy (Some i) (declaration policy table namespace name) → IsLead table policy (Some i) (outward policy table namespace name)
 outward-here table policy [] name i lead = lead
 outward-here table policy (inner ∷ outer) name i lead = subst (IsLead table policy (Some i)) (by (slice_get_cases policy i).1) lead
   where
     here : Option Placed
-    here = declaration every_optional policy table (inner ∷ outer) name
+    here = declaration policy table (inner ∷ outer) name
 
     by : ((x : Placed) × (i < length policy) × (slice_get policy i ≡ Some x) × (get_or policy i x ≡ x)) ⊎ ((length policy ≤ i) × (slice_get policy i ≡ None))
-        → here ≡ outward every_optional policy table (inner ∷ outer) name
+        → here ≡ outward policy table (inner ∷ outer) name
     by (inl (x, low, at, same)) =
         let found : here ≡ Some x = sym lead.is ∙ at in
-        found ∙ sym (ap (λ o. option_or o (outward every_optional policy table outer name)) found)
+        found ∙ sym (ap (λ o. option_or o (outward policy table outer name)) found)
     by (inr (past, at)) = absurd (let l = lead.within in omega arith)
 
 pub outward-global : (table : Table) (policy : List Placed) (namespace : Namespace) (name : List ℕ) → namespace ≡ []
-    → IsLead table policy None (declaration every_optional policy table namespace name) → IsLead table policy None (outward every_optional policy table namespace name)
+    → IsLead table policy None (declaration policy table namespace name) → IsLead table policy None (outward policy table namespace name)
 outward-global table policy namespace name e lead =
-    subst (λ n. IsLead table policy None (outward every_optional policy table n name)) (sym e) (subst (λ n. IsLead table policy None (declaration every_optional policy table n name)) e lead)
+    subst (λ n. IsLead table policy None (outward policy table n name)) (sym e) (subst (λ n. IsLead table policy None (declaration policy table n name)) e lead)
 
 pub outward-next : (table : Table) (policy : List Placed) (namespace : Namespace) (name inner : List ℕ) (outer : Namespace) → namespace ≡ inner ∷ outer
-    → IsLead table policy None (declaration every_optional policy table namespace name) → outward every_optional policy table namespace name ≡ outward every_optional policy table outer name
+    → IsLead table policy None (declaration policy table namespace name) → outward policy table namespace name ≡ outward policy table outer name
 outward-next table policy namespace name inner outer e lead =
-    ap (λ n. outward every_optional policy table n name) e
-    ∙ ap (λ o. option_or o (outward every_optional policy table outer name)) (ap (λ n. declaration every_optional policy table n name) (sym e) ∙ sym lead.is)
+    ap (λ n. outward policy table n name) e
+    ∙ ap (λ o. option_or o (outward policy table outer name)) (ap (λ n. declaration policy table n name) (sym e) ∙ sym lead.is)
 
 -- whether there is a block, by the namespaces
 pub has_block-true : (spaces : List Namespace) (policy : List Placed) (m : ℕ) (name : List ℕ) (namespace : Namespace) → AreBlocks spaces policy → m < length spaces
@@ -193,27 +176,27 @@ nearest-next policy namespace name inner outer e absent =
 
 -- names between dots, of which there is one more
 pub inside-next : (table : Table) (policy : List Placed) (namespace : Namespace) (name text : List ℕ) → has_block policy namespace name ≡ true
-    → inside every_optional policy table namespace (name ∷ slice_split is_dot text) ≡ inside every_optional policy table (name ∷ namespace) (slice_split is_dot text)
+    → inside policy table namespace (name ∷ slice_split is_dot text) ≡ inside policy table (name ∷ namespace) (slice_split is_dot text)
 inside-next table policy namespace name text e =
     let part = first-part text in
-    ap (λ l. inside every_optional policy table namespace (name ∷ l)) part.2
-    ∙ ap (λ b. if b then inside every_optional policy table (name ∷ namespace) (part.0 ∷ part.1) else None) e
-    ∙ ap (inside every_optional policy table (name ∷ namespace)) (sym part.2)
+    ap (λ l. inside policy table namespace (name ∷ l)) part.2
+    ∙ ap (λ b. if b then inside policy table (name ∷ namespace) (part.0 ∷ part.1) else None) e
+    ∙ ap (inside policy table (name ∷ namespace)) (sym part.2)
 
 pub inside-stop : (table : Table) (policy : List Placed) (namespace : Namespace) (name text : List ℕ) → has_block policy namespace name ≡ false
-    → inside every_optional policy table namespace (name ∷ slice_split is_dot text) ≡ None
+    → inside policy table namespace (name ∷ slice_split is_dot text) ≡ None
 inside-stop table policy namespace name text e =
     let part = first-part text in
-    ap (λ l. inside every_optional policy table namespace (name ∷ l)) part.2
-    ∙ ap (λ b. if b then inside every_optional policy table (name ∷ namespace) (part.0 ∷ part.1) else None) e
+    ap (λ l. inside policy table namespace (name ∷ l)) part.2
+    ∙ ap (λ b. if b then inside policy table (name ∷ namespace) (part.0 ∷ part.1) else None) e
 
 pub from-more : (table : Table) (policy : List Placed) (namespace : Namespace) (name text : List ℕ)
-    → from_namespace every_optional policy table namespace (name ∷ slice_split is_dot text)
-    ≡ option_and_then (λ inner. inside every_optional policy table inner (slice_split is_dot text)) (nearest_block policy namespace name)
+    → from_namespace policy table namespace (name ∷ slice_split is_dot text)
+    ≡ option_and_then (λ inner. inside policy table inner (slice_split is_dot text)) (nearest_block policy namespace name)
 from-more table policy namespace name text =
     let part = first-part text in
-    ap (λ l. from_namespace every_optional policy table namespace (name ∷ l)) part.2
-    ∙ ap (λ l. option_and_then (λ inner. inside every_optional policy table inner l) (nearest_block policy namespace name)) (sym part.2)
+    ap (λ l. from_namespace policy table namespace (name ∷ l)) part.2
+    ∙ ap (λ l. option_and_then (λ inner. inside policy table inner l) (nearest_block policy namespace name)) (sym part.2)
 
 -- the derived == of tables and of keys
 derived-table : (t u : code.Table) → (table_eq.eq-value).it t u ≡ is_table t u

@@ -1,8 +1,8 @@
--- What the statements of a policy declare and rule, whose optionals are all kept.
+-- A class by what its statement declares.
 use Rattle.std.proofs.Common.{◌≡◌, ℕ, true, ◌&&◌, List, [], ◌∷◌, ◌++◌, flat_map, slice_get, Option, Some, None, is_some, option_map, refl, sym, ap, ◌∙◌, if◌then◌else◌}
 use Rattle.std.proofs.lemmas.Option.{same_Some}
 use Rattle.cil_specs.specs.Joined.{Placed}
-use Rattle.cil_specs.specs.Lookup.{types, classes, is_within, is_type, is_attribute, declared_in, declared_name, permissions_of, distinct, every_optional}
+use Rattle.cil_specs.specs.Lookup.{types, classes, is_within, is_type, is_attribute, declared_in, declared_name, permissions_of, distinct}
 use Rattle.cil_specs.specs.Rule.{ClassOf, declared_as, class_as, is_class, rule_of}
 use Rattle.cil_specs.proofs.RestrictedLemmas.{every-within}
 use Rattle.cil_names.specs.FullNames.{full_name_of}
@@ -10,28 +10,12 @@ use Rattle.cil_names.specs.Numbering.{declared_if, class_if, rules_from}
 use Rattle.cil_names.specs.declared.kinds.Kind.TheVariants.{«Type», Attribute}
 use Rattle.cil_names.proofs.NumberingLemmas.{full-name-in}
 
-same-pieces : {X Y : Type 0} (f g : X → List Y) → ((x : X) → f x ≡ g x) → (xs : List X) → flat_map f xs ≡ flat_map g xs
-same-pieces f g same [] = refl
-same-pieces f g same (x ∷ xs) = λ k. same x k ++ same-pieces f g same xs k
-
-pub types-made : (policy : List Placed) → flat_map (declared_if «Type») policy ≡ flat_map (λ s. if is_within every_optional s && is_type s.form then declared_as types s ∷ [] else []) policy
-types-made policy = same-pieces _ _ (λ s. ap (λ b. if b && is_type s.form then declared_as types s ∷ [] else []) (sym (every-within s))) policy
-
-pub attributes-made : (policy : List Placed) → flat_map (declared_if Attribute) policy ≡ flat_map (λ s. if is_within every_optional s && is_attribute s.form then declared_as types s ∷ [] else []) policy
-attributes-made policy = same-pieces _ _ (λ s. ap (λ b. if b && is_attribute s.form then declared_as types s ∷ [] else []) (sym (every-within s))) policy
-
-pub classes-made : (all policy : List Placed) → flat_map (class_if all) policy ≡ flat_map (λ s. if is_within every_optional s && is_class s.form then class_as every_optional all s ∷ [] else []) policy
-classes-made all policy = same-pieces _ _ (λ s. ap (λ b. if b && is_class s.form then class_as every_optional all s ∷ [] else []) (sym (every-within s))) policy
-
-pub rules-made : (all policy : List Placed) → rules_from all policy ≡ flat_map (λ s. if is_within every_optional s then rule_of every_optional all s s.form else []) policy
-rules-made all policy = same-pieces _ _ (λ s. ap (λ b. if b then rule_of every_optional all s s.form else []) (sym (every-within s))) policy
-
 -- a class by its parts
 pub class-made : (policy : List Placed) (s : Placed) (c : ClassOf) → is_class s.form ≡ true → c.module_name ≡ s.module_name → c.at ≡ s.at → c.name ≡ declared_name classes s
-    → c.permissions ≡ distinct (permissions_of every_optional policy s) → c ∷ [] ≡ class_if policy s
+    → c.permissions ≡ distinct (permissions_of policy s) → c ∷ [] ≡ class_if policy s
 class-made policy s c is module_is at_is name_is permissions_are =
     (λ k. record { module_name = module_is k; at = at_is k; name = name_is k; permissions = permissions_are k } ∷ [])
-    ∙ ap (λ b. if b then class_as every_optional policy s ∷ [] else []) (sym is)
+    ∙ ap (λ b. if b then class_as policy s ∷ [] else []) (sym is)
 
 pub name-at : (policy : List Placed) (i : ℕ) (s : Placed) (name : List ℕ) → slice_get policy i ≡ Some s → option_map full_name_of (slice_get policy i) ≡ Some name → is_some (declared_in classes s.form) ≡ true
     → name ≡ declared_name classes s

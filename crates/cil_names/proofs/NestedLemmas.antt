@@ -9,7 +9,7 @@ use Rattle.std.proofs.lemmas.Option.{none-some, same_Some, slice_get_within}
 use Rattle.cil_specs.proofs.NamesLemmas.{all-append, all-weaker}
 use Rattle.cil_names.specs.Spaces.{Namespace}
 use Rattle.cil_names.specs.Placed.{form_of, at_of, placed_of, policy_of}
-use Rattle.cil_names.specs.Nested.{erased, is_optional_statement, optionals_among, with_optional, chains_of, nested_of, nested_policy_of, IsAround, IsAmong, IsNested}
+use Rattle.cil_names.specs.Nested.{is_optional_statement, optionals_among, with_optional, chains_by, chains_of, nested_policy_of, IsAround, IsAmong, IsNested}
 use Rattle.cil_names.specs.declared.placed.PlacedStatement.{PlacedStatement}
 use Rattle.cil_names.proofs.PositionLemmas.{get-append, get-last}
 
@@ -37,8 +37,8 @@ length-chains chains (o ∷ os) =
 pub length-chains_of : {A : Type 0} (statements : List (PlacedStatement A)) → length (chains_of statements) ≡ length (optionals_among statements) + 1
 length-chains_of statements = let all = length-chains ([] ∷ []) (optionals_among statements) in omega arith
 
-pub chain-none : {A : Type 0} (statements : List (PlacedStatement A)) → get_or (chains_of statements) 0 [] ≡ []
-chain-none statements = chain-front ([] ∷ []) (optionals_among statements) 0 (omega arith)
+pub chain-none : {A : Type 0} (optionals : List (PlacedStatement A)) → get_or (chains_by optionals) 0 [] ≡ []
+chain-none optionals = chain-front ([] ∷ []) optionals 0 (omega arith)
 
 -- the chains of statements, and those of more behind them
 pub chains_of-append : {A : Type 0} (xs ys : List (PlacedStatement A)) → (more : List (List ℕ)) × (chains_of (xs ++ ys) ≡ chains_of xs ++ more)
@@ -73,12 +73,12 @@ chain-at chains (x ∷ os) count long (suc k) o at within =
     subst (λ n. get_or (fold with_optional chains (x ∷ os)) (suc n) [] ≡ (at_of o.statement.now).offset ∷ get_or (fold with_optional chains (x ∷ os)) o.optional []) (omega arith) rest
 
 -- the chain of an optional's number is its offset, and then the chain of the optional around it
-pub chain-of-optional : {A : Type 0} (statements : List (PlacedStatement A)) (k : ℕ) (o : PlacedStatement A) → slice_get (optionals_among statements) k ≡ Some o → o.optional ≤ k
-    → get_or (chains_of statements) (suc k) [] ≡ (at_of o.statement.now).offset ∷ get_or (chains_of statements) o.optional []
-chain-of-optional statements k o at within =
+pub chain-of-optional : {A : Type 0} (optionals : List (PlacedStatement A)) (k : ℕ) (o : PlacedStatement A) → slice_get optionals k ≡ Some o → o.optional ≤ k
+    → get_or (chains_by optionals) (suc k) [] ≡ (at_of o.statement.now).offset ∷ get_or (chains_by optionals) o.optional []
+chain-of-optional optionals k o at within =
     let turned : 0 + k ≡ k = omega arith in
-    subst (λ n. get_or (chains_of statements) (suc n) [] ≡ (at_of o.statement.now).offset ∷ get_or (chains_of statements) o.optional []) turned
-    (chain-at ([] ∷ []) (optionals_among statements) 0 refl k o at (omega arith))
+    subst (λ n. get_or (chains_by optionals) (suc n) [] ≡ (at_of o.statement.now).offset ∷ get_or (chains_by optionals) o.optional []) turned
+    (chain-at ([] ∷ []) optionals 0 refl k o at (omega arith))
 
 -- the optionals of statements, and those of more behind them
 pub optionals-append : {A : Type 0} (xs ys : List (PlacedStatement A)) → optionals_among (xs ++ ys) ≡ optionals_among xs ++ optionals_among ys
@@ -96,7 +96,7 @@ optional-pushed xs p is = ap (λ os. slice_get os (length (optionals_among xs)))
 pub chain-pushed : {A : Type 0} (xs : List (PlacedStatement A)) (p : PlacedStatement A) → is_optional_statement p ≡ true → p.optional ≤ length (optionals_among xs)
     → get_or (chains_of (xs ++ p ∷ [])) (suc (length (optionals_among xs))) [] ≡ (at_of p.statement.now).offset ∷ get_or (chains_of xs) p.optional []
 chain-pushed xs p is within =
-    chain-of-optional (xs ++ p ∷ []) (length (optionals_among xs)) p (optional-pushed xs p is) within ∙ ap (λ l. (at_of p.statement.now).offset ∷ l) (chain-append xs (p ∷ []) p.optional within)
+    chain-of-optional (optionals_among (xs ++ p ∷ [])) (length (optionals_among xs)) p (optional-pushed xs p is) within ∙ ap (λ l. (at_of p.statement.now).offset ∷ l) (chain-append xs (p ∷ []) p.optional within)
 
 -- one more statement that is none
 pub optionals-push_other : {A : Type 0} (xs : List (PlacedStatement A)) (p : PlacedStatement A) → is_optional_statement p ≡ false → optionals_among (xs ++ p ∷ []) ≡ optionals_among xs
@@ -115,19 +115,9 @@ around-number os n name around = elim around [
   | inr (k, o, number, at, same) ↦ (let within = slice_get_within os k o at in omega arith)
 ]
 
--- elements that stand at places stand there with more behind
-gets-append : {X : Type 0} (xs ys : List X) (places : List ℕ) (os : List X) → map (slice_get xs) places ≡ map Some os → map (slice_get (xs ++ ys)) places ≡ map Some os
-gets-append xs ys [] [] are = refl
-gets-append xs ys [] (o ∷ os) are = absurd (omega (arith, ap length are))
-gets-append xs ys (i ∷ places) [] are = absurd (omega (arith, ap length are))
-gets-append xs ys (i ∷ places) (o ∷ os) are =
-    let here = get-append xs ys i o (ap (λ l. get_or l 0 None) are) in
-    let others = gets-append xs ys places os (ap (drop 1) are) in
-    λ j. here j ∷ others j
-
 -- no statements
 pub nested-none : {A : Type 0} → IsNested {A = A} [] []
-nested-none = record { places_are = refl; among = tt; inside = λ k o at. absurd (none-some o at) }
+nested-none = record { optionals_are = refl; among = tt; inside = λ k o at. absurd (none-some o at) }
 
 -- what stands at a place of the former of two lists
 get-front : {X : Type 0} (xs ys : List X) (k : ℕ) (x : X) → k < length xs → slice_get (xs ++ ys) k ≡ Some x → slice_get xs k ≡ Some x
@@ -135,31 +125,25 @@ get-front [] ys k x less at = absurd (omega (arith, less))
 get-front (y ∷ xs) ys zero x less at = at
 get-front (y ∷ xs) ys (suc k) x less at = get-front xs ys k x (omega (arith, less)) at
 
--- there are as many places as optionals
-pub nested-places : {A : Type 0} (statements : List (PlacedStatement A)) (places : List ℕ) → IsNested statements places → length places ≡ length (optionals_among statements)
-nested-places statements places nested = sym (length-map places (slice_get statements)) ∙ ap length nested.places_are ∙ length-map (optionals_among statements) Some
-
 -- one more statement that is no optional
-pub nested-push_other : {A : Type 0} (xs : List (PlacedStatement A)) (places : List ℕ) (p : PlacedStatement A) → IsNested xs places → IsAmong (optionals_among xs) p → is_optional_statement p ≡ false
-    → IsNested (xs ++ p ∷ []) places
-nested-push_other xs places p nested among is =
+pub nested-push_other : {A : Type 0} (xs optionals : List (PlacedStatement A)) (p : PlacedStatement A) → IsNested xs optionals → IsAmong (optionals_among xs) p → is_optional_statement p ≡ false
+    → IsNested (xs ++ p ∷ []) optionals
+nested-push_other xs optionals p nested among is =
     let same = sym (optionals-push_other xs p is) in
     record {
-      places_are = gets-append xs (p ∷ []) places (optionals_among xs) nested.places_are ∙ ap (map Some) same;
+      optionals_are = nested.optionals_are ∙ same;
       among = subst (λ os. AllByRecursion (IsAmong os) (xs ++ p ∷ [])) same (all-append (IsAmong (optionals_among xs)) xs (p ∷ []) nested.among (among, tt));
       inside = subst (λ os. (k : ℕ) (o : PlacedStatement _) → slice_get os k ≡ Some o → o.optional ≤ k) same nested.inside;
     }
 
 -- one more optional
-pub nested-push : {A : Type 0} (xs : List (PlacedStatement A)) (places : List ℕ) (p : PlacedStatement A) → IsNested xs places → IsAmong (optionals_among xs) p → is_optional_statement p ≡ true
-    → IsNested (xs ++ p ∷ []) (places ++ length xs ∷ [])
-nested-push {A} xs places p nested among is =
+pub nested-push : {A : Type 0} (xs optionals : List (PlacedStatement A)) (p : PlacedStatement A) → IsNested xs optionals → IsAmong (optionals_among xs) p → is_optional_statement p ≡ true
+    → IsNested (xs ++ p ∷ []) (optionals ++ p ∷ [])
+nested-push {A} xs optionals p nested among is =
     let os = optionals_among xs in
     let same = sym (optionals-push xs p is) in
     record {
-      places_are =
-          map-append (slice_get (xs ++ p ∷ [])) places (length xs ∷ []) ∙ ap (λ l. l ++ slice_get (xs ++ p ∷ []) (length xs) ∷ []) (gets-append xs (p ∷ []) places os nested.places_are)
-          ∙ ap (λ q. map Some os ++ q ∷ []) (get-last xs p) ∙ sym (map-append Some os (p ∷ [])) ∙ ap (map Some) same;
+      optionals_are = ap (λ l. l ++ p ∷ []) nested.optionals_are ∙ same;
       among = subst (λ l. AllByRecursion (IsAmong l) (xs ++ p ∷ [])) same
           (all-append (IsAmong (os ++ p ∷ [])) xs (p ∷ []) (all-weaker (IsAmong os) (IsAmong (os ++ p ∷ [])) (λ q. around-more os (p ∷ []) q.optional q.module_name.now) xs nested.among) (around-more os (p ∷ []) p.optional p.module_name.now among, tt));
       inside = subst (λ l. (k : ℕ) (o : PlacedStatement A) → slice_get l k ≡ Some o → o.optional ≤ k) same inside;
@@ -179,23 +163,25 @@ nested-push {A} xs places p nested among is =
         ]
 
 -- a statement by other lists, in which its namespace and its optionals are the same
-pub nested_of-same : {A : Type 0} (spaces others : List Namespace) (chains more : List (List ℕ)) (p : PlacedStatement A) → get_or spaces p.namespace [] ≡ get_or others p.namespace []
-    → get_or chains p.optional [] ≡ get_or more p.optional [] → nested_of spaces chains p ≡ nested_of others more p
-nested_of-same spaces others chains more p namespace chain =
+pub placed_of-same : {A : Type 0} (spaces others : List Namespace) (chains more : List (List ℕ)) (p : PlacedStatement A) → get_or spaces p.namespace [] ≡ get_or others p.namespace []
+    → get_or chains p.optional [] ≡ get_or more p.optional [] → placed_of spaces chains p ≡ placed_of others more p
+placed_of-same spaces others chains more p namespace chain =
     λ i. record { module_name = p.module_name.now; at = at_of p.statement.now; form = form_of p.statement.now; namespace = namespace i; optionals = chain i }
 
 -- statements, and more behind
 pub nested_policy-append : {A : Type 0} (spaces : List Namespace) (xs ys : List (PlacedStatement A)) → AllByRecursion (IsAmong (optionals_among xs)) xs
-    → nested_policy_of spaces (xs ++ ys) ≡ nested_policy_of spaces xs ++ map (nested_of spaces (chains_of (xs ++ ys))) ys
-nested_policy-append spaces xs ys among = map-append (nested_of spaces (chains_of (xs ++ ys))) xs ys ∙ ap (λ l. l ++ map (nested_of spaces (chains_of (xs ++ ys))) ys) (same xs among)
+    → nested_policy_of spaces (xs ++ ys) ≡ nested_policy_of spaces xs ++ map (placed_of spaces (chains_of (xs ++ ys))) ys
+nested_policy-append spaces xs ys among = map-append (placed_of spaces (chains_of (xs ++ ys))) xs ys ∙ ap (λ l. l ++ map (placed_of spaces (chains_of (xs ++ ys))) ys) (same xs among)
   where
-    same : (ps : List (PlacedStatement _)) → AllByRecursion (IsAmong (optionals_among xs)) ps → map (nested_of spaces (chains_of (xs ++ ys))) ps ≡ map (nested_of spaces (chains_of xs)) ps
+    same : (ps : List (PlacedStatement _)) → AllByRecursion (IsAmong (optionals_among xs)) ps → map (placed_of spaces (chains_of (xs ++ ys))) ps ≡ map (placed_of spaces (chains_of xs)) ps
     same [] all = refl
     same (p ∷ ps) all =
         let chain = chain-append xs ys p.optional (around-number (optionals_among xs) p.optional p.module_name.now all.0) in
-        λ i. nested_of-same spaces spaces (chains_of (xs ++ ys)) (chains_of xs) p refl chain i ∷ same ps all.1 i
+        λ i. placed_of-same spaces spaces (chains_of (xs ++ ys)) (chains_of xs) p refl chain i ∷ same ps all.1 i
 
--- the policy without its optionals
-pub erased-nested : {A : Type 0} (spaces : List Namespace) (chains : List (List ℕ)) (statements : List (PlacedStatement A)) → map erased (map (nested_of spaces chains) statements) ≡ policy_of spaces statements
-erased-nested spaces chains [] = refl
-erased-nested spaces chains (p ∷ ps) = ap (λ l. placed_of spaces p ∷ l) (erased-nested spaces chains ps)
+-- of statements with their optionals, each stands in none of these or in one that comes before
+pub nested-among : {A : Type 0} (statements optionals : List (PlacedStatement A)) → IsNested statements optionals → AllByRecursion (IsAmong optionals) statements
+nested-among statements optionals nested = subst (λ os. AllByRecursion (IsAmong os) statements) (sym nested.optionals_are) nested.among
+
+pub nested-inside : {A : Type 0} (statements optionals : List (PlacedStatement A)) → IsNested statements optionals → (k : ℕ) (o : PlacedStatement A) → slice_get optionals k ≡ Some o → o.optional ≤ k
+nested-inside statements optionals nested k o at = nested.inside k o (ap (λ os. slice_get os k) (sym nested.optionals_are) ∙ at)

@@ -37,9 +37,9 @@ get-mapped f (y ∷ ys) zero x e = ap (λ o. option_map f o) e
 get-mapped f (y ∷ ys) (suc i) x e = get-mapped f ys i x e
 
 -- the statement of the policy at the place of one of the code
-pub placed-at : {A : Type 0} (spaces : List Namespace) (statements : List (PlacedStatement A)) (policy : List Placed) (i : ℕ) (p : PlacedStatement A) → map (placed_of spaces) statements ≡ policy
-    → i < length statements → p ≡ get_or statements i p → slice_get policy i ≡ Some (placed_of spaces p)
-placed-at spaces statements policy i p seen within is = ap (λ l. slice_get l i) (sym seen) ∙ get-mapped (placed_of spaces) statements i p (get-at statements i p within is)
+pub placed-at : {A : Type 0} (place : PlacedStatement A → Placed) (statements : List (PlacedStatement A)) (policy : List Placed) (i : ℕ) (p : PlacedStatement A) → map place statements ≡ policy
+    → i < length statements → p ≡ get_or statements i p → slice_get policy i ≡ Some (place p)
+placed-at place statements policy i p seen within is = ap (λ l. slice_get l i) (sym seen) ∙ get-mapped place statements i p (get-at statements i p within is)
 
 pub plain-at : (policy : List Placed) (i : ℕ) (s : Placed) → AreFlat policy → slice_get policy i ≡ Some s → IsPlain s
 plain-at [] i s flat e = absurd (none-some s e)
@@ -47,19 +47,19 @@ plain-at (t ∷ policy) zero s flat e = subst IsPlain (same_Some t s e) flat.0
 plain-at (t ∷ policy) (suc i) s flat e = plain-at policy i s flat.2 e
 
 -- one more statement of a policy
-policy-next : {A : Type 0} (spaces : List Namespace) (statements : List (PlacedStatement A)) (i : ℕ) (p : PlacedStatement A) → i < length statements → p ≡ get_or statements i p
-    → policy_of spaces (take (i + 1) statements) ≡ policy_of spaces (take i statements) ++ placed_of spaces p ∷ []
-policy-next spaces statements i p within is =
-    ap (policy_of spaces) (take_more statements i p within ∙ ap (λ q. take i statements ++ q ∷ []) (sym is)) ∙ map-append (placed_of spaces) (take i statements) (p ∷ [])
+policy-next : {A : Type 0} (place : PlacedStatement A → Placed) (statements : List (PlacedStatement A)) (i : ℕ) (p : PlacedStatement A) → i < length statements → p ≡ get_or statements i p
+    → map place (take (i + 1) statements) ≡ map place (take i statements) ++ place p ∷ []
+policy-next place statements i p within is =
+    ap (map place) (take_more statements i p within ∙ ap (λ q. take i statements ++ q ∷ []) (sym is)) ∙ map-append place (take i statements) (p ∷ [])
 
 -- what is made of one more statement
-pub made-next : {X Y A : Type 0} (f : X → Y) (g : Placed → List Y) (spaces : List Namespace) (statements : List (PlacedStatement A)) (i : ℕ) (p : PlacedStatement A) (old new more : List X)
-    → i < length statements → p ≡ get_or statements i p → map f old ≡ flat_map g (policy_of spaces (take i statements)) → new ≡ old ++ more → map f more ≡ g (placed_of spaces p)
-    → map f new ≡ flat_map g (policy_of spaces (take (i + 1) statements))
-made-next f g spaces statements i p old new more within is so_far pushed one =
+pub made-next : {X Y A : Type 0} (f : X → Y) (g : Placed → List Y) (place : PlacedStatement A → Placed) (statements : List (PlacedStatement A)) (i : ℕ) (p : PlacedStatement A) (old new more : List X)
+    → i < length statements → p ≡ get_or statements i p → map f old ≡ flat_map g (map place (take i statements)) → new ≡ old ++ more → map f more ≡ g (place p)
+    → map f new ≡ flat_map g (map place (take (i + 1) statements))
+made-next f g place statements i p old new more within is so_far pushed one =
     ap (map f) pushed ∙ map-append f old more ∙ ap (λ l. l ++ map f more) so_far
-    ∙ ap (λ l. flat_map g (policy_of spaces (take i statements)) ++ l) (one ∙ sym (append-nil (g (placed_of spaces p))))
-    ∙ sym (flat_map-append g (policy_of spaces (take i statements)) (placed_of spaces p ∷ [])) ∙ ap (flat_map g) (sym (policy-next spaces statements i p within is))
+    ∙ ap (λ l. flat_map g (map place (take i statements)) ++ l) (one ∙ sym (append-nil (g (place p))))
+    ∙ sym (flat_map-append g (map place (take i statements)) (place p ∷ [])) ∙ ap (flat_map g) (sym (policy-next place statements i p within is))
 
 pub pass-more : {X : Type 0} (p : X → Bool) (old new more : List X) → new ≡ old ++ more → list_all p old ≡ true → list_all p more ≡ true → list_all p new ≡ true
 pass-more p old new more pushed all others = ap (list_all p) pushed ∙ list_all-append p old more ∙ both_true (list_all p old) (list_all p more) all others
@@ -68,16 +68,16 @@ pub no-more : {X : Type 0} (old new : List X) → new ≡ old → new ≡ old ++
 no-more old new same = same ∙ sym (append-nil old)
 
 -- the names of one more statement
-pub names-next : {A : Type 0} (spaces : List Namespace) (statements : List (PlacedStatement A)) (i : ℕ) (p : PlacedStatement A) (old new : List (List ℕ)) (full_name : List ℕ)
-    → i < length statements → p ≡ get_or statements i p → full_name ≡ full_name_of (placed_of spaces p) → old ≡ fold with_name [] (names_of (policy_of spaces (take i statements)))
-    → new ≡ fold with_name old (names_with full_name (placed_of spaces p).form) → new ≡ fold with_name [] (names_of (policy_of spaces (take (i + 1) statements)))
-names-next spaces statements i p old new full_name within is named so_far more =
-    let own : List (List ℕ) = names_with (full_name_of (placed_of spaces p)) (placed_of spaces p).form in
-    let before : List (List ℕ) = names_of (policy_of spaces (take i statements)) in
-    more ∙ ap (λ n. fold with_name old (names_with n (placed_of spaces p).form)) named ∙ ap (λ l. fold with_name l own) so_far
+pub names-next : {A : Type 0} (place : PlacedStatement A → Placed) (statements : List (PlacedStatement A)) (i : ℕ) (p : PlacedStatement A) (old new : List (List ℕ)) (full_name : List ℕ)
+    → i < length statements → p ≡ get_or statements i p → full_name ≡ full_name_of (place p) → old ≡ fold with_name [] (names_of (map place (take i statements)))
+    → new ≡ fold with_name old (names_with full_name (place p).form) → new ≡ fold with_name [] (names_of (map place (take (i + 1) statements)))
+names-next place statements i p old new full_name within is named so_far more =
+    let own : List (List ℕ) = names_with (full_name_of (place p)) (place p).form in
+    let before : List (List ℕ) = names_of (map place (take i statements)) in
+    more ∙ ap (λ n. fold with_name old (names_with n (place p).form)) named ∙ ap (λ l. fold with_name l own) so_far
     ∙ sym (fold-append with_name [] before own) ∙ ap (λ l. fold with_name [] (before ++ l)) (sym (append-nil own))
-    ∙ ap (fold with_name []) (sym (flat_map-append (λ s. names_with (full_name_of s) s.form) (policy_of spaces (take i statements)) (placed_of spaces p ∷ [])))
-    ∙ ap (λ l. fold with_name [] (names_of l)) (sym (policy-next spaces statements i p within is))
+    ∙ ap (fold with_name []) (sym (flat_map-append (λ s. names_with (full_name_of s) s.form) (map place (take i statements)) (place p ∷ [])))
+    ∙ ap (λ l. fold with_name [] (names_of l)) (sym (policy-next place statements i p within is))
 
 pub full-name-at : (policy : List Placed) (full : List (List ℕ)) (i : ℕ) (s : Placed) (d : List ℕ) → full ≡ map full_name_of policy → slice_get policy i ≡ Some s → get_or full i d ≡ full_name_of s
 full-name-at policy full i s d is at =

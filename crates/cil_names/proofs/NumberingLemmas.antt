@@ -7,7 +7,7 @@ use Rattle.std.proofs.lemmas.Grind.{flat_map-append}
 use Rattle.cil_specs.specs.Names.{Word}
 use Rattle.cil_specs.specs.Statements.{Form, block, optional, type_name, type_alias, alias_actual, type_attribute, attribute_set, common, class, class_common, class_order, rule}
 use Rattle.cil_specs.specs.Joined.{Placed}
-use Rattle.cil_specs.specs.Lookup.{Table, commons, Optionals, has_name, with_name, distinct, texts, own_permissions, listed_by, permissions_of, common_permissions, gives_common, is_within, leads, declared_in, declared_name, word_text, full_name}
+use Rattle.cil_specs.specs.Lookup.{Table, commons, has_name, with_name, distinct, texts, own_permissions, listed_by, permissions_of, common_permissions, gives_common, leads, declared_in, declared_name, word_text, full_name}
 use Rattle.cil_specs.proofs.Runs.{both_true, first_true, second_true}
 use Rattle.cil_specs.proofs.NamesLemmas.{around}
 use Rattle.cil_names.specs.FullNames.{full_name_of, full_name_or}
@@ -112,7 +112,7 @@ own-named full_name (class_common the_class the_common) name has = absurd (true�
 own-named full_name (class_order the_classes) name has = absurd (true≢false (sym has))
 own-named full_name (rule kind source target the_class permissions) name has = absurd (true≢false (sym has))
 
-module _ (kept : Optionals) (policy : List Placed) (names : List (List ℕ)) (are : AreNamesOf policy names) where
+module _ (policy : List Placed) (names : List (List ℕ)) (are : AreNamesOf policy names) where
   -- the permissions that a statement lists
   own-all : (s : Placed) → Contains policy s → list_all (has_name names) (texts (own_permissions s.form)) ≡ true
   own-all s there = all-named (texts (own_permissions s.form)) names λ name has. are name ∙ named-in policy s name there (own-named (full_name_of s) s.form name has)
@@ -121,8 +121,8 @@ module _ (kept : Optionals) (policy : List Placed) (names : List (List ℕ)) (ar
   listed-all None there = refl
   listed-all (Some s) there = own-all s there.0
 
-  common-all : (namespace : List (List ℕ)) (form : Form) → list_all (has_name names) (common_permissions kept policy namespace form) ≡ true
-  common-all namespace (class_common word the_common) = listed-all (leads kept policy commons namespace the_common.text) (leads-in kept policy commons namespace the_common.text)
+  common-all : (namespace : List (List ℕ)) (form : Form) → list_all (has_name names) (common_permissions policy namespace form) ≡ true
+  common-all namespace (class_common word the_common) = listed-all (leads policy commons namespace the_common.text) (leads-in policy commons namespace the_common.text)
   common-all namespace (block id) = refl
   common-all namespace (optional id) = refl
   common-all namespace (type_name id) = refl
@@ -136,22 +136,22 @@ module _ (kept : Optionals) (policy : List Placed) (names : List (List ℕ)) (ar
   common-all namespace (rule kind source target the_class permissions) = refl
 
   given-all : (s t : Placed)
-      → list_all (has_name names) (if is_within kept t && gives_common kept policy s t.namespace t.form then common_permissions kept policy t.namespace t.form else []) ≡ true
-  given-all s t = by (is_within kept t && gives_common kept policy s t.namespace t.form)
+      → list_all (has_name names) (if gives_common policy s t.namespace t.form then common_permissions policy t.namespace t.form else []) ≡ true
+  given-all s t = by (gives_common policy s t.namespace t.form)
     where
-      by : (b : Bool) → list_all (has_name names) (if b then common_permissions kept policy t.namespace t.form else []) ≡ true
+      by : (b : Bool) → list_all (has_name names) (if b then common_permissions policy t.namespace t.form else []) ≡ true
       by true = common-all t.namespace t.form
       by false = refl
 
   -- the permissions of a class
-  pub permissions-all : (s : Placed) → Contains policy s → list_all (has_name names) (permissions_of kept policy s) ≡ true
+  pub permissions-all : (s : Placed) → Contains policy s → list_all (has_name names) (permissions_of policy s) ≡ true
   permissions-all s there =
       list_all-append (has_name names) (texts (own_permissions s.form)) (flat_map given policy)
       ∙ both_true (list_all (has_name names) (texts (own_permissions s.form))) (list_all (has_name names) (flat_map given policy)) (own-all s there)
       (all-flat_map (has_name names) given policy (given-all s))
     where
       given : Placed → List (List ℕ)
-      given t = if is_within kept t && gives_common kept policy s t.namespace t.form then common_permissions kept policy t.namespace t.form else []
+      given t = if gives_common policy s t.namespace t.form then common_permissions policy t.namespace t.form else []
 
 -- the full name of what has a number
 pub numbered-name : (full_name : List ℕ) (form : Form) → is_numbered form ≡ true → has_name (names_with full_name form) full_name ≡ true

@@ -3,7 +3,7 @@ use Rattle.std.proofs.Common.{◌≡◌, ◌⊎◌, inl, inr, ℕ, zero, suc, �
 use Rattle.std.specs.Prelude.{◌↔◌, option_map}
 use Rattle.std.specs.List.{list_all, AllByRecursion, IsDistinct}
 use Rattle.std.proofs.lemmas.Bool.{or_right, or_cases}
-use Rattle.std.proofs.lemmas.List.{map-append, length-append, length_push, get_or_append_left, get_or_default, get_or-map, take_more, take-map}
+use Rattle.std.proofs.lemmas.List.{map-append, length-append, length_push, get_or_append_left, get_or_default, get_or-map, take_all, take_more, take-map}
 use Rattle.std.proofs.lemmas.List.Elements.{Contains-append_left}
 use Rattle.std.proofs.lemmas.List.Folds.{list_any-append, list_all-map}
 use Rattle.std.proofs.lemmas.List.Recursion.{and_at}
@@ -33,14 +33,15 @@ use Rattle.cil_names.specs.Flat.{AreFlat}
 use Rattle.cil_names.specs.declared.joined.Joined.{Joined}
 use Rattle.cil_names.proofs.FlatLemmas.{IsRising, joined-flat}
 use Rattle.cil_names.specs.Extends.{placed_around, Extends}
-use Rattle.cil_names.specs.Nested.{erased, is_optional_statement, optionals_among, chains_of, nested_of, nested_policy_of, IsAround, IsAmong, IsNested}
+use Rattle.cil_names.specs.Nested.{is_optional_statement, optionals_among, chains_by, chains_of, nested_policy_of, IsAround, IsAmong, IsNested}
 use Rattle.cil_names.specs.Placed.{form_of, at_of, placed_of, policy_of, AreNumbered, AreIn, AreBlocks}
+use Rattle.cil_names.specs.Policy.{placed_as}
 use Rattle.cil_names.specs.Spaces.{Namespace}
 use Rattle.cil_names.specs.declared.joined.NamedModule.{NamedModule}
 use Rattle.cil_names.specs.declared.placed.PlacedStatement.{PlacedStatement}
 use Rattle.cil_names.specs.declared.placed.Around.{Around}
 use Rattle.cil_names.specs.declared.placed.Flat.{Flat}
-use Rattle.cil_names.proofs.NestedLemmas.{chain-none, chain-append, chain-pushed, optionals-append, optional-pushed, around-more, around-number, nested-places, nested-none, nested-push_other, nested-push, nested_of-same, nested_policy-append}
+use Rattle.cil_names.proofs.NestedLemmas.{chain-none, chain-append, chain-pushed, optionals-append, optional-pushed, around-more, around-number, nested-none, nested-push_other, nested-push, placed_of-same, nested_policy-append}
 use Rattle.cil_names.proofs.SpaceLemmas.{same_namespace-refl}
 use Rattle.cil_names.proofs.NameSets.{bytes_eq-refl, bytes_eq-true}
 
@@ -144,20 +145,13 @@ each-plain (x ∷ xs) i s plain at =
     by (suc k) e here more = more k e
 
 -- later namespaces change no statement whose own is there
-pub placed-more : {A : Type 0} (spaces more : List Namespace) (p : PlacedStatement A) → p.namespace < length spaces → placed_of (spaces ++ more) p ≡ placed_of spaces p
-placed-more spaces more p within =
-    ap (λ n. record { module_name = p.module_name.now; at = at_of p.statement.now; form = form_of p.statement.now; namespace = n; optionals = [] }) (get_or_append_left spaces more [] p.namespace within)
+pub placed-more : {A : Type 0} (spaces more : List Namespace) (chains : List (List ℕ)) (p : PlacedStatement A) → p.namespace < length spaces → placed_of (spaces ++ more) chains p ≡ placed_of spaces chains p
+placed-more spaces more chains p within = placed_of-same (spaces ++ more) spaces chains chains p (get_or_append_left spaces more [] p.namespace within) refl
 
-pub policy-more : {A : Type 0} (spaces more : List Namespace) (statements : List (PlacedStatement A)) → AreIn (length spaces) statements → policy_of (spaces ++ more) statements ≡ policy_of spaces statements
-policy-more spaces more [] within = refl
-policy-more spaces more (p ∷ ps) within = λ i. placed-more spaces more p within.0 i ∷ policy-more spaces more ps within.1 i
-
-pub nested-more : {A : Type 0} (spaces more : List Namespace) (chains : List (List ℕ)) (statements : List (PlacedStatement A)) → AreIn (length spaces) statements
-    → map (nested_of (spaces ++ more) chains) statements ≡ map (nested_of spaces chains) statements
-nested-more spaces more chains [] within = refl
-nested-more spaces more chains (p ∷ ps) within =
-    let here = nested_of-same (spaces ++ more) spaces chains chains p (get_or_append_left spaces more [] p.namespace within.0) refl in
-    λ i. here i ∷ nested-more spaces more chains ps within.1 i
+pub policy-more : {A : Type 0} (spaces more : List Namespace) (chains : List (List ℕ)) (statements : List (PlacedStatement A)) → AreIn (length spaces) statements
+    → policy_of (spaces ++ more) chains statements ≡ policy_of spaces chains statements
+policy-more spaces more chains [] within = refl
+policy-more spaces more chains (p ∷ ps) within = λ i. placed-more spaces more chains p within.0 i ∷ policy-more spaces more chains ps within.1 i
 
 -- the blocks of a policy with one more statement
 has_block-push : (policy : List Placed) (s : Placed) (namespace : Namespace) (name : List ℕ) → has_block (policy ++ s ∷ []) namespace name ≡ (has_block policy namespace name || is_block namespace name s)
@@ -186,8 +180,8 @@ blocks-push old new policy s global opens blocks = (global, λ namespace name. (
 -- one more statement
 pub extends-one : {A : Type 0} (old new : Flat A) (number : ℕ) (name : List ℕ) (p : PlacedStatement A) (more : List Namespace) → new.spaces ≡ old.spaces ++ more → new.modules.items ≡ old.modules.items
     → new.statements.items ≡ old.statements.items ++ p ∷ [] → IsNested new.statements.items new.optionals.items → p.«module» ≡ number → p.module_name.now ≡ name → p.namespace < length old.spaces
-    → p.optional ≤ length (optionals_among old.statements.items) → Opens old.spaces new.spaces (placed_of old.spaces p) → (IsDistinct same_namespace old.spaces → IsDistinct same_namespace new.spaces)
-    → Extends old new number name (nested_of old.spaces (chains_of old.statements.items) p ∷ [])
+    → p.optional ≤ length (optionals_among old.statements.items) → Opens old.spaces new.spaces (placed_of old.spaces [] p) → (IsDistinct same_namespace old.spaces → IsDistinct same_namespace new.spaces)
+    → Extends old new number name (placed_of old.spaces (chains_of old.statements.items) p ∷ [])
 extends-one old new number name p more spaces modules pushed nested is_number is_name within optional opens distinct = record {
   more = more;
   spaces = spaces;
@@ -201,24 +195,24 @@ extends-one old new number name p more spaces modules pushed nested is_number is
   within = λ all. subst (AreIn (length new.spaces)) (sym pushed) (all-append (λ q. q.namespace < length new.spaces) old.statements.items (p ∷ [])
       (all-weaker (λ q. q.namespace < length old.spaces) (λ q. q.namespace < length new.spaces) (λ q less. omega (arith, less, longer)) old.statements.items all) (omega (arith, within, longer), tt));
   blocks = λ all blocks. subst (AreBlocks new.spaces) (sym (whole all))
-      (blocks-push old.spaces new.spaces (policy_of old.spaces old.statements.items) (placed_of old.spaces p) (subst (λ s. Contains s []) (sym spaces) (Contains-append_left old.spaces more [] blocks.0)) opens blocks);
+      (blocks-push old.spaces new.spaces (policy_of old.spaces [] old.statements.items) (placed_of old.spaces [] p) (subst (λ s. Contains s []) (sym spaces) (Contains-append_left old.spaces more [] blocks.0)) opens blocks);
   distinct = distinct;
 }
   where
     longer : length new.spaces ≡ length old.spaces + length more
     longer = ap length spaces ∙ length-append old.spaces more
 
-    policy : (later : List Namespace) (behind : List (PlacedStatement _)) → map (nested_of (new.spaces ++ later) (chains_of (new.statements.items ++ behind))) (p ∷ []) ≡ nested_of old.spaces (chains_of old.statements.items) p ∷ []
+    policy : (later : List Namespace) (behind : List (PlacedStatement _)) → map (placed_of (new.spaces ++ later) (chains_of (new.statements.items ++ behind))) (p ∷ []) ≡ placed_of old.spaces (chains_of old.statements.items) p ∷ []
     policy later behind =
-        ap (λ q. q ∷ []) (nested_of-same (new.spaces ++ later) old.spaces (chains_of (new.statements.items ++ behind)) (chains_of old.statements.items) p
+        ap (λ q. q ∷ []) (placed_of-same (new.spaces ++ later) old.spaces (chains_of (new.statements.items ++ behind)) (chains_of old.statements.items) p
         (ap (λ s. get_or s p.namespace []) (ap (λ s. s ++ later) spaces ∙ append_assoc old.spaces more later) ∙ get_or_append_left old.spaces (more ++ later) [] p.namespace within)
         (ap (λ l. get_or (chains_of l) p.optional []) (ap (λ l. l ++ behind) pushed ∙ append_assoc old.statements.items (p ∷ []) behind) ∙ chain-append old.statements.items (p ∷ behind) p.optional optional))
 
-    whole : AreIn (length old.spaces) old.statements.items → policy_of new.spaces new.statements.items ≡ policy_of old.spaces old.statements.items ++ placed_of old.spaces p ∷ []
+    whole : AreIn (length old.spaces) old.statements.items → policy_of new.spaces [] new.statements.items ≡ policy_of old.spaces [] old.statements.items ++ placed_of old.spaces [] p ∷ []
     whole all =
-        ap (λ s. policy_of s new.statements.items) spaces ∙ ap (policy_of (old.spaces ++ more)) pushed ∙ map-append (placed_of (old.spaces ++ more)) old.statements.items (p ∷ [])
-        ∙ ap (λ l. l ++ placed_of (old.spaces ++ more) p ∷ []) (policy-more old.spaces more old.statements.items all)
-        ∙ ap (λ q. policy_of old.spaces old.statements.items ++ q ∷ []) (placed-more old.spaces more p within)
+        ap (λ s. policy_of s [] new.statements.items) spaces ∙ ap (policy_of (old.spaces ++ more) []) pushed ∙ map-append (placed_of (old.spaces ++ more) []) old.statements.items (p ∷ [])
+        ∙ ap (λ l. l ++ placed_of (old.spaces ++ more) [] p ∷ []) (policy-more old.spaces more [] old.statements.items all)
+        ∙ ap (λ q. policy_of old.spaces [] old.statements.items ++ q ∷ []) (placed-more old.spaces more [] p within)
 
 -- nothing
 pub extends-none : {A : Type 0} (old : Flat A) (number : ℕ) (name : List ℕ) → IsNested old.statements.items old.optionals.items → Extends old old number name []
@@ -253,13 +247,13 @@ extends-then old mid new number name first second a b = record {
   distinct = λ distinct. b.distinct (a.distinct distinct);
 }
   where
-    policy : (later : List Namespace) (behind : List (PlacedStatement _)) → map (nested_of (new.spaces ++ later) (chains_of (new.statements.items ++ behind))) (a.added ++ b.added) ≡ first ++ second
+    policy : (later : List Namespace) (behind : List (PlacedStatement _)) → map (placed_of (new.spaces ++ later) (chains_of (new.statements.items ++ behind))) (a.added ++ b.added) ≡ first ++ second
     policy later behind =
-        let in_new = nested_of (new.spaces ++ later) (chains_of (new.statements.items ++ behind)) in
+        let in_new = placed_of (new.spaces ++ later) (chains_of (new.statements.items ++ behind)) in
         let spaces : new.spaces ++ later ≡ mid.spaces ++ (b.more ++ later) = ap (λ s. s ++ later) b.spaces ∙ append_assoc mid.spaces b.more later in
         let statements : new.statements.items ++ behind ≡ mid.statements.items ++ (b.added ++ behind) = ap (λ l. l ++ behind) b.statements ∙ append_assoc mid.statements.items b.added behind in
         map-append in_new a.added b.added ∙ ap (λ l. map in_new a.added ++ l) (b.policy later behind)
-        ∙ ap (λ l. l ++ second) ((λ i. map (nested_of (spaces i) (chains_of (statements i))) a.added) ∙ a.policy (b.more ++ later) (b.added ++ behind))
+        ∙ ap (λ l. l ++ second) ((λ i. map (placed_of (spaces i) (chains_of (statements i))) a.added) ∙ a.policy (b.more ++ later) (b.added ++ behind))
 
 -- the namespace of a number that was there
 pub extends-namespace : {A : Type 0} (old new : Flat A) (number : ℕ) (name : List ℕ) (brought : List Placed) (n : ℕ) → Extends old new number name brought → n < length old.spaces
@@ -411,11 +405,9 @@ pub around-pushed : {A : Type 0} (old new : Flat A) (p : PlacedStatement A) (n :
 around-pushed old new p n name statements around =
     subst (λ os. IsAround os n name) (sym (ap optionals_among statements ∙ optionals-append old.statements.items (p ∷ []))) (around-more (optionals_among old.statements.items) (optionals_among (p ∷ [])) n name around)
 
--- the place of the statement
-pub pushed-place : {X : Type 0} (xs ys : List X) (x : X) (n : ℕ) → ys ≡ xs ++ x ∷ [] → n ≡ length ys → n - 1 ≡ length xs
-pushed-place xs ys x n pushed is =
-    let long : length ys ≡ length xs + 1 = ap length pushed ∙ length_push xs x in
-    omega (arith, long, is)
+-- what is pushed is made of something
+pub pushed-as : {X : Type 0} (xs ys : List X) (x y : X) → ys ≡ xs ++ x ∷ [] → x ≡ y → ys ≡ xs ++ y ∷ []
+pushed-as xs ys x y pushed same = pushed ∙ ap (λ z. xs ++ z ∷ []) same
 
 -- one more statement that is no optional
 pub pushed-other : {A : Type 0} (old new : Flat A) (p : PlacedStatement A) → IsNested old.statements.items old.optionals.items → IsAmong (optionals_among old.statements.items) p → is_optional_statement p ≡ false
@@ -423,18 +415,17 @@ pub pushed-other : {A : Type 0} (old new : Flat A) (p : PlacedStatement A) → I
 pushed-other old new p nested among is statements optionals =
     subst (IsNested new.statements.items) (sym optionals) (subst (λ l. IsNested l old.optionals.items) (sym statements) (nested-push_other old.statements.items old.optionals.items p nested among is))
 
--- An optional is put behind statements, and its place behind the places.
+-- An optional is put behind statements, and behind the optionals.
 pub record IsPushed {A : Type 0} (old new : Flat A) (p : PlacedStatement A) (number : ℕ) : Type 0 where
   pub nested : IsNested new.statements.items new.optionals.items
   pub around : IsAround (optionals_among new.statements.items) number p.module_name.now
   pub chain : get_or (chains_of new.statements.items) number [] ≡ (at_of p.statement.now).offset ∷ get_or (chains_of old.statements.items) p.optional []
 
-pub pushed-optional : {A : Type 0} (old new : Flat A) (p : PlacedStatement A) (place number : ℕ) → IsNested old.statements.items old.optionals.items → IsAmong (optionals_among old.statements.items) p → is_optional_statement p ≡ true
-    → new.statements.items ≡ old.statements.items ++ p ∷ [] → new.optionals.items ≡ old.optionals.items ++ place ∷ [] → place ≡ length old.statements.items → number ≡ length new.optionals.items → IsPushed old new p number
-pushed-optional {A} old new p place number nested among is statements optionals at count =
+pub pushed-optional : {A : Type 0} (old new : Flat A) (p : PlacedStatement A) (number : ℕ) → IsNested old.statements.items old.optionals.items → IsAmong (optionals_among old.statements.items) p → is_optional_statement p ≡ true
+    → new.statements.items ≡ old.statements.items ++ p ∷ [] → new.optionals.items ≡ old.optionals.items ++ p ∷ [] → number ≡ length new.optionals.items → IsPushed old new p number
+pushed-optional {A} old new p number nested among is statements optionals count =
     subst (λ n. IsPushed old new p n) (sym counted) (record {
-      nested = subst (IsNested new.statements.items) (sym (optionals ∙ ap (λ n. old.optionals.items ++ n ∷ []) at))
-          (subst (λ l. IsNested l (old.optionals.items ++ length xs ∷ [])) (sym statements) (nested-push xs old.optionals.items p nested among is));
+      nested = subst (IsNested new.statements.items) (sym optionals) (subst (λ l. IsNested l (old.optionals.items ++ p ∷ [])) (sym statements) (nested-push xs old.optionals.items p nested among is));
       around = subst (λ l. IsAround (optionals_among l) (suc k) p.module_name.now) (sym statements) (inr (k, p, refl, optional-pushed xs p is, refl));
       chain = ap (λ l. get_or (chains_of l) (suc k) []) statements ∙ chain-pushed xs p is (around-number (optionals_among xs) p.optional p.module_name.now among);
     })
@@ -447,8 +438,8 @@ pushed-optional {A} old new p place number nested among is statements optionals 
 
     counted : number ≡ suc k
     counted =
-        let long : length new.optionals.items ≡ length old.optionals.items + 1 = ap length optionals ∙ length_push old.optionals.items place in
-        let same : length old.optionals.items ≡ length (optionals_among old.statements.items) = nested-places old.statements.items old.optionals.items nested in
+        let long : length new.optionals.items ≡ length old.optionals.items + 1 = ap length optionals ∙ length_push old.optionals.items p in
+        let same : length old.optionals.items ≡ length (optionals_among old.statements.items) = ap length nested.optionals_are in
         omega (arith, long, same, count)
 
 -- one more module
@@ -467,9 +458,9 @@ extends-policy old new number name brought extends within nested =
     let same : chains ≡ chains_of (new.statements.items ++ []) = ap chains_of (sym extends.statements ∙ sym (append-nil new.statements.items)) in
     let spaces : new.spaces ≡ new.spaces ++ [] = sym (append-nil new.spaces) in
     ap (nested_policy_of new.spaces) extends.statements ∙ nested_policy-append new.spaces old.statements.items extends.added nested.among
-    ∙ ap (λ l. l ++ map (nested_of new.spaces chains) extends.added)
-    (ap (λ s. nested_policy_of s old.statements.items) extends.spaces ∙ nested-more old.spaces extends.more (chains_of old.statements.items) old.statements.items within)
-    ∙ ap (λ l. nested_policy_of old.spaces old.statements.items ++ l) ((λ i. map (nested_of (spaces i) (same i)) extends.added) ∙ extends.policy [] [])
+    ∙ ap (λ l. l ++ map (placed_of new.spaces chains) extends.added)
+    (ap (λ s. nested_policy_of s old.statements.items) extends.spaces ∙ policy-more old.spaces extends.more (chains_of old.statements.items) old.statements.items within)
+    ∙ ap (λ l. nested_policy_of old.spaces old.statements.items ++ l) ((λ i. map (placed_of (spaces i) (same i)) extends.added) ∙ extends.policy [] [])
 
 -- The first modules are placed, and the global namespace stands first.
 pub record IsPlaced {A : Type 0} (modules : List (NamedModule A)) (i : ℕ) (flat : Flat A) : Type 0 where
@@ -478,7 +469,7 @@ pub record IsPlaced {A : Type 0} (modules : List (NamedModule A)) (i : ℕ) (fla
   pub names : map (λ m. m.now) flat.modules.items ≡ map (λ m. m.name.now) (take i modules)
   pub numbered : AreNumbered (map (λ m. m.name.now) modules) flat.statements.items
   pub within : AreIn (length flat.spaces) flat.statements.items
-  pub blocks : AreBlocks flat.spaces (policy_of flat.spaces flat.statements.items)
+  pub blocks : AreBlocks flat.spaces (policy_of flat.spaces [] flat.statements.items)
   pub distinct : IsDistinct same_namespace flat.spaces
   pub some : 0 < length flat.spaces
   pub global : get_or flat.spaces 0 [] ≡ []
@@ -501,7 +492,7 @@ placed-first modules flat no_modules global no_optionals no_statements = record 
   names = ap (map (λ m. m.now)) no_modules;
   numbered = subst (AreNumbered (map (λ m. m.name.now) modules)) (sym no_statements) tt;
   within = subst (AreIn (length flat.spaces)) (sym no_statements) tt;
-  blocks = subst (λ l. AreBlocks flat.spaces (policy_of flat.spaces l)) (sym no_statements) (subst (λ s. AreBlocks s []) (sym global) global-alone);
+  blocks = subst (λ l. AreBlocks flat.spaces (policy_of flat.spaces [] l)) (sym no_statements) (subst (λ s. AreBlocks s []) (sym global) global-alone);
   distinct = subst (IsDistinct same_namespace) (sym global) single;
   some = subst (λ s. 0 < length s) (sym global) (omega arith);
   global = ap (λ s. get_or s 0 []) global;
@@ -516,14 +507,14 @@ pub placed-module : {A : Type 0} (modules : List (NamedModule A)) (i : ℕ) (m :
 placed-module modules i m old mid new within is so_far pushed spaces optionals statements extends = record {
   policy =
       extends-policy mid new i m.name.now brought extends inside nested ∙ ap (λ l. l ++ brought) ((λ j. nested_policy_of (spaces j) (statements j)) ∙ so_far.policy)
-      ∙ (λ j. joined (map module_of (take i modules)) ++ placed m.name.now (global j) (chain-none mid.statements.items j) (statements_of m.«module».statements.items)) ∙ sym (joined-next modules i m within is);
+      ∙ (λ j. joined (map module_of (take i modules)) ++ placed m.name.now (global j) (chain-none (optionals_among mid.statements.items) j) (statements_of m.«module».statements.items)) ∙ sym (joined-next modules i m within is);
   nested = extends.nested;
   names =
       ap (map (λ n. n.now)) (extends.modules ∙ pushed) ∙ map-append (λ n. n.now) old.modules.items (m.name ∷ []) ∙ ap (λ l. l ++ m.name.now ∷ []) so_far.names
       ∙ sym (ap (map (λ n. n.name.now)) (take-next modules i m within is) ∙ map-append (λ n. n.name.now) (take i modules) (m ∷ []));
   numbered = extends.numbered (map (λ n. n.name.now) modules) (get_or-map (λ n. n.name.now) modules i m [] within ∙ ap (λ n. n.name.now) (sym is)) (subst (AreNumbered (map (λ n. n.name.now) modules)) (sym statements) so_far.numbered);
   within = extends.within inside;
-  blocks = extends.blocks inside (subst (AreBlocks mid.spaces) (sym before) (subst (λ s. AreBlocks s (policy_of old.spaces old.statements.items)) (sym spaces) so_far.blocks));
+  blocks = extends.blocks inside (subst (AreBlocks mid.spaces) (sym before) (subst (λ s. AreBlocks s (policy_of old.spaces [] old.statements.items)) (sym spaces) so_far.blocks));
   distinct = extends.distinct (subst (IsDistinct same_namespace) (sym spaces) so_far.distinct);
   some = namespace.0;
   global = namespace.1 ∙ global;
@@ -541,11 +532,16 @@ placed-module modules i m old mid new within is so_far pushed spaces optionals s
     nested : IsNested mid.statements.items mid.optionals.items
     nested = subst (IsNested mid.statements.items) (sym optionals) (subst (λ l. IsNested l old.optionals.items) (sym statements) so_far.nested)
 
-    before : policy_of mid.spaces mid.statements.items ≡ policy_of old.spaces old.statements.items
-    before = ap (policy_of mid.spaces) statements ∙ ap (λ s. policy_of s old.statements.items) spaces
+    before : policy_of mid.spaces [] mid.statements.items ≡ policy_of old.spaces [] old.statements.items
+    before = ap (policy_of mid.spaces []) statements ∙ ap (λ s. policy_of s [] old.statements.items) spaces
 
     namespace : (0 < length new.spaces) × (get_or new.spaces 0 [] ≡ get_or mid.spaces 0 [])
     namespace = extends-namespace mid new i m.name.now brought 0 extends (subst (λ s. 0 < length s) (sym spaces) so_far.some)
+
+-- all modules are placed
+pub placed-all : {A : Type 0} (modules : List (NamedModule A)) (i : ℕ) (flat : Flat A) → length modules ≤ i → IsPlaced modules i flat → map (placed_as flat) flat.statements.items ≡ joined (map module_of modules)
+placed-all modules i flat past placed =
+    (λ k. policy_of flat.spaces (chains_by (placed.nested.optionals_are k)) flat.statements.items) ∙ placed.policy ∙ ap (λ l. joined (map module_of l)) (take_all i modules past)
 
 module-names : {A : Type 0} (modules : List (NamedModule A)) → map (λ m. m.name) (map module_of modules) ≡ map (λ m. m.name.now) modules
 module-names [] = refl
@@ -556,7 +552,7 @@ modules-rising [] = tt
 modules-rising (m ∷ modules) = (m.«module».ordered, modules-rising modules)
 
 -- a joined policy is flat, where its modules are plain
-pub policy-flat : {A : Type 0} (j : Joined A) → list_all (λ m. is_plain m.statements) (modules_of j) ≡ true → AreFlat (map erased (joined (modules_of j)))
+pub policy-flat : {A : Type 0} (j : Joined A) → list_all (λ m. is_plain m.statements) (modules_of j) ≡ true → AreFlat (joined (modules_of j))
 policy-flat j plain = joined-flat (modules_of j) (ap names_rise (module-names j.modules.items) ∙ j.ordered) plain (modules-rising j.modules.items)
 
 -- each module of modules that are plain is
@@ -567,14 +563,22 @@ module-plain modules i m plain within is =
     ∙ and_at (list_all (λ n. is_plain (module_of n).statements)) (λ n. is_plain (module_of n).statements) refl (λ _ _. refl) modules i m within
     (sym (list_all-map (λ n. is_plain n.statements) module_of modules) ∙ plain)
 
+-- a policy has the same blocks, whatever its statements' optionals are
+pub blocks-same : {A : Type 0} (spaces : List Namespace) (chains more : List (List ℕ)) (statements : List (PlacedStatement A)) → AreBlocks spaces (policy_of spaces chains statements) → AreBlocks spaces (policy_of spaces more statements)
+blocks-same {A} spaces chains more statements blocks = (blocks.0, λ namespace name. subst (λ b. Contains spaces (name ∷ namespace) ↔ (b ≡ true)) (same namespace name statements) (blocks.1 namespace name))
+  where
+    same : (namespace : Namespace) (name : List ℕ) (ps : List (PlacedStatement A)) → has_block (policy_of spaces chains ps) namespace name ≡ has_block (policy_of spaces more ps) namespace name
+    same namespace name [] = refl
+    same namespace name (p ∷ ps) = ap (λ b. is_block namespace name (placed_of spaces more p) || b) (same namespace name ps)
+
 -- a statement of the policy, by its place
-pub policy-get : {A : Type 0} (spaces : List Namespace) (statements : List (PlacedStatement A)) (i : ℕ) (p : PlacedStatement A) → slice_get statements i ≡ Some p
-    → slice_get (policy_of spaces statements) i ≡ Some (placed_of spaces p)
-policy-get spaces statements i p at = slice_get-map (placed_of spaces) statements i ∙ ap (option_map (placed_of spaces)) at
+pub policy-get : {A : Type 0} (spaces : List Namespace) (chains : List (List ℕ)) (statements : List (PlacedStatement A)) (i : ℕ) (p : PlacedStatement A) → slice_get statements i ≡ Some p
+    → slice_get (policy_of spaces chains statements) i ≡ Some (placed_of spaces chains p)
+policy-get spaces chains statements i p at = slice_get-map (placed_of spaces chains) statements i ∙ ap (option_map (placed_of spaces chains)) at
 
-pub policy-next : {A : Type 0} (spaces : List Namespace) (statements : List (PlacedStatement A)) (i : ℕ) (p : PlacedStatement A) → i < length statements → p ≡ get_or statements i p
-    → policy_of spaces (take (i + 1) statements) ≡ policy_of spaces (take i statements) ++ placed_of spaces p ∷ []
-policy-next spaces statements i p within is = ap (policy_of spaces) (take-next statements i p within is) ∙ map-append (placed_of spaces) (take i statements) (p ∷ [])
+pub policy-next : {A : Type 0} (spaces : List Namespace) (chains : List (List ℕ)) (statements : List (PlacedStatement A)) (i : ℕ) (p : PlacedStatement A) → i < length statements → p ≡ get_or statements i p
+    → policy_of spaces chains (take (i + 1) statements) ≡ policy_of spaces chains (take i statements) ++ placed_of spaces chains p ∷ []
+policy-next spaces chains statements i p within is = ap (policy_of spaces chains) (take-next statements i p within is) ∙ map-append (placed_of spaces chains) (take i statements) (p ∷ [])
 
-pub policy-take : {A : Type 0} (spaces : List Namespace) (statements : List (PlacedStatement A)) (i : ℕ) → take i (policy_of spaces statements) ≡ policy_of spaces (take i statements)
-policy-take spaces statements i = take-map (placed_of spaces) i statements
+pub policy-take : {A : Type 0} (spaces : List Namespace) (chains : List (List ℕ)) (statements : List (PlacedStatement A)) (i : ℕ) → take i (policy_of spaces chains statements) ≡ policy_of spaces chains (take i statements)
+policy-take spaces chains statements i = take-map (placed_of spaces chains) i statements

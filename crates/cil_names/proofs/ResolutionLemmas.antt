@@ -9,13 +9,12 @@ use Rattle.std.proofs.lemmas.Slice.Eq.{bytes_eq-Decides}
 use Rattle.cil_specs.specs.Names.{Word}
 use Rattle.cil_specs.specs.Statements.{RuleKind, Target, itself, the_named, target_words, Form, block, optional, type_name, type_alias, alias_actual, type_attribute, attribute_set, common, class, class_common, class_order, rule, is_optional}
 use Rattle.cil_specs.specs.Joined.{Placed}
-use Rattle.cil_specs.specs.Lookup.{Table, declares, types, classes, declared_in, is_within, is_same, is_word, same_namespace, word_text, holds_of, leads, references, named_permissions, has_name, with_name, distinct, permissions_of, gives_actual, gives_common, actual_statement, is_type, is_alias, every_optional}
+use Rattle.cil_specs.specs.Lookup.{Table, declares, types, classes, declared_in, is_same, is_word, same_namespace, word_text, holds_of, leads, references, named_permissions, has_name, with_name, distinct, permissions_of, gives_actual, gives_common, actual_statement, is_type, is_alias}
 use Rattle.cil_specs.specs.PolicyFault.{PolicyFault, twice, tables, is_again, twice_words, IsFaultOf, is_unfound, is_lacking, kinds_asked, has_earlier_actual, has_earlier_common, is_of_another_kind, element_words, is_unset, has_too_many, too_many_words}
 use Rattle.cil_specs.specs.Rule.{is_class}
 use Rattle.cil_specs.specs.Next.{is_attribute_word, rule_elements}
 use Rattle.cil_specs.proofs.Runs.{both_true, first_true}
 use Rattle.cil_specs.proofs.NamesLemmas.{contains-first}
-use Rattle.cil_specs.proofs.RestrictedLemmas.{every-within}
 use Rattle.cil_text.specs.Image.{word_of}
 use Rattle.cil_text.specs.declared.word.Word as code_word
 use Rattle.cil_names.specs.First.{IsFirstOf}
@@ -138,34 +137,26 @@ find-same p q same (x ∷ xs) = ap (λ b. cond b (Some x) (find p xs)) (same x) 
 
 -- the permissions that a class that is found lacks
 pub missing-permission : (policy : List Placed) (seen : SeenClasses) (namespace : List (List ℕ)) (the_class : Word) (permissions : List Word) (place : ℕ) → HasPermissions policy seen
-    → IsLead classes policy (Some place) (leads every_optional policy classes namespace the_class.text) → (o : Option (List (List ℕ))) → o ≡ permissions_at seen place
+    → IsLead classes policy (Some place) (leads policy classes namespace the_class.text) → (o : Option (List (List ℕ))) → o ≡ permissions_at seen place
     → first_missing_permission policy namespace the_class permissions ≡ option_and_then (λ names. find (λ w. not (has_name names w.text)) permissions) o
 missing-permission policy seen namespace the_class permissions place has led o known =
-    ap (λ l. option_or (word_if (not (is_some l)) the_class) (find (λ w. holds_of (λ s. not (list_any (bytes_eq w.text) (permissions_of every_optional policy s))) l) permissions)) lead.is
-    ∙ find-same (λ w. not (has_name (permissions_of every_optional policy lead.s) w.text)) (λ w. not (has_name (distinct (permissions_of every_optional policy lead.s)) w.text))
-    (λ w. ap not (sym (has-distinct (permissions_of every_optional policy lead.s) w.text))) permissions
+    ap (λ l. option_or (word_if (not (is_some l)) the_class) (find (λ w. holds_of (λ s. not (list_any (bytes_eq w.text) (permissions_of policy s))) l) permissions)) lead.is
+    ∙ find-same (λ w. not (has_name (permissions_of policy lead.s) w.text)) (λ w. not (has_name (distinct (permissions_of policy lead.s)) w.text))
+    (λ w. ap not (sym (has-distinct (permissions_of policy lead.s) w.text))) permissions
     ∙ ap (option_and_then (λ names. find (λ w. not (has_name names w.text)) permissions)) (sym (known ∙ has place lead.s lead.at (first-class policy place lead.s lead.at lead.first) lead.first))
   where
-    lead : Led classes policy place (leads every_optional policy classes namespace the_class.text)
-    lead = led-at classes policy place (leads every_optional policy classes namespace the_class.text) led
+    lead : Led classes policy place (leads policy classes namespace the_class.text)
+    lead = led-at classes policy place (leads policy classes namespace the_class.text) led
 
 -- whether a statement in front of a place gives something to what a word leads to
-earlier-actual : (policy before : List Placed) (o : Option Placed) → holds_of (λ s. list_any (λ t. is_within every_optional t && gives_actual every_optional policy s t.namespace t.form) before) o
-    ≡ holds_of (λ s. list_any (gives gift.Actual every_optional policy s) before) o
-earlier-actual policy before None = refl
-earlier-actual policy before (Some s) =
-    any-same (λ t. is_within every_optional t && gives_actual every_optional policy s t.namespace t.form) (gives gift.Actual every_optional policy s)
-    (λ t. ap (λ b. b && gives_actual every_optional policy s t.namespace t.form) (every-within t)) before
+earlier-actual : (policy before : List Placed) (o : Option Placed) → holds_of (λ s. list_any (λ t. gives_actual policy s t.namespace t.form) before) o ≡ holds_of (λ s. list_any (gives gift.Actual policy s) before) o
+earlier-actual policy before o = refl
 
-earlier-common : (policy before : List Placed) (o : Option Placed) → holds_of (λ s. list_any (λ t. is_within every_optional t && gives_common every_optional policy s t.namespace t.form) before) o
-    ≡ holds_of (λ s. list_any (gives gift.Common every_optional policy s) before) o
-earlier-common policy before None = refl
-earlier-common policy before (Some s) =
-    any-same (λ t. is_within every_optional t && gives_common every_optional policy s t.namespace t.form) (gives gift.Common every_optional policy s)
-    (λ t. ap (λ b. b && gives_common every_optional policy s t.namespace t.form) (every-within t)) before
+earlier-common : (policy before : List Placed) (o : Option Placed) → holds_of (λ s. list_any (λ t. gives_common policy s t.namespace t.form) before) o ≡ holds_of (λ s. list_any (gives gift.Common policy s) before) o
+earlier-common policy before o = refl
 
 abbrev pub again_if : Gift → List Placed → List Placed → Placed → Word → Option Word
-again_if g policy before t w = word_if (holds_of (λ s. list_any (gives g every_optional policy s) before) (leads every_optional policy (gift_table g) t.namespace w.text)) w
+again_if g policy before t w = word_if (holds_of (λ s. list_any (gives g policy s) before) (leads policy (gift_table g) t.namespace w.text)) w
 
 filter-one : (p : Word → Bool) (w : Word) → slice_get (filter p (w ∷ [])) 0 ≡ word_if (p w) w
 filter-one p w = by (p w)
@@ -174,17 +165,17 @@ filter-one p w = by (p w)
     by true = refl
     by false = refl
 
-pub again-word : (g : Gift) (policy before : List Placed) (t : Placed) → slice_get (again_words g every_optional policy before t) 0 ≡ option_and_then (again_if g policy before t) (given_word g t.form)
+pub again-word : (g : Gift) (policy before : List Placed) (t : Placed) → slice_get (again_words g policy before t) 0 ≡ option_and_then (again_if g policy before t) (given_word g t.form)
 again-word g policy before t = by g t.form
   where
-    by : (g : Gift) (form : Form) → slice_get (again_words g every_optional policy before (record { module_name = t.module_name; at = t.at; form = form; namespace = t.namespace; optionals = t.optionals })) 0
+    by : (g : Gift) (form : Form) → slice_get (again_words g policy before (record { module_name = t.module_name; at = t.at; form = form; namespace = t.namespace; optionals = t.optionals })) 0
         ≡ option_and_then (again_if g policy before t) (given_word g form)
     by gift.Actual (block id) = refl
     by gift.Actual (optional id) = refl
     by gift.Actual (type_name id) = refl
     by gift.Actual (type_alias id) = refl
     by gift.Actual (alias_actual alias actual) =
-        filter-one (has_earlier_actual every_optional policy before t.namespace) alias ∙ ap (λ b. word_if b alias) (earlier-actual policy before (leads every_optional policy types t.namespace alias.text))
+        filter-one (has_earlier_actual policy before t.namespace) alias ∙ ap (λ b. word_if b alias) (earlier-actual policy before (leads policy types t.namespace alias.text))
     by gift.Actual (type_attribute id) = refl
     by gift.Actual (attribute_set attribute expr) = refl
     by gift.Actual (common id permissions) = refl
@@ -202,48 +193,47 @@ again-word g policy before t = by g t.form
     by gift.Common (common id permissions) = refl
     by gift.Common (class id permissions) = refl
     by gift.Common (class_common the_class the_common) =
-        filter-one (has_earlier_common every_optional policy before t.namespace) the_class
-        ∙ ap (λ b. word_if b the_class) (earlier-common policy before (leads every_optional policy classes t.namespace the_class.text))
+        filter-one (has_earlier_common policy before t.namespace) the_class
+        ∙ ap (λ b. word_if b the_class) (earlier-common policy before (leads policy classes t.namespace the_class.text))
     by gift.Common (class_order the_classes) = refl
     by gift.Common (rule kind source target the_class permissions) = refl
 
 -- the noted place tells whether an earlier statement gives something
 pub again-noted : (g : Gift) (policy : List Placed) (place : ℕ) (t : Placed) (word : Word) (firsts : List (ℕ × ℕ)) (found : Option ℕ) → HasFirsts g policy firsts → Some word ≡ given_word g t.form
-    → IsLead (gift_table g) policy found (given_lead g every_optional policy t)
-    → slice_get (again_words g every_optional policy (take place policy) t) 0 ≡ word_if (is_before (option_and_then (first_at firsts) found) place) word
+    → IsLead (gift_table g) policy found (given_lead g policy t)
+    → slice_get (again_words g policy (take place policy) t) 0 ≡ word_if (is_before (option_and_then (first_at firsts) found) place) word
 again-noted g policy place t word firsts found has is led =
     again-word g policy (take place policy) t ∙ ap (option_and_then (again_if g policy (take place policy) t)) (sym is)
-    ∙ ap (λ o. word_if (holds_of given o) word) (ap (option_and_then (λ w. leads every_optional policy (gift_table g) t.namespace w.text)) is) ∙ by found led
+    ∙ ap (λ o. word_if (holds_of given o) word) (ap (option_and_then (λ w. leads policy (gift_table g) t.namespace w.text)) is) ∙ by found led
   where
     given : Placed → Bool
-    given s = list_any (gives g every_optional policy s) (take place policy)
+    given s = list_any (gives g policy s) (take place policy)
 
-    at : (k : ℕ) → Led (gift_table g) policy k (given_lead g every_optional policy t) → word_if (holds_of given (given_lead g every_optional policy t)) word ≡ word_if (is_before (first_at firsts k) place) word
+    at : (k : ℕ) → Led (gift_table g) policy k (given_lead g policy t) → word_if (holds_of given (given_lead g policy t)) word ≡ word_if (is_before (first_at firsts k) place) word
     at k lead =
-        ap (λ o. word_if (holds_of given o) word) lead.is ∙ ap (λ b. word_if b word) (any-before (gives g every_optional policy lead.s) place policy)
+        ap (λ o. word_if (holds_of given o) word) lead.is ∙ ap (λ b. word_if b word) (any-before (gives g policy lead.s) place policy)
         ∙ ap (λ o. word_if (is_before o place) word) (sym (has k lead.s lead.at lead.first))
 
-    by : (found : Option ℕ) → IsLead (gift_table g) policy found (given_lead g every_optional policy t)
-        → word_if (holds_of given (given_lead g every_optional policy t)) word ≡ word_if (is_before (option_and_then (first_at firsts) found) place) word
+    by : (found : Option ℕ) → IsLead (gift_table g) policy found (given_lead g policy t)
+        → word_if (holds_of given (given_lead g policy t)) word ≡ word_if (is_before (option_and_then (first_at firsts) found) place) word
     by None led = ap (λ o. word_if (holds_of given o) word) (sym led.is)
-    by (Some k) led = at k (led-at (gift_table g) policy k (given_lead g every_optional policy t) led)
+    by (Some k) led = at k (led-at (gift_table g) policy k (given_lead g policy t) led)
 
 -- an alias that a word leads to is unset where no place is noted
-pub unset-noted : (policy : List Placed) (namespace : List (List ℕ)) (word : Word) (firsts : List (ℕ × ℕ)) (place : ℕ) (lead : Led types policy place (leads every_optional policy types namespace word.text))
-    → HasFirsts gift.Actual policy firsts → is_unset every_optional policy namespace word ≡ (is_alias lead.s.form && not (is_some (first_at firsts place)))
+pub unset-noted : (policy : List Placed) (namespace : List (List ℕ)) (word : Word) (firsts : List (ℕ × ℕ)) (place : ℕ) (lead : Led types policy place (leads policy types namespace word.text))
+    → HasFirsts gift.Actual policy firsts → is_unset policy namespace word ≡ (is_alias lead.s.form && not (is_some (first_at firsts place)))
 unset-noted policy namespace word firsts place lead has =
-    ap (holds_of (λ s. is_alias s.form && not (is_some (actual_statement every_optional policy s)))) lead.is
+    ap (holds_of (λ s. is_alias s.form && not (is_some (actual_statement policy s)))) lead.is
     ∙ ap (λ b. is_alias lead.s.form && not b)
-    (ap is_some (find-same (λ t. is_within every_optional t && gives_actual every_optional policy lead.s t.namespace t.form) (gives gift.Actual every_optional policy lead.s)
-    (λ t. ap (λ b. b && gives_actual every_optional policy lead.s t.namespace t.form) (every-within t)) policy)
-    ∙ find-position (gives gift.Actual every_optional policy lead.s) policy ∙ ap is_some (sym (has place lead.s lead.at lead.first)))
+    (ap is_some (find-same (λ t. gives_actual policy lead.s t.namespace t.form) (gives gift.Actual policy lead.s) (λ t. refl) policy)
+    ∙ find-position (gives gift.Actual policy lead.s) policy ∙ ap is_some (sym (has place lead.s lead.at lead.first)))
 
 pub unset-first : (policy : List Placed) (namespace : List (List ℕ)) (word : Word) (firsts : List (ℕ × ℕ)) (place : ℕ) (alias : Bool)
-    → IsLead types policy (Some place) (leads every_optional policy types namespace word.text) → HasFirsts gift.Actual policy firsts
+    → IsLead types policy (Some place) (leads policy types namespace word.text) → HasFirsts gift.Actual policy firsts
     → ((s : Placed) → slice_get policy place ≡ Some s → alias ≡ is_alias s.form)
-    → word_if (is_unset every_optional policy namespace word) word ≡ word_if (alias && not (is_some (first_at firsts place))) word
+    → word_if (is_unset policy namespace word) word ≡ word_if (alias && not (is_some (first_at firsts place))) word
 unset-first policy namespace word firsts place alias led has is =
-    let lead = led-at types policy place (leads every_optional policy types namespace word.text) led in
+    let lead = led-at types policy place (leads policy types namespace word.text) led in
     ap (λ b. word_if b word) (unset-noted policy namespace word firsts place lead has ∙ ap (λ b. b && not (is_some (first_at firsts place))) (sym (is lead.s lead.at)))
 
 filter-two : (p : Word → Bool) (v w : Word) → slice_get (filter p (v ∷ w ∷ [])) 0 ≡ option_or (word_if (p v) v) (word_if (p w) w)
@@ -255,42 +245,42 @@ filter-two p v w = by (p v) (filter-one p w)
 
 -- the first word with a fault of a rule's source and target
 pub rule-unset : (policy : List Placed) (namespace : List (List ℕ)) (kind : RuleKind) (source target the_class : Word) (permissions : List Word)
-    → slice_get (filter (is_unset every_optional policy namespace) (element_words (rule kind source (the_named target) the_class permissions))) 0
-    ≡ option_or (word_if (is_unset every_optional policy namespace source) source) (word_if (is_unset every_optional policy namespace target) target)
-rule-unset policy namespace kind source target the_class permissions = filter-two (is_unset every_optional policy namespace) source target
+    → slice_get (filter (is_unset policy namespace) (element_words (rule kind source (the_named target) the_class permissions))) 0
+    ≡ option_or (word_if (is_unset policy namespace source) source) (word_if (is_unset policy namespace target) target)
+rule-unset policy namespace kind source target the_class permissions = filter-two (is_unset policy namespace) source target
 
 pub rule-attribute : (policy : List Placed) (namespace : List (List ℕ)) (kind : RuleKind) (source target the_class : Word) (permissions : List Word)
-    → slice_get (filter (is_attribute_word every_optional policy namespace) (rule_elements (rule kind source (the_named target) the_class permissions))) 0
-    ≡ option_or (word_if (is_attribute_word every_optional policy namespace source) source) (word_if (is_attribute_word every_optional policy namespace target) target)
-rule-attribute policy namespace kind source target the_class permissions = filter-two (is_attribute_word every_optional policy namespace) source target
+    → slice_get (filter (is_attribute_word policy namespace) (rule_elements (rule kind source (the_named target) the_class permissions))) 0
+    ≡ option_or (word_if (is_attribute_word policy namespace source) source) (word_if (is_attribute_word policy namespace target) target)
+rule-attribute policy namespace kind source target the_class permissions = filter-two (is_attribute_word policy namespace) source target
 
 -- and of its source alone
 pub itself-unset : (policy : List Placed) (namespace : List (List ℕ)) (kind : RuleKind) (source the_class : Word) (permissions : List Word)
-    → slice_get (filter (is_unset every_optional policy namespace) (element_words (rule kind source itself the_class permissions))) 0 ≡ word_if (is_unset every_optional policy namespace source) source
-itself-unset policy namespace kind source the_class permissions = filter-one (is_unset every_optional policy namespace) source
+    → slice_get (filter (is_unset policy namespace) (element_words (rule kind source itself the_class permissions))) 0 ≡ word_if (is_unset policy namespace source) source
+itself-unset policy namespace kind source the_class permissions = filter-one (is_unset policy namespace) source
 
 pub itself-attribute : (policy : List Placed) (namespace : List (List ℕ)) (kind : RuleKind) (source the_class : Word) (permissions : List Word)
-    → slice_get (filter (is_attribute_word every_optional policy namespace) (rule_elements (rule kind source itself the_class permissions))) 0
-    ≡ word_if (is_attribute_word every_optional policy namespace source) source
-itself-attribute policy namespace kind source the_class permissions = filter-one (is_attribute_word every_optional policy namespace) source
+    → slice_get (filter (is_attribute_word policy namespace) (rule_elements (rule kind source itself the_class permissions))) 0
+    ≡ word_if (is_attribute_word policy namespace source) source
+itself-attribute policy namespace kind source the_class permissions = filter-one (is_attribute_word policy namespace) source
 
 pub actual-kinds : (policy : List Placed) (namespace : List (List ℕ)) (alias actual : Word)
-    → slice_get (map (λ r. r.1) (filter (is_of_another_kind every_optional policy namespace) (kinds_asked (alias_actual alias actual)))) 0
-    ≡ option_or (word_if (is_of_another_kind every_optional policy namespace (is_alias, alias)) alias) (word_if (is_of_another_kind every_optional policy namespace (is_type, actual)) actual)
+    → slice_get (map (λ r. r.1) (filter (is_of_another_kind policy namespace) (kinds_asked (alias_actual alias actual)))) 0
+    ≡ option_or (word_if (is_of_another_kind policy namespace (is_alias, alias)) alias) (word_if (is_of_another_kind policy namespace (is_type, actual)) actual)
 actual-kinds policy namespace alias actual =
-    words-cons (is_of_another_kind every_optional policy namespace) (λ r. r.1) (is_alias, alias) ((is_type, actual) ∷ [])
-    ∙ ap (option_or (word_if (is_of_another_kind every_optional policy namespace (is_alias, alias)) alias)) (words-one (is_of_another_kind every_optional policy namespace) (λ r. r.1) (is_type, actual))
+    words-cons (is_of_another_kind policy namespace) (λ r. r.1) (is_alias, alias) ((is_type, actual) ∷ [])
+    ∙ ap (option_or (word_if (is_of_another_kind policy namespace (is_alias, alias)) alias)) (words-one (is_of_another_kind policy namespace) (λ r. r.1) (is_type, actual))
 
 -- the first word that is missing of a form
 abbrev pub first_missing : List Placed → List (List ℕ) → Form → Option Word
 first_missing policy namespace form =
-    slice_get (map (λ r. r.1) (filter (is_unfound every_optional policy namespace) (references form)) ++ map (λ p. p.1) (filter (is_lacking every_optional policy namespace) (named_permissions form))) 0
+    slice_get (map (λ r. r.1) (filter (is_unfound policy namespace) (references form)) ++ map (λ p. p.1) (filter (is_lacking policy namespace) (named_permissions form))) 0
 
 pub missing-order : (policy : List Placed) (namespace : List (List ℕ)) (the_classes : List Word) → first_missing policy namespace (class_order the_classes)
-    ≡ find (λ w. is_unfound every_optional policy namespace (classes, w)) the_classes
+    ≡ find (λ w. is_unfound policy namespace (classes, w)) the_classes
 missing-order policy namespace the_classes =
-    ap (λ l. slice_get l 0) (append-nil (map (λ r. r.1) (filter (is_unfound every_optional policy namespace) (map (λ w. (classes, w)) the_classes))))
-    ∙ words-find (is_unfound every_optional policy namespace) classes the_classes
+    ap (λ l. slice_get l 0) (append-nil (map (λ r. r.1) (filter (is_unfound policy namespace) (map (λ w. (classes, w)) the_classes))))
+    ∙ words-find (is_unfound policy namespace) classes the_classes
 
 or-or : {X : Type 0} (a b c : Option X) → option_or (option_or a b) c ≡ option_or a (option_or b c)
 or-or None b c = refl
@@ -298,21 +288,21 @@ or-or (Some x) b c = refl
 
 pub missing-rule : (policy : List Placed) (namespace : List (List ℕ)) (kind : RuleKind) (source : Word) (target : Target) (the_class : Word) (permissions : List Word)
     → first_missing policy namespace (rule kind source target the_class permissions)
-    ≡ option_or (word_if (is_unfound every_optional policy namespace (types, source)) source)
-    (option_or (find (λ w. is_unfound every_optional policy namespace (types, w)) (target_words target)) (first_missing_permission policy namespace the_class permissions))
+    ≡ option_or (word_if (is_unfound policy namespace (types, source)) source)
+    (option_or (find (λ w. is_unfound policy namespace (types, w)) (target_words target)) (first_missing_permission policy namespace the_class permissions))
 missing-rule policy namespace kind source target the_class permissions =
-    first-append (map (λ r. r.1) (filter test ((types, source) ∷ aims))) (map (λ p. p.1) (filter (is_lacking every_optional policy namespace) (map (λ w. (the_class, w)) permissions)))
+    first-append (map (λ r. r.1) (filter test ((types, source) ∷ aims))) (map (λ p. p.1) (filter (is_lacking policy namespace) (map (λ w. (the_class, w)) permissions)))
     ∙ ap (λ o. option_or o lacked) (words-cons test (λ r. r.1) (types, source) aims)
     ∙ or-or first (slice_get (map (λ r. r.1) (filter test aims)) 0) lacked
     ∙ ap (λ o. option_or first (option_or o lacked)) (behind target)
     ∙ ap (option_or first) (or-or (find aimed (target_words target)) last lacked
-    ∙ ap (λ o. option_or (find aimed (target_words target)) (option_or last o)) (words-find (is_lacking every_optional policy namespace) the_class permissions))
+    ∙ ap (λ o. option_or (find aimed (target_words target)) (option_or last o)) (words-find (is_lacking policy namespace) the_class permissions))
   where
     test : Table × Word → Bool
-    test r = is_unfound every_optional policy namespace r
+    test r = is_unfound policy namespace r
 
     aimed : Word → Bool
-    aimed w = is_unfound every_optional policy namespace (types, w)
+    aimed w = is_unfound policy namespace (types, w)
 
     aims : List (Table × Word)
     aims = map (λ w. (types, w)) (target_words target) ++ (classes, the_class) ∷ []
@@ -324,7 +314,7 @@ missing-rule policy namespace kind source target the_class permissions =
     last = word_if (test (classes, the_class)) the_class
 
     lacked : Option Word
-    lacked = slice_get (map (λ p. p.1) (filter (is_lacking every_optional policy namespace) (map (λ w. (the_class, w)) permissions))) 0
+    lacked = slice_get (map (λ p. p.1) (filter (is_lacking policy namespace) (map (λ w. (the_class, w)) permissions))) 0
 
     behind : (t : Target) → slice_get (map (λ r. r.1) (filter test (map (λ w. (types, w)) (target_words t) ++ (classes, the_class) ∷ []))) 0 ≡ option_or (find aimed (target_words t)) last
     behind itself = words-one test (λ r. r.1) (classes, the_class)
@@ -340,7 +330,7 @@ same-itself [] = refl
 same-itself (name ∷ names) = both_true (bytes_eq name name) (same_namespace names names) ((bytes_eq-Decides name name).1 refl) (same-itself names)
 
 -- no class stands behind another of its name, where none is declared twice
-not-again : (policy : List Placed) (i : ℕ) (s : Placed) (id : Word) (permissions : List Word) → ((fault : PolicyFault) → IsFaultOf twice every_optional policy fault → ⊥) → slice_get policy i ≡ Some s
+not-again : (policy : List Placed) (i : ℕ) (s : Placed) (id : Word) (permissions : List Word) → ((fault : PolicyFault) → IsFaultOf twice policy fault → ⊥) → slice_get policy i ≡ Some s
     → s.form ≡ class id permissions → list_any (declares classes s.namespace id.text) (take i policy) ≡ true → ⊥
 not-again policy i s id permissions once is form earlier =
     once (record { kind = twice; module_name = s.module_name; at = id.at; word = id.text })
@@ -360,7 +350,7 @@ not-again policy i s id permissions once is form earlier =
     faulty : Contains (twice_words (take i policy) s) id
     faulty = subst (λ l. Contains l id) (sym words) (contains-first id [])
 
-first-of-class : (policy : List Placed) (i : ℕ) (s : Placed) (id : Word) (permissions : List Word) → ((fault : PolicyFault) → IsFaultOf twice every_optional policy fault → ⊥) → slice_get policy i ≡ Some s
+first-of-class : (policy : List Placed) (i : ℕ) (s : Placed) (id : Word) (permissions : List Word) → ((fault : PolicyFault) → IsFaultOf twice policy fault → ⊥) → slice_get policy i ≡ Some s
     → s.form ≡ class id permissions → position (is_same classes s) policy ≡ Some i
 first-of-class policy i s id permissions once is form = by (position (is_same classes s) policy) refl
   where
@@ -389,7 +379,7 @@ first-of-class policy i s id permissions once is form = by (position (is_same cl
     by : (o : Option ℕ) → position (is_same classes s) policy ≡ o → position (is_same classes s) policy ≡ Some i
     by o e = position-more (is_same classes s) policy (i + 1) i next
 
-pub once-first : (policy : List Placed) (i : ℕ) (s : Placed) → ((fault : PolicyFault) → IsFaultOf twice every_optional policy fault → ⊥) → slice_get policy i ≡ Some s → is_class s.form ≡ true
+pub once-first : (policy : List Placed) (i : ℕ) (s : Placed) → ((fault : PolicyFault) → IsFaultOf twice policy fault → ⊥) → slice_get policy i ≡ Some s → is_class s.form ≡ true
     → IsFirstOf classes policy i
 once-first policy i s once is its t at = ap (λ u. position (is_same classes u) policy) (same_Some t s (sym at ∙ is)) ∙ by s.form refl its
   where
@@ -409,10 +399,10 @@ once-first policy i s once is its t at = ap (λ u. position (is_same classes u) 
 
 -- whether a class has too many permissions is told by those that are known of it
 pub too-many-known : (policy : List Placed) (seen : SeenClasses) (place : ℕ) (s : Placed) (id : Word) (permissions : List Word) → HasPermissions policy seen
-    → ((fault : PolicyFault) → IsFaultOf twice every_optional policy fault → ⊥) → slice_get policy place ≡ Some s → s.form ≡ class id permissions
-    → (o : Option (List (List ℕ))) → o ≡ permissions_at seen place → slice_get (too_many_words every_optional policy s) 0 ≡ option_and_then (λ names. word_if (nat_lt 32 (length names)) id) o
+    → ((fault : PolicyFault) → IsFaultOf twice policy fault → ⊥) → slice_get policy place ≡ Some s → s.form ≡ class id permissions
+    → (o : Option (List (List ℕ))) → o ≡ permissions_at seen place → slice_get (too_many_words policy s) 0 ≡ option_and_then (λ names. word_if (nat_lt 32 (length names)) id) o
 too-many-known policy seen place s id permissions has once at form o known =
-    ap (λ f. slice_get (filter (λ w. has_too_many every_optional policy s) (option_to_list (declared_in classes f))) 0) form ∙ filter-one (λ w. has_too_many every_optional policy s) id
+    ap (λ f. slice_get (filter (λ w. has_too_many policy s) (option_to_list (declared_in classes f))) 0) form ∙ filter-one (λ w. has_too_many policy s) id
     ∙ ap (option_and_then (λ names. word_if (nat_lt 32 (length names)) id)) (sym (known ∙ has place s at its (once-first policy place s once at its)))
   where
     its : is_class s.form ≡ true

@@ -4,7 +4,7 @@ use Rattle.std.specs.List.{list_all, AllByRecursion}
 use Rattle.cil_specs.specs.Names.{Word}
 use Rattle.cil_specs.specs.Statements.{RuleKind, Target, itself, the_named, rule, target_words}
 use Rattle.cil_specs.specs.Joined.{Placed}
-use Rattle.cil_specs.specs.Lookup.{Table, types, classes, has_name, texts, holds_of, leads, references, named_permissions, actual_statement, is_alias, permissions_of, every_optional}
+use Rattle.cil_specs.specs.Lookup.{Table, types, classes, has_name, texts, holds_of, leads, references, named_permissions, actual_statement, is_alias, permissions_of}
 use Rattle.cil_specs.specs.PolicyFault.{Compiles, element_words}
 use Rattle.cil_specs.proofs.NamesLemmas.{contains-first, contains-other, contains-map}
 use Rattle.cil_specs.proofs.Runs.{both_true}
@@ -12,6 +12,7 @@ use Rattle.cil_names.specs.Names.{HasWords}
 use Rattle.cil_names.specs.Numbering.{AreNamesOf, is_element_word}
 use Rattle.cil_names.proofs.FaultlessLemmas.{word-found, permission-found, alias-set}
 use Rattle.cil_names.proofs.LeadLemmas.{LeadsIn, leads-in}
+use Rattle.cil_names.specs.Flat.{IsFaultless}
 use Rattle.cil_names.proofs.NumberingLemmas.{has-words, named-of-all, permissions-all}
 
 all-of : (names : List (List ℕ)) (words : List Word) → ((w : Word) → Contains words w → has_name names w.text ≡ true) → list_all (has_name names) (texts words) ≡ true
@@ -19,36 +20,36 @@ all-of names [] each = refl
 all-of names (w ∷ words) each =
     both_true (has_name names w.text) (list_all (has_name names) (texts words)) (each w (contains-first w words)) (all-of names words (λ v is. each v (contains-other w words v is)))
 
-module _ (policy : List Placed) (compiles : Compiles every_optional policy) (s : Placed) (there : Contains policy s) (top : s.optionals ≡ [])
+module _ (policy : List Placed) (compiles : IsFaultless policy) (s : Placed) (there : Contains policy s)
     (kind : RuleKind) (source : Word) (target : Target) (the_class : Word) (permissions : List Word) (is : s.form ≡ rule kind source target the_class permissions) where
   set-test : Placed → Bool
-  set-test u = not (is_alias u.form && not (is_some (actual_statement every_optional policy u)))
+  set-test u = not (is_alias u.form && not (is_some (actual_statement policy u)))
 
-  element-word : (word : Word) → Contains (references s.form) (types, word) → Contains (element_words s.form) word → is_element_word every_optional policy s.namespace word ≡ true
-  element-word word refers names_it = by (leads every_optional policy types s.namespace word.text) refl (word-found every_optional policy compiles s there top types word refers)
+  element-word : (word : Word) → Contains (references s.form) (types, word) → Contains (element_words s.form) word → is_element_word policy s.namespace word ≡ true
+  element-word word refers names_it = by (leads policy types s.namespace word.text) refl (word-found policy compiles s there types word refers)
     where
-      set : (u : Placed) (b : Bool) → is_alias u.form ≡ b → (b ≡ true → is_some (actual_statement every_optional policy u) ≡ true) → not (b && not (is_some (actual_statement every_optional policy u))) ≡ true
+      set : (u : Placed) (b : Bool) → is_alias u.form ≡ b → (b ≡ true → is_some (actual_statement policy u) ≡ true) → not (b && not (is_some (actual_statement policy u))) ≡ true
       set u true e some = ap (λ b. not (not b)) (some refl)
       set u false e some = refl
 
-      by : (o : Option Placed) → leads every_optional policy types s.namespace word.text ≡ o → is_some o ≡ true
-          → holds_of (λ u. not (is_alias u.form && not (is_some (actual_statement every_optional policy u)))) o ≡ true
+      by : (o : Option Placed) → leads policy types s.namespace word.text ≡ o → is_some o ≡ true
+          → holds_of (λ u. not (is_alias u.form && not (is_some (actual_statement policy u)))) o ≡ true
       by None led some = some
-      by (Some u) led some = set u (is_alias u.form) refl (alias-set every_optional policy compiles s there top word names_it u led)
+      by (Some u) led some = set u (is_alias u.form) refl (alias-set policy compiles s there word names_it u led)
 
   -- the references behind the source
   abbrev later : List (Table × Word)
   later = map (λ w. (types, w)) (target_words target) ++ (classes, the_class) ∷ []
 
-  pub source-led : is_element_word every_optional policy s.namespace source ≡ true
+  pub source-led : is_element_word policy s.namespace source ≡ true
   source-led =
       element-word source (subst (λ f. Contains (references f) (types, source)) (sym is) (contains-first {X = Table × Word} (types, source) later))
       (subst (λ f. Contains (element_words f) source) (sym is) (contains-first source (target_words target)))
 
-  pub target-led : AllByRecursion (λ w. is_element_word every_optional policy s.namespace w ≡ true) (target_words target)
+  pub target-led : AllByRecursion (λ w. is_element_word policy s.namespace w ≡ true) (target_words target)
   target-led = by target is
     where
-      by : (aim : Target) → s.form ≡ rule kind source aim the_class permissions → AllByRecursion (λ w. is_element_word every_optional policy s.namespace w ≡ true) (target_words aim)
+      by : (aim : Target) → s.form ≡ rule kind source aim the_class permissions → AllByRecursion (λ w. is_element_word policy s.namespace w ≡ true) (target_words aim)
       by itself e = tt
       by (the_named word) e = (
         element-word word
@@ -62,19 +63,19 @@ module _ (policy : List Placed) (compiles : Compiles every_optional policy) (s :
   class-last [] = contains-first (classes, the_class) []
   class-last (w ∷ words) = contains-other (types, w) (map (λ v. (types, v)) words ++ (classes, the_class) ∷ []) (classes, the_class) (class-last words)
 
-  pub class-led : is_some (leads every_optional policy classes s.namespace the_class.text) ≡ true
+  pub class-led : is_some (leads policy classes s.namespace the_class.text) ≡ true
   class-led =
-      word-found every_optional policy compiles s there top classes the_class
+      word-found policy compiles s there classes the_class
       (subst (λ f. Contains (references f) (classes, the_class)) (sym is) (contains-other (types, source) later (classes, the_class) (class-last (target_words target))))
 
   pub permissions-there : (names : List (List ℕ)) → AreNamesOf policy names → HasWords names permissions
   permissions-there names are =
-      by (leads every_optional policy classes s.namespace the_class.text) refl class-led (leads-in every_optional policy classes s.namespace the_class.text)
+      by (leads policy classes s.namespace the_class.text) refl class-led (leads-in policy classes s.namespace the_class.text)
     where
-      by : (o : Option Placed) → leads every_optional policy classes s.namespace the_class.text ≡ o → is_some o ≡ true → LeadsIn classes policy o → HasWords names permissions
+      by : (o : Option Placed) → leads policy classes s.namespace the_class.text ≡ o → is_some o ≡ true → LeadsIn classes policy o → HasWords names permissions
       by None led some in_it = absurd (true≢false (sym some))
       by (Some t) led some in_it =
           has-words names permissions (all-of names permissions λ w contained.
-          named-of-all (permissions_of every_optional policy t) names w.text (permissions-all every_optional policy names are t in_it.0)
-          (permission-found every_optional policy compiles s there top the_class w
+          named-of-all (permissions_of policy t) names w.text (permissions-all policy names are t in_it.0)
+          (permission-found policy compiles s there the_class w
           (subst (λ f. Contains (named_permissions f) (the_class, w)) (sym is) (contains-map (λ v. (the_class, v)) permissions w contained)) t led))

@@ -5,7 +5,7 @@ use Rattle.std.specs.Option.{option_and_then}
 use Rattle.cil_specs.specs.Names.{Word}
 use Rattle.cil_specs.specs.Statements.{Form, class_common}
 use Rattle.cil_specs.specs.Joined.{Placed}
-use Rattle.cil_specs.specs.Lookup.{classes, is_within, gives_common, common_permissions, own_permissions, texts, permissions_of, with_name, distinct, every_optional}
+use Rattle.cil_specs.specs.Lookup.{classes, gives_common, common_permissions, own_permissions, texts, permissions_of, with_name, distinct}
 use Rattle.cil_specs.specs.Rule.{is_class}
 use Rattle.cil_names.specs.First.{IsFirstOf}
 
@@ -25,7 +25,7 @@ common_word _ = None
 
 -- the permissions that a statement gives to a class by a common
 abbrev pub given_permissions : List Placed → Placed → Placed → List (List ℕ)
-given_permissions policy s t = if is_within every_optional t && gives_common every_optional policy s t.namespace t.form then common_permissions every_optional policy t.namespace t.form else []
+given_permissions policy s t = if gives_common policy s t.namespace t.form then common_permissions policy t.namespace t.form else []
 
 -- the statement gives these to the class at a place, and none to another
 abbrev pub GivesTo : List Placed → Placed → ℕ → List (List ℕ) → Type 0
@@ -47,4 +47,4 @@ HasPermissionsOf policy statements seen = (i : ℕ) (s : Placed) → slice_get p
 -- each class of a policy has its permissions
 abbrev pub HasPermissions : List Placed → SeenClasses → Type 0
 HasPermissions policy seen = (i : ℕ) (s : Placed) → slice_get policy i ≡ Some s → IsTrue (is_class s.form) → IsFirstOf classes policy i
-    → permissions_at seen i ≡ Some (distinct (permissions_of every_optional policy s))
+    → permissions_at seen i ≡ Some (distinct (permissions_of policy s))

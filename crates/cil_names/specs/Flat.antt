@@ -1,11 +1,11 @@
--- Policies as lists of statements: none stands in an optional, none is an attribute set, and they stand in order.
+-- Policies as lists of statements: none is an attribute set, and they stand in order.
 use Rattle.std.specs.Prelude.{◌≡◌, ◌⊎◌, ℕ, ◌<◌, List, [], ◌∷◌, map, Contains, IsTrue}
 use Rattle.std.specs.List.{AllByRecursion}
 use Rattle.std.specs.declared.cmp.Ordering.TheVariants.{Less}
 use Rattle.cil_specs.specs.Statements.{Form, words_of, offsets_at, rise_from}
 use Rattle.cil_specs.specs.Joined.{Placed}
 use Rattle.cil_specs.specs.Next.{is_plain_form}
-use Rattle.cil_specs.specs.PolicyFault.{PolicyFault, IsNoLater}
+use Rattle.cil_specs.specs.PolicyFault.{PolicyFault, missing_words, IsFaultOf, IsNoLater}
 use Rattle.cil_specs.specs.Report.{name_cmp}
 
 -- the offsets of a statement's words
@@ -16,10 +16,9 @@ offsets_in form = map (λ (role, word). word.at.offset) (words_of form)
 abbrev pub offsets_of : Placed → List ℕ
 offsets_of s = offsets_at s.at s.form
 
--- a plain statement in no optional, whose ( and words stand one behind the other
+-- a plain statement whose ( and words stand one behind the other
 pub record IsPlain (s : Placed) : Type 0 where
   pub plain : IsTrue (is_plain_form s.form)
-  pub optionals : s.optionals ≡ []
   pub rising : IsTrue (rise_from 0 (offsets_of s))
 
 -- the one stands in a module of lesser name, or in the same and with its ( and each of its words in front of the other's
@@ -31,6 +30,15 @@ IsBefore s t = (name_cmp s.module_name t.module_name ≡ Less)
 abbrev pub AreFlat : List Placed → Type 0
 AreFlat [] = Unit {0}
 AreFlat (s ∷ policy) = IsPlain s × AllByRecursion (IsBefore s) policy × AreFlat policy
+
+-- a fault of these statements, of whatever kind
+abbrev pub IsFaultIn : List Placed → PolicyFault → Type 0
+IsFaultIn policy fault = IsFaultOf fault.kind policy fault
+
+-- they have no fault, and all names of each are found
+pub record IsFaultless (policy : List Placed) : Type 0 where
+  pub none : (fault : PolicyFault) → IsFaultIn policy fault → ⊥
+  pub found : (s : Placed) → Contains policy s → missing_words policy s ≡ []
 
 -- the fault is one of these, and none of them is earlier
 pub record IsLeast (Is : PolicyFault → Type 0) (fault : PolicyFault) : Type 0 where

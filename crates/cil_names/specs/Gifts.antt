@@ -6,7 +6,7 @@ use Rattle.std.specs.Option.{option_and_then}
 use Rattle.cil_specs.specs.Names.{Word}
 use Rattle.cil_specs.specs.Statements.{Form, alias_actual, class_common}
 use Rattle.cil_specs.specs.Joined.{Placed}
-use Rattle.cil_specs.specs.Lookup.{Table, types, classes, Optionals, leads, gives_actual, gives_common, every_optional}
+use Rattle.cil_specs.specs.Lookup.{Table, types, classes, leads, gives_actual, gives_common}
 use Rattle.cil_names.specs.First.{IsFirstOf}
 use Rattle.cil_names.specs.declared.firsts.Gift.{Gift}
 use Rattle.cil_names.specs.declared.firsts.Gift.TheVariants.{Actual, Common}
@@ -31,18 +31,18 @@ given_word Common (class_common the_class the_common) = Some the_class
 given_word _ _ = None
 
 -- where that word leads
-abbrev pub given_lead : Gift → Optionals → List Placed → Placed → Option Placed
-given_lead gift kept policy t = option_and_then (λ w. leads kept policy (gift_table gift) t.namespace w.text) (given_word gift t.form)
+abbrev pub given_lead : Gift → List Placed → Placed → Option Placed
+given_lead gift policy t = option_and_then (λ w. leads policy (gift_table gift) t.namespace w.text) (given_word gift t.form)
 
 -- whether a statement gives something to a declaration
-abbrev pub gives : Gift → Optionals → List Placed → Placed → Placed → Bool
-gives Actual kept policy s t = gives_actual kept policy s t.namespace t.form
-gives Common kept policy s t = gives_common kept policy s t.namespace t.form
+abbrev pub gives : Gift → List Placed → Placed → Placed → Bool
+gives Actual policy s t = gives_actual policy s t.namespace t.form
+gives Common policy s t = gives_common policy s t.namespace t.form
 
 -- of some of the statements of a policy, the first that give something are noted
 abbrev pub HasFirstsOf : Gift → List Placed → List Placed → List (ℕ × ℕ) → Type 0
 HasFirstsOf gift policy statements firsts = (i : ℕ) (s : Placed) → slice_get policy i ≡ Some s → IsFirstOf (gift_table gift) policy i
-    → first_at firsts i ≡ position (gives gift every_optional policy s) statements
+    → first_at firsts i ≡ position (gives gift policy s) statements
 
 -- the first statements that give something are noted
 abbrev pub HasFirsts : Gift → List Placed → List (ℕ × ℕ) → Type 0

@@ -3,11 +3,11 @@ use Rattle.std.specs.Prelude.{◌≡◌, ◌≢◌, ◌<◌, ◌≤◌, ℕ, suc
 use Rattle.std.specs.List.{list_all, list_any}
 use Rattle.cil_specs.specs.Names.{Word}
 use Rattle.cil_specs.specs.Joined.{Placed}
-use Rattle.cil_specs.specs.Lookup.{Table, Optionals, is_within, declaration, every_optional}
+use Rattle.cil_specs.specs.Lookup.{Table, declaration}
 use Rattle.cil_specs.specs.PolicyFault.{PolicyFault, twice, missing_words, is_unfound, is_lacking, IsFaultOf}
-use Rattle.cil_specs.specs.Kept.{AreApart}
+use Rattle.cil_specs.specs.Kept.{Optionals, is_within, restricted, AreApart}
 use Rattle.cil_names.specs.Classes.{HasPermissions}
-use Rattle.cil_names.specs.Nested.{nested_in, optionals_among, has_number, IsNested}
+use Rattle.cil_names.specs.Nested.{has_number, IsNested}
 use Rattle.cil_names.specs.Policy.{namespace_at, policy_in, IsSound}
 use Rattle.cil_names.specs.declared.greatest.Need.{Need}
 use Rattle.cil_names.specs.declared.needs.Finder.{Finder}
@@ -44,36 +44,36 @@ is_found has (Some from) = list_any has from.items
 
 -- Each statement in optionals all of which are in a set has its names found.
 abbrev pub AreFoundWithin : List Placed → Optionals → Type 0
-AreFoundWithin policy set = (s : Placed) → Contains policy s → (s.optionals ≡ [] → ⊥) → IsTrue (is_within set s) → missing_words set policy s ≡ []
+AreFoundWithin policy set = (s : Placed) → Contains policy s → (s.optionals ≡ [] → ⊥) → IsTrue (is_within set s) → missing_words (restricted set policy) s ≡ []
 
 -- Behind some optionals stands the one, if any, in which a name is declared in a namespace.
 pub record IsGathered {A : Type 0} (p : Policy A) (table : Table) (namespace : List (List ℕ)) (name : List ℕ) (old new : List ℕ) : Type 0 where
-  pub found : (set : Optionals) → (list_any (has_number p.statements.items set) old || is_some (declaration set (nested_in p) table namespace name)) ≡ list_any (has_number p.statements.items set) new
+  pub found : (set : Optionals) → (list_any (has_number p.optionals.items set) old || is_some (declaration (restricted set (policy_in p)) table namespace name)) ≡ list_any (has_number p.optionals.items set) new
   pub below : IsTrue (list_all (λ o. nat_lt o (length p.optionals.items + 1)) old) → IsTrue (list_all (λ o. nat_lt o (length p.optionals.items + 1)) new)
 
 -- Where these needs are met, a set that has the number of an optional has that of the optional around it.
 abbrev pub IsNestedBy : {A : Type 0} → List (PlacedStatement A) → List (Need A) → Type 0
-IsNestedBy {A} statements needs = (has : ℕ → Bool) → IsTrue (are_met has needs) → (k : ℕ) (o : PlacedStatement A) → slice_get (optionals_among statements) k ≡ Some o → IsTrue (has (suc k))
+IsNestedBy {A} optionals needs = (has : ℕ → Bool) → IsTrue (are_met has needs) → (k : ℕ) (o : PlacedStatement A) → slice_get optionals k ≡ Some o → IsTrue (has (suc k))
     → o.optional ≢ 0 → IsTrue (has o.optional)
 
 -- whether these references are found from a namespace, and no class lacks these permissions
-abbrev pub are_found : Optionals → List Placed → List (List ℕ) → List (Table × Word) → List (Word × Word) → Bool
-are_found set policy namespace references permissions = list_all (λ r. not (is_unfound set policy namespace r)) references && list_all (λ p. not (is_lacking set policy namespace p)) permissions
+abbrev pub are_found : List Placed → List (List ℕ) → List (Table × Word) → List (Word × Word) → Bool
+are_found policy namespace references permissions = list_all (λ r. not (is_unfound policy namespace r)) references && list_all (λ p. not (is_lacking policy namespace p)) permissions
 
 -- Behind other needs stand such as are met by the sets that don't have the optional of a statement or find what it names.
 pub record Asks {A : Type 0} (p : Policy A) (s : PlacedStatement A) (references : List (Table × Word)) (permissions : List (Word × Word)) (old new : List (Need A)) : Type 0 where
   pub more : List (Need A)
   pub is : new ≡ old ++ more
   pub below : IsTrue (list_all (is_need_below (length p.optionals.items + 1)) more)
-  pub met : (set : Optionals) → are_met (has_number p.statements.items set) more
-      ≡ (not (has_number p.statements.items set s.optional) || are_found set (nested_in p) (namespace_at p.spaces s.namespace) references permissions)
+  pub met : (set : Optionals) → are_met (has_number p.optionals.items set) more
+      ≡ (not (has_number p.optionals.items set s.optional) || are_found (restricted set (policy_in p)) (namespace_at p.spaces s.namespace) references permissions)
 
 -- The policy is sound, no name is declared twice, and the classes have their permissions.
 pub record IsFinder {A : Type 0} (f : Finder A) : Type 0 where
   pub sound : IsSound f.policy.now
   pub nested : IsNested f.policy.now.statements.items f.policy.now.optionals.items
-  pub apart : AreApart (nested_in f.policy.now)
-  pub once : (fault : PolicyFault) → IsFaultOf twice every_optional (policy_in f.policy.now) fault → ⊥
+  pub apart : AreApart (policy_in f.policy.now)
+  pub once : (fault : PolicyFault) → IsFaultOf twice (policy_in f.policy.now) fault → ⊥
   pub has_permissions : HasPermissions (policy_in f.policy.now) f.classes.now
 
 -- a statement of the policy that stands in an optional

@@ -1,17 +1,14 @@
 -- Statements in optionals. An optional has a number, which counts those before it in the order of the statements from 1 on; 0 stands
 -- for none.
-use Rattle.std.specs.Prelude.{◌≡◌, ◌≤◌, ◌⊎◌, ℕ, zero, suc, Bool, false, ◌&&◌, ◌==◌, List, [], ◌∷◌, ◌++◌, map, filter, fold, slice_get, slice_index_or, bytes_eq, Option, Some, None}
+use Rattle.std.specs.Prelude.{◌≡◌, ◌≤◌, ◌⊎◌, ℕ, zero, suc, Bool, false, ◌&&◌, ◌==◌, List, [], ◌∷◌, ◌++◌, map, filter, fold, slice_get, slice_index_or, bytes_eq, Contains, Option, Some, None}
 use Rattle.std.specs.List.{list_all, position, AllByRecursion}
 use Rattle.cil_specs.specs.Statements.{is_optional}
 use Rattle.cil_specs.specs.Joined.{Placed}
-use Rattle.cil_specs.specs.Lookup.{Optionals, every_optional}
-use Rattle.cil_specs.specs.PolicyFault.{PolicyFault, twice, IsFaultOf}
+use Rattle.cil_specs.specs.PolicyFault.{PolicyFault, twice, missing_words, IsFaultOf}
 use Rattle.cil_specs.specs.Rule.{Declared}
-pub use Rattle.cil_specs.specs.Kept.{erased, restricted}
-use Rattle.cil_specs.specs.Kept.{AreKept, AreApart, dropped_of}
-use Rattle.cil_names.specs.Placed.{form_of, at_of}
+use Rattle.cil_specs.specs.Kept.{Optionals, restricted, AreKept, AreApart, dropped_of}
+use Rattle.cil_names.specs.Placed.{form_of, at_of, policy_of}
 use Rattle.cil_names.specs.declared.placed.PlacedStatement.{PlacedStatement}
-use Rattle.cil_names.specs.declared.policy.Policy.{Policy}
 
 abbrev pub is_optional_statement : {A : Type 0} → PlacedStatement A → Bool
 is_optional_statement p = is_optional (form_of p.statement.now)
@@ -23,26 +20,17 @@ optionals_among statements = filter is_optional_statement statements
 abbrev pub with_optional : {A : Type 0} → List (List ℕ) → PlacedStatement A → List (List ℕ)
 with_optional chains p = chains ++ ((at_of p.statement.now).offset ∷ slice_index_or chains p.optional []) ∷ []
 
--- for each number the offset of its optional and of those around it, the innermost first
+-- for each number of one of these optionals its offset and those of the optionals around it, the innermost first
+abbrev pub chains_by : {A : Type 0} → List (PlacedStatement A) → List (List ℕ)
+chains_by optionals = fold with_optional ([] ∷ []) optionals
+
+-- the same, for the optionals among statements
 abbrev pub chains_of : {A : Type 0} → List (PlacedStatement A) → List (List ℕ)
-chains_of statements = fold with_optional ([] ∷ []) (optionals_among statements)
+chains_of statements = chains_by (optionals_among statements)
 
--- a statement of the joined policy, where lists have the namespaces and the optionals by their numbers
-abbrev pub nested_of : {A : Type 0} → List (List (List ℕ)) → List (List ℕ) → PlacedStatement A → Placed
-nested_of spaces chains p = record {
-  module_name = p.module_name.now;
-  at = at_of p.statement.now;
-  form = form_of p.statement.now;
-  namespace = slice_index_or spaces p.namespace [];
-  optionals = slice_index_or chains p.optional [];
-}
-
+-- statements of the joined policy, all optionals of which stand among them
 abbrev pub nested_policy_of : {A : Type 0} → List (List (List ℕ)) → List (PlacedStatement A) → List Placed
-nested_policy_of spaces statements = map (nested_of spaces (chains_of statements)) statements
-
--- the joined policy, with its optionals
-abbrev pub nested_in : {A : Type 0} → Policy A → List Placed
-nested_in p = nested_policy_of p.spaces p.statements.items
+nested_policy_of spaces statements = policy_of spaces (chains_of statements) statements
 
 -- a number is that of no optional, or of one of these, which is of the module
 abbrev pub IsAround : {A : Type 0} → List (PlacedStatement A) → ℕ → List ℕ → Type 0
@@ -52,16 +40,16 @@ IsAround {A} optionals number module_name = (number ≡ 0) ⊎ ((k : ℕ) × (o 
 abbrev pub IsAmong : {A : Type 0} → List (PlacedStatement A) → PlacedStatement A → Type 0
 IsAmong optionals p = IsAround optionals p.optional p.module_name.now
 
--- the optionals stand at these places, and each of them and each statement stands in an optional that comes before
-pub record IsNested {A : Type 0} (statements : List (PlacedStatement A)) (places : List ℕ) : Type 0 where
-  pub places_are : map (slice_get statements) places ≡ map Some (optionals_among statements)
+-- the optionals are those among the statements, and each of them and each statement stands in an optional that comes before
+pub record IsNested {A : Type 0} (statements optionals : List (PlacedStatement A)) : Type 0 where
+  pub optionals_are : optionals ≡ optionals_among statements
   pub among : AllByRecursion (IsAmong (optionals_among statements)) statements
   pub inside : (k : ℕ) (o : PlacedStatement A) → slice_get (optionals_among statements) k ≡ Some o → o.optional ≤ k
 
 -- the module of the optional of a number
 abbrev pub module_at : {A : Type 0} → List (PlacedStatement A) → ℕ → List ℕ
-module_at statements zero = []
-module_at statements (suc k) = module_or_none (slice_get (optionals_among statements) k)
+module_at optionals zero = []
+module_at optionals (suc k) = module_or_none (slice_get optionals k)
   where
     module_or_none : {A : Type 0} → Option (PlacedStatement A) → List ℕ
     module_or_none None = []
@@ -69,7 +57,7 @@ module_at statements (suc k) = module_or_none (slice_get (optionals_among statem
 
 -- whether the optional of a number and all around it are in a set
 abbrev pub has_number : {A : Type 0} → List (PlacedStatement A) → Optionals → ℕ → Bool
-has_number statements set n = list_all (set (module_at statements n)) (slice_index_or (chains_of statements) n [])
+has_number optionals set n = list_all (set (module_at optionals n)) (slice_index_or (chains_by optionals) n [])
 
 -- whether a statement is that of a module at an offset
 abbrev pub is_at : {A : Type 0} → List ℕ → ℕ → PlacedStatement A → Bool
@@ -81,13 +69,17 @@ mark_at marks (Some k) = slice_index_or marks (suc k) false
 
 -- the set of the optionals whose numbers are marked
 abbrev pub set_of : {A : Type 0} → List (PlacedStatement A) → List Bool → Optionals
-set_of statements marks name at = mark_at marks (position (is_at name at) (optionals_among statements))
+set_of optionals marks name at = mark_at marks (position (is_at name at) optionals)
+
+-- The statements in optionals have all their names found.
+abbrev pub AreFoundInside : List Placed → Type 0
+AreFoundInside policy = (s : Placed) → Contains policy s → (s.optionals ≡ [] → ⊥) → missing_words policy s ≡ []
 
 -- Of a policy in which no name is declared twice, others are the statements in kept optionals, and these are the optionals that drop.
 pub record IsJudged (policy others : List Placed) (dropped : List Declared) : Type 0 where
   pub kept : Optionals
   pub are_kept : AreKept policy kept
   pub apart : AreApart policy
-  pub once : (fault : PolicyFault) → IsFaultOf twice every_optional policy fault → ⊥
+  pub once : (fault : PolicyFault) → IsFaultOf twice policy fault → ⊥
   pub others_are : others ≡ restricted kept policy
   pub dropped_are : dropped ≡ dropped_of kept policy

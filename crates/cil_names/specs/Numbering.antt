@@ -3,9 +3,9 @@ use Rattle.std.specs.Prelude.{◌≡◌, ℕ, Bool, true, false, not, ◌&&◌, 
 use Rattle.cil_specs.specs.Names.{Word}
 use Rattle.cil_specs.specs.Statements.{Form, type_name, type_attribute, common, class}
 use Rattle.cil_specs.specs.Joined.{Placed}
-use Rattle.cil_specs.specs.Lookup.{types, Optionals, has_name, texts, holds_of, leads, actual_statement, is_alias, is_type, is_attribute, every_optional}
-use Rattle.cil_specs.specs.PolicyFault.{Compiles}
+use Rattle.cil_specs.specs.Lookup.{types, has_name, texts, holds_of, leads, actual_statement, is_alias, is_type, is_attribute}
 use Rattle.cil_specs.specs.Rule.{Declared, declared_as, ClassOf, class_as, is_class, Rule, rule_of}
+use Rattle.cil_names.specs.Flat.{IsFaultless}
 use Rattle.cil_names.specs.FullNames.{full_name_of}
 use Rattle.cil_names.specs.Policy.{policy_in}
 use Rattle.cil_names.specs.Resolution.{IsResolved}
@@ -36,9 +36,9 @@ is_numbered (class id permissions) = true
 is_numbered _ = false
 
 -- whether a word leads to a type, an attribute or an alias that has an actual type
-abbrev pub is_element_word : Optionals → List Placed → List (List ℕ) → Word → Bool
-is_element_word kept policy namespace word =
-    holds_of (λ s. not (is_alias s.form && not (is_some (actual_statement kept policy s)))) (leads kept policy types namespace word.text)
+abbrev pub is_element_word : List Placed → List (List ℕ) → Word → Bool
+is_element_word policy namespace word =
+    holds_of (λ s. not (is_alias s.form && not (is_some (actual_statement policy s)))) (leads policy types namespace word.text)
 
 -- whether a statement declares a type or an attribute of this kind
 abbrev pub is_of : Kind → Form → Bool
@@ -56,15 +56,15 @@ declared_by kind policy = flat_map (declared_if kind) policy
 
 -- the class that a statement of a policy declares
 abbrev pub class_if : List Placed → Placed → List ClassOf
-class_if policy s = if is_class s.form then class_as every_optional policy s ∷ [] else []
+class_if policy s = if is_class s.form then class_as policy s ∷ [] else []
 
 -- the rules that statements of a policy are
 abbrev pub rules_from : List Placed → List Placed → List Rule
-rules_from policy statements = flat_map (λ s. rule_of every_optional policy s s.form) statements
+rules_from policy statements = flat_map (λ s. rule_of policy s s.form) statements
 
 -- The policy compiles, and the names are its names.
 pub record IsNumbering {A : Type 0} (n : Numbering A) : Type 0 where
   pub resolved : IsResolved n.resolution.now
-  pub compiles : Compiles every_optional (policy_in n.resolution.now.policy)
+  pub compiles : IsFaultless (policy_in n.resolution.now.policy)
   pub full_names : n.full_names.now ≡ map full_name_of (policy_in n.resolution.now.policy)
   pub names : AreNamesOf (policy_in n.resolution.now.policy) n.names.now

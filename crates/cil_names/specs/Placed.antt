@@ -39,12 +39,18 @@ at_of (ClassCommon at the_class the_common) = place_of at
 at_of (ClassOrder at the_classes) = place_of at
 at_of (Rule at kind source target the_class permissions) = place_of at
 
--- a statement of the joined policy, where the list has the namespaces by their numbers; the optionals around it are left out
-abbrev pub placed_of : {A : Type 0} → List (List (List ℕ)) → PlacedStatement A → Placed
-placed_of spaces p = record { module_name = p.module_name.now; at = at_of p.statement.now; form = form_of p.statement.now; namespace = slice_index_or spaces p.namespace []; optionals = [] }
+-- a statement of the joined policy, where lists have the namespaces, and the offsets of the optionals around it, by their numbers
+abbrev pub placed_of : {A : Type 0} → List (List (List ℕ)) → List (List ℕ) → PlacedStatement A → Placed
+placed_of spaces chains p = record {
+  module_name = p.module_name.now;
+  at = at_of p.statement.now;
+  form = form_of p.statement.now;
+  namespace = slice_index_or spaces p.namespace [];
+  optionals = slice_index_or chains p.optional [];
+}
 
-abbrev pub policy_of : {A : Type 0} → List (List (List ℕ)) → List (PlacedStatement A) → List Placed
-policy_of spaces statements = map (placed_of spaces) statements
+abbrev pub policy_of : {A : Type 0} → List (List (List ℕ)) → List (List ℕ) → List (PlacedStatement A) → List Placed
+policy_of spaces chains statements = map (placed_of spaces chains) statements
 
 -- each statement's module stands at its number among the modules
 abbrev pub AreNumbered : {A : Type 0} → List (List ℕ) → List (PlacedStatement A) → Type 0

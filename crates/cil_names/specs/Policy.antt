@@ -9,7 +9,8 @@ use Rattle.cil_specs.specs.Joined.{Placed}
 use Rattle.cil_specs.specs.Lookup.{Table, types, classes, commons, scopes, declared_in, declares, same_namespace, is_type, is_alias, is_attribute}
 use Rattle.cil_names.specs.First.{IsFirstOf}
 use Rattle.cil_names.specs.Flat.{AreFlat}
-use Rattle.cil_names.specs.Placed.{policy_of, AreNumbered, AreIn, AreBlocks}
+use Rattle.cil_names.specs.Nested.{chains_by}
+use Rattle.cil_names.specs.Placed.{placed_of, AreNumbered, AreIn, AreBlocks}
 use Rattle.cil_names.specs.Spaces.{Namespace}
 use Rattle.cil_names.specs.declared.kinds.Table as code
 use Rattle.cil_names.specs.declared.kinds.Table.TheVariants.{Types, Classes, Commons, Scopes}
@@ -27,8 +28,20 @@ namespace_at spaces n = slice_index_or spaces n []
 abbrev pub modules_in : {A : Type 0} → Policy A → List (List ℕ)
 modules_in p = map (λ m. m.now) p.modules.items
 
+-- for each number of an optional its offset and those of the optionals around it
+abbrev pub chains_in : {A : Type 0} → Policy A → List (List ℕ)
+chains_in p = chains_by p.optionals.items
+
+-- a statement of the policy
+abbrev pub placed_in : {A : Type 0} → Policy A → PlacedStatement A → Placed
+placed_in p = placed_of p.spaces (chains_in p)
+
 abbrev pub policy_in : {A : Type 0} → Policy A → List Placed
-policy_in p = policy_of p.spaces p.statements.items
+policy_in p = map (placed_in p) p.statements.items
+
+-- the same of statements one after the other
+abbrev pub placed_as : {A : Type 0} → Flat A → PlacedStatement A → Placed
+placed_as flat = placed_of flat.spaces (chains_by flat.optionals.items)
 
 -- What is found, by its place, is what a look-up leads to; and the statement there is the first that declares its name.
 pub record IsLead (table : Table) (policy : List Placed) (found : Option ℕ) (lead : Option Placed) : Type 0 where
@@ -58,18 +71,15 @@ is_key table namespace name key = is_table table key.table && (namespace == key.
 -- what is asked of statements one after the other
 pub record IsFlat {A : Type 0} (flat : Flat A) : Type 0 where
   pub numbered : AreNumbered (map (λ m. m.now) flat.modules.items) flat.statements.items
-  pub is_flat : AreFlat (policy_of flat.spaces flat.statements.items)
+  pub is_flat : AreFlat (map (placed_as flat) flat.statements.items)
   pub within : AreIn (length flat.spaces) flat.statements.items
   pub distinct : IsDistinct same_namespace flat.spaces
-  pub blocks : AreBlocks flat.spaces (policy_of flat.spaces flat.statements.items)
+  pub blocks : AreBlocks flat.spaces (map (placed_as flat) flat.statements.items)
 
 -- The entries have the first statement that declares a name.
 abbrev pub HasDeclaredIn : List Namespace → List Placed → List (Key × ℕ) → Type 0
 HasDeclaredIn spaces policy entries = (table : code.Table) (n : ℕ) (name : List ℕ) → n < length spaces
     → lookup (is_key table n name) entries ≡ position (declares (table_of table) (slice_index_or spaces n []) name) policy
-
-abbrev pub HasDeclared : {A : Type 0} → List Namespace → List (PlacedStatement A) → List (Key × ℕ) → Type 0
-HasDeclared spaces statements entries = HasDeclaredIn spaces (policy_of spaces statements) entries
 
 -- What is found of a statement behind others is its name, if one of them declares it and the two aren't both optionals; and else the
 -- entries have it too.
@@ -84,7 +94,7 @@ pub record IsSound {A : Type 0} (p : Policy A) : Type 0 where
   pub within : AreIn (length p.spaces) p.statements.items
   pub distinct : IsDistinct same_namespace p.spaces
   pub blocks : AreBlocks p.spaces (policy_in p)
-  pub declared : HasDeclared p.spaces p.statements.items p.declared.entries
+  pub declared : HasDeclaredIn p.spaces (policy_in p) p.declared.entries
 
 -- what a statement that is there declares in the table of types
 abbrev pub IsKindAt : Option kinds.Kind → Option Placed → Type 0

@@ -5,7 +5,7 @@ use Rattle.std.specs.Option.{option_or}
 use Rattle.cil_specs.specs.Names.{Word}
 use Rattle.cil_specs.specs.Statements.{Form}
 use Rattle.cil_specs.specs.Joined.{Placed}
-use Rattle.cil_specs.specs.Lookup.{classes, Optionals, is_type, is_alias, is_attribute, every_optional}
+use Rattle.cil_specs.specs.Lookup.{classes, is_type, is_alias, is_attribute}
 use Rattle.cil_specs.specs.PolicyFault.{is_unfound, is_lacking, alias_twice_words, second_common_words}
 use Rattle.cil_specs.specs.Next.{is_attribute_word, rule_elements}
 use Rattle.cil_names.specs.Classes.{HasPermissions}
@@ -29,17 +29,17 @@ test_of Attribute = is_attribute
 
 -- the words of a rule's source and target that lead to attributes
 abbrev pub attribute_words : List Placed → Placed → List Word
-attribute_words policy s = filter (is_attribute_word every_optional policy s.namespace) (rule_elements s.form)
+attribute_words policy s = filter (is_attribute_word policy s.namespace) (rule_elements s.form)
 
 -- the class, if it leads nowhere, or else the first permission that it lacks
 abbrev pub first_missing_permission : List Placed → List (List ℕ) → Word → List Word → Option Word
-first_missing_permission policy namespace the_class permissions = option_or (word_if (is_unfound every_optional policy namespace (classes, the_class)) the_class)
-    (find (λ w. is_lacking every_optional policy namespace (the_class, w)) permissions)
+first_missing_permission policy namespace the_class permissions = option_or (word_if (is_unfound policy namespace (classes, the_class)) the_class)
+    (find (λ w. is_lacking policy namespace (the_class, w)) permissions)
 
 -- the words to which a statement gives something again
-abbrev pub again_words : Gift → Optionals → List Placed → List Placed → Placed → List Word
-again_words Actual kept policy before s = alias_twice_words kept policy before s
-again_words Common kept policy before s = second_common_words kept policy before s
+abbrev pub again_words : Gift → List Placed → List Placed → Placed → List Word
+again_words Actual policy before s = alias_twice_words policy before s
+again_words Common policy before s = second_common_words policy before s
 
 -- The policy is sound, the classes have their permissions, and the first statements that give something are noted.
 pub record IsResolved {A : Type 0} (r : Resolution A) : Type 0 where

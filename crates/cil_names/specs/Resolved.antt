@@ -1,9 +1,8 @@
 -- What the numbers of a resolved policy stand for.
-use Rattle.std.specs.Prelude.{◌≡◌, ℕ, List, [], map, slice_index_or}
-use Rattle.cil_specs.specs.Joined.{Placed}
-use Rattle.cil_specs.specs.Lookup.{Optionals}
+use Rattle.std.specs.Prelude.{ℕ, List, [], map, slice_index_or}
+use Rattle.cil_specs.specs.Meaning.{Meaning}
 use Rattle.cil_specs.specs.Rule as spec
-use Rattle.cil_specs.specs.Rule.{a_type, an_attribute, at_itself, at_element, types_of, attributes_of, classes_of, rules_of}
+use Rattle.cil_specs.specs.Rule.{a_type, an_attribute, at_itself, at_element}
 use Rattle.cil_text.specs.Image.{place_of, rule_kind_of}
 use Rattle.cil_names.specs.declared.numbered.Element.{Element}
 use Rattle.cil_names.specs.declared.numbered.Element.TheVariants.{«Type», Attribute}
@@ -14,7 +13,6 @@ use Rattle.cil_names.specs.declared.numbered.NumberedClass.{NumberedClass}
 use Rattle.cil_names.specs.declared.numbered.NumberedRule.{NumberedRule}
 use Rattle.cil_names.specs.declared.numbered.DroppedOptional.{DroppedOptional}
 use Rattle.cil_names.specs.declared.resolved.Resolved.{Resolved}
-use Rattle.cil_specs.specs.Kept.{AreKept, dropped_of}
 
 abbrev pub element_of : List (List ℕ) → Element → spec.Element
 element_of names («Type» i) = a_type (slice_index_or names i [])
@@ -47,37 +45,16 @@ rule_of modules names r = record {
   permissions = map (λ p. slice_index_or names p []) r.permissions.items;
 }
 
--- the types, attributes, classes and rules of a resolved policy
-abbrev pub types_in : {A : Type 0} → Resolved A → List spec.Declared
-types_in r = map (declared_of r.modules.items r.names.items) r.types.items
-
-abbrev pub attributes_in : {A : Type 0} → Resolved A → List spec.Declared
-attributes_in r = map (declared_of r.modules.items r.names.items) r.attributes.items
-
-abbrev pub classes_in : {A : Type 0} → Resolved A → List spec.ClassOf
-classes_in r = map (class_of r.modules.items r.names.items) r.classes.items
-
-abbrev pub rules_in : {A : Type 0} → Resolved A → List spec.Rule
-rules_in r = map (rule_of r.modules.items r.names.items) r.rules.items
-
 -- an optional that drops, by the name of its module
 abbrev pub dropped_with : {A : Type 0} → List (List ℕ) → DroppedOptional A → spec.Declared
 dropped_with modules d = record { module_name = slice_index_or modules d.module []; at = place_of d.at; name = d.name }
 
-abbrev pub dropped_in : {A : Type 0} → Resolved A → List spec.Declared
-dropped_in r = map (dropped_with r.modules.items) r.dropped.items
-
--- it has the types, attributes, classes and rules of a policy
-pub record HasContents {A : Type 0} (kept : Optionals) (policy : List Placed) (r : Resolved A) : Type 0 where
-  pub types : types_in r ≡ types_of kept policy
-  pub attributes : attributes_in r ≡ attributes_of kept policy
-  pub classes : classes_in r ≡ classes_of kept policy
-  pub rules : rules_in r ≡ rules_of kept policy
-
--- it is what a policy resolves to by the optionals that it keeps, of which something holds
-pub record IsPolicy {A : Type 0} (Holds : Optionals → Type 0) (policy : List Placed) (r : Resolved A) : Type 0 where
-  pub kept : Optionals
-  pub are_kept : AreKept policy kept
-  pub holds : Holds kept
-  pub contents : HasContents kept policy r
-  pub dropped : dropped_in r ≡ dropped_of kept policy
+-- what a resolved policy means
+abbrev pub meaning_in : {A : Type 0} → Resolved A → Meaning
+meaning_in r = record {
+  types = map (declared_of r.modules.items r.names.items) r.types.items;
+  attributes = map (declared_of r.modules.items r.names.items) r.attributes.items;
+  classes = map (class_of r.modules.items r.names.items) r.classes.items;
+  rules = map (rule_of r.modules.items r.names.items) r.rules.items;
+  dropped = map (dropped_with r.modules.items) r.dropped.items;
+}

@@ -2,9 +2,10 @@
 
 ghost use Rattle.std.specs.Prelude.{◌≡◌, ◌≢◌, ◌<◌, ◌+◌, ◌==◌, false, length, is_some, nat_lt, IfOk, IfSome, IsTrue};
 ghost use Rattle.std.specs.List.{list_all, slice_split};
-ghost use Rattle.cil_specs.specs.Lookup.{Optionals, leads as leads_from, outward as looked_outward, inside as looked_inside, from_namespace as looked_from, declaration, every_optional};
+ghost use Rattle.cil_specs.specs.Lookup.{leads as leads_from, outward as looked_outward, inside as looked_inside, from_namespace as looked_from, declaration};
 ghost use Rattle.cil_specs.specs.PolicyFault.{twice, IsFaultOf};
-ghost use Rattle.cil_names.specs.Nested.{nested_in, has_number, IsNested};
+ghost use Rattle.cil_specs.specs.Kept.{Optionals, restricted, AreApart};
+ghost use Rattle.cil_names.specs.Nested.{has_number, IsNested};
 ghost use Rattle.cil_names.specs.Needs.{is_found, IsGathered};
 ghost use Rattle.cil_names.specs.Policy.{namespace_at, policy_in, table_of, IsSound};
 ghost use Rattle.cil_names.specs.declared.kinds.Table.TheVariants.{Scopes};
@@ -25,10 +26,11 @@ impl<'j, 'a, A: Allocator + Copy> Policy<'j, 'a, A> {
     ) -> Result<Option<Vec<usize, A>>, AllocError>
         requires sound { IsSound self.now }
         requires nested { IsNested self.now.statements.items self.now.optionals.items }
-        requires once { (fault : _) → IsFaultOf twice every_optional (policy_in self.now) fault → ⊥ }
+        requires apart { AreApart (policy_in self.now) }
+        requires once { (fault : _) → IsFaultOf twice (policy_in self.now) fault → ⊥ }
         requires within { namespace < length self.now.spaces }
         requires table { table ≢ Scopes }
-        ensures found { IfOk result (λ found. (set : Optionals) → is_some (leads_from set (nested_in self.now) (table_of table) (namespace_at self.now.spaces namespace) text.now) ≡ is_found (has_number self.now.statements.items set) found) }
+        ensures found { IfOk result (λ found. (set : Optionals) → is_some (leads_from (restricted set (policy_in self.now)) (table_of table) (namespace_at self.now.spaces namespace) text.now) ≡ is_found (has_number self.now.optionals.items set) found) }
         ensures below { IfOk result (λ found. IfSome found (λ from. IsTrue (list_all (λ o. nat_lt o (length self.now.optionals.items + 1)) from.items))) }
     {
         prove!(self.spaces().outer(0).is_none());
@@ -49,10 +51,11 @@ impl<'j, 'a, A: Allocator + Copy> Policy<'j, 'a, A> {
     ) -> Result<Option<Vec<usize, A>>, AllocError>
         requires sound { IsSound self.now }
         requires nested { IsNested self.now.statements.items self.now.optionals.items }
-        requires once { (fault : _) → IsFaultOf twice every_optional (policy_in self.now) fault → ⊥ }
+        requires apart { AreApart (policy_in self.now) }
+        requires once { (fault : _) → IsFaultOf twice (policy_in self.now) fault → ⊥ }
         requires within { namespace < length self.now.spaces }
         requires table { table ≢ Scopes }
-        ensures found { IfOk result (λ found. (set : Optionals) → is_some (looked_from set (nested_in self.now) (table_of table) (namespace_at self.now.spaces namespace) (slice_split (λ b. b == 46) text.now)) ≡ is_found (has_number self.now.statements.items set) found) }
+        ensures found { IfOk result (λ found. (set : Optionals) → is_some (looked_from (restricted set (policy_in self.now)) (table_of table) (namespace_at self.now.spaces namespace) (slice_split (λ b. b == 46) text.now)) ≡ is_found (has_number self.now.optionals.items set) found) }
         ensures below { IfOk result (λ found. IfSome found (λ from. IsTrue (list_all (λ o. nat_lt o (length self.now.optionals.items + 1)) from.items))) }
     {
         let Some((first, more)) = split_dot(text) else {
@@ -74,10 +77,11 @@ impl<'j, 'a, A: Allocator + Copy> Policy<'j, 'a, A> {
     ) -> Result<Option<Vec<usize, A>>, AllocError>
         requires sound { IsSound self.now }
         requires nested { IsNested self.now.statements.items self.now.optionals.items }
-        requires once { (fault : _) → IsFaultOf twice every_optional (policy_in self.now) fault → ⊥ }
+        requires apart { AreApart (policy_in self.now) }
+        requires once { (fault : _) → IsFaultOf twice (policy_in self.now) fault → ⊥ }
         requires within { namespace < length self.now.spaces }
         requires table { table ≢ Scopes }
-        ensures found { IfOk result (λ found. (set : Optionals) → is_some (looked_outward set (nested_in self.now) (table_of table) (namespace_at self.now.spaces namespace) name.now) ≡ is_found (has_number self.now.statements.items set) found) }
+        ensures found { IfOk result (λ found. (set : Optionals) → is_some (looked_outward (restricted set (policy_in self.now)) (table_of table) (namespace_at self.now.spaces namespace) name.now) ≡ is_found (has_number self.now.optionals.items set) found) }
         ensures below { IfOk result (λ found. IfSome found (λ from. IsTrue (list_all (λ o. nat_lt o (length self.now.optionals.items + 1)) from.items))) }
     {
         let mut from = Vec::new(alloc);
@@ -103,10 +107,11 @@ impl<'j, 'a, A: Allocator + Copy> Policy<'j, 'a, A> {
     ) -> Result<bool, AllocError>
         requires sound { IsSound self.now }
         requires nested { IsNested self.now.statements.items self.now.optionals.items }
-        requires once { (fault : _) → IsFaultOf twice every_optional (policy_in self.now) fault → ⊥ }
+        requires apart { AreApart (policy_in self.now) }
+        requires once { (fault : _) → IsFaultOf twice (policy_in self.now) fault → ⊥ }
         requires within { namespace < length self.now.spaces }
         requires table { table ≢ Scopes }
-        ensures always { IfOk result (λ always. IsTrue always → (set : Optionals) → IsTrue (is_some (declaration set (nested_in self.now) (table_of table) (namespace_at self.now.spaces namespace) name.now))) }
+        ensures always { IfOk result (λ always. IsTrue always → (set : Optionals) → IsTrue (is_some (declaration (restricted set (policy_in self.now)) (table_of table) (namespace_at self.now.spaces namespace) name.now))) }
         ensures gathered { IfOk result (λ always. always ≡ false → IsGathered self.now (table_of table) (namespace_at self.now.spaces namespace) name.now from.old.items from.new.items) }
     {
         let Some(found) = self.declaration(table, namespace, name) else {
@@ -130,10 +135,11 @@ impl<'j, 'a, A: Allocator + Copy> Policy<'j, 'a, A> {
     ) -> Result<Option<Vec<usize, A>>, AllocError>
         requires sound { IsSound self.now }
         requires nested { IsNested self.now.statements.items self.now.optionals.items }
-        requires once { (fault : _) → IsFaultOf twice every_optional (policy_in self.now) fault → ⊥ }
+        requires apart { AreApart (policy_in self.now) }
+        requires once { (fault : _) → IsFaultOf twice (policy_in self.now) fault → ⊥ }
         requires within { namespace < length self.now.spaces }
         requires table { table ≢ Scopes }
-        ensures found { IfOk result (λ found. (set : Optionals) → is_some (looked_inside set (nested_in self.now) (table_of table) (namespace_at self.now.spaces namespace) (slice_split (λ b. b == 46) text.now)) ≡ is_found (has_number self.now.statements.items set) found) }
+        ensures found { IfOk result (λ found. (set : Optionals) → is_some (looked_inside (restricted set (policy_in self.now)) (table_of table) (namespace_at self.now.spaces namespace) (slice_split (λ b. b == 46) text.now)) ≡ is_found (has_number self.now.optionals.items set) found) }
         ensures below { IfOk result (λ found. IfSome found (λ from. IsTrue (list_all (λ o. nat_lt o (length self.now.optionals.items + 1)) from.items))) }
     {
         let Some(found) = self.inside(table, namespace, text) else {

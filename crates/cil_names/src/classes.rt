@@ -4,8 +4,8 @@ ghost use Rattle.std.specs.Prelude.{◌≡◌, ◌<◌, [], false, length, map, 
 ghost use Rattle.cil_specs.specs.Lookup.{own_permissions, texts};
 ghost use Rattle.cil_specs.specs.Rule.{is_class};
 ghost use Rattle.cil_text.specs.Image.{word_of};
-ghost use Rattle.cil_names.specs.Placed.{form_of, placed_of};
-ghost use Rattle.cil_names.specs.Policy.{policy_in, IsSound};
+ghost use Rattle.cil_names.specs.Placed.{form_of};
+ghost use Rattle.cil_names.specs.Policy.{placed_in, policy_in, IsSound};
 ghost use Rattle.cil_names.specs.Classes.{common_word, permissions_at, GivesTo, GivesNone, IsGiven, HasPermissionsOf, HasPermissions};
 
 use crate::firsts::Gift;
@@ -49,8 +49,8 @@ fn given<'j, 'a, A: Allocator>(
 ) -> Option<(usize, &'j [Word<'a>])>
     requires sound { IsSound policy.now }
     requires within { placed.now.namespace < length policy.now.spaces }
-    ensures some { IfSome result (λ found. GivesTo (policy_in policy.now) (placed_of policy.now.spaces placed.now) found.0 (texts (map word_of found.1.now))) }
-    ensures none { IfNone result (GivesNone (policy_in policy.now) (placed_of policy.now.spaces placed.now)) }
+    ensures some { IfSome result (λ found. GivesTo (policy_in policy.now) (placed_in policy.now placed.now) found.0 (texts (map word_of found.1.now))) }
+    ensures none { IfNone result (GivesNone (policy_in policy.now) (placed_in policy.now placed.now)) }
 {
     let to = Gift::Common.lead(policy, placed)?;
     let common = given_common(placed.statement)?;
@@ -118,7 +118,7 @@ impl<'a, A: Allocator + Copy> Classes<'a, A> {
     ) -> Result<(), AllocError>
         requires sound { IsSound policy.now }
         requires within { placed.now.namespace < length policy.now.spaces }
-        ensures { OnOk result (IsGiven (policy_in policy.now) (placed_of policy.now.spaces placed.now) self.old self.new) }
+        ensures { OnOk result (IsGiven (policy_in policy.now) (placed_in policy.now placed.now) self.old self.new) }
     {
         let Some((to, permissions)) = given(policy, placed) else {
             return Ok(());

@@ -1,10 +1,9 @@
 //! Which statement is the first that gives something to a declaration.
 
 ghost use Rattle.std.specs.Prelude.{◌≡◌, ◌<◌, length, option_map, IfOk, OnOk, OnErr};
-ghost use Rattle.cil_specs.specs.Lookup.{every_optional};
 ghost use Rattle.cil_text.specs.Image.{word_of};
-ghost use Rattle.cil_names.specs.Placed.{form_of, placed_of};
-ghost use Rattle.cil_names.specs.Policy.{table_of, policy_in, IsLead, IsSound};
+ghost use Rattle.cil_names.specs.Placed.{form_of};
+ghost use Rattle.cil_names.specs.Policy.{table_of, placed_in, policy_in, IsLead, IsSound};
 ghost use Rattle.cil_names.specs.Gifts.{gift_table, given_word, given_lead, first_at, with_first, HasFirsts};
 
 use crate::kinds::Table;
@@ -67,7 +66,7 @@ impl Gift {
     ) -> Option<usize>
         requires sound { IsSound policy.now }
         requires within { placed.now.namespace < length policy.now.spaces }
-        ensures { IsLead (gift_table self) (policy_in policy.now) result (given_lead self every_optional (policy_in policy.now) (placed_of policy.now.spaces placed.now)) }
+        ensures { IsLead (gift_table self) (policy_in policy.now) result (given_lead self (policy_in policy.now) (placed_in policy.now placed.now)) }
     {
         let word = self.to(placed.statement)?;
         policy.leads(self.table(), placed.namespace, word.text)

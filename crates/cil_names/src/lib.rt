@@ -26,7 +26,7 @@ mod views;
 
 pub use fault::{PolicyFault, PolicyFaultKind};
 pub use joined::{Joined, NamedModule, join};
-pub use laws::{found_grows, kept_is_good, policies_are_apart};
+pub use laws::{found_grows, kept_exists, kept_is_good, kept_is_one, policies_are_apart};
 pub use numbered::{Aim, DroppedOptional, Element, NumberedClass, NumberedName, NumberedRule};
 pub use resolved::Resolved;
 pub use resolver::{resolve, resolve_types};

@@ -3,12 +3,12 @@
 ghost use Rattle.std.specs.Prelude.{◌≡◌, ◌≢◌, ◌↔◌, ◌+◌, ℕ, suc, Bool, [], ◌∷◌, map, length, slice_get, Some, IfOk, OnOk, IsTrue};
 ghost use Rattle.std.specs.List.{list_all};
 ghost use Rattle.cil_specs.specs.Statements.{target_words};
-ghost use Rattle.cil_specs.specs.Lookup.{types, classes, Optionals, references, named_permissions, every_optional};
+ghost use Rattle.cil_specs.specs.Lookup.{types, classes, references, named_permissions};
 ghost use Rattle.cil_specs.specs.PolicyFault.{twice, IsFaultOf};
-ghost use Rattle.cil_specs.specs.Kept.{AreApart};
+ghost use Rattle.cil_specs.specs.Kept.{Optionals, restricted, AreApart};
 ghost use Rattle.cil_text.specs.Image.{word_of, target_of};
 ghost use Rattle.cil_names.specs.Placed.{form_of};
-ghost use Rattle.cil_names.specs.Nested.{nested_in, optionals_among, has_number, IsNested};
+ghost use Rattle.cil_names.specs.Nested.{has_number, IsNested};
 ghost use Rattle.cil_names.specs.Needs.{are_met, is_need_below, are_found, AreFoundWithin, IsNestedBy, IsFinder, IsInOptional, Asks};
 ghost use Rattle.cil_names.specs.Policy.{namespace_at, policy_in, table_of, IsSound};
 ghost use Rattle.cil_names.specs.declared.kinds.Table.TheVariants.{Scopes};
@@ -29,12 +29,12 @@ pub fn needs_of<A: Allocator + Copy>(
 ) -> Result<Vec<Need<A>, A>, AllocError>
     requires sound { IsSound policy.now }
     requires nested { IsNested policy.now.statements.items policy.now.optionals.items }
-    requires apart { AreApart (nested_in policy.now) }
-    requires once { (fault : _) → IsFaultOf twice every_optional (policy_in policy.now) fault → ⊥ }
+    requires apart { AreApart (policy_in policy.now) }
+    requires once { (fault : _) → IsFaultOf twice (policy_in policy.now) fault → ⊥ }
     ensures below { IfOk result (λ needs. IsTrue (list_all (is_need_below (length policy.now.optionals.items + 1)) needs.items)) }
-    ensures inside { IfOk result (λ needs. (has : ℕ → Bool) → IsTrue (are_met has needs.items) → (k : ℕ) (o : _) → slice_get (optionals_among policy.now.statements.items) k ≡ Some o
+    ensures inside { IfOk result (λ needs. (has : ℕ → Bool) → IsTrue (are_met has needs.items) → (k : ℕ) (o : _) → slice_get policy.now.optionals.items k ≡ Some o
         → IsTrue (has (suc k)) → o.optional ≢ 0 → IsTrue (has o.optional)) }
-    ensures found { IfOk result (λ needs. (set : Optionals) → IsTrue (are_met (has_number policy.now.statements.items set) needs.items) ↔ AreFoundWithin (nested_in policy.now) set) }
+    ensures found { IfOk result (λ needs. (set : Optionals) → IsTrue (are_met (has_number policy.now.optionals.items set) needs.items) ↔ AreFoundWithin (policy_in policy.now) set) }
 {
     let classes = Classes::of(alloc, policy)?;
     let finder = Finder {
@@ -64,16 +64,14 @@ impl<'p, 'j, 'a, A: Allocator + Copy> Finder<'p, 'j, 'a, A> {
     fn nested(&self) -> Result<Vec<Need<A>, A>, AllocError>
         requires { IsFinder self.now }
         ensures below { IfOk result (λ needs. IsTrue (list_all (is_need_below (length self.now.policy.now.optionals.items + 1)) needs.items)) }
-        ensures inside { IfOk result (λ needs. IsNestedBy self.now.policy.now.statements.items needs.items) }
-        ensures met { IfOk result (λ needs. (set : Optionals) → IsTrue (are_met (has_number self.now.policy.now.statements.items set) needs.items)) }
+        ensures inside { IfOk result (λ needs. IsNestedBy self.now.policy.now.optionals.items needs.items) }
+        ensures met { IfOk result (λ needs. (set : Optionals) → IsTrue (are_met (has_number self.now.policy.now.optionals.items set) needs.items)) }
     {
-        let statements = self.policy.statements();
         let mut needs = Vec::new(self.alloc);
-        for (i, place) in self.policy.optionals().iter().enumerate() {
-            let outer = statements[*place].optional;
-            if outer != 0 {
+        for (i, placed) in self.policy.optionals().iter().enumerate() {
+            if placed.optional != 0 {
                 let mut from = Vec::with_capacity(self.alloc, 1)?;
-                from.push(outer)?;
+                from.push(placed.optional)?;
                 needs.push(Need {
                     optional: i + 1,
                     from,
@@ -185,7 +183,7 @@ impl<'p, 'j, 'a, A: Allocator + Copy> Finder<'p, 'j, 'a, A> {
     ) -> bool
         requires ready { IsFinder self.now }
         requires inside { IsInOptional self.now.policy.now placed.now }
-        ensures { (set : Optionals) → result ≡ are_found set (nested_in self.now.policy.now) (namespace_at self.now.policy.now.spaces placed.now.namespace) ((classes, word_of class.entry) ∷ []) (map (λ w. (word_of class.entry, w)) (map word_of permissions.now)) }
+        ensures { (set : Optionals) → result ≡ are_found (restricted set (policy_in self.now.policy.now)) (namespace_at self.now.policy.now.spaces placed.now.namespace) ((classes, word_of class.entry) ∷ []) (map (λ w. (word_of class.entry, w)) (map word_of permissions.now)) }
     {
         let Some(found) = self
             .policy

@@ -4,20 +4,21 @@ ghost use Rattle.std.specs.Prelude.{◌≡◌, ◌≢◌, ◌<◌, [], Some, map
 ghost use Rattle.std.specs.List.{list_all, AllByRecursion};
 ghost use Rattle.std.specs.Option.{option_to_list};
 ghost use Rattle.cil_specs.specs.Joined.{Placed};
-ghost use Rattle.cil_specs.specs.Lookup.{types, classes as class_table, leads as leads_from, holds_of, actual_statement, actual_of, is_type, with_name, every_optional};
+ghost use Rattle.cil_specs.specs.Lookup.{types, classes as class_table, leads as leads_from, holds_of, actual_statement, actual_of, is_type, with_name};
 ghost use Rattle.cil_specs.specs.Report.{names_rise};
 ghost use Rattle.cil_specs.specs.Rule.{element_of as element_led, aim_of as aim_led, class_name, classes_of, rules_of, rule_of as rule_led};
 ghost use Rattle.cil_specs.specs.Statements.{target_words};
-ghost use Rattle.cil_specs.specs.PolicyFault.{Compiles};
+ghost use Rattle.cil_specs.specs.Meaning.{meaning_of};
 ghost use Rattle.cil_text.specs.Image.{word_of, target_of};
 ghost use Rattle.cil_names.specs.Below.{is_element_below, is_aim_below, is_rule_below, is_name_below, is_class_below};
 ghost use Rattle.cil_names.specs.First.{IsFirstOf};
+ghost use Rattle.cil_names.specs.Flat.{IsFaultless};
 ghost use Rattle.cil_names.specs.FullNames.{full_name_of};
 ghost use Rattle.cil_names.specs.Numbering.{names_with, AreNamesOf, is_numbered, is_element_word, declared_by, declared_if, class_if, IsNumbering};
-ghost use Rattle.cil_names.specs.Placed.{form_of, placed_of};
-ghost use Rattle.cil_names.specs.Policy.{namespace_at, modules_in, policy_in, IsSound};
+ghost use Rattle.cil_names.specs.Placed.{form_of};
+ghost use Rattle.cil_names.specs.Policy.{namespace_at, modules_in, placed_in, policy_in, IsSound};
 ghost use Rattle.cil_names.specs.Resolution.{IsResolved};
-ghost use Rattle.cil_names.specs.Resolved.{HasContents, dropped_with, dropped_in, element_of, aim_of, declared_of, class_of, rule_of};
+ghost use Rattle.cil_names.specs.Resolved.{meaning_in, dropped_with, element_of, aim_of, declared_of, class_of, rule_of};
 ghost use Rattle.cil_names.specs.declared.kinds.Kind.TheVariants.{Alias};
 
 use crate::full_names::full_names;
@@ -38,9 +39,8 @@ pub fn number_policy<A: Allocator + Copy>(
     dropped: Vec<DroppedOptional<A>, A>,
 ) -> Result<Resolved<A>, AllocError>
     requires resolved { IsResolved resolution.now }
-    requires compiles { Compiles every_optional (policy_in resolution.now.policy) }
-    ensures contents { IfOk result (HasContents every_optional (policy_in resolution.now.policy)) }
-    ensures dropped { IfOk result (λ r. dropped_in r ≡ map (dropped_with (modules_in resolution.now.policy)) dropped.items) }
+    requires compiles { IsFaultless (policy_in resolution.now.policy) }
+    ensures { IfOk result (λ r. meaning_in r ≡ meaning_of (policy_in resolution.now.policy) (map (dropped_with (modules_in resolution.now.policy)) dropped.items)) }
 {
     let full_names = full_names(alloc, &resolution.policy)?;
     let names = sorted_names(alloc, resolution, &full_names)?;
@@ -163,10 +163,10 @@ impl<'n, 't, 'j, 'a: 't, A: Allocator + Copy> Numbering<'n, 't, 'j, 'a, A> {
     ) -> Option<NumberedName>
         requires ready { IsNumbering self.now }
         requires kind { kind ≢ Alias }
-        requires at { slice_get (policy_in self.now.resolution.now.policy) place ≡ Some (placed_of self.now.resolution.now.policy.spaces placed.now) }
+        requires at { slice_get (policy_in self.now.resolution.now.policy) place ≡ Some (placed_in self.now.resolution.now.policy placed.now) }
         requires numbered { slice_index_or (modules_in self.now.resolution.now.policy) placed.now.module [] ≡ placed.now.module_name.now }
         ensures declared { map (declared_of (modules_in self.now.resolution.now.policy) self.now.names.now) (option_to_list result)
-            ≡ declared_if kind (placed_of self.now.resolution.now.policy.spaces placed.now) }
+            ≡ declared_if kind (placed_in self.now.resolution.now.policy placed.now) }
         ensures within { IsTrue (list_all (is_name_below (length self.now.names.now)) (option_to_list result)) }
     {
         match (kind, placed.statement) {
@@ -184,7 +184,7 @@ impl<'n, 't, 'j, 'a: 't, A: Allocator + Copy> Numbering<'n, 't, 'j, 'a, A> {
 
     fn classes(&self) -> Result<Vec<NumberedClass<A>, A>, AllocError>
         requires ready { IsNumbering self.now }
-        ensures classes { IfOk result (λ classes. map (class_of (modules_in self.now.resolution.now.policy) self.now.names.now) classes.items ≡ classes_of every_optional (policy_in self.now.resolution.now.policy)) }
+        ensures classes { IfOk result (λ classes. map (class_of (modules_in self.now.resolution.now.policy) self.now.names.now) classes.items ≡ classes_of (policy_in self.now.resolution.now.policy)) }
         ensures within { IfOk result (λ classes. IsTrue (list_all (is_class_below (length self.now.names.now)) classes.items)) }
     {
         let mut classes = Vec::new(self.alloc);
@@ -204,10 +204,10 @@ impl<'n, 't, 'j, 'a: 't, A: Allocator + Copy> Numbering<'n, 't, 'j, 'a, A> {
         placed: &PlacedStatement<'j, 'a, A>,
     ) -> Result<Option<NumberedClass<A>>, AllocError>
         requires ready { IsNumbering self.now }
-        requires at { slice_get (policy_in self.now.resolution.now.policy) place ≡ Some (placed_of self.now.resolution.now.policy.spaces placed.now) }
+        requires at { slice_get (policy_in self.now.resolution.now.policy) place ≡ Some (placed_in self.now.resolution.now.policy placed.now) }
         requires numbered { slice_index_or (modules_in self.now.resolution.now.policy) placed.now.module [] ≡ placed.now.module_name.now }
         ensures class { IfOk result (λ class. map (class_of (modules_in self.now.resolution.now.policy) self.now.names.now) (option_to_list class)
-            ≡ class_if (policy_in self.now.resolution.now.policy) (placed_of self.now.resolution.now.policy.spaces placed.now)) }
+            ≡ class_if (policy_in self.now.resolution.now.policy) (placed_in self.now.resolution.now.policy placed.now)) }
         ensures within { IfOk result (λ class. IsTrue (list_all (is_class_below (length self.now.names.now)) (option_to_list class))) }
     {
         let Statement::Class { .. } = placed.statement else {
@@ -227,8 +227,7 @@ impl<'n, 't, 'j, 'a: 't, A: Allocator + Copy> Numbering<'n, 't, 'j, 'a, A> {
     fn resolved(&self, dropped: Vec<DroppedOptional<A>, A>) -> Result<Resolved<A>, AllocError>
         requires ready { IsNumbering self.now }
         requires ordered { IsTrue (names_rise self.now.names.now) }
-        ensures contents { IfOk result (HasContents every_optional (policy_in self.now.resolution.now.policy)) }
-        ensures dropped { IfOk result (λ r. dropped_in r ≡ map (dropped_with (modules_in self.now.resolution.now.policy)) dropped.items) }
+        ensures { IfOk result (λ r. meaning_in r ≡ meaning_of (policy_in self.now.resolution.now.policy) (map (dropped_with (modules_in self.now.resolution.now.policy)) dropped.items)) }
     {
         Ok(Resolved {
             modules: module_names(self.alloc, self.resolution)?,
@@ -243,7 +242,7 @@ impl<'n, 't, 'j, 'a: 't, A: Allocator + Copy> Numbering<'n, 't, 'j, 'a, A> {
 
     fn rules(&self) -> Result<Vec<NumberedRule<A>, A>, AllocError>
         requires ready { IsNumbering self.now }
-        ensures rules { IfOk result (λ rules. map (rule_of (modules_in self.now.resolution.now.policy) self.now.names.now) rules.items ≡ rules_of every_optional (policy_in self.now.resolution.now.policy)) }
+        ensures rules { IfOk result (λ rules. map (rule_of (modules_in self.now.resolution.now.policy) self.now.names.now) rules.items ≡ rules_of (policy_in self.now.resolution.now.policy)) }
         ensures within { IfOk result (λ rules. IsTrue (list_all (is_rule_below (length self.now.names.now)) rules.items)) }
     {
         let mut rules = Vec::new(self.alloc);
@@ -262,11 +261,11 @@ impl<'n, 't, 'j, 'a: 't, A: Allocator + Copy> Numbering<'n, 't, 'j, 'a, A> {
         placed: &PlacedStatement<'j, 'a, A>,
     ) -> Result<Option<NumberedRule<A>>, AllocError>
         requires ready { IsNumbering self.now }
-        requires at { Contains (policy_in self.now.resolution.now.policy) (placed_of self.now.resolution.now.policy.spaces placed.now) }
+        requires at { Contains (policy_in self.now.resolution.now.policy) (placed_in self.now.resolution.now.policy placed.now) }
         requires within { placed.now.namespace < length self.now.resolution.now.policy.spaces }
         requires numbered { slice_index_or (modules_in self.now.resolution.now.policy) placed.now.module [] ≡ placed.now.module_name.now }
         ensures rule { IfOk result (λ rule. map (rule_of (modules_in self.now.resolution.now.policy) self.now.names.now) (option_to_list rule)
-            ≡ rule_led every_optional (policy_in self.now.resolution.now.policy) (placed_of self.now.resolution.now.policy.spaces placed.now) (form_of placed.now.statement.now)) }
+            ≡ rule_led (policy_in self.now.resolution.now.policy) (placed_in self.now.resolution.now.policy placed.now) (form_of placed.now.statement.now)) }
         ensures within { IfOk result (λ rule. IsTrue (list_all (is_rule_below (length self.now.names.now)) (option_to_list rule))) }
     {
         let Statement::Rule {
@@ -295,9 +294,9 @@ impl<'n, 't, 'j, 'a: 't, A: Allocator + Copy> Numbering<'n, 't, 'j, 'a, A> {
     fn aim(&self, namespace: usize, target: Target<'a>) -> Aim
         requires ready { IsNumbering self.now }
         requires within { namespace < length self.now.resolution.now.policy.spaces }
-        requires led { AllByRecursion (λ w. IsTrue (is_element_word every_optional (policy_in self.now.resolution.now.policy) (namespace_at self.now.resolution.now.policy.spaces namespace) w)) (target_words (target_of target)) }
+        requires led { AllByRecursion (λ w. IsTrue (is_element_word (policy_in self.now.resolution.now.policy) (namespace_at self.now.resolution.now.policy.spaces namespace) w)) (target_words (target_of target)) }
         ensures within { IsTrue (is_aim_below (length self.now.names.now) result) }
-        ensures aim { aim_of self.now.names.now result ≡ aim_led every_optional (policy_in self.now.resolution.now.policy) (namespace_at self.now.resolution.now.policy.spaces namespace) (target_of target.entry) }
+        ensures aim { aim_of self.now.names.now result ≡ aim_led (policy_in self.now.resolution.now.policy) (namespace_at self.now.resolution.now.policy.spaces namespace) (target_of target.entry) }
     {
         match target {
             Target::Itself => Aim::Itself,
@@ -309,9 +308,9 @@ impl<'n, 't, 'j, 'a: 't, A: Allocator + Copy> Numbering<'n, 't, 'j, 'a, A> {
     fn element(&self, namespace: usize, word: Word<'a>) -> Element
         requires ready { IsNumbering self.now }
         requires within { namespace < length self.now.resolution.now.policy.spaces }
-        requires led { IsTrue (is_element_word every_optional (policy_in self.now.resolution.now.policy) (namespace_at self.now.resolution.now.policy.spaces namespace) (word_of word)) }
+        requires led { IsTrue (is_element_word (policy_in self.now.resolution.now.policy) (namespace_at self.now.resolution.now.policy.spaces namespace) (word_of word)) }
         ensures within { IsTrue (is_element_below (length self.now.names.now) result) }
-        ensures element { element_of self.now.names.now result ≡ element_led every_optional (policy_in self.now.resolution.now.policy) (namespace_at self.now.resolution.now.policy.spaces namespace) (word_of word.entry) }
+        ensures element { element_of self.now.names.now result ≡ element_led (policy_in self.now.resolution.now.policy) (namespace_at self.now.resolution.now.policy.spaces namespace) (word_of word.entry) }
     {
         let policy = &self.resolution.policy;
         let found = policy.leads(Table::Types, namespace, word.text).unwrap();
@@ -327,10 +326,10 @@ impl<'n, 't, 'j, 'a: 't, A: Allocator + Copy> Numbering<'n, 't, 'j, 'a, A> {
     fn actual(&self, alias: usize) -> usize
         requires ready { IsNumbering self.now }
         requires first { IsFirstOf types (policy_in self.now.resolution.now.policy) alias }
-        requires set { IsTrue (holds_of (λ s. is_some (actual_statement every_optional (policy_in self.now.resolution.now.policy) s)) (slice_get (policy_in self.now.resolution.now.policy) alias)) }
+        requires set { IsTrue (holds_of (λ s. is_some (actual_statement (policy_in self.now.resolution.now.policy) s)) (slice_get (policy_in self.now.resolution.now.policy) alias)) }
         ensures is_type { IsTrue (holds_of (λ s. is_type s.form) (slice_get (policy_in self.now.resolution.now.policy) result)) }
         ensures actual { (s : Placed) → slice_get (policy_in self.now.resolution.now.policy) alias ≡ Some s
-            → slice_get (policy_in self.now.resolution.now.policy) result ≡ actual_of every_optional (policy_in self.now.resolution.now.policy) s }
+            → slice_get (policy_in self.now.resolution.now.policy) result ≡ actual_of (policy_in self.now.resolution.now.policy) s }
     {
         let place = self.resolution.actuals.get(alias).unwrap();
         self.resolution.policy.actual(place).unwrap()
@@ -340,9 +339,9 @@ impl<'n, 't, 'j, 'a: 't, A: Allocator + Copy> Numbering<'n, 't, 'j, 'a, A> {
     fn class(&self, namespace: usize, word: Word<'a>) -> usize
         requires ready { IsNumbering self.now }
         requires within { namespace < length self.now.resolution.now.policy.spaces }
-        requires led { IsTrue (is_some (leads_from every_optional (policy_in self.now.resolution.now.policy) class_table (namespace_at self.now.resolution.now.policy.spaces namespace) (word_of word).text)) }
+        requires led { IsTrue (is_some (leads_from (policy_in self.now.resolution.now.policy) class_table (namespace_at self.now.resolution.now.policy.spaces namespace) (word_of word).text)) }
         ensures within { result < length self.now.names.now }
-        ensures named { slice_index_or self.now.names.now result [] ≡ class_name every_optional (policy_in self.now.resolution.now.policy) (namespace_at self.now.resolution.now.policy.spaces namespace) (word_of word.entry) }
+        ensures named { slice_index_or self.now.names.now result [] ≡ class_name (policy_in self.now.resolution.now.policy) (namespace_at self.now.resolution.now.policy.spaces namespace) (word_of word.entry) }
     {
         let policy = &self.resolution.policy;
         let found = policy.leads(Table::Classes, namespace, word.text).unwrap();

@@ -1,12 +1,12 @@
 //! Which optionals of a policy are kept, and which drop.
 
 ghost use Rattle.std.specs.Prelude.{◌≡◌, ◌<◌, ◌+◌, ℕ, true, false, map, length, slice_index_or, IfOk};
-ghost use Rattle.cil_specs.specs.Lookup.{scopes, declared_in, word_text, is_within, every_optional};
+ghost use Rattle.cil_specs.specs.Lookup.{scopes, declared_in, word_text};
 ghost use Rattle.cil_specs.specs.PolicyFault.{twice, IsFaultOf};
-ghost use Rattle.cil_specs.specs.Kept.{AreApart, AreKept, dropped_of};
+ghost use Rattle.cil_specs.specs.Kept.{is_within, AreApart, AreKept, dropped_of};
 ghost use Rattle.cil_text.specs.Image.{place_of};
 ghost use Rattle.cil_names.specs.FullNames.{name_in};
-ghost use Rattle.cil_names.specs.Nested.{nested_in, set_of, is_optional_statement, IsNested};
+ghost use Rattle.cil_names.specs.Nested.{set_of, is_optional_statement, IsNested};
 ghost use Rattle.cil_names.specs.Placed.{form_of, at_of};
 ghost use Rattle.cil_names.specs.Policy.{modules_in, policy_in, IsSound};
 ghost use Rattle.cil_names.specs.Resolved.{dropped_with};
@@ -28,12 +28,12 @@ pub fn kept_optionals<A: Allocator + Copy>(
 ) -> Result<Vec<bool, A>, AllocError>
     requires sound { IsSound policy.now }
     requires nested { IsNested policy.now.statements.items policy.now.optionals.items }
-    requires apart { AreApart (nested_in policy.now) }
-    requires once { (fault : _) → IsFaultOf twice every_optional (policy_in policy.now) fault → ⊥ }
+    requires apart { AreApart (policy_in policy.now) }
+    requires once { (fault : _) → IsFaultOf twice (policy_in policy.now) fault → ⊥ }
     ensures len { IfOk result (λ kept. length kept.items ≡ length policy.now.optionals.items + 1) }
     ensures outside { IfOk result (λ kept. slice_index_or kept.items 0 false ≡ true) }
-    ensures kept { IfOk result (λ kept. AreKept (nested_in policy.now) (set_of policy.now.statements.items kept.items)) }
-    ensures within { IfOk result (λ kept. map (λ s. is_within (set_of policy.now.statements.items kept.items) s) (nested_in policy.now) ≡ map (λ p. slice_index_or kept.items p.optional false) policy.now.statements.items) }
+    ensures kept { IfOk result (λ kept. AreKept (policy_in policy.now) (set_of policy.now.optionals.items kept.items)) }
+    ensures within { IfOk result (λ kept. map (λ s. is_within (set_of policy.now.optionals.items kept.items) s) (policy_in policy.now) ≡ map (λ p. slice_index_or kept.items p.optional false) policy.now.statements.items) }
 {
     let needs = needs_of(alloc, policy)?;
     greatest(alloc, policy.optionals().len(), &needs)
@@ -48,14 +48,13 @@ pub fn dropped_optionals<A: Allocator + Copy>(
     requires sound { IsSound policy.now }
     requires nested { IsNested policy.now.statements.items policy.now.optionals.items }
     requires len { length kept.now ≡ length policy.now.optionals.items + 1 }
-    ensures { IfOk result (λ dropped. map (dropped_with (modules_in policy.now)) dropped.items ≡ dropped_of (set_of policy.now.statements.items kept.now) (nested_in policy.now)) }
+    ensures { IfOk result (λ dropped. map (dropped_with (modules_in policy.now)) dropped.items ≡ dropped_of (set_of policy.now.optionals.items kept.now) (policy_in policy.now)) }
 {
     let spaces = space_names(alloc, policy.spaces())?;
     let mut dropped = Vec::new(alloc);
-    let statements = policy.statements();
-    for (i, place) in policy.optionals().iter().enumerate() {
+    for (i, placed) in policy.optionals().iter().enumerate() {
         if !kept[i + 1] {
-            dropped.push(dropped_optional(alloc, &spaces, &statements[*place])?)?;
+            dropped.push(dropped_optional(alloc, &spaces, placed)?)?;
         }
     }
     Ok(dropped)

@@ -9,8 +9,9 @@ ghost use Rattle.cil_text.specs.Image.{statements_of};
 ghost use Rattle.cil_names.specs.Image.{modules_of};
 ghost use Rattle.cil_names.specs.Flat.{AreFlat};
 ghost use Rattle.cil_names.specs.Extends.{placed_around, Extends};
-ghost use Rattle.cil_names.specs.Nested.{nested_policy_of, optionals_among, IsAround, IsNested};
-ghost use Rattle.cil_names.specs.Placed.{policy_of, AreNumbered, AreIn, AreBlocks};
+ghost use Rattle.cil_names.specs.Nested.{optionals_among, IsAround, IsNested};
+ghost use Rattle.cil_names.specs.Placed.{AreNumbered, AreIn, AreBlocks};
+ghost use Rattle.cil_names.specs.Policy.{placed_as};
 ghost use Rattle.cil_names.specs.Spaces.{Namespace};
 
 use crate::fault::{PolicyFault, PolicyFaultKind};
@@ -39,7 +40,7 @@ impl<'j, 'a, A: Allocator> PlacedStatement<'j, 'a, A> {
 
     /// A fault at a word of the statement.
     pub fn fault(&self, kind: PolicyFaultKind, word: Word<'a>) -> PolicyFault<'a>
-        ensures { IsFoundFault result (λ fault. (spaces : List Namespace) → IsAtWordOf fault (policy_kind_of kind) (placed_of spaces self.now) (word_of word.entry)) }
+        ensures { IsFoundFault result (λ fault. (spaces : List Namespace) (chains : List (List ℕ)) → IsAtWordOf fault (policy_kind_of kind) (placed_of spaces chains self.now) (word_of word.entry)) }
     {
         let module = self.module_name;
         PolicyFault::Found {
@@ -106,12 +107,12 @@ impl<'j, 'a, A: Allocator> PlacedStatement<'j, 'a, A> {
     }
 }
 
-/// Statements one after the other, the names of their modules, their namespaces, and the places of the optionals among them.
+/// Statements one after the other, the names of their modules, their namespaces, and the optionals among them.
 #[derive(Drop)]
 pub struct Flat<'j, 'a, A: Allocator = Global> {
     pub modules: Vec<&'a [u8], A>,
     pub spaces: Spaces<'a, A>,
-    pub optionals: Vec<usize, A>,
+    pub optionals: Vec<PlacedStatement<'j, 'a, A>, A>,
     pub statements: Vec<PlacedStatement<'j, 'a, A>, A>,
 }
 
@@ -124,18 +125,36 @@ pub struct Around<'a> {
     pub optional: usize,
 }
 
+impl<'a> Around<'a> {
+    /// A statement there.
+    fn placed<'j, A: Allocator>(
+        self,
+        statement: &'j Statement<'a, A>,
+    ) -> PlacedStatement<'j, 'a, A>
+        ensures { result ≡ record { «module» = self.entry.«module»; module_name = self.entry.module_name; namespace = self.entry.namespace; optional = self.entry.optional; statement = statement.entry } }
+    {
+        PlacedStatement {
+            module: self.module,
+            module_name: self.module_name,
+            namespace: self.namespace,
+            optional: self.optional,
+            statement,
+        }
+    }
+}
+
 /// The statements of the modules, one module after the other, those inside a block or an optional behind it.
 pub fn place_statements<'j, 'a, A: Allocator + Copy>(
     alloc: A,
     joined: &'j Joined<'a, A>,
 ) -> Result<Flat<'j, 'a, A>, AllocError>
     requires plain { IsTrue (list_all (λ m. is_plain m.statements) (modules_of joined.now)) }
-    ensures policy { IfOk result (λ flat. nested_policy_of flat.spaces flat.statements.items ≡ joined_policy (modules_of joined.now)) }
+    ensures policy { IfOk result (λ flat. map (placed_as flat) flat.statements.items ≡ joined_policy (modules_of joined.now)) }
     ensures nested { IfOk result (λ flat. IsNested flat.statements.items flat.optionals.items) }
     ensures numbered { IfOk result (λ flat. AreNumbered (map (λ m. m.now) flat.modules.items) flat.statements.items) }
-    ensures flat { IfOk result (λ flat. AreFlat (policy_of flat.spaces flat.statements.items)) }
+    ensures flat { IfOk result (λ flat. AreFlat (map (placed_as flat) flat.statements.items)) }
     ensures within { IfOk result (λ flat. AreIn (length flat.spaces) flat.statements.items) }
-    ensures blocks { IfOk result (λ flat. AreBlocks flat.spaces (policy_of flat.spaces flat.statements.items)) }
+    ensures blocks { IfOk result (λ flat. AreBlocks flat.spaces (map (placed_as flat) flat.statements.items)) }
     ensures distinct { IfOk result (λ flat. IsDistinct same_namespace flat.spaces) }
 {
     let mut flat = Flat {
@@ -171,13 +190,7 @@ impl<'j, 'a, A: Allocator + Copy> Flat<'j, 'a, A> {
         ensures { OnOk result (Extends self.old self.new around.entry.module around.entry.module_name.now (placed_around self.old around.entry (statements_of statements.now))) }
     {
         for statement in statements {
-            self.statements.push(PlacedStatement {
-                module: around.module,
-                module_name: around.module_name,
-                namespace: around.namespace,
-                optional: around.optional,
-                statement,
-            })?;
+            self.statements.push(around.placed(statement))?;
             match statement {
                 Statement::Block { id, body, .. } => {
                     let namespace = self.spaces.open(around.namespace, id.text)?;
@@ -190,7 +203,7 @@ impl<'j, 'a, A: Allocator + Copy> Flat<'j, 'a, A> {
                     )?;
                 }
                 Statement::Optional { body, .. } => {
-                    self.optionals.push(self.statements.len() - 1)?;
+                    self.optionals.push(around.placed(statement))?;
                     let optional = self.optionals.len();
                     self.place(Around { optional, ..around }, body)?;
                 }

@@ -3,16 +3,16 @@
 ghost use Rattle.std.specs.Prelude.{◌≡◌, ◌<◌, ◌==◌, ◌∷◌, true, false, [], filter, take, Some, None, map, length, slice_get, slice_index_or, option_map, IfOk, IfErr, IfSome, IfNone, IsTrue};
 ghost use Rattle.std.specs.List.{list_all, position, slice_split};
 ghost use Rattle.cil_specs.specs.Joined.{Placed, joined as joined_policy};
-ghost use Rattle.cil_specs.specs.Lookup.{declares, leads as leads_from, outward as looked_outward, nearest_block as nearest, inside as looked_inside, from_namespace as looked_from, types, texts, listed_by, actual_in, every_optional};
+ghost use Rattle.cil_specs.specs.Lookup.{declares, leads as leads_from, outward as looked_outward, nearest_block as nearest, inside as looked_inside, from_namespace as looked_from, types, texts, listed_by, actual_in};
 ghost use Rattle.cil_specs.specs.PolicyFault.{twice, IsFaultOf};
 ghost use Rattle.cil_specs.specs.Next.{is_plain};
 ghost use Rattle.cil_text.specs.Image.{word_of};
 ghost use Rattle.cil_names.specs.Image.{modules_of, PolicyFaultIs};
 ghost use Rattle.cil_names.specs.Flat.{AreFlat, IsLeast};
-ghost use Rattle.cil_names.specs.Nested.{nested_in, IsNested};
-ghost use Rattle.cil_specs.specs.Kept.{AreApart};
-ghost use Rattle.cil_names.specs.Placed.{placed_of, policy_of, AreIn, AreNumbered};
-ghost use Rattle.cil_names.specs.Policy.{namespace_at, modules_in, policy_in, table_of, IsLead, IsFlat, IsSound, IsKindAt, HasDeclared, IsTaken};
+ghost use Rattle.cil_names.specs.Nested.{set_of, IsNested};
+ghost use Rattle.cil_specs.specs.Kept.{is_within, restricted, AreApart};
+ghost use Rattle.cil_names.specs.Placed.{AreIn, AreNumbered};
+ghost use Rattle.cil_names.specs.Policy.{namespace_at, modules_in, placed_in, placed_as, policy_in, table_of, IsLead, IsFlat, IsSound, IsKindAt, HasDeclaredIn, IsTaken};
 
 use crate::fault::{PolicyFault, PolicyFaultKind};
 use crate::joined::Joined;
@@ -32,12 +32,12 @@ pub struct Key<'a> {
     pub name: &'a [u8],
 }
 
-/// The statements of a joined policy, the places of the optionals among them, and where each name is declared first.
+/// The statements of a joined policy, its optionals, those that drop too, and where each name is declared first.
 #[derive(Drop)]
 pub struct Policy<'j, 'a, A: Allocator = Global> {
     modules: Vec<&'a [u8], A>,
     spaces: Spaces<'a, A>,
-    optionals: Vec<usize, A>,
+    optionals: Vec<PlacedStatement<'j, 'a, A>, A>,
     statements: Vec<PlacedStatement<'j, 'a, A>, A>,
     declared: IndexMap<Key<'a>, usize, BuildHasherDefault<FoldHasher>, A>,
 }
@@ -58,10 +58,10 @@ impl<'j, 'a, A: Allocator + Copy> Policy<'j, 'a, A> {
         requires plain { IsTrue (list_all (λ m. is_plain m.statements) (modules_of joined.now)) }
         ensures sound { IfOk result IsSound }
         ensures nested { IfOk result (λ p. IsNested p.statements.items p.optionals.items) }
-        ensures policy { IfOk result (λ p. nested_in p ≡ joined_policy (modules_of joined.now)) }
-        ensures apart { IfOk result (λ p. AreApart (nested_in p)) }
-        ensures once { IfOk result (λ p. (fault : _) → IsFaultOf twice every_optional (policy_in p) fault → ⊥) }
-        ensures err { IfErr result (λ fault. PolicyFaultIs fault (IsLeast (IsFaultOf twice every_optional (joined_policy (modules_of joined.now))))) }
+        ensures policy { IfOk result (λ p. policy_in p ≡ joined_policy (modules_of joined.now)) }
+        ensures apart { IfOk result (λ p. AreApart (policy_in p)) }
+        ensures once { IfOk result (λ p. (fault : _) → IsFaultOf twice (policy_in p) fault → ⊥) }
+        ensures err { IfErr result (λ fault. PolicyFaultIs fault (IsLeast (IsFaultOf twice (joined_policy (modules_of joined.now))))) }
     {
         let flat = place_statements(alloc, joined)?;
         Policy::of_flat(alloc, flat)
@@ -71,12 +71,12 @@ impl<'j, 'a, A: Allocator + Copy> Policy<'j, 'a, A> {
     fn of_flat(alloc: A, flat: Flat<'j, 'a, A>) -> Result<Self, PolicyFault<'a>>
         requires { IsFlat flat }
         ensures sound { IfOk result IsSound }
-        ensures spaces { IfOk result (λ p. p.spaces ≡ flat.entry.spaces) }
         ensures statements { IfOk result (λ p. p.statements.items ≡ flat.entry.statements.items) }
         ensures optionals { IfOk result (λ p. p.optionals ≡ flat.entry.optionals) }
+        ensures policy { IfOk result (λ p. policy_in p ≡ map (placed_as flat.entry) flat.entry.statements.items) }
         ensures modules { IfOk result (λ p. p.modules ≡ flat.entry.modules) }
-        ensures once { IfOk result (λ p. (fault : _) → IsFaultOf twice every_optional (policy_in p) fault → ⊥) }
-        ensures err { IfErr result (λ fault. PolicyFaultIs fault (IsLeast (IsFaultOf twice every_optional (policy_of flat.entry.spaces flat.entry.statements.items)))) }
+        ensures once { IfOk result (λ p. (fault : _) → IsFaultOf twice (policy_in p) fault → ⊥) }
+        ensures err { IfErr result (λ fault. PolicyFaultIs fault (IsLeast (IsFaultOf twice (map (placed_as flat.entry) flat.entry.statements.items)))) }
     {
         let mut declared = IndexMap::new(alloc);
         for (i, placed) in flat.statements.iter().enumerate() {
@@ -95,17 +95,15 @@ impl<'j, 'a, A: Allocator + Copy> Policy<'j, 'a, A> {
 }
 
 impl<'j, 'a, A: Allocator + Copy> Policy<'j, 'a, A> {
-    /// The policy of the statements that stand in kept optionals alone, or in none: one without optionals to ask. A fault is want
-    /// of memory.
+    /// The policy of the statements that stand in kept optionals alone, or in none. A fault is want of memory.
     pub fn restrict(self, alloc: A, kept: &[bool]) -> Result<Self, PolicyFault<'a>>
         requires sound { IsSound self }
-        requires nested { IsNested self.statements.items self.optionals.items }
-        requires apart { AreApart (nested_in self) }
-        requires once { (fault : _) → IsFaultOf twice every_optional (policy_in self) fault → ⊥ }
-        requires outside { slice_index_or kept.now 0 false ≡ true }
+        requires apart { AreApart (policy_in self) }
+        requires once { (fault : _) → IsFaultOf twice (policy_in self) fault → ⊥ }
+        requires within { map (is_within (set_of self.optionals.items kept.now)) (policy_in self) ≡ map (λ s. slice_index_or kept.now s.optional false) self.statements.items }
         ensures sound { IfOk result IsSound }
-        ensures policy { IfOk result (λ p. policy_in p ≡ policy_of self.entry.spaces (filter (λ s. slice_index_or kept.now s.optional false) self.entry.statements.items)) }
-        ensures once { IfOk result (λ p. (fault : _) → IsFaultOf twice every_optional (policy_in p) fault → ⊥) }
+        ensures policy { IfOk result (λ p. policy_in p ≡ restricted (set_of self.entry.optionals.items kept.now) (policy_in self.entry)) }
+        ensures once { IfOk result (λ p. (fault : _) → IsFaultOf twice (policy_in p) fault → ⊥) }
         ensures modules { IfOk result (λ p. modules_in p ≡ modules_in self.entry) }
         ensures err { IfErr result (λ fault. PolicyFaultIs fault (λ found. ⊥)) }
     {
@@ -116,7 +114,7 @@ impl<'j, 'a, A: Allocator + Copy> Policy<'j, 'a, A> {
             Flat {
                 modules: self.modules,
                 spaces: self.spaces,
-                optionals: Vec::new(alloc),
+                optionals: self.optionals,
                 statements,
             },
         )
@@ -142,9 +140,9 @@ fn declare<'a, A: Allocator + Copy>(
 ) -> Result<Option<Word<'a>>, AllocError>
     requires flat { IsFlat flat.now }
     requires here { slice_get flat.now.statements.items i ≡ Some placed.now }
-    requires declared { HasDeclared flat.now.spaces (take i flat.now.statements.items) declared.old.entries }
-    requires once { (fault : _) → IsFaultOf twice every_optional (policy_of flat.now.spaces (take i flat.now.statements.items)) fault → ⊥ }
-    ensures { IfOk result (λ found. IsTaken flat.now.spaces (policy_of flat.now.spaces (take i flat.now.statements.items)) (placed_of flat.now.spaces placed.now) declared.new.entries (option_map word_of found)) }
+    requires declared { HasDeclaredIn flat.now.spaces (map (placed_as flat.now) (take i flat.now.statements.items)) declared.old.entries }
+    requires once { (fault : _) → IsFaultOf twice (map (placed_as flat.now) (take i flat.now.statements.items)) fault → ⊥ }
+    ensures { IfOk result (λ found. IsTaken flat.now.spaces (map (placed_as flat.now) (take i flat.now.statements.items)) (placed_as flat.now placed.now) declared.new.entries (option_map word_of found)) }
 {
     let Some((table, id)) = placed.declared() else {
         return Ok(None);
@@ -172,8 +170,8 @@ impl<'j, 'a, A: Allocator> Policy<'j, 'a, A> {
         &self.modules
     }
 
-    /// The places of the optionals among the statements; none, once the policy is restricted.
-    pub fn optionals(&self) -> &[usize]
+    /// The optionals, in the order of their numbers, those that drop too.
+    pub fn optionals(&self) -> &[PlacedStatement<'j, 'a, A>]
         ensures { result.now ≡ self.now.optionals.items }
     {
         &self.optionals
@@ -183,7 +181,7 @@ impl<'j, 'a, A: Allocator> Policy<'j, 'a, A> {
     pub fn statements(&self) -> &[PlacedStatement<'j, 'a, A>]
         requires { IsSound self.now }
         ensures same { result.now ≡ self.now.statements.items }
-        ensures seen { map (placed_of self.now.spaces) result.now ≡ (policy_in self.now) }
+        ensures seen { map (placed_in self.now) result.now ≡ (policy_in self.now) }
         ensures within { AreIn (length self.now.spaces) result.now }
         ensures numbered { AreNumbered (modules_in self.now) result.now }
         ensures flat { AreFlat (policy_in self.now) }
@@ -209,7 +207,7 @@ impl<'j, 'a, A: Allocator> Policy<'j, 'a, A> {
     fn outward(&self, table: Table, namespace: usize, name: &'a [u8]) -> Option<usize>
         requires sound { IsSound self.now }
         requires within { namespace < length self.now.spaces }
-        ensures { IsLead (table_of table) (policy_in self.now) result (looked_outward every_optional (policy_in self.now) (table_of table) (namespace_at self.now.spaces namespace) name.now) }
+        ensures { IsLead (table_of table) (policy_in self.now) result (looked_outward (policy_in self.now) (table_of table) (namespace_at self.now.spaces namespace) name.now) }
     {
         let mut at = namespace;
         loop {
@@ -242,7 +240,7 @@ impl<'j, 'a, A: Allocator> Policy<'j, 'a, A> {
         requires sound { IsSound self.now }
         requires within { namespace < length self.now.spaces }
         ensures { IsLead (table_of table) (policy_in self.now) result
-            (looked_inside every_optional (policy_in self.now) (table_of table) (namespace_at self.now.spaces namespace) (slice_split (λ b. b == 46) text.now)) }
+            (looked_inside (policy_in self.now) (table_of table) (namespace_at self.now.spaces namespace) (slice_split (λ b. b == 46) text.now)) }
     {
         let mut at = namespace;
         let mut rest = text;
@@ -258,7 +256,7 @@ impl<'j, 'a, A: Allocator> Policy<'j, 'a, A> {
         requires sound { IsSound self.now }
         requires within { namespace < length self.now.spaces }
         ensures { IsLead (table_of table) (policy_in self.now) result
-            (looked_from every_optional (policy_in self.now) (table_of table) (namespace_at self.now.spaces namespace) (slice_split (λ b. b == 46) text.now)) }
+            (looked_from (policy_in self.now) (table_of table) (namespace_at self.now.spaces namespace) (slice_split (λ b. b == 46) text.now)) }
     {
         let Some((first, more)) = split_dot(text) else {
             return self.outward(table, namespace, text);
@@ -271,7 +269,7 @@ impl<'j, 'a, A: Allocator> Policy<'j, 'a, A> {
     pub fn leads(&self, table: Table, namespace: usize, text: &'a [u8]) -> Option<usize>
         requires sound { IsSound self.now }
         requires within { namespace < length self.now.spaces }
-        ensures { IsLead (table_of table) (policy_in self.now) result (leads_from every_optional (policy_in self.now) (table_of table) (namespace_at self.now.spaces namespace) text.now) }
+        ensures { IsLead (table_of table) (policy_in self.now) result (leads_from (policy_in self.now) (table_of table) (namespace_at self.now.spaces namespace) text.now) }
     {
         prove!(self.spaces.outer(0).is_none());
         if let Some((b'.', rest)) = text.split_first() {
@@ -324,7 +322,7 @@ impl<'j, 'a, A: Allocator> Policy<'j, 'a, A> {
     pub fn actual(&self, place: usize) -> Option<usize>
         requires sound { IsSound self.now }
         requires within { place < length (policy_in self.now) }
-        ensures { (s : Placed) → slice_get (policy_in self.now) place ≡ Some s → IsLead types (policy_in self.now) result (actual_in every_optional (policy_in self.now) s.namespace s.form) }
+        ensures { (s : Placed) → slice_get (policy_in self.now) place ≡ Some s → IsLead types (policy_in self.now) result (actual_in (policy_in self.now) s.namespace s.form) }
     {
         let placed = &self.statements[place];
         match placed.statement {

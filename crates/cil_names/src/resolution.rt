@@ -4,14 +4,15 @@ ghost use Rattle.std.specs.Prelude.{◌≡◌, ◌≢◌, ◌<◌, Some, map, ta
 ghost use Rattle.std.specs.List.{find};
 ghost use Rattle.cil_specs.specs.Statements.{target_words};
 ghost use Rattle.cil_specs.specs.Joined.{Placed};
-ghost use Rattle.cil_specs.specs.Lookup.{types, classes, every_optional};
-ghost use Rattle.cil_specs.specs.PolicyFault.{twice, IsFaultOf, faulty_words, missing_words, is_unfound, wrong_kind_words, is_of_another_kind, alias_unset_words, is_unset, too_many_words, Compiles, IsFirst};
-ghost use Rattle.cil_specs.specs.Next.{is_plain_form, is_attribute_word, IsCompiledWhole, IsFirstAttributeFault};
+ghost use Rattle.cil_specs.specs.Lookup.{types, classes};
+ghost use Rattle.cil_specs.specs.PolicyFault.{twice, IsFaultOf, faulty_words, missing_words, is_unfound, wrong_kind_words, is_of_another_kind, alias_unset_words, is_unset, too_many_words};
+ghost use Rattle.cil_specs.specs.Next.{is_plain_form, is_attribute_word, HasTypesAlone, IsFirstAttributeFault};
 ghost use Rattle.cil_text.specs.Image.{word_of, target_of};
 ghost use Rattle.cil_names.specs.Image.{policy_kind_of, IsFoundFault};
-ghost use Rattle.cil_names.specs.Placed.{form_of, placed_of};
-ghost use Rattle.cil_names.specs.Flat.{IsLeast};
-ghost use Rattle.cil_names.specs.Policy.{namespace_at, policy_in, table_of, IsSound};
+ghost use Rattle.cil_names.specs.Placed.{form_of};
+ghost use Rattle.cil_names.specs.Flat.{IsFaultIn, IsFaultless, IsLeast};
+ghost use Rattle.cil_names.specs.Policy.{namespace_at, placed_in, policy_in, table_of, IsSound};
+ghost use Rattle.cil_names.specs.Nested.{AreFoundInside};
 ghost use Rattle.cil_names.specs.Classes.{HasPermissions};
 ghost use Rattle.cil_names.specs.Gifts.{HasFirsts};
 ghost use Rattle.cil_names.specs.Resolution.{word_if, test_of, attribute_words, first_missing_permission, again_words, IsResolved};
@@ -86,9 +87,10 @@ impl<'j, 'a, A: Allocator> Resolution<'j, 'a, A> {
     /// the least offset.
     pub fn check(&self) -> Result<(), PolicyFault<'a>>
         requires resolved { IsResolved self.now }
-        requires once { (fault : _) → IsFaultOf twice every_optional (policy_in self.now.policy) fault → ⊥ }
-        ensures ok { OnOk result (Compiles every_optional (policy_in self.now.policy)) }
-        ensures err { IfErr result (λ fault. IsFoundFault fault (IsFirst every_optional (policy_in self.now.policy))) }
+        requires once { (fault : _) → IsFaultOf twice (policy_in self.now.policy) fault → ⊥ }
+        requires inside { AreFoundInside (policy_in self.now.policy) }
+        ensures ok { OnOk result (IsFaultless (policy_in self.now.policy)) }
+        ensures err { IfErr result (λ fault. IsFoundFault fault (IsLeast (IsFaultIn (policy_in self.now.policy)))) }
     {
         for kind in CHECKED {
             self.check_kind(kind)?;
@@ -99,10 +101,11 @@ impl<'j, 'a, A: Allocator> Resolution<'j, 'a, A> {
     /// The first fault of a kind.
     fn check_kind(&self, kind: PolicyFaultKind) -> Result<(), PolicyFault<'a>>
         requires resolved { IsResolved self.now }
-        requires once { (fault : _) → IsFaultOf twice every_optional (policy_in self.now.policy) fault → ⊥ }
+        requires once { (fault : _) → IsFaultOf twice (policy_in self.now.policy) fault → ⊥ }
+        requires inside { AreFoundInside (policy_in self.now.policy) }
         requires kind { kind ≢ Twice }
-        ensures ok { OnOk result ((fault : _) → IsFaultOf (policy_kind_of kind) every_optional (policy_in self.now.policy) fault → ⊥) }
-        ensures err { IfErr result (λ fault. IsFoundFault fault (IsLeast (IsFaultOf (policy_kind_of kind) every_optional (policy_in self.now.policy)))) }
+        ensures ok { OnOk result ((fault : _) → IsFaultOf (policy_kind_of kind) (policy_in self.now.policy) fault → ⊥) }
+        ensures err { IfErr result (λ fault. IsFoundFault fault (IsLeast (IsFaultOf (policy_kind_of kind) (policy_in self.now.policy)))) }
     {
         for (i, placed) in self.policy.statements().iter().enumerate() {
             if let Some(word) = self.faulty_word(kind, i, placed) {
@@ -120,13 +123,14 @@ impl<'j, 'a, A: Allocator> Resolution<'j, 'a, A> {
         placed: &PlacedStatement<'j, 'a, A>,
     ) -> Option<Word<'a>>
         requires resolved { IsResolved self.now }
-        requires once { (fault : _) → IsFaultOf twice every_optional (policy_in self.now.policy) fault → ⊥ }
+        requires once { (fault : _) → IsFaultOf twice (policy_in self.now.policy) fault → ⊥ }
+        requires inside { AreFoundInside (policy_in self.now.policy) }
         requires kind { kind ≢ Twice }
-        requires at { slice_get (policy_in self.now.policy) place ≡ Some (placed_of self.now.policy.spaces placed.now) }
+        requires at { slice_get (policy_in self.now.policy) place ≡ Some (placed_in self.now.policy placed.now) }
         requires within { placed.now.namespace < length self.now.policy.spaces }
         requires plain { IsTrue (is_plain_form (form_of placed.now.statement.now)) }
         ensures { option_map word_of result
-            ≡ slice_get (faulty_words (policy_kind_of kind) every_optional (policy_in self.now.policy) (take place (policy_in self.now.policy)) (placed_of self.now.policy.spaces placed.now)) 0 }
+            ≡ slice_get (faulty_words (policy_kind_of kind) (policy_in self.now.policy) (take place (policy_in self.now.policy)) (placed_in self.now.policy placed.now)) 0 }
     {
         match kind {
             PolicyFaultKind::Twice => None,
@@ -149,9 +153,8 @@ impl<'j, 'a, A: Allocator> Resolution<'j, 'a, A> {
     /// The first word of a rule's source or target that leads to an attribute.
     pub fn check_attributes(&self) -> Result<(), PolicyFault<'a>>
         requires resolved { IsResolved self.now }
-        requires compiles { Compiles every_optional (policy_in self.now.policy) }
-        ensures ok { OnOk result (IsCompiledWhole every_optional (policy_in self.now.policy)) }
-        ensures err { IfErr result (λ fault. IsFoundFault fault (IsFirstAttributeFault every_optional (policy_in self.now.policy))) }
+        ensures ok { OnOk result (HasTypesAlone (policy_in self.now.policy)) }
+        ensures err { IfErr result (λ fault. IsFoundFault fault (IsFirstAttributeFault (policy_in self.now.policy))) }
     {
         for placed in self.policy.statements() {
             if let Some(word) = self.attribute_word(placed) {
@@ -165,7 +168,7 @@ impl<'j, 'a, A: Allocator> Resolution<'j, 'a, A> {
     fn attribute_word(&self, placed: &PlacedStatement<'j, 'a, A>) -> Option<Word<'a>>
         requires resolved { IsResolved self.now }
         requires within { placed.now.namespace < length self.now.policy.spaces }
-        ensures { option_map word_of result ≡ slice_get (attribute_words (policy_in self.now.policy) (placed_of self.now.policy.spaces placed.now)) 0 }
+        ensures { option_map word_of result ≡ slice_get (attribute_words (policy_in self.now.policy) (placed_in self.now.policy placed.now)) 0 }
     {
         let Statement::Rule { source, target, .. } = placed.statement else {
             return None;
@@ -190,7 +193,7 @@ impl<'j, 'a, A: Allocator> Resolution<'j, 'a, A> {
     fn attribute(&self, placed: &PlacedStatement<'j, 'a, A>, word: Word<'a>) -> Option<Word<'a>>
         requires resolved { IsResolved self.now }
         requires within { placed.now.namespace < length self.now.policy.spaces }
-        ensures { option_map word_of result ≡ word_if (is_attribute_word every_optional (policy_in self.now.policy) (namespace_at self.now.policy.spaces placed.now.namespace) (word_of word.entry)) (word_of word.entry) }
+        ensures { option_map word_of result ≡ word_if (is_attribute_word (policy_in self.now.policy) (namespace_at self.now.policy.spaces placed.now.namespace) (word_of word.entry)) (word_of word.entry) }
     {
         let found = self
             .policy
@@ -211,7 +214,7 @@ impl<'j, 'a, A: Allocator> Resolution<'j, 'a, A> {
     ) -> Option<Word<'a>>
         requires resolved { IsResolved self.now }
         requires within { placed.now.namespace < length self.now.policy.spaces }
-        ensures { option_map word_of result ≡ word_if (is_unfound every_optional (policy_in self.now.policy) (namespace_at self.now.policy.spaces placed.now.namespace) (table_of table, word_of word.entry)) (word_of word.entry) }
+        ensures { option_map word_of result ≡ word_if (is_unfound (policy_in self.now.policy) (namespace_at self.now.policy.spaces placed.now.namespace) (table_of table, word_of word.entry)) (word_of word.entry) }
     {
         match self.policy.leads(table, placed.namespace, word.text) {
             None => Some(word),
@@ -227,7 +230,7 @@ impl<'j, 'a, A: Allocator> Resolution<'j, 'a, A> {
     ) -> Option<Word<'a>>
         requires resolved { IsResolved self.now }
         requires within { placed.now.namespace < length self.now.policy.spaces }
-        ensures { option_map word_of result ≡ find (λ w. is_unfound every_optional (policy_in self.now.policy) (namespace_at self.now.policy.spaces placed.now.namespace) (types, w)) (target_words (target_of target.entry)) }
+        ensures { option_map word_of result ≡ find (λ w. is_unfound (policy_in self.now.policy) (namespace_at self.now.policy.spaces placed.now.namespace) (types, w)) (target_words (target_of target.entry)) }
     {
         match target {
             Target::Itself => None,
@@ -243,7 +246,7 @@ impl<'j, 'a, A: Allocator> Resolution<'j, 'a, A> {
     ) -> Option<Word<'a>>
         requires resolved { IsResolved self.now }
         requires within { placed.now.namespace < length self.now.policy.spaces }
-        ensures { option_map word_of result ≡ find (λ w. is_unfound every_optional (policy_in self.now.policy) (namespace_at self.now.policy.spaces placed.now.namespace) (classes, w)) (map word_of words.now) }
+        ensures { option_map word_of result ≡ find (λ w. is_unfound (policy_in self.now.policy) (namespace_at self.now.policy.spaces placed.now.namespace) (classes, w)) (map word_of words.now) }
     {
         for word in words {
             if let Some(first) = self.unfound(placed, Table::Classes, *word) {
@@ -258,7 +261,7 @@ impl<'j, 'a, A: Allocator> Resolution<'j, 'a, A> {
         requires resolved { IsResolved self.now }
         requires within { placed.now.namespace < length self.now.policy.spaces }
         requires plain { IsTrue (is_plain_form (form_of placed.now.statement.now)) }
-        ensures { option_map word_of result ≡ slice_get (missing_words every_optional (policy_in self.now.policy) (placed_of self.now.policy.spaces placed.now)) 0 }
+        ensures { option_map word_of result ≡ slice_get (missing_words (policy_in self.now.policy) (placed_in self.now.policy placed.now)) 0 }
     {
         match placed.statement {
             Statement::TypeAliasActual { alias, actual, .. } => {
@@ -312,7 +315,7 @@ impl<'j, 'a, A: Allocator> Resolution<'j, 'a, A> {
         requires resolved { IsResolved self.now }
         requires within { placed.now.namespace < length self.now.policy.spaces }
         requires plain { IsTrue (is_plain_form (form_of placed.now.statement.now)) }
-        ensures { option_map word_of result ≡ slice_get (wrong_kind_words every_optional (policy_in self.now.policy) (placed_of self.now.policy.spaces placed.now)) 0 }
+        ensures { option_map word_of result ≡ slice_get (wrong_kind_words (policy_in self.now.policy) (placed_in self.now.policy placed.now)) 0 }
     {
         let Statement::TypeAliasActual { alias, actual, .. } = placed.statement else {
             return None;
@@ -331,7 +334,7 @@ impl<'j, 'a, A: Allocator> Resolution<'j, 'a, A> {
         requires resolved { IsResolved self.now }
         requires within { placed.now.namespace < length self.now.policy.spaces }
         ensures { option_map word_of result
-            ≡ word_if (is_of_another_kind every_optional (policy_in self.now.policy) (namespace_at self.now.policy.spaces placed.now.namespace) (test_of kind, word_of word.entry)) (word_of word.entry) }
+            ≡ word_if (is_of_another_kind (policy_in self.now.policy) (namespace_at self.now.policy.spaces placed.now.namespace) (test_of kind, word_of word.entry)) (word_of word.entry) }
     {
         let found = self
             .policy
@@ -355,7 +358,7 @@ impl<'j, 'a, A: Allocator> Resolution<'j, 'a, A> {
         requires firsts { HasFirsts gift (policy_in self.now.policy) firsts.now }
         requires within { placed.now.namespace < length self.now.policy.spaces }
         ensures { option_map word_of result
-            ≡ slice_get (again_words gift every_optional (policy_in self.now.policy) (take place (policy_in self.now.policy)) (placed_of self.now.policy.spaces placed.now)) 0 }
+            ≡ slice_get (again_words gift (policy_in self.now.policy) (take place (policy_in self.now.policy)) (placed_in self.now.policy placed.now)) 0 }
     {
         let word = gift.to(placed.statement)?;
         let found = gift.lead(&self.policy, placed)?;
@@ -370,7 +373,7 @@ impl<'j, 'a, A: Allocator> Resolution<'j, 'a, A> {
     fn unset(&self, placed: &PlacedStatement<'j, 'a, A>, word: Word<'a>) -> Option<Word<'a>>
         requires resolved { IsResolved self.now }
         requires within { placed.now.namespace < length self.now.policy.spaces }
-        ensures { option_map word_of result ≡ word_if (is_unset every_optional (policy_in self.now.policy) (namespace_at self.now.policy.spaces placed.now.namespace) (word_of word.entry)) (word_of word.entry) }
+        ensures { option_map word_of result ≡ word_if (is_unset (policy_in self.now.policy) (namespace_at self.now.policy.spaces placed.now.namespace) (word_of word.entry)) (word_of word.entry) }
     {
         let found = self
             .policy
@@ -389,7 +392,7 @@ impl<'j, 'a, A: Allocator> Resolution<'j, 'a, A> {
         requires resolved { IsResolved self.now }
         requires within { placed.now.namespace < length self.now.policy.spaces }
         requires plain { IsTrue (is_plain_form (form_of placed.now.statement.now)) }
-        ensures { option_map word_of result ≡ slice_get (alias_unset_words every_optional (policy_in self.now.policy) (placed_of self.now.policy.spaces placed.now)) 0 }
+        ensures { option_map word_of result ≡ slice_get (alias_unset_words (policy_in self.now.policy) (placed_in self.now.policy placed.now)) 0 }
     {
         let Statement::Rule { source, target, .. } = placed.statement else {
             return None;
@@ -404,9 +407,9 @@ impl<'j, 'a, A: Allocator> Resolution<'j, 'a, A> {
     /// The name of a class that has more than 32 permissions.
     fn too_many_word(&self, place: usize, placed: &PlacedStatement<'j, 'a, A>) -> Option<Word<'a>>
         requires resolved { IsResolved self.now }
-        requires once { (fault : _) → IsFaultOf twice every_optional (policy_in self.now.policy) fault → ⊥ }
-        requires at { slice_get (policy_in self.now.policy) place ≡ Some (placed_of self.now.policy.spaces placed.now) }
-        ensures { option_map word_of result ≡ slice_get (too_many_words every_optional (policy_in self.now.policy) (placed_of self.now.policy.spaces placed.now)) 0 }
+        requires once { (fault : _) → IsFaultOf twice (policy_in self.now.policy) fault → ⊥ }
+        requires at { slice_get (policy_in self.now.policy) place ≡ Some (placed_in self.now.policy placed.now) }
+        ensures { option_map word_of result ≡ slice_get (too_many_words (policy_in self.now.policy) (placed_in self.now.policy placed.now)) 0 }
     {
         let Statement::Class { id, .. } = placed.statement else {
             return None;

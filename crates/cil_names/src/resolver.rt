@@ -3,15 +3,16 @@
 ghost use Rattle.std.specs.Prelude.{◌≡◌, map, IsTrue, IfOk, IfErr, OnOk};
 ghost use Rattle.std.specs.List.{list_all};
 ghost use Rattle.cil_specs.specs.Joined.{joined as joined_policy};
-ghost use Rattle.cil_specs.specs.Lookup.{every_optional};
-ghost use Rattle.cil_specs.specs.PolicyFault.{twice, IsFaultOf, Compiles, IsFirst};
-ghost use Rattle.cil_specs.specs.Kept.{IsFirstFault};
-ghost use Rattle.cil_specs.specs.Next.{is_plain, IsRefusedFor, IsCompiledWhole, IsPolicyFaultOf};
+ghost use Rattle.cil_specs.specs.PolicyFault.{twice, IsFaultOf};
+ghost use Rattle.cil_specs.specs.Kept.{Optionals, restricted, IsFirstFault};
+ghost use Rattle.cil_specs.specs.Meaning.{Means, meaning_of};
+ghost use Rattle.cil_specs.specs.Next.{is_plain, HasTypesAlone, IsFirstAttributeFault, IsPolicyFaultOf};
+ghost use Rattle.cil_names.specs.Flat.{IsFaultless};
 ghost use Rattle.cil_names.specs.Image.{modules_of, PolicyFaultIs};
-ghost use Rattle.cil_names.specs.Nested.{IsJudged};
+ghost use Rattle.cil_names.specs.Nested.{AreFoundInside, IsJudged};
 ghost use Rattle.cil_names.specs.Policy.{policy_in, modules_in, IsSound};
 ghost use Rattle.cil_names.specs.Resolution.{IsResolved};
-ghost use Rattle.cil_names.specs.Resolved.{HasContents, IsPolicy, dropped_with, dropped_in};
+ghost use Rattle.cil_names.specs.Resolved.{meaning_in, dropped_with};
 
 use crate::fault::PolicyFault;
 use crate::joined::Joined;
@@ -31,7 +32,8 @@ fn judged<'j, 'a, A: Allocator + Copy>(
 ) -> Result<(Policy<'j, 'a, A>, Vec<DroppedOptional<A>, A>), PolicyFault<'a>>
     requires plain { IsTrue (list_all (λ m. is_plain m.statements) (modules_of joined.now)) }
     ensures sound { IfOk result (λ found. IsSound found.0) }
-    ensures once { IfOk result (λ found. (fault : _) → IsFaultOf twice every_optional (policy_in found.0) fault → ⊥) }
+    ensures once { IfOk result (λ found. (fault : _) → IsFaultOf twice (policy_in found.0) fault → ⊥) }
+    ensures inside { IfOk result (λ found. AreFoundInside (policy_in found.0)) }
     ensures judged { IfOk result (λ found. IsJudged (joined_policy (modules_of joined.now)) (policy_in found.0) (map (dropped_with (modules_in found.0)) found.1.items)) }
     ensures err { IfErr result (λ fault. PolicyFaultIs fault (IsFirstFault (joined_policy (modules_of joined.now)))) }
 {
@@ -50,46 +52,13 @@ fn checked<'j, 'a, A: Allocator + Copy>(
     requires plain { IsTrue (list_all (λ m. is_plain m.statements) (modules_of joined.now)) }
     ensures resolved { IfOk result (λ found. IsResolved found.0) }
     ensures judged { IfOk result (λ found. IsJudged (joined_policy (modules_of joined.now)) (policy_in found.0.policy) (map (dropped_with (modules_in found.0.policy)) found.1.items)) }
-    ensures compiles { IfOk result (λ found. Compiles every_optional (policy_in found.0.policy)) }
+    ensures faultless { IfOk result (λ found. IsFaultless (policy_in found.0.policy)) }
     ensures err { IfErr result (λ fault. PolicyFaultIs fault (IsFirstFault (joined_policy (modules_of joined.now)))) }
 {
     let (policy, dropped) = judged(alloc, joined)?;
     let resolution = Resolution::of(alloc, policy)?;
     resolution.check()?;
     Ok((resolution, dropped))
-}
-
-/// What a policy without a fault resolves to. A fault is want of memory.
-fn numbered<'a, A: Allocator + Copy>(
-    alloc: A,
-    resolution: &Resolution<'_, 'a, A>,
-    dropped: Vec<DroppedOptional<A>, A>,
-) -> Result<Resolved<A>, PolicyFault<'a>>
-    requires resolved { IsResolved resolution.now }
-    requires compiles { Compiles every_optional (policy_in resolution.now.policy) }
-    ensures compiles { OnOk result (Compiles every_optional (policy_in resolution.now.policy)) }
-    ensures contents { IfOk result (HasContents every_optional (policy_in resolution.now.policy)) }
-    ensures dropped { IfOk result (λ r. dropped_in r ≡ map (dropped_with (modules_in resolution.now.policy)) dropped.items) }
-    ensures err { IfErr result (λ fault. PolicyFaultIs fault (IsFirst every_optional (policy_in resolution.now.policy))) }
-{
-    Ok(number_policy(alloc, resolution, dropped)?)
-}
-
-/// The same, or a fault where a rule has an attribute.
-fn numbered_types<'a, A: Allocator + Copy>(
-    alloc: A,
-    resolution: &Resolution<'_, 'a, A>,
-    dropped: Vec<DroppedOptional<A>, A>,
-) -> Result<Resolved<A>, PolicyFault<'a>>
-    requires resolved { IsResolved resolution.now }
-    requires compiles { Compiles every_optional (policy_in resolution.now.policy) }
-    ensures compiles { OnOk result (IsCompiledWhole every_optional (policy_in resolution.now.policy)) }
-    ensures contents { IfOk result (HasContents every_optional (policy_in resolution.now.policy)) }
-    ensures dropped { IfOk result (λ r. dropped_in r ≡ map (dropped_with (modules_in resolution.now.policy)) dropped.items) }
-    ensures err { IfErr result (λ fault. PolicyFaultIs fault (IsRefusedFor every_optional (policy_in resolution.now.policy))) }
-{
-    resolution.check_attributes()?;
-    Ok(number_policy(alloc, resolution, dropped)?)
 }
 
 /// The types, attributes, classes and rules of a policy by full names, with the optionals that drop, or its first fault: that of
@@ -100,11 +69,11 @@ pub fn resolve<'a, A: Allocator + Copy>(
     joined: &Joined<'a, A>,
 ) -> Result<Resolved<A>, PolicyFault<'a>>
     requires plain { IsTrue (list_all (λ m. is_plain m.statements) (modules_of joined.now)) }
-    ensures policy { IfOk result (IsPolicy (λ kept. Compiles kept (joined_policy (modules_of joined.now))) (joined_policy (modules_of joined.now))) }
+    ensures meaning { IfOk result (λ r. (kept : Optionals) × Means (joined_policy (modules_of joined.now)) kept (meaning_in r)) }
     ensures err { IfErr result (λ fault. PolicyFaultIs fault (IsFirstFault (joined_policy (modules_of joined.now)))) }
 {
     let (resolution, dropped) = checked(alloc, joined)?;
-    numbered(alloc, &resolution, dropped)
+    Ok(number_policy(alloc, &resolution, dropped)?)
 }
 
 /// The same, but for a policy that compiles and has a rule whose source or target leads to an attribute: the first such word is
@@ -114,9 +83,10 @@ pub fn resolve_types<'a, A: Allocator + Copy>(
     joined: &Joined<'a, A>,
 ) -> Result<Resolved<A>, PolicyFault<'a>>
     requires plain { IsTrue (list_all (λ m. is_plain m.statements) (modules_of joined.now)) }
-    ensures policy { IfOk result (IsPolicy (λ kept. IsCompiledWhole kept (joined_policy (modules_of joined.now))) (joined_policy (modules_of joined.now))) }
+    ensures meaning { IfOk result (λ r. (kept : Optionals) × Means (joined_policy (modules_of joined.now)) kept (meaning_in r) × HasTypesAlone (restricted kept (joined_policy (modules_of joined.now)))) }
     ensures err { IfErr result (λ fault. PolicyFaultIs fault (IsPolicyFaultOf (joined_policy (modules_of joined.now)))) }
 {
     let (resolution, dropped) = checked(alloc, joined)?;
-    numbered_types(alloc, &resolution, dropped)
+    resolution.check_attributes()?;
+    Ok(number_policy(alloc, &resolution, dropped)?)
 }

@@ -5,7 +5,7 @@ ghost use Rattle.std.specs.List.{list_all};
 ghost use Rattle.std.specs.Option.{option_and_then};
 ghost use Rattle.cil_specs.specs.Report.{names_rise};
 ghost use Rattle.cil_names.specs.Below.{is_rule_below};
-ghost use Rattle.cil_names.specs.Resolved.{element_of, aim_of, types_in, attributes_in, classes_in, rules_in, dropped_in};
+ghost use Rattle.cil_names.specs.Resolved.{element_of, aim_of, meaning_in};
 ghost use Rattle.cil_names.specs.Views.{declared_seen, class_seen, class_head, element_seen, aim_seen, rule_seen, rule_head};
 
 use crate::numbered::{Aim, Element, NumberedRule};
@@ -98,14 +98,14 @@ impl<A: Allocator> Resolved<A> {
 
     /// How many types there are.
     pub fn types_len(&self) -> usize
-        ensures { result ≡ length (types_in self.now) }
+        ensures { result ≡ length (meaning_in self.now).types }
     {
         self.types.len()
     }
 
     /// The type at a place, in the order of the statements.
     pub fn type_at(&self, i: usize) -> Option<NameView<'_>>
-        ensures { option_map declared_seen result ≡ slice_get (types_in self.now) i }
+        ensures { option_map declared_seen result ≡ slice_get (meaning_in self.now).types i }
     {
         let declared = self.types.get(i)?;
         Some(NameView {
@@ -117,14 +117,14 @@ impl<A: Allocator> Resolved<A> {
 
     /// How many attributes there are.
     pub fn attributes_len(&self) -> usize
-        ensures { result ≡ length (attributes_in self.now) }
+        ensures { result ≡ length (meaning_in self.now).attributes }
     {
         self.attributes.len()
     }
 
     /// The attribute at a place, in the order of the statements.
     pub fn attribute_at(&self, i: usize) -> Option<NameView<'_>>
-        ensures { option_map declared_seen result ≡ slice_get (attributes_in self.now) i }
+        ensures { option_map declared_seen result ≡ slice_get (meaning_in self.now).attributes i }
     {
         let declared = self.attributes.get(i)?;
         Some(NameView {
@@ -136,14 +136,14 @@ impl<A: Allocator> Resolved<A> {
 
     /// How many classes there are.
     pub fn classes_len(&self) -> usize
-        ensures { result ≡ length (classes_in self.now) }
+        ensures { result ≡ length (meaning_in self.now).classes }
     {
         self.classes.len()
     }
 
     /// The class at a place, in the order of the statements.
     pub fn class_at(&self, i: usize) -> Option<ClassView<'_>>
-        ensures { option_map class_seen result ≡ option_map class_head (slice_get (classes_in self.now) i) }
+        ensures { option_map class_seen result ≡ option_map class_head (slice_get (meaning_in self.now).classes i) }
     {
         let class = self.classes.get(i)?;
         Some(ClassView {
@@ -156,7 +156,7 @@ impl<A: Allocator> Resolved<A> {
 
     /// A permission of the class at a place.
     pub fn class_permission(&self, i: usize, k: usize) -> Option<&[u8]>
-        ensures { option_map (λ name. name.now) result ≡ option_and_then (λ c. slice_get c.permissions k) (slice_get (classes_in self.now) i) }
+        ensures { option_map (λ name. name.now) result ≡ option_and_then (λ c. slice_get c.permissions k) (slice_get (meaning_in self.now).classes i) }
     {
         let class = self.classes.get(i)?;
         let permission = class.permissions.get(k)?;
@@ -165,14 +165,14 @@ impl<A: Allocator> Resolved<A> {
 
     /// How many rules there are.
     pub fn rules_len(&self) -> usize
-        ensures { result ≡ length (rules_in self.now) }
+        ensures { result ≡ length (meaning_in self.now).rules }
     {
         self.rules.len()
     }
 
     /// The rule at a place, in the order of the statements.
     pub fn rule_at(&self, i: usize) -> Option<RuleView<'_>>
-        ensures { option_map rule_seen result ≡ option_map rule_head (slice_get (rules_in self.now) i) }
+        ensures { option_map rule_seen result ≡ option_map rule_head (slice_get (meaning_in self.now).rules i) }
     {
         let rule = self.rules.get(i)?;
         Some(RuleView {
@@ -188,7 +188,7 @@ impl<A: Allocator> Resolved<A> {
 
     /// A permission of the rule at a place.
     pub fn rule_permission(&self, i: usize, k: usize) -> Option<&[u8]>
-        ensures { option_map (λ name. name.now) result ≡ option_and_then (λ r. slice_get r.permissions k) (slice_get (rules_in self.now) i) }
+        ensures { option_map (λ name. name.now) result ≡ option_and_then (λ r. slice_get r.permissions k) (slice_get (meaning_in self.now).rules i) }
     {
         let rule = self.rules.get(i)?;
         let permission = rule.permissions.get(k)?;
@@ -197,14 +197,14 @@ impl<A: Allocator> Resolved<A> {
 
     /// How many optionals drop.
     pub fn dropped_len(&self) -> usize
-        ensures { result ≡ length (dropped_in self.now) }
+        ensures { result ≡ length (meaning_in self.now).dropped }
     {
         self.dropped.len()
     }
 
     /// The optional at a place of those that drop, in the order of the statements.
     pub fn dropped_at(&self, i: usize) -> Option<NameView<'_>>
-        ensures { option_map declared_seen result ≡ slice_get (dropped_in self.now) i }
+        ensures { option_map declared_seen result ≡ slice_get (meaning_in self.now).dropped i }
     {
         let dropped = self.dropped.get(i)?;
         Some(NameView {

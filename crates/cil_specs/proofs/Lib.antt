@@ -24,6 +24,7 @@ pub mod RestrictedLemmas
 pub mod OnceLemmas
 pub mod GrowsLemmas
 pub mod KeptLemmas
+pub mod ExistsLemmas
 pub mod DeclaredLemmas
 pub mod UnsupportedOrder
 pub mod OneText

@@ -6,10 +6,9 @@ use Rattle.cil_text.specs.Image.{statements_of}
 use Rattle.cil_names.specs.Extends.{Extends}
 use Rattle.cil_names.specs.Flat.{AreFlat}
 use Rattle.cil_names.specs.Image.{module_of}
-use Rattle.cil_names.specs.Nested.{erased, chains_of}
+use Rattle.cil_names.specs.Nested.{chains_by, chains_of}
 use Rattle.cil_names.specs.declared.placed.Flat.{Flat}
-use Rattle.cil_names.proofs.NestedLemmas.{erased-nested}
-use Rattle.cil_names.proofs.PlacedLemmas.{module-plain, placed-module, policy-flat}
+use Rattle.cil_names.proofs.PlacedLemmas.{module-plain, placed-module, placed-all, policy-flat, blocks-same}
 use Rattle.cil_names.proofs.placed.place_statements.Goals as goal
 
 pub place-requires-clause-plain : goal.place-requires-clause-plain
@@ -31,11 +30,20 @@ loop-number-preserved g c =
     c.in_ok-push.ensures.items refl refl refl
     (subst (λ l. Extends mid c.place.new.self i m.name.now (placed m.name.now (get_or flat.spaces 0 []) (get_or (chains_of flat.statements.items) 0 []) (statements_of l))) c.deref.ensures.value c.in_ok-place.ensures)
 
+pub returns-clause-policy : goal.returns-clause-policy
+returns-clause-policy g c =
+    let flat = c.loop-number.flat in
+    let past : length c.args.joined.now.modules.items ≤ c.loop-number.number = search rules in
+    placed-all c.args.joined.now.modules.items c.loop-number.number flat past c.loop-number.invariant
+
 pub returns-clause-flat : goal.returns-clause-flat
 returns-clause-flat g c =
-    let modules = c.args.joined.now.modules.items in
-    let i = c.loop-number.number in
     let flat = c.loop-number.flat in
-    let past : length modules ≤ i = search rules in
-    let whole = c.loop-number.invariant.policy ∙ ap (λ l. joined (map module_of l)) (take_all i modules past) in
-    subst AreFlat (sym (ap (map erased) whole) ∙ erased-nested flat.spaces (chains_of flat.statements.items) flat.statements.items) (policy-flat c.args.joined.now c.requires.plain)
+    let past : length c.args.joined.now.modules.items ≤ c.loop-number.number = search rules in
+    subst AreFlat (sym (placed-all c.args.joined.now.modules.items c.loop-number.number flat past c.loop-number.invariant)) (policy-flat c.args.joined.now c.requires.plain)
+
+pub returns-clause-blocks : goal.returns-clause-blocks
+returns-clause-blocks g c =
+    let flat = c.loop-number.flat in
+    let all = c.loop-number.invariant in
+    blocks-same flat.spaces [] (chains_by flat.optionals.items) flat.statements.items all.blocks

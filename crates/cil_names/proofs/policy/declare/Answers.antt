@@ -1,8 +1,8 @@
-use Rattle.std.proofs.Common.{◌≡◌, ◌∙◌, ◌<◌, ℕ, List, false, ◌&&◌, length, take, get_or, refl, sym, ap, Some, is_some, rules}
+use Rattle.std.proofs.Common.{◌≡◌, ◌∙◌, ◌<◌, ℕ, List, false, ◌&&◌, length, take, get_or, refl, sym, ap, Some, is_some, rules, map}
 use Rattle.std.specs.Map.{lookup}
 use Rattle.cil_text.specs.Image.{word_of}
 use Rattle.cil_names.specs.Placed.{placed_of, policy_of}
-use Rattle.cil_names.specs.Policy.{table_of, IsTaken}
+use Rattle.cil_names.specs.Policy.{table_of, IsTaken, placed_as}
 use Rattle.cil_names.specs.Nested.{is_optional_statement}
 use Rattle.cil_names.specs.declared.placed.PlacedStatement.{PlacedStatement}
 use Rattle.cil_specs.proofs.Runs.{both_true}
@@ -16,7 +16,7 @@ use Rattle.cil_names.proofs.policy.declare.Goals as goal
 pub returns-in_default : goal.returns-in_default
 returns-in_default g c =
     let flat = c.args.flat.now in
-    taken-nothing flat.spaces (policy_of flat.spaces (take c.args.i flat.statements.items)) (placed_of flat.spaces c.args.placed.now) c.args.declared.now.entries c.in_default.ensures.none c.requires.declared
+    taken-nothing flat.spaces (map (placed_as flat) (take c.args.i flat.statements.items)) (placed_as flat c.args.placed.now) c.args.declared.now.entries c.in_default.ensures.none c.requires.declared
 
 pub index-requires : goal.index-requires
 index-requires g c =
@@ -33,8 +33,8 @@ returns-then-is_optional-2 g c =
     let key : Key = record { table = c.in-Some.table; namespace = c.args.placed.now.namespace; name = c.in-Some.id.text } in
     let there = ap (λ test. lookup test entries) (sym (derived-key key)) ∙ sym c.in-Some-get.ensures.value in
     let known = known-some flat c.args.i c.args.placed.now key (word_of c.in-Some.id) entries c.in-Some-get.earlier.now c.requires.flat c.requires.here c.requires.declared refl refl there in
-    taken-optional flat.spaces (policy_of flat.spaces (take c.args.i flat.statements.items)) (placed_of flat.spaces c.args.placed.now) (table_of c.in-Some.table) (word_of c.in-Some.id) entries c.in-Some-get.earlier.now
-    (placed_of flat.spaces c.index.result.now) c.requires.once c.requires.declared c.in-Some.ensures.some known.first (known.found c.index.result.now c.index.ensures)
+    taken-optional flat.spaces (map (placed_as flat) (take c.args.i flat.statements.items)) (placed_as flat c.args.placed.now) (table_of c.in-Some.table) (word_of c.in-Some.id) entries c.in-Some-get.earlier.now
+    (placed_as flat c.index.result.now) c.requires.once c.requires.declared c.in-Some.ensures.some known.first (known.found c.index.result.now c.index.ensures)
     (both_true (is_optional_statement c.args.placed.now) (is_optional_statement c.index.result.now) (sym c.if-is_optional.ensures) (sym c.if-is_optional-2.ensures))
 
 pub returns-in-Some-get : goal.returns-in-Some-get
@@ -61,10 +61,10 @@ returns-in-Some-get g c =
         (ap (λ test. lookup test c.args.declared.now.entries) (sym (derived-key key)) ∙ sym c.in-Some-get.ensures.value)
 
     again : (q : PlacedStatement g.row.A.Denot) → q ≡ get_or items k q → (is_optional_statement c.args.placed.now && is_optional_statement q) ≡ false
-        → IsTaken c.args.flat.now.spaces (policy_of c.args.flat.now.spaces (take c.args.i items)) (placed_of c.args.flat.now.spaces c.args.placed.now) c.args.declared.now.entries (Some (word_of c.in-Some.id))
+        → IsTaken c.args.flat.now.spaces (map (placed_as c.args.flat.now) (take c.args.i items)) (placed_as c.args.flat.now c.args.placed.now) c.args.declared.now.entries (Some (word_of c.in-Some.id))
     again q is apart =
-        taken-again c.args.flat.now.spaces (policy_of c.args.flat.now.spaces (take c.args.i items)) (placed_of c.args.flat.now.spaces c.args.placed.now) (table_of c.in-Some.table) (word_of c.in-Some.id)
-        c.args.declared.now.entries k (placed_of c.args.flat.now.spaces q) c.requires.once c.in-Some.ensures.some known.first (known.found q is) apart
+        taken-again c.args.flat.now.spaces (map (placed_as c.args.flat.now) (take c.args.i items)) (placed_as c.args.flat.now c.args.placed.now) (table_of c.in-Some.table) (word_of c.in-Some.id)
+        c.args.declared.now.entries k (placed_as c.args.flat.now q) c.requires.once c.in-Some.ensures.some known.first (known.found q is) apart
 
 pub returns : goal.returns
 returns g c =

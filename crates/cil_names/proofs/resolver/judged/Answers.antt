@@ -1,6 +1,5 @@
 use Rattle.std.proofs.lemmas.Result.{err_from_is_err_and}
 use Rattle.cil_specs.specs.Joined.{joined}
-use Rattle.cil_specs.specs.Lookup.{every_optional}
 use Rattle.cil_specs.specs.PolicyFault.{twice, IsFaultOf}
 use Rattle.cil_specs.specs.Kept.{IsFirstFault}
 use Rattle.cil_names.specs.Flat.{IsLeast}
@@ -14,7 +13,7 @@ pub returns-in_err-policy-clause-err : goal.returns-in_err-policy-clause-err
 returns-in_err-policy-clause-err g c =
     let fault = c.in_err-policy.field-0.0 in
     let policy = joined (modules_of c.args.joined.now) in
-    let first : PolicyFaultIs fault (IsFirstFault policy) = fault-weaker fault (IsLeast (IsFaultOf twice every_optional policy)) (IsFirstFault policy) (twice-fault policy) c.in_err-policy.ensures.err in
+    let first : PolicyFaultIs fault (IsFirstFault policy) = fault-weaker fault (IsLeast (IsFaultOf twice policy)) (IsFirstFault policy) (twice-fault policy) c.in_err-policy.ensures.err in
     let made = err_from_is_err_and c.from_residual.result c.from_residual.ensures.1 in
     rw (made.1, made.2) first
 

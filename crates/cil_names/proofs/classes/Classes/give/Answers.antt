@@ -3,20 +3,20 @@ use Rattle.std.proofs.lemmas.Option.{slice_get_read}
 use Rattle.cil_specs.specs.Lookup.{texts}
 use Rattle.cil_text.specs.Image.{word_of}
 use Rattle.cil_names.specs.Placed.{placed_of}
-use Rattle.cil_names.specs.Policy.{policy_in}
+use Rattle.cil_names.specs.Policy.{policy_in, placed_in}
 use Rattle.cil_names.specs.Classes.{SeenClasses, IsGiven}
 use Rattle.cil_names.proofs.ClassesLemmas.{is-given, is-given-nowhere}
 use Rattle.cil_names.proofs.classes.Classes.give.Goals as goal
 
 pub returns-in_default-get_index_of : goal.returns-in_default-get_index_of
 returns-in_default-get_index_of g c =
-    is-given-nowhere (policy_in c.args.policy.now) (placed_of c.args.policy.now.spaces c.args.placed.now) c.args.self.now c.in-Some.to (texts (map word_of c.in-Some.permissions.now)) c.in-Some.ensures.some
+    is-given-nowhere (policy_in c.args.policy.now) (placed_in c.args.policy.now c.args.placed.now) c.args.self.now c.in-Some.to (texts (map word_of c.in-Some.permissions.now)) c.in-Some.ensures.some
     (ap (λ v. position (λ k. c.in-Some.to == k) v.places) (sym c.self.view_is) ∙ sym c.in_default-get_index_of.ensures.index)
 
 pub returns : goal.returns
 returns g c =
     let policy = policy_in c.args.policy.now in
-    let t = placed_of c.args.policy.now.spaces c.args.placed.now in
+    let t = placed_in c.args.policy.now c.args.placed.now in
     let all = c.self.inside.permissions.items in
     let at = c.in-Some-get_index_of.at in
     let old : SeenClasses = record { places = c.self.inside.places.keys; permissions = all } in

@@ -3,7 +3,7 @@ use Rattle.cil_specs.specs.Lookup.{texts, distinct}
 use Rattle.cil_text.specs.Image.{word_of}
 use Rattle.cil_names.specs.Names.{with_words}
 use Rattle.cil_names.specs.Placed.{placed_of}
-use Rattle.cil_names.specs.Policy.{policy_in}
+use Rattle.cil_names.specs.Policy.{policy_in, placed_in}
 use Rattle.cil_names.specs.Classes.{SeenClasses}
 use Rattle.cil_names.proofs.ClassesLemmas.{own-none, own-other, own-places, own-next, own-all}
 use Rattle.cil_names.proofs.StatementsLemmas.{statement-at, statements-past}
@@ -23,20 +23,20 @@ invariant_of-classes g c = c.loop-i.invariant.same
 pub loop-i-preserved-in_default : goal.loop-i-preserved-in_default
 loop-i-preserved-in_default g c =
     let policy = policy_in c.args.policy.now in
-    let spaces = c.args.policy.now.spaces in
+    let place = placed_in c.args.policy.now in
     let seen : SeenClasses = record { places = c.loop-i.classes-inside.places.keys; permissions = c.loop-i.classes-inside.permissions.items } in
-    let at = statement-at spaces c.statements-placed-items.result.now policy c.loop-i.i c.placed-item.result c.statements-placed-items.ensures.seen c.loop-i-test.true c.placed-item.is in
-    record { same = c.loop-i.invariant.same; own = own-other policy c.loop-i.i (placed_of spaces c.placed-item.result) seen at c.in_default.ensures.none c.loop-i.invariant.own }
+    let at = statement-at place c.statements-placed-items.result.now policy c.loop-i.i c.placed-item.result c.statements-placed-items.ensures.seen c.loop-i-test.true c.placed-item.is in
+    record { same = c.loop-i.invariant.same; own = own-other policy c.loop-i.i (place c.placed-item.result) seen at c.in_default.ensures.none c.loop-i.invariant.own }
 
 pub loop-i-preserved : goal.loop-i-preserved
 loop-i-preserved g c =
     let policy = policy_in c.args.policy.now in
-    let spaces = c.args.policy.now.spaces in
+    let place = placed_in c.args.policy.now in
     let i = c.loop-i.i in
     let names = c.insert_words.new.self in
     let old : SeenClasses = record { places = c.loop-i.classes-inside.places.keys; permissions = c.loop-i.classes-inside.permissions.items } in
     let new : SeenClasses = record { places = c.insert.new.self.keys; permissions = c.push.new.self.items } in
-    let at = statement-at spaces c.statements-placed-items.result.now policy i c.placed-item.result c.statements-placed-items.ensures.seen c.loop-i-test.true c.placed-item.is in
+    let at = statement-at place c.statements-placed-items.result.now policy i c.placed-item.result c.statements-placed-items.ensures.seen c.loop-i-test.true c.placed-item.is in
     let more = c.in_ok-push.ensures.items in
     let placed = c.in_ok-insert.ensures.keys in
     let named =
@@ -45,11 +45,11 @@ loop-i-preserved g c =
       same =
           ap length (own-places policy i old new.places c.loop-i.invariant.own placed) ∙ length-append old.places (i ∷ []) ∙ ap (λ n. n + 1) c.loop-i.invariant.same
           ∙ sym (length-append old.permissions (names ∷ [])) ∙ sym (ap length more);
-      own = own-next policy i (placed_of spaces c.placed-item.result) old new names at c.loop-i.invariant.same named placed more c.loop-i.invariant.own;
+      own = own-next policy i (place c.placed-item.result) old new names at c.loop-i.invariant.same named placed more c.loop-i.invariant.own;
     }
 
 pub returns : goal.returns
 returns g c =
     let policy = policy_in c.args.policy.now in
     let seen : SeenClasses = record { places = c.loop-i.classes-inside.places.keys; permissions = c.loop-i.classes-inside.permissions.items } in
-    own-all policy c.loop-i.i seen (statements-past c.args.policy.now.spaces c.statements-placed-items.result.now policy c.loop-i.i c.statements-placed-items.ensures.seen c.loop-i-test.false) c.loop-i.invariant.own
+    own-all policy c.loop-i.i seen (statements-past (placed_in c.args.policy.now) c.statements-placed-items.result.now policy c.loop-i.i c.statements-placed-items.ensures.seen c.loop-i-test.false) c.loop-i.invariant.own

@@ -11,7 +11,7 @@ returns-in_ok-push g c =
     let policy = c.args.self.now.policy.now in
     asks-one policy c.args.placed.now ((classes, word_of c.args.class) ∷ []) (map (λ w. (word_of c.args.class, w)) (map word_of c.args.permissions.now)) c.args.needs.now.items c.push.new.self.items
     _ c.requires.ready.nested c.requires.inside c.in_ok-push.ensures.items refl (ap (list_all (λ o. nat_lt o (length policy.optionals.items + 1))) c.new.ensures.items)
-    (λ set. sym (c.if-not-has_permissions.ensures set) ∙ ap (list_any (has_number policy.statements.items set)) (sym c.new.ensures.items))
+    (λ set. sym (c.if-not-has_permissions.ensures set) ∙ ap (list_any (has_number policy.optionals.items set)) (sym c.new.ensures.items))
 
 pub returns-else-not-has_permissions : goal.returns-else-not-has_permissions
 returns-else-not-has_permissions g c =

@@ -1,10 +1,10 @@
-use Rattle.std.proofs.Common.{◌≡◌, ◌∙◌, sym, ap, ◌++◌, rules, take, length, append-nil, flat_map}
+use Rattle.std.proofs.Common.{◌≡◌, ◌∙◌, sym, ap, ◌++◌, rules, take, length, append-nil, flat_map, map}
 use Rattle.std.specs.Option.{option_to_list}
 use Rattle.std.proofs.lemmas.List.{take_all}
 use Rattle.cil_names.specs.Below.{is_class_below}
 use Rattle.cil_names.specs.Numbering.{class_if}
 use Rattle.cil_names.specs.Placed.{policy_of}
-use Rattle.cil_names.specs.Policy.{modules_in, policy_in}
+use Rattle.cil_names.specs.Policy.{modules_in, policy_in, placed_in}
 use Rattle.cil_names.specs.Resolved.{class_of}
 use Rattle.cil_names.proofs.NumberedLemmas.{made-next, pass-more}
 use Rattle.cil_names.proofs.MadeLemmas.{classes-made}
@@ -25,7 +25,7 @@ loop-place-preserved g c =
       | in_default w ↦ ap (λ v. v.items) w.classes-is ∙ sym (append-nil old) ∙ ap (λ q. old ++ option_to_list q) (sym w.in_default.is)
     ] in
     record {
-      made = made-next (class_of (modules_in policy) n.names.now) (class_if (policy_in policy)) policy.spaces statements c.loop-place.place c.placed-item.result old new (option_to_list o)
+      made = made-next (class_of (modules_in policy) n.names.now) (class_if (policy_in policy)) (placed_in policy) statements c.loop-place.place c.placed-item.result old new (option_to_list o)
           (search rules) c.placed-item.is c.loop-place.invariant.made pushed c.in_ok-class.ensures.class;
       within = pass-more (is_class_below (length n.names.now)) old new (option_to_list o) pushed c.loop-place.invariant.within c.in_ok-class.ensures.within;
     }
@@ -35,5 +35,5 @@ returns-clause-classes g c =
     let policy = c.args.self.now.resolution.now.policy in
     let statements = c.statements-placed-items.result.now in
     let whole : take c.loop-place.place statements ≡ statements = take_all c.loop-place.place statements (search rules) in
-    c.loop-place.invariant.made ∙ ap (λ l. flat_map (class_if (policy_in policy)) (policy_of policy.spaces l)) whole
+    c.loop-place.invariant.made ∙ ap (λ l. flat_map (class_if (policy_in policy)) (map (placed_in policy) l)) whole
     ∙ ap (flat_map (class_if (policy_in policy))) c.statements-placed-items.ensures.seen ∙ classes-made (policy_in policy) (policy_in policy)

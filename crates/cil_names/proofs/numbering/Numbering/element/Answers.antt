@@ -1,5 +1,5 @@
 use Rattle.std.proofs.Common.{sym, subst}
-use Rattle.cil_specs.specs.Lookup.{types, leads, every_optional}
+use Rattle.cil_specs.specs.Lookup.{types, leads}
 use Rattle.cil_names.specs.Policy.{namespace_at, policy_in}
 use Rattle.cil_names.proofs.LeadLemmas.{LeadsIn, leads-in}
 use Rattle.cil_names.proofs.ElementLemmas.{lead-get, kind-some}
@@ -9,6 +9,6 @@ pub unwrap-kind-requires : goal.unwrap-kind-requires
 unwrap-kind-requires g c =
     let p = c.args.self.now.resolution.now.policy in
     let namespace = namespace_at p.spaces c.args.namespace in
-    let lead = leads every_optional (policy_in p) types namespace c.args.word.text.now in
+    let lead = leads (policy_in p) types namespace c.args.word.text.now in
     let at = lead-get types (policy_in p) c.leads.result lead c.unwrap-found.result c.leads.ensures c.unwrap-found.ensures in
-    kind-some (policy_in p) c.kind.result _ c.kind.ensures (subst (LeadsIn types (policy_in p)) (sym at) (leads-in every_optional (policy_in p) types namespace c.args.word.text.now))
+    kind-some (policy_in p) c.kind.result _ c.kind.ensures (subst (LeadsIn types (policy_in p)) (sym at) (leads-in (policy_in p) types namespace c.args.word.text.now))

@@ -1,12 +1,11 @@
-use Rattle.std.proofs.Common.{◌≡◌, ◌∙◌, sym, ap, ◌++◌, rules, take, length, append-nil}
+use Rattle.std.proofs.Common.{◌≡◌, ◌∙◌, sym, ap, ◌++◌, rules, take, length, append-nil, map}
 use Rattle.std.specs.Option.{option_to_list}
 use Rattle.std.proofs.lemmas.List.{take_all}
-use Rattle.cil_specs.specs.Lookup.{every_optional}
 use Rattle.cil_specs.specs.Rule as spec
 use Rattle.cil_names.specs.Below.{is_rule_below}
 use Rattle.cil_names.specs.Numbering.{rules_from}
 use Rattle.cil_names.specs.Placed.{policy_of}
-use Rattle.cil_names.specs.Policy.{modules_in, policy_in}
+use Rattle.cil_names.specs.Policy.{modules_in, policy_in, placed_in}
 use Rattle.cil_names.specs.Resolved.{rule_of}
 use Rattle.cil_names.proofs.NumberedLemmas.{made-next, pass-more}
 use Rattle.cil_names.proofs.MadeLemmas.{rules-made}
@@ -27,7 +26,7 @@ loop-placed-preserved g c =
       | in_default w ↦ ap (λ v. v.items) w.rules-is ∙ sym (append-nil old) ∙ ap (λ q. old ++ option_to_list q) (sym w.in_default.is)
     ] in
     record {
-      made = made-next (rule_of (modules_in policy) n.names.now) (λ s. spec.rule_of every_optional (policy_in policy) s s.form) policy.spaces statements c.loop-placed.placed-index c.placed-item.result old new (option_to_list o)
+      made = made-next (rule_of (modules_in policy) n.names.now) (λ s. spec.rule_of (policy_in policy) s s.form) (placed_in policy) statements c.loop-placed.placed-index c.placed-item.result old new (option_to_list o)
           (search rules) c.placed-item.is c.loop-placed.invariant.made pushed c.in_ok-rule.ensures.rule;
       within = pass-more (is_rule_below (length n.names.now)) old new (option_to_list o) pushed c.loop-placed.invariant.within c.in_ok-rule.ensures.within;
     }
@@ -37,5 +36,5 @@ returns-clause-rules g c =
     let policy = c.args.self.now.resolution.now.policy in
     let statements = c.statements-placed-items.result.now in
     let whole : take c.loop-placed.placed-index statements ≡ statements = take_all c.loop-placed.placed-index statements (search rules) in
-    c.loop-placed.invariant.made ∙ ap (λ l. rules_from (policy_in policy) (policy_of policy.spaces l)) whole
+    c.loop-placed.invariant.made ∙ ap (λ l. rules_from (policy_in policy) (map (placed_in policy) l)) whole
     ∙ ap (rules_from (policy_in policy)) c.statements-placed-items.ensures.seen ∙ rules-made (policy_in policy) (policy_in policy)

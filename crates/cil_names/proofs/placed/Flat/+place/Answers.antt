@@ -13,7 +13,7 @@ use Rattle.cil_names.specs.Nested.{optionals_among, chains_of}
 use Rattle.cil_names.specs.Placed.{form_of, at_of}
 use Rattle.cil_names.specs.declared.placed.Flat.{Flat}
 use Rattle.cil_names.proofs.NestedLemmas.{around-number}
-use Rattle.cil_names.proofs.PlacedLemmas.{top, around-pushed, pushed-place, pushed-other, pushed-optional, extends-none, extends-one, extends-next, extends-namespace, extends-around, extends-block, extends-optional, each-plain, block-plain, optional-plain, body-depth, optional-depth, placed-leaf, leaf-name, opens-nothing, opens-block}
+use Rattle.cil_names.proofs.PlacedLemmas.{pushed-as, top, around-pushed, pushed-other, pushed-optional, extends-none, extends-one, extends-next, extends-namespace, extends-around, extends-block, extends-optional, each-plain, block-plain, optional-plain, body-depth, optional-depth, placed-leaf, leaf-name, opens-nothing, opens-block}
 use Rattle.cil_names.proofs.placed.Flat.+place.Goals as goal
 use Rattle.cil_names.proofs.placed.Flat.+place.Goals.{in-Block+in_ok-namespace-in-Block+in_ok-place-in-Block, in-Optional+in_ok-push-in-Optional+in_ok-place-in-Optional, in_default}
 
@@ -40,9 +40,9 @@ place-requires g t c κs within =
         (
           c.in_ok-namespace-in-Block.ensures.within,
           (
-            pushed-other mid new _ c.loop-statement.invariant.nested among (ap (λ r. is_optional (form_of r)) block.is) c.in_ok-push.ensures.items refl,
+            pushed-other mid new _ c.loop-statement.invariant.nested among (ap (λ r. is_optional (form_of r)) block.is) (pushed-as _ _ _ _ c.in_ok-push.ensures.items c.placed.ensures) refl,
             (
-              around-pushed mid new _ around.optional around.module_name.now c.in_ok-push.ensures.items among,
+              around-pushed mid new _ around.optional around.module_name.now (pushed-as _ _ _ _ c.in_ok-push.ensures.items c.placed.ensures) among,
               ap (λ l. is_plain (statements_of l)) c.deref.ensures.value ∙ block-plain s block.at block.id block.body block.is here,
             ),
           ),
@@ -66,8 +66,8 @@ place-requires-in-Optional g t c κs within =
     let less = optional-depth statements i s opt.at opt.id opt.body c.loop-statement-test.true c.statement-item.is opt.is in
     let same : most (size-Statement g.row.A.Denot) c.deref-in-Optional.result.now ≡ most (size-Statement g.row.A.Denot) opt.body.items = ap (most (size-Statement g.row.A.Denot)) c.deref-in-Optional.ensures.value in
     let here = each-plain statements i s c.requires.plain (slice_get_read statements (length statements) i s refl c.loop-statement-test.true c.statement-item.is) in
-    let pushed = pushed-optional mid new _ _ c.len-optional.result c.loop-statement.invariant.nested among (ap (λ r. is_optional (form_of r)) opt.is) c.in_ok-push.ensures.items c.in_ok-push-in-Optional.ensures.items
-    (pushed-place mid.statements.items c.push.new.self.items _ c.len.result c.in_ok-push.ensures.items (c.len.ensures ∙ c.push.new.self.ok.0)) (c.len-optional.ensures ∙ c.push-in-Optional.new.self.ok.0) in (
+    let pushed = pushed-optional mid new _ c.len-optional.result c.loop-statement.invariant.nested among (ap (λ r. is_optional (form_of r)) opt.is) (pushed-as _ _ _ _ c.in_ok-push.ensures.items c.placed.ensures) (pushed-as _ _ _ _ c.in_ok-push-in-Optional.ensures.items c.placed-in-Optional.ensures)
+    (c.len-optional.ensures ∙ c.push-in-Optional.new.self.ok.0) in (
       omega (arith, c.decreases, less, same),
       (
         within,
@@ -115,8 +115,8 @@ loop-statement-preserved g t c =
           let inner = w.in_ok-namespace-in-Block.namespace in
           let between : Flat g.row.A.Denot = record { modules = mid.modules; spaces = w.open.new.self; optionals = mid.optionals; statements = c.push.new.self } in
           let opened = w.in_ok-namespace-in-Block.ensures in
-          let nested = pushed-other mid between _ so_far.nested among (ap (λ r. is_optional (form_of r)) block.is) c.in_ok-push.ensures.items refl in
-          let first = extends-one mid between number name _ opened.kept.0 opened.kept.1 refl c.in_ok-push.ensures.items nested refl refl inside low
+          let nested = pushed-other mid between _ so_far.nested among (ap (λ r. is_optional (form_of r)) block.is) (pushed-as _ _ _ _ c.in_ok-push.ensures.items c.placed.ensures) refl in
+          let first = extends-one mid between number name _ opened.kept.0 opened.kept.1 refl (pushed-as _ _ _ _ c.in_ok-push.ensures.items c.placed.ensures) nested refl refl inside low
           (opens-block mid.spaces between.spaces opened.kept.0 (top name namespace [] s) (word_of block.id) inner opened.kept.1 (ap (λ r. block_name (form_of r)) block.is) opened.within opened.opened opened.exact) opened.distinct in
           next c.match-statement.self
           (extends-block mid between c.match-statement.self around inner s block.at block.id block.body block.is among first opened.opened
@@ -126,9 +126,9 @@ loop-statement-preserved g t c =
           let opt = w.in-Optional in
           let inner = w.len-optional.result in
           let between : Flat g.row.A.Denot = record { modules = mid.modules; spaces = mid.spaces; optionals = w.push-in-Optional.new.self; statements = c.push.new.self } in
-          let pushed = pushed-optional mid between _ _ inner so_far.nested among (ap (λ r. is_optional (form_of r)) opt.is) c.in_ok-push.ensures.items w.in_ok-push-in-Optional.ensures.items
-          (pushed-place mid.statements.items c.push.new.self.items _ w.len.result c.in_ok-push.ensures.items (w.len.ensures ∙ c.push.new.self.ok.0)) (w.len-optional.ensures ∙ w.push-in-Optional.new.self.ok.0) in
-          let first = extends-one mid between number name _ [] (sym (append-nil mid.spaces)) refl c.in_ok-push.ensures.items pushed.nested refl refl inside low
+          let pushed = pushed-optional mid between _ inner so_far.nested among (ap (λ r. is_optional (form_of r)) opt.is) (pushed-as _ _ _ _ c.in_ok-push.ensures.items c.placed.ensures) (pushed-as _ _ _ _ w.in_ok-push-in-Optional.ensures.items w.placed-in-Optional.ensures)
+          (w.len-optional.ensures ∙ w.push-in-Optional.new.self.ok.0) in
+          let first = extends-one mid between number name _ [] (sym (append-nil mid.spaces)) refl (pushed-as _ _ _ _ c.in_ok-push.ensures.items c.placed.ensures) pushed.nested refl refl inside low
           (opens-nothing mid.spaces (top name namespace [] s) (ap (λ r. block_name (form_of r)) opt.is)) (λ distinct. distinct) in
           next c.match-statement.self
           (extends-optional mid between c.match-statement.self around inner s opt.at opt.id opt.body opt.is inside first (pushed.chain ∙ ap (λ r. (at_of r).offset ∷ chain) opt.is)
@@ -137,8 +137,8 @@ loop-statement-preserved g t c =
       | in_default w ↦
           let new : Flat g.row.A.Denot = record { modules = mid.modules; spaces = mid.spaces; optionals = mid.optionals; statements = c.push.new.self } in
           let leaf = leaf-name s w.in_default.not-Block w.in_default.not-Optional in
-          let nested = pushed-other mid new _ so_far.nested among leaf.1 c.in_ok-push.ensures.items refl in
+          let nested = pushed-other mid new _ so_far.nested among leaf.1 (pushed-as _ _ _ _ c.in_ok-push.ensures.items c.placed.ensures) refl in
           subst (λ new. Extends old new number name (placed_around old around (statements_of (take (i + 1) statements)))) (sym w.self-is)
           (next new (subst (Extends mid new number name) (sym (placed-leaf name namespace chain s leaf.0 leaf.1))
-          (extends-one mid new number name _ [] (sym (append-nil mid.spaces)) refl c.in_ok-push.ensures.items nested refl refl inside low (opens-nothing mid.spaces (top name namespace [] s) leaf.0) (λ distinct. distinct))))
+          (extends-one mid new number name _ [] (sym (append-nil mid.spaces)) refl (pushed-as _ _ _ _ c.in_ok-push.ensures.items c.placed.ensures) nested refl refl inside low (opens-nothing mid.spaces (top name namespace [] s) leaf.0) (λ distinct. distinct))))
     ]

@@ -1,12 +1,11 @@
-use Rattle.std.proofs.Common.{◌≡◌, ◌∙◌, ◌<◌, ◌≤◌, length, get_or, take, ap, sym, subst, rules}
+use Rattle.std.proofs.Common.{◌≡◌, ◌∙◌, ◌<◌, ◌≤◌, length, get_or, take, ap, sym, subst, rules, map}
 use Rattle.std.specs.Option.{option_map}
 use Rattle.std.proofs.lemmas.List.{take_all}
 use Rattle.cil_specs.specs.PolicyFault.{twice, IsFaultOf}
-use Rattle.cil_specs.specs.Lookup.{every_optional}
 use Rattle.cil_text.specs.Image.{word_of}
 use Rattle.cil_names.specs.Flat.{IsLeast}
-use Rattle.cil_names.specs.Placed.{placed_of, policy_of}
-use Rattle.cil_names.specs.Policy.{HasDeclared, IsTaken}
+use Rattle.cil_names.specs.Nested.{chains_by}
+use Rattle.cil_names.specs.Policy.{placed_as, HasDeclaredIn, IsTaken}
 use Rattle.cil_names.proofs.FaultLemmas.{found-weaker}
 use Rattle.cil_names.proofs.DeclareLemmas.{declared-next, once-below, once-next, twice-least, twice-none}
 use Rattle.cil_names.proofs.policy.Policy.of_flat.Goals as goal
@@ -19,9 +18,9 @@ returns-in-Some-clause-err g c =
     let within : i < length flat.statements.items = search rules in
     let is : p ≡ get_or flat.statements.items i p = c.placed-item.is ∙ ap (λ l. get_or l i p) c.deref-placed-items.ensures.value in
     let least = twice-least flat i p c.declare.new.declared.entries (word_of c.in-Some.id) c.requires within is c.loop-i.invariant.none
-    (subst (IsTaken flat.spaces (policy_of flat.spaces (take i flat.statements.items)) (placed_of flat.spaces p) c.declare.new.declared.entries) (ap (option_map word_of) c.in-Some.is) c.in_ok-id.ensures) in
-    found-weaker c.fault.result _ (IsLeast (IsFaultOf twice every_optional (policy_of flat.spaces flat.statements.items)))
-    (λ f made. subst (IsLeast (IsFaultOf twice every_optional (policy_of flat.spaces flat.statements.items))) (sym (made flat.spaces)) least) c.fault.ensures
+    (subst (IsTaken flat.spaces (map (placed_as flat) (take i flat.statements.items)) (placed_as flat p) c.declare.new.declared.entries) (ap (option_map word_of) c.in-Some.is) c.in_ok-id.ensures) in
+    found-weaker c.fault.result _ (IsLeast (IsFaultOf twice (map (placed_as flat) flat.statements.items)))
+    (λ f made. subst (IsLeast (IsFaultOf twice (map (placed_as flat) flat.statements.items))) (sym (made flat.spaces (chains_by flat.optionals.items))) least) c.fault.ensures
 
 pub loop-i-preserved : goal.loop-i-preserved
 loop-i-preserved g c =
@@ -30,7 +29,7 @@ loop-i-preserved g c =
     let p = c.placed-item.result in
     let within : i < length flat.statements.items = search rules in
     let is : p ≡ get_or flat.statements.items i p = c.placed-item.is ∙ ap (λ l. get_or l i p) c.deref-placed-items.ensures.value in
-    let nothing = subst (IsTaken flat.spaces (policy_of flat.spaces (take i flat.statements.items)) (placed_of flat.spaces p) c.declare.new.declared.entries) (ap (option_map word_of) c.in_default.is) c.in_ok-id.ensures in
+    let nothing = subst (IsTaken flat.spaces (map (placed_as flat) (take i flat.statements.items)) (placed_as flat p) c.declare.new.declared.entries) (ap (option_map word_of) c.in_default.is) c.in_ok-id.ensures in
     record {
       declared = declared-next flat i p c.declare.new.declared.entries within is nothing;
       none = once-next flat i p c.declare.new.declared.entries within is c.loop-i.invariant.none nothing;
@@ -46,7 +45,7 @@ returns-clause-sound g c =
       within = c.requires.within;
       distinct = c.requires.distinct;
       blocks = c.requires.blocks;
-      declared = subst (λ l. HasDeclared flat.spaces l c.loop-i.declared.entries) (take_all c.loop-i.i flat.statements.items past) c.loop-i.invariant.declared;
+      declared = subst (λ l. HasDeclaredIn flat.spaces (map (placed_as flat) l) c.loop-i.declared.entries) (take_all c.loop-i.i flat.statements.items past) c.loop-i.invariant.declared;
     }
 
 pub returns-clause-once : goal.returns-clause-once

@@ -1,5 +1,4 @@
 use Rattle.std.proofs.Common.{map, filter, slice_get, option_map, sym, ap, ◌∙◌}
-use Rattle.cil_specs.specs.Lookup.{every_optional}
 use Rattle.cil_specs.specs.Next.{is_attribute_word, rule_elements}
 use Rattle.cil_text.specs.Image.{word_of, rule_kind_of}
 use Rattle.cil_text.specs.declared.statement.Statement.{Rule}
@@ -15,7 +14,7 @@ returns-in-Itself g c =
     let form =
     ap form_of c.in-Rule.is ∙ ap (λ t. form_of (Rule c.in-Rule.at c.in-Rule.kind c.in-Rule.source t c.in-Rule.class c.in-Rule.permissions)) c.in-Itself.is in
     c.attribute-first.ensures
-    ∙ sym (ap (λ f. slice_get (filter (is_attribute_word every_optional policy namespace) (rule_elements f)) 0) form
+    ∙ sym (ap (λ f. slice_get (filter (is_attribute_word policy namespace) (rule_elements f)) 0) form
     ∙ itself-attribute policy namespace (rule_kind_of c.in-Rule.kind) (word_of c.in-Rule.source) (word_of c.in-Rule.class) (map word_of c.in-Rule.permissions.items))
 
 pub returns-in-Named : goal.returns-in-Named
@@ -25,5 +24,5 @@ returns-in-Named g c =
     let form =
     ap form_of c.in-Rule.is ∙ ap (λ t. form_of (Rule c.in-Rule.at c.in-Rule.kind c.in-Rule.source t c.in-Rule.class c.in-Rule.permissions)) c.in-Named.is in
     ap (option_map word_of) c.or.ensures ∙ or-words c.attribute-first.result c.attribute.result _ _ c.attribute-first.ensures c.attribute.ensures
-    ∙ sym (ap (λ f. slice_get (filter (is_attribute_word every_optional policy namespace) (rule_elements f)) 0) form
+    ∙ sym (ap (λ f. slice_get (filter (is_attribute_word policy namespace) (rule_elements f)) 0) form
     ∙ rule-attribute policy namespace (rule_kind_of c.in-Rule.kind) (word_of c.in-Rule.source) (word_of c.in-Named.target) (word_of c.in-Rule.class) (map word_of c.in-Rule.permissions.items))

@@ -1,7 +1,6 @@
 use Rattle.std.proofs.Common.{get_or}
 use Rattle.std.proofs.lemmas.Result.{err_from_is_err_and}
 use Rattle.cil_specs.specs.PolicyFault.{IsFaultOf, IsFirst}
-use Rattle.cil_specs.specs.Lookup.{every_optional}
 use Rattle.cil_names.specs.Flat.{IsLeast}
 use Rattle.cil_names.specs.Image.{policy_kind_of}
 use Rattle.cil_names.specs.Policy.{policy_in}
@@ -26,7 +25,7 @@ returns-in_err-check_kind g c =
     let n = c.loop-kind.kind-index in
     let kind = policy_kind_of (get_or checked n Twice) in
     let first =
-    found-weaker c.in_err-check_kind.field-0.0 (IsLeast (IsFaultOf kind every_optional policy)) (IsFirst every_optional policy)
+    found-weaker c.in_err-check_kind.field-0.0 (IsLeast (IsFaultOf kind policy)) (IsFirst policy)
     (first-least policy n kind (checked-code n c.loop-kind-test.true) c.loop-kind.invariant) c.in_err-check_kind.ensures.err in
     let made = err_from_is_err_and c.from_residual.result c.from_residual.ensures.1 in
     rw (made.1, made.2) (record { ok = tt; err = first })

@@ -1,10 +1,9 @@
 use Rattle.std.proofs.Common.{◌≤◌, length, arith}
 use Rattle.cil_specs.specs.PolicyFault.{wrong_kind}
-use Rattle.cil_specs.specs.Lookup.{every_optional}
 use Rattle.cil_specs.specs.Next.{IsFirstAttributeFault}
 use Rattle.cil_text.specs.Image.{word_of}
 use Rattle.cil_names.specs.Placed.{placed_of}
-use Rattle.cil_names.specs.Policy.{policy_in}
+use Rattle.cil_names.specs.Policy.{policy_in, placed_in, chains_in}
 use Rattle.cil_names.proofs.CheckLemmas.{found-at, first-some, first-none}
 use Rattle.cil_names.proofs.AttributeLemmas.{none-first, none-next, none-end, first-attribute}
 use Rattle.cil_names.proofs.StatementsLemmas.{statement-at, statements-past, namespace-within}
@@ -26,28 +25,29 @@ pub returns-in-Some : goal.returns-in-Some
 returns-in-Some g c =
     let policy = policy_in c.args.self.now.policy in
     let spaces = c.args.self.now.policy.spaces in
+    let place = placed_in c.args.self.now.policy in
     let i = c.loop-placed.placed-index in
-    let s = placed_of spaces c.placed-item.result in
-    let at = statement-at spaces c.statements-placed-items.result.now policy i c.placed-item.result c.statements-placed-items.ensures.seen c.loop-placed-test.true c.placed-item.is in
+    let s = place c.placed-item.result in
+    let at = statement-at place c.statements-placed-items.result.now policy i c.placed-item.result c.statements-placed-items.ensures.seen c.loop-placed-test.true c.placed-item.is in
     let found = first-some _ (word_of c.in-Some.word) c.in-Some.ensures in
     record {
       ok = tt;
-      err = found-at c.fault.result (IsFirstAttributeFault every_optional policy) wrong_kind c.placed-item.result (word_of c.in-Some.word) spaces c.fault.ensures
+      err = found-at c.fault.result (IsFirstAttributeFault policy) wrong_kind c.placed-item.result (word_of c.in-Some.word) spaces (chains_in c.args.self.now.policy) c.fault.ensures
           (first-attribute policy i s (word_of c.in-Some.word) found.0 c.statements-placed-items.ensures.flat at c.loop-placed.invariant found.1);
     }
 
 pub loop-placed-preserved : goal.loop-placed-preserved
 loop-placed-preserved g c =
     let policy = policy_in c.args.self.now.policy in
-    let spaces = c.args.self.now.policy.spaces in
+    let place = placed_in c.args.self.now.policy in
     let i = c.loop-placed.placed-index in
-    let s = placed_of spaces c.placed-item.result in
-    let at = statement-at spaces c.statements-placed-items.result.now policy i c.placed-item.result c.statements-placed-items.ensures.seen c.loop-placed-test.true c.placed-item.is in
+    let s = place c.placed-item.result in
+    let at = statement-at place c.statements-placed-items.result.now policy i c.placed-item.result c.statements-placed-items.ensures.seen c.loop-placed-test.true c.placed-item.is in
     none-next policy i s at (first-none _ c.in_default.ensures) c.loop-placed.invariant
 
 pub returns : goal.returns
 returns g c =
     let policy = policy_in c.args.self.now.policy in
     let i = c.loop-placed.placed-index in
-    let past : length policy ≤ i = statements-past c.args.self.now.policy.spaces c.statements-placed-items.result.now policy i c.statements-placed-items.ensures.seen c.loop-placed-test.false in
+    let past : length policy ≤ i = statements-past (placed_in c.args.self.now.policy) c.statements-placed-items.result.now policy i c.statements-placed-items.ensures.seen c.loop-placed-test.false in
     record { ok = (c.requires.compiles, none-end policy (λ j less s at. c.loop-placed.invariant j (omega (arith, less, past)) s at)); err = tt }

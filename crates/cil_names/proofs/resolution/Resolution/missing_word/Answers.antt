@@ -1,7 +1,7 @@
 use Rattle.std.proofs.Common.{map, option_map, sym, ap, ◌∙◌}
 use Rattle.std.specs.List.{find}
 use Rattle.cil_specs.specs.Names.{Word}
-use Rattle.cil_specs.specs.Lookup.{classes, every_optional}
+use Rattle.cil_specs.specs.Lookup.{classes}
 use Rattle.cil_specs.specs.PolicyFault.{is_unfound}
 use Rattle.cil_text.specs.Image.{word_of, target_of, rule_kind_of}
 use Rattle.cil_names.specs.Placed.{form_of}
@@ -14,7 +14,7 @@ pub returns-in-ClassOrder : goal.returns-in-ClassOrder
 returns-in-ClassOrder g c =
     let policy = policy_in c.args.self.now.policy in
     let namespace = namespace_at c.args.self.now.policy.spaces c.args.placed.now.namespace in
-    c.unfound_class.ensures ∙ ap (λ l. find (λ (w : Word). is_unfound every_optional policy namespace (classes, w)) (map word_of l)) c.deref.ensures.value
+    c.unfound_class.ensures ∙ ap (λ l. find (λ (w : Word). is_unfound policy namespace (classes, w)) (map word_of l)) c.deref.ensures.value
     ∙ sym (ap (first_missing policy namespace) (ap form_of c.in-ClassOrder.is) ∙ missing-order policy namespace (map word_of c.in-ClassOrder.classes.items))
 
 pub returns-in-Rule : goal.returns-in-Rule
