@@ -168,6 +168,49 @@ fn a_source_that_fails(rt: HostRuntime) {
     }
 }
 
+// A script whose text has a front that is a policy with accesses of its own.
+const CUT: &[u8] = b"install m 400 80\n(class file (read write))(type a)(type b)\
+    (allow a b (file (write read)))(type c)\nrules\n";
+
+// Wherever in the text the source fails, nothing is installed and nothing written.
+#[test]
+fn a_source_that_fails_in_a_text(rt: HostRuntime) {
+    for given in 17..98 {
+        for give in [1, 7, 1000] {
+            let limits = Limits {
+                give,
+                given,
+                take: ALL,
+                taken: ALL,
+            };
+            let want = (Err(SessionFault::Read), "", given, Some(0));
+            assert_outcome(&rt, rt.alloc(), CUT, limits, want);
+        }
+    }
+}
+
+const CUT_AGAIN: &[u8] = b"install m 400 26\n(type a)(type b)(type old)\ninstall m 400 86\n\
+    (class file (read write))(type a)(type b)(allow b a (file (read)))\
+    (typeattribute none)\nrules\n";
+
+// What was installed before is answered and kept, and nothing comes in its place.
+#[test]
+fn a_source_that_fails_in_a_second_text(rt: HostRuntime) {
+    let alloc = rt.alloc();
+    for given in 61..148 {
+        let mut source = MemorySource::with_limits(CUT_AGAIN, 1000, given);
+        let mut sink = MemorySink::new(alloc);
+        let mut engine = Plain::new(alloc);
+        let end = session(alloc, &mut source, &mut sink, &mut engine);
+        let found = (end, shown(sink.bytes()));
+        assert_same(&rt, found, (Err(SessionFault::Read), "ok 0 0\n"));
+        let mut source = MemorySource::new(b"install n 400 10\n(type old)\nrules\n");
+        let end = session(alloc, &mut source, &mut sink, &mut engine);
+        let want = "ok 0 0\nrefused 41 n:1:7 old\nend 0\n";
+        assert_same(&rt, (end, shown(sink.bytes())), (Ok(Status::Refused), want));
+    }
+}
+
 // A sink that fails holds a front of the answer, and the engine holds the module. Nothing was taken of the source behind the
 // command that was answered last.
 #[test]

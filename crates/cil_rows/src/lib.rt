@@ -30,6 +30,8 @@ mod refusals;
 #[cfg(test)]
 mod shapes;
 #[cfg(test)]
+mod statuses;
+#[cfg(test)]
 mod stores;
 #[cfg(test)]
 mod streams;

@@ -125,6 +125,7 @@ fn a_source_over_a_reader(rt: HostRuntime) {
         limit: 100,
     });
     assert_takes(&rt, &mut source, &calls);
+    assert_takes(&rt, &mut source, &[(4, Ok(0), "....")]);
     let calls = [(4, Ok(2), "ab.."), (4, Err(SourceFault), "....")];
     let mut source = ReaderSource::new(Tape {
         left: b"abcde",
