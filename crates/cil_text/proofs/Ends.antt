@@ -1,11 +1,11 @@
 -- The reader from step to step, and at the end of the text.
-use Rattle.std.proofs.Common.{◌≡◌, ℕ, ◌<◌, ◌≤◌, List, [], ◌∷◌, ◌++◌, length, drop, map, reverse, ap, sym, ◌∙◌, subst, inr, append_assoc, length-append, length-drop, arith}
+use Rattle.std.proofs.Common.{◌≡◌, ℕ, ◌<◌, ◌≤◌, List, [], ◌∷◌, ◌++◌, length, drop, map, reverse, ap, sym, ◌∙◌, subst, inr, length-append, length-drop, arith}
 use Rattle.std.specs.List.{AllByRecursion}
 use Rattle.cil_specs.specs.Place.{place_at}
 use Rattle.cil_specs.specs.Parts.{Part, spelling, IsClean}
 use Rattle.cil_specs.specs.Reading.{IsReadingFault, IsUnclosed}
 use Rattle.cil_specs.specs.TextFault.{unclosed}
-use Rattle.cil_specs.specs.Trees.{Mark, opening_at, marks, told, Reads}
+use Rattle.cil_specs.specs.Trees.{Mark, opening_at, told, Reads}
 use Rattle.cil_specs.proofs.PartLemmas.{size-some, clean-push, told-clean, IsRightMark, told-right, all-middle}
 use Rattle.cil_text.specs.Image.{place_of, trees_in}
 use Rattle.cil_text.specs.Reader.{IsPlaced, GoesOver, HaveMarks, HasRead, open_lists}

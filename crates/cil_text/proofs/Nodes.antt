@@ -1,6 +1,6 @@
 -- The trees that nodes stand for.
-use Rattle.std.proofs.Common.{◌≡◌, ℕ, ◌+◌, ◌-◌, ◌≤◌, Bool, zero, suc, List, [], ◌∷◌, length, take, drop, get_or, min, refl, ap, sym, ◌∙◌, length-drop, arith}
-use Rattle.std.proofs.lemmas.List.{length-take, take_min, drop_min, take_rest}
+use Rattle.std.proofs.Common.{◌≡◌, ℕ, ◌+◌, ◌-◌, ◌≤◌, zero, suc, List, [], ◌∷◌, length, take, drop, get_or, refl, ap, sym, ◌∙◌, length-drop, arith}
+use Rattle.std.proofs.lemmas.List.{length-take, take_rest}
 use Rattle.std.proofs.Math.Seq.{drop-cons}
 use Rattle.cil_specs.specs.Trees.{Trees, none, a_word, a_string, a_list}
 use Rattle.cil_text.specs.Image.{place_of, trees_upto, trees_in, trees_of, tree_then}

@@ -1,5 +1,5 @@
 -- The lists in expressions and statements.
-use Rattle.std.proofs.Common.{◌≡◌, ℕ, Vec, refl, ap, ◌∙◌}
+use Rattle.std.proofs.Common.{◌≡◌, Vec, refl, ap, ◌∙◌}
 use Rattle.cil_specs.specs.Expr.{elements}
 use Rattle.cil_specs.specs.Statements.{block, optional, Statements, statement}
 use Rattle.cil_text.specs.Image.{place_of, expr_of, row_expr, word_of, statement_then, row_statements, statements_of}

@@ -1,5 +1,5 @@
 -- What the front of trees spells, as the code finds it.
-use Rattle.std.proofs.Common.{◌≡◌, ◌≢◌, ℕ, Bool, true, List, Option, refl, sym, ◌∙◌, ap, subst, bytes_eq}
+use Rattle.std.proofs.Common.{◌≡◌, ◌≢◌, ℕ, Bool, true, Option, refl, sym, ◌∙◌, ap, subst, bytes_eq}
 use Rattle.std.specs.List.{list_any}
 use Rattle.cil_specs.specs.Place.{Place}
 use Rattle.cil_specs.specs.Trees.{Trees, none, a_word, a_string, a_list}

@@ -1,5 +1,5 @@
 -- Statements one after the other, and the first fault among them.
-use Rattle.std.proofs.Common.{◌≡◌, ℕ, ◌+◌, ◌-◌, ◌≤◌, inl, inr, Bool, ◌||◌, List, [], ◌∷◌, ◌++◌, Vec, refl, sym, ◌∙◌, ap, subst, IsTrue, arith}
+use Rattle.std.proofs.Common.{◌≡◌, ℕ, ◌+◌, ◌-◌, ◌≤◌, inl, inr, Bool, ◌||◌, List, [], ◌∷◌, ◌++◌, refl, sym, ◌∙◌, ap, subst, IsTrue, arith}
 use Rattle.std.proofs.lemmas.Bool.{true≢false}
 use Rattle.cil_specs.specs.Place.{Place}
 use Rattle.cil_specs.specs.TextFault.{TextFault, IsNoLater}

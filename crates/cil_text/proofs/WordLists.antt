@@ -8,8 +8,6 @@ use Rattle.cil_text.specs.Image.{word_of, tree_then}
 use Rattle.cil_text.specs.declared.word.Word.{Word}
 use Rattle.cil_text.specs.declared.tree.Tree.{Tree}
 use Rattle.cil_text.specs.declared.tree.Tree.TheVariants as trees
-use Rattle.cil_text.specs.declared.tree.TreeSlice.{TreeSlice}
-use Rattle.cil_text.specs.declared.place.Place.{Place}
 
 -- the words, and then the rest
 abbrev pub words_then : List spec.Word → Trees → Trees

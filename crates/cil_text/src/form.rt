@@ -78,7 +78,10 @@ fn type_alias_actual<'a, A: Allocator>(
     Some(Statement::TypeAliasActual { at, alias, actual })
 }
 
-fn type_attribute<'a, A: Allocator>(at: Place, operands: TreeSlice<'_, 'a>) -> Option<Statement<'a, A>>
+fn type_attribute<'a, A: Allocator>(
+    at: Place,
+    operands: TreeSlice<'_, 'a>,
+) -> Option<Statement<'a, A>>
     ensures { FitsAs (place_of at) Keyword.TypeAttribute (trees_of operands.entry) result }
 {
     let id = only_word(operands)?;
@@ -155,7 +158,10 @@ fn class<'a, A: Allocator + Copy>(
     }
 }
 
-fn class_common<'a, A: Allocator>(at: Place, operands: TreeSlice<'_, 'a>) -> Option<Statement<'a, A>>
+fn class_common<'a, A: Allocator>(
+    at: Place,
+    operands: TreeSlice<'_, 'a>,
+) -> Option<Statement<'a, A>>
     ensures { FitsAs (place_of at) Keyword.ClassCommon (trees_of operands.entry) result }
 {
     let (class, common) = two_words(operands)?;

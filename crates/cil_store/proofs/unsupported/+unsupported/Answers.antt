@@ -9,26 +9,26 @@ use Rattle.cil_store.proofs.UnsupportedLemmas.{word_by, later_of_list, none_at_n
 use Rattle.cil_store.proofs.unsupported.+unsupported.Goals as goal
 
 pub first_unsupported_word-unsupported_word-requires : goal.first_unsupported_word-unsupported_word-requires
-first_unsupported_word-unsupported_word-requires t c κs within =
-    (omega (arith, c.decreases, c.loop-tree.invariant.smaller, size_first (trees_of c.loop-tree.rest) c.in-Some.tree (trees_of c.in-Some.behind) c.in-Some.ensures), within)
+first_unsupported_word-unsupported_word-requires t c =
+    (omega (arith, c.decreases, c.loop-tree.invariant.smaller, size_first (trees_of c.loop-tree.rest) c.in-Some.tree (trees_of c.in-Some.behind) c.in-Some.ensures), tt)
 
 pub unsupported_word-first_unsupported_word-requires : goal.unsupported_word-first_unsupported_word-requires
-unsupported_word-first_unsupported_word-requires t c κs within =
+unsupported_word-first_unsupported_word-requires t c =
     let all : tree_size (tree_then c.args.tree none) ≡ tree_size (trees_of c.in-List.items) + 0 + 1 = ap (λ tree. tree_size (tree_then tree none)) c.in-List.is in
-    (omega (arith, c.decreases, all, size_behind (trees_of c.in-List.items) c.in-Some.first (trees_of c.in-Some.operands) c.in-Some.ensures), within)
+    (omega (arith, c.decreases, all, size_behind (trees_of c.in-List.items) c.in-Some.first (trees_of c.in-Some.operands) c.in-Some.ensures), tt)
 
-pub first_unsupported_word-returns-in-Some-2 : goal.first_unsupported_word-returns-in-Some-2
-first_unsupported_word-returns-in-Some-2 t c =
+pub first_unsupported_word-returns-in-Some-unsupported_word : goal.first_unsupported_word-returns-in-Some-unsupported_word
+first_unsupported_word-returns-in-Some-unsupported_word t c =
     let rest = unsupported_word (trees_of c.in-Some.behind) in
     sym (later_from (trees_of c.args.trees) (trees_of c.loop-tree.rest) c.in-Some.tree (trees_of c.in-Some.behind) (word_option c.unsupported_word.result) c.loop-tree.invariant.found c.in-Some.ensures c.unsupported_word.ensures
-    ∙ ap (λ found. option_or (word_option found) rest) c.in-Some-2.is)
+    ∙ ap (λ found. option_or (word_option found) rest) c.in-Some-unsupported_word.is)
 
 pub first_unsupported_word-loop-tree-preserved : goal.first_unsupported_word-loop-tree-preserved
 first_unsupported_word-loop-tree-preserved t c =
     let rest = unsupported_word (trees_of c.in-Some.behind) in
     record {
       found = later_from (trees_of c.args.trees) (trees_of c.loop-tree.rest) c.in-Some.tree (trees_of c.in-Some.behind) (word_option c.unsupported_word.result) c.loop-tree.invariant.found c.in-Some.ensures c.unsupported_word.ensures
-          ∙ ap (λ found. option_or (word_option found) rest) c.in_default.is;
+          ∙ ap (λ found. option_or (word_option found) rest) c.in_default-unsupported_word.is;
       smaller = omega (arith, c.loop-tree.invariant.smaller, size_behind (trees_of c.loop-tree.rest) c.in-Some.tree (trees_of c.in-Some.behind) c.in-Some.ensures);
     }
 

@@ -1,4 +1,4 @@
-use Rattle.std.proofs.Common.{◌≡◌, ◌<◌, ◌+◌, ◌∙◌, List, ℕ, length, take, drop, get_or, refl, ap, sym, subst, add-zero, length-drop, rules, arith}
+use Rattle.std.proofs.Common.{◌≡◌, ◌<◌, ◌+◌, ◌∙◌, List, ℕ, length, get_or, refl, ap, sym, subst, length-drop, rules, arith}
 use Rattle.std.specs.List.{prefix_len}
 use Rattle.cil_specs.specs.Bytes.{is_string_byte}
 use Rattle.cil_text.specs.Reader.{IsStopped, open_lists}

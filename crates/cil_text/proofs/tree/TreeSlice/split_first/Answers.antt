@@ -1,4 +1,4 @@
-use Rattle.std.proofs.Common.{◌≡◌, ◌∙◌, ◌∷◌, ◌-◌, List, length, take, drop, min, ap, sym}
+use Rattle.std.proofs.Common.{◌≡◌, ◌∙◌, ◌∷◌, ◌-◌, List, length, take, drop, ap, sym}
 use Rattle.std.proofs.lemmas.List.{take_min, drop_min, take_rest}
 use Rattle.cil_specs.specs.Trees.{a_list}
 use Rattle.cil_text.specs.Image.{place_of, trees_of, trees_in}
