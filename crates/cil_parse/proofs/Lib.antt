@@ -7,3 +7,4 @@ pub mod FlatLemmas
 pub mod PlaceLemmas
 pub mod ParsedLemmas
 pub mod ViewLemmas
+pub mod AroundLemmas

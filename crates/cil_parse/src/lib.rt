@@ -3,6 +3,7 @@
 
 mod builder;
 mod counts;
+mod laws;
 mod lexicon;
 mod lists;
 mod parsed;
@@ -10,6 +11,7 @@ mod row;
 mod table;
 mod view;
 
+pub use laws::statements_are_placed;
 pub use parsed::ParsedModule;
 pub use row::{NumberedWord, SetNode, StatementKind};
 pub use table::Table;
