@@ -3,6 +3,7 @@
 
 mod builder;
 mod counts;
+mod from_text;
 mod laws;
 mod lexicon;
 mod lists;
@@ -12,6 +13,7 @@ mod table;
 mod view;
 
 pub use laws::statements_are_placed;
+pub use from_text::parse;
 pub use parsed::ParsedModule;
 pub use row::{NumberedWord, SetNode, StatementKind};
 pub use table::Table;
