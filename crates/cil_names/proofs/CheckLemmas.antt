@@ -1,13 +1,15 @@
 -- The first fault of a policy, kind by kind.
-use Rattle.std.proofs.Common.{◌≡◌, inl, inr, ℕ, ◌+◌, ◌<◌, zero, suc, ◌==◌, List, [], ◌∷◌, get_or, Some, None, slice_get, refl, sym, ap, ◌∙◌, subst, arith, if◌then◌else◌}
-use Rattle.std.proofs.lemmas.Option.{none-some, same_Some}
+use Rattle.std.proofs.Common.{◌≡◌, inl, inr, ℕ, ◌+◌, ◌<◌, zero, suc, ◌==◌, List, [], ◌∷◌, get_or, Some, None, slice_get, Contains, refl, sym, ap, ◌∙◌, subst, arith, if◌then◌else◌}
+use Rattle.std.proofs.lemmas.Option.{none-some, same_Some, slice_get_within, get_or_from_slice_get}
 use Rattle.std.proofs.lemmas.Bool.{cases_order}
 use Rattle.cil_specs.specs.Names.{Word}
 use Rattle.cil_specs.specs.Joined.{Placed}
 use Rattle.cil_specs.specs.PolicyFault as spec
-use Rattle.cil_specs.specs.PolicyFault.{twice, missing, wrong_kind, alias_twice, alias_unset, second_common, too_many_permissions, code_of, IsAtWordOf, IsFaultOf, IsNoLater, IsFirst, Compiles}
+use Rattle.cil_specs.specs.PolicyFault.{twice, missing, wrong_kind, alias_twice, alias_unset, second_common, too_many_permissions, code_of, IsAtWordOf, IsFaultOf, IsNoLater, missing_words, is_outside, faulty_words}
 use Rattle.cil_names.specs.Image.{policy_kind_of, IsFoundFault}
-use Rattle.cil_names.specs.Flat.{IsLeast, IsFaultless}
+use Rattle.cil_names.specs.Flat.{IsLeast, IsFaultIn, IsFaultless}
+use Rattle.cil_specs.proofs.NamesLemmas.{contains-first, around}
+use Rattle.cil_names.specs.Nested.{AreFoundInside}
 use Rattle.cil_names.specs.Placed.{placed_of}
 use Rattle.cil_names.specs.declared.fault.PolicyFaultKind.{PolicyFaultKind}
 use Rattle.cil_names.specs.declared.fault.PolicyFaultKind.TheVariants.{Twice, Missing, WrongKind, AliasTwice, AliasUnset, SecondCommon, TooManyPermissions}
@@ -88,8 +90,43 @@ none-next policy n kind code none so_far fault is less = elim (cases_order (code
   | inr other ↦ elim other [ inl lesser ↦ so_far fault is lesser | inr greater ↦ omega (arith, less, greater) ]
 ]
 
-pub none-all : (policy : List Placed) (n : ℕ) → 5 < n → NoneBelow policy n → IsFaultless policy
-none-all policy n all none fault is = none fault is (let le : code_of fault.kind < 48 = below fault.kind in omega (arith, le, all))
+-- all names of each statement are found, where none is missing outside optionals and those inside have theirs found
+names-found : (policy : List Placed) → AreFoundInside policy → ((fault : spec.PolicyFault) → IsFaultOf missing policy fault → ⊥) → (s : Placed) → Contains policy s → missing_words policy s ≡ []
+names-found policy inside none s there = by s.optionals refl
+  where
+    no-words : (words : List Word) → missing_words policy s ≡ words → s.optionals ≡ [] → missing_words policy s ≡ []
+    no-words [] is top = is
+    no-words (word ∷ words) is top =
+        let at = around policy s there in
+        absurd (none (record { kind = missing; module_name = s.module_name; at = word.at; word = word.text })
+        (record {
+          before = at.before;
+          s = s;
+          after = at.after;
+          word = word;
+          split = at.whole;
+          is_faulty = subst (λ o. Contains (if is_outside o then missing_words policy s else []) word) (sym top) (subst (λ l. Contains l word) (sym is) (contains-first word words));
+          is_at = refl;
+        }))
+
+    by : (optionals : List ℕ) → s.optionals ≡ optionals → missing_words policy s ≡ []
+    by [] is = no-words (missing_words policy s) refl is
+    by (at ∷ outer) is = inside s there (λ top. cc (sym top ∙ is))
+
+-- the faulty words of a statement
+pub missing-at : (policy before : List Placed) (i : ℕ) (s : Placed) → AreFoundInside policy → slice_get policy i ≡ Some s → missing_words policy s ≡ faulty_words missing policy before s
+missing-at policy before i s inside at = by s.optionals refl
+  where
+    by : (optionals : List ℕ) → s.optionals ≡ optionals → missing_words policy s ≡ (if is_outside s.optionals then missing_words policy s else [])
+    by [] is = ap (λ o. if is_outside o then missing_words policy s else []) (sym is)
+    by (n ∷ outer) is =
+        inside s (i, slice_get_within policy i s at, get_or_from_slice_get policy i s s at) (λ top. cc (sym top ∙ is)) ∙ ap (λ o. if is_outside o then missing_words policy s else []) (sym is)
+
+pub none-all : (policy : List Placed) (n : ℕ) → 5 < n → AreFoundInside policy → NoneBelow policy n → IsFaultless policy
+none-all policy n all inside so_far = record {
+  none = none;
+  found = names-found policy inside (λ fault is. none fault (subst (λ k. IsFaultOf k policy fault) (sym (ap (λ f. f.kind) is.is_at)) is));
+}
   where
     below : (kind : spec.PolicyFaultKind) → code_of kind < 48
     below twice = omega arith
@@ -100,9 +137,12 @@ none-all policy n all none fault is = none fault is (let le : code_of fault.kind
     below second_common = omega arith
     below too_many_permissions = omega arith
 
+    none : (fault : spec.PolicyFault) → IsFaultIn policy fault → ⊥
+    none fault is = so_far fault is (let le : code_of fault.kind < 48 = below fault.kind in omega (arith, le, all))
+
 -- the least fault of the first kind with one is the first
 pub first-least : (policy : List Placed) (n : ℕ) (kind : spec.PolicyFaultKind) → code_of kind ≡ 42 + n → NoneBelow policy n → (fault : spec.PolicyFault)
-    → IsLeast (IsFaultOf kind policy) fault → IsFirst policy fault
+    → IsLeast (IsFaultOf kind policy) fault → IsLeast (IsFaultIn policy) fault
 first-least policy n kind code none fault least = record {
   is = subst (λ k. IsFaultOf k policy fault) (sym own) least.is;
   first = λ other is. elim (cases_order (code_of other.kind) (42 + n)) [

@@ -7,7 +7,7 @@ use Rattle.cil_specs.specs.Names.{Word}
 use Rattle.cil_specs.specs.Statements.{Form, block, optional, type_name, type_alias, alias_actual, type_attribute, attribute_set, common, class, class_common, class_order, rule}
 use Rattle.cil_specs.specs.Joined.{Placed}
 use Rattle.cil_specs.specs.Lookup.{Table, types, classes, declared_in, holds_of, gives_actual, actual_statement, actual_in, actual_of, is_type, is_alias, is_attribute, references, leads}
-use Rattle.cil_specs.specs.PolicyFault.{Compiles, kinds_asked}
+use Rattle.cil_specs.specs.PolicyFault.{kinds_asked}
 use Rattle.cil_specs.specs.Rule.{a_type, an_attribute, name_or_none, element_at, element_or_none}
 use Rattle.cil_specs.proofs.NamesLemmas.{contains-first, contains-other}
 use Rattle.cil_specs.proofs.Runs.{second_true}

@@ -17,16 +17,16 @@ use Rattle.cil_names.proofs.KeptLemmas.{within-directly}
 -- what passes a test is there and passes it
 filter-contained : {X : Type 0} (w : X → Bool) (xs : List X) (x : X) → Contains (filter w xs) x → Contains xs x × (w x ≡ true)
 filter-contained w [] x c = absurd (omega (arith, c.1))
-filter-contained w (y ∷ ys) x c = by (w y) refl c
+filter-contained w (y ∷ ys) x c = by (w y) refl c (filter-contained w ys x)
   where
     more : Contains ys x × (w x ≡ true) → Contains (y ∷ ys) x × (w x ≡ true)
     more there = (contains-other y ys x there.0, there.1)
 
-    by : (b : Bool) → w y ≡ b → Contains (cond b (y ∷ filter w ys) (filter w ys)) x → Contains (y ∷ ys) x × (w x ≡ true)
-    by false e d = more (filter-contained w ys x d)
-    by true e d = elim (contains-cases y (filter w ys) x d) [
+    by : (b : Bool) → w y ≡ b → Contains (cond b (y ∷ filter w ys) (filter w ys)) x → (Contains (filter w ys) x → Contains ys x × (w x ≡ true)) → Contains (y ∷ ys) x × (w x ≡ true)
+    by false e d behind = more (behind d)
+    by true e d behind = elim (contains-cases y (filter w ys) x d) [
       | inl same ↦ (subst (Contains (y ∷ ys)) same (contains-first y ys), ap w (sym same) ∙ e)
-      | inr others ↦ more (filter-contained w ys x others)
+      | inr others ↦ more (behind others)
     ]
 
 -- the statements in kept optionals have their names found

@@ -2,9 +2,8 @@
 use Rattle.std.proofs.Common.{◌≡◌, ℕ, true, ◌&&◌, List, [], ◌∷◌, ◌++◌, flat_map, slice_get, Option, Some, None, is_some, option_map, refl, sym, ap, ◌∙◌, if◌then◌else◌}
 use Rattle.std.proofs.lemmas.Option.{same_Some}
 use Rattle.cil_specs.specs.Joined.{Placed}
-use Rattle.cil_specs.specs.Lookup.{types, classes, is_within, is_type, is_attribute, declared_in, declared_name, permissions_of, distinct}
+use Rattle.cil_specs.specs.Lookup.{classes, declared_in, declared_name, permissions_of, distinct}
 use Rattle.cil_specs.specs.Rule.{ClassOf, declared_as, class_as, is_class, rule_of}
-use Rattle.cil_specs.proofs.RestrictedLemmas.{every-within}
 use Rattle.cil_names.specs.FullNames.{full_name_of}
 use Rattle.cil_names.specs.Numbering.{declared_if, class_if, rules_from}
 use Rattle.cil_names.specs.declared.kinds.Kind.TheVariants.{«Type», Attribute}

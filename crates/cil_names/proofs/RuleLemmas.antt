@@ -5,7 +5,7 @@ use Rattle.cil_specs.specs.Names.{Word}
 use Rattle.cil_specs.specs.Statements.{RuleKind, Target, itself, the_named, rule, target_words}
 use Rattle.cil_specs.specs.Joined.{Placed}
 use Rattle.cil_specs.specs.Lookup.{Table, types, classes, has_name, texts, holds_of, leads, references, named_permissions, actual_statement, is_alias, permissions_of}
-use Rattle.cil_specs.specs.PolicyFault.{Compiles, element_words}
+use Rattle.cil_specs.specs.PolicyFault.{element_words}
 use Rattle.cil_specs.proofs.NamesLemmas.{contains-first, contains-other, contains-map}
 use Rattle.cil_specs.proofs.Runs.{both_true}
 use Rattle.cil_names.specs.Names.{HasWords}

@@ -62,9 +62,9 @@ class_if policy s = if is_class s.form then class_as policy s ∷ [] else []
 abbrev pub rules_from : List Placed → List Placed → List Rule
 rules_from policy statements = flat_map (λ s. rule_of policy s s.form) statements
 
--- The policy compiles, and the names are its names.
+-- The policy has no faults, and the names are its names.
 pub record IsNumbering {A : Type 0} (n : Numbering A) : Type 0 where
   pub resolved : IsResolved n.resolution.now
-  pub compiles : IsFaultless (policy_in n.resolution.now.policy)
+  pub faultless : IsFaultless (policy_in n.resolution.now.policy)
   pub full_names : n.full_names.now ≡ map full_name_of (policy_in n.resolution.now.policy)
   pub names : AreNamesOf (policy_in n.resolution.now.policy) n.names.now

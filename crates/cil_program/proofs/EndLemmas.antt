@@ -44,12 +44,12 @@ line-stays (an_edit (install name priority text)) good =
     (digits-stay (length text) (omega (arith, good.size_short)))
 
 -- what stands before the first line feed, and behind it, is determined
-same-lines : (first other rest more : List ℕ) → list_all stays first ≡ true → list_all stays other ≡ true → first ++ 10 ∷ rest ≡ other ++ 10 ∷ more → (first ≡ other) × (rest ≡ more)
+pub same-lines : (first other rest more : List ℕ) → list_all stays first ≡ true → list_all stays other ≡ true → first ++ 10 ∷ rest ≡ other ++ 10 ∷ more → (first ≡ other) × (rest ≡ more)
 same-lines first other rest more all every e =
     let both = same_run stays first other (10 ∷ rest) (10 ∷ more) e all every refl refl in
     (both.0, ap (drop 1) both.1)
 
-has-feed : (first rest : List ℕ) → list_all stays (first ++ 10 ∷ rest) ≡ true → ⊥
+pub has-feed : (first rest : List ℕ) → list_all stays (first ++ 10 ∷ rest) ≡ true → ⊥
 has-feed first rest all = true≢false (sym (second_true (list_all stays first) _ (sym (list_all-append stays first (10 ∷ rest)) ∙ all)))
 
 -- what has no line feed reaches no further than the first line
@@ -59,12 +59,12 @@ within-line (b ∷ first) [] rest more all e = absurd (true≢false (sym (first_
 within-line (b ∷ first) (c ∷ other) rest more all e = omega (arith, within-line first other rest more (second_true (stays b) (list_all stays first) all) (ap (drop 1) e))
 
 -- a command is its line, a line feed, and a rest
-abbrev behind : Call → List ℕ
+abbrev pub behind : Call → List ℕ
 behind (an_edit (install name priority text)) = text ++ 10 ∷ []
 behind ask_rows = []
 behind ask_dropped = []
 
-command-line : (call : Call) (rest : List ℕ) → command call ++ rest ≡ line_of call ++ 10 ∷ (behind call ++ rest)
+pub command-line : (call : Call) (rest : List ℕ) → command call ++ rest ≡ line_of call ++ 10 ∷ (behind call ++ rest)
 command-line (an_edit (install name priority text)) rest = append_assoc (line_of (an_edit (install name priority text))) (10 ∷ (text ++ 10 ∷ [])) rest
 command-line ask_rows rest = append_assoc (line_of ask_rows) (10 ∷ []) rest
 command-line ask_dropped rest = append_assoc (line_of ask_dropped) (10 ∷ []) rest

@@ -2,6 +2,7 @@
 
 pub mod command;
 pub mod input;
+pub mod laws;
 pub mod line;
 pub mod memory;
 pub mod reply;

@@ -1,5 +1,5 @@
 -- A fault of a policy stands at a word of its statement.
-use Rattle.std.proofs.Common.{◌≡◌, ℕ, Bool, true, false, cond, ◌⊎◌, inl, inr, List, [], ◌∷◌, ◌++◌, map, filter, flat_map, Option, Some, None, Contains, refl, sym, ap, ◌∙◌, subst, true≢false, arith}
+use Rattle.std.proofs.Common.{◌≡◌, Bool, true, false, cond, ◌⊎◌, inl, inr, List, [], ◌∷◌, ◌++◌, map, filter, flat_map, Contains, refl, sym, ap, subst, arith}
 use Rattle.std.specs.List.{AllByRecursion, list_any}
 use Rattle.std.specs.Option.{option_to_list}
 use Rattle.cil_specs.specs.Names.{Word}
@@ -10,7 +10,7 @@ use Rattle.cil_specs.specs.Lookup.{Table, types, classes, commons, scopes, decla
 use Rattle.cil_specs.specs.PolicyFault.{PolicyFaultKind, twice, missing, wrong_kind, alias_twice, alias_unset, second_common, too_many_permissions, is_again, tables, is_unfound, is_lacking, missing_words, kinds_asked, is_of_another_kind, alias_words, has_earlier_actual, element_words, is_unset, common_words, has_earlier_common, has_too_many, is_outside, faulty_words}
 use Rattle.cil_specs.specs.Next.{rule_elements}
 use Rattle.cil_specs.proofs.OrderLemmas.{offset_of, role_offset, declared_offsets, referred_offsets}
-use Rattle.cil_specs.proofs.NamesLemmas.{all-weaker, all-append, all-contained, contains-first, contains-other, contains-cases, contains-mapped}
+use Rattle.cil_specs.proofs.NamesLemmas.{all-weaker, all-contained, contains-first, contains-other, contains-cases, contains-mapped}
 
 -- the words of a statement in the order of the text
 abbrev pub words_in : Form → List Word

@@ -17,7 +17,6 @@ pub mod FaultOrder
 pub mod FaultSame
 pub mod ReportLemmasMembers
 pub mod ReportLemmas
-pub mod PlainLemmas
 pub mod ApartLemmas
 pub mod LeadsLemmas
 pub mod RestrictedLemmas

@@ -1,18 +1,15 @@
 -- Of a policy of a store in order no two faults of one kind stand at one place.
-use Rattle.std.proofs.Common.{◌≡◌, ◌≢◌, ◌⊎◌, inl, inr, ℕ, ◌+◌, ◌<◌, ◌≤◌, ◌==◌, Bool, true, false, not, ◌&&◌, ◌||◌, nat_le, List, [], ◌∷◌, ◌++◌, length, map, filter, flat_map, bytes_eq, if◌then◌else◌, Contains, IsTrue, refl, sym, ap, ◌∙◌, subst, true≢false, arith}
-use Rattle.std.specs.List.{AllByRecursion, list_all, list_any}
+use Rattle.std.proofs.Common.{◌≡◌, ◌⊎◌, inl, inr, ℕ, ◌+◌, ◌≤◌, Bool, true, false, not, ◌&&◌, ◌||◌, nat_le, List, [], ◌∷◌, ◌++◌, length, map, filter, bytes_eq, if◌then◌else◌, Contains, refl, sym, ap, ◌∙◌, subst, arith}
+use Rattle.std.specs.List.{AllByRecursion, list_any}
 use Rattle.std.specs.List.Sorted.{IsStrictlySortedBy}
-use Rattle.std.specs.Ordering.{nat_cmp, ordering_then}
-use Rattle.std.specs.declared.cmp.Ordering.{Ordering}
-use Rattle.std.specs.declared.cmp.Ordering.TheVariants.{Less, Equal, Greater}
-use Rattle.std.specs.Cmp.Lexicographic.{slice_cmp}
+use Rattle.std.specs.Ordering.{nat_cmp}
+use Rattle.std.specs.declared.cmp.Ordering.TheVariants.{Less, Equal}
 use Rattle.std.proofs.lemmas.Bool.{leb-true}
 use Rattle.std.proofs.lemmas.Slice.Eq.{bytes_eq-Decides}
 use Rattle.std.proofs.lemmas.Cmp.{nat_cmp_total, nat_list_cmp_total, tied_itself}
 use Rattle.std.proofs.lemmas.List.{map-append}
-use Rattle.cil_specs.specs.Place.{Place}
 use Rattle.cil_specs.specs.Names.{Word}
-use Rattle.cil_specs.specs.Statements.{Statements, no_more, statement, statement_offsets, words_of, Form}
+use Rattle.cil_specs.specs.Statements.{Statements, no_more, statement, statement_offsets}
 use Rattle.cil_specs.specs.Joined.{Module, Placed, namespace_inside, optionals_inside, placed, joined}
 use Rattle.cil_specs.specs.Report.{name_cmp}
 use Rattle.cil_specs.specs.Store.{Entry, Store, IsStore, entry_cmp, is_highest, active}
@@ -20,7 +17,7 @@ use Rattle.cil_specs.specs.Next.{AreModules, IsModuleText, IsPolicyOf}
 use Rattle.cil_specs.proofs.Runs.{first_true, second_true}
 use Rattle.cil_specs.proofs.Order.{reading-in_order}
 use Rattle.cil_specs.proofs.NamesLemmas.{all-weaker, all-append, all-contained, contains-first, contains-other, contains-cases}
-use Rattle.cil_specs.proofs.OrderLemmas.{RiseTo, rise_le, offset_of, role_offset}
+use Rattle.cil_specs.proofs.OrderLemmas.{RiseTo, offset_of}
 use Rattle.cil_specs.proofs.ShapeLemmas.{shapes_rise}
 use Rattle.cil_specs.proofs.FaultWords.{words_in, contains-filtered, contains-left, contains-right, contains-append_cases, word-offsets}
 use Rattle.cil_specs.proofs.OneText.{module_text_same}

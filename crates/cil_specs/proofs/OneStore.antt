@@ -1,7 +1,6 @@
 -- A store has one meaning or one refusal, and an edit of it one judgement.
-use Rattle.std.proofs.Common.{◌≡◌, ◌⊎◌, inl, inr, ℕ, ◌<◌, ◌≤◌, ◌==◌, ◌++◌, ◌∷◌, [], List, Bool, true, false, filter, if◌then◌else◌, Option, Some, None, is_some, Contains, IsTrue, refl, sym, ap, ◌∙◌, subst, true≢false, arith}
+use Rattle.std.proofs.Common.{◌≡◌, ◌⊎◌, inl, inr, ℕ, ◌≤◌, ◌==◌, ◌∷◌, [], List, if◌then◌else◌, Option, Some, None, is_some, Contains, refl, sym, ap, ◌∙◌, subst, true≢false, arith}
 use Rattle.std.specs.Ordering.{nat_cmp}
-use Rattle.std.specs.declared.cmp.Ordering.{Ordering}
 use Rattle.std.specs.declared.cmp.Ordering.TheVariants.{Less, Equal, Greater}
 use Rattle.std.specs.Cmp.Lexicographic.{slice_cmp}
 use Rattle.std.specs.Ordering.{ordering_reverse}
@@ -9,13 +8,12 @@ use Rattle.std.proofs.lemmas.Cmp.{nat_list_cmp_total, tied_itself}
 use Rattle.cil_specs.specs.TextFault.{TextFault}
 use Rattle.cil_specs.specs.TextFault as text_fault
 use Rattle.cil_specs.specs.Names.{Word}
-use Rattle.cil_specs.specs.Statements.{Statements}
 use Rattle.cil_specs.specs.Joined.{Module, Placed, joined}
-use Rattle.cil_specs.specs.PolicyFault.{PolicyFaultKind, twice, missing, wrong_kind, alias_twice, alias_unset, second_common, too_many_permissions, code_of, PolicyFault, IsAtWordOf, IsFaultOf, IsNoLater}
-use Rattle.cil_specs.specs.Kept.{Optionals, AreKept, is_within, restricted, judged, IsPolicyFault, IsFirst, Compiles, dropped_of}
+use Rattle.cil_specs.specs.PolicyFault.{PolicyFaultKind, twice, missing, wrong_kind, alias_twice, alias_unset, second_common, too_many_permissions, code_of, PolicyFault, IsAtWordOf, IsNoLater}
+use Rattle.cil_specs.specs.Kept.{Optionals, AreKept, is_within, restricted, judged, IsPolicyFault, dropped_of}
 use Rattle.cil_specs.specs.Meaning.{Meaning, meaning_of}
 use Rattle.cil_specs.specs.Store.{Entry, Store, IsStore, active}
-use Rattle.cil_specs.specs.Next.{IsModuleText, IsTextFault, AreModules, IsPolicyOf, IsAttributeFault, IsFirstAttributeFault, HasTypesAlone, IsRefusedFor, first_fault, first_attribute, IsPolicyFaultOf, IsMeaningOf, Edit, install, Refusal, at_place, changed, store_refusal, HasGoodText, IsTextRefusal, IsNotTaken, by_itself, by_its_text, IsTaken, IsPolicyRefusal, Judgement, accepts, refuses, Next, not_taken, bad_policy, good}
+use Rattle.cil_specs.specs.Next.{AreModules, IsPolicyOf, IsAttributeFault, IsRefusedFor, first_fault, first_attribute, IsMeaningOf, Edit, install, Refusal, at_place, store_refusal, HasGoodText, IsTextRefusal, IsNotTaken, by_itself, by_its_text, IsTaken, IsPolicyRefusal, Judgement, accepts, refuses, Next, not_taken, bad_policy, good}
 use Rattle.cil_specs.proofs.NamesLemmas.{all-contained, contains-middle}
 use Rattle.cil_specs.proofs.KeptLemmas.{kept-one}
 use Rattle.cil_specs.proofs.FaultWords.{words_in, contains-filtered, faulty-word, rule-word}

@@ -1,5 +1,5 @@
 -- A text spells one module, or has one fault.
-use Rattle.std.proofs.Common.{◌≡◌, ℕ, false, List, length, sym, subst, ap, ◌∙◌, arith}
+use Rattle.std.proofs.Common.{◌≡◌, ℕ, false, List, length, subst, arith}
 use Rattle.cil_specs.specs.TextFault.{TextFault}
 use Rattle.cil_specs.specs.Trees.{Trees, Reads}
 use Rattle.cil_specs.specs.Statements.{Statements}

@@ -1,13 +1,12 @@
 -- An edit leaves a store in order.
-use Rattle.std.proofs.Common.{◌≡◌, ◌++◌, ◌∷◌, [], List, Bool, true, false, filter, if◌then◌else◌, sym, refl, ap, ◌∙◌, subst, true≢false}
+use Rattle.std.proofs.Common.{◌≡◌, ◌++◌, ◌∷◌, [], List, Bool, true, false, filter, if◌then◌else◌, sym, refl, subst, true≢false}
 use Rattle.std.specs.List.{AllByRecursion}
 use Rattle.std.specs.List.Sorted.{IsStrictlySortedBy}
-use Rattle.std.specs.Ordering.{nat_cmp, is_lt, on, then_cmp}
+use Rattle.std.specs.Ordering.{is_lt}
 use Rattle.std.specs.declared.cmp.Ordering.{Ordering}
 use Rattle.std.specs.declared.cmp.Ordering.TheVariants.{Less, Equal, Greater}
 use Rattle.std.proofs.lemmas.Cmp.{nat_cmp_total, nat_list_cmp_total, on_total, then_total, back_total}
 use Rattle.std.proofs.lemmas.List.Kept.{IsStrictlySortedBy-filter}
-use Rattle.cil_specs.specs.Report.{name_cmp}
 use Rattle.cil_specs.specs.Store.{Entry, Store, IsStore, empty, entry_cmp, put}
 use Rattle.cil_specs.specs.Next.{Edit, install, changed, IsTaken, accepts, not_taken, bad_policy, good, Next}
 use Rattle.cil_specs.specs.Run.{Call, Reply, accepted, rejected, lists, tells_dropped, out_of_memory, Step, Run}

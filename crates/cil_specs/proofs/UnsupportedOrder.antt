@@ -1,8 +1,7 @@
 -- Statements that aren't compiled yet, by their places.
-use Rattle.std.proofs.Common.{◌≡◌, ℕ, ◌+◌, ◌-◌, ◌<◌, ◌≤◌, inl, inr, length, refl, sym, ap, ◌∙◌, IsTrue, arith}
+use Rattle.std.proofs.Common.{◌≡◌, ℕ, ◌+◌, ◌-◌, ◌<◌, ◌≤◌, inl, inr, length, sym, ap, ◌∙◌, IsTrue, arith}
 use Rattle.cil_specs.specs.TextFault.{TextFault, IsNoLater}
 use Rattle.cil_specs.specs.Trees.{Trees, none, a_word, a_string, a_list, in_order}
-use Rattle.cil_specs.specs.Place.{Place}
 use Rattle.cil_specs.specs.Next.{IsUnsupportedFault, IsFirstUnsupportedFault}
 use Rattle.cil_specs.proofs.OrderLemmas.{order_word, order_list, order_le}
 

@@ -7,7 +7,7 @@ use Rattle.cil_specs.specs.TextFault as text_fault
 use Rattle.cil_specs.specs.Trees.{Trees, none, a_word, a_string, a_list, Reads}
 use Rattle.cil_specs.specs.Reading.{IsReadingFault}
 use Rattle.cil_specs.specs.Names.{Word, is_letter, is_digit}
-use Rattle.cil_specs.specs.Statements.{allow, the_named, Form, attribute_set, rule, target_words, Statements, no_more, statement}
+use Rattle.cil_specs.specs.Statements.{Form, attribute_set, rule, target_words, Statements, no_more, statement}
 use Rattle.cil_specs.specs.Shape.{Shapes, IsFirstShapeFault, holds_others}
 use Rattle.cil_specs.specs.Joined.{Module, Placed, joined}
 use Rattle.cil_specs.specs.Lookup.{types, leads, holds_of, is_attribute}
@@ -49,18 +49,6 @@ IsUnsupportedFault (a_list at end (a_list place last items more) rest) fault = I
 pub record IsFirstUnsupportedFault (trees : Trees) (fault : TextFault) : Type 0 where
   pub is : IsUnsupportedFault trees fault
   pub first : (other : TextFault) → IsUnsupportedFault trees other → IsNoLater fault other
-
--- whether a statement says what is compiled so far: no set and no rule but an allow rule between two names
-abbrev pub is_compiled_form : Form → Bool
-is_compiled_form (attribute_set attribute expr) = false
-is_compiled_form (rule allow source (the_named target) the_class permissions) = true
-is_compiled_form (rule _ source target the_class permissions) = false
-is_compiled_form _ = true
-
--- whether all statements do, those inside blocks and optionals too
-abbrev pub is_compiled : Statements → Bool
-is_compiled no_more = true
-is_compiled (statement at form body more) = is_compiled_form form && (is_compiled body && is_compiled more)
 
 -- whether a statement is plain: no attribute set
 abbrev pub is_plain_form : Form → Bool
@@ -144,7 +132,7 @@ pub data Edit : Type 0 where
   install : List ℕ → ℕ → List ℕ → Edit
 
 -- Why an edit is refused: by the store, with a code and a word; by a text or the policy, with a code, a module, a place and a
--- word; or for want of memory.
+-- word; or when memory runs out.
 pub data Refusal : Type 0 where
   by_store : ℕ → List ℕ → Refusal
   at_place : ℕ → List ℕ → Place → List ℕ → Refusal

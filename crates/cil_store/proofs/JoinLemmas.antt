@@ -11,12 +11,13 @@ use Rattle.std.proofs.lemmas.List.{take-append-drop, take_more, map-append}
 use Rattle.std.proofs.lemmas.List.Folds.{list_all-append}
 use Rattle.cil_specs.proofs.Runs.{both_true}
 use Rattle.cil_specs.specs.Joined.{Module}
-use Rattle.cil_specs.specs.Next.{IsModuleText, AreModules, is_compiled}
+use Rattle.cil_specs.specs.Next.{IsModuleText, AreModules}
 use Rattle.cil_specs.specs.Report.{name_cmp, names_rise}
 use Rattle.cil_specs.specs.Store.{Entry}
 use Rattle.cil_specs.proofs.ReportLemmas.{name_total, sorted_from_names_rise}
 use Rattle.cil_specs.proofs.ReportLemmasMembers.{AnyByRecursion, contains_to, contains_from}
 use Rattle.cil_specs.proofs.NamesLemmas.{all-first, all-second}
+use Rattle.cil_store.specs.Compiled.{is_compiled}
 
 pub modules-append : (es fs : List Entry) (ms ns : List Module) → AreModules es ms → AreModules fs ns → AreModules (es ++ fs) (ms ++ ns)
 modules-append [] fs [] ns a b = b

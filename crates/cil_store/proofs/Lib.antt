@@ -1,4 +1,5 @@
 pub mod StoredLemmas
+pub mod CompiledLemmas
 pub mod JoinLemmas
 pub mod PlainLemmas
 pub mod UnsupportedLemmas

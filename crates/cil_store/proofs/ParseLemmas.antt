@@ -11,7 +11,7 @@ use Rattle.cil_text.specs.Image.{kind_of, place_of, shown, FaultIs, IsMemory}
 use Rattle.cil_text.specs.declared.fault.TextFault as code
 use Rattle.cil_text.specs.declared.fault.TextFault.TheVariants.{Memory, Found}
 
--- want of memory that is handed on
+-- out of memory that is handed on
 pub memory_on : {T : Type 0} → (result : Result T code.TextFault) (fault : code.TextFault) → IsErrAnd result (λ given. given ≡ fault) → IsMemory fault → IfErr result IsMemory
 memory_on (Ok x) fault given h = absurd given
 memory_on (Err e) fault given h = subst IsMemory (sym given) h

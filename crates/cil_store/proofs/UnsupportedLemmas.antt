@@ -10,7 +10,7 @@ use Rattle.cil_specs.specs.TextFault.{TextFault, IsNoLater}
 use Rattle.cil_specs.specs.Trees.{Trees, none, a_word, a_string, a_list, in_order}
 use Rattle.cil_specs.specs.Statements.{allow, auditallow, dontaudit, neverallow, itself, the_named, Form, block, optional, attribute_set, rule, is_optional, Statements, no_more, statement}
 use Rattle.cil_specs.specs.Shape.{Shapes, holds_others}
-use Rattle.cil_specs.specs.Next.{has_self, is_unsupported, IsUnsupportedFault, IsFirstUnsupportedFault, is_compiled_form, is_compiled}
+use Rattle.cil_specs.specs.Next.{has_self, is_unsupported, IsUnsupportedFault, IsFirstUnsupportedFault}
 use Rattle.cil_specs.proofs.FormLemmas.{first_word, OperandsFit, fits_begin}
 use Rattle.cil_specs.proofs.OrderLemmas.{order_word, order_list, order_le}
 use Rattle.cil_text.specs.Image.{place_of, word_of, tree_then, trees_of}
@@ -19,6 +19,7 @@ use Rattle.cil_text.specs.declared.word.Word.{Word}
 use Rattle.cil_text.specs.declared.tree.Tree.{Tree}
 use Rattle.cil_text.specs.declared.tree.Tree.TheVariants as variants
 use Rattle.cil_text.specs.declared.tree.TreeSlice.{TreeSlice}
+use Rattle.cil_store.specs.Compiled.{is_compiled_form, is_compiled}
 use Rattle.cil_store.specs.Unsupported.{unsupported_word, fault_at, word_option}
 
 -- a tree, and those behind it

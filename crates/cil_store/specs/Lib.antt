@@ -4,3 +4,4 @@ pub mod Stored
 pub mod Refusing
 pub mod Plain
 pub mod Unsupported
+pub mod Compiled

@@ -10,7 +10,7 @@ use Rattle.cil_names.specs.Image.{policy_kind_of}
 use Rattle.cil_names.specs.declared.fault.PolicyFault.{PolicyFault}
 use Rattle.cil_names.specs.declared.fault.PolicyFault.TheVariants as policies
 
--- the refusal, or want of memory for its words
+-- the refusal, or out of memory for its words
 abbrev pub IsRefusalOf : Refusal → Refusal → Type 0
 IsRefusalOf refusal meant = (refusal ≡ for_memory) ⊎ (refusal ≡ meant)
 

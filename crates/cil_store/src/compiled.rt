@@ -33,7 +33,7 @@ pub trait Compiled<A: Allocator + Copy> {
     ghost store: { Self → Store };
 
     /// Judges an edit, and makes it if nothing is against it. The reply tells the accesses that came and went; after a
-    /// refusal, for want of memory too, the store is as before.
+    /// refusal, out of memory too, the store is as before.
     fn edit(&mut self, edit: Edit<'_>) -> Result<Changes<A>, Refusal<A>>
         ensures { Step (store self.old) (an_edit (edit_of edit.entry)) (edit_reply result) (store self.new) };
 

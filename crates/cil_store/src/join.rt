@@ -3,10 +3,11 @@
 ghost use Rattle.std.specs.Prelude.{◌≡◌, ◌++◌, List, ℕ, map, IsTrue, OnOk, IfOk};
 ghost use Rattle.std.specs.List.{list_all, AllByRecursion};
 ghost use Rattle.cil_specs.specs.Joined.{Module as SpecModule};
-ghost use Rattle.cil_specs.specs.Next.{IsModuleText, AreModules, is_compiled};
+ghost use Rattle.cil_specs.specs.Next.{IsModuleText, AreModules};
 ghost use Rattle.cil_specs.specs.Store.{put};
 ghost use Rattle.cil_text.specs.Image.{statements_of};
 ghost use Rattle.cil_names.specs.Image.{module_of, modules_of};
+ghost use Rattle.cil_store.specs.Compiled.{is_compiled};
 ghost use Rattle.cil_store.specs.Stored.{IsGood, entry_for};
 
 use crate::entry::StoredEntry;

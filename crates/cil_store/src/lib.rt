@@ -22,7 +22,8 @@ pub use dropped::Dropped;
 pub use edit::Edit;
 pub use entry::Entry;
 pub use laws::{
-    no_meaning_beside_a_refusal, one_judgement, one_meaning, one_policy_refusal, stores_are_in_order,
+    no_meaning_beside_a_refusal, one_judgement, one_meaning, one_policy_refusal,
+    stores_are_in_order,
 };
 pub use modules::Store;
 pub use plain::Plain;

@@ -2,8 +2,9 @@
 
 ghost use Rattle.std.specs.Prelude.{◌≤◌, length, IfOk, IfErr, IsTrue};
 ghost use Rattle.cil_specs.specs.Statements.{Statements};
-ghost use Rattle.cil_specs.specs.Next.{is_compiled, IsModuleText, IsTextFault};
+ghost use Rattle.cil_specs.specs.Next.{IsModuleText, IsTextFault};
 ghost use Rattle.cil_text.specs.Image.{statements_of, FaultIs, IsMemory};
+ghost use Rattle.cil_store.specs.Compiled.{is_compiled};
 
 use crate::unsupported::first_unsupported;
 use cil_text::{Module, ShownWord, TextFault, TextFaultKind};

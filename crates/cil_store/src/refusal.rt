@@ -35,7 +35,7 @@ impl StoreFault {
 }
 
 /// Why an edit is refused: by the store; by the fault of its text; by the first fault of the policy that it would lead to;
-/// or for want of memory. It owns its words.
+/// or out of memory. It owns its words.
 #[derive(Debug, Drop)]
 pub enum Refusal<A: Allocator = Global> {
     Store {

@@ -1,4 +1,4 @@
-//! Makes refusals, which own their words. Where there is no memory for the words the refusal is want of memory.
+//! Makes refusals, which own their words. Where there is no memory for the words the refusal is out of memory.
 
 ghost use Rattle.std.specs.Prelude.{◌≡◌, IfOk, IfSome};
 ghost use Rattle.cil_specs.specs.Bytes.{hex};

@@ -30,7 +30,7 @@ fn answer<A: Allocator + Copy, C: Compiled<A>>(engine: &mut C, call: Call<'_>) -
 }
 
 /// Makes the calls in order. The replies and the store after them are a run from the store before. After an error, which is
-/// want of memory for the list of replies, no call was made.
+/// out of memory for the list of replies, no call was made.
 pub fn run<A: Allocator + Copy, C: Compiled<A>>(
     alloc: A,
     engine: &mut C,

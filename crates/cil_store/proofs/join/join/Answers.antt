@@ -3,10 +3,11 @@ use Rattle.std.specs.List.{list_all, AllByRecursion}
 use Rattle.std.specs.List.Sorted.{IsStrictlySortedBy}
 use Rattle.std.proofs.lemmas.List.{map-append}
 use Rattle.cil_specs.specs.Joined.{Module}
-use Rattle.cil_specs.specs.Next.{AreModules, is_compiled}
+use Rattle.cil_specs.specs.Next.{AreModules}
 use Rattle.cil_specs.specs.Store.{Entry, put}
 use Rattle.cil_specs.specs.Report.{name_cmp}
 use Rattle.cil_names.specs.Image.{module_of}
+use Rattle.cil_store.specs.Compiled.{is_compiled}
 use Rattle.cil_store.specs.Stored.{IsGood, entry_for}
 use Rattle.cil_names.specs.declared.joined.NamedModule.{NamedModule}
 use Rattle.cil_store.proofs.JoinLemmas.{all-take, all-drop, compiled-both, compiled-more, modules-around, names-around, distinct-from_sorted, permutation-one}

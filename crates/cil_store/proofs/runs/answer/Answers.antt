@@ -1,6 +1,5 @@
 use Rattle.std.proofs.Common.{refl, sym, subst}
-use Rattle.cil_specs.specs.Run.{Reply, changed_by, refused, listed, dropped_optionals, lists, tells_dropped, Step}
-use Rattle.cil_specs.specs.Store.{Store}
+use Rattle.cil_specs.specs.Run.{changed_by, refused, listed, dropped_optionals, lists, tells_dropped, Step}
 use Rattle.cil_store.specs.Calls.{call_of}
 use Rattle.cil_store.specs.Edits.{refusal_of}
 use Rattle.cil_store.proofs.runs.answer.Goals as goal

@@ -9,20 +9,20 @@ use Rattle.cil_names.proofs.numbering.Numbering.actual.Goals as goal
 pub unwrap-place-requires : goal.unwrap-place-requires
 unwrap-place-requires g c =
     let r = c.args.self.now.resolution.now in
-    let found = actual-at (policy_in r.policy) c.requires.ready.compiles c.requires.ready.resolved.sound.flat r.actuals c.args.alias c.requires.ready.resolved.has_actuals c.requires.first c.requires.set in
+    let found = actual-at (policy_in r.policy) c.requires.ready.faultless c.requires.ready.resolved.sound.flat r.actuals c.args.alias c.requires.ready.resolved.has_actuals c.requires.first c.requires.set in
     ap is_some (c.get.ensures ∙ found.3)
 
 pub actual-requires-clause-within : goal.actual-requires-clause-within
 actual-requires-clause-within g c =
     let r = c.args.self.now.resolution.now in
-    let found = actual-at (policy_in r.policy) c.requires.ready.compiles c.requires.ready.resolved.sound.flat r.actuals c.args.alias c.requires.ready.resolved.has_actuals c.requires.first c.requires.set in
+    let found = actual-at (policy_in r.policy) c.requires.ready.faultless c.requires.ready.resolved.sound.flat r.actuals c.args.alias c.requires.ready.resolved.has_actuals c.requires.first c.requires.set in
     let place : found.2 ≡ c.unwrap-place.result = same_Some found.2 c.unwrap-place.result (sym found.3 ∙ sym c.get.ensures ∙ c.unwrap-place.ensures) in
     subst (λ n. n < length (policy_in r.policy)) place found.4.within
 
 pub unwrap-requires : goal.unwrap-requires
 unwrap-requires g c =
     let r = c.args.self.now.resolution.now in
-    let found = actual-at (policy_in r.policy) c.requires.ready.compiles c.requires.ready.resolved.sound.flat r.actuals c.args.alias c.requires.ready.resolved.has_actuals c.requires.first c.requires.set in
+    let found = actual-at (policy_in r.policy) c.requires.ready.faultless c.requires.ready.resolved.sound.flat r.actuals c.args.alias c.requires.ready.resolved.has_actuals c.requires.first c.requires.set in
     let place : found.2 ≡ c.unwrap-place.result = same_Some found.2 c.unwrap-place.result (sym found.3 ∙ sym c.get.ensures ∙ c.unwrap-place.ensures) in
     let t = found.4.t in
     let leads = c.actual.ensures t (ap (slice_get (policy_in r.policy)) (sym place) ∙ found.4.at) in
@@ -31,7 +31,7 @@ unwrap-requires g c =
 pub returns-clause-is_type : goal.returns-clause-is_type
 returns-clause-is_type g c =
     let r = c.args.self.now.resolution.now in
-    let found = actual-at (policy_in r.policy) c.requires.ready.compiles c.requires.ready.resolved.sound.flat r.actuals c.args.alias c.requires.ready.resolved.has_actuals c.requires.first c.requires.set in
+    let found = actual-at (policy_in r.policy) c.requires.ready.faultless c.requires.ready.resolved.sound.flat r.actuals c.args.alias c.requires.ready.resolved.has_actuals c.requires.first c.requires.set in
     let place : found.2 ≡ c.unwrap-place.result = same_Some found.2 c.unwrap-place.result (sym found.3 ∙ sym c.get.ensures ∙ c.unwrap-place.ensures) in
     let t = found.4.t in
     let leads = c.actual.ensures t (ap (slice_get (policy_in r.policy)) (sym place) ∙ found.4.at) in
@@ -41,7 +41,7 @@ returns-clause-is_type g c =
 pub returns-clause-actual : goal.returns-clause-actual
 returns-clause-actual g c s at =
     let r = c.args.self.now.resolution.now in
-    let found = actual-at (policy_in r.policy) c.requires.ready.compiles c.requires.ready.resolved.sound.flat r.actuals c.args.alias c.requires.ready.resolved.has_actuals c.requires.first c.requires.set in
+    let found = actual-at (policy_in r.policy) c.requires.ready.faultless c.requires.ready.resolved.sound.flat r.actuals c.args.alias c.requires.ready.resolved.has_actuals c.requires.first c.requires.set in
     let place : found.2 ≡ c.unwrap-place.result = same_Some found.2 c.unwrap-place.result (sym found.3 ∙ sym c.get.ensures ∙ c.unwrap-place.ensures) in
     let t = found.4.t in
     let leads = c.actual.ensures t (ap (slice_get (policy_in r.policy)) (sym place) ∙ found.4.at) in

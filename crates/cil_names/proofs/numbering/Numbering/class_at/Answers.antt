@@ -17,7 +17,7 @@ unwrap-permissions-requires g c =
     let policy = policy_in r.policy in
     let s = placed_in r.policy c.args.placed.now in
     let is : is_class s.form ≡ true = ap (λ st. is_class (form_of st)) c.in-Class.is in
-    let all = c.requires.ready.resolved.has_permissions c.args.place s c.requires.at is (class-first policy c.requires.ready.compiles c.args.place s c.requires.at is) in
+    let all = c.requires.ready.resolved.has_permissions c.args.place s c.requires.at is (class-first policy c.requires.ready.faultless c.args.place s c.requires.at is) in
     map-some (λ names. names.now) c.get.result (distinct (permissions_of policy s)) (c.get.ensures ∙ all)
 
 pub numbers_of-requires : goal.numbers_of-requires
@@ -26,7 +26,7 @@ numbers_of-requires g c =
     let policy = policy_in r.policy in
     let s = placed_in r.policy c.args.placed.now in
     let is : is_class s.form ≡ true = ap (λ st. is_class (form_of st)) c.in-Class.is in
-    let all = c.requires.ready.resolved.has_permissions c.args.place s c.requires.at is (class-first policy c.requires.ready.compiles c.args.place s c.requires.at is) in
+    let all = c.requires.ready.resolved.has_permissions c.args.place s c.requires.at is (class-first policy c.requires.ready.faultless c.args.place s c.requires.at is) in
     let same : c.unwrap-permissions.result.now ≡ distinct (permissions_of policy s) =
     same_Some _ _ (ap (option_map (λ names. names.now)) (sym c.unwrap-permissions.ensures) ∙ c.get.ensures ∙ all) in
     let names = c.args.self.now.names.now in
@@ -41,7 +41,7 @@ returns-clause-class g c =
     let s = placed_in r.policy c.args.placed.now in
     let is : is_class s.form ≡ true = ap (λ st. is_class (form_of st)) c.in-Class.is in
     let there : is_some (declared_in classes s.form) ≡ true = ap (λ st. is_some (declared_in classes (form_of st))) c.in-Class.is in
-    let all = c.requires.ready.resolved.has_permissions c.args.place s c.requires.at is (class-first policy c.requires.ready.compiles c.args.place s c.requires.at is) in
+    let all = c.requires.ready.resolved.has_permissions c.args.place s c.requires.at is (class-first policy c.requires.ready.faultless c.args.place s c.requires.at is) in
     let same : c.unwrap-permissions.result.now ≡ distinct (permissions_of policy s) =
     same_Some _ _ (ap (option_map (λ names. names.now)) (sym c.unwrap-permissions.ensures) ∙ c.get.ensures ∙ all) in
     class-made policy s _ is c.requires.numbered c.at.ensures (name-at policy c.args.place s _ c.requires.at c.number.ensures.named there) (c.in_ok-numbers_of.ensures.named ∙ same)

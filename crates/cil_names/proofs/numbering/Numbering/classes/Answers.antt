@@ -7,7 +7,6 @@ use Rattle.cil_names.specs.Placed.{policy_of}
 use Rattle.cil_names.specs.Policy.{modules_in, policy_in, placed_in}
 use Rattle.cil_names.specs.Resolved.{class_of}
 use Rattle.cil_names.proofs.NumberedLemmas.{made-next, pass-more}
-use Rattle.cil_names.proofs.MadeLemmas.{classes-made}
 use Rattle.cil_names.proofs.numbering.Numbering.classes.Goals as goal
 use Rattle.cil_names.proofs.numbering.Numbering.classes.Goals.{in-Some+in_ok-push, in_default}
 
@@ -36,4 +35,4 @@ returns-clause-classes g c =
     let statements = c.statements-placed-items.result.now in
     let whole : take c.loop-place.place statements ≡ statements = take_all c.loop-place.place statements (search rules) in
     c.loop-place.invariant.made ∙ ap (λ l. flat_map (class_if (policy_in policy)) (map (placed_in policy) l)) whole
-    ∙ ap (flat_map (class_if (policy_in policy))) c.statements-placed-items.ensures.seen ∙ classes-made (policy_in policy) (policy_in policy)
+    ∙ ap (flat_map (class_if (policy_in policy))) c.statements-placed-items.ensures.seen

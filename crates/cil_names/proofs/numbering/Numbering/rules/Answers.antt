@@ -8,7 +8,6 @@ use Rattle.cil_names.specs.Placed.{policy_of}
 use Rattle.cil_names.specs.Policy.{modules_in, policy_in, placed_in}
 use Rattle.cil_names.specs.Resolved.{rule_of}
 use Rattle.cil_names.proofs.NumberedLemmas.{made-next, pass-more}
-use Rattle.cil_names.proofs.MadeLemmas.{rules-made}
 use Rattle.cil_names.proofs.numbering.Numbering.rules.Goals as goal
 use Rattle.cil_names.proofs.numbering.Numbering.rules.Goals.{in-Some+in_ok-push, in_default}
 
@@ -37,4 +36,4 @@ returns-clause-rules g c =
     let statements = c.statements-placed-items.result.now in
     let whole : take c.loop-placed.placed-index statements ≡ statements = take_all c.loop-placed.placed-index statements (search rules) in
     c.loop-placed.invariant.made ∙ ap (λ l. rules_from (policy_in policy) (map (placed_in policy) l)) whole
-    ∙ ap (rules_from (policy_in policy)) c.statements-placed-items.ensures.seen ∙ rules-made (policy_in policy) (policy_in policy)
+    ∙ ap (rules_from (policy_in policy)) c.statements-placed-items.ensures.seen

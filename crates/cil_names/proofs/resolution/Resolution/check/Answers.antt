@@ -1,7 +1,7 @@
 use Rattle.std.proofs.Common.{get_or}
 use Rattle.std.proofs.lemmas.Result.{err_from_is_err_and}
-use Rattle.cil_specs.specs.PolicyFault.{IsFaultOf, IsFirst}
-use Rattle.cil_names.specs.Flat.{IsLeast}
+use Rattle.cil_specs.specs.PolicyFault.{IsFaultOf}
+use Rattle.cil_names.specs.Flat.{IsLeast, IsFaultIn}
 use Rattle.cil_names.specs.Image.{policy_kind_of}
 use Rattle.cil_names.specs.Policy.{policy_in}
 use Rattle.cil_names.specs.declared.fault.PolicyFaultKind.TheVariants.{Twice}
@@ -12,7 +12,7 @@ pub loop-kind-init : goal.loop-kind-init
 loop-kind-init g c = none-first (policy_in c.args.self.now.policy) c.requires.once
 
 pub check_kind-requires : goal.check_kind-requires
-check_kind-requires g c = record { resolved = c.requires.resolved; once = c.requires.once; kind = checked-once c.loop-kind.kind-index c.loop-kind-test.true }
+check_kind-requires g c = record { resolved = c.requires.resolved; once = c.requires.once; inside = c.requires.inside; kind = checked-once c.loop-kind.kind-index c.loop-kind-test.true }
 
 pub loop-kind-preserved : goal.loop-kind-preserved
 loop-kind-preserved g c =
@@ -25,10 +25,10 @@ returns-in_err-check_kind g c =
     let n = c.loop-kind.kind-index in
     let kind = policy_kind_of (get_or checked n Twice) in
     let first =
-    found-weaker c.in_err-check_kind.field-0.0 (IsLeast (IsFaultOf kind policy)) (IsFirst policy)
+    found-weaker c.in_err-check_kind.field-0.0 (IsLeast (IsFaultOf kind policy)) (IsLeast (IsFaultIn policy))
     (first-least policy n kind (checked-code n c.loop-kind-test.true) c.loop-kind.invariant) c.in_err-check_kind.ensures.err in
     let made = err_from_is_err_and c.from_residual.result c.from_residual.ensures.1 in
     rw (made.1, made.2) (record { ok = tt; err = first })
 
 pub returns : goal.returns
-returns g c = record { ok = none-all (policy_in c.args.self.now.policy) c.loop-kind.kind-index c.loop-kind-test.false c.loop-kind.invariant; err = tt }
+returns g c = record { ok = none-all (policy_in c.args.self.now.policy) c.loop-kind.kind-index c.loop-kind-test.false c.requires.inside c.loop-kind.invariant; err = tt }

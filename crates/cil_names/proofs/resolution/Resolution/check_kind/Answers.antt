@@ -23,6 +23,7 @@ faulty_word-requires g c =
     record {
       resolved = c.requires.resolved;
       once = c.requires.once;
+      inside = c.requires.inside;
       kind = c.requires.kind;
       at = at;
       within = namespace-within (length spaces) c.statements-placed-items.result.now c.loop-i.i c.placed-item.result c.statements-placed-items.ensures.within c.loop-i-test.true c.placed-item.is;

@@ -1,6 +1,6 @@
-use Rattle.std.proofs.Common.{◌∙◌, inl, inr, refl, ap, subst}
-use Rattle.cil_specs.specs.Next.{for_memory, install_refusal, bad_store}
-use Rattle.cil_specs.specs.Run.{refused}
+use Rattle.std.proofs.Common.{◌∙◌, refl, ap, subst}
+use Rattle.cil_specs.specs.Next.{install, for_memory, install_refusal, by_itself, not_taken}
+use Rattle.cil_specs.specs.Run.{refused, rejected, out_of_memory}
 use Rattle.cil_store.specs.Edits.{store_refusal_of}
 use Rattle.cil_program.specs.Input.{HasRead}
 use Rattle.cil_program.proofs.script.session.answer_install.Goals as goal
@@ -16,7 +16,7 @@ returns-in-Err-clause-ok g c =
       whole.1,
       record {
         reply = refused (store_refusal_of c.in-Err.fault c.args.name.now c.args.priority);
-        step = (inr (bad_store _ (ap (install_refusal c.args.name.now c.args.priority) whole.1 ∙ c.in-Err.ensures) refl), refl);
+        step = rejected (install c.args.name.now c.args.priority was.1) _ refl refl (not_taken _ (by_itself (ap (install_refusal c.args.name.now c.args.priority) whole.1 ∙ c.in-Err.ensures)) refl) refl;
         written = c.in_ok-write_store_fault.ensures.ok;
         is = refl;
       },
@@ -31,5 +31,5 @@ returns-in_default-with_capacity-clause-ok g c =
       was.1,
       subst (HasRead (account c.args.source.now) (account new.source) c.args.input.now new.self) whole.0 was.2,
       whole.1,
-      record { reply = refused for_memory; step = (inl refl, refl); written = c.in_ok-write_no_memory.ensures.ok; is = refl },
+      record { reply = refused for_memory; step = out_of_memory refl refl; written = c.in_ok-write_no_memory.ensures.ok; is = refl },
     )

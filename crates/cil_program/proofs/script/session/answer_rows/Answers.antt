@@ -2,7 +2,7 @@ use Rattle.std.proofs.Common.{Err, ◌≡◌, ◌∙◌, ◌++◌, List, ℕ, Op
 use Rattle.cil_text.specs.Device.{Gains}
 use Rattle.cil_specs.specs.Report.{Row, row_line}
 use Rattle.cil_specs.specs.Next.{for_memory}
-use Rattle.cil_specs.specs.Run.{refused, listed}
+use Rattle.cil_specs.specs.Run.{refused, listed, lists, out_of_memory}
 use Rattle.cil_specs.specs.Script.{answer, refusal_line}
 use Rattle.cil_text.proofs.Gaining.{gains-both}
 use Rattle.cil_program.specs.Replies.{end_line}
@@ -19,7 +19,7 @@ returns-in_ok-write_end-in-Ok-clause-ok g c =
     let some = c.in-Ok.ensures.ok in
     record {
       reply = listed some.0;
-      step = (some.1.0, some.1.1, some.1.2, refl);
+      step = lists some.0 refl refl some.1 refl;
       written = listing (taken c.args.sink.now) (taken c.write_listing.new.sink) (taken c.write_end.new.sink) some.0 c.in-Ok.rows some.2 some.3 c.in_ok-write_end-in-Ok.ensures.ok;
       is = refl;
     }
@@ -30,7 +30,7 @@ returns-in_ok-write_no_memory-in-Err-Memory-clause-ok g c =
     let same : taken c.write_listing.new.sink ≡ taken c.args.sink.now = c.in-Err-Memory.ensures.memory (ap Err c.in-Err-Memory.field-0-is) in
     record {
       reply = refused for_memory;
-      step = (refl, refl);
+      step = out_of_memory refl refl;
       written = subst (λ t. Gains t (taken c.write_no_memory.new.sink) (refusal_line for_memory)) same c.in_ok-write_no_memory-in-Err-Memory.ensures.ok;
       is = refl;
     }

@@ -4,7 +4,7 @@ use Rattle.cil_names.specs.Image.{modules_of}
 use Rattle.cil_specs.specs.Next.{install, changed}
 use Rattle.cil_store.specs.Edits.{refusal_of}
 use Rattle.cil_store.specs.Plain.{IsCompiledTo, IsRefused}
-use Rattle.cil_specs.proofs.PlainLemmas.{modules-plain}
+use Rattle.cil_store.proofs.CompiledLemmas.{modules-plain}
 use Rattle.cil_store.proofs.PlainLemmas.{kept-good, policy-refused, compiled-to}
 use Rattle.cil_store.proofs.plain.Plain.compile.Goals as goal
 

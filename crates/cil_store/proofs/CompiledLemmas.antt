@@ -4,7 +4,8 @@ use Rattle.std.specs.List.{list_all}
 use Rattle.std.specs.Prelude.{List, [], ◌∷◌}
 use Rattle.cil_specs.specs.Statements.{Form, block, optional, type_name, type_alias, alias_actual, type_attribute, attribute_set, common, class, class_common, class_order, rule, Statements, no_more, statement}
 use Rattle.cil_specs.specs.Joined.{Module}
-use Rattle.cil_specs.specs.Next.{is_compiled_form, is_compiled, is_plain_form, is_plain}
+use Rattle.cil_specs.specs.Next.{is_plain_form, is_plain}
+use Rattle.cil_store.specs.Compiled.{is_compiled_form, is_compiled}
 use Rattle.cil_specs.proofs.Runs.{first_true, second_true, both_true}
 
 compiled-form : (form : Form) → is_compiled_form form ≡ true → is_plain_form form ≡ true
