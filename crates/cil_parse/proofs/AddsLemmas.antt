@@ -1,9 +1,7 @@
 -- Names that come to a lexicon.
-use Rattle.std.proofs.Common.{◌≡◌, ℕ, Bool, true, false, not, List, [], ◌∷◌, ◌++◌, map, Some, slice_get, refl, sym, ap, subst, ◌∙◌, append_assoc, append-nil, if◌then◌else◌}
-use Rattle.std.specs.List.{slice_split}
+use Rattle.std.proofs.Common.{◌≡◌, ℕ, List, [], ◌∷◌, ◌++◌, map, Some, slice_get, refl, sym, ap, subst, ◌∙◌, append_assoc, append-nil}
 use Rattle.cil_specs.specs.Names.{components}
-use Rattle.cil_specs.specs.Lookup.{has_name, with_name}
-use Rattle.cil_parse.specs.Lexicon.{seen, texts_in, names_in, Keeps, AreNumbersOf, AreSplit, AddsNames, SplitsText, IsLexicon}
+use Rattle.cil_parse.specs.Lexicon.{texts_in, names_in, AreNumbersOf, AreSplit, AddsNames, SplitsText, IsLexicon}
 use Rattle.cil_parse.specs.declared.lexicon.Lexicon.{Lexicon}
 use Rattle.cil_parse.proofs.LexiconLemmas.{lists-keep, lists-append}
 
@@ -29,10 +27,10 @@ pub splits-text : {A : Type 0} (old mid new : Lexicon A) (text : List ℕ) → A
 splits-text {A} old mid new text adds texts names closed = record {
   texts = texts ∙ adds.texts;
   split = λ before known none. let kept = lists-keep (slice_get (names_in old)) (slice_get (names_in mid)) adds.keeps components old.components.0 before known in
-  let numbers = adds.open_list [] (ap (map (slice_get (names_in old))) none) in
-  let all = lists-append (map (slice_get (names_in mid))) (λ t. map Some (components t)) old.components.0 mid.components.1 before text kept numbers in
-  let lists : new.components.0 ≡ old.components.0 ++ mid.components.1 ∷ [] = ap (λ c. c.0) closed ∙ ap (λ l. l ++ mid.components.1 ∷ []) adds.closed in
-  subst (λ n. AreSplit n new.components.0 (before ++ text ∷ [])) (sym names) (subst (λ l. AreSplit (names_in mid) l (before ++ text ∷ [])) (sym lists) all);
+      let numbers = adds.open_list [] (ap (map (slice_get (names_in old))) none) in
+      let all = lists-append (map (slice_get (names_in mid))) (λ t. map Some (components t)) old.components.0 mid.components.1 before text kept numbers in
+      let lists : new.components.0 ≡ old.components.0 ++ mid.components.1 ∷ [] = ap (λ c. c.0) closed ∙ ap (λ l. l ++ mid.components.1 ∷ []) adds.closed in
+      subst (λ n. AreSplit n new.components.0 (before ++ text ∷ [])) (sym names) (subst (λ l. AreSplit (names_in mid) l (before ++ text ∷ [])) (sym lists) all);
   none_open = ap (λ c. c.1) closed;
 }
 
@@ -40,7 +38,7 @@ splits-text {A} old mid new text adds texts names closed = record {
 pub lexicon-new : {A : Type 0} (old mid new : Lexicon A) (text : List ℕ) → texts_in mid ≡ texts_in old ++ text ∷ [] → names_in mid ≡ names_in old → mid.components ≡ old.components → SplitsText mid new text → IsLexicon old → IsLexicon new
 lexicon-new old mid new text texts names same splits is = record {
   split = subst (AreSplit (names_in new) new.components.0) (sym (splits.texts ∙ texts))
-  (splits.split (texts_in old) (subst (λ l. AreSplit (names_in mid) l (texts_in old)) (ap (λ c. c.0) (sym same)) (subst (λ n. AreSplit n old.components.0 (texts_in old)) (sym names) is.split)) (ap (λ c. c.1) same ∙ is.none_open));
+      (splits.split (texts_in old) (subst (λ l. AreSplit (names_in mid) l (texts_in old)) (ap (λ c. c.0) (sym same)) (subst (λ n. AreSplit n old.components.0 (texts_in old)) (sym names) is.split)) (ap (λ c. c.1) same ∙ is.none_open));
   none_open = splits.none_open;
 }
 

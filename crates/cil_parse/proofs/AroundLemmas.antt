@@ -1,7 +1,5 @@
 -- The statements of a module one behind the other are those of the joined policy.
-use Rattle.std.proofs.Common.{◌≡◌, ℕ, zero, suc, ◌+◌, ◌<◌, ◌≤◌, List, [], ◌∷◌, ◌++◌, length, slice_get, Some, refl, sym, ap, subst, ◌∙◌, append_assoc, append-nil, add-one, length-append, arith}
-use Rattle.cil_specs.specs.Place.{Place}
-use Rattle.cil_specs.specs.Names.{Word}
+use Rattle.std.proofs.Common.{◌≡◌, ℕ, zero, suc, ◌+◌, ◌≤◌, List, [], ◌∷◌, ◌++◌, length, slice_get, Some, refl, sym, ap, subst, ◌∙◌, append_assoc, append-nil, add-one, length-append, arith}
 use Rattle.cil_specs.specs.Statements.{Form, block, optional, type_name, type_alias, alias_actual, type_attribute, attribute_set, common, class, class_common, class_order, rule, Statements, no_more, statement}
 use Rattle.cil_specs.specs.Joined.{Placed, placed, namespace_inside, optionals_inside}
 use Rattle.cil_parse.specs.Flat.{FlatStatement, block_inside, optional_inside, count, flat}
@@ -93,11 +91,11 @@ placed-part name all before after namespace optionals in_block in_optional n (st
     let low : n ≤ n + 1 + count body = omega arith in (
       record { at = refl; form = refl; is_block = is_block; is_optional = is_optional },
       placed-both all (n + 1) (flat inner_block inner_optional (n + 1) body) (flat in_block in_optional (n + 1 + count body) more) inner rest
-      (placed-part name all front (rest ++ after) (namespace_inside form namespace) (optionals_inside form at optionals) inner_block inner_optional (n + 1) body first one
-      (block-around all n top form in_block here refl is_block) (optional-around all n top form in_optional here refl is_optional))
-      (subst (λ k. ArePlacedAs all k (flat in_block in_optional (n + 1 + count body) more) rest) (ap (λ k. n + 1 + k) (sym flat_many))
-      (placed-part name all (front ++ inner) after namespace optionals in_block in_optional (n + 1 + count body) more second behind
-      (block-later all n (n + 1 + count body) in_block namespace low is_block) (optional-later all n (n + 1 + count body) in_optional optionals low is_optional))),
+          (placed-part name all front (rest ++ after) (namespace_inside form namespace) (optionals_inside form at optionals) inner_block inner_optional (n + 1) body first one
+          (block-around all n top form in_block here refl is_block) (optional-around all n top form in_optional here refl is_optional))
+          (subst (λ k. ArePlacedAs all k (flat in_block in_optional (n + 1 + count body) more) rest) (ap (λ k. n + 1 + k) (sym flat_many))
+          (placed-part name all (front ++ inner) after namespace optionals in_block in_optional (n + 1 + count body) more second behind
+          (block-later all n (n + 1 + count body) in_block namespace low is_block) (optional-later all n (n + 1 + count body) in_optional optionals low is_optional))),
     )
 
 -- the statements of a module are those of its joined policy

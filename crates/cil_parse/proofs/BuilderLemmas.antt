@@ -11,9 +11,8 @@ use Rattle.cil_text.specs.Expr.{exprs_of}
 use Rattle.cil_text.specs.declared.statement.Expr as code
 use Rattle.cil_text.specs.declared.word.Word as code_words
 use Rattle.cil_parse.specs.Lexicon.{texts_in, Keeps, IsLexicon}
-use Rattle.cil_parse.specs.Forms.{expr_nodes, words_in, nodes_in}
-use Rattle.cil_parse.specs.Flat.{FlatStatement}
-use Rattle.cil_parse.specs.Builder.{read, row_of, row_for, IsAt, Adds, AddsExpr}
+use Rattle.cil_parse.specs.Forms.{expr_nodes, words_in}
+use Rattle.cil_parse.specs.Builder.{read, row_of, IsAt, Adds, AddsExpr}
 use Rattle.cil_parse.specs.declared.builder.Builder.{Builder}
 use Rattle.cil_parse.specs.declared.row.NumberedWord.{NumberedWord}
 use Rattle.cil_parse.specs.declared.row.SetNode.{SetNode}
@@ -26,8 +25,8 @@ adds-none b = record { goes = λ list before in_front is. subst (λ w. IsAt b li
 pub adds-then : {A : Type 0} (a b c : Builder A) (words others : List Word) (nodes more : List SetNode) → Adds a b words nodes → Adds b c others more → Adds a c (words ++ others) (nodes ++ more)
 adds-then a b c words others nodes more first second = record {
   goes = λ list before in_front is.
-  subst (λ w. IsAt c list w (in_front ++ (nodes ++ more))) (append_assoc before words others)
-  (subst (IsAt c list ((before ++ words) ++ others)) (append_assoc in_front nodes more) (second.goes list (before ++ words) (in_front ++ nodes) (first.goes list before in_front is)));
+      subst (λ w. IsAt c list w (in_front ++ (nodes ++ more))) (append_assoc before words others)
+      (subst (IsAt c list ((before ++ words) ++ others)) (append_assoc in_front nodes more) (second.goes list (before ++ words) (in_front ++ nodes) (first.goes list before in_front is)));
 }
 
 -- a word is read as before where the texts stay
@@ -42,15 +41,15 @@ pub adds-word : {A : Type 0} (old new : Builder A) (text : List ℕ) (n : Number
     → texts_in new.lexicon ≡ with_name (texts_in old.lexicon) text → (IsLexicon old.lexicon → IsLexicon new.lexicon) → new.words ≡ (old.words.0, old.words.1 ++ n ∷ []) → new.nodes ≡ old.nodes → new.rows ≡ old.rows → Adds old new (word ∷ []) []
 adds-word old new text n word found is texts lexicon words nodes rows = record {
   goes = λ list before in_front at. let keeps = read-keeps (texts_in old.lexicon) (texts_in new.lexicon) (subst (Keeps (texts_in old.lexicon)) (sym texts) (with_name-keeps (texts_in old.lexicon) text)) in
-  let all = read (texts_in new.lexicon) in
-  let here : all n ≡ Some word = ap (option_map (λ text. record { at = place_of n.at; text = text })) found ∙ ap Some (sym is) in record {
-    is_lexicon = lexicon at.is_lexicon;
-    closed_words = ap (λ w. map (map all) w.0) words ∙ lists-keep (read (texts_in old.lexicon)) all keeps (λ f. words_in f.form) old.words.0 list at.closed_words;
-    open_words = ap (λ w. map all w.1) words ∙ each-append all old.words.1 (n ∷ []) before (word ∷ []) (each-keeps (read (texts_in old.lexicon)) all keeps old.words.1 before at.open_words) (ap (λ o. o ∷ []) here);
-    closed_nodes = ap (λ s. s.0) nodes ∙ at.closed_nodes;
-    open_nodes = ap (λ s. s.1) nodes ∙ at.open_nodes ∙ sym (append-nil in_front);
-    rows = ap (λ r. map row_of r.items) rows ∙ at.rows;
-  };
+      let all = read (texts_in new.lexicon) in
+      let here : all n ≡ Some word = ap (option_map (λ text. record { at = place_of n.at; text = text })) found ∙ ap Some (sym is) in record {
+        is_lexicon = lexicon at.is_lexicon;
+        closed_words = ap (λ w. map (map all) w.0) words ∙ lists-keep (read (texts_in old.lexicon)) all keeps (λ f. words_in f.form) old.words.0 list at.closed_words;
+        open_words = ap (λ w. map all w.1) words ∙ each-append all old.words.1 (n ∷ []) before (word ∷ []) (each-keeps (read (texts_in old.lexicon)) all keeps old.words.1 before at.open_words) (ap (λ o. o ∷ []) here);
+        closed_nodes = ap (λ s. s.0) nodes ∙ at.closed_nodes;
+        open_nodes = ap (λ s. s.1) nodes ∙ at.open_nodes ∙ sym (append-nil in_front);
+        rows = ap (λ r. map row_of r.items) rows ∙ at.rows;
+      };
 }
 
 pub adds-node : {A : Type 0} (old new : Builder A) (node : SetNode) → new.lexicon ≡ old.lexicon → new.words ≡ old.words → new.nodes ≡ (old.nodes.0, old.nodes.1 ++ node ∷ []) → new.rows ≡ old.rows → Adds old new [] (node ∷ [])

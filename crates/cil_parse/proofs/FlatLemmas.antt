@@ -1,9 +1,9 @@
 -- Statements one behind the other.
 use Rattle.std.proofs.Common.{◌≡◌, ℕ, suc, ◌+◌, ◌<◌, List, [], ◌∷◌, ◌++◌, Vec, length, get_or, take, refl, sym, ap, ◌∙◌, append_assoc, append-nil, arith, length-append, false, if◌then◌else◌}
 use Rattle.std.proofs.lemmas.List.{take_more}
-use Rattle.cil_specs.specs.Statements.{Form, Statements, no_more, statement}
-use Rattle.cil_text.specs.Image.{place_of, word_of, statement_then, row_statements, statements_of}
-use Rattle.cil_text.specs.Form.{form_of, at_of, has_body, body_of}
+use Rattle.cil_specs.specs.Statements.{Statements, no_more, statement}
+use Rattle.cil_text.specs.Image.{statement_then, row_statements, statements_of}
+use Rattle.cil_text.specs.Form.{form_of, at_of, has_body}
 use Rattle.cil_text.specs.declared.place.Place as code
 use Rattle.cil_text.specs.declared.word.Word as words
 use Rattle.cil_text.specs.declared.statement.Statement.{Statement, Block', Optional', TypeName, TypeAlias, TypeAliasActual, TypeAttribute, TypeAttributeSet, Common, Class, ClassCommon, ClassOrder, Rule}

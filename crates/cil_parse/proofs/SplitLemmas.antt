@@ -37,4 +37,3 @@ split-none text none = by (cases_lt (position_or_len is_dot text) (length text))
         let found = ap (λ r. cond r (Some (position_or_len is_dot text)) None) ((Decides-ltb (position_or_len is_dot text) (length text)).1 less) in
         absurd (let e = sym found ∙ none in cc)
     by (inr past) = split-whole text past
-

@@ -1,5 +1,5 @@
 -- What a statement declares and names, by its kind and its words.
-use Rattle.std.proofs.Common.{◌≡◌, ℕ, zero, suc, ◌<◌, List, [], ◌∷◌, map, length, get_or, arith, Option, Some, None, slice_get, refl, sym, ap, subst, ◌∙◌}
+use Rattle.std.proofs.Common.{◌≡◌, ℕ, zero, suc, ◌<◌, List, [], ◌∷◌, map, length, get_or, arith, Option, Some, slice_get, refl, sym, ap, subst, ◌∙◌}
 use Rattle.std.specs.Option.{option_map, option_and_then}
 use Rattle.std.proofs.lemmas.Option.{same_Some, slice_get-map}
 use Rattle.cil_specs.specs.Names.{Word}
@@ -88,6 +88,6 @@ shown-reference texts v f table k x shown is within at =
     let (word, here, read_as) = seen-at (read texts) v.words.now (words_in f.form) k x shown.words within at in (
       word,
       references-at f.form k ∙ ap (λ t. option_and_then (λ t. option_map (λ w. (table_of t, w)) (slice_get (words_in f.form) k)) t) (sym (is ∙ ap (λ kind. reference_table kind k) shown.kind))
-      ∙ ap (option_map (λ w. (table_of table, w))) here,
+          ∙ ap (option_map (λ w. (table_of table, w))) here,
       read_as,
     )

@@ -1,5 +1,5 @@
 -- What a statement says, by its kind, its words and the nodes of its set expression.
-use Rattle.std.specs.Prelude.{ℕ, List, [], ◌∷◌, ◌++◌}
+use Rattle.std.specs.Prelude.{List, [], ◌∷◌, ◌++◌}
 use Rattle.cil_specs.specs.Names.{Word}
 use Rattle.cil_specs.specs.Expr as exprs
 use Rattle.cil_specs.specs.Expr.{every, named, opposite, both, either, one_of, nothing, elements, leaves}

@@ -12,8 +12,8 @@ mod row;
 mod table;
 mod view;
 
-pub use laws::statements_are_placed;
 pub use from_text::parse;
+pub use laws::statements_are_placed;
 pub use parsed::ParsedModule;
 pub use row::{NumberedWord, SetNode, StatementKind};
 pub use table::Table;

@@ -76,7 +76,12 @@ impl<A: Allocator + Copy> ParsedModule<A> {
         requires { IsWhole builder }
         ensures { IfOk result (IsOwned builder.entry) }
     {
-        let Builder { lexicon, words, nodes, rows } = builder;
+        let Builder {
+            lexicon,
+            words,
+            nodes,
+            rows,
+        } = builder;
         let texts = copies(alloc, lexicon.texts.as_slice())?;
         let names = copies(alloc, lexicon.names.as_slice())?;
         Ok(ParsedModule {

@@ -1,4 +1,4 @@
-use Rattle.std.proofs.Common.{◌≡◌, [], List, ℕ, take}
+use Rattle.std.proofs.Common.{◌≡◌, [], take}
 use Rattle.cil_parse.specs.Lexicon.{seen}
 use Rattle.cil_parse.proofs.parsed.copies.Given as goal
 

@@ -1,12 +1,12 @@
-use Rattle.std.proofs.Common.{◌≡◌, ◌+◌, ◌++◌, ◌∷◌, [], drop, subst, sym, ap, ◌∙◌, OnOk, rules, arith, max}
+use Rattle.std.proofs.Common.{◌≡◌, ◌++◌, ◌∷◌, [], subst, sym, ap, ◌∙◌, OnOk, arith}
 use Rattle.std.proofs.lemmas.List.{drop_all}
 use Rattle.cil_specs.specs.Expr.{opposite, both, either, one_of, leaves}
-use Rattle.cil_text.specs.Image.{word_of, expr_of}
+use Rattle.cil_text.specs.Image.{expr_of}
 use Rattle.cil_text.specs.Expr.{exprs_of}
 use Rattle.cil_text.proofs.Rows.{union_of}
 use Rattle.cil_parse.specs.Forms.{expr_nodes}
-use Rattle.cil_parse.specs.Builder.{Adds, AddsExpr}
-use Rattle.cil_parse.specs.declared.row.SetNode.TheVariants.{All, Name, Not, And, Or, Xor, Nothing, Element}
+use Rattle.cil_parse.specs.Builder.{AddsExpr}
+use Rattle.cil_parse.specs.declared.row.SetNode.TheVariants.{Not}
 use Rattle.cil_parse.proofs.BuilderLemmas.{GoesOver, adds-then, goes-none, goes-next, goes-end}
 use Rattle.cil_parse.proofs.builder.Builder.+set.Goals as goal
 

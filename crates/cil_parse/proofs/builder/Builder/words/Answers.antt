@@ -1,4 +1,4 @@
-use Rattle.std.proofs.Common.{[], ◌∷◌, map, get_or, take, ap, subst}
+use Rattle.std.proofs.Common.{[], ◌∷◌, map, get_or, take, subst}
 use Rattle.std.proofs.lemmas.List.{take_all}
 use Rattle.cil_text.specs.Image.{word_of}
 use Rattle.cil_text.specs.declared.word.Word.{Word}

@@ -1,4 +1,4 @@
-use Rattle.std.proofs.Common.{◌≡◌, ℕ, List, [], ◌∷◌, ◌++◌, ap, sym, subst, ◌∙◌, append_assoc, refl}
+use Rattle.std.proofs.Common.{[], ◌∷◌, ◌++◌, ap, sym, subst, ◌∙◌, append_assoc, refl}
 use Rattle.std.specs.List.{slice_split}
 use Rattle.cil_parse.specs.Lexicon.{AddsNames}
 use Rattle.cil_parse.proofs.SplitLemmas.{is_dot}

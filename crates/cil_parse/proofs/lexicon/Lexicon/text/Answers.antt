@@ -1,5 +1,5 @@
 use Rattle.std.proofs.Common.{refl, ap, sym, ◌∙◌, slice_get}
-use Rattle.cil_parse.specs.Lexicon.{seen, texts_in}
+use Rattle.cil_parse.specs.Lexicon.{seen}
 use Rattle.cil_parse.specs.declared.lexicon.Lexicon.{Lexicon}
 use Rattle.cil_parse.proofs.LexiconLemmas.{stored-name, with_name-seen, insert-new, insert-known}
 use Rattle.cil_parse.proofs.AddsLemmas.{lexicon-new, lexicon-known}

@@ -1,4 +1,4 @@
-use Rattle.std.proofs.Common.{◌<◌, ◌∙◌, length, arith, get_or}
+use Rattle.std.proofs.Common.{◌<◌, ◌∙◌, length, arith}
 use Rattle.cil_parse.proofs.ListLemmas.{known-length, known-part}
 use Rattle.cil_parse.proofs.lists.Lists.get.Goals as goal
 

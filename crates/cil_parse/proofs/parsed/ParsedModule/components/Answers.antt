@@ -1,4 +1,3 @@
-use Rattle.std.proofs.Common.{◌≡◌}
 use Rattle.cil_parse.proofs.ParsedLemmas.{split-at}
 use Rattle.cil_parse.proofs.parsed.ParsedModule.components.Goals as goal
 

@@ -1,4 +1,4 @@
-use Rattle.std.proofs.Common.{[], ap, subst}
+use Rattle.std.proofs.Common.{[], subst}
 use Rattle.cil_text.specs.Image.{statements_of}
 use Rattle.cil_parse.specs.Flat.{flat}
 use Rattle.cil_parse.specs.Builder.{IsAt}

@@ -1,4 +1,4 @@
-use Rattle.std.proofs.Common.{◌≡◌, ◌∙◌, ap, sym, refl}
+use Rattle.std.proofs.Common.{ap}
 use Rattle.cil_parse.proofs.ParsedLemmas.{shown}
 use Rattle.cil_parse.specs.declared.view.StatementView.{StatementView}
 use Rattle.cil_parse.proofs.parsed.ParsedModule.statement.Goals as goal
