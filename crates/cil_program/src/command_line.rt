@@ -41,14 +41,7 @@ pub fn answer_command_line<
     E: Sink,
     A: Allocator + Copy,
     C: Compiled<A>,
->(
-    alloc: A,
-    words: &[T],
-    source: &mut S,
-    sink: &mut W,
-    errors: &mut E,
-    engine: &mut C,
-) -> u8
+>(alloc: A, words: &[T], source: &mut S, sink: &mut W, errors: &mut E, engine: &mut C) -> u8
     ensures session { AsksSession (map T.text words.now) → (end : Result Status SessionFault) × (result ≡ exit_status_of end)
         × IfOk end (λ status. Leaves (S.account source.old) (S.account source.new)
         (record { store = C.store engine.old; taken = W.taken sink.old }) (record { store = C.store engine.new; taken = W.taken sink.new }) status) }

@@ -21,19 +21,19 @@ mod walk;
 mod word;
 mod words;
 
+pub use devices::memory_sink::MemorySink;
+pub use devices::memory_source::MemorySource;
+pub use devices::sink::{Sink, SinkFault, WriterSink, write_all, write_pieces};
+pub use devices::source::{ReaderSource, Source, SourceFault};
 pub use fault::{ShownWord, TextFault, TextFaultKind};
 pub use forest::Forest;
 pub use laws::{
     faults_are_stuck, first_fault_is_one, no_fault_beside_a_reading, one_reading,
     one_reading_fault, statements_are_one, statements_have_no_fault,
 };
-pub use devices::memory_sink::MemorySink;
-pub use devices::memory_source::MemorySource;
 pub use module::Module;
 pub use place::Place;
 pub use reader::read;
-pub use devices::sink::{Sink, SinkFault, WriterSink, write_all, write_pieces};
-pub use devices::source::{ReaderSource, Source, SourceFault};
 pub use statement::{Expr, RuleKind, Statement, Target};
 pub use tree::{Tree, TreeSlice};
 pub use walk::shape;

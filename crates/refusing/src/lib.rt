@@ -51,7 +51,10 @@ impl<B: Allocator> Refusing<B> {
 
 impl<B: Allocator> Drop for Refusing<B> {
     fn drop(self) {
-        let Self { inner: _, growths: _ } = self;
+        let Self {
+            inner: _,
+            growths: _,
+        } = self;
     }
 }
 
