@@ -1,6 +1,7 @@
 pub mod Gaining
 pub mod Nodes
 pub mod Marks
+pub mod ByteClasses
 pub mod Reading
 pub mod Going
 pub mod Ends

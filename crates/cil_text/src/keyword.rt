@@ -21,24 +21,37 @@ pub enum Keyword {
     Rule(RuleKind),
 }
 
-/// The first words of statements.
-const KEYWORDS: [(&[u8], Keyword); 15] = [
-    (b"block", Keyword::Block),
-    (b"optional", Keyword::Optional),
-    (b"type", Keyword::TypeName),
-    (b"typealias", Keyword::TypeAlias),
-    (b"typealiasactual", Keyword::TypeAliasActual),
-    (b"typeattribute", Keyword::TypeAttribute),
-    (b"typeattributeset", Keyword::TypeAttributeSet),
-    (b"common", Keyword::Common),
-    (b"class", Keyword::Class),
-    (b"classcommon", Keyword::ClassCommon),
-    (b"classorder", Keyword::ClassOrder),
+// The first words of statements, by how many bytes they have.
+const OF_4: [(&[u8], Keyword); 1] = [(b"type", Keyword::TypeName)];
+
+const OF_5: [(&[u8], Keyword); 3] = [
     (b"allow", Keyword::Rule(RuleKind::Allow)),
-    (b"auditallow", Keyword::Rule(RuleKind::AuditAllow)),
+    (b"block", Keyword::Block),
+    (b"class", Keyword::Class),
+];
+
+const OF_6: [(&[u8], Keyword); 1] = [(b"common", Keyword::Common)];
+
+const OF_8: [(&[u8], Keyword); 1] = [(b"optional", Keyword::Optional)];
+
+const OF_9: [(&[u8], Keyword); 2] = [
+    (b"typealias", Keyword::TypeAlias),
     (b"dontaudit", Keyword::Rule(RuleKind::DontAudit)),
+];
+
+const OF_10: [(&[u8], Keyword); 3] = [
+    (b"classorder", Keyword::ClassOrder),
+    (b"auditallow", Keyword::Rule(RuleKind::AuditAllow)),
     (b"neverallow", Keyword::Rule(RuleKind::NeverAllow)),
 ];
+
+const OF_11: [(&[u8], Keyword); 1] = [(b"classcommon", Keyword::ClassCommon)];
+
+const OF_13: [(&[u8], Keyword); 1] = [(b"typeattribute", Keyword::TypeAttribute)];
+
+const OF_15: [(&[u8], Keyword); 1] = [(b"typealiasactual", Keyword::TypeAliasActual)];
+
+const OF_16: [(&[u8], Keyword); 1] = [(b"typeattributeset", Keyword::TypeAttributeSet)];
 
 impl Keyword {
     ghost use Rattle.std.specs.Prelude.{◌≡◌, MatchOption, false};
@@ -50,7 +63,19 @@ impl Keyword {
         ensures { MatchOption result (is_among keywords text.now ≡ false)
             (λ keyword. text.now ≡ spelling keyword) }
     {
-        look_up(&KEYWORDS, text)
+        match text.len() {
+            4 => look_up(&OF_4, text),
+            5 => look_up(&OF_5, text),
+            6 => look_up(&OF_6, text),
+            8 => look_up(&OF_8, text),
+            9 => look_up(&OF_9, text),
+            10 => look_up(&OF_10, text),
+            11 => look_up(&OF_11, text),
+            13 => look_up(&OF_13, text),
+            15 => look_up(&OF_15, text),
+            16 => look_up(&OF_16, text),
+            _ => None,
+        }
     }
 
     /// Whether no optional may hold the statement.
