@@ -1,5 +1,5 @@
 -- The permissions of classes.
-use Rattle.std.proofs.Common.{◌≡◌, inl, inr, ℕ, ◌+◌, ◌<◌, ◌≤◌, zero, suc, Bool, true, false, ◌&&◌, ◌||◌, ◌==◌, List, [], ◌∷◌, ◌++◌, length, get_or, set, take, flat_map, fold, cond, Option, Some, None, Bor, is_some, nat_lt, IfSome, option_map, position, slice_get, refl, sym, ap, ◌∙◌, subst, arith, true≢false, append_assoc, append-nil, add-one, if◌then◌else◌, IsTrue}
+use Rattle.std.proofs.Common.{◌≡◌, inl, inr, ℕ, ◌+◌, ◌<◌, ◌≤◌, zero, suc, Bool, true, false, ◌||◌, ◌==◌, List, [], ◌∷◌, ◌++◌, length, get_or, set, take, flat_map, fold, cond, Option, Some, None, Bor, is_some, nat_lt, IfSome, option_map, position, slice_get, refl, sym, ap, ◌∙◌, subst, arith, true≢false, append_assoc, append-nil, add-one, if◌then◌else◌, IsTrue}
 use Rattle.std.specs.Option.{option_or, option_and_then}
 use Rattle.std.specs.List.{list_any, AllByRecursion}
 use Rattle.std.proofs.lemmas.Option.{none-some, same_Some, slice_get_within, slice_get_read}
@@ -10,7 +10,7 @@ use Rattle.std.proofs.lemmas.Grind.{flat_map-append}
 use Rattle.cil_specs.specs.Names.{Word}
 use Rattle.cil_specs.specs.Statements.{Form, block, optional, type_name, type_alias, alias_actual, type_attribute, attribute_set, common, class, class_common, class_order, rule}
 use Rattle.cil_specs.specs.Joined.{Placed}
-use Rattle.cil_specs.specs.Lookup.{classes, commons, is_same, holds_of, leads, listed_by, gives_common, common_permissions, own_permissions, texts, with_name, distinct}
+use Rattle.cil_specs.specs.Lookup.{classes, commons, is_same, holds_of, leads, listed_by, common_permissions, own_permissions, texts, with_name, distinct}
 use Rattle.cil_specs.specs.Rule.{is_class}
 use Rattle.cil_specs.proofs.NamesLemmas.{all-weaker, all-append}
 use Rattle.cil_names.specs.Policy.{IsLead}

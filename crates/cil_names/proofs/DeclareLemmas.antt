@@ -16,7 +16,7 @@ use Rattle.cil_specs.proofs.Runs.{both_true, first_true, second_true}
 use Rattle.cil_names.specs.Spaces.{Namespace}
 use Rattle.cil_names.specs.Policy.{table_of, is_table, is_key, HasDeclaredIn, IsTaken, IsFlat, placed_as}
 use Rattle.cil_names.specs.Flat.{IsLeast}
-use Rattle.cil_names.specs.Placed.{form_of, placed_of, policy_of}
+use Rattle.cil_names.specs.Placed.{form_of}
 use Rattle.cil_names.specs.declared.placed.PlacedStatement.{PlacedStatement}
 use Rattle.cil_names.specs.declared.placed.Flat.{Flat}
 use Rattle.cil_names.proofs.LeastLemmas.{fault_at, NoneFaultyBelow, none-faulty-next, none-faulty-end, around-at, least-at}

@@ -10,7 +10,6 @@ use Rattle.cil_specs.specs.Lookup.{Table, types, classes, declared_in, holds_of,
 use Rattle.cil_specs.specs.PolicyFault.{kinds_asked}
 use Rattle.cil_specs.specs.Rule.{a_type, an_attribute, name_or_none, element_at, element_or_none}
 use Rattle.cil_specs.proofs.NamesLemmas.{contains-first, contains-other}
-use Rattle.cil_specs.proofs.Runs.{second_true}
 use Rattle.cil_names.specs.First.{IsFirstOf}
 use Rattle.cil_names.specs.Flat.{AreFlat, IsFaultless}
 use Rattle.cil_names.specs.FullNames.{full_name_of}
@@ -22,7 +21,7 @@ use Rattle.cil_names.specs.declared.kinds.Kind.{Kind}
 use Rattle.cil_names.specs.declared.kinds.Kind.TheVariants.{«Type», Alias, Attribute}
 use Rattle.cil_names.proofs.FaultlessLemmas.{word-found, kind-found}
 use Rattle.cil_names.proofs.LeadLemmas.{LeadsIn}
-use Rattle.cil_names.proofs.NumberedLemmas.{at-place, plain-at}
+use Rattle.cil_names.proofs.NumberedLemmas.{at-place}
 use Rattle.cil_names.proofs.NumberingLemmas.{full-name-in}
 use Rattle.cil_names.proofs.PositionLemmas.{position-cons}
 

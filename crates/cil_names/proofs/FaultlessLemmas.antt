@@ -1,5 +1,5 @@
 -- What holds of the names and words of a policy without faults.
-use Rattle.std.proofs.Common.{◌≡◌, inl, inr, ℕ, zero, suc, Bool, true, false, not, ◌&&◌, ◌||◌, List, [], ◌∷◌, ◌++◌, length, take, drop, map, filter, flat_map, position, slice_get, Contains, Some, is_some, option_map, cond, refl, sym, ap, ◌∙◌, subst, true≢false, arith, if◌then◌else◌}
+use Rattle.std.proofs.Common.{◌≡◌, inl, inr, ℕ, zero, suc, Bool, true, false, not, ◌&&◌, ◌||◌, List, [], ◌∷◌, ◌++◌, length, take, drop, map, filter, flat_map, position, slice_get, Contains, Some, is_some, option_map, cond, refl, sym, ap, ◌∙◌, subst, true≢false, arith}
 use Rattle.std.specs.List.{list_any}
 use Rattle.std.specs.Option.{option_to_list}
 use Rattle.std.proofs.lemmas.Option.{none-some, same_Some}
@@ -8,7 +8,7 @@ use Rattle.cil_specs.specs.Names.{Word}
 use Rattle.cil_specs.specs.Statements.{Form, block, optional, type_name, type_alias, alias_actual, type_attribute, attribute_set, common, class, class_common, class_order, rule, is_optional}
 use Rattle.cil_specs.specs.Joined.{Placed}
 use Rattle.cil_specs.specs.Lookup.{Table, types, classes, word_text, is_word, declared_in, declares, is_same, same_namespace, leads, has_name, holds_of, references, named_permissions, permissions_of, actual_statement, is_alias}
-use Rattle.cil_specs.specs.PolicyFault.{PolicyFaultKind, twice, missing, wrong_kind, alias_unset, faulty_words, tables, twice_words, is_unfound, is_lacking, missing_words, kinds_asked, is_of_another_kind, wrong_kind_words, element_words, is_unset, alias_unset_words, is_outside}
+use Rattle.cil_specs.specs.PolicyFault.{PolicyFaultKind, twice, wrong_kind, alias_unset, faulty_words, tables, twice_words, is_unfound, is_lacking, missing_words, kinds_asked, is_of_another_kind, element_words, is_unset}
 use Rattle.cil_specs.specs.Rule.{is_class}
 use Rattle.cil_specs.proofs.NamesLemmas.{contains-first, contains-other, contains-cases, contains-map, around}
 use Rattle.cil_names.specs.First.{IsFirstOf}

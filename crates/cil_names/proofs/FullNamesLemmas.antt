@@ -11,7 +11,7 @@ use Rattle.cil_specs.specs.Lookup.{Table, types, classes, commons, scopes, decla
 use Rattle.cil_names.proofs.SpaceLemmas.{length-spaces_of}
 use Rattle.cil_names.specs.Spaces.{Namespace, with_block, spaces_of, AreInside}
 use Rattle.cil_names.specs.FullNames.{space_text, name_in, declared_id, full_name_or, full_name_of}
-use Rattle.cil_names.specs.Placed.{form_of, placed_of, policy_of}
+use Rattle.cil_names.specs.Placed.{form_of, placed_of}
 use Rattle.cil_names.specs.declared.placed.PlacedStatement.{PlacedStatement}
 use Rattle.cil_names.specs.declared.spaces.Block.{Block}
 

@@ -1,5 +1,5 @@
 -- What is judged of the statements in kept optionals holds of the policy by these.
-use Rattle.std.proofs.Common.{◌≡◌, ◌<◌, inl, inr, Bool, true, false, cond, List, [], ◌∷◌, filter, Contains, refl, sym, ap, ◌∙◌, subst, arith, true≢false}
+use Rattle.std.proofs.Common.{◌≡◌, ◌<◌, inl, inr, Bool, true, false, cond, List, [], ◌∷◌, filter, Contains, refl, sym, ap, ◌∙◌, subst, arith}
 use Rattle.cil_specs.specs.Joined.{Placed}
 use Rattle.cil_specs.specs.PolicyFault.{PolicyFaultKind, PolicyFault, twice, missing, wrong_kind, alias_twice, alias_unset, second_common, too_many_permissions, code_of, IsFaultOf, IsNoLater}
 use Rattle.cil_specs.specs.Rule.{Declared}
@@ -101,10 +101,14 @@ module _ (policy others : List Placed) (dropped : List Declared) (is : IsJudged 
   judged-alone alone = subst HasTypesAlone is.others_are alone
 
   pub judged-first : (fault : PolicyFault) → IsLeast (IsFaultIn others) fault → IsFirstFault policy fault
-  judged-first fault least = (is.kept, is.are_kept, record {
-    is = fault-of-within is.kept policy is.once fault (subst (λ p. IsFaultIn p fault) is.others_are least.is);
-    first = λ other f. least.first other (subst (λ p. IsFaultIn p other) (sym is.others_are) (fault-within is.kept policy is.once other f));
-  })
+  judged-first fault least = (
+    is.kept,
+    is.are_kept,
+    record {
+      is = fault-of-within is.kept policy is.once fault (subst (λ p. IsFaultIn p fault) is.others_are least.is);
+      first = λ other f. least.first other (subst (λ p. IsFaultIn p other) (sym is.others_are) (fault-within is.kept policy is.once other f));
+    },
+  )
 
   pub judged-attribute : (fault : PolicyFault) → IsFaultless others → IsFirstAttributeFault others fault → IsPolicyFaultOf policy fault
   judged-attribute fault faultless first = (is.kept, is.are_kept, first_attribute (compiles faultless) (subst (λ p. IsFirstAttributeFault p fault) is.others_are first))

@@ -7,7 +7,7 @@ use Rattle.std.proofs.lemmas.List.Folds.{list_any_at}
 use Rattle.std.proofs.lemmas.List.Quantifiers.{position-Some}
 use Rattle.std.proofs.lemmas.Option.{none-some, same_Some, get_or_from_slice_get, slice_get-map, slice_get-get_or, slice_get_within, slice_get_cases}
 use Rattle.cil_specs.specs.Joined.{Placed}
-use Rattle.cil_specs.specs.Kept.{Optionals, is_within, restricted, is_optional_at, is_member, has_innermost, is_directly_in, IsGood, AreKept}
+use Rattle.cil_specs.specs.Kept.{Optionals, is_within, is_optional_at, is_member, has_innermost, is_directly_in, IsGood, AreKept}
 use Rattle.cil_specs.proofs.Runs.{both_true, first_true, second_true}
 use Rattle.cil_specs.proofs.NamesLemmas.{all-contained, contains-first, contains-other, contains-map, contains-mapped, contains-middle}
 use Rattle.cil_specs.proofs.OnceLemmas.{passes-among}

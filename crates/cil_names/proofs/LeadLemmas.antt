@@ -1,11 +1,10 @@
 -- What a look-up leads to is a statement of the policy that declares a name in the table.
-use Rattle.std.proofs.Common.{◌≡◌, ℕ, Bool, true, false, ◌&&◌, List, [], ◌∷◌, Contains, Option, Some, None, is_some, cond, refl, if◌then◌else◌}
+use Rattle.std.proofs.Common.{◌≡◌, ℕ, Bool, true, false, List, [], ◌∷◌, Contains, Option, Some, None, is_some, cond, refl, if◌then◌else◌}
 use Rattle.std.specs.List.{find}
 use Rattle.std.specs.Option.{option_or, option_and_then}
 use Rattle.cil_specs.specs.Names.{components}
 use Rattle.cil_specs.specs.Joined.{Placed}
 use Rattle.cil_specs.specs.Lookup.{Table, declared_in, declares, declaration, has_block, outward, nearest_block, inside, from_namespace, is_global, leads}
-use Rattle.cil_specs.proofs.Runs.{first_true}
 use Rattle.cil_specs.proofs.NamesLemmas.{contains-first, contains-other}
 use Rattle.cil_specs.proofs.RestrictedLemmas.{declares-some}
 

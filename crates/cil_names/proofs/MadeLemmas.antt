@@ -1,12 +1,11 @@
 -- A class by what its statement declares.
-use Rattle.std.proofs.Common.{◌≡◌, ℕ, true, ◌&&◌, List, [], ◌∷◌, ◌++◌, flat_map, slice_get, Option, Some, None, is_some, option_map, refl, sym, ap, ◌∙◌, if◌then◌else◌}
+use Rattle.std.proofs.Common.{◌≡◌, ℕ, true, List, [], ◌∷◌, slice_get, Option, Some, None, is_some, option_map, refl, sym, ap, ◌∙◌, if◌then◌else◌}
 use Rattle.std.proofs.lemmas.Option.{same_Some}
 use Rattle.cil_specs.specs.Joined.{Placed}
 use Rattle.cil_specs.specs.Lookup.{classes, declared_in, declared_name, permissions_of, distinct}
-use Rattle.cil_specs.specs.Rule.{ClassOf, declared_as, class_as, is_class, rule_of}
+use Rattle.cil_specs.specs.Rule.{ClassOf, class_as, is_class}
 use Rattle.cil_names.specs.FullNames.{full_name_of}
-use Rattle.cil_names.specs.Numbering.{declared_if, class_if, rules_from}
-use Rattle.cil_names.specs.declared.kinds.Kind.TheVariants.{«Type», Attribute}
+use Rattle.cil_names.specs.Numbering.{class_if}
 use Rattle.cil_names.proofs.NumberingLemmas.{full-name-in}
 
 -- a class by its parts

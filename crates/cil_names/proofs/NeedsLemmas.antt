@@ -26,7 +26,7 @@ use Rattle.cil_text.specs.declared.statement.RuleKind.{RuleKind}
 use Rattle.cil_text.specs.declared.statement.Target.{Target}
 use Rattle.cil_text.specs.declared.statement.Statement.{Statement, Block', Optional', TypeName, TypeAlias, TypeAliasActual, TypeAttribute, TypeAttributeSet, Common, Class, ClassCommon, ClassOrder, Rule}
 use Rattle.cil_names.specs.Spaces.{Namespace}
-use Rattle.cil_names.specs.Placed.{form_of, at_of, placed_of}
+use Rattle.cil_names.specs.Placed.{form_of, at_of}
 use Rattle.cil_names.specs.Policy.{namespace_at, chains_in, placed_in, policy_in, IsLead, IsSound}
 use Rattle.cil_names.specs.Nested.{has_number, IsAmong, IsNested}
 use Rattle.cil_names.specs.Needs.{is_met, are_met, is_need_below, are_found, AreFoundWithin, IsNestedBy, IsInOptional, Asks}

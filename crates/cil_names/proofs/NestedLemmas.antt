@@ -1,14 +1,14 @@
 -- Optionals by numbers, and the statements inside them.
-use Rattle.std.proofs.Common.{◌≡◌, inl, inr, ℕ, zero, suc, ◌+◌, ◌<◌, ◌≤◌, true, false, List, [], ◌∷◌, ◌++◌, length, get_or, slice_get, fold, map, drop, Some, None, refl, sym, ap, ◌∙◌, subst, arith, append_assoc, append-nil, if◌then◌else◌}
+use Rattle.std.proofs.Common.{◌≡◌, inl, inr, ℕ, zero, suc, ◌+◌, ◌<◌, ◌≤◌, true, false, List, [], ◌∷◌, ◌++◌, length, get_or, slice_get, fold, map, Some, refl, sym, ap, ◌∙◌, subst, arith, append_assoc, append-nil, if◌then◌else◌}
 use Rattle.std.specs.List.{AllByRecursion}
-use Rattle.std.proofs.lemmas.List.{length_push, get_or_append_left, get_or_push, length-map, map-append}
+use Rattle.std.proofs.lemmas.List.{length_push, get_or_append_left, get_or_push, map-append}
 use Rattle.std.proofs.lemmas.Bool.{cases_lt}
 use Rattle.std.proofs.lemmas.List.Sums.{fold-append}
 use Rattle.std.proofs.lemmas.List.Elements.{filter-append}
 use Rattle.std.proofs.lemmas.Option.{none-some, same_Some, slice_get_within}
 use Rattle.cil_specs.proofs.NamesLemmas.{all-append, all-weaker}
 use Rattle.cil_names.specs.Spaces.{Namespace}
-use Rattle.cil_names.specs.Placed.{form_of, at_of, placed_of, policy_of}
+use Rattle.cil_names.specs.Placed.{form_of, at_of, placed_of}
 use Rattle.cil_names.specs.Nested.{is_optional_statement, optionals_among, with_optional, chains_by, chains_of, nested_policy_of, IsAround, IsAmong, IsNested}
 use Rattle.cil_names.specs.declared.placed.PlacedStatement.{PlacedStatement}
 use Rattle.cil_names.proofs.PositionLemmas.{get-append, get-last}

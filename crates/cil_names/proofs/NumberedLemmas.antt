@@ -6,17 +6,18 @@ use Rattle.std.proofs.lemmas.List.{take_more, map-append, get_or-map, length-map
 use Rattle.std.proofs.lemmas.List.Folds.{list_all-append}
 use Rattle.std.proofs.lemmas.List.Sums.{fold-append}
 use Rattle.std.proofs.lemmas.Grind.{flat_map-append}
+use Rattle.cil_specs.specs.Statements.{Form, attribute_set}
 use Rattle.cil_specs.specs.Joined.{Placed}
 use Rattle.cil_specs.specs.Lookup.{Table, with_name, has_name, holds_of}
+use Rattle.cil_specs.specs.Next.{is_plain_form}
+use Rattle.cil_specs.specs.Rule.{set_statement_of}
 use Rattle.cil_specs.proofs.Runs.{both_true}
 use Rattle.cil_specs.proofs.NamesLemmas.{contains-first, contains-other}
 use Rattle.cil_names.specs.First.{IsFirstOf}
 use Rattle.cil_names.specs.Flat.{IsPlain, AreFlat}
 use Rattle.cil_names.specs.FullNames.{full_name_of}
 use Rattle.cil_names.specs.Numbering.{names_with, names_of, AreNamesOf, is_numbered}
-use Rattle.cil_names.specs.Placed.{placed_of, policy_of}
 use Rattle.cil_names.specs.Policy.{IsLead}
-use Rattle.cil_names.specs.Spaces.{Namespace}
 use Rattle.cil_names.specs.declared.placed.PlacedStatement.{PlacedStatement}
 use Rattle.cil_names.proofs.NumberingLemmas.{has_name-fold, named-in, numbered-name}
 
@@ -45,6 +46,15 @@ pub plain-at : (policy : List Placed) (i : ℕ) (s : Placed) → AreFlat policy 
 plain-at [] i s flat e = absurd (none-some s e)
 plain-at (t ∷ policy) zero s flat e = subst IsPlain (same_Some t s e) flat.0
 plain-at (t ∷ policy) (suc i) s flat e = plain-at policy i s flat.2 e
+
+-- plain statements are no set statements
+no-set : (all : List Placed) (s : Placed) (form : Form) → is_plain_form form ≡ true → set_statement_of all s form ≡ []
+no-set all s (attribute_set attribute expr) plain = absurd (true≢false (sym plain))
+no-set all s _ plain = refl
+
+pub no-sets : (all policy : List Placed) → AreFlat policy → flat_map (λ s. set_statement_of all s s.form) policy ≡ []
+no-sets all [] flat = refl
+no-sets all (s ∷ policy) flat = λ i. no-set all s s.form flat.0.plain i ++ no-sets all policy flat.2 i
 
 -- one more statement of a policy
 policy-next : {A : Type 0} (place : PlacedStatement A → Placed) (statements : List (PlacedStatement A)) (i : ℕ) (p : PlacedStatement A) → i < length statements → p ≡ get_or statements i p

@@ -1,5 +1,5 @@
 -- The statements of the code, one after the other, are those of the joined policy.
-use Rattle.std.proofs.Common.{◌≡◌, ◌⊎◌, inl, inr, ℕ, zero, suc, ◌+◌, ◌-◌, ◌<◌, ◌≤◌, true, false, ◌&&◌, ◌||◌, List, [], ◌∷◌, ◌++◌, length, get_or, slice_get, take, drop, map, Some, None, Contains, Vec, refl, sym, ap, ◌∙◌, true≢false, append_assoc, append-nil, subst, IsTrue, arith, bytes_eq}
+use Rattle.std.proofs.Common.{◌≡◌, ◌⊎◌, inl, inr, ℕ, zero, suc, ◌+◌, ◌<◌, ◌≤◌, true, false, ◌&&◌, ◌||◌, List, [], ◌∷◌, ◌++◌, length, get_or, slice_get, take, drop, map, Some, None, Contains, Vec, refl, sym, ap, ◌∙◌, true≢false, append_assoc, append-nil, subst, IsTrue, arith, bytes_eq}
 use Rattle.std.specs.Prelude.{◌↔◌, option_map}
 use Rattle.std.specs.List.{list_all, AllByRecursion, IsDistinct}
 use Rattle.std.proofs.lemmas.Bool.{or_right, or_cases}

@@ -1,6 +1,6 @@
 -- Some of the statements of a policy: those in kept optionals.
-use Rattle.std.proofs.Common.{◌≡◌, ◌↔◌, inl, inr, ℕ, ◌<◌, Bool, true, false, ◌&&◌, ◌||◌, cond, List, [], ◌∷◌, length, get_or, drop, map, filter, refl, sym, ap, ◌∙◌, subst, Contains, Vec, arith, true≢false}
-use Rattle.std.specs.List.{AllByRecursion, list_any}
+use Rattle.std.proofs.Common.{◌≡◌, ◌↔◌, ◌<◌, Bool, true, false, cond, List, [], ◌∷◌, length, get_or, drop, map, filter, refl, sym, ap, ◌∙◌, subst, Contains, Vec}
+use Rattle.std.specs.List.{AllByRecursion}
 use Rattle.cil_specs.specs.Joined.{Placed}
 use Rattle.cil_specs.specs.Kept.{Optionals, is_within, restricted, AreApart}
 use Rattle.cil_specs.proofs.OnceLemmas.{IsOnce, once-filtered}
@@ -62,8 +62,8 @@ flat-kept p set kept statements sound apart tells are = record {
   within = subst (AreIn (length p.spaces)) (sym are) (all-picked (λ s. s.namespace < length p.spaces) (λ s. get_or kept s.optional false) p.statements.items sound.within);
   distinct = sound.distinct;
   blocks = subst (λ l. AreBlocks p.spaces (map (placed_in p) l)) (sym are) (subst (AreBlocks p.spaces) (sym (kept-told p set kept tells)) (
-      sound.blocks.0,
-      λ namespace name. subst (λ b. Contains p.spaces (name ∷ namespace) ↔ (b ≡ true)) (sym (has_block-restricted set (policy_in p) apart namespace name)) (sound.blocks.1 namespace name),
+    sound.blocks.0,
+    λ namespace name. subst (λ b. Contains p.spaces (name ∷ namespace) ↔ (b ≡ true)) (sym (has_block-restricted set (policy_in p) apart namespace name)) (sound.blocks.1 namespace name),
   ));
 }
 

@@ -1,5 +1,5 @@
 -- Classes by the places of their statements, and their permissions.
-use Rattle.std.specs.Prelude.{◌≡◌, ℕ, ◌&&◌, ◌==◌, List, [], ◌++◌, flat_map, fold, Option, Some, None, option_map, slice_get, IsTrue, if◌then◌else◌}
+use Rattle.std.specs.Prelude.{◌≡◌, ℕ, ◌==◌, List, [], ◌++◌, flat_map, fold, Option, Some, None, option_map, slice_get, IsTrue, if◌then◌else◌}
 use Rattle.std.specs.List.{position}
 use Rattle.std.specs.Option.{option_and_then}
 use Rattle.cil_specs.specs.Names.{Word}

@@ -1,6 +1,6 @@
 -- Statements in optionals. An optional has a number, which counts those before it in the order of the statements from 1 on; 0 stands
 -- for none.
-use Rattle.std.specs.Prelude.{◌≡◌, ◌≤◌, ◌⊎◌, ℕ, zero, suc, Bool, false, ◌&&◌, ◌==◌, List, [], ◌∷◌, ◌++◌, map, filter, fold, slice_get, slice_index_or, bytes_eq, Contains, Option, Some, None}
+use Rattle.std.specs.Prelude.{◌≡◌, ◌≤◌, ◌⊎◌, ℕ, zero, suc, Bool, false, ◌&&◌, ◌==◌, List, [], ◌∷◌, ◌++◌, filter, fold, slice_get, slice_index_or, bytes_eq, Contains, Option, Some, None}
 use Rattle.std.specs.List.{list_all, position, AllByRecursion}
 use Rattle.cil_specs.specs.Statements.{is_optional}
 use Rattle.cil_specs.specs.Joined.{Placed}

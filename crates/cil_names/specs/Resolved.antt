@@ -49,12 +49,13 @@ rule_of modules names r = record {
 abbrev pub dropped_with : {A : Type 0} → List (List ℕ) → DroppedOptional A → spec.Declared
 dropped_with modules d = record { module_name = slice_index_or modules d.module []; at = place_of d.at; name = d.name }
 
--- what a resolved policy means
+-- what a resolved policy means, which has no set statements yet
 abbrev pub meaning_in : {A : Type 0} → Resolved A → Meaning
 meaning_in r = record {
   types = map (declared_of r.modules.items r.names.items) r.types.items;
   attributes = map (declared_of r.modules.items r.names.items) r.attributes.items;
   classes = map (class_of r.modules.items r.names.items) r.classes.items;
+  sets = [];
   rules = map (rule_of r.modules.items r.names.items) r.rules.items;
   dropped = map (dropped_with r.modules.items) r.dropped.items;
 }

@@ -127,10 +127,7 @@ pub struct Around<'a> {
 
 impl<'a> Around<'a> {
     /// A statement there.
-    fn placed<'j, A: Allocator>(
-        self,
-        statement: &'j Statement<'a, A>,
-    ) -> PlacedStatement<'j, 'a, A>
+    fn placed<'j, A: Allocator>(self, statement: &'j Statement<'a, A>) -> PlacedStatement<'j, 'a, A>
         ensures { result ≡ record { «module» = self.entry.«module»; module_name = self.entry.module_name; namespace = self.entry.namespace; optional = self.entry.optional; statement = statement.entry } }
     {
         PlacedStatement {

@@ -2,15 +2,16 @@
 use Rattle.std.specs.Prelude.{◌≡◌, ℕ, Bool, false, ◌&&◌, ◌==◌, List, bytes_eq, count_by, nat_lt}
 use Rattle.std.specs.List.{list_any}
 use Rattle.cil_specs.specs.Joined.{Placed}
-use Rattle.cil_specs.specs.Rule.{Element, a_type, an_attribute, Aim, at_itself, at_element, Rule, Atom, kind_index, Declared, ClassOf, types_of, attributes_of, classes_of, rules_of}
+use Rattle.cil_specs.specs.Rule.{Element, a_type, an_attribute, Aim, at_itself, at_element, Rule, Atom, kind_index, Declared, ClassOf, SetStatement, types_of, attributes_of, classes_of, sets_of, rules_of}
 use Rattle.cil_specs.specs.Kept.{Optionals, AreKept, restricted, Compiles, dropped_of}
 
--- The types, attributes, classes and rules of a policy, in the order of their statements, and the optionals that drop; all by full
--- names, with their modules and places.
+-- The types, attributes, classes, set statements and rules of a policy, in the order of their statements, and the optionals that
+-- drop; all by full names, with their modules and places.
 pub record Meaning : Type 0 where
   pub types : List Declared
   pub attributes : List Declared
   pub classes : List ClassOf
+  pub sets : List SetStatement
   pub rules : List Rule
   pub dropped : List Declared
 
@@ -20,6 +21,7 @@ meaning_of statements dropped = record {
   types = types_of statements;
   attributes = attributes_of statements;
   classes = classes_of statements;
+  sets = sets_of statements;
   rules = rules_of statements;
   dropped = dropped;
 }

@@ -1,8 +1,9 @@
--- What the statements of a policy resolve to: types, attributes, classes and rules by full names.
+-- What the statements of a policy resolve to: types, attributes, classes, set statements and rules by full names.
 use Rattle.std.specs.Prelude.{◌≡◌, ℕ, Bool, true, false, List, [], ◌∷◌, map, flat_map, Option, Some, None, if◌then◌else◌}
 use Rattle.cil_specs.specs.Place.{Place}
 use Rattle.cil_specs.specs.Names.{Word}
-use Rattle.cil_specs.specs.Statements.{RuleKind, allow, auditallow, dontaudit, neverallow, Form, class, type_alias, type_attribute, rule, Target, itself, the_named}
+use Rattle.cil_specs.specs.Expr.{Expr, map_leaves}
+use Rattle.cil_specs.specs.Statements.{RuleKind, allow, auditallow, dontaudit, neverallow, Form, class, type_alias, type_attribute, attribute_set, rule, Target, itself, the_named}
 use Rattle.cil_specs.specs.Joined.{Placed}
 use Rattle.cil_specs.specs.Lookup.{Table, types, classes, leads, declared_name, permissions_of, distinct, actual_of, is_type, is_attribute}
 
@@ -40,6 +41,25 @@ content_of r = record { kind = r.kind; source = r.source; target = r.target; the
 -- Two rules are the same as resolved: their modules, offsets and contents are. Line and column don't count.
 abbrev pub IsSameRule : Rule → Rule → Type 0
 IsSameRule r s = (r.module_name ≡ s.module_name) × (r.at.offset ≡ s.at.offset) × (content_of r ≡ content_of s)
+
+-- a set statement with full names in place of its references: an attribute, and the expression that tells what it holds
+pub record SetStatement : Type 0 where
+  pub module_name : List ℕ
+  pub at : Place
+  pub attribute : List ℕ
+  pub expr : Expr Element
+
+-- what a set statement says, wherever it stands
+pub record SetContent : Type 0 where
+  pub attribute : List ℕ
+  pub expr : Expr Element
+
+abbrev pub set_content_of : SetStatement → SetContent
+set_content_of s = record { attribute = s.attribute; expr = s.expr }
+
+-- Two set statements are the same as resolved, as two rules are.
+abbrev pub IsSameSet : SetStatement → SetStatement → Type 0
+IsSameSet s t = (s.module_name ≡ t.module_name) × (s.at.offset ≡ t.at.offset) × (set_content_of s ≡ set_content_of t)
 
 -- one access: what the source may do to the target, or may not
 pub record Atom : Type 0 where
@@ -127,6 +147,20 @@ rule_of policy s (rule kind source target the_class permissions) = record {
   permissions = map (λ w. w.text) permissions;
 } ∷ []
 rule_of policy s _ = []
+
+-- a statement's set statement, if it is one
+abbrev pub set_statement_of : List Placed → Placed → Form → List SetStatement
+set_statement_of policy s (attribute_set attribute expr) = record {
+  module_name = s.module_name;
+  at = s.at;
+  attribute = name_or_none types (leads policy types s.namespace attribute.text);
+  expr = map_leaves (element_of policy s.namespace) expr;
+} ∷ []
+set_statement_of policy s _ = []
+
+-- the set statements of a policy
+abbrev pub sets_of : List Placed → List SetStatement
+sets_of policy = flat_map (λ s. set_statement_of policy s s.form) policy
 
 -- the rules of a policy
 abbrev pub rules_of : List Placed → List Rule

@@ -1,7 +1,6 @@
 use Rattle.std.proofs.Common.{map, sym}
 use Rattle.cil_specs.specs.Lookup.{texts}
 use Rattle.cil_text.specs.Image.{word_of}
-use Rattle.cil_names.specs.Placed.{placed_of}
 use Rattle.cil_names.specs.Policy.{policy_in, placed_in}
 use Rattle.cil_names.proofs.ClassesLemmas.{given-some}
 use Rattle.cil_names.proofs.classes.given.Goals as goal

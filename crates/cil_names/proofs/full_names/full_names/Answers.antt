@@ -1,6 +1,5 @@
 use Rattle.std.proofs.Common.{◌≡◌, ◌∙◌, rules, ◌<◌, length}
 use Rattle.cil_names.specs.FullNames.{full_name_of}
-use Rattle.cil_names.specs.Placed.{placed_of}
 use Rattle.cil_names.proofs.FullNamesLemmas.{full-name-next, full-name-some, full-name-none, named-at, all-at}
 use Rattle.cil_names.proofs.full_names.full_names.Goals as goal
 use Rattle.cil_names.specs.Policy.{placed_in, chains_in}

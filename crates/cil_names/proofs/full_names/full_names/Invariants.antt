@@ -1,6 +1,5 @@
 use Rattle.std.proofs.Common.{◌≡◌, map, take}
 use Rattle.cil_names.specs.FullNames.{full_name_of}
-use Rattle.cil_names.specs.Placed.{policy_of}
 use Rattle.cil_names.specs.Policy.{placed_in}
 use Rattle.cil_names.proofs.full_names.full_names.Given as goal
 

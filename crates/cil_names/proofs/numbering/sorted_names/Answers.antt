@@ -2,7 +2,6 @@ use Rattle.std.proofs.Common.{◌≡◌, ◌∙◌, ap, [], fold, take, rules, m
 use Rattle.std.proofs.lemmas.List.{take_all}
 use Rattle.cil_specs.specs.Lookup.{with_name}
 use Rattle.cil_names.specs.Numbering.{names_of}
-use Rattle.cil_names.specs.Placed.{placed_of, policy_of}
 use Rattle.cil_names.specs.Policy.{policy_in, placed_in}
 use Rattle.cil_names.proofs.NumberedLemmas.{placed-at, full-name-at, names-next, names-sorted}
 use Rattle.cil_names.proofs.numbering.sorted_names.Goals as goal

@@ -1,7 +1,6 @@
 use Rattle.std.proofs.Common.{◌≡◌, [], fold, take, map}
 use Rattle.cil_specs.specs.Lookup.{with_name}
 use Rattle.cil_names.specs.Numbering.{names_of}
-use Rattle.cil_names.specs.Placed.{policy_of}
 use Rattle.cil_names.specs.Policy.{placed_in}
 use Rattle.cil_names.proofs.numbering.sorted_names.Given as goal
 

@@ -1,6 +1,5 @@
 use Rattle.std.proofs.Common.{◌≡◌, ◌<◌, [], map, length, get_or, refl, ap, ◌∙◌, arith}
 use Rattle.std.proofs.lemmas.List.{length-map}
-use Rattle.std.proofs.lemmas.Option.{slice_get-get_or}
 use Rattle.cil_specs.specs.Lookup.{scopes, declared_in, word_text}
 use Rattle.cil_specs.proofs.NamesLemmas.{all-contained}
 use Rattle.cil_names.specs.FullNames.{space_text, name_in}
@@ -8,8 +7,8 @@ use Rattle.cil_names.specs.Placed.{form_of}
 use Rattle.cil_names.specs.Policy.{chains_in, modules_in, placed_in}
 use Rattle.cil_names.specs.Resolved.{dropped_with}
 use Rattle.cil_names.proofs.FullNamesLemmas.{named-at}
-use Rattle.cil_names.proofs.KeptLemmas.{AreToldApart, told-apart}
-use Rattle.cil_names.proofs.DroppedLemmas.{IsOptionalOf, optional-read, dropped-told, kept-next, dropped-push, dropped-all}
+use Rattle.cil_names.proofs.KeptLemmas.{told-apart}
+use Rattle.cil_names.proofs.DroppedLemmas.{optional-read, dropped-told, kept-next, dropped-push, dropped-all}
 use Rattle.cil_names.proofs.optionals.dropped_optionals.Goals as goal
 use Rattle.cil_names.proofs.optionals.dropped_optionals.Goals.{then-not-kept-i+in_ok-dropped_optional+in_ok-push, else-not-kept-i}
 

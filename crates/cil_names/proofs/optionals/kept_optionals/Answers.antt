@@ -1,4 +1,4 @@
-use Rattle.std.proofs.Common.{IfOk, ◌+◌, length, IsTrue, refl, ap, sym, ◌∙◌, subst}
+use Rattle.std.proofs.Common.{IfOk, ◌+◌, length, IsTrue, refl, ap, sym, subst}
 use Rattle.std.specs.Prelude.{◌↔◌}
 use Rattle.std.specs.List.{list_all}
 use Rattle.std.proofs.lemmas.Result.{IfOk-weaker}

@@ -1,11 +1,9 @@
-use Rattle.std.proofs.Common.{◌∙◌, ◌≤◌, [], length, get_or, map, ap, sym, subst, refl, rules}
-use Rattle.std.proofs.lemmas.List.{take_all}
-use Rattle.cil_specs.specs.Joined.{placed, joined}
+use Rattle.std.proofs.Common.{◌∙◌, ◌≤◌, [], length, get_or, ap, sym, subst, refl, rules}
+use Rattle.cil_specs.specs.Joined.{placed}
 use Rattle.cil_specs.specs.Next.{is_plain}
 use Rattle.cil_text.specs.Image.{statements_of}
 use Rattle.cil_names.specs.Extends.{Extends}
 use Rattle.cil_names.specs.Flat.{AreFlat}
-use Rattle.cil_names.specs.Image.{module_of}
 use Rattle.cil_names.specs.Nested.{chains_by, chains_of}
 use Rattle.cil_names.specs.declared.placed.Flat.{Flat}
 use Rattle.cil_names.proofs.PlacedLemmas.{module-plain, placed-module, placed-all, policy-flat, blocks-same}

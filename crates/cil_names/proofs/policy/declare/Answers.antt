@@ -1,7 +1,6 @@
 use Rattle.std.proofs.Common.{◌≡◌, ◌∙◌, ◌<◌, ℕ, List, false, ◌&&◌, length, take, get_or, refl, sym, ap, Some, is_some, rules, map}
 use Rattle.std.specs.Map.{lookup}
 use Rattle.cil_text.specs.Image.{word_of}
-use Rattle.cil_names.specs.Placed.{placed_of, policy_of}
 use Rattle.cil_names.specs.Policy.{table_of, IsTaken, placed_as}
 use Rattle.cil_names.specs.Nested.{is_optional_statement}
 use Rattle.cil_names.specs.declared.placed.PlacedStatement.{PlacedStatement}

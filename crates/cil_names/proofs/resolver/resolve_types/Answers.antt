@@ -35,9 +35,13 @@ returns-clause-meaning g c =
     let policy = joined (modules_of c.args.joined.now) in
     let found = c.in_ok-resolution.resolution.policy in
     let is = c.in_ok-resolution.ensures.judged in
-    let dropped = map (dropped_with (modules_in found)) c.in_ok-resolution.dropped.items in
-    (
+    let dropped = map (dropped_with (modules_in found)) c.in_ok-resolution.dropped.items in (
       is.kept,
       judged-means policy (policy_in found) dropped is (meaning_in c.in_ok-number_policy.field-0) c.in_ok-resolution.ensures.faultless c.in_ok-number_policy.ensures,
       judged-alone policy (policy_in found) dropped is c.in_ok-check_attributes.ensures.ok,
     )
+
+pub returns-in_err-number_policy-clause-err : goal.returns-in_err-number_policy-clause-err
+returns-in_err-number_policy-clause-err g c =
+    let made = err_from_is_err_and c.from_residual-in_err-number_policy.result c.from_residual-in_err-number_policy.ensures.1 in
+    rw (made.1, made.2) tt

@@ -2,7 +2,6 @@ use Rattle.std.proofs.Common.{◌<◌, ◌==◌, length, map, set, position, ref
 use Rattle.std.proofs.lemmas.Option.{slice_get_read}
 use Rattle.cil_specs.specs.Lookup.{texts}
 use Rattle.cil_text.specs.Image.{word_of}
-use Rattle.cil_names.specs.Placed.{placed_of}
 use Rattle.cil_names.specs.Policy.{policy_in, placed_in}
 use Rattle.cil_names.specs.Classes.{SeenClasses, IsGiven}
 use Rattle.cil_names.proofs.ClassesLemmas.{is-given, is-given-nowhere}

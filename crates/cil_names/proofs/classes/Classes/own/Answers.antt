@@ -2,7 +2,6 @@ use Rattle.std.proofs.Common.{◌+◌, [], ◌∷◌, length, map, sym, ap, ◌�
 use Rattle.cil_specs.specs.Lookup.{texts, distinct}
 use Rattle.cil_text.specs.Image.{word_of}
 use Rattle.cil_names.specs.Names.{with_words}
-use Rattle.cil_names.specs.Placed.{placed_of}
 use Rattle.cil_names.specs.Policy.{policy_in, placed_in}
 use Rattle.cil_names.specs.Classes.{SeenClasses}
 use Rattle.cil_names.proofs.ClassesLemmas.{own-none, own-other, own-places, own-next, own-all}

@@ -1,5 +1,4 @@
 use Rattle.std.proofs.Common.{None, Some, ap, refl, subst}
-use Rattle.cil_names.specs.Placed.{placed_of}
 use Rattle.cil_names.specs.Policy.{policy_in, IsLead, placed_in}
 use Rattle.cil_names.specs.Gifts.{first_at, gift_table, given_lead, HasFirstsOf}
 use Rattle.cil_names.proofs.FirstsLemmas.{firsts-next}

@@ -1,4 +1,4 @@
-use Rattle.std.proofs.Common.{◌≤◌, ◌∷◌, ◌++◌, [], length, refl, sym, ap, ◌∙◌, arith}
+use Rattle.std.proofs.Common.{◌∷◌, ◌++◌, [], length, refl, ap, ◌∙◌, arith}
 use Rattle.cil_names.proofs.DroppedLemmas.{optional-read}
 use Rattle.cil_names.proofs.NeedsLemmas.{nested-skip, nested-more, nested-all}
 use Rattle.cil_names.proofs.needs.Finder.nested.Goals as goal

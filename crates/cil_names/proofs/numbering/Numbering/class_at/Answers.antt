@@ -3,7 +3,7 @@ use Rattle.std.specs.List.{list_all}
 use Rattle.std.proofs.lemmas.Option.{same_Some}
 use Rattle.cil_specs.specs.Lookup.{classes, declared_in, has_name, permissions_of, distinct}
 use Rattle.cil_specs.specs.Rule.{is_class}
-use Rattle.cil_names.specs.Placed.{form_of, placed_of}
+use Rattle.cil_names.specs.Placed.{form_of}
 use Rattle.cil_names.specs.Policy.{policy_in, placed_in}
 use Rattle.cil_names.proofs.FaultlessLemmas.{class-first}
 use Rattle.cil_names.proofs.NumberingLemmas.{permissions-all, all-distinct}

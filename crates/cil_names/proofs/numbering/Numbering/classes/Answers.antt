@@ -3,7 +3,6 @@ use Rattle.std.specs.Option.{option_to_list}
 use Rattle.std.proofs.lemmas.List.{take_all}
 use Rattle.cil_names.specs.Below.{is_class_below}
 use Rattle.cil_names.specs.Numbering.{class_if}
-use Rattle.cil_names.specs.Placed.{policy_of}
 use Rattle.cil_names.specs.Policy.{modules_in, policy_in, placed_in}
 use Rattle.cil_names.specs.Resolved.{class_of}
 use Rattle.cil_names.proofs.NumberedLemmas.{made-next, pass-more}

@@ -2,7 +2,6 @@ use Rattle.std.proofs.Common.{◌≡◌, map, flat_map, take, length, IsTrue}
 use Rattle.std.specs.List.{list_all}
 use Rattle.cil_names.specs.Below.{is_class_below}
 use Rattle.cil_names.specs.Numbering.{class_if}
-use Rattle.cil_names.specs.Placed.{policy_of}
 use Rattle.cil_names.specs.Policy.{modules_in, policy_in, placed_in}
 use Rattle.cil_names.specs.Resolved.{class_of}
 use Rattle.cil_names.proofs.numbering.Numbering.classes.Given as goal

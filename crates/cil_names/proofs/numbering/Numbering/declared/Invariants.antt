@@ -2,7 +2,6 @@ use Rattle.std.proofs.Common.{◌≡◌, map, flat_map, take, length, IsTrue}
 use Rattle.std.specs.List.{list_all}
 use Rattle.cil_names.specs.Below.{is_name_below}
 use Rattle.cil_names.specs.Numbering.{declared_if}
-use Rattle.cil_names.specs.Placed.{policy_of}
 use Rattle.cil_names.specs.Policy.{modules_in, placed_in}
 use Rattle.cil_names.specs.Resolved.{declared_of}
 use Rattle.cil_names.proofs.numbering.Numbering.declared.Given as goal

@@ -1,7 +1,7 @@
-use Rattle.std.proofs.Common.{◌∙◌, ◌≡◌, map}
-use Rattle.cil_specs.specs.Rule.{types_of, attributes_of, classes_of, rules_of}
+use Rattle.std.proofs.Common.{◌∙◌, map, sym}
 use Rattle.cil_names.specs.Policy.{policy_in}
 use Rattle.cil_names.specs.Resolved.{declared_of, class_of, rule_of, dropped_with}
+use Rattle.cil_names.proofs.NumberedLemmas.{no-sets}
 use Rattle.cil_names.proofs.numbering.Numbering.resolved.Goals as goal
 
 pub returns : goal.returns
@@ -11,5 +11,7 @@ returns g c =
     let types = (λ k. map (declared_of (modules k) (names k)) c.in_ok-declared.field-0.items) ∙ c.in_ok-declared.ensures.declared in
     let attributes = (λ k. map (declared_of (modules k) (names k)) c.in_ok-declared-2.field-0.items) ∙ c.in_ok-declared-2.ensures.declared in
     let classes = (λ k. map (class_of (modules k) (names k)) c.in_ok-classes.field-0.items) ∙ c.in_ok-classes.ensures.classes in
+    let policy = policy_in c.args.self.now.resolution.now.policy in
+    let sets = no-sets policy policy c.requires.ready.resolved.sound.flat in
     let rules = (λ k. map (rule_of (modules k) (names k)) c.in_ok-rules.field-0.items) ∙ c.in_ok-rules.ensures.rules in
-    λ i. record { types = types i; attributes = attributes i; classes = classes i; rules = rules i; dropped = map (dropped_with (modules i)) c.args.dropped.items }
+    λ i. record { types = types i; attributes = attributes i; classes = classes i; sets = sym sets i; rules = rules i; dropped = map (dropped_with (modules i)) c.args.dropped.items }

@@ -1,7 +1,7 @@
-use Rattle.std.proofs.Common.{refl, sym, ap, subst, map}
+use Rattle.std.proofs.Common.{sym, ap, subst, map}
 use Rattle.cil_text.specs.Image.{word_of, target_of, rule_kind_of}
 use Rattle.cil_names.specs.Names.{HasWords}
-use Rattle.cil_names.specs.Placed.{form_of, placed_of}
+use Rattle.cil_names.specs.Placed.{form_of}
 use Rattle.cil_names.specs.Policy.{policy_in, placed_in}
 use Rattle.cil_names.proofs.RuleLemmas.{source-led, target-led, class-led, permissions-there}
 use Rattle.cil_names.proofs.numbering.Numbering.rule.Goals as goal

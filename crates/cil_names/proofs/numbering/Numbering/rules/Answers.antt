@@ -4,7 +4,6 @@ use Rattle.std.proofs.lemmas.List.{take_all}
 use Rattle.cil_specs.specs.Rule as spec
 use Rattle.cil_names.specs.Below.{is_rule_below}
 use Rattle.cil_names.specs.Numbering.{rules_from}
-use Rattle.cil_names.specs.Placed.{policy_of}
 use Rattle.cil_names.specs.Policy.{modules_in, policy_in, placed_in}
 use Rattle.cil_names.specs.Resolved.{rule_of}
 use Rattle.cil_names.proofs.NumberedLemmas.{made-next, pass-more}

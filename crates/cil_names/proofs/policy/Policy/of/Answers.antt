@@ -1,12 +1,9 @@
 use Rattle.std.proofs.Common.{◌≡◌, IfOk, sym, subst, rules}
-use Rattle.std.proofs.lemmas.Result.{IfOk-weaker, IfErr-weaker}
+use Rattle.std.proofs.lemmas.Result.{IfOk-weaker}
 use Rattle.cil_specs.specs.Joined.{joined}
-use Rattle.cil_specs.specs.PolicyFault.{twice, IsFaultOf}
 use Rattle.cil_specs.specs.Kept.{AreApart}
-use Rattle.cil_names.specs.Flat.{IsLeast}
 use Rattle.cil_names.specs.Image.{modules_of}
 use Rattle.cil_names.specs.Policy.{policy_in}
-use Rattle.cil_names.proofs.FaultLemmas.{fault-weaker}
 use Rattle.cil_names.proofs.ModulesApart.{policy-apart}
 use Rattle.cil_names.proofs.policy.Policy.of.Goals as goal
 

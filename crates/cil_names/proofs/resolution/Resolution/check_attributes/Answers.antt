@@ -2,7 +2,6 @@ use Rattle.std.proofs.Common.{◌≤◌, length, arith}
 use Rattle.cil_specs.specs.PolicyFault.{wrong_kind}
 use Rattle.cil_specs.specs.Next.{IsFirstAttributeFault}
 use Rattle.cil_text.specs.Image.{word_of}
-use Rattle.cil_names.specs.Placed.{placed_of}
 use Rattle.cil_names.specs.Policy.{policy_in, placed_in, chains_in}
 use Rattle.cil_names.proofs.CheckLemmas.{found-at, first-some, first-none}
 use Rattle.cil_names.proofs.AttributeLemmas.{none-first, none-next, none-end, first-attribute}

@@ -3,7 +3,6 @@ use Rattle.cil_specs.specs.PolicyFault.{IsFaultOf}
 use Rattle.cil_text.specs.Image.{word_of}
 use Rattle.cil_names.specs.Flat.{IsLeast}
 use Rattle.cil_names.specs.Image.{policy_kind_of}
-use Rattle.cil_names.specs.Placed.{placed_of}
 use Rattle.cil_names.specs.Policy.{policy_in, placed_in, chains_in}
 use Rattle.cil_names.proofs.CheckLemmas.{found-at, first-some, first-none}
 use Rattle.cil_names.proofs.LeastLemmas.{none-faulty-first, none-faulty-next, none-faulty-end, least-at, plain-at}

@@ -1,7 +1,7 @@
 use Rattle.std.proofs.Common.{None, Some, map, nat_lt, option_map, sym, ap, ◌∙◌}
 use Rattle.std.proofs.lemmas.Bool.{lt-ltb, le-ltb}
 use Rattle.cil_text.specs.Image.{word_of}
-use Rattle.cil_names.specs.Placed.{form_of, placed_of}
+use Rattle.cil_names.specs.Placed.{form_of}
 use Rattle.cil_names.specs.Policy.{policy_in, placed_in}
 use Rattle.cil_names.specs.Resolution.{word_if}
 use Rattle.cil_names.proofs.ResolutionLemmas.{too-many-known}
