@@ -8,8 +8,8 @@ cd "$(dirname "$0")/.."
 # one common of many permissions, and many classes that take it
 common() {
     awk -v k="$1" 'BEGIN {
-        printf "(common m ("; for (i = 0; i < 2000 * k; i++) printf "p%06x ", i; print "))"
-        for (i = 0; i < 20 * k; i++) printf "(class c%d ())(classcommon c%d m)\n", i, i
+        printf "(common m ("; for (i = 0; i < 10000 * k; i++) printf "p%06x ", i; print "))"
+        for (i = 0; i < 100 * k; i++) printf "(class c%d ())(classcommon c%d m)\n", i, i
     }'
 }
 

@@ -22,6 +22,8 @@ mod names;
 #[cfg(test)]
 mod optionals;
 #[cfg(test)]
+mod parsed;
+#[cfg(test)]
 mod policies;
 #[cfg(test)]
 mod reading;

@@ -2,8 +2,8 @@
 
 use crate::answers::{assert_same, shown};
 use cil_text::{
-    Expr, Module, RuleKind, ShownWord, Statement, Target, TextFault, TextFaultKind, Tree, TreeSlice,
-    Word, read, shape,
+    Expr, Module, RuleKind, ShownWord, Statement, Target, TextFault, TextFaultKind, Tree,
+    TreeSlice, Word, read, shape,
 };
 use std::alloc::Global;
 use std::process::Abort;

@@ -45,6 +45,15 @@ fn push_given<A: Allocator + Copy>(
     Ok(())
 }
 
+/// How many permissions rules name: no rule gives more accesses than permissions.
+fn permission_count<A: Allocator>(rules: &[NumberedRule<A>]) -> usize {
+    let mut count: usize = 0;
+    for rule in rules {
+        count = count.saturating_add(rule.permissions.len());
+    }
+    count
+}
+
 /// The accesses that rules give, each as often as it is given.
 pub fn collect<A: Allocator + Copy>(
     alloc: A,
@@ -52,7 +61,7 @@ pub fn collect<A: Allocator + Copy>(
 ) -> Result<Vec<AtomNumbers, A>, AllocError>
     ensures { IfOk result (λ atoms. atoms.items ≡ flat_map given rules.now) }
 {
-    let mut atoms = Vec::new(alloc);
+    let mut atoms = Vec::with_capacity(alloc, permission_count(rules))?;
     for rule in rules {
         push_given(&mut atoms, rule)?;
     }

@@ -1,0 +1,10 @@
+pub mod ListLemmas
+pub mod SplitLemmas
+pub mod LexiconLemmas
+pub mod AddsLemmas
+pub mod BuilderLemmas
+pub mod FlatLemmas
+pub mod PlaceLemmas
+pub mod ParsedLemmas
+pub mod ViewLemmas
+pub mod AroundLemmas

@@ -1,0 +1,20 @@
+//! Modules kept parsed: each word numbered once, each statement a row.
+#![tactic(auto)]
+
+mod builder;
+mod counts;
+mod from_text;
+mod laws;
+mod lexicon;
+mod lists;
+mod parsed;
+mod row;
+mod table;
+mod view;
+
+pub use from_text::parse;
+pub use laws::statements_are_placed;
+pub use parsed::ParsedModule;
+pub use row::{NumberedWord, SetNode, StatementKind};
+pub use table::Table;
+pub use view::StatementView;
