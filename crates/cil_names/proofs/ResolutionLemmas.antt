@@ -148,13 +148,6 @@ missing-permission policy seen namespace the_class permissions place has led o k
     lead : Led classes policy place (leads policy classes namespace the_class.text)
     lead = led-at classes policy place (leads policy classes namespace the_class.text) led
 
--- whether a statement in front of a place gives something to what a word leads to
-earlier-actual : (policy before : List Placed) (o : Option Placed) → holds_of (λ s. list_any (λ t. gives_actual policy s t.namespace t.form) before) o ≡ holds_of (λ s. list_any (gives gift.Actual policy s) before) o
-earlier-actual policy before o = refl
-
-earlier-common : (policy before : List Placed) (o : Option Placed) → holds_of (λ s. list_any (λ t. gives_common policy s t.namespace t.form) before) o ≡ holds_of (λ s. list_any (gives gift.Common policy s) before) o
-earlier-common policy before o = refl
-
 abbrev pub again_if : Gift → List Placed → List Placed → Placed → Word → Option Word
 again_if g policy before t w = word_if (holds_of (λ s. list_any (gives g policy s) before) (leads policy (gift_table g) t.namespace w.text)) w
 
@@ -175,7 +168,7 @@ again-word g policy before t = by g t.form
     by gift.Actual (type_name id) = refl
     by gift.Actual (type_alias id) = refl
     by gift.Actual (alias_actual alias actual) =
-        filter-one (has_earlier_actual policy before t.namespace) alias ∙ ap (λ b. word_if b alias) (earlier-actual policy before (leads policy types t.namespace alias.text))
+        filter-one (has_earlier_actual policy before t.namespace) alias
     by gift.Actual (type_attribute id) = refl
     by gift.Actual (attribute_set attribute expr) = refl
     by gift.Actual (common id permissions) = refl
@@ -194,7 +187,6 @@ again-word g policy before t = by g t.form
     by gift.Common (class id permissions) = refl
     by gift.Common (class_common the_class the_common) =
         filter-one (has_earlier_common policy before t.namespace) the_class
-        ∙ ap (λ b. word_if b the_class) (earlier-common policy before (leads policy classes t.namespace the_class.text))
     by gift.Common (class_order the_classes) = refl
     by gift.Common (rule kind source target the_class permissions) = refl
 

@@ -39,7 +39,7 @@ pub fn number_policy<A: Allocator + Copy>(
     dropped: Vec<DroppedOptional<A>, A>,
 ) -> Result<Resolved<A>, AllocError>
     requires resolved { IsResolved resolution.now }
-    requires compiles { IsFaultless (policy_in resolution.now.policy) }
+    requires faultless { IsFaultless (policy_in resolution.now.policy) }
     ensures { IfOk result (λ r. meaning_in r ≡ meaning_of (policy_in resolution.now.policy) (map (dropped_with (modules_in resolution.now.policy)) dropped.items)) }
 {
     let full_names = full_names(alloc, &resolution.policy)?;

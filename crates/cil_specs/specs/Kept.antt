@@ -1,4 +1,5 @@
--- The optionals that are kept, those that drop, and the faults of a policy by what it keeps. Nothing else speaks of optionals.
+-- The optionals that are kept, those that drop, and the faults of a policy by what it keeps. All other
+-- definitions read a plain list of statements.
 use Rattle.std.specs.Prelude.{◌≡◌, ◌↔◌, ℕ, ◌==◌, Bool, false, not, ◌&&◌, List, [], ◌∷◌, filter, flat_map, bytes_eq, Contains, IsTrue, if◌then◌else◌}
 use Rattle.std.specs.List.{list_all, list_any}
 use Rattle.cil_specs.specs.Statements.{is_optional, stands_apart}
