@@ -27,12 +27,12 @@ policy_kind_of AliasUnset = alias_unset
 policy_kind_of SecondCommon = second_common
 policy_kind_of TooManyPermissions = too_many_permissions
 
--- The fault is none but want of memory, or P holds of it.
+-- The fault is none but out of memory, or P holds of it.
 abbrev pub PolicyFaultIs : PolicyFault → (spec_faults.PolicyFault → Type 0) → Type 0
 PolicyFaultIs Memory P = Unit {0}
 PolicyFaultIs (Found kind module_name at word) P = P (record { kind = policy_kind_of kind; module_name = module_name.now; at = place_of at; word = word.now })
 
--- The fault isn't want of memory, and P holds of it.
+-- The fault isn't out of memory, and P holds of it.
 abbrev pub IsFoundFault : PolicyFault → (spec_faults.PolicyFault → Type 0) → Type 0
 IsFoundFault Memory P = ⊥
 IsFoundFault (Found kind module_name at word) P = P (record { kind = policy_kind_of kind; module_name = module_name.now; at = place_of at; word = word.now })

@@ -36,7 +36,7 @@ impl PolicyFaultKind {
     }
 }
 
-/// Why a policy doesn't compile: want of memory, or what is wrong, in which module, where, and the word that shows it.
+/// Why a policy doesn't compile: out of memory, or what is wrong, in which module, where, and the word that shows it.
 #[derive(Clone, Copy, Debug, Error)]
 pub enum PolicyFault<'a> {
     #[error("out of memory")]

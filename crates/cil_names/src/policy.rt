@@ -95,7 +95,7 @@ impl<'j, 'a, A: Allocator + Copy> Policy<'j, 'a, A> {
 }
 
 impl<'j, 'a, A: Allocator + Copy> Policy<'j, 'a, A> {
-    /// The policy of the statements that stand in kept optionals alone, or in none. A fault is want of memory.
+    /// The policy of the statements that stand in kept optionals alone, or in none. A fault is out of memory.
     pub fn restrict(self, alloc: A, kept: &[bool]) -> Result<Self, PolicyFault<'a>>
         requires sound { IsSound self }
         requires apart { AreApart (policy_in self) }

@@ -24,7 +24,7 @@ use crate::resolution::Resolution;
 use crate::resolved::Resolved;
 use std::alloc::Allocator;
 
-/// The policy of modules without the optionals that drop, and these. A fault is want of memory, or a name that is declared twice,
+/// The policy of modules without the optionals that drop, and these. A fault is out of memory, or a name that is declared twice,
 /// also one in an optional that drops.
 fn judged<'j, 'a, A: Allocator + Copy>(
     alloc: A,

@@ -60,7 +60,7 @@ abbrev pub dropped_of : Optionals → List Placed → List Declared
 dropped_of kept policy = flat_map (λ s. if is_optional s.form && not (kept s.module_name s.at.offset) then declared_as scopes s ∷ [] else []) policy
 
 -- Where faults of a kind are looked for: names that are declared twice in the whole policy, whatever it keeps; all others among
--- the statements in kept optionals alone.
+-- the statements all of whose optionals are kept, those outside optionals too.
 abbrev pub judged : PolicyFaultKind → Optionals → List Placed → List Placed
 judged twice kept policy = policy
 judged _ kept policy = restricted kept policy

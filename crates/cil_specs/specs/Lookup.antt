@@ -53,7 +53,7 @@ block_name _ = None
 abbrev pub is_block : List (List ℕ) → List ℕ → Placed → Bool
 is_block namespace name s = is_word name (block_name s.form) && same_namespace s.namespace namespace
 
--- whether a namespace has a block of this name; blocks stand in no optionals
+-- whether a namespace has a block of this name
 abbrev pub has_block : List Placed → List (List ℕ) → List ℕ → Bool
 has_block policy namespace name = list_any (is_block namespace name) policy
 

@@ -26,7 +26,7 @@ meaning_of statements dropped = record {
   dropped = dropped;
 }
 
--- The policy keeps these optionals and compiles, and its statements in them mean this.
+-- The policy keeps these optionals and compiles, and the statements all of whose optionals are kept mean this.
 pub record Means (policy : List Placed) (kept : Optionals) (meaning : Meaning) : Type 0 where
   pub are_kept : AreKept policy kept
   pub compiles : Compiles kept policy

@@ -107,7 +107,7 @@ pub record IsFirstAttributeFault (policy : List Placed) (fault : PolicyFault) : 
   pub is : IsAttributeFault policy fault
   pub first : (other : PolicyFault) → IsAttributeFault policy other → policy_fault.IsNoLater fault other
 
--- a policy without them
+-- a policy in which no rule names an attribute
 abbrev pub HasTypesAlone : List Placed → Type 0
 HasTypesAlone policy = (fault : PolicyFault) → IsAttributeFault policy fault → ⊥
 
@@ -120,7 +120,7 @@ pub data IsRefusedFor (kept : Optionals) (policy : List Placed) (fault : PolicyF
 abbrev pub IsPolicyFaultOf : List Placed → PolicyFault → Type 0
 IsPolicyFaultOf policy fault = (kept : Optionals) × AreKept policy kept × IsRefusedFor kept policy fault
 
--- What a store means, whose policy has no such rule.
+-- What a store means, in whose policy no kept rule names an attribute.
 pub record IsMeaningOf (store : Store) (meaning : Meaning) : Type 0 where
   pub policy : List Placed
   pub kept : Optionals
@@ -175,7 +175,7 @@ pub data IsNotTaken (store : Store) (edit : Edit) (refusal : Refusal) : Type 0 w
   by_itself : store_refusal store edit ≡ Some refusal → IsNotTaken store edit refusal
   by_its_text : store_refusal store edit ≡ None → IsTextRefusal edit refusal → IsNotTaken store edit refusal
 
--- An edit is taken, as neither is against it: its entry is put.
+-- An edit is taken where the store doesn't refuse it and its text spells a module: its entry is put.
 pub record IsTaken (store : Store) (edit : Edit) (new : Store) : Type 0 where
   pub not_refused : store_refusal store edit ≡ None
   pub good_text : HasGoodText edit
@@ -191,8 +191,8 @@ pub data Judgement : Type 0 where
   accepts : Store → Judgement
   refuses : Refusal → Judgement
 
--- What is judged of an edit: it is not taken; or else the policy of the store that it leads to is refused; or else that store is
--- accepted, and means something.
+-- What is judged of an edit: it is not taken; or else the policy of the store that it leads to is refused; or else that store,
+-- which has a meaning, is accepted.
 pub data Next (store : Store) (edit : Edit) (judgement : Judgement) : Type 0 where
   not_taken : (refusal : Refusal) → IsNotTaken store edit refusal → judgement ≡ refuses refusal → Next store edit judgement
   bad_policy : (new : Store) (refusal : Refusal) → IsTaken store edit new → IsPolicyRefusal new refusal → judgement ≡ refuses refusal → Next store edit judgement

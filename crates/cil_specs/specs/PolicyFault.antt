@@ -45,7 +45,7 @@ is_again table s id earlier = declares table s.namespace id.text earlier && not 
 abbrev pub tables : List Table
 tables = types ∷ classes ∷ commons ∷ scopes ∷ []
 
--- the name that a statement declares and that a statement before it declares already, in an optional that drops too
+-- the name that a statement declares and that a statement before it declares already
 abbrev pub twice_words : List Placed → Placed → List Word
 twice_words before s = flat_map (λ table. filter (λ id. list_any (is_again table s id) before) (option_to_list (declared_in table s.form))) tables
 
@@ -121,6 +121,7 @@ has_too_many policy s = nat_lt 32 (length (distinct (permissions_of policy s)))
 abbrev pub too_many_words : List Placed → Placed → List Word
 too_many_words policy s = filter (λ id. has_too_many policy s) (option_to_list (declared_in classes s.form))
 
+-- whether no optionals are around a statement
 abbrev pub is_outside : List ℕ → Bool
 is_outside [] = true
 is_outside (at ∷ optionals) = false

@@ -76,7 +76,7 @@ abbrev pub shown : ShownWord → List ℕ
 shown (Byte b) = hex b
 shown (Text text) = text.now
 
--- The fault is none but want of memory, or P holds of it.
+-- The fault is none but out of memory, or P holds of it.
 abbrev pub FaultIs : TextFault → (spec_faults.TextFault → Type 0) → Type 0
 FaultIs Memory P = Unit {0}
 FaultIs (Found kind at word) P = P (record { kind = kind_of kind; at = place_of at; word = shown word })

@@ -51,7 +51,7 @@ pub enum ShownWord<'a> {
     Text(&'a [u8]),
 }
 
-/// Why a text was not read or recognised: want of memory, or what is wrong and where and the word that shows it.
+/// Why a text was not read or recognised: out of memory, or what is wrong and where and the word that shows it.
 #[derive(Clone, Copy, Debug, Error)]
 pub enum TextFault<'a> {
     #[error("out of memory")]
