@@ -13,7 +13,7 @@ use Rattle.cil_parse.specs.declared.row.StatementKind.{StatementKind}
 use Rattle.cil_parse.specs.declared.row.StatementKind.TheVariants as kinds
 
 -- the nodes of an expression, each in front of those of its operands
-abbrev pub expr_nodes : exprs.Expr → List SetNode
+abbrev pub expr_nodes : exprs.WordExpr → List SetNode
 expr_nodes every = nodes.All ∷ []
 expr_nodes (named word) = nodes.Name ∷ []
 expr_nodes (opposite x) = nodes.Not ∷ expr_nodes x
