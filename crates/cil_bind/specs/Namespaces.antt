@@ -1,0 +1,23 @@
+-- Namespaces by numbers: a namespace is the numbers of the words of the blocks around it, the innermost first.
+use Rattle.std.specs.Prelude.{◌≤◌, ◌<◌, ◌^◌, ℕ, ◌+◌, List, [], ◌∷◌, ◌++◌, fold, length, slice_index_or, bytes_eq}
+use Rattle.std.specs.List.{IsDistinct}
+use Rattle.cil_bind.specs.declared.namespaces.Block.{Block}
+
+-- the namespaces with that of one more block, last
+abbrev pub with_block : List (List ℕ) → Block → List (List ℕ)
+with_block spaces block = spaces ++ (block.word ∷ slice_index_or spaces block.outer []) ∷ []
+
+-- the global namespace, and then that of each block
+abbrev pub spaces_of : List Block → List (List ℕ)
+spaces_of blocks = fold with_block ([] ∷ []) blocks
+
+-- each block stands in a namespace in front of its own
+abbrev pub AreInside : ℕ → List Block → Type 0
+AreInside count [] = Unit {0}
+AreInside count (block ∷ blocks) = (block.outer + 1 ≤ count) × AreInside (count + 1) blocks
+
+-- each block stands in a namespace in front of its own, no two namespaces are one, and each has a number
+pub record AreSpaces (blocks : List Block) : Type 0 where
+  pub inside : AreInside 1 blocks
+  pub distinct : IsDistinct bytes_eq (spaces_of blocks)
+  pub few : length blocks + 1 < 2 ^ 32
