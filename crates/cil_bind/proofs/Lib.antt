@@ -1,1 +1,3 @@
 pub mod NamespaceLemmas
+pub mod NameLemmas
+pub mod LookupLemmas

@@ -39,10 +39,10 @@ impl<'m, A: Allocator + Copy> Names<'m, A> {
         ensures distinct { IfOk result (λ n. IsDistinct bytes_eq self.new) }
     {
         let (index, _new) = self.words.insert_full(word)?;
-        match u32::try_from(index) {
-            Ok(number) => Ok(number),
-            Err(_) => Err(AllocError),
+        if index > 0xFFFF_FFFF {
+            return Err(AllocError);
         }
+        Ok(index as u32)
     }
 }
 
