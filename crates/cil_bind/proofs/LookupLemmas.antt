@@ -1,18 +1,18 @@
 -- What look-ups by numbers find is what the definitions lead to.
-use Rattle.std.proofs.Common.{◌≡◌, ◌⊎◌, inl, inr, ℕ, zero, suc, ◌+◌, ◌<◌, ◌≤◌, ◌==◌, Bool, true, false, not, ◌&&◌, cond, List, [], ◌∷◌, map, length, get_or, drop, slice_get, Option, Some, None, IfSome, All, position, nat_eq, nat_lt, Contains, refl, sym, ap, ◌∙◌, subst, arith, true≢false, add-one, drop-cons, if◌then◌else◌}
+use Rattle.std.proofs.Common.{◌≡◌, ◌⊎◌, inl, inr, ℕ, zero, suc, ◌+◌, ◌<◌, ◌≤◌, ◌==◌, Bool, true, false, not, ◌&&◌, cond, List, [], ◌∷◌, map, length, get_or, drop, slice_get, Option, Some, None, IfSome, IfNone, is_some, All, position, nat_eq, nat_lt, Contains, refl, sym, ap, ◌∙◌, subst, arith, true≢false, add-one, drop-cons, if◌then◌else◌}
 use Rattle.std.specs.List.{find, position_or_len, AllByRecursion}
 use Rattle.std.specs.Map.{lookup}
 use Rattle.std.specs.Option.{option_or, option_and_then}
-use Rattle.std.proofs.lemmas.Bool.{cases_lt}
+use Rattle.std.proofs.lemmas.Bool.{cases_lt, eqb-true}
 use Rattle.std.proofs.lemmas.Bool.Decides.{Decides-ltb}
 use Rattle.std.proofs.lemmas.List.{get_or_default, length-map}
 use Rattle.std.proofs.lemmas.List.Elements.{Contains-get_or}
 use Rattle.std.proofs.lemmas.List.Folds.{find_at}
 use Rattle.std.proofs.lemmas.List.Quantifiers.{position-Some}
 use Rattle.std.proofs.lemmas.Option.{slice_get_past, slice_get_cases, get_or_from_slice_get, none-some}
-use Rattle.cil_specs.specs.Names.{Word}
+use Rattle.cil_specs.specs.Names.{Word, components}
 use Rattle.cil_specs.specs.Joined.{Placed}
-use Rattle.cil_specs.specs.Lookup.{Table, declared_in, is_word, declares, is_same, same_namespace, declaration, has_block, outward, nearest_block, inside, from_namespace, word_text}
+use Rattle.cil_specs.specs.Lookup.{Table, declared_in, is_word, declares, is_same, same_namespace, declaration, has_block, outward, nearest_block, inside, from_namespace, leads, is_global, word_text}
 use Rattle.cil_specs.proofs.Runs.{first_true, second_true}
 use Rattle.cil_specs.proofs.DeclaredLemmas.{one-namespace}
 use Rattle.cil_bind.specs.Lookup.{word_at, named, namespace_at, path_of, table_of, table_index, is_key, HaveDeclared, AreOpened, Knows, IsFirstOf, IsLead, AreWithin}
@@ -226,3 +226,38 @@ inside-end table policy names namespace words path i le = ap (λ l. inside polic
     past [] (suc n) le = refl
     past (x ∷ xs) zero le = absurd (omega arith)
     past (x ∷ xs) (suc n) le = past xs n (omega arith)
+
+-- a path of one name, and one of more
+pub from-one : (table : Table) (policy : List Placed) (names namespace : List (List ℕ)) (words path : List ℕ) (k : ℕ) (rest : List ℕ) → path ≡ k ∷ rest → (length rest == 0) ≡ true
+    → from_namespace policy table namespace (path_of names words path) ≡ outward policy table namespace (word_at names (get_or words k 0))
+from-one table policy names namespace words path k [] e empty = ap (λ p. from_namespace policy table namespace (path_of names words p)) e
+from-one table policy names namespace words path k (x ∷ rest) e empty = absurd (let z : suc (length rest) ≡ 0 = eqb-true (suc (length rest)) 0 empty in omega arith)
+
+pub from-more : (table : Table) (policy : List Placed) (names namespace : List (List ℕ)) (words path : List ℕ) (k : ℕ) (rest : List ℕ) → path ≡ k ∷ rest → (length rest == 0) ≡ false
+    → from_namespace policy table namespace (path_of names words path)
+    ≡ option_and_then (λ inner. inside policy table inner (path_of names words rest)) (nearest_block policy namespace (word_at names (get_or words k 0)))
+from-more table policy names namespace words path k [] e empty = absurd (true≢false empty)
+from-more table policy names namespace words path k (x ∷ rest) e empty = ap (λ p. from_namespace policy table namespace (path_of names words p)) e
+
+-- what holds of a path holds of its first name and of the rest
+pub path-first : (words path : List ℕ) (k : ℕ) (rest : List ℕ) → path ≡ k ∷ rest → All (λ j. j < length words) path → k < length words
+path-first words path k rest e all = subst (All (λ j. j < length words)) e all 0 0 (omega arith)
+
+pub path-rest : (words path : List ℕ) (k : ℕ) (rest : List ℕ) → path ≡ k ∷ rest → All (λ j. j < length words) path → All (λ j. j < length words) rest
+path-rest words path k rest e all = λ i d low. subst (All (λ j. j < length words)) e all (suc i) d (omega arith)
+
+-- a reference with a leading dot, and one without
+pub leads-global : (table : Table) (policy : List Placed) (namespace : List (List ℕ)) (text : List ℕ) (names : List (List ℕ)) → is_global text ≡ true → components text ≡ names
+    → leads policy table namespace text ≡ inside policy table [] names
+leads-global table policy namespace text names is parts =
+    ap (λ b. if b then inside policy table [] (components text) else from_namespace policy table namespace (components text)) is ∙ ap (inside policy table []) parts
+
+pub leads-local : (table : Table) (policy : List Placed) (namespace : List (List ℕ)) (text : List ℕ) (names : List (List ℕ)) → is_global text ≡ false → components text ≡ names
+    → leads policy table namespace text ≡ from_namespace policy table namespace names
+leads-local table policy namespace text names is parts =
+    ap (λ b. if b then inside policy table [] (components text) else from_namespace policy table namespace (components text)) is ∙ ap (from_namespace policy table namespace) parts
+
+-- what holds where nothing was found
+pub none-fact : {P : Type 0} (o : Option ℕ) → is_some o ≡ false → IfNone o P → P
+none-fact None e h = h
+none-fact (Some n) e h = absurd (true≢false e)

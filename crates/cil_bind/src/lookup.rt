@@ -2,7 +2,8 @@
 
 ghost use Rattle.std.specs.Prelude.{◌≡◌, ◌<◌, ◌∷◌, ℕ, List, [], Some, None, All, length, slice_index_or, IfSome, IfNone, if◌then◌else◌};
 ghost use Rattle.cil_specs.specs.Joined.{Placed};
-ghost use Rattle.cil_specs.specs.Lookup.{declaration, outward as looked_outward, nearest_block as nearest, inside as looked_inside, from_namespace};
+ghost use Rattle.cil_specs.specs.Lookup.{declaration, outward as looked_outward, nearest_block as nearest, inside as looked_inside, from_namespace as looked_from, leads as looked, is_global};
+ghost use Rattle.cil_specs.specs.Names.{components};
 ghost use Rattle.cil_bind.specs.Lookup.{word_at, namespace_at, path_of, table_of, Knows, IsLead, AreWithin};
 
 use crate::namespaces::Namespaces;
@@ -83,12 +84,56 @@ impl<A: Allocator> Lookup<A> {
             → IsLead (table_of table) policy result (looked_inside policy (table_of table) (namespace_at names self.now.namespaces namespace) (path_of names words.now path.now)) }
     {
         let mut at = namespace;
-        let mut i = 0;
-        while i + 1 < path.len() {
+        let last = path.len().checked_sub(1)?;
+        for i in 0..last {
             at = self.namespaces.block(at, words[path[i] as usize])?;
-            i += 1;
         }
-        let last = path.get(i)?;
-        self.declaration(table, at, words[*last as usize])
+        self.declaration(table, at, words[path[last] as usize])
+    }
+
+    /// Where names between dots lead from a namespace.
+    pub fn from_namespace(
+        &self,
+        table: Table,
+        namespace: u32,
+        path: &[u32],
+        words: &[u32],
+    ) -> Option<u32>
+        requires within { namespace < length self.now.namespaces }
+        requires path { All (λ k. k < length words.now) path.now }
+        ensures { (names : List (List ℕ)) (policy : List Placed) → Knows self.now.namespaces self.now.declared.entries names policy → AreWithin names words.now
+            → IsLead (table_of table) policy result (looked_from policy (table_of table) (namespace_at names self.now.namespaces namespace) (path_of names words.now path.now)) }
+    {
+        let (first, rest) = path.split_first()?;
+        let word = words[*first as usize];
+        if rest.is_empty() {
+            return self.outward(table, namespace, word);
+        }
+        let inner = self.nearest_block(namespace, word)?;
+        self.inside(table, inner, rest, words)
+    }
+
+    /// Where a reference leads from a namespace: the place of the statement that declares it first. A reference that is global,
+    /// with a leading dot, is looked up in the global namespace alone.
+    pub fn leads(
+        &self,
+        table: Table,
+        namespace: u32,
+        global: bool,
+        path: &[u32],
+        words: &[u32],
+    ) -> Option<u32>
+        requires within { namespace < length self.now.namespaces }
+        requires path { All (λ k. k < length words.now) path.now }
+        ensures { (names : List (List ℕ)) (policy : List Placed) → Knows self.now.namespaces self.now.declared.entries names policy → AreWithin names words.now
+            → (text : List ℕ) → is_global text ≡ global → components text ≡ path_of names words.now path.now
+            → IsLead (table_of table) policy result (looked policy (table_of table) (namespace_at names self.now.namespaces namespace) text) }
+    {
+        prove!(self.namespaces.outer(0).is_none());
+        if global {
+            self.inside(table, 0, path, words)
+        } else {
+            self.from_namespace(table, namespace, path, words)
+        }
     }
 }

@@ -4,13 +4,11 @@ use Rattle.cil_specs.specs.Lookup.{inside}
 use Rattle.cil_bind.specs.Lookup.{namespace_at, path_of, table_of, Knows, AreWithin}
 use Rattle.cil_bind.proofs.lookup.Lookup.inside.Given as goal
 
-abbrev pub invariant-loop-at : goal.invariant-loop-at
-invariant-loop-at g l = record {
+abbrev pub invariant-loop-i : goal.invariant-loop-i
+invariant-loop-i g l = record {
   within : l.at < length l.self.namespaces;
   left : (names : List (List ℕ)) (policy : List Placed) → Knows l.self.namespaces l.self.declared.entries names policy → AreWithin names l.words
       → inside policy (table_of l.table) (namespace_at names l.self.namespaces l.fn.namespace) (path_of names l.words l.path)
       ≡ inside policy (table_of l.table) (namespace_at names l.self.namespaces l.at) (path_of names l.words (drop l.i l.path));
 }
 
-abbrev pub decreases-loop-at : goal.decreases-loop-at
-decreases-loop-at g l = length l.path - l.i
