@@ -1,3 +1,5 @@
 pub mod NamespaceLemmas
 pub mod NameLemmas
 pub mod LookupLemmas
+pub mod PositionLemmas
+pub mod DeclareLemmas

@@ -1,2 +1,3 @@
 pub mod Namespaces
 pub mod Lookup
+pub mod Rows
