@@ -1,5 +1,5 @@
 -- The accesses that numbered rules give, against those that the rules give by names.
-use Rattle.std.proofs.Common.{◌≡◌, ℕ, ◌<◌, ◌&&◌, ◌==◌, List, [], ◌∷◌, length, map, Bool, false, true≢false, refl, sym, subst, ◌∙◌, eq-eqb}
+use Rattle.std.proofs.Common.{◌≡◌, ℕ, ◌<◌, ◌&&◌, ◌==◌, List, [], ◌∷◌, length, map, count_by, Bool, false, true≢false, refl, sym, subst, ◌∙◌, eq-eqb}
 use Rattle.std.specs.Bool.{IsTrue}
 use Rattle.std.specs.Prelude.{nat_lt, bytes_eq, ◌↔◌}
 use Rattle.std.specs.List.{All, AllByRecursion, Contains, flat_map, list_all, list_any}
@@ -8,7 +8,8 @@ use Rattle.std.specs.Cmp.Lexicographic.{bytes_decides}
 use Rattle.std.proofs.lemmas.Bool.{and_parts, and_from, ltb-true, eqb-true}
 use Rattle.std.proofs.lemmas.List.Elements.{All-from_recursion, All-contains, All-append}
 use Rattle.cil_specs.specs.Rule as spec
-use Rattle.cil_specs.specs.Rule.{kind_index, holds, aims, gives, is_in_table}
+use Rattle.cil_specs.specs.Rule.{kind_index}
+use Rattle.cil_specs.specs.Meaning.{Meaning, holds, aims, gives, is_in_table}
 use Rattle.cil_specs.specs.Report.{AreAtoms, names_rise}
 use Rattle.cil_specs.proofs.ReportLemmas.{same-kind}
 use Rattle.cil_specs.proofs.ReportLemmasMembers.{AnyByRecursion, any_to, any_from, contains_to, contains_from, any_weaker, any-map, any_from_map, any-flat_map, any_from_flat_map, any_from_test, test_from_any, counted_from_any, any_from_counted, any_along, all_from_contains}
@@ -62,45 +63,45 @@ bytes-same : (xs : List ℕ) → IsTrue (bytes_eq xs xs)
 bytes-same xs = (bytes_decides xs xs).1 refl
 
 -- whether a rule gives an access from a source to a target
-abbrev gives_between : {A : Type 0} → List (List ℕ) → NumberedRule A → Element → Aim → spec.Atom → Bool
-gives_between names r source target a =
-    (kind_index (rule_kind_of r.kind) == kind_index a.kind) && (holds (element_of names source) a.source && (aims (aim_of names target) a.source a.target
+abbrev gives_between : {A : Type 0} → Meaning → List (List ℕ) → NumberedRule A → Element → Aim → spec.Atom → Bool
+gives_between meaning names r source target a =
+    (kind_index (rule_kind_of r.kind) == kind_index a.kind) && (holds meaning (element_of names source) a.source && (aims meaning (aim_of names target) a.source a.target
     && (bytes_eq (name_at names r.class) a.the_class && list_any (bytes_eq a.permission) (map (name_at names) r.permissions.items))))
 
 -- it gives the accesses that its numbers stand for
-gives-types : {A : Type 0} (names : List (List ℕ)) (r : NumberedRule A) (source : ℕ) (aim : Aim) (target : ℕ) (a : spec.Atom) → IsTrue (aims (aim_of names aim) (name_at names source) (name_at names target))
-    → AnyByRecursion (λ p. atom_at names (given_for r source target p) ≡ a) r.permissions.items → IsTrue (gives_between names r («Type» source) aim a)
-gives-types names r source aim target a aimed here =
+gives-types : {A : Type 0} (meaning : Meaning) (names : List (List ℕ)) (r : NumberedRule A) (source : ℕ) (aim : Aim) (target : ℕ) (a : spec.Atom) → IsTrue (aims meaning (aim_of names aim) (name_at names source) (name_at names target))
+    → AnyByRecursion (λ p. atom_at names (given_for r source target p) ≡ a) r.permissions.items → IsTrue (gives_between meaning names r («Type» source) aim a)
+gives-types meaning names r source aim target a aimed here =
     let (k, p, within, is, same) = any_from (λ p. atom_at names (given_for r source target p) ≡ a) r.permissions.items here in
     let held : AnyByRecursion (λ q. IsTrue (bytes_eq (name_at names p) q)) (map (name_at names) r.permissions.items) =
     any-map (name_at names) (λ q. IsTrue (bytes_eq (name_at names p) q)) r.permissions.items
     (any_to (λ q. IsTrue (bytes_eq (name_at names p) (name_at names q))) r.permissions.items (k, p, within, is, bytes-same (name_at names p))) in
-    subst (λ x. IsTrue (gives_between names r («Type» source) aim x)) same
+    subst (λ x. IsTrue (gives_between meaning names r («Type» source) aim x)) same
     (and_from _ _ (eq-eqb (kind_index (rule_kind_of r.kind)) (kind_index (rule_kind_of r.kind)) refl)
     (and_from _ _ (bytes-same (name_at names source))
     (and_from _ _ aimed
     (and_from _ _ (bytes-same (name_at names r.class)) (test_from_any (bytes_eq (name_at names p)) (map (name_at names) r.permissions.items) held)))))
 
-gives-between : {A : Type 0} (names : List (List ℕ)) (r : NumberedRule A) (source : Element) (target : Aim) (a : spec.Atom) → AnyByRecursion (λ n. atom_at names n ≡ a) (given_between r source target)
-    → IsTrue (gives_between names r source target a)
-gives-between names r («Type» source) targets.Itself a some =
-    gives-types names r source targets.Itself source a (bytes-same (name_at names source)) (any_from_map (given_for r source source) (λ n. atom_at names n ≡ a) r.permissions.items some)
-gives-between names r («Type» source) (targets.Element («Type» target)) a some =
-    gives-types names r source (targets.Element («Type» target)) target a (bytes-same (name_at names target)) (any_from_map (given_for r source target) (λ n. atom_at names n ≡ a) r.permissions.items some)
-gives-between names r («Type» source) (targets.Element (Attribute target)) a some = absurd some
-gives-between names r (Attribute source) target a some = absurd some
+gives-between : {A : Type 0} (meaning : Meaning) (names : List (List ℕ)) (r : NumberedRule A) (source : Element) (target : Aim) (a : spec.Atom) → AnyByRecursion (λ n. atom_at names n ≡ a) (given_between r source target)
+    → IsTrue (gives_between meaning names r source target a)
+gives-between meaning names r («Type» source) targets.Itself a some =
+    gives-types meaning names r source targets.Itself source a (bytes-same (name_at names source)) (any_from_map (given_for r source source) (λ n. atom_at names n ≡ a) r.permissions.items some)
+gives-between meaning names r («Type» source) (targets.Element («Type» target)) a some =
+    gives-types meaning names r source (targets.Element («Type» target)) target a (bytes-same (name_at names target)) (any_from_map (given_for r source target) (λ n. atom_at names n ≡ a) r.permissions.items some)
+gives-between meaning names r («Type» source) (targets.Element (Attribute target)) a some = absurd some
+gives-between meaning names r (Attribute source) target a some = absurd some
 
-gives-from_given : {A : Type 0} (modules names : List (List ℕ)) (r : NumberedRule A) (a : spec.Atom) → AnyByRecursion (λ n. atom_at names n ≡ a) (given r) → IsTrue (gives (rule_of modules names r) a)
-gives-from_given modules names r a some = gives-between names r r.source r.target a some
+gives-from_given : {A : Type 0} (meaning : Meaning) (modules names : List (List ℕ)) (r : NumberedRule A) (a : spec.Atom) → AnyByRecursion (λ n. atom_at names n ≡ a) (given r) → IsTrue (gives meaning (rule_of modules names r) a)
+gives-from_given meaning modules names r a some = gives-between meaning names r r.source r.target a some
 
 -- and no other
-given-types : {A : Type 0} (names : List (List ℕ)) (r : NumberedRule A) (from : ℕ) (aim : Aim) (to : ℕ) (a : spec.Atom)
-    → (name_at names from ≡ a.source → IsTrue (aims (aim_of names aim) a.source a.target) → name_at names to ≡ a.target) → IsTrue (gives_between names r («Type» from) aim a)
+given-types : {A : Type 0} (meaning : Meaning) (names : List (List ℕ)) (r : NumberedRule A) (from : ℕ) (aim : Aim) (to : ℕ) (a : spec.Atom)
+    → (name_at names from ≡ a.source → IsTrue (aims meaning (aim_of names aim) a.source a.target) → name_at names to ≡ a.target) → IsTrue (gives_between meaning names r («Type» from) aim a)
     → AnyByRecursion (λ n. atom_at names n ≡ a) (map (given_for r from to) r.permissions.items)
-given-types names r from aim to a aimed h =
+given-types meaning names r from aim to a aimed h =
     let kinds = and_parts (kind_index (rule_kind_of r.kind) == kind_index a.kind) _ h in
     let sources = and_parts (bytes_eq (name_at names from) a.source) _ kinds.1 in
-    let others = and_parts (aims (aim_of names aim) a.source a.target) _ sources.1 in
+    let others = and_parts (aims meaning (aim_of names aim) a.source a.target) _ sources.1 in
     let classes = and_parts (bytes_eq (name_at names r.class) a.the_class) _ others.1 in
     let kind : rule_kind_of r.kind ≡ a.kind = same-kind (rule_kind_of r.kind) a.kind (eqb-true _ _ kinds.0) in
     let source : name_at names from ≡ a.source = (bytes_decides (name_at names from) a.source).0 sources.0 in
@@ -113,35 +114,36 @@ given-types names r from aim to a aimed h =
     (λ p e. let permission : name_at names p ≡ a.permission = sym ((bytes_decides a.permission (name_at names p)).0 e) in
     λ i. record { kind = kind i; source = source i; target = target i; the_class = the_class i; permission = permission i }) r.permissions.items held)
 
-given-between : {A : Type 0} (names : List (List ℕ)) (r : NumberedRule A) (source : Element) (target : Aim) (a : spec.Atom) → IsTrue (gives_between names r source target a)
+given-between : {A : Type 0} (meaning : Meaning) (names : List (List ℕ)) (r : NumberedRule A) (source : Element) (target : Aim) (a : spec.Atom) → IsTrue (gives_between meaning names r source target a)
     → AnyByRecursion (λ n. atom_at names n ≡ a) (given_between r source target)
-given-between names r («Type» source) targets.Itself a h = given-types names r source targets.Itself source a (λ is same. is ∙ (bytes_decides a.source a.target).0 same) h
-given-between names r («Type» source) (targets.Element («Type» target)) a h =
-    given-types names r source (targets.Element («Type» target)) target a (λ is same. (bytes_decides (name_at names target) a.target).0 same) h
-given-between names r («Type» source) (targets.Element (Attribute target)) a h =
+given-between meaning names r («Type» source) targets.Itself a h = given-types meaning names r source targets.Itself source a (λ is same. is ∙ (bytes_decides a.source a.target).0 same) h
+given-between meaning names r («Type» source) (targets.Element («Type» target)) a h =
+    given-types meaning names r source (targets.Element («Type» target)) target a (λ is same. (bytes_decides (name_at names target) a.target).0 same) h
+given-between meaning names r («Type» source) (targets.Element (Attribute target)) a h =
     let sources = and_parts (kind_index (rule_kind_of r.kind) == kind_index a.kind) _ h in
     absurd (true≢false (sym (and_parts (bytes_eq (name_at names source) a.source) false sources.1).1))
-given-between names r (Attribute source) target a h = absurd (true≢false (sym (and_parts (kind_index (rule_kind_of r.kind) == kind_index a.kind) false h).1))
+given-between meaning names r (Attribute source) target a h = absurd (true≢false (sym (and_parts (kind_index (rule_kind_of r.kind) == kind_index a.kind) false h).1))
 
-given-from_gives : {A : Type 0} (modules names : List (List ℕ)) (r : NumberedRule A) (a : spec.Atom) → IsTrue (gives (rule_of modules names r) a) → AnyByRecursion (λ n. atom_at names n ≡ a) (given r)
-given-from_gives modules names r a h = given-between names r r.source r.target a h
+given-from_gives : {A : Type 0} (meaning : Meaning) (modules names : List (List ℕ)) (r : NumberedRule A) (a : spec.Atom) → IsTrue (gives meaning (rule_of modules names r) a) → AnyByRecursion (λ n. atom_at names n ≡ a) (given r)
+given-from_gives meaning modules names r a h = given-between meaning names r r.source r.target a h
 
 -- the accesses of rules, each once and in order, are the table of the rules
-pub table-from_given : {A : Type 0} (modules names : List (List ℕ)) (rules : List (NumberedRule A)) (atoms : List AtomNumbers) → ((n : AtomNumbers) → Contains atoms n ↔ Contains (flat_map given rules) n)
-    → AreNumbered names atoms → AreAtoms (is_in_table (map (rule_of modules names) rules)) (map (atom_at names) atoms)
-table-from_given modules names rules atoms same are = record {
+pub table-from_given : {A : Type 0} (meaning : Meaning) (modules names : List (List ℕ)) (rules : List (NumberedRule A)) (atoms : List AtomNumbers) → meaning.rules ≡ map (rule_of modules names) rules
+    → ((n : AtomNumbers) → Contains atoms n ↔ Contains (flat_map given rules) n) → AreNumbered names atoms → AreAtoms (is_in_table meaning) (map (atom_at names) atoms)
+table-from_given meaning modules names rules atoms is same are = record {
   ordered = atoms-ordered names atoms are;
   exact = λ a. (
     λ h.
         let numbered = any_from_map (atom_at names) (λ b. b ≡ a) atoms (contains_to (map (atom_at names) atoms) a h) in
         let given' = any_along (λ n. atom_at names n ≡ a) atoms (flat_map given rules) (λ n. (same n).0) numbered in
         let by_rule = any_from_flat_map given (λ n. atom_at names n ≡ a) rules given' in
-        counted_from_any (λ r. gives r a) (map (rule_of modules names) rules)
-        (any-map (rule_of modules names) (λ r. IsTrue (gives r a)) rules
-        (any_weaker (λ r. AnyByRecursion (λ n. atom_at names n ≡ a) (given r)) (λ r. IsTrue (gives (rule_of modules names r) a)) (λ r. gives-from_given modules names r a) rules by_rule)),
+        subst (λ rs. IsTrue (nat_lt 0 (count_by (λ r. gives meaning r a) rs))) (sym is)
+        (counted_from_any (λ r. gives meaning r a) (map (rule_of modules names) rules)
+        (any-map (rule_of modules names) (λ r. IsTrue (gives meaning r a)) rules
+        (any_weaker (λ r. AnyByRecursion (λ n. atom_at names n ≡ a) (given r)) (λ r. IsTrue (gives meaning (rule_of modules names r) a)) (λ r. gives-from_given meaning modules names r a) rules by_rule))),
     λ h.
-        let by_rule = any_from_map (rule_of modules names) (λ r. IsTrue (gives r a)) rules (any_from_counted (λ r. gives r a) (map (rule_of modules names) rules) h) in
-        let given' = any_weaker (λ r. IsTrue (gives (rule_of modules names r) a)) (λ r. AnyByRecursion (λ n. atom_at names n ≡ a) (given r)) (λ r. given-from_gives modules names r a) rules by_rule in
+        let by_rule = any_from_map (rule_of modules names) (λ r. IsTrue (gives meaning r a)) rules (any_from_counted (λ r. gives meaning r a) (map (rule_of modules names) rules) (subst (λ rs. IsTrue (nat_lt 0 (count_by (λ r. gives meaning r a) rs))) is h)) in
+        let given' = any_weaker (λ r. IsTrue (gives meaning (rule_of modules names r) a)) (λ r. AnyByRecursion (λ n. atom_at names n ≡ a) (given r)) (λ r. given-from_gives meaning modules names r a) rules by_rule in
         let numbered = any_along (λ n. atom_at names n ≡ a) (flat_map given rules) atoms (λ n. (same n).1) (any-flat_map given (λ n. atom_at names n ≡ a) rules given') in
         contains_from (map (atom_at names) atoms) a (any-map (atom_at names) (λ b. b ≡ a) atoms numbered),
   );

@@ -3,10 +3,10 @@
 ghost use Rattle.std.specs.Prelude.{◌≡◌, ◌≤◌, ◌==◌, Bool, List, [], length, slice_get, option_map, IfOk, OnErr};
 ghost use Rattle.std.specs.List.{flat_map};
 ghost use Rattle.cil_specs.specs.Rule as spec;
-ghost use Rattle.cil_specs.specs.Rule.{is_in_table};
+ghost use Rattle.cil_specs.specs.Meaning.{is_in_table};
 ghost use Rattle.cil_specs.specs.Report.{AreAtoms, Row, AreRows, row_line};
 ghost use Rattle.cil_specs.specs.Device.{HasFailed, Gains, GainsFront};
-ghost use Rattle.cil_names.specs.Resolved.{rules_in};
+ghost use Rattle.cil_names.specs.Resolved.{meaning_in};
 ghost use Rattle.cil_rules.specs.Atoms.{atom_of};
 
 use crate::atom::Atom;
@@ -52,7 +52,7 @@ impl<A: Allocator + Copy> Table<A> {
 
     /// The table of the rules of a policy, whose names it keeps.
     pub fn of(alloc: A, resolved: Resolved<A>) -> Result<Self, AllocError>
-        ensures { IfOk result (λ table. AreAtoms (is_in_table (rules_in resolved)) table) }
+        ensures { IfOk result (λ table. AreAtoms (is_in_table (meaning_in resolved)) table) }
     {
         let mut atoms = collect(alloc, resolved.rules())?;
         sort_distinct(&mut atoms);

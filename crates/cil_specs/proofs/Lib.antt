@@ -26,3 +26,9 @@ pub mod OnceLemmas
 pub mod GrowsLemmas
 pub mod KeptLemmas
 pub mod DeclaredLemmas
+pub mod UnsupportedOrder
+pub mod OneText
+pub mod FaultWords
+pub mod OneFault
+pub mod OneStore
+pub mod StoreOrder

@@ -161,11 +161,11 @@ word_list_rises : (ws : List Word) (trees : Trees) (low high : ℕ) → IsWordLi
 word_list_rises ws trees low high h order =
     rise_end low (map offset_of ws) high (rise_list low h.0 h.1 (all_words ws) none high (map offset_of ws) (subst (λ t. IsTrue (in_order low t high)) h.2 order) (λ o. all_rise ws (h.0.offset + 1) (h.1 - 1) o))
 
-declared_offsets : (ws : List Word) → map role_offset (map as_declared ws) ≡ map offset_of ws
+pub declared_offsets : (ws : List Word) → map role_offset (map as_declared ws) ≡ map offset_of ws
 declared_offsets [] = refl
 declared_offsets (w ∷ ws) = ap (λ ns. w.at.offset ∷ ns) (declared_offsets ws)
 
-referred_offsets : (ws : List Word) → map role_offset (map as_referred ws) ≡ map offset_of ws
+pub referred_offsets : (ws : List Word) → map role_offset (map as_referred ws) ≡ map offset_of ws
 referred_offsets [] = refl
 referred_offsets (w ∷ ws) = ap (λ ns. w.at.offset ∷ ns) (referred_offsets ws)
 

@@ -14,21 +14,21 @@ pub record Meaning : Type 0 where
   pub rules : List Rule
   pub dropped : List Declared
 
--- what the statements of a policy in kept optionals mean, and the optionals that drop
-abbrev pub meaning_of : Optionals → List Placed → Meaning
-meaning_of kept policy = record {
-  types = types_of (restricted kept policy);
-  attributes = attributes_of (restricted kept policy);
-  classes = classes_of (restricted kept policy);
-  rules = rules_of (restricted kept policy);
-  dropped = dropped_of kept policy;
+-- what statements mean, where these optionals drop
+abbrev pub meaning_of : List Placed → List Declared → Meaning
+meaning_of statements dropped = record {
+  types = types_of statements;
+  attributes = attributes_of statements;
+  classes = classes_of statements;
+  rules = rules_of statements;
+  dropped = dropped;
 }
 
--- The policy keeps these optionals, compiles, and means this.
+-- The policy keeps these optionals and compiles, and its statements in them mean this.
 pub record Means (policy : List Placed) (kept : Optionals) (meaning : Meaning) : Type 0 where
   pub are_kept : AreKept policy kept
   pub compiles : Compiles kept policy
-  pub is : meaning ≡ meaning_of kept policy
+  pub is : meaning ≡ meaning_of (restricted kept policy) (dropped_of kept policy)
 
 -- whether an element holds a type; no attribute has members until set statements are compiled
 abbrev pub holds : Meaning → Element → List ℕ → Bool

@@ -30,25 +30,25 @@ has_self (a_string at text rest) = has_self rest
 has_self (a_list at end items rest) = has_self rest
 
 -- whether a statement that begins with this word is one that isn't compiled yet
-abbrev pub is_later : List ℕ → Trees → Bool
-is_later keyword operands = not (list_any (bytes_eq keyword) compiled_words) || (bytes_eq keyword (codes "allow") && has_self operands)
+abbrev pub is_unsupported : List ℕ → Trees → Bool
+is_unsupported keyword operands = not (list_any (bytes_eq keyword) compiled_words) || (bytes_eq keyword (codes "allow") && has_self operands)
 
--- a statement that isn't compiled yet is a fault at its first word, in a block or an optional too
-abbrev pub IsLaterFault : Trees → TextFault → Type 0
-IsLaterFault none fault = ⊥
-IsLaterFault (a_word at text rest) fault = IsLaterFault rest fault
-IsLaterFault (a_string at text rest) fault = IsLaterFault rest fault
-IsLaterFault (a_list at end none rest) fault = IsLaterFault rest fault
-IsLaterFault (a_list at end (a_word place text operands) rest) fault =
-    (IsTrue (is_later text operands) × (fault ≡ record { kind = unsupported; at = place; word = text }))
-    ⊎ ((IsTrue (holds_others text) × IsLaterFault operands fault) ⊎ IsLaterFault rest fault)
-IsLaterFault (a_list at end (a_string place text more) rest) fault = IsLaterFault rest fault
-IsLaterFault (a_list at end (a_list place last items more) rest) fault = IsLaterFault rest fault
+-- A statement that isn't compiled yet is a fault at its first word, in a block or an optional too
+abbrev pub IsUnsupportedFault : Trees → TextFault → Type 0
+IsUnsupportedFault none fault = ⊥
+IsUnsupportedFault (a_word at text rest) fault = IsUnsupportedFault rest fault
+IsUnsupportedFault (a_string at text rest) fault = IsUnsupportedFault rest fault
+IsUnsupportedFault (a_list at end none rest) fault = IsUnsupportedFault rest fault
+IsUnsupportedFault (a_list at end (a_word place text operands) rest) fault =
+    (IsTrue (is_unsupported text operands) × (fault ≡ record { kind = unsupported; at = place; word = text }))
+    ⊎ ((IsTrue (holds_others text) × IsUnsupportedFault operands fault) ⊎ IsUnsupportedFault rest fault)
+IsUnsupportedFault (a_list at end (a_string place text more) rest) fault = IsUnsupportedFault rest fault
+IsUnsupportedFault (a_list at end (a_list place last items more) rest) fault = IsUnsupportedFault rest fault
 
 -- the first of them, in trees that spell statements
-pub record IsFirstLaterFault (trees : Trees) (fault : TextFault) : Type 0 where
-  pub is : IsLaterFault trees fault
-  pub first : (other : TextFault) → IsLaterFault trees other → IsNoLater fault other
+pub record IsFirstUnsupportedFault (trees : Trees) (fault : TextFault) : Type 0 where
+  pub is : IsUnsupportedFault trees fault
+  pub first : (other : TextFault) → IsUnsupportedFault trees other → IsNoLater fault other
 
 -- whether a statement says what is compiled so far: no set and no rule but an allow rule between two names
 abbrev pub is_compiled_form : Form → Bool
@@ -77,13 +77,13 @@ pub record IsModuleText (bytes : List ℕ) (statements : Statements) : Type 0 wh
   pub trees : Trees
   pub reads : Reads bytes trees
   pub shapes : Shapes false trees statements
-  pub compiled : (fault : TextFault) → IsLaterFault trees fault → ⊥
+  pub compiled : (fault : TextFault) → IsUnsupportedFault trees fault → ⊥
 
 -- the fault of a text: that of reading it; or else the first of its shape; or else the first statement that isn't compiled
 pub data IsTextFault (bytes : List ℕ) (fault : TextFault) : Type 0 where
   in_reading : IsReadingFault bytes fault → IsTextFault bytes fault
   in_shape : (trees : Trees) → Reads bytes trees → IsFirstShapeFault trees fault → IsTextFault bytes fault
-  not_compiled : (trees : Trees) (statements : Statements) → Reads bytes trees → Shapes false trees statements → IsFirstLaterFault trees fault → IsTextFault bytes fault
+  not_compiled : (trees : Trees) (statements : Statements) → Reads bytes trees → Shapes false trees statements → IsFirstUnsupportedFault trees fault → IsTextFault bytes fault
 
 -- the modules of entries, by the entries' names and texts
 abbrev pub AreModules : List Entry → List Module → Type 0
@@ -132,8 +132,8 @@ pub data IsRefusedFor (kept : Optionals) (policy : List Placed) (fault : PolicyF
 abbrev pub IsPolicyFaultOf : List Placed → PolicyFault → Type 0
 IsPolicyFaultOf policy fault = (kept : Optionals) × AreKept policy kept × IsRefusedFor kept policy fault
 
--- what the policy of a store means, which has no such rule
-pub record IsMeaning (store : Store) (meaning : Meaning) : Type 0 where
+-- What a store means, whose policy has no such rule.
+pub record IsMeaningOf (store : Store) (meaning : Meaning) : Type 0 where
   pub policy : List Placed
   pub kept : Optionals
   pub is_policy : IsPolicyOf store policy
@@ -158,10 +158,6 @@ abbrev pub is_module_name : List ℕ → Bool
 is_module_name [] = false
 is_module_name (b ∷ bytes) = begins_module_name b && (list_all (λ c. begins_module_name c || (c == 45 || c == 46)) bytes && nat_le (length (b ∷ bytes)) 255)
 
--- the store after an edit
-abbrev pub changed : Store → Edit → Store
-changed store (install name priority text) = record { entries = put (record { name = name; priority = priority; text = text }) store.entries; disabled = store.disabled }
-
 -- How the store refuses an install of a text of some length, by the first that applies: a bad module name, a priority other
 -- than 400, a text of more than 2 ^ 24 bytes.
 abbrev pub install_refusal : List ℕ → ℕ → ℕ → Option Refusal
@@ -174,15 +170,30 @@ install_refusal name priority size =
 abbrev pub store_refusal : Store → Edit → Option Refusal
 store_refusal store (install name priority text) = install_refusal name priority (length text)
 
--- the text of an edit has a fault
-abbrev pub IsEditFault : Edit → Refusal → Type 0
-IsEditFault (install name priority text) refusal = (fault : TextFault) × IsTextFault text fault × (refusal ≡ at_place (text_fault.code_of fault.kind) name fault.at fault.word)
+-- the refusal of an edit for the fault of its text
+abbrev pub IsTextRefusal : Edit → Refusal → Type 0
+IsTextRefusal (install name priority text) refusal = (fault : TextFault) × IsTextFault text fault × (refusal ≡ at_place (text_fault.code_of fault.kind) name fault.at fault.word)
 
 -- the text of an edit spells a module
 abbrev pub HasGoodText : Edit → Type 0
 HasGoodText (install name priority text) = (statements : Statements) × IsModuleText text statements
 
--- the policy of a store is refused
+-- the store after an edit
+abbrev pub changed : Store → Edit → Store
+changed store (install name priority text) = record { entries = put (record { name = name; priority = priority; text = text }) store.entries; disabled = store.disabled }
+
+-- An edit is not taken: the store refuses it, or else its text has a fault. Nothing is asked of the policy.
+pub data IsNotTaken (store : Store) (edit : Edit) (refusal : Refusal) : Type 0 where
+  by_itself : store_refusal store edit ≡ Some refusal → IsNotTaken store edit refusal
+  by_its_text : store_refusal store edit ≡ None → IsTextRefusal edit refusal → IsNotTaken store edit refusal
+
+-- An edit is taken, as neither is against it: its entry is put.
+pub record IsTaken (store : Store) (edit : Edit) (new : Store) : Type 0 where
+  pub not_refused : store_refusal store edit ≡ None
+  pub good_text : HasGoodText edit
+  pub is : new ≡ changed store edit
+
+-- the refusal of a store for the first fault of its policy
 abbrev pub IsPolicyRefusal : Store → Refusal → Type 0
 IsPolicyRefusal store refusal = (policy : List Placed) × (fault : PolicyFault) × IsPolicyOf store policy × IsPolicyFaultOf policy fault
     × (refusal ≡ at_place (policy_fault.code_of fault.kind) fault.module_name fault.at fault.word)
@@ -192,12 +203,9 @@ pub data Judgement : Type 0 where
   accepts : Store → Judgement
   refuses : Refusal → Judgement
 
--- What is judged of an edit: the first that applies of a refusal of the store, the fault of the text, and the first fault of
--- the policy of the changed store; or else the changed store.
+-- What is judged of an edit: it is not taken; or else the policy of the store that it leads to is refused; or else that store is
+-- accepted, and means something.
 pub data Next (store : Store) (edit : Edit) (judgement : Judgement) : Type 0 where
-  bad_store : (refusal : Refusal) → store_refusal store edit ≡ Some refusal → judgement ≡ refuses refusal → Next store edit judgement
-  bad_text : (refusal : Refusal) → store_refusal store edit ≡ None → IsEditFault edit refusal → judgement ≡ refuses refusal → Next store edit judgement
-  bad_policy : (refusal : Refusal) → store_refusal store edit ≡ None → HasGoodText edit → IsPolicyRefusal (changed store edit) refusal → judgement ≡ refuses refusal
-      → Next store edit judgement
-  good : (meaning : Meaning) → store_refusal store edit ≡ None → HasGoodText edit → IsMeaning (changed store edit) meaning → judgement ≡ accepts (changed store edit)
-      → Next store edit judgement
+  not_taken : (refusal : Refusal) → IsNotTaken store edit refusal → judgement ≡ refuses refusal → Next store edit judgement
+  bad_policy : (new : Store) (refusal : Refusal) → IsTaken store edit new → IsPolicyRefusal new refusal → judgement ≡ refuses refusal → Next store edit judgement
+  good : (new : Store) (meaning : Meaning) → IsTaken store edit new → IsMeaningOf new meaning → judgement ≡ accepts new → Next store edit judgement

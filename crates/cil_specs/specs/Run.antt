@@ -1,10 +1,10 @@
 -- Calls of an engine that is seen as its store, and their replies.
-use Rattle.std.specs.Prelude.{◌≡◌, ◌⊎◌, List, [], ◌∷◌}
+use Rattle.std.specs.Prelude.{◌≡◌, List, [], ◌∷◌}
 use Rattle.cil_specs.specs.Rule.{Declared}
 use Rattle.cil_specs.specs.Meaning.{Meaning, is_in_table}
 use Rattle.cil_specs.specs.Report.{Changes, AreChanges, Row, AreRows}
 use Rattle.cil_specs.specs.Store.{Store}
-use Rattle.cil_specs.specs.Next.{Edit, Refusal, for_memory, accepts, refuses, Next, IsMeaning}
+use Rattle.cil_specs.specs.Next.{Edit, Refusal, for_memory, accepts, refuses, Next, IsMeaningOf}
 
 -- an edit, or the question for the listing or for the optionals that drop
 pub data Call : Type 0 where
@@ -23,25 +23,26 @@ pub record IsAccepted (old : Store) (edit : Edit) (changes : Changes) (new : Sto
   pub next : Next old edit (accepts new)
   pub before : Meaning
   pub after : Meaning
-  pub meant : IsMeaning old before
-  pub means : IsMeaning new after
+  pub meant : IsMeaningOf old before
+  pub means : IsMeaningOf new after
   pub are_changes : AreChanges (is_in_table before) (is_in_table after) changes
 
--- The reply to a call, and the store after it. A refused edit and a question keep the store; at any call memory may run out,
--- which keeps it too.
-abbrev pub Step : Store → Call → Reply → Store → Type 0
-Step old (an_edit edit) (changed_by changes) new = IsAccepted old edit changes new
-Step old (an_edit edit) (refused refusal) new = ((refusal ≡ for_memory) ⊎ Next old edit (refuses refusal)) × (new ≡ old)
-Step old (an_edit edit) (listed rows) new = ⊥
-Step old (an_edit edit) (dropped_optionals dropped) new = ⊥
-Step old ask_rows (changed_by changes) new = ⊥
-Step old ask_rows (refused refusal) new = (refusal ≡ for_memory) × (new ≡ old)
-Step old ask_rows (listed listing) new = (meaning : Meaning) × IsMeaning old meaning × AreRows (is_in_table meaning) listing × (new ≡ old)
-Step old ask_rows (dropped_optionals dropped) new = ⊥
-Step old ask_dropped (changed_by changes) new = ⊥
-Step old ask_dropped (refused refusal) new = (refusal ≡ for_memory) × (new ≡ old)
-Step old ask_dropped (listed rows) new = ⊥
-Step old ask_dropped (dropped_optionals dropped) new = (meaning : Meaning) × IsMeaning old meaning × (dropped ≡ meaning.dropped) × (new ≡ old)
+-- the rows list the accesses that a store allows
+abbrev pub AreRowsOf : Store → List Row → Type 0
+AreRowsOf store rows = (meaning : Meaning) × IsMeaningOf store meaning × AreRows (is_in_table meaning) rows
+
+-- the optionals of a store that drop
+abbrev pub AreDroppedOf : Store → List Declared → Type 0
+AreDroppedOf store dropped = (meaning : Meaning) × IsMeaningOf store meaning × (dropped ≡ meaning.dropped)
+
+-- The reply to a call, and the store after it: an edit is accepted or refused; the rows of the table are listed; the optionals
+-- that drop are told; or memory runs out, at any call. All but an accepted edit keep the store.
+pub data Step (old : Store) (call : Call) (reply : Reply) (new : Store) : Type 0 where
+  accepted : (edit : Edit) (changes : Changes) → call ≡ an_edit edit → reply ≡ changed_by changes → IsAccepted old edit changes new → Step old call reply new
+  rejected : (edit : Edit) (refusal : Refusal) → call ≡ an_edit edit → reply ≡ refused refusal → Next old edit (refuses refusal) → new ≡ old → Step old call reply new
+  lists : (rows : List Row) → call ≡ ask_rows → reply ≡ listed rows → AreRowsOf old rows → new ≡ old → Step old call reply new
+  tells_dropped : (dropped : List Declared) → call ≡ ask_dropped → reply ≡ dropped_optionals dropped → AreDroppedOf old dropped → new ≡ old → Step old call reply new
+  out_of_memory : reply ≡ refused for_memory → new ≡ old → Step old call reply new
 
 -- the replies to the calls, one step after another
 abbrev pub Run : Store → List Call → List Reply → Store → Type 0

@@ -1,6 +1,7 @@
 -- The store: entries by name and priority, and the names that are disabled.
 use Rattle.std.specs.Prelude.{ℕ, Bool, not, ◌&&◌, ◌||◌, nat_le, List, [], ◌∷◌, ◌++◌, filter, find, Option, bytes_eq}
 use Rattle.std.specs.List.{list_all, list_any}
+use Rattle.std.specs.List.Sorted.{IsStrictlySortedBy}
 use Rattle.std.specs.Option.{option_map}
 use Rattle.std.specs.Ordering.{nat_cmp, ordering_then, is_lt}
 use Rattle.std.specs.declared.cmp.Ordering.{Ordering}
@@ -12,7 +13,7 @@ pub record Entry : Type 0 where
   pub priority : ℕ
   pub text : List ℕ
 
--- the entries by name and then by falling priority, and the disabled names in order
+-- the entries, and the names that are disabled
 pub record Store : Type 0 where
   pub entries : List Entry
   pub disabled : List (List ℕ)
@@ -22,6 +23,11 @@ empty = record { entries = []; disabled = [] }
 
 abbrev pub entry_cmp : Entry → Entry → Ordering
 entry_cmp a b = ordering_then (name_cmp a.name b.name) (nat_cmp b.priority a.priority)
+
+-- A store is in order: its entries by name and then by falling priority, the disabled names by their bytes, none of them twice.
+pub record IsStore (store : Store) : Type 0 where
+  pub entries : IsStrictlySortedBy entry_cmp store.entries
+  pub disabled : IsStrictlySortedBy name_cmp store.disabled
 
 -- the entries with this one in its place, and in place of one of its name and priority
 abbrev pub put : Entry → List Entry → List Entry

@@ -1,6 +1,6 @@
 pub mod StoredLemmas
 pub mod JoinLemmas
 pub mod PlainLemmas
-pub mod LaterLemmas
+pub mod UnsupportedLemmas
 pub mod ParseLemmas
 pub mod DroppedLemmas

@@ -4,7 +4,7 @@ use Rattle.cil_specs.specs.TextFault.{TextFault}
 use Rattle.cil_specs.specs.Trees.{Trees, Reads}
 use Rattle.cil_specs.specs.Shape.{IsShapeFault, IsFirstShapeFault}
 use Rattle.cil_specs.specs.Statements.{Statements}
-use Rattle.cil_specs.specs.Next.{IsLaterFault, IsModuleText}
+use Rattle.cil_specs.specs.Next.{IsUnsupportedFault, IsModuleText}
 use Rattle.cil_specs.proofs.OneReading.{one-reading}
 use Rattle.cil_specs.proofs.ShapeLemmas.{shapes_no_fault}
 use Rattle.cil_text.specs.Image.{kind_of, place_of, shown, FaultIs, IsMemory}
@@ -27,5 +27,5 @@ shape_memory bytes trees statements fault reads text h =
     (λ f bad. shapes_no_fault statements false text.trees text.shapes f (subst (λ trees. IsShapeFault false trees f) (one-reading bytes trees text.trees reads text.reads) bad.is))
 
 -- nor a statement that isn't compiled yet
-pub no_later : (bytes : List ℕ) (trees : Trees) (statements : Statements) (fault : TextFault) → Reads bytes trees → IsModuleText bytes statements → IsLaterFault trees fault → ⊥
-no_later bytes trees statements fault reads text bad = text.compiled fault (subst (λ trees. IsLaterFault trees fault) (one-reading bytes trees text.trees reads text.reads) bad)
+pub no_unsupported : (bytes : List ℕ) (trees : Trees) (statements : Statements) (fault : TextFault) → Reads bytes trees → IsModuleText bytes statements → IsUnsupportedFault trees fault → ⊥
+no_unsupported bytes trees statements fault reads text bad = text.compiled fault (subst (λ trees. IsUnsupportedFault trees fault) (one-reading bytes trees text.trees reads text.reads) bad)

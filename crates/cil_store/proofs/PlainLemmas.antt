@@ -4,18 +4,19 @@ use Rattle.std.specs.List.{list_all, list_any, AllByRecursion}
 use Rattle.std.proofs.lemmas.Bool.{eqb-true, leb-true, ltb-false}
 use Rattle.cil_specs.specs.Joined.{Module, joined}
 use Rattle.std.specs.List.Sorted.{IsStrictlySortedBy}
-use Rattle.cil_specs.specs.Rule.{Atom, Declared, is_in_table}
+use Rattle.cil_specs.specs.PolicyFault.{PolicyFaultKind, twice}
+use Rattle.cil_specs.specs.Rule.{Atom, Declared}
+use Rattle.cil_specs.specs.Meaning.{Means, meaning_of, is_in_table}
 use Rattle.cil_specs.specs.Report.{AreAtoms, Changes, AreChanges}
 use Rattle.cil_specs.specs.Store.{Entry, Store, empty, is_highest, active, put}
-use Rattle.cil_specs.specs.Lookup.{Optionals}
-use Rattle.cil_specs.specs.Kept.{AreKept}
-use Rattle.cil_specs.specs.Next.{AreModules, IsPolicyOf, IsCompiledWhole, IsPolicyFaultOf, install, Refusal, by_store, is_module_name, changed, install_refusal, HasGoodText, IsPolicyRefusal, accepts, Next, bad_store, bad_text, bad_policy, good}
-use Rattle.cil_specs.specs.Run.{an_edit, changed_by, refused, Step}
+use Rattle.cil_specs.specs.Kept.{Optionals, AreKept, restricted, judged, Compiles}
+use Rattle.cil_specs.specs.Next.{AreModules, IsPolicyOf, HasTypesAlone, IsPolicyFaultOf, install, Refusal, by_store, is_module_name, changed, install_refusal, HasGoodText, IsPolicyRefusal, by_itself, by_its_text, not_taken, bad_policy, good}
+use Rattle.cil_specs.specs.Run.{an_edit, changed_by, refused, accepted, rejected, out_of_memory, Step}
 use Rattle.cil_specs.proofs.Runs.{both_true, first_true, second_true}
 use Rattle.cil_names.specs.Image.{PolicyFaultIs}
-use Rattle.cil_names.specs.Resolved.{IsPolicy, rules_in, dropped_in}
+use Rattle.cil_names.specs.Resolved.{meaning_in}
 use Rattle.cil_names.specs.declared.resolved.Resolved.{Resolved}
-use Rattle.cil_store.specs.Refusing.{IsRefusalOf, IsPolicyRefusalOf}
+use Rattle.cil_store.specs.Refusing.{IsRefusalOf, IsRefusalOfPolicy}
 use Rattle.cil_store.specs.Stored.{IsGood, entry_for}
 use Rattle.cil_store.specs.Plain.{IsCompiledTo, IsKept, IsRefused}
 use Rattle.cil_names.specs.declared.fault.PolicyFault.{PolicyFault}
@@ -78,7 +79,7 @@ pub changed-policy : (store : Store) (table : List Atom) (dropped : List Declare
 changed-policy store table dropped name text modules short kept are = (modules, subst (λ es. AreModules es modules) (sym (changed-active store table dropped name text short kept)) are, refl)
 
 pub policy-refused : (fault : PolicyFault) (refusal : Refusal) (store : Store) (table : List Atom) (dropped : List Declared) (name text : List ℕ) (modules : List Module) → length text ≤ 16777216 → IsKept store table dropped
-    → AreModules (put (entry_for name text) store.entries) modules → HasGoodText (install name 400 text) → PolicyFaultIs fault (IsPolicyFaultOf (joined modules)) → IsPolicyRefusalOf fault refusal → IsRefused store name text refusal
+    → AreModules (put (entry_for name text) store.entries) modules → HasGoodText (install name 400 text) → PolicyFaultIs fault (IsPolicyFaultOf (joined modules)) → IsRefusalOfPolicy fault refusal → IsRefused store name text refusal
 policy-refused Memory refusal store table dropped name text modules short kept are is_good first is = inl is
 policy-refused (Found kind module_name at word) refusal store table dropped name text modules short kept are is_good first (inl is) = inl is
 policy-refused (Found kind module_name at word) refusal store table dropped name text modules short kept are is_good first (inr is) =
@@ -92,14 +93,18 @@ no_optional name at = false
 none-kept : AreKept [] no_optional
 none-kept name at = (λ kept. absurd (true≢false (sym kept)), λ is. is.1.of_policy name at is.2)
 
--- a policy of no statements has no fault
-none-wrong : IsCompiledWhole no_optional []
-none-wrong = (
-  λ fault h. absurd (omega (arith, ap length h.split, length-append h.before (h.s ∷ h.after))),
-  λ fault h. absurd (omega (arith, h.is_in.1)),
-)
+none-judged : (kind : PolicyFaultKind) → judged kind no_optional [] ≡ []
+none-judged twice = refl
+none-judged _ = refl
 
-no-atoms : AreAtoms (is_in_table []) []
+-- a policy of no statements has no fault
+none-wrong : Compiles no_optional []
+none-wrong fault h = absurd (omega (arith, ap length (sym h.split ∙ none-judged fault.kind), length-append h.before (h.s ∷ h.after)))
+
+none-attribute : HasTypesAlone []
+none-attribute fault h = absurd (omega (arith, h.is_in.1))
+
+no-atoms : AreAtoms (is_in_table (meaning_of [] [])) []
 unfolding IsStrictlySortedBy
 no-atoms = record { ordered = tt; exact = λ a. ((λ has. absurd (omega (arith, has.1))), λ e. absurd (true≢false (sym e))) }
 
@@ -108,28 +113,22 @@ kept-empty table dropped none nothing = record {
   stored = none-stored;
   enabled = refl;
   is_compiled = record {
-    rules = [];
-    is_meaning = record { policy = []; kept = no_optional; is_policy = ([], tt, refl); are_kept = none-kept; compiles = none-wrong; are_rules = refl; are_dropped = nothing };
-    are_atoms = subst (AreAtoms (is_in_table [])) (sym none) no-atoms;
+    meaning = meaning_of [] [];
+    is_meaning = record { policy = []; kept = no_optional; is_policy = ([], tt, refl); means = record { are_kept = none-kept; compiles = none-wrong; is = refl }; types_alone = none-attribute };
+    are_atoms = subst (AreAtoms (is_in_table (meaning_of [] []))) (sym none) no-atoms;
+    are_dropped = nothing;
   };
 }
 
 -- what the store after an install compiles to, by the resolved policy
 pub compiled-to : {A : Type 0} (store : Store) (table atoms : List Atom) (dropped others : List Declared) (name text : List ℕ) (modules : List Module) (r : Resolved A) → length text ≤ 16777216 → IsKept store table dropped
-    → AreModules (put (entry_for name text) store.entries) modules → IsPolicy (λ kept. IsCompiledWhole kept (joined modules)) (joined modules) r → AreAtoms (is_in_table (rules_in r)) atoms → others ≡ dropped_in r
-    → IsCompiledTo (changed store (install name 400 text)) atoms others
-compiled-to store table atoms dropped others name text modules r short kept are is_policy are_atoms are_dropped = record {
-  rules = rules_in r;
-  is_meaning = record {
-    policy = joined modules;
-    kept = is_policy.kept;
-    is_policy = changed-policy store table dropped name text modules short kept are;
-    are_kept = is_policy.are_kept;
-    compiles = is_policy.holds;
-    are_rules = is_policy.contents.rules;
-    are_dropped = are_dropped ∙ is_policy.dropped;
-  };
+    → AreModules (put (entry_for name text) store.entries) modules → (kept : Optionals) × Means (joined modules) kept (meaning_in r) × HasTypesAlone (restricted kept (joined modules)) → AreAtoms (is_in_table (meaning_in r)) atoms
+    → others ≡ (meaning_in r).dropped → IsCompiledTo (changed store (install name 400 text)) atoms others
+compiled-to store table atoms dropped others name text modules r short kept are means are_atoms are_dropped = record {
+  meaning = meaning_in r;
+  is_meaning = record { policy = joined modules; kept = means.0; is_policy = changed-policy store table dropped name text modules short kept are; means = means.1; types_alone = means.2 };
   are_atoms = are_atoms;
+  are_dropped = are_dropped;
 }
 
 if-none : (b : Bool) (refusal : Refusal) (rest : Option Refusal) → (if b then Some refusal else rest) ≡ None → (b ≡ false) × (rest ≡ None)
@@ -156,26 +155,28 @@ taken-short name priority size e =
 
 -- the step of a refused install
 pub refused-step : (store : Store) (name text : List ℕ) (priority : ℕ) (refusal : Refusal) → install_refusal name priority (length text) ≡ None → IsRefused store name text refusal → Step store (an_edit (install name priority text)) (refused refusal) store
-refused-step store name text priority refusal taken (inl memory) = (inl memory, refl)
-refused-step store name text priority refusal taken (inr (inl fault)) = (inr (bad_text refusal taken fault refl), refl)
+refused-step store name text priority refusal taken (inl memory) = out_of_memory (ap refused memory) refl
+refused-step store name text priority refusal taken (inr (inl fault)) = rejected (install name priority text) refusal refl refl (not_taken refusal (by_its_text taken fault) refl) refl
 refused-step store name text priority refusal taken (inr (inr policy)) =
-    (inr (bad_policy refusal taken policy.0 (subst (λ p. IsPolicyRefusal (changed store (install name p text)) refusal) (sym (taken-priority name priority (length text) taken)) policy.1) refl), refl)
+    rejected (install name priority text) refusal refl refl
+    (bad_policy (changed store (install name priority text)) refusal (record { not_refused = taken; good_text = policy.0; is = refl })
+    (subst (λ p. IsPolicyRefusal (changed store (install name p text)) refusal) (sym (taken-priority name priority (length text) taken)) policy.1) refl) refl
 
 -- the step of an install that was made
 pub accepted-step : (store : Store) (old atoms : List Atom) (dropped others : List Declared) (name text : List ℕ) (priority : ℕ) (changes : Changes) → install_refusal name priority (length text) ≡ None → HasGoodText (install name 400 text)
     → IsKept store old dropped → IsCompiledTo (changed store (install name 400 text)) atoms others → ((p q : Atom → Bool) → AreAtoms p old → AreAtoms q atoms → AreChanges p q changes)
     → Step store (an_edit (install name priority text)) (changed_by changes) (changed store (install name 400 text))
-accepted-step store old atoms dropped others name text priority changes taken good_text kept made between = record {
-  next = subst (λ p. Next store (install name p text) (accepts (changed store (install name 400 text)))) (sym at) (good made.rules (subst (λ p. install_refusal name p (length text) ≡ None) at taken) good_text (others, made.is_meaning) refl);
-  before = kept.is_compiled.rules;
-  after = made.rules;
-  were_rules = (dropped, kept.is_compiled.is_meaning);
-  are_rules = (others, made.is_meaning);
-  are_changes = between (is_in_table kept.is_compiled.rules) (is_in_table made.rules) kept.is_compiled.are_atoms made.are_atoms;
-}
-  where
-    at : priority ≡ 400
-    at = taken-priority name priority (length text) taken
+accepted-step store old atoms dropped others name text priority changes taken good_text kept made between =
+    let before = kept.is_compiled.meaning in
+    accepted (install name priority text) changes refl refl (record {
+      next = good (changed store (install name 400 text)) made.meaning
+          (record { not_refused = taken; good_text = good_text; is = ap (λ p. changed store (install name p text)) (sym (taken-priority name priority (length text) taken)) }) made.is_meaning refl;
+      before = before;
+      after = made.meaning;
+      meant = kept.is_compiled.is_meaning;
+      means = made.is_meaning;
+      are_changes = between (is_in_table before) (is_in_table made.meaning) kept.is_compiled.are_atoms made.are_atoms;
+    })
 
 pub kept-changed : (store : Store) (old atoms : List Atom) (dropped others : List Declared) (name text : List ℕ) → length text ≤ 16777216 → IsKept store old dropped → IsCompiledTo (changed store (install name 400 text)) atoms others
     → IsKept (changed store (install name 400 text)) atoms others
@@ -183,5 +184,5 @@ kept-changed store old atoms dropped others name text short kept made = record {
 
 -- an install that the store refuses by its line
 pub line-step : (store : Store) (name text : List ℕ) (priority : ℕ) (refusal meant : Refusal) → install_refusal name priority (length text) ≡ Some meant → IsRefusalOf refusal meant → Step store (an_edit (install name priority text)) (refused refusal) store
-line-step store name text priority refusal meant is (inl memory) = (inl memory, refl)
-line-step store name text priority refusal meant is (inr same) = (inr (bad_store refusal (is ∙ ap Some (sym same)) refl), refl)
+line-step store name text priority refusal meant is (inl memory) = out_of_memory (ap refused memory) refl
+line-step store name text priority refusal meant is (inr same) = rejected (install name priority text) refusal refl refl (not_taken refusal (by_itself (is ∙ ap Some (sym same))) refl) refl

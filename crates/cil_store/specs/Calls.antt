@@ -1,11 +1,6 @@
 -- Calls and replies, as the definitions see them.
-use Rattle.std.specs.Prelude.{List, Result, Ok, Err}
+use Rattle.std.specs.Prelude.{Result, Ok, Err}
 use Rattle.cil_specs.specs.Report as report
-use Rattle.cil_specs.specs.Report.{Row, AreRows}
-use Rattle.cil_specs.specs.Rule as spec_rules
-use Rattle.cil_specs.specs.Rule.{is_in_table}
-use Rattle.cil_specs.specs.Store.{Store}
-use Rattle.cil_specs.specs.Next.{AreRulesOf}
 use Rattle.cil_specs.specs.Run as spec
 use Rattle.cil_specs.specs.Run.{an_edit, ask_rows, ask_dropped, changed_by, refused, listed, dropped_optionals}
 use Rattle.cil_store.specs.Edits.{edit_of, refusal_of}
@@ -30,7 +25,3 @@ reply_of (replies.Refused refusal) = refused (refusal_of refusal)
 abbrev pub edit_reply : {A : Type 0} → Result report.Changes (Refusal A) → spec.Reply
 edit_reply (Ok changes) = changed_by changes
 edit_reply (Err refusal) = refused (refusal_of refusal)
-
--- the rows are the listing of a store
-abbrev pub AreRowsOf : Store → List Row → Type 0
-AreRowsOf store rows = (rules : List spec_rules.Rule) × AreRulesOf store rules × AreRows (is_in_table rules) rows

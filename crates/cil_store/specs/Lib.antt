@@ -3,4 +3,4 @@ pub mod Calls
 pub mod Stored
 pub mod Refusing
 pub mod Plain
-pub mod Later
+pub mod Unsupported

@@ -1,23 +1,25 @@
 -- What the plain engine keeps.
 use Rattle.std.specs.Prelude.{◌≡◌, ◌⊎◌, ℕ, List, []}
-use Rattle.cil_specs.specs.Rule.{Atom, Rule, Declared, is_in_table}
+use Rattle.cil_specs.specs.Rule.{Atom, Declared}
+use Rattle.cil_specs.specs.Meaning.{Meaning, is_in_table}
 use Rattle.cil_specs.specs.Report.{AreAtoms}
 use Rattle.cil_specs.specs.Store.{Store}
-use Rattle.cil_specs.specs.Next.{install, Refusal, for_memory, changed, IsMeaning, IsEditFault, HasGoodText, IsPolicyRefusal}
+use Rattle.cil_specs.specs.Next.{install, Refusal, for_memory, changed, IsMeaningOf, IsTextRefusal, HasGoodText, IsPolicyRefusal}
 use Rattle.cil_store.specs.Stored.{AreStored}
 
--- the table is that of the store's rules, and these are its optionals that drop
+-- the table is that of what the store means, and these are its optionals that drop
 pub record IsCompiledTo (store : Store) (table : List Atom) (dropped : List Declared) : Type 0 where
-  pub rules : List Rule
-  pub is_meaning : IsMeaning store rules dropped
-  pub are_atoms : AreAtoms (is_in_table rules) table
+  pub meaning : Meaning
+  pub is_meaning : IsMeaningOf store meaning
+  pub are_atoms : AreAtoms (is_in_table meaning) table
+  pub are_dropped : dropped ≡ meaning.dropped
 
 pub record IsKept (store : Store) (table : List Atom) (dropped : List Declared) : Type 0 where
   pub stored : AreStored store.entries
   pub enabled : store.disabled ≡ []
   pub is_compiled : IsCompiledTo store table dropped
 
--- the refusal is want of memory, that of the text, or that of the policy
+-- the refusal is out of memory, that of the text, or that of the policy
 abbrev pub IsRefused : Store → List ℕ → List ℕ → Refusal → Type 0
-IsRefused store name text refusal = (refusal ≡ for_memory) ⊎ (IsEditFault (install name 400 text) refusal
+IsRefused store name text refusal = (refusal ≡ for_memory) ⊎ (IsTextRefusal (install name 400 text) refusal
     ⊎ (HasGoodText (install name 400 text) × IsPolicyRefusal (changed store (install name 400 text)) refusal))

@@ -14,10 +14,10 @@ use Rattle.cil_names.specs.declared.fault.PolicyFault.TheVariants as policies
 abbrev pub IsRefusalOf : Refusal → Refusal → Type 0
 IsRefusalOf refusal meant = (refusal ≡ for_memory) ⊎ (refusal ≡ meant)
 
-abbrev pub IsTextRefusal : TextFault → List ℕ → Refusal → Type 0
-IsTextRefusal texts.Memory name refusal = refusal ≡ for_memory
-IsTextRefusal (texts.Found kind at word) name refusal = IsRefusalOf refusal (at_place (text_fault.code_of (kind_of kind)) name (place_of at) (shown word))
+abbrev pub IsRefusalOfText : TextFault → List ℕ → Refusal → Type 0
+IsRefusalOfText texts.Memory name refusal = refusal ≡ for_memory
+IsRefusalOfText (texts.Found kind at word) name refusal = IsRefusalOf refusal (at_place (text_fault.code_of (kind_of kind)) name (place_of at) (shown word))
 
-abbrev pub IsPolicyRefusalOf : PolicyFault → Refusal → Type 0
-IsPolicyRefusalOf policies.Memory refusal = refusal ≡ for_memory
-IsPolicyRefusalOf (policies.Found kind module_name at word) refusal = IsRefusalOf refusal (at_place (policy_fault.code_of (policy_kind_of kind)) module_name.now (place_of at) word.now)
+abbrev pub IsRefusalOfPolicy : PolicyFault → Refusal → Type 0
+IsRefusalOfPolicy policies.Memory refusal = refusal ≡ for_memory
+IsRefusalOfPolicy (policies.Found kind module_name at word) refusal = IsRefusalOf refusal (at_place (policy_fault.code_of (policy_kind_of kind)) module_name.now (place_of at) word.now)

@@ -2,11 +2,10 @@
 
 ghost use Rattle.std.specs.Prelude.{◌≡◌, ◌≤◌, List, IfOk, OnErr, IsErrOf, length, flat_map};
 ghost use Rattle.cil_specs.specs.Device.{HasFailed, Gains, GainsFront};
-ghost use Rattle.cil_specs.specs.Next.{AreDroppedOf};
 ghost use Rattle.cil_specs.specs.Report.{Row, row_line};
-ghost use Rattle.cil_specs.specs.Run.{Step, an_edit};
+ghost use Rattle.cil_specs.specs.Run.{an_edit, AreRowsOf, AreDroppedOf, Step};
 ghost use Rattle.cil_specs.specs.Store.{Store};
-ghost use Rattle.cil_store.specs.Calls.{edit_reply, AreRowsOf};
+ghost use Rattle.cil_store.specs.Calls.{edit_reply};
 ghost use Rattle.cil_store.specs.Edits.{edit_of};
 
 use crate::dropped::Dropped;

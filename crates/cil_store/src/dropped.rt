@@ -1,7 +1,7 @@
 //! The optionals that drop, owned.
 
 ghost use Rattle.std.specs.Prelude.{◌≡◌, ◌==◌, [], length, slice_get, option_map, IfOk};
-ghost use Rattle.cil_names.specs.Resolved.{dropped_in};
+ghost use Rattle.cil_names.specs.Resolved.{meaning_in};
 ghost use Rattle.cil_names.specs.Views.{declared_seen};
 
 use cil_names::{NameView, Resolved, Text};
@@ -79,7 +79,7 @@ impl<A: Allocator + Copy> Dropped<A> {
 
     /// The optionals of a resolved policy that drop.
     pub(crate) fn of(alloc: A, resolved: &Resolved<A>) -> Result<Self, AllocError>
-        ensures { IfOk result (λ dropped. dropped ≡ dropped_in resolved.now) }
+        ensures { IfOk result (λ dropped. dropped ≡ (meaning_in resolved.now).dropped) }
     {
         let mut names = Vec::with_capacity(alloc, resolved.dropped_len())?;
         let mut i = 0;

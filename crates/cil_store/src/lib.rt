@@ -7,19 +7,23 @@ mod dropped;
 mod edit;
 mod entry;
 mod join;
-mod later;
+mod laws;
 mod modules;
 mod parse;
 mod plain;
 mod refusal;
 mod refusing;
 mod runs;
+mod unsupported;
 
 pub use call::{Call, Reply};
 pub use compiled::{Compiled, WriteFault};
 pub use dropped::Dropped;
 pub use edit::Edit;
 pub use entry::Entry;
+pub use laws::{
+    no_meaning_beside_a_refusal, one_judgement, one_meaning, one_policy_refusal, stores_are_in_order,
+};
 pub use modules::Store;
 pub use plain::Plain;
 pub use refusal::{Refusal, StoreFault, check_install};

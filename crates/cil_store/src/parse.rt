@@ -5,7 +5,7 @@ ghost use Rattle.cil_specs.specs.Statements.{Statements};
 ghost use Rattle.cil_specs.specs.Next.{is_compiled, IsModuleText, IsTextFault};
 ghost use Rattle.cil_text.specs.Image.{statements_of, FaultIs, IsMemory};
 
-use crate::later::first_later;
+use crate::unsupported::first_unsupported;
 use cil_text::{Module, ShownWord, TextFault, TextFaultKind};
 use std::alloc::Allocator;
 
@@ -23,9 +23,9 @@ pub fn parse<'a, A: Allocator + Copy>(
     ensures spelt { (statements : Statements) → IsModuleText text.now statements → IfErr result IsMemory }
 {
     let forest = cil_text::read(alloc, text)?;
-    let later = first_later(&forest);
+    let unsupported = first_unsupported(&forest);
     let parsed = cil_text::shape(alloc, forest)?;
-    match later {
+    match unsupported {
         None => Ok(parsed),
         Some(word) => Err(TextFault::Found {
             kind: TextFaultKind::Unsupported,

@@ -4,7 +4,7 @@ ghost use Rattle.std.specs.Prelude.{◌≡◌, IfOk, IfSome};
 ghost use Rattle.cil_specs.specs.Bytes.{hex};
 ghost use Rattle.cil_text.specs.Image.{shown};
 ghost use Rattle.cil_store.specs.Edits.{refusal_of, store_refusal_of};
-ghost use Rattle.cil_store.specs.Refusing.{IsRefusalOf, IsTextRefusal, IsPolicyRefusalOf};
+ghost use Rattle.cil_store.specs.Refusing.{IsRefusalOf, IsRefusalOfText, IsRefusalOfPolicy};
 
 use crate::refusal::{Refusal, StoreFault};
 use cil_names::PolicyFault;
@@ -53,7 +53,7 @@ pub fn refuse_install<A: Allocator + Copy>(
 
 /// The refusal of an install by the fault of its text.
 pub fn refuse_text<A: Allocator + Copy>(alloc: A, name: &[u8], fault: TextFault<'_>) -> Refusal<A>
-    ensures { IsTextRefusal fault.entry name.now (refusal_of result) }
+    ensures { IsRefusalOfText fault.entry name.now (refusal_of result) }
 {
     let TextFault::Found { kind, at, word } = fault else {
         return Refusal::Memory;
@@ -74,7 +74,7 @@ pub fn refuse_text<A: Allocator + Copy>(alloc: A, name: &[u8], fault: TextFault<
 
 /// The refusal of an edit by the first fault of the policy that it leads to.
 pub fn refuse_policy<A: Allocator + Copy>(alloc: A, fault: PolicyFault<'_>) -> Refusal<A>
-    ensures { IsPolicyRefusalOf fault.entry (refusal_of result) }
+    ensures { IsRefusalOfPolicy fault.entry (refusal_of result) }
 {
     let PolicyFault::Found {
         kind,

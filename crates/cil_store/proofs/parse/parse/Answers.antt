@@ -2,8 +2,8 @@ use Rattle.cil_specs.specs.Next.{IsTextFault, in_shape, not_compiled}
 use Rattle.cil_specs.specs.Shape.{IsFirstShapeFault}
 use Rattle.cil_text.specs.Image.{trees_of, statements_of}
 use Rattle.cil_text.proofs.FirstBad.{handed_on, fault_weaker}
-use Rattle.cil_store.proofs.LaterLemmas.{compiled_statements}
-use Rattle.cil_store.proofs.ParseLemmas.{memory_on, shape_memory, no_later}
+use Rattle.cil_store.proofs.UnsupportedLemmas.{compiled_statements}
+use Rattle.cil_store.proofs.ParseLemmas.{memory_on, shape_memory, no_unsupported}
 use Rattle.cil_store.proofs.parse.parse.Goals as goal
 
 pub returns-in_err-forest-clause-spelt : goal.returns-in_err-forest-clause-spelt
@@ -35,4 +35,4 @@ returns-clause-err g c =
 
 pub returns-clause-spelt : goal.returns-clause-spelt
 returns-clause-spelt g c statements text =
-    no_later c.args.text.now (trees_of c.in_ok-forest.forest.trees.items) statements _ c.in_ok-forest.ensures.ok text c.in-Some.ensures.some.is
+    no_unsupported c.args.text.now (trees_of c.in_ok-forest.forest.trees.items) statements _ c.in_ok-forest.ensures.ok text c.in-Some.ensures.some.is

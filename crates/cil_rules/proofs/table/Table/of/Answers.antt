@@ -1,5 +1,6 @@
-use Rattle.std.proofs.Common.{◌∙◌, ◌↔◌, ap, Contains}
+use Rattle.std.proofs.Common.{◌∙◌, ◌↔◌, ap, refl, Contains}
 use Rattle.std.specs.List.{flat_map}
+use Rattle.cil_names.specs.Resolved.{meaning_in}
 use Rattle.cil_rules.specs.declared.numbers.AtomNumbers.{AtomNumbers}
 use Rattle.cil_rules.specs.Atoms.{given}
 use Rattle.cil_rules.proofs.GivenLemmas.{numbered-from_given, table-from_given}
@@ -15,5 +16,5 @@ pub returns : goal.returns
 returns g c =
     let collected = c.in_ok-atoms.ensures ∙ ap (flat_map given) c.rules.ensures.rules in
     let same : (n : AtomNumbers) → Contains c.sort_distinct.new.atoms.items n ↔ Contains (flat_map given c.args.resolved.rules.items) n = (λ n. rw collected at (c.sort_distinct.ensures.same n)) in
-    rw c.into_names.ensures.names (table-from_given c.args.resolved.modules.items c.args.resolved.names.items c.args.resolved.rules.items _ same
+    rw c.into_names.ensures.names (table-from_given (meaning_in c.args.resolved) c.args.resolved.modules.items c.args.resolved.names.items c.args.resolved.rules.items _ refl same
     (numbered-from_given c.args.resolved.names.items c.args.resolved.rules.items _ c.args.resolved.ordered c.args.resolved.rules_within c.sort_distinct.ensures.ordered same))

@@ -1,13 +1,13 @@
 use Rattle.std.proofs.Common.{List}
 use Rattle.cil_specs.specs.Rule.{Declared}
-use Rattle.cil_names.specs.Resolved.{dropped_in}
+use Rattle.cil_names.specs.Resolved.{meaning_in}
 use Rattle.cil_names.specs.Views.{declared_seen}
 use Rattle.cil_store.proofs.DroppedLemmas.{taken-next, next-within, taken-all}
 use Rattle.cil_store.proofs.dropped.Dropped.of.Goals as goal
 
 pub loop-name-preserved : goal.loop-name-preserved
 loop-name-preserved g c =
-    let optionals : List Declared = dropped_in c.args.resolved.now in
+    let optionals : List Declared = (meaning_in c.args.resolved.now).dropped in
     let name : Declared = declared_seen c.in-Some.name in
     record {
       so_far =
@@ -16,4 +16,4 @@ loop-name-preserved g c =
     }
 
 pub returns : goal.returns
-returns g c = taken-all (dropped_in c.args.resolved.now) c.loop-name.names.items c.loop-name.i c.loop-name.invariant.so_far c.in_default.ensures
+returns g c = taken-all (meaning_in c.args.resolved.now).dropped c.loop-name.names.items c.loop-name.i c.loop-name.invariant.so_far c.in_default.ensures

@@ -24,4 +24,4 @@ pub returns-clause-compiled : goal.returns-clause-compiled
 returns-clause-compiled g c =
     subst (λ (s : Store). IsCompiledTo (changed s (install c.args.name.now 400 c.args.text.now)) c.in_ok-table.table c.in_ok-dropped.dropped) c.self.view_is
     (compiled-to c.self.inside.store c.self.inside.table c.in_ok-table.table c.self.inside.dropped c.in_ok-dropped.dropped c.args.name.now c.args.text.now (modules_of c.in_ok-joined.joined) c.in-Ok-resolve_types.resolved c.requires c.self.invariant
-    (c.in_ok-joined.ensures.modules c.args.text.now c.in-Ok.ensures.ok) c.in-Ok-resolve_types.ensures.policy c.in_ok-table.ensures c.in_ok-dropped.ensures)
+    (c.in_ok-joined.ensures.modules c.args.text.now c.in-Ok.ensures.ok) c.in-Ok-resolve_types.ensures.meaning c.in_ok-table.ensures c.in_ok-dropped.ensures)

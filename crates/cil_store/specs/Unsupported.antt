@@ -5,20 +5,20 @@ use Rattle.cil_specs.specs.Names as spec_names
 use Rattle.cil_specs.specs.TextFault.{TextFault, unsupported}
 use Rattle.cil_specs.specs.Trees.{Trees, none, a_word, a_string, a_list}
 use Rattle.cil_specs.specs.Shape.{holds_others}
-use Rattle.cil_specs.specs.Next.{is_later}
+use Rattle.cil_specs.specs.Next.{is_unsupported}
 use Rattle.cil_text.specs.Image.{word_of}
 use Rattle.cil_text.specs.declared.word.Word.{Word}
 
 -- the first word of the first of the lists that isn't compiled yet, those in blocks and optionals too
-abbrev pub later_word : Trees → Option spec_names.Word
-later_word none = None
-later_word (a_word at text rest) = later_word rest
-later_word (a_string at text rest) = later_word rest
-later_word (a_list at end none rest) = later_word rest
-later_word (a_list at end (a_word place text operands) rest) = option_or
-    (if is_later text operands then Some (record { at = place; text = text }) else if holds_others text then later_word operands else None) (later_word rest)
-later_word (a_list at end (a_string place text more) rest) = later_word rest
-later_word (a_list at end (a_list place last items more) rest) = later_word rest
+abbrev pub unsupported_word : Trees → Option spec_names.Word
+unsupported_word none = None
+unsupported_word (a_word at text rest) = unsupported_word rest
+unsupported_word (a_string at text rest) = unsupported_word rest
+unsupported_word (a_list at end none rest) = unsupported_word rest
+unsupported_word (a_list at end (a_word place text operands) rest) = option_or
+    (if is_unsupported text operands then Some (record { at = place; text = text }) else if holds_others text then unsupported_word operands else None) (unsupported_word rest)
+unsupported_word (a_list at end (a_string place text more) rest) = unsupported_word rest
+unsupported_word (a_list at end (a_list place last items more) rest) = unsupported_word rest
 
 -- the fault at such a word
 abbrev pub fault_at : spec_names.Word → TextFault

@@ -1,8 +1,8 @@
 use Rattle.std.proofs.Common.{◌+◌, ◌||◌, drop, ap, sym, ◌∙◌}
 use Rattle.cil_specs.specs.Next.{has_self}
 use Rattle.cil_text.specs.Image.{trees_of}
-use Rattle.cil_store.proofs.LaterLemmas.{self_from}
-use Rattle.cil_store.proofs.later.has_self.Goals as goal
+use Rattle.cil_store.proofs.UnsupportedLemmas.{self_from}
+use Rattle.cil_store.proofs.unsupported.has_self.Goals as goal
 
 pub returns-then-is_self : goal.returns-then-is_self
 returns-then-is_self g c =

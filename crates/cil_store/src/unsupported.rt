@@ -5,9 +5,9 @@ ghost use Rattle.std.specs.List.{list_any};
 ghost use Rattle.cil_specs.specs.TextFault.{TextFault, unsupported};
 ghost use Rattle.cil_specs.specs.Trees.{none};
 ghost use Rattle.cil_specs.specs.Shape.{holds_others as holds};
-ghost use Rattle.cil_specs.specs.Next.{compiled_words, has_self, is_later, IsLaterFault, IsFirstLaterFault};
+ghost use Rattle.cil_specs.specs.Next.{compiled_words, has_self, is_unsupported, IsUnsupportedFault, IsFirstUnsupportedFault};
 ghost use Rattle.cil_text.specs.Image.{place_of, tree_then, trees_of};
-ghost use Rattle.cil_store.specs.Later.{later_word, word_option};
+ghost use Rattle.cil_store.specs.Unsupported.{unsupported_word, word_option};
 
 use cil_text::{Forest, Tree, Word};
 use std::alloc::Allocator;
@@ -57,17 +57,17 @@ fn has_self<A: Allocator>(trees: &[Tree<A>]) -> bool
 }
 
 /// Whether a statement of this first word and these operands isn't compiled yet.
-fn is_later<A: Allocator>(keyword: &[u8], operands: &[Tree<A>]) -> bool
-    ensures { result ≡ is_later keyword.now (trees_of operands.now) }
+fn is_unsupported<A: Allocator>(keyword: &[u8], operands: &[Tree<A>]) -> bool
+    ensures { result ≡ is_unsupported keyword.now (trees_of operands.now) }
 {
     !is_compiled_word(keyword) || (keyword == b"allow".as_slice() && has_self(operands))
 }
 
 /// The first word of a statement, if it isn't compiled yet; of a block or an optional also that of the first statement in it
 /// that isn't.
-#[cycle(later)]
-fn later_word<'a, A: Allocator>(tree: &Tree<'a, A>) -> Option<Word<'a>>
-    ensures { word_option result ≡ later_word (tree_then tree.now none) }
+#[cycle(unsupported)]
+fn unsupported_word<'a, A: Allocator>(tree: &Tree<'a, A>) -> Option<Word<'a>>
+    ensures { word_option result ≡ unsupported_word (tree_then tree.now none) }
 {
     let Tree::List { items, .. } = tree else {
         return None;
@@ -78,22 +78,22 @@ fn later_word<'a, A: Allocator>(tree: &Tree<'a, A>) -> Option<Word<'a>>
     let Tree::Word(keyword) = first else {
         return None;
     };
-    if is_later(keyword.text, operands) {
+    if is_unsupported(keyword.text, operands) {
         Some(*keyword)
     } else if holds_others(keyword.text) {
-        first_later_word(operands)
+        first_unsupported_word(operands)
     } else {
         None
     }
 }
 
 /// The first of these words of trees.
-#[cycle(later)]
-fn first_later_word<'a, A: Allocator>(trees: &[Tree<'a, A>]) -> Option<Word<'a>>
-    ensures { word_option result ≡ later_word (trees_of trees.now) }
+#[cycle(unsupported)]
+fn first_unsupported_word<'a, A: Allocator>(trees: &[Tree<'a, A>]) -> Option<Word<'a>>
+    ensures { word_option result ≡ unsupported_word (trees_of trees.now) }
 {
     for tree in trees {
-        if let Some(word) = later_word(tree) {
+        if let Some(word) = unsupported_word(tree) {
             return Some(word);
         }
     }
@@ -103,9 +103,9 @@ fn first_later_word<'a, A: Allocator>(trees: &[Tree<'a, A>]) -> Option<Word<'a>>
 /// The first word of the first statement that isn't compiled yet, in a block or an optional too. Compiled are blocks, optionals,
 /// types, aliases, attributes, commons, classes, and allow rules between two names; a list that is no statement is left to
 /// `cil_text::shape`.
-pub fn first_later<'a, A: Allocator>(forest: &Forest<'a, A>) -> Option<Word<'a>>
-    ensures some { IfSome result (λ w. IsFirstLaterFault (trees_of forest.now.trees.items) (record { kind = unsupported; at = place_of w.at; word = w.text.now })) }
-    ensures none { IfNone result ((fault : TextFault) → IsLaterFault (trees_of forest.now.trees.items) fault → ⊥) }
+pub fn first_unsupported<'a, A: Allocator>(forest: &Forest<'a, A>) -> Option<Word<'a>>
+    ensures some { IfSome result (λ w. IsFirstUnsupportedFault (trees_of forest.now.trees.items) (record { kind = unsupported; at = place_of w.at; word = w.text.now })) }
+    ensures none { IfNone result ((fault : TextFault) → IsUnsupportedFault (trees_of forest.now.trees.items) fault → ⊥) }
 {
-    first_later_word(&forest.trees)
+    first_unsupported_word(&forest.trees)
 }

@@ -1,0 +1,249 @@
+-- Statements that are not compiled yet.
+use Rattle.std.proofs.Common.{◌≡◌, ℕ, ◌+◌, ◌-◌, ◌<◌, ◌≤◌, ◌||◌, ◌&&◌, ◌⊎◌, inl, inr, Bool, true, false, if◌then◌else◌, List, [], ◌∷◌, length, get_or, take, drop, Option, Some, None, IfSome, IfNone, Vec, IsTrue, codes, bytes_eq, ap, sym, subst, ◌∙◌, refl, arith}
+use Rattle.std.specs.Option.{option_or}
+use Rattle.std.specs.Cmp.Lexicographic.{bytes_decides}
+use Rattle.std.proofs.Math.Bool.{or-false}
+use Rattle.std.proofs.lemmas.Bool.{true≢false, or_cases, or_right, and_from, true_from_ne_false}
+use Rattle.cil_specs.specs.Place as spec_place
+use Rattle.cil_specs.specs.Names as spec_names
+use Rattle.cil_specs.specs.TextFault.{TextFault, IsNoLater}
+use Rattle.cil_specs.specs.Trees.{Trees, none, a_word, a_string, a_list, in_order}
+use Rattle.cil_specs.specs.Statements.{allow, auditallow, dontaudit, neverallow, itself, the_named, Form, block, optional, attribute_set, rule, is_optional, Statements, no_more, statement}
+use Rattle.cil_specs.specs.Shape.{Shapes, holds_others}
+use Rattle.cil_specs.specs.Next.{has_self, is_unsupported, IsUnsupportedFault, IsFirstUnsupportedFault, is_compiled_form, is_compiled}
+use Rattle.cil_specs.proofs.FormLemmas.{first_word, OperandsFit, fits_begin}
+use Rattle.cil_specs.proofs.OrderLemmas.{order_word, order_list, order_le}
+use Rattle.cil_specs.proofs.UnsupportedOrder.{unsupported_between}
+use Rattle.cil_text.specs.Image.{place_of, word_of, row_trees, tree_then, trees_of}
+use Rattle.cil_text.specs.declared.place.Place.{Place}
+use Rattle.cil_text.specs.declared.word.Word.{Word}
+use Rattle.cil_text.specs.declared.tree.Tree.{Tree, String, List'}
+use Rattle.cil_text.specs.declared.tree.Tree.TheVariants as variants
+use Rattle.cil_text.specs.declared.tree.Tree as declared
+use Rattle.cil_text.proofs.Rows.{list_then}
+use Rattle.cil_text.proofs.Elements.{at_tree, trees_split}
+use Rattle.cil_store.specs.Unsupported.{unsupported_word, fault_at, word_option}
+
+-- a tree, and those behind it
+self_more : {A : Type 0} → (t : Tree A) (rest : Trees) → has_self (tree_then t rest) ≡ (has_self (tree_then t none) || has_self rest)
+self_more (declared.Word w) rest = ap (λ b. b || has_self rest) (sym (or-false (bytes_eq w.text.now (codes "self"))))
+self_more (String w) rest = refl
+self_more (List' at end shape items) rest = refl
+
+-- the trees from one on
+pub self_from : {A : Type 0} → (ts : List (Tree A)) (i : ℕ) (t : Tree A) (found : Bool) → i < length ts → t ≡ get_or ts i t → has_self (trees_of ts) ≡ has_self (trees_of (drop i ts))
+    → found ≡ has_self (tree_then t none) → has_self (trees_of ts) ≡ (found || has_self (trees_of (drop (i + 1) ts)))
+self_from ts i t found within is so_far here =
+    let rest = trees_of (drop (i + 1) ts) in
+    so_far ∙ ap has_self (at_tree ts i t within is) ∙ self_more t rest ∙ ap (λ b. b || has_self rest) (sym here)
+
+-- the first word of a list, by its trees
+pub unsupported_of_list : {A : Type 0} → (t : Tree A) (at : Place) (end : ℕ) (v : Vec (Tree A) A) (items : List (Tree A)) → t ≡ variants.List at end v → items ≡ v.items
+    → unsupported_word (tree_then t none) ≡ unsupported_word (a_list (place_of at) end (trees_of items) none)
+unsupported_of_list t at end v items is same =
+    ap (λ t. unsupported_word (tree_then t none)) is ∙ ap unsupported_word (list_then at end v none) ∙ ap (λ items. unsupported_word (a_list (place_of at) end (trees_of items) none)) (sym same)
+
+pub none_at_no_tree : {A : Type 0} → (at : spec_place.Place) (end : ℕ) (ts : List (Tree A)) → length ts < 1 → unsupported_word (a_list at end (trees_of ts) none) ≡ None
+none_at_no_tree at end [] few = refl
+none_at_no_tree at end (t ∷ ts) few = absurd (omega arith)
+
+none_at_other : {A : Type 0} → (at : spec_place.Place) (end : ℕ) (t : Tree A) (rest : Trees) → ((w : Word) → t ≡ variants.Word w → ⊥) → unsupported_word (a_list at end (tree_then t rest) none) ≡ None
+none_at_other at end (declared.Word w) rest other = absurd (other w refl)
+none_at_other at end (String w) rest other = refl
+none_at_other at end (List' place last shape items) rest other = refl
+
+pub none_at_no_word : {A : Type 0} → (at : spec_place.Place) (end : ℕ) (ts : List (Tree A)) (t : Tree A) → 1 ≤ length ts → t ≡ get_or ts 0 t → ((w : Word) → t ≡ variants.Word w → ⊥)
+    → unsupported_word (a_list at end (trees_of ts) none) ≡ None
+none_at_no_word at end ts t some is other =
+    let rest = trees_of (take (length ts - 1) (drop 1 ts)) in
+    ap (λ items. unsupported_word (a_list at end items none)) (trees_split ts t some ∙ ap (λ t. tree_then t rest) (sym is)) ∙ none_at_other at end t rest other
+
+-- what a statement's list gives by the tests of its first word
+abbrev pub word_by : Bool → Bool → spec_names.Word → Option spec_names.Word → Option spec_names.Word
+word_by test holds first inner = if test then Some first else if holds then inner else None
+
+or-none : (o : Option spec_names.Word) → option_or o None ≡ o
+or-none None = refl
+or-none (Some word) = refl
+
+pub unsupported_at_word : {A : Type 0} → (at : spec_place.Place) (end : ℕ) (ts : List (Tree A)) (t : Tree A) (w : Word) (test holds : Bool) (inner : Option spec_names.Word) → 1 ≤ length ts → t ≡ get_or ts 0 t
+    → t ≡ variants.Word w → test ≡ is_unsupported w.text.now (trees_of (take (length ts - 1) (drop 1 ts))) → holds ≡ holds_others w.text.now
+    → inner ≡ unsupported_word (trees_of (take (length ts - 1) (drop 1 ts))) → unsupported_word (a_list at end (trees_of ts) none) ≡ word_by test holds (word_of w) inner
+unsupported_at_word at end ts t w test holds inner some is made here held behind =
+    let rest = trees_of (take (length ts - 1) (drop 1 ts)) in
+    ap (λ items. unsupported_word (a_list at end items none)) (trees_split ts t some ∙ ap (λ t. tree_then t rest) (sym is ∙ made))
+    ∙ or-none (word_by (is_unsupported w.text.now rest) (holds_others w.text.now) (word_of w) (unsupported_word rest))
+    ∙ (λ i. word_by (sym here i) (sym held i) (word_of w) (sym behind i))
+
+list_more : (at : spec_place.Place) (end : ℕ) (items rest : Trees) → unsupported_word (a_list at end items rest) ≡ option_or (unsupported_word (a_list at end items none)) (unsupported_word rest)
+list_more at end none rest = refl
+list_more at end (a_word place text operands) rest =
+    ap (λ o. option_or o (unsupported_word rest)) (sym (or-none (word_by (is_unsupported text operands) (holds_others text) (record { at = place; text = text }) (unsupported_word operands))))
+list_more at end (a_string place text more) rest = refl
+list_more at end (a_list place last items more) rest = refl
+
+unsupported_more : {A : Type 0} → (t : Tree A) (rest : Trees) → unsupported_word (tree_then t rest) ≡ option_or (unsupported_word (tree_then t none)) (unsupported_word rest)
+unsupported_more (declared.Word w) rest = refl
+unsupported_more (String w) rest = refl
+unsupported_more (List' at end shape items) rest = list_more (place_of at) end (row_trees items) rest
+
+-- the first word of the trees from one on
+pub unsupported_from : {A : Type 0} → (ts : List (Tree A)) (i : ℕ) (t : Tree A) (found : Option spec_names.Word) → i < length ts → t ≡ get_or ts i t → unsupported_word (trees_of ts) ≡ unsupported_word (trees_of (drop i ts))
+    → found ≡ unsupported_word (tree_then t none) → unsupported_word (trees_of ts) ≡ option_or found (unsupported_word (trees_of (drop (i + 1) ts)))
+unsupported_from ts i t found within is so_far here =
+    let rest = trees_of (drop (i + 1) ts) in
+    so_far ∙ ap unsupported_word (at_tree ts i t within is) ∙ unsupported_more t rest ∙ ap (λ o. option_or o (unsupported_word rest)) (sym here)
+
+-- a block and an optional are compiled themselves
+holder-compiled : (text : List ℕ) (operands : Trees) → IsTrue (holds_others text) → is_unsupported text operands ≡ false
+holder-compiled text operands is = by (or_cases (bytes_eq text (codes "block")) (bytes_eq text (codes "optional")) is)
+  where
+    by : IsTrue (bytes_eq text (codes "block")) ⊎ IsTrue (bytes_eq text (codes "optional")) → is_unsupported text operands ≡ false
+    by (inl same) = ap (λ t. is_unsupported t operands) ((bytes_decides text (codes "block")).0 same)
+    by (inr same) = ap (λ t. is_unsupported t operands) ((bytes_decides text (codes "optional")).0 same)
+
+-- where the word of a statement's list and those behind it are found
+pub data Found (text : List ℕ) (operands rest : Trees) (first word : spec_names.Word) : Type 0 where
+  at_first : is_unsupported text operands ≡ true → first ≡ word → Found text operands rest first word
+  in_holder : is_unsupported text operands ≡ false → IsTrue (holds_others text) → unsupported_word operands ≡ Some word → Found text operands rest first word
+  behind : is_unsupported text operands ≡ false → (IsTrue (holds_others text) → unsupported_word operands ≡ None) → unsupported_word rest ≡ Some word → Found text operands rest first word
+
+found_at : (text : List ℕ) (operands rest : Trees) (first word : spec_names.Word)
+    → option_or (word_by (is_unsupported text operands) (holds_others text) first (unsupported_word operands)) (unsupported_word rest) ≡ Some word → Found text operands rest first word
+found_at text operands rest first word h = by (is_unsupported text operands) (holds_others text) (unsupported_word operands) refl refl refl h
+  where
+    by : (test holds : Bool) (inner : Option spec_names.Word) → is_unsupported text operands ≡ test → holds_others text ≡ holds → unsupported_word operands ≡ inner
+        → option_or (word_by test holds first inner) (unsupported_word rest) ≡ Some word → Found text operands rest first word
+    by true holds inner p q r h = at_first p (cc h)
+    by false true None p q r h = behind p (λ is. r) h
+    by false true (Some w) p q r h = in_holder p q (r ∙ h)
+    by false false inner p q r h = behind p (λ is. absurd (true≢false (sym is ∙ q))) h
+
+none_at : (text : List ℕ) (operands rest : Trees) (first : spec_names.Word)
+    → option_or (word_by (is_unsupported text operands) (holds_others text) first (unsupported_word operands)) (unsupported_word rest) ≡ None
+    → (is_unsupported text operands ≡ false) × (IsTrue (holds_others text) → unsupported_word operands ≡ None) × (unsupported_word rest ≡ None)
+none_at text operands rest first h = by (is_unsupported text operands) (holds_others text) (unsupported_word operands) refl refl refl h
+  where
+    by : (test holds : Bool) (inner : Option spec_names.Word) → is_unsupported text operands ≡ test → holds_others text ≡ holds → unsupported_word operands ≡ inner
+        → option_or (word_by test holds first inner) (unsupported_word rest) ≡ None
+        → (is_unsupported text operands ≡ false) × (IsTrue (holds_others text) → unsupported_word operands ≡ None) × (unsupported_word rest ≡ None)
+    by true holds inner p q r h = absurd cc
+    by false true None p q r h = (p, (λ is. r), h)
+    by false true (Some w) p q r h = absurd cc
+    by false false inner p q r h = (p, (λ is. absurd (true≢false (sym is ∙ q))), h)
+
+-- the word that is found is a fault
+unsupported_is : (trees : Trees) (word : spec_names.Word) → unsupported_word trees ≡ Some word → IsUnsupportedFault trees (fault_at word)
+unsupported_is none word h = absurd cc
+unsupported_is (a_word at text rest) word h = unsupported_is rest word h
+unsupported_is (a_string at text rest) word h = unsupported_is rest word h
+unsupported_is (a_list at end none rest) word h = unsupported_is rest word h
+unsupported_is (a_list at end (a_word place text operands) rest) word h =
+    by (found_at text operands rest (record { at = place; text = text }) word h) (unsupported_is operands word) (unsupported_is rest word)
+  where
+    by : Found text operands rest (record { at = place; text = text }) word → (unsupported_word operands ≡ Some word → IsUnsupportedFault operands (fault_at word)) → (unsupported_word rest ≡ Some word → IsUnsupportedFault rest (fault_at word))
+        → IsUnsupportedFault (a_list at end (a_word place text operands) rest) (fault_at word)
+    by (at_first is same) inner next = inl (is, ap fault_at (sym same))
+    by (in_holder is holds here) inner next = inr (inl (holds, inner here))
+    by (behind is empty here) inner next = inr (inr (next here))
+unsupported_is (a_list at end (a_string place text more) rest) word h = unsupported_is rest word h
+unsupported_is (a_list at end (a_list place last items more) rest) word h = unsupported_is rest word h
+
+-- where none is found no fault is
+unsupported_none : (trees : Trees) → unsupported_word trees ≡ None → (fault : TextFault) → IsUnsupportedFault trees fault → ⊥
+unsupported_none none h fault bad = bad
+unsupported_none (a_word at text rest) h fault bad = unsupported_none rest h fault bad
+unsupported_none (a_string at text rest) h fault bad = unsupported_none rest h fault bad
+unsupported_none (a_list at end none rest) h fault bad = unsupported_none rest h fault bad
+unsupported_none (a_list at end (a_word place text operands) rest) h fault bad =
+    let p = none_at text operands rest (record { at = place; text = text }) h in
+    by bad p.0 (λ is. unsupported_none operands (p.1 is) fault) (unsupported_none rest p.2 fault)
+  where
+    by : IsUnsupportedFault (a_list at end (a_word place text operands) rest) fault → is_unsupported text operands ≡ false → (IsTrue (holds_others text) → IsUnsupportedFault operands fault → ⊥) → (IsUnsupportedFault rest fault → ⊥) → ⊥
+    by (inl found) is inner next = true≢false (sym found.0 ∙ is)
+    by (inr (inl found)) is inner next = inner found.0 found.1
+    by (inr (inr found)) is inner next = next found
+unsupported_none (a_list at end (a_string place text more) rest) h fault bad = unsupported_none rest h fault bad
+unsupported_none (a_list at end (a_list place last items more) rest) h fault bad = unsupported_none rest h fault bad
+
+-- the fault at the word that is found is no later than the others
+unsupported_first : (trees : Trees) (low high : ℕ) (word : spec_names.Word) (other : TextFault) → IsTrue (in_order low trees high) → unsupported_word trees ≡ Some word → IsUnsupportedFault trees other → IsNoLater (fault_at word) other
+unsupported_first none low high word other order h bad = absurd bad
+unsupported_first (a_word at text rest) low high word other order h bad = unsupported_first rest (at.offset + length text) high word other (order_word low at text rest high order).2 h bad
+unsupported_first (a_string at text rest) low high word other order h bad = unsupported_first rest (at.offset + length text) high word other (order_word low at text rest high order).2 h bad
+unsupported_first (a_list at end none rest) low high word other order h bad = unsupported_first rest end high word other (order_list low at end none rest high order).3 h bad
+unsupported_first (a_list at end (a_word place text operands) rest) low high word other order h bad =
+    let p = order_list low at end (a_word place text operands) rest high order in
+    let q = order_word (at.offset + 1) place text operands (end - 1) p.2 in
+    let ends = order_le (place.offset + length text) operands (end - 1) q.2 in
+    by (found_at text operands rest (record { at = place; text = text }) word h) bad (omega (arith, p.1, q.1, ends))
+    (λ here. omega (arith, p.1, (unsupported_between operands (place.offset + length text) (end - 1) (fault_at word) q.2 (unsupported_is operands word here)).1, ends))
+    (λ found. (unsupported_between rest end high other p.3 found).0) (unsupported_first operands (place.offset + length text) (end - 1) word other q.2) (unsupported_first rest end high word other p.3)
+  where
+    first : spec_names.Word
+    first = record { at = place; text = text }
+
+    by : Found text operands rest first word → IsUnsupportedFault (a_list at end (a_word place text operands) rest) other → place.offset < end → (unsupported_word operands ≡ Some word → word.at.offset < end)
+        → (IsUnsupportedFault rest other → end ≤ other.at.offset) → (unsupported_word operands ≡ Some word → IsUnsupportedFault operands other → IsNoLater (fault_at word) other)
+        → (unsupported_word rest ≡ Some word → IsUnsupportedFault rest other → IsNoLater (fault_at word) other) → IsNoLater (fault_at word) other
+    by (at_first is same) (inl found) before within after inner next =
+        subst (λ w. IsNoLater (fault_at w) other) same (subst (IsNoLater (fault_at first)) (sym found.1) (inr (refl, omega arith)))
+    by (at_first is same) (inr (inl found)) before within after inner next = absurd (true≢false (sym is ∙ holder-compiled text operands found.0))
+    by (at_first is same) (inr (inr found)) before within after inner next =
+        subst (λ w. IsNoLater (fault_at w) other) same (inl (omega (arith, before, after found)))
+    by (in_holder is holds here) (inl found) before within after inner next = absurd (true≢false (sym found.0 ∙ is))
+    by (in_holder is holds here) (inr (inl found)) before within after inner next = inner here found.1
+    by (in_holder is holds here) (inr (inr found)) before within after inner next = inl (omega (arith, within here, after found))
+    by (behind is empty here) (inl found) before within after inner next = absurd (true≢false (sym found.0 ∙ is))
+    by (behind is empty here) (inr (inl found)) before within after inner next = absurd (unsupported_none operands (empty found.0) other found.1)
+    by (behind is empty here) (inr (inr found)) before within after inner next = next here found
+unsupported_first (a_list at end (a_string place text more) rest) low high word other order h bad = unsupported_first rest end high word other (order_list low at end (a_string place text more) rest high order).3 h bad
+unsupported_first (a_list at end (a_list place last items more) rest) low high word other order h bad =
+    unsupported_first rest end high word other (order_list low at end (a_list place last items more) rest high order).3 h bad
+
+-- the word that is found is that of the first fault, and where there is none no fault is
+pub some_first : (trees : Trees) (high : ℕ) (found : Option Word) → IsTrue (in_order 0 trees high) → word_option found ≡ unsupported_word trees → IfSome found (λ w. IsFirstUnsupportedFault trees (fault_at (word_of w)))
+some_first trees high None order h = tt
+some_first trees high (Some w) order h =
+    record { is = unsupported_is trees (word_of w) (sym h); first = λ other bad. unsupported_first trees 0 high (word_of w) other order (sym h) bad }
+
+pub none_unsupported : (trees : Trees) (found : Option Word) → word_option found ≡ unsupported_word trees → IfNone found ((fault : TextFault) → IsUnsupportedFault trees fault → ⊥)
+none_unsupported trees None h = unsupported_none trees (sym h)
+none_unsupported trees (Some w) h = tt
+
+-- a statement that is not of a compiled form has a first word or operands that aren't compiled yet
+unsupported_form : (form : Form) (operands inner : Trees) → OperandsFit operands form inner → is_compiled_form form ≡ false → is_unsupported (first_word form) operands ≡ true
+unsupported_form (attribute_set attribute expr) operands inner fits h = refl
+unsupported_form (rule allow source (the_named target) the_class permissions) operands inner fits h = absurd (true≢false h)
+unsupported_form (rule allow source itself the_class permissions) operands inner fits h =
+    let targets = fits.0.0 in
+    let has : has_self targets ≡ true = ap has_self fits.0.3.1 in
+    ap has_self fits.0.2 ∙ ap (λ b. bytes_eq source.text (codes "self") || b) has ∙ or_right (bytes_eq source.text (codes "self")) true refl
+unsupported_form (rule auditallow source target the_class permissions) operands inner fits h = refl
+unsupported_form (rule dontaudit source target the_class permissions) operands inner fits h = refl
+unsupported_form (rule neverallow source target the_class permissions) operands inner fits h = refl
+unsupported_form _ operands inner fits h = absurd (true≢false h)
+
+-- the statements inside one of a compiled form have no unsupported fault, where those of a block or an optional have none
+inner_never : (form : Form) (operands inner : Trees) → OperandsFit operands form inner → is_compiled_form form ≡ true
+    → ((fault : TextFault) → IsTrue (holds_others (first_word form)) → IsUnsupportedFault operands fault → ⊥) → (fault : TextFault) → IsUnsupportedFault inner fault → ⊥
+inner_never (block id) operands inner fits is never fault bad = never fault refl (subst (λ trees. IsUnsupportedFault trees fault) (sym fits.0) bad)
+inner_never (optional id) operands inner fits is never fault bad = never fault refl (subst (λ trees. IsUnsupportedFault trees fault) (sym fits.0) bad)
+inner_never _ operands inner fits is never fault bad = subst (λ trees. IsUnsupportedFault trees fault) fits.1 bad
+
+-- the statements of trees without an unsupported fault are compiled
+compiled-from : (inside : Bool) (trees : Trees) (statements : Statements) → Shapes inside trees statements → ((fault : TextFault) → IsUnsupportedFault trees fault → ⊥) → is_compiled statements ≡ true
+compiled-from inside trees no_more shapes never = refl
+compiled-from inside trees (statement at form body more) shapes never =
+    let b = fits_begin shapes.1 form shapes.2 shapes.5 in
+    let path : trees ≡ a_list at shapes.0 (a_word b.0 (first_word form) b.1) shapes.3 = shapes.4 ∙ ap (λ parts. a_list at shapes.0 parts shapes.3) b.2 in
+    let never' : (fault : TextFault) → IsUnsupportedFault (a_list at shapes.0 (a_word b.0 (first_word form) b.1) shapes.3) fault → ⊥ = λ fault bad. never fault (subst (λ trees. IsUnsupportedFault trees fault) (sym path) bad) in
+    let here : is_compiled_form form ≡ true = true_from_ne_false (is_compiled_form form)
+    (λ h. never' (fault_at (record { at = b.0; text = first_word form })) (inl (unsupported_form form b.1 shapes.2 b.3 h, refl))) in
+    let within : is_compiled body ≡ true = compiled-from (inside || is_optional form) shapes.2 body shapes.8
+    (inner_never form b.1 shapes.2 b.3 here (λ fault holds bad. never' fault (inr (inl (holds, bad))))) in
+    let rest : is_compiled more ≡ true = compiled-from inside shapes.3 more shapes.9 (λ fault bad. never' fault (inr (inr bad))) in
+    and_from (is_compiled_form form) (is_compiled body && is_compiled more) here (and_from (is_compiled body) (is_compiled more) within rest)
+
+pub compiled_statements : (trees : Trees) (statements : Statements) → Shapes false trees statements → ((fault : TextFault) → IsUnsupportedFault trees fault → ⊥) → is_compiled statements ≡ true
+compiled_statements trees statements shapes never = compiled-from false trees statements shapes never

@@ -1,0 +1,34 @@
+//! Laws of the definitions, which make the contracts of engines exact. They have no code.
+
+ghost use Rattle.std.specs.Prelude.{◌≡◌, List};
+ghost use Rattle.cil_specs.specs.Meaning.{Meaning};
+ghost use Rattle.cil_specs.specs.Next.{Edit, Refusal, Judgement, IsMeaningOf, IsPolicyRefusal, IsTaken, Next};
+ghost use Rattle.cil_specs.specs.Run.{Call, Reply, Run};
+ghost use Rattle.cil_specs.specs.Store.{Store, IsStore, empty};
+
+/// A store in which no module stands is in order, and edits and runs of calls lead from one in order to another.
+pub fn stores_are_in_order()
+    ensures empty { IsStore empty }
+    ensures taken { (old new : Store) (edit : Edit) → IsStore old → IsTaken old edit new → IsStore new }
+    ensures run { (old new : Store) (calls : List Call) (replies : List Reply) → IsStore old → Run old calls replies new → IsStore new }
+{}
+
+/// A store has one meaning at most.
+pub fn one_meaning()
+    ensures { (store : Store) (meaning other : Meaning) → IsMeaningOf store meaning → IsMeaningOf store other → meaning ≡ other }
+{}
+
+/// A store in order is refused for one fault of its policy at most, the first.
+pub fn one_policy_refusal()
+    ensures { (store : Store) (refusal other : Refusal) → IsStore store → IsPolicyRefusal store refusal → IsPolicyRefusal store other → refusal ≡ other }
+{}
+
+/// A store that means something isn't refused.
+pub fn no_meaning_beside_a_refusal()
+    ensures { (store : Store) (meaning : Meaning) (refusal : Refusal) → IsMeaningOf store meaning → IsPolicyRefusal store refusal → ⊥ }
+{}
+
+/// Of an edit of a store in order one thing is judged.
+pub fn one_judgement()
+    ensures { (store : Store) (edit : Edit) (judgement other : Judgement) → IsStore store → Next store edit judgement → Next store edit other → judgement ≡ other }
+{}
