@@ -1,0 +1,103 @@
+-- Numbers of names that stay, and those that come.
+use Rattle.std.proofs.Common.{◌≡◌, ℕ, zero, suc, ◌+◌, ◌<◌, Bool, true, false, not, true≢false, ◌||◌, List, [], ◌∷◌, ◌++◌, map, Bor, Option, Some, None, slice_get, bytes_eq, refl, sym, ap, subst, ◌∙◌, append_assoc, if◌then◌else◌}
+use Rattle.std.specs.List.{list_any}
+use Rattle.std.specs.Option.{option_map}
+use Rattle.std.proofs.lemmas.List.{map-append}
+use Rattle.std.proofs.lemmas.Option.{slice_get-map}
+use Rattle.std.proofs.lemmas.Slice.Eq.{bytes_eq-Decides}
+use Rattle.indexmap.specs.IndexSet.{insert_key}
+use Rattle.cil_specs.specs.Names.{components}
+use Rattle.cil_specs.specs.Lookup.{has_name, with_name}
+use Rattle.cil_parse.specs.Lexicon.{seen, Keeps, AreNumbersOf, AreSplit}
+
+abbrev pub Name : Type 0
+Name = Bor (List ℕ)
+
+abbrev pub same : Name → Name → Bool
+same a b = bytes_eq a.now b.now
+
+pub get-append : {X : Type 0} (xs ys : List X) (n : ℕ) (x : X) → slice_get xs n ≡ Some x → slice_get (xs ++ ys) n ≡ Some x
+get-append [] ys n x is = cc
+get-append (y ∷ xs) ys zero x is = is
+get-append (y ∷ xs) ys (suc n) x is = get-append xs ys n x is
+
+-- what is read of each stays where each reading stays
+pub each-keeps : {X Y : Type 0} (f g : X → Option Y) (keeps : (x : X) (y : Y) → f x ≡ Some y → g x ≡ Some y) (xs : List X) (ys : List Y) → map f xs ≡ map Some ys → map g xs ≡ map Some ys
+each-keeps f g keeps [] [] is = refl
+each-keeps f g keeps [] (y ∷ ys) is = cc
+each-keeps f g keeps (x ∷ xs) [] is = cc
+each-keeps {X} {Y} f g keeps (x ∷ xs) (y ∷ ys) is =
+    let head : f x ≡ Some y = cc in
+    let rest : map f xs ≡ map {A = Y} Some ys = cc in
+    let first = keeps x y head in
+    let more = each-keeps f g keeps xs ys rest in
+    cc
+
+pub lists-keep : {X Y T : Type 0} (f g : X → Option Y) (keeps : (x : X) (y : Y) → f x ≡ Some y → g x ≡ Some y) (h : T → List Y) (lists : List (List X)) (ts : List T)
+    → map (map f) lists ≡ map (λ t. map Some (h t)) ts → map (map g) lists ≡ map (λ t. map Some (h t)) ts
+lists-keep f g keeps h [] [] is = refl
+lists-keep f g keeps h [] (t ∷ ts) is = cc
+lists-keep f g keeps h (l ∷ lists) [] is = cc
+lists-keep {X} {Y} f g keeps h (l ∷ lists) (t ∷ ts) is =
+    let head : map f l ≡ map Some (h t) = cc in
+    let rest : map (map f) lists ≡ map (λ t. map Some (h t)) ts = cc in
+    let first = each-keeps f g keeps l (h t) head in
+    let more = lists-keep f g keeps h lists ts rest in
+    cc
+
+-- one more, last
+pub each-append : {X Y : Type 0} (f : X → Option Y) (xs more : List X) (ys others : List Y) → map f xs ≡ map Some ys → map f more ≡ map Some others → map f (xs ++ more) ≡ map Some (ys ++ others)
+each-append f xs more ys others is new = map-append f xs more ∙ ap (λ l. l ++ map f more) is ∙ ap (λ l. map Some ys ++ l) new ∙ sym (map-append Some ys others)
+
+pub lists-append : {X Y T : Type 0} (f : X → Y) (h : T → Y) (xs : List X) (x : X) (ts : List T) (t : T) → map f xs ≡ map h ts → f x ≡ h t → map f (xs ++ x ∷ []) ≡ map h (ts ++ t ∷ [])
+lists-append f h xs x ts t is new = map-append f xs (x ∷ []) ∙ ap (λ l. l ++ f x ∷ []) is ∙ ap (λ y. map h ts ++ y ∷ []) new ∙ sym (map-append h ts (t ∷ []))
+
+has_name-seen : (names : List Name) (name : List ℕ) → list_any (λ k. bytes_eq name k.now) names ≡ has_name (seen names) name
+has_name-seen [] name = refl
+has_name-seen (x ∷ xs) name = ap (λ b. bytes_eq name x.now || b) (has_name-seen xs name)
+
+pub with_name-seen : (names : List Name) (name : Name) → seen (insert_key same names name) ≡ with_name (seen names) name.now
+with_name-seen names name = by (list_any (same name) names) (has_name-seen names name.now)
+  where
+    by : (b : Bool) → b ≡ has_name (seen names) name.now → seen (if b then names else names ++ name ∷ []) ≡ with_name (seen names) name.now
+    by true e = ap (λ b. if b then seen names else seen names ++ name.now ∷ []) e
+    by false e = map-append (λ n. n.now) names (name ∷ []) ∙ ap (λ b. if b then seen names else seen names ++ name.now ∷ []) e
+
+pub with_name-keeps : (names : List (List ℕ)) (name : List ℕ) → Keeps names (with_name names name)
+with_name-keeps names name n x is = by (has_name names name)
+  where
+    by : (b : Bool) → slice_get (if b then names else names ++ name ∷ []) n ≡ Some x
+    by true = is
+    by false = get-append names (name ∷ []) n x is
+
+-- what is stored at a number under an equal name
+pub stored-name : (names : List Name) (n : ℕ) (name : Name) → ((k : Name) × (slice_get names n ≡ Some k) × (same name k ≡ true)) → slice_get (seen names) n ≡ Some name.now
+stored-name names n name (k, at, is) =
+    slice_get-map (λ n. n.now) names n ∙ ap (option_map (λ n. n.now)) at ∙ ap Some (sym ((bytes_eq-Decides name.now k.now).0 is))
+
+-- a name's number behind others
+pub number-pushed : (names : List Name) (name : Name) (all : List Name) (numbers more : List ℕ) (n k : ℕ) → all ≡ insert_key same names name → ((key : Name) × (slice_get all n ≡ Some key) × (same name key ≡ true)) → k ≡ n → more ≡ numbers ++ k ∷ []
+    → (before : List (List ℕ)) → AreNumbersOf (seen names) numbers before → AreNumbersOf (seen all) more (before ++ name.now ∷ [])
+number-pushed names name all numbers more n k is stored same_number pushed before known =
+    let keeps : Keeps (seen names) (seen all) = subst (Keeps (seen names)) (sym (ap seen is ∙ with_name-seen names name)) (with_name-keeps (seen names) name.now) in
+    let here : slice_get (seen all) k ≡ Some name.now = ap (slice_get (seen all)) same_number ∙ stored-name all n name stored in
+    let kept = each-keeps (slice_get (seen names)) (slice_get (seen all)) keeps numbers before known in
+    ap (map (slice_get (seen all))) pushed ∙ each-append (slice_get (seen all)) numbers (k ∷ []) before (name.now ∷ []) kept (ap (λ o. o ∷ []) here)
+
+pub insert-keeps : (names : List Name) (name : Name) (all : List Name) → all ≡ insert_key same names name → Keeps (seen names) (seen all)
+insert-keeps names name all is = subst (Keeps (seen names)) (sym (ap seen is ∙ with_name-seen names name)) (with_name-keeps (seen names) name.now)
+
+-- the keys with one that is new, and with one that is known
+pub insert-new : (names : List Name) (name : Name) (all : List Name) → all ≡ insert_key same names name → true ≡ not (list_any (same name) names) → seen all ≡ seen names ++ name.now ∷ []
+insert-new names name all is new = by (list_any (same name) names) refl
+  where
+    by : (b : Bool) → b ≡ list_any (same name) names → seen all ≡ seen names ++ name.now ∷ []
+    by true e = absurd (true≢false (new ∙ ap not (sym e)))
+    by false e = ap seen (is ∙ ap (λ b. if b then names else names ++ name ∷ []) (sym e)) ∙ map-append (λ n. n.now) names (name ∷ [])
+
+pub insert-known : (names : List Name) (name : Name) (all : List Name) → all ≡ insert_key same names name → false ≡ not (list_any (same name) names) → all ≡ names
+insert-known names name all is new = by (list_any (same name) names) refl
+  where
+    by : (b : Bool) → b ≡ list_any (same name) names → all ≡ names
+    by true e = is ∙ ap (λ b. if b then names else names ++ name ∷ []) (sym e)
+    by false e = absurd (true≢false (sym (new ∙ ap not (sym e))))

@@ -1,0 +1,10 @@
+use Rattle.std.proofs.Common.{take}
+use Rattle.cil_text.specs.Image.{statements_of}
+use Rattle.cil_parse.specs.Builder.{Places}
+use Rattle.cil_parse.proofs.builder.Builder.+place.Given as goal
+
+abbrev pub decreases-place : goal.decreases-place
+decreases-place g l = goal.size-place g l
+
+abbrev pub invariant-loop-statement : goal.invariant-loop-statement
+invariant-loop-statement g l = Places l.initial.self l.self l.around (statements_of (take l.statement-index l.statements))

@@ -1,0 +1,7 @@
+use Rattle.std.proofs.Common.{[], map, take}
+use Rattle.cil_text.specs.Image.{word_of}
+use Rattle.cil_parse.specs.Builder.{Adds}
+use Rattle.cil_parse.proofs.builder.Builder.words.Given as goal
+
+abbrev pub invariant-loop-word : goal.invariant-loop-word
+invariant-loop-word g l = Adds l.initial.self l.self (map word_of (take l.word-index l.words)) []

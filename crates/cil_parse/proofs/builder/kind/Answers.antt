@@ -1,0 +1,8 @@
+use Rattle.std.proofs.Common.{◌∙◌, ap, sym, map}
+use Rattle.cil_text.specs.Image.{word_of}
+use Rattle.cil_text.specs.Form.{form_of}
+use Rattle.cil_parse.specs.Forms.{kind_of}
+use Rattle.cil_parse.proofs.builder.kind.Goals as goal
+
+pub returns-in-Rule : goal.returns-in-Rule
+returns-in-Rule g c = c.rule_kind.ensures (word_of c.in-Rule.source) (word_of c.in-Rule.class) (map word_of c.in-Rule.permissions.items) ∙ ap (λ s. kind_of (form_of s)) (sym c.in-Rule.is)

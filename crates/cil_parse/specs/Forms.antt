@@ -1,0 +1,64 @@
+-- What a statement says, by its kind, its words and the nodes of its set expression.
+use Rattle.std.specs.Prelude.{ℕ, List, [], ◌∷◌, ◌++◌}
+use Rattle.cil_specs.specs.Names.{Word}
+use Rattle.cil_specs.specs.Expr as exprs
+use Rattle.cil_specs.specs.Expr.{every, named, opposite, both, either, one_of, nothing, elements, named_words}
+use Rattle.cil_specs.specs.Statements as spec
+use Rattle.cil_specs.specs.Statements.{allow, auditallow, dontaudit, neverallow, itself, the_named, Form, block, optional, type_name, type_alias, alias_actual, type_attribute, attribute_set, common, class, class_common, class_order, rule, target_words}
+use Rattle.cil_text.specs.declared.statement.RuleKind as code
+use Rattle.cil_text.specs.declared.statement.RuleKind.TheVariants.{Allow, AuditAllow, DontAudit, NeverAllow}
+use Rattle.cil_parse.specs.declared.row.SetNode.{SetNode}
+use Rattle.cil_parse.specs.declared.row.SetNode.TheVariants as nodes
+use Rattle.cil_parse.specs.declared.row.StatementKind.{StatementKind}
+use Rattle.cil_parse.specs.declared.row.StatementKind.TheVariants as kinds
+
+-- the nodes of an expression, each in front of those of its operands
+abbrev pub expr_nodes : exprs.Expr → List SetNode
+expr_nodes every = nodes.All ∷ []
+expr_nodes (named word) = nodes.Name ∷ []
+expr_nodes (opposite x) = nodes.Not ∷ expr_nodes x
+expr_nodes (both x y) = nodes.And ∷ (expr_nodes x ++ expr_nodes y)
+expr_nodes (either x y) = nodes.Or ∷ (expr_nodes x ++ expr_nodes y)
+expr_nodes (one_of x y) = nodes.Xor ∷ (expr_nodes x ++ expr_nodes y)
+expr_nodes nothing = nodes.Nothing ∷ []
+expr_nodes (elements x more) = nodes.Element ∷ (expr_nodes x ++ expr_nodes more)
+
+abbrev pub rule_kind : spec.RuleKind → code.RuleKind
+rule_kind allow = Allow
+rule_kind auditallow = AuditAllow
+rule_kind dontaudit = DontAudit
+rule_kind neverallow = NeverAllow
+
+abbrev pub kind_of : Form → StatementKind
+kind_of (block id) = kinds.Block
+kind_of (optional id) = kinds.Optional
+kind_of (type_name id) = kinds.TypeName
+kind_of (type_alias id) = kinds.TypeAlias
+kind_of (alias_actual alias actual) = kinds.TypeAliasActual
+kind_of (type_attribute id) = kinds.TypeAttribute
+kind_of (attribute_set attribute expr) = kinds.TypeAttributeSet
+kind_of (common id permissions) = kinds.Common
+kind_of (class id permissions) = kinds.Class
+kind_of (class_common the_class the_common) = kinds.ClassCommon
+kind_of (class_order classes) = kinds.ClassOrder
+kind_of (rule kind source itself the_class permissions) = kinds.RuleToSelf (rule_kind kind)
+kind_of (rule kind source (the_named word) the_class permissions) = kinds.Rule (rule_kind kind)
+
+-- the names, references and permissions, in the order of the text
+abbrev pub words_in : Form → List Word
+words_in (block id) = id ∷ []
+words_in (optional id) = id ∷ []
+words_in (type_name id) = id ∷ []
+words_in (type_alias id) = id ∷ []
+words_in (alias_actual alias actual) = alias ∷ actual ∷ []
+words_in (type_attribute id) = id ∷ []
+words_in (attribute_set attribute expr) = attribute ∷ named_words expr
+words_in (common id permissions) = id ∷ permissions
+words_in (class id permissions) = id ∷ permissions
+words_in (class_common the_class the_common) = the_class ∷ the_common ∷ []
+words_in (class_order classes) = classes
+words_in (rule kind source target the_class permissions) = source ∷ (target_words target ++ the_class ∷ permissions)
+
+abbrev pub nodes_in : Form → List SetNode
+nodes_in (attribute_set attribute expr) = expr_nodes expr
+nodes_in _ = []

@@ -1,0 +1,49 @@
+-- Modules kept parsed.
+use Rattle.std.specs.Prelude.{◌≡◌, ℕ, List, [], map, length, Some}
+use Rattle.cil_specs.specs.Statements.{Statements}
+use Rattle.cil_text.specs.Image.{place_of}
+use Rattle.cil_parse.specs.Lexicon.{texts_in}
+use Rattle.cil_parse.specs.Forms.{kind_of, words_in, nodes_in}
+use Rattle.cil_parse.specs.Flat.{FlatStatement, flat}
+use Rattle.cil_parse.specs.Builder.{read, row_of, row_for, IsAt}
+use Rattle.cil_parse.specs.declared.builder.Builder.{Builder}
+use Rattle.cil_parse.specs.declared.parsed.ParsedModule.{ParsedModule}
+use Rattle.cil_parse.specs.declared.parsed.StatementView.{StatementView}
+
+-- the distinct texts of its words, by their numbers
+abbrev pub texts_of : {A : Type 0} → ParsedModule A → List (List ℕ)
+texts_of p = p.texts.0
+
+-- the distinct names between the dots of texts, by their numbers
+abbrev pub names_of : {A : Type 0} → ParsedModule A → List (List ℕ)
+names_of p = p.names.0
+
+abbrev pub statement_count : {A : Type 0} → ParsedModule A → ℕ
+statement_count p = length p.rows.items
+
+-- The module has these statements and no other: one behind the other with their places, kinds and numbers, each with its words and the
+-- nodes of its set expression.
+pub record Spells {A : Type 0} (p : ParsedModule A) (statements : Statements) : Type 0 where
+  pub rows : map row_of p.rows.items ≡ map row_for (flat 0 0 0 statements)
+  pub words : map (map (read (texts_of p))) p.words.0 ≡ map (λ f. map Some (words_in f.form)) (flat 0 0 0 statements)
+  pub nodes : p.nodes.0 ≡ map (λ f. nodes_in f.form) (flat 0 0 0 statements)
+
+-- the view shows the statement, its words by the numbers of these texts
+pub record IsShown (texts : List (List ℕ)) (v : StatementView) (f : FlatStatement) : Type 0 where
+  pub at : place_of v.at ≡ f.at
+  pub kind : v.kind ≡ kind_of f.form
+  pub block : v.block ≡ f.block
+  pub optional : v.optional ≡ f.optional
+  pub words : map (read texts) v.words.now ≡ map Some (words_in f.form)
+  pub nodes : v.nodes.now ≡ nodes_in f.form
+
+-- statements were gone over, and none is begun
+abbrev pub IsWhole : {A : Type 0} → Builder A → Type 0
+IsWhole b = (list : List FlatStatement) × IsAt b list [] []
+
+-- the module is what the builder went over
+pub record IsOwned {A : Type 0} (b : Builder A) (p : ParsedModule A) : Type 0 where
+  pub texts : texts_of p ≡ texts_in b.lexicon
+  pub words : p.words ≡ b.words
+  pub nodes : p.nodes ≡ b.nodes
+  pub rows : p.rows ≡ b.rows

@@ -1,0 +1,313 @@
+//! Going over the statements of a module.
+
+ghost use Rattle.std.specs.Prelude.{◌≡◌, ◌∷◌, ◌++◌, [], List, map, IfOk, OnOk};
+ghost use Rattle.cil_specs.specs.Expr.{named_words};
+ghost use Rattle.cil_specs.specs.Names.{Word as SpecWord};
+ghost use Rattle.cil_specs.specs.Statements.{target_words, rule};
+ghost use Rattle.cil_text.specs.Image.{place_of, word_of, target_of, rule_kind_of, expr_of, statements_of};
+ghost use Rattle.cil_text.specs.Form.{form_of, at_of};
+ghost use Rattle.cil_text.specs.Expr.{exprs_of};
+ghost use Rattle.cil_parse.specs.Forms.{expr_nodes, kind_of};
+ghost use Rattle.cil_parse.specs.Builder.{IsAt, Adds, AddsExpr, AddsForm, Closes, Puts, Places, top};
+
+use crate::lexicon::{Lexicon, number};
+use crate::lists::Lists;
+use crate::row::{Around, NumberedWord, Row, SetNode, StatementKind};
+use cil_text::{Expr, Place, RuleKind, Statement, Target, Word};
+use std::alloc::{AllocError, Allocator, Global};
+
+/// What was gone over so far: the words, for each statement its words and the nodes of its set expression, and the statements.
+#[derive(Drop)]
+pub struct Builder<'a, A: Allocator = Global> {
+    pub lexicon: Lexicon<'a, A>,
+    pub words: Lists<NumberedWord, A>,
+    pub nodes: Lists<SetNode, A>,
+    pub rows: Vec<Row, A>,
+}
+
+impl<'a, A: Allocator + Copy> Builder<'a, A> {
+    /// Nothing was gone over.
+    pub fn new(alloc: A) -> Result<Self, AllocError>
+        ensures { IfOk result (λ b. IsAt b [] [] []) }
+    {
+        Ok(Builder {
+            lexicon: Lexicon::new(alloc)?,
+            words: Lists::with_capacity(alloc, 0, 0)?,
+            nodes: Lists::with_capacity(alloc, 0, 0)?,
+            rows: Vec::new(alloc),
+        })
+    }
+
+    /// A word of the statement that comes.
+    fn word(&mut self, word: Word<'a>) -> Result<(), AllocError>
+        ensures { OnOk result (Adds self.old self.new (word_of word.entry ∷ []) []) }
+    {
+        let text = self.lexicon.text(word.text)?;
+        self.words.push(NumberedWord { at: word.at, text })?;
+        Ok(())
+    }
+
+    /// A node of its set expression.
+    fn node(&mut self, node: SetNode) -> Result<(), AllocError>
+        ensures { OnOk result (Adds self.old self.new [] (node ∷ [])) }
+    {
+        self.nodes.push(node)?;
+        Ok(())
+    }
+
+    fn pair(&mut self, first: Word<'a>, second: Word<'a>) -> Result<(), AllocError>
+        ensures { OnOk result (Adds self.old self.new (word_of first.entry ∷ word_of second.entry ∷ []) []) }
+    {
+        self.word(first)?;
+        self.word(second)?;
+        Ok(())
+    }
+
+    fn words(&mut self, words: &[Word<'a>]) -> Result<(), AllocError>
+        ensures { OnOk result (Adds self.old self.new (map word_of words.now) []) }
+    {
+        for word in words {
+            self.word(*word)?;
+        }
+        Ok(())
+    }
+
+    /// The words and the nodes of a set expression.
+    #[cycle(set)]
+    fn expr(&mut self, expr: &Expr<'a, A>) -> Result<(), AllocError>
+        ensures { OnOk result (AddsExpr self.old self.new (expr_of expr.now)) }
+    {
+        match expr {
+            Expr::All => self.node(SetNode::All),
+            Expr::Name(word) => self.name(*word),
+            Expr::Not(x) => self.opposite(x),
+            Expr::And(x, y) => self.operation(SetNode::And, x, y),
+            Expr::Or(x, y) => self.operation(SetNode::Or, x, y),
+            Expr::Xor(x, y) => self.operation(SetNode::Xor, x, y),
+            Expr::Union(elements) => self.elements(elements),
+        }
+    }
+
+    fn name(&mut self, word: Word<'a>) -> Result<(), AllocError>
+        ensures { OnOk result (Adds self.old self.new (word_of word.entry ∷ []) (SetNode.Name ∷ [])) }
+    {
+        self.node(SetNode::Name)?;
+        self.word(word)?;
+        Ok(())
+    }
+
+    #[cycle(set)]
+    fn opposite(&mut self, x: &Expr<'a, A>) -> Result<(), AllocError>
+        ensures { OnOk result (Adds self.old self.new (named_words (expr_of x.now)) (SetNode.Not ∷ expr_nodes (expr_of x.now))) }
+    {
+        self.node(SetNode::Not)?;
+        self.expr(x)?;
+        Ok(())
+    }
+
+    #[cycle(set)]
+    fn operation(
+        &mut self,
+        node: SetNode,
+        x: &Expr<'a, A>,
+        y: &Expr<'a, A>,
+    ) -> Result<(), AllocError>
+        ensures { OnOk result (Adds self.old self.new (named_words (expr_of x.now) ++ named_words (expr_of y.now))
+            (node ∷ (expr_nodes (expr_of x.now) ++ expr_nodes (expr_of y.now)))) }
+    {
+        self.node(node)?;
+        self.expr(x)?;
+        self.expr(y)?;
+        Ok(())
+    }
+
+    #[cycle(set)]
+    fn elements(&mut self, elements: &[Expr<'a, A>]) -> Result<(), AllocError>
+        ensures { OnOk result (AddsExpr self.old self.new (exprs_of elements.now)) }
+    {
+        for element in elements {
+            self.node(SetNode::Element)?;
+            self.expr(element)?;
+        }
+        self.node(SetNode::Nothing)?;
+        Ok(())
+    }
+
+    /// The word of a target, if it has one.
+    fn target(&mut self, target: Target<'a>) -> Result<(), AllocError>
+        ensures { OnOk result (Adds self.old self.new (target_words (target_of target.entry)) []) }
+    {
+        match target {
+            Target::Itself => Ok(()),
+            Target::Named(word) => self.word(word),
+        }
+    }
+
+    /// A word and those of a list.
+    fn listed(&mut self, id: Word<'a>, words: &[Word<'a>]) -> Result<(), AllocError>
+        ensures { OnOk result (Adds self.old self.new (word_of id.entry ∷ map word_of words.now) []) }
+    {
+        self.word(id)?;
+        self.words(words)?;
+        Ok(())
+    }
+
+    fn rule(
+        &mut self,
+        source: Word<'a>,
+        target: Target<'a>,
+        class: Word<'a>,
+        permissions: &[Word<'a>],
+    ) -> Result<(), AllocError>
+        ensures { OnOk result (Adds self.old self.new
+            (word_of source.entry ∷ (target_words (target_of target.entry) ++ word_of class.entry ∷ map word_of permissions.now)) []) }
+    {
+        self.word(source)?;
+        self.target(target)?;
+        self.listed(class, permissions)?;
+        Ok(())
+    }
+
+    fn set(&mut self, attribute: Word<'a>, expr: &Expr<'a, A>) -> Result<(), AllocError>
+        ensures { OnOk result (Adds self.old self.new (word_of attribute.entry ∷ named_words (expr_of expr.now)) (expr_nodes (expr_of expr.now))) }
+    {
+        self.word(attribute)?;
+        self.expr(expr)?;
+        Ok(())
+    }
+
+    /// The words and the nodes of a statement.
+    fn content(&mut self, statement: &Statement<'a, A>) -> Result<(), AllocError>
+        ensures { OnOk result (AddsForm self.old self.new (form_of statement.now)) }
+    {
+        match statement {
+            Statement::Block { id, .. } => self.word(*id),
+            Statement::Optional { id, .. } => self.word(*id),
+            Statement::TypeName { id, .. } => self.word(*id),
+            Statement::TypeAlias { id, .. } => self.word(*id),
+            Statement::TypeAttribute { id, .. } => self.word(*id),
+            Statement::TypeAliasActual { alias, actual, .. } => self.pair(*alias, *actual),
+            Statement::TypeAttributeSet {
+                attribute,
+                expr,
+                ..
+            } => self.set(*attribute, expr),
+            Statement::Common {
+                id,
+                permissions,
+                ..
+            } => self.listed(*id, permissions),
+            Statement::Class {
+                id,
+                permissions,
+                ..
+            } => self.listed(*id, permissions),
+            Statement::ClassCommon { class, common, .. } => self.pair(*class, *common),
+            Statement::ClassOrder { classes, .. } => self.words(classes),
+            Statement::Rule {
+                source,
+                target,
+                class,
+                permissions,
+                ..
+            } => self.rule(*source, *target, *class, permissions),
+        }
+    }
+
+    /// Ends a statement whose words and nodes came.
+    fn close(&mut self, row: Row) -> Result<(), AllocError>
+        ensures { OnOk result (Closes self.old self.new row) }
+    {
+        self.words.close()?;
+        self.nodes.close()?;
+        self.rows.push(row)?;
+        Ok(())
+    }
+
+    /// A statement but for those inside it.
+    fn head(&mut self, around: Around, statement: &Statement<'a, A>) -> Result<(), AllocError>
+        ensures { OnOk result (Puts self.old self.new (top around statement.now)) }
+    {
+        self.content(statement)?;
+        self.close(Row {
+            at: at(statement),
+            kind: kind(statement),
+            around,
+        })?;
+        Ok(())
+    }
+
+    /// Statements, and those inside blocks and optionals.
+    pub fn place(
+        &mut self,
+        around: Around,
+        statements: &[Statement<'a, A>],
+    ) -> Result<(), AllocError>
+        ensures { OnOk result (Places self.old self.new around (statements_of statements.now)) }
+    {
+        for statement in statements {
+            self.head(around, statement)?;
+            match statement {
+                Statement::Block { body, .. } => {
+                    let block = number(self.rows.len())?;
+                    self.place(Around { block, ..around }, body)?;
+                }
+                Statement::Optional { body, .. } => {
+                    let optional = number(self.rows.len())?;
+                    self.place(Around { optional, ..around }, body)?;
+                }
+                _ => {}
+            }
+        }
+        Ok(())
+    }
+}
+
+/// The place of a statement's `(`.
+fn at<A: Allocator>(statement: &Statement<A>) -> Place
+    ensures { place_of result ≡ at_of statement.now }
+{
+    match statement {
+        Statement::Block { at, .. }
+        | Statement::Optional { at, .. }
+        | Statement::TypeName { at, .. }
+        | Statement::TypeAlias { at, .. }
+        | Statement::TypeAliasActual { at, .. }
+        | Statement::TypeAttribute { at, .. }
+        | Statement::TypeAttributeSet { at, .. }
+        | Statement::Common { at, .. }
+        | Statement::Class { at, .. }
+        | Statement::ClassCommon { at, .. }
+        | Statement::ClassOrder { at, .. }
+        | Statement::Rule { at, .. } => *at,
+    }
+}
+
+/// The kind of a rule with this target.
+fn rule_kind(kind: RuleKind, target: &Target) -> StatementKind
+    ensures { (source the_class : SpecWord) (permissions : List SpecWord) → result ≡ kind_of (rule (rule_kind_of kind) source (target_of target.now) the_class permissions) }
+{
+    match target {
+        Target::Itself => StatementKind::RuleToSelf(kind),
+        Target::Named(_) => StatementKind::Rule(kind),
+    }
+}
+
+fn kind<A: Allocator>(statement: &Statement<A>) -> StatementKind
+    ensures { result ≡ kind_of (form_of statement.now) }
+{
+    match statement {
+        Statement::Block { .. } => StatementKind::Block,
+        Statement::Optional { .. } => StatementKind::Optional,
+        Statement::TypeName { .. } => StatementKind::TypeName,
+        Statement::TypeAlias { .. } => StatementKind::TypeAlias,
+        Statement::TypeAliasActual { .. } => StatementKind::TypeAliasActual,
+        Statement::TypeAttribute { .. } => StatementKind::TypeAttribute,
+        Statement::TypeAttributeSet { .. } => StatementKind::TypeAttributeSet,
+        Statement::Common { .. } => StatementKind::Common,
+        Statement::Class { .. } => StatementKind::Class,
+        Statement::ClassCommon { .. } => StatementKind::ClassCommon,
+        Statement::ClassOrder { .. } => StatementKind::ClassOrder,
+        Statement::Rule { kind, target, .. } => rule_kind(*kind, target),
+    }
+}

@@ -1,0 +1,110 @@
+//! The words of a module by numbers, while it is gone over.
+
+ghost use Rattle.std.specs.Prelude.{◌≡◌, ◌∷◌, ◌<◌, ◌==◌, [], Some, slice_get, length, IfOk, OnOk, IfSome, IfNone};
+ghost use Rattle.std.specs.List.{slice_split};
+ghost use Rattle.cil_text.specs.Name.{without_dot};
+ghost use Rattle.cil_specs.specs.Lookup.{with_name};
+ghost use Rattle.cil_parse.specs.Lexicon.{texts_in, AddsNames, SplitsText, IsLexicon};
+
+use crate::lists::Lists;
+use indexmap::IndexSet;
+use std::alloc::{AllocError, Allocator, Global};
+use std::hash::{BuildHasherDefault, FoldHasher};
+
+/// The distinct texts of words and the distinct names between their dots, each in the order of their first use, and for each text the
+/// numbers of its names.
+#[derive(Drop)]
+pub struct Lexicon<'a, A: Allocator = Global> {
+    pub texts: IndexSet<&'a [u8], BuildHasherDefault<FoldHasher>, A>,
+    pub names: IndexSet<&'a [u8], BuildHasherDefault<FoldHasher>, A>,
+    pub components: Lists<u32, A>,
+}
+
+/// A number of 32 bits; one that needs more is answered as out of memory.
+pub fn number(n: usize) -> Result<u32, AllocError>
+    ensures { IfOk result (λ k. k ≡ n) }
+{
+    match u32::try_from(n) {
+        Ok(k) => Ok(k),
+        Err(_) => Err(AllocError),
+    }
+}
+
+/// The text behind a leading dot, if it has one.
+fn without_dot(text: &[u8]) -> &[u8]
+    ensures { result.now ≡ without_dot text.now }
+{
+    match text {
+        [b'.', rest @ ..] => rest,
+        _ => text,
+    }
+}
+
+/// The text in front of the first dot and the text behind it.
+fn split_dot(text: &[u8]) -> Option<(&[u8], &[u8])>
+    ensures some { IfSome result (λ found. slice_split (λ b. b == 46) text.now ≡ found.0.now ∷ slice_split (λ b. b == 46) found.1.now) }
+    ensures shorter { IfSome result (λ found. length found.1.now < length text.now) }
+    ensures none { IfNone result (slice_split (λ b. b == 46) text.now ≡ text.now ∷ []) }
+{
+    let at = text.iter().position(|b| *b == b'.')?;
+    Some((&text[..at], &text[at + 1..]))
+}
+
+impl<'a, A: Allocator + Copy> Lexicon<'a, A> {
+    /// No word.
+    pub fn new(alloc: A) -> Result<Self, AllocError>
+        ensures lexicon { IfOk result IsLexicon }
+        ensures empty { IfOk result (λ l. texts_in l ≡ []) }
+    {
+        Ok(Lexicon {
+            texts: IndexSet::new(alloc),
+            names: IndexSet::new(alloc),
+            components: Lists::with_capacity(alloc, 0, 0)?,
+        })
+    }
+
+    /// Puts the number of a name at the end of the open list.
+    fn push_name(&mut self, name: &'a [u8]) -> Result<(), AllocError>
+        ensures { OnOk result (AddsNames self.old self.new (name.now ∷ [])) }
+    {
+        let (n, _new) = self.names.insert_full(name)?;
+        self.components.push(number(n)?)?;
+        Ok(())
+    }
+
+    /// Puts the numbers of the names between dots at the end of the open list.
+    fn push_names(&mut self, text: &'a [u8]) -> Result<(), AllocError>
+        ensures { OnOk result (AddsNames self.old self.new (slice_split (λ b. b == 46) text.now)) }
+    {
+        let mut rest = text;
+        while let Some((name, behind)) = split_dot(rest) {
+            self.push_name(name)?;
+            rest = behind;
+        }
+        self.push_name(rest)?;
+        Ok(())
+    }
+
+    /// Puts a list with the numbers of the names of a text behind the others.
+    fn split(&mut self, text: &'a [u8]) -> Result<(), AllocError>
+        ensures { OnOk result (SplitsText self.old self.new text.now) }
+    {
+        self.push_names(without_dot(text))?;
+        self.components.close()?;
+        Ok(())
+    }
+
+    /// The number of a text, which is new or known. On failure the lexicon is of no more use.
+    pub fn text(&mut self, text: &'a [u8]) -> Result<u32, AllocError>
+        ensures number { IfOk result (λ n. slice_get (texts_in self.new) n ≡ Some text.now) }
+        ensures texts { OnOk result (texts_in self.new ≡ with_name (texts_in self.old) text.now) }
+        ensures lexicon { OnOk result (IsLexicon self.old → IsLexicon self.new) }
+    {
+        let (n, new) = self.texts.insert_full(text)?;
+        let k = number(n)?;
+        if new {
+            self.split(text)?;
+        }
+        Ok(k)
+    }
+}
