@@ -5,7 +5,7 @@ use Rattle.std.proofs.Math.Seq.{drop-cons}
 use Rattle.std.proofs.lemmas.List.{map-append, take_more}
 use Rattle.cil_specs.specs.Names.{Word}
 use Rattle.cil_specs.specs.Lookup.{with_name}
-use Rattle.cil_specs.specs.Expr.{named_words}
+use Rattle.cil_specs.specs.Expr.{leaves}
 use Rattle.cil_text.specs.Image.{place_of, word_of, expr_of}
 use Rattle.cil_text.specs.Expr.{exprs_of}
 use Rattle.cil_text.specs.declared.statement.Expr as code
@@ -74,7 +74,7 @@ pub record GoesOver {A : Type 0} (old new : Builder A) (all left : List (code.Ex
   pub words : List Word
   pub nodes : List SetNode
   pub adds : Adds old new words nodes
-  pub all_words : named_words (exprs_of all) ≡ words ++ named_words (exprs_of left)
+  pub all_words : leaves (exprs_of all) ≡ words ++ leaves (exprs_of left)
   pub all_nodes : expr_nodes (exprs_of all) ≡ nodes ++ expr_nodes (exprs_of left)
 
 pub goes-none : {A : Type 0} (b : Builder A) (all : List (code.Expr A)) → GoesOver b b all all
@@ -85,11 +85,11 @@ pub goes-next : {A : Type 0} (old mid between new : Builder A) (all : List (code
 goes-next {A} old mid between new all i x within is so_far node expr =
     let left = drop (i + 1) all in
     let here : drop i all ≡ x ∷ left = drop-cons all i x within ∙ ap (λ y. y ∷ drop (suc i) all) (sym is) ∙ ap (λ n. x ∷ drop n all) (sym (add-one i)) in
-    let whole = adds-then mid between new [] (named_words (expr_of x)) (nodes.Element ∷ []) (expr_nodes (expr_of x)) node expr in record {
-      words = so_far.words ++ named_words (expr_of x);
+    let whole = adds-then mid between new [] (leaves (expr_of x)) (nodes.Element ∷ []) (expr_nodes (expr_of x)) node expr in record {
+      words = so_far.words ++ leaves (expr_of x);
       nodes = so_far.nodes ++ (nodes.Element ∷ expr_nodes (expr_of x));
-      adds = adds-then old mid new so_far.words (named_words (expr_of x)) so_far.nodes (nodes.Element ∷ expr_nodes (expr_of x)) so_far.adds whole;
-      all_words = so_far.all_words ∙ ap (λ l. so_far.words ++ named_words (exprs_of l)) here ∙ sym (append_assoc so_far.words (named_words (expr_of x)) (named_words (exprs_of left)));
+      adds = adds-then old mid new so_far.words (leaves (expr_of x)) so_far.nodes (nodes.Element ∷ expr_nodes (expr_of x)) so_far.adds whole;
+      all_words = so_far.all_words ∙ ap (λ l. so_far.words ++ leaves (exprs_of l)) here ∙ sym (append_assoc so_far.words (leaves (expr_of x)) (leaves (exprs_of left)));
       all_nodes = so_far.all_nodes ∙ ap (λ l. so_far.nodes ++ expr_nodes (exprs_of l)) here ∙ sym (append_assoc so_far.nodes (nodes.Element ∷ expr_nodes (expr_of x)) (expr_nodes (exprs_of left)));
     }
 

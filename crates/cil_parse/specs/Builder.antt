@@ -4,7 +4,7 @@ use Rattle.std.specs.Option.{option_map}
 use Rattle.cil_specs.specs.Place.{Place}
 use Rattle.cil_specs.specs.Names.{Word}
 use Rattle.cil_specs.specs.Statements.{Form, Statements}
-use Rattle.cil_specs.specs.Expr.{Expr, named_words}
+use Rattle.cil_specs.specs.Expr.{WordExpr, leaves}
 use Rattle.cil_text.specs.Image.{place_of}
 use Rattle.cil_text.specs.Form.{form_of, at_of}
 use Rattle.cil_text.specs.declared.statement.Statement.{Statement}
@@ -46,8 +46,8 @@ pub record Adds {A : Type 0} (old new : Builder A) (words : List Word) (nodes : 
   pub goes : (list : List FlatStatement) (before : List Word) (in_front : List SetNode) → IsAt old list before in_front → IsAt new list (before ++ words) (in_front ++ nodes)
 
 -- those of a set expression
-abbrev pub AddsExpr : {A : Type 0} → Builder A → Builder A → Expr → Type 0
-AddsExpr old new expr = Adds old new (named_words expr) (expr_nodes expr)
+abbrev pub AddsExpr : {A : Type 0} → Builder A → Builder A → WordExpr → Type 0
+AddsExpr old new expr = Adds old new (leaves expr) (expr_nodes expr)
 
 -- those of a statement
 abbrev pub AddsForm : {A : Type 0} → Builder A → Builder A → Form → Type 0

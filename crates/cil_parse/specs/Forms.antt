@@ -2,7 +2,7 @@
 use Rattle.std.specs.Prelude.{ℕ, List, [], ◌∷◌, ◌++◌}
 use Rattle.cil_specs.specs.Names.{Word}
 use Rattle.cil_specs.specs.Expr as exprs
-use Rattle.cil_specs.specs.Expr.{every, named, opposite, both, either, one_of, nothing, elements, named_words}
+use Rattle.cil_specs.specs.Expr.{every, named, opposite, both, either, one_of, nothing, elements, leaves}
 use Rattle.cil_specs.specs.Statements as spec
 use Rattle.cil_specs.specs.Statements.{allow, auditallow, dontaudit, neverallow, itself, the_named, Form, block, optional, type_name, type_alias, alias_actual, type_attribute, attribute_set, common, class, class_common, class_order, rule, target_words}
 use Rattle.cil_text.specs.declared.statement.RuleKind as code
@@ -13,7 +13,7 @@ use Rattle.cil_parse.specs.declared.row.StatementKind.{StatementKind}
 use Rattle.cil_parse.specs.declared.row.StatementKind.TheVariants as kinds
 
 -- the nodes of an expression, each in front of those of its operands
-abbrev pub expr_nodes : exprs.Expr → List SetNode
+abbrev pub expr_nodes : exprs.WordExpr → List SetNode
 expr_nodes every = nodes.All ∷ []
 expr_nodes (named word) = nodes.Name ∷ []
 expr_nodes (opposite x) = nodes.Not ∷ expr_nodes x
@@ -52,7 +52,7 @@ words_in (type_name id) = id ∷ []
 words_in (type_alias id) = id ∷ []
 words_in (alias_actual alias actual) = alias ∷ actual ∷ []
 words_in (type_attribute id) = id ∷ []
-words_in (attribute_set attribute expr) = attribute ∷ named_words expr
+words_in (attribute_set attribute expr) = attribute ∷ leaves expr
 words_in (common id permissions) = id ∷ permissions
 words_in (class id permissions) = id ∷ permissions
 words_in (class_common the_class the_common) = the_class ∷ the_common ∷ []

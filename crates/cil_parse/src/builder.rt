@@ -1,7 +1,7 @@
 //! Going over the statements of a module.
 
 ghost use Rattle.std.specs.Prelude.{◌≡◌, ◌∷◌, ◌++◌, [], List, map, IfOk, OnOk};
-ghost use Rattle.cil_specs.specs.Expr.{named_words};
+ghost use Rattle.cil_specs.specs.Expr.{leaves};
 ghost use Rattle.cil_specs.specs.Names.{Word as SpecWord};
 ghost use Rattle.cil_specs.specs.Statements.{target_words, rule};
 ghost use Rattle.cil_text.specs.Image.{place_of, word_of, target_of, rule_kind_of, expr_of, statements_of};
@@ -98,7 +98,7 @@ impl<'a, A: Allocator + Copy> Builder<'a, A> {
 
     #[cycle(set)]
     fn opposite(&mut self, x: &Expr<'a, A>) -> Result<(), AllocError>
-        ensures { OnOk result (Adds self.old self.new (named_words (expr_of x.now)) (SetNode.Not ∷ expr_nodes (expr_of x.now))) }
+        ensures { OnOk result (Adds self.old self.new (leaves (expr_of x.now)) (SetNode.Not ∷ expr_nodes (expr_of x.now))) }
     {
         self.node(SetNode::Not)?;
         self.expr(x)?;
@@ -112,7 +112,7 @@ impl<'a, A: Allocator + Copy> Builder<'a, A> {
         x: &Expr<'a, A>,
         y: &Expr<'a, A>,
     ) -> Result<(), AllocError>
-        ensures { OnOk result (Adds self.old self.new (named_words (expr_of x.now) ++ named_words (expr_of y.now))
+        ensures { OnOk result (Adds self.old self.new (leaves (expr_of x.now) ++ leaves (expr_of y.now))
             (node ∷ (expr_nodes (expr_of x.now) ++ expr_nodes (expr_of y.now)))) }
     {
         self.node(node)?;
@@ -169,7 +169,7 @@ impl<'a, A: Allocator + Copy> Builder<'a, A> {
     }
 
     fn set(&mut self, attribute: Word<'a>, expr: &Expr<'a, A>) -> Result<(), AllocError>
-        ensures { OnOk result (Adds self.old self.new (word_of attribute.entry ∷ named_words (expr_of expr.now)) (expr_nodes (expr_of expr.now))) }
+        ensures { OnOk result (Adds self.old self.new (word_of attribute.entry ∷ leaves (expr_of expr.now)) (expr_nodes (expr_of expr.now))) }
     {
         self.word(attribute)?;
         self.expr(expr)?;

@@ -1,6 +1,6 @@
 use Rattle.std.proofs.Common.{◌≡◌, ◌+◌, ◌++◌, ◌∷◌, [], drop, subst, sym, ap, ◌∙◌, OnOk, rules, arith, max}
 use Rattle.std.proofs.lemmas.List.{drop_all}
-use Rattle.cil_specs.specs.Expr.{opposite, both, either, one_of, named_words}
+use Rattle.cil_specs.specs.Expr.{opposite, both, either, one_of, leaves}
 use Rattle.cil_text.specs.Image.{word_of, expr_of}
 use Rattle.cil_text.specs.Expr.{exprs_of}
 use Rattle.cil_text.proofs.Rows.{union_of}
@@ -47,7 +47,7 @@ expr-returns-in-Union g t c =
 pub opposite-returns : goal.opposite-returns
 opposite-returns g t c =
     let x = expr_of c.args.x.now in
-    adds-then c.args.self.now c.node.new.self c.expr.new.self [] (named_words x) (Not ∷ []) (expr_nodes x) c.in_ok-node.ensures c.in_ok-expr.ensures
+    adds-then c.args.self.now c.node.new.self c.expr.new.self [] (leaves x) (Not ∷ []) (expr_nodes x) c.in_ok-node.ensures c.in_ok-expr.ensures
 
 pub operation-expr-requires-2 : goal.operation-expr-requires-2
 operation-expr-requires-2 g t c κs within = (omega (arith, c.decreases), within)
@@ -56,8 +56,8 @@ pub operation-returns : goal.operation-returns
 operation-returns g t c =
     let x = expr_of c.args.x.now in
     let y = expr_of c.args.y.now in
-    adds-then c.args.self.now c.node.new.self c.expr-2.new.self [] (named_words x ++ named_words y) (c.args.node ∷ []) (expr_nodes x ++ expr_nodes y) c.in_ok-node.ensures
-    (adds-then c.node.new.self c.expr.new.self c.expr-2.new.self (named_words x) (named_words y) (expr_nodes x) (expr_nodes y) c.in_ok-expr.ensures c.in_ok-expr-2.ensures)
+    adds-then c.args.self.now c.node.new.self c.expr-2.new.self [] (leaves x ++ leaves y) (c.args.node ∷ []) (expr_nodes x ++ expr_nodes y) c.in_ok-node.ensures
+    (adds-then c.node.new.self c.expr.new.self c.expr-2.new.self (leaves x) (leaves y) (expr_nodes x) (expr_nodes y) c.in_ok-expr.ensures c.in_ok-expr-2.ensures)
 
 pub elements-loop-element-init : goal.elements-loop-element-init
 elements-loop-element-init g t c = goes-none c.args.self.now c.args.elements.now

@@ -1,5 +1,5 @@
 use Rattle.std.proofs.Common.{[], ◌∷◌}
-use Rattle.cil_specs.specs.Expr.{named_words}
+use Rattle.cil_specs.specs.Expr.{leaves}
 use Rattle.cil_text.specs.Image.{word_of, expr_of}
 use Rattle.cil_parse.specs.Forms.{expr_nodes}
 use Rattle.cil_parse.proofs.BuilderLemmas.{adds-then}
@@ -8,4 +8,4 @@ use Rattle.cil_parse.proofs.builder.Builder.set.Goals as goal
 pub returns : goal.returns
 returns g c =
     let x = expr_of c.args.expr.now in
-    adds-then c.args.self.now c.word.new.self c.expr.new.self (word_of c.args.attribute ∷ []) (named_words x) [] (expr_nodes x) c.in_ok-word.ensures c.in_ok-expr.ensures
+    adds-then c.args.self.now c.word.new.self c.expr.new.self (word_of c.args.attribute ∷ []) (leaves x) [] (expr_nodes x) c.in_ok-word.ensures c.in_ok-expr.ensures
