@@ -6,3 +6,5 @@ pub mod BuilderLemmas
 pub mod FlatLemmas
 pub mod PlaceLemmas
 pub mod ParsedLemmas
+pub mod ViewLemmas
+pub mod AroundLemmas

@@ -10,10 +10,11 @@ use Rattle.cil_parse.specs.Lexicon.{texts_in, names_in, AreNumbersOf, AreSplit, 
 use Rattle.cil_parse.specs.Forms.{words_in, nodes_in}
 use Rattle.cil_parse.specs.Flat.{FlatStatement, flat, count}
 use Rattle.cil_parse.specs.Builder.{read, row_of, row_for, IsAt, Places}
-use Rattle.cil_parse.specs.Parsed.{texts_of, names_of, statement_count, Spells, IsOwned, IsShown}
+use Rattle.cil_parse.specs.Parsed.{texts_of, names_of, statement_count, Spells, IsOwned}
+use Rattle.cil_parse.specs.View.{IsShown}
 use Rattle.cil_parse.specs.declared.builder.Builder.{Builder}
 use Rattle.cil_parse.specs.declared.parsed.ParsedModule.{ParsedModule}
-use Rattle.cil_parse.specs.declared.parsed.StatementView.{StatementView}
+use Rattle.cil_parse.specs.declared.view.StatementView.{StatementView}
 use Rattle.cil_parse.specs.declared.row.NumberedWord.{NumberedWord}
 use Rattle.cil_parse.specs.declared.row.Row.{Row}
 use Rattle.cil_parse.specs.declared.row.SetNode.{SetNode}

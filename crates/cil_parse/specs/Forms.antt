@@ -62,3 +62,10 @@ words_in (rule kind source target the_class permissions) = source ∷ (target_wo
 abbrev pub nodes_in : Form → List SetNode
 nodes_in (attribute_set attribute expr) = expr_nodes expr
 nodes_in _ = []
+
+-- the permissions that a statement lists
+abbrev pub permissions_in : Form → List Word
+permissions_in (common id permissions) = permissions
+permissions_in (class id permissions) = permissions
+permissions_in (rule kind source target the_class permissions) = permissions
+permissions_in _ = []

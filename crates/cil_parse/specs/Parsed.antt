@@ -1,14 +1,12 @@
 -- Modules kept parsed.
 use Rattle.std.specs.Prelude.{◌≡◌, ℕ, List, [], map, length, Some}
 use Rattle.cil_specs.specs.Statements.{Statements}
-use Rattle.cil_text.specs.Image.{place_of}
 use Rattle.cil_parse.specs.Lexicon.{texts_in}
-use Rattle.cil_parse.specs.Forms.{kind_of, words_in, nodes_in}
+use Rattle.cil_parse.specs.Forms.{words_in, nodes_in}
 use Rattle.cil_parse.specs.Flat.{FlatStatement, flat}
 use Rattle.cil_parse.specs.Builder.{read, row_of, row_for, IsAt}
 use Rattle.cil_parse.specs.declared.builder.Builder.{Builder}
 use Rattle.cil_parse.specs.declared.parsed.ParsedModule.{ParsedModule}
-use Rattle.cil_parse.specs.declared.parsed.StatementView.{StatementView}
 
 -- the distinct texts of its words, by their numbers
 abbrev pub texts_of : {A : Type 0} → ParsedModule A → List (List ℕ)
@@ -27,15 +25,6 @@ pub record Spells {A : Type 0} (p : ParsedModule A) (statements : Statements) : 
   pub rows : map row_of p.rows.items ≡ map row_for (flat 0 0 0 statements)
   pub words : map (map (read (texts_of p))) p.words.0 ≡ map (λ f. map Some (words_in f.form)) (flat 0 0 0 statements)
   pub nodes : p.nodes.0 ≡ map (λ f. nodes_in f.form) (flat 0 0 0 statements)
-
--- the view shows the statement, its words by the numbers of these texts
-pub record IsShown (texts : List (List ℕ)) (v : StatementView) (f : FlatStatement) : Type 0 where
-  pub at : place_of v.at ≡ f.at
-  pub kind : v.kind ≡ kind_of f.form
-  pub block : v.block ≡ f.block
-  pub optional : v.optional ≡ f.optional
-  pub words : map (read texts) v.words.now ≡ map Some (words_in f.form)
-  pub nodes : v.nodes.now ≡ nodes_in f.form
 
 -- statements were gone over, and none is begun
 abbrev pub IsWhole : {A : Type 0} → Builder A → Type 0

@@ -10,6 +10,7 @@ ghost use Rattle.cil_text.specs.Expr.{exprs_of};
 ghost use Rattle.cil_parse.specs.Forms.{expr_nodes, kind_of};
 ghost use Rattle.cil_parse.specs.Builder.{IsAt, Adds, AddsExpr, AddsForm, Closes, Puts, Places, top};
 
+use crate::counts::Counts;
 use crate::lexicon::{Lexicon, number};
 use crate::lists::Lists;
 use crate::row::{Around, NumberedWord, Row, SetNode, StatementKind};
@@ -26,15 +27,15 @@ pub struct Builder<'a, A: Allocator = Global> {
 }
 
 impl<'a, A: Allocator + Copy> Builder<'a, A> {
-    /// Nothing was gone over.
-    pub fn new(alloc: A) -> Result<Self, AllocError>
+    /// Nothing was gone over. There is room for so many statements and words.
+    pub fn with_room(alloc: A, counts: Counts) -> Result<Self, AllocError>
         ensures { IfOk result (λ b. IsAt b [] [] []) }
     {
         Ok(Builder {
             lexicon: Lexicon::new(alloc)?,
-            words: Lists::with_capacity(alloc, 0, 0)?,
-            nodes: Lists::with_capacity(alloc, 0, 0)?,
-            rows: Vec::new(alloc),
+            words: Lists::with_capacity(alloc, counts.rows, counts.words)?,
+            nodes: Lists::with_capacity(alloc, counts.rows, 0)?,
+            rows: Vec::with_capacity(alloc, counts.rows)?,
         })
     }
 

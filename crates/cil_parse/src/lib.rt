@@ -2,10 +2,17 @@
 #![tactic(auto)]
 
 mod builder;
+mod counts;
+mod laws;
 mod lexicon;
 mod lists;
 mod parsed;
 mod row;
+mod table;
+mod view;
 
-pub use parsed::{ParsedModule, StatementView};
+pub use laws::statements_are_placed;
+pub use parsed::ParsedModule;
 pub use row::{NumberedWord, SetNode, StatementKind};
+pub use table::Table;
+pub use view::StatementView;

@@ -8,9 +8,11 @@ ghost use Rattle.cil_parse.specs.Lexicon.{seen, AreNumbersOf, AreSplit};
 ghost use Rattle.cil_parse.specs.Flat.{FlatStatement, flat, count};
 
 use crate::builder::Builder;
+use crate::counts::Counts;
 use crate::lists::Lists;
-use crate::row::{Around, NumberedWord, Row, SetNode, StatementKind};
-use cil_text::{Module, Place};
+use crate::row::{Around, NumberedWord, Row, SetNode};
+use crate::view::StatementView;
+use cil_text::Module;
 use std::alloc::{AllocError, Allocator, Global};
 
 /// The statements of a module, one behind the other. It is a function of the module alone, borrows nothing and knows no other module.
@@ -27,18 +29,6 @@ pub struct ParsedModule<A: Allocator = Global> {
     ghost split: { AreSplit names.0 components.0 texts.0 },
     ghost each_words: { length words.0 ≡ length rows.items },
     ghost each_nodes: { length nodes.0 ≡ length rows.items },
-}
-
-/// A statement of a parsed module: its place, its kind, the numbers of the innermost block and of the innermost optional around it, its
-/// words, and the nodes of its set expression. The number of a statement is its index and 1 more; 0 stands for none.
-#[derive(Clone, Copy, Debug)]
-pub struct StatementView<'p> {
-    pub at: Place,
-    pub kind: StatementKind,
-    pub block: u32,
-    pub optional: u32,
-    pub words: &'p [NumberedWord],
-    pub nodes: &'p [SetNode],
 }
 
 /// How many bytes names have together.
@@ -69,7 +59,9 @@ impl<A: Allocator + Copy> ParsedModule<A> {
     pub fn of(alloc: A, module: &Module<'_, A>) -> Result<Self, AllocError>
         ensures { IfOk result (λ p. Spells p (statements_of «module».now.statements.items)) }
     {
-        let mut builder = Builder::new(alloc)?;
+        let mut counts = Counts { rows: 0, words: 0 };
+        counts.add(&module.statements);
+        let mut builder = Builder::with_room(alloc, counts)?;
         let around = Around {
             block: 0,
             optional: 0,
@@ -99,7 +91,8 @@ impl<A: Allocator + Copy> ParsedModule<A> {
 }
 
 impl<A: Allocator> ParsedModule<A> {
-    ghost use Rattle.cil_parse.specs.Parsed.{texts_of, names_of, statement_count, Spells, IsShown};
+    ghost use Rattle.cil_parse.specs.Parsed.{texts_of, names_of, statement_count, Spells};
+    ghost use Rattle.cil_parse.specs.View.{IsShown};
 
     /// How many statements there are, those inside others too.
     pub fn len(&self) -> usize

@@ -1,6 +1,6 @@
 use Rattle.std.proofs.Common.{◌≡◌, ◌∙◌, ap, sym, refl}
 use Rattle.cil_parse.proofs.ParsedLemmas.{shown}
-use Rattle.cil_parse.specs.declared.parsed.StatementView.{StatementView}
+use Rattle.cil_parse.specs.declared.view.StatementView.{StatementView}
 use Rattle.cil_parse.proofs.parsed.ParsedModule.statement.Goals as goal
 
 pub returns : goal.returns
