@@ -3,7 +3,7 @@ use Rattle.std.proofs.Common.{◌≡◌, ℕ, zero, suc, ◌<◌, List, [], ◌�
 use Rattle.std.specs.Option.{option_map, option_and_then}
 use Rattle.std.proofs.lemmas.Option.{same_Some, slice_get-map}
 use Rattle.cil_specs.specs.Names.{Word}
-use Rattle.cil_specs.specs.Expr.{named_words}
+use Rattle.cil_specs.specs.Expr.{leaves}
 use Rattle.cil_specs.specs.Lookup as lookup
 use Rattle.cil_specs.specs.Lookup.{types, classes, commons, scopes, declared_in, references}
 use Rattle.cil_specs.specs.Statements.{itself, the_named, Form, block, optional, type_name, type_alias, alias_actual, type_attribute, attribute_set, common, class, class_common, class_order, rule}
@@ -53,7 +53,7 @@ references-at (alias_actual alias actual) (suc zero) = refl
 references-at (alias_actual alias actual) (suc (suc k)) = refl
 references-at (type_attribute id) k = refl
 references-at (attribute_set attribute expr) zero = refl
-references-at (attribute_set attribute expr) (suc k) = slice_get-map (λ w. (types, w)) (named_words expr) k
+references-at (attribute_set attribute expr) (suc k) = slice_get-map (λ w. (types, w)) (leaves expr) k
 references-at (common id permissions) k = refl
 references-at (class id permissions) k = refl
 references-at (class_common the_class the_common) zero = refl
