@@ -19,8 +19,8 @@ use Rattle.cil_specs.proofs.OnceLemmas.{table-in, twice-some, twice-nothing, Pas
 use Rattle.cil_specs.proofs.DeclaredLemmas.{one-namespace}
 use Rattle.cil_bind.specs.Lookup.{word_at, named, namespace_at, table_of, table_index, is_key, HaveDeclared}
 use Rattle.cil_bind.specs.Rows.{IsDeclared, IsRow, AreRows, AreNumbered, IsOnce, IsTaken, is_optional_row}
-use Rattle.cil_bind.specs.declared.table.Table as code
-use Rattle.cil_bind.specs.declared.table.Table.TheVariants.{Types, Classes, Commons, Scopes}
+use Rattle.cil_parse.specs.declared.table.Table as code
+use Rattle.cil_parse.specs.declared.table.Table.TheVariants.{Types, Classes, Commons, Scopes}
 use Rattle.cil_bind.specs.declared.lookup.Key.{Key}
 use Rattle.cil_bind.specs.declared.rows.Row.{Row}
 use Rattle.cil_bind.proofs.NamespaceLemmas.{bytes_eq-refl, bytes_eq-true, distinct-place}

@@ -16,10 +16,10 @@ use Rattle.cil_specs.specs.Lookup.{Table, declared_in, is_word, declares, is_sam
 use Rattle.cil_specs.proofs.Runs.{first_true, second_true}
 use Rattle.cil_specs.proofs.DeclaredLemmas.{one-namespace}
 use Rattle.cil_bind.specs.Lookup.{word_at, named, namespace_at, path_of, table_of, table_index, is_key, HaveDeclared, AreOpened, Knows, IsFirstOf, IsLead, AreWithin}
-use Rattle.cil_bind.specs.declared.table.Table as code
-use Rattle.cil_bind.specs.declared.table.Table.TheVariants.{Types, Classes, Commons, Scopes}
+use Rattle.cil_parse.specs.declared.table.Table as code
+use Rattle.cil_parse.specs.declared.table.Table.TheVariants.{Types, Classes, Commons, Scopes}
 use Rattle.cil_bind.specs.declared.lookup.Key.{Key}
-use Rattle.cil_bind.specs.contracts.table.TablePartialEq.TheImpl as table_eq
+use Rattle.cil_parse.specs.contracts.table.TablePartialEq.TheImpl as table_eq
 use Rattle.cil_bind.specs.contracts.lookup.KeyPartialEq.TheImpl as key_eq
 use Rattle.cil_bind.proofs.NamespaceLemmas.{bytes_eq-true}
 

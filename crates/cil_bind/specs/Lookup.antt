@@ -5,8 +5,9 @@ use Rattle.std.specs.Map.{lookup}
 use Rattle.std.specs.Option.{option_and_then}
 use Rattle.cil_specs.specs.Joined.{Placed}
 use Rattle.cil_specs.specs.Lookup.{Table, types, classes, commons, scopes, declares, is_same, has_block, outward}
-use Rattle.cil_bind.specs.declared.table.Table as code
-use Rattle.cil_bind.specs.declared.table.Table.TheVariants.{Types, Classes, Commons, Scopes}
+pub use Rattle.cil_parse.specs.Kinds.{table_of}
+use Rattle.cil_parse.specs.declared.table.Table as code
+use Rattle.cil_parse.specs.declared.table.Table.TheVariants.{Types, Classes, Commons, Scopes}
 use Rattle.cil_bind.specs.declared.lookup.Key.{Key}
 
 -- the word of a number
@@ -24,12 +25,6 @@ namespace_at names spaces n = named names (slice_index_or spaces n [])
 -- the words of a path, whose numbers are those of a module
 abbrev pub path_of : List (List ℕ) → List ℕ → List ℕ → List (List ℕ)
 path_of names words path = map (λ k. word_at names (slice_index_or words k 0)) path
-
-abbrev pub table_of : code.Table → Table
-table_of Types = types
-table_of Classes = classes
-table_of Commons = commons
-table_of Scopes = scopes
 
 abbrev pub table_index : code.Table → ℕ
 table_index Types = 0

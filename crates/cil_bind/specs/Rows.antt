@@ -2,12 +2,12 @@
 use Rattle.std.specs.Prelude.{◌≡◌, ◌<◌, ℕ, Bool, true, false, List, [], ◌∷◌, ◌++◌, length, take, slice_get, bytes_eq, Option, Some, None}
 use Rattle.std.specs.List.{IsDistinct, AllByRecursion}
 use Rattle.cil_specs.specs.Names.{Word}
-use Rattle.cil_specs.specs.Statements.{Form, is_optional}
+use Rattle.cil_specs.specs.Statements.{Form, block, is_optional}
 use Rattle.cil_specs.specs.Joined.{Placed}
 use Rattle.cil_specs.specs.Lookup.{Table, declared_in}
 use Rattle.cil_specs.specs.PolicyFault.{PolicyFault, twice, twice_words, IsFaultOf}
 use Rattle.cil_bind.specs.Lookup.{word_at, namespace_at, table_of, HaveDeclared}
-use Rattle.cil_bind.specs.declared.table.Table as code
+use Rattle.cil_parse.specs.declared.table.Table as code
 use Rattle.cil_bind.specs.declared.lookup.Key.{Key}
 use Rattle.cil_bind.specs.declared.rows.Row.{Row}
 use Rattle.cil_bind.specs.declared.declarations.Declared.{Declared}
@@ -24,6 +24,7 @@ pub record IsRow (names spaces : List (List ℕ)) (row : Row) (s : Placed) : Typ
   pub here : namespace_at names spaces row.namespace ≡ s.namespace
   pub declares : IsDeclared names row.declares s.form
   pub optional : row.is_optional ≡ is_optional s.form
+  pub inside : (id : Word) → s.form ≡ block id → (row.inside < length spaces) × (namespace_at names spaces row.inside ≡ id.text ∷ s.namespace)
 
 -- the rows are those of a joined policy
 abbrev pub AreRows : List (List ℕ) → List (List ℕ) → List Row → List Placed → Type 0

@@ -2,13 +2,15 @@
 #![tactic(auto)]
 
 mod declarations;
+mod joined;
 mod lookup;
 mod names;
 mod namespaces;
 mod rows;
-mod table;
+mod scope;
 
 pub use declarations::{Declarations, Declared};
+pub use joined::{Joined, NamedModule, join};
 pub use lookup::{Key, Lookup};
 pub use rows::Row;
-pub use table::Table;
+pub use scope::Scope;

@@ -7,7 +7,7 @@ ghost use Rattle.cil_specs.specs.Names.{components};
 ghost use Rattle.cil_bind.specs.Lookup.{word_at, namespace_at, path_of, table_of, Knows, IsLead, AreWithin};
 
 use crate::namespaces::Namespaces;
-use crate::table::Table;
+use cil_parse::Table;
 use indexmap::IndexMap;
 use std::alloc::{Allocator, Global};
 use std::hash::{BuildHasherDefault, FoldHasher};

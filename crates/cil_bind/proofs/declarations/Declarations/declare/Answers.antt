@@ -10,7 +10,7 @@ use Rattle.cil_bind.proofs.declarations.Declarations.declare.Goals as goal
 
 -- what is read behind the end of the rows
 abbrev no_row : Row
-no_row = record { «module» = 0; index = 0; namespace = 0; optional = 0; declares = None; is_optional = false }
+no_row = record { «module» = 0; index = 0; namespace = 0; inside = 0; optional = 0; declares = None; is_optional = false }
 
 pub returns-in_default : goal.returns-in_default
 returns-in_default g c = λ names spaces policy nums are has once s here.
