@@ -3,3 +3,6 @@ pub mod NameLemmas
 pub mod LookupLemmas
 pub mod PositionLemmas
 pub mod DeclareLemmas
+pub mod JoinLemmas
+pub mod ScopeLemmas
+pub mod PlaceLemmas

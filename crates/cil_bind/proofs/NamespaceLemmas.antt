@@ -14,7 +14,7 @@ use Rattle.std.proofs.lemmas.Map.Keys.{IsDistinct-push, apart_from_distinct}
 use Rattle.std.proofs.lemmas.Option.{same_Some, slice_get-get_or, slice_get_within}
 use Rattle.indexmap.specs.IndexSet.{insert_key}
 use Rattle.cil_specs.proofs.Runs.{first_true, second_true}
-use Rattle.cil_bind.specs.Namespaces.{with_block, spaces_of, AreInside, AreSpaces}
+use Rattle.cil_bind.specs.Namespaces.{Opens, with_block, spaces_of, AreInside, AreSpaces}
 use Rattle.cil_bind.specs.declared.namespaces.Block.{Block}
 use Rattle.cil_bind.specs.contracts.namespaces.BlockPartialEq.TheImpl as block_eq
 use Rattle.std.proofs.lemmas.Slice.Eq.{bytes_eq-Decides}
@@ -234,3 +234,17 @@ put-block old blocks new b i are seen low room keys stored = by (list_any ((bloc
 pub no-blocks : AreSpaces []
 unfolding IsDistinct
 no-blocks = record { inside = tt; distinct = (tt, tt); few = omega arith }
+
+-- what a block of a word opens
+pub opens-some : (old new : List (List ℕ)) (namespace word n : ℕ) → n < length new → get_or new n [] ≡ word ∷ get_or old namespace [] → (more : List (List ℕ)) × (new ≡ old ++ more)
+    → ((space : List ℕ) → Contains new space → Contains old space ⊎ (space ≡ word ∷ get_or old namespace [])) → (IsDistinct bytes_eq old → IsDistinct bytes_eq new) → Opens old new namespace (Some word) n
+opens-some old new namespace word n within opened kept exact distinct = record {
+  kept = kept;
+  distinct = distinct;
+  opened = λ w e. (within, opened ∙ ap (λ v. v ∷ get_or old namespace []) (same_Some word w e));
+  exact = λ space there. by space (exact space there);
+}
+  where
+    by : (space : List ℕ) → Contains old space ⊎ (space ≡ word ∷ get_or old namespace []) → Contains old space ⊎ ((w : ℕ) × (Some word ≡ Some w) × (space ≡ w ∷ get_or old namespace []))
+    by space (inl there) = inl there
+    by space (inr is) = inr (word, refl, is)

@@ -1,5 +1,5 @@
 -- Namespaces by numbers: a namespace is the numbers of the words of the blocks around it, the innermost first.
-use Rattle.std.specs.Prelude.{◌≤◌, ◌<◌, ◌^◌, ℕ, ◌+◌, List, [], ◌∷◌, ◌++◌, fold, length, slice_index_or, bytes_eq}
+use Rattle.std.specs.Prelude.{◌≤◌, ◌<◌, ◌^◌, ℕ, ◌+◌, List, [], ◌∷◌, ◌++◌, fold, length, slice_index_or, bytes_eq, ◌≡◌, ◌⊎◌, Option, Some, Contains}
 use Rattle.std.specs.List.{IsDistinct}
 use Rattle.cil_bind.specs.declared.namespaces.Block.{Block}
 
@@ -21,3 +21,10 @@ pub record AreSpaces (blocks : List Block) : Type 0 where
   pub inside : AreInside 1 blocks
   pub distinct : IsDistinct bytes_eq (spaces_of blocks)
   pub few : length blocks + 1 < 2 ^ 32
+
+-- The namespaces with that inside a block of this word, if there is a word; a number is that of the namespace.
+pub record Opens (old new : List (List ℕ)) (namespace : ℕ) (word : Option ℕ) (n : ℕ) : Type 0 where
+  pub kept : (more : List (List ℕ)) × (new ≡ old ++ more)
+  pub distinct : IsDistinct bytes_eq old → IsDistinct bytes_eq new
+  pub opened : (w : ℕ) → word ≡ Some w → (n < length new) × (slice_index_or new n [] ≡ w ∷ slice_index_or old namespace [])
+  pub exact : (space : List ℕ) → Contains new space → Contains old space ⊎ ((w : ℕ) × (word ≡ Some w) × (space ≡ w ∷ slice_index_or old namespace []))

@@ -1,5 +1,5 @@
 -- The statements of a joined policy by numbers.
-use Rattle.std.specs.Prelude.{◌≡◌, ◌⊎◌, ◌<◌, ℕ, List, [], ◌∷◌, ◌++◌, Contains, Option, bytes_eq}
+use Rattle.std.specs.Prelude.{◌≡◌, ◌⊎◌, ◌<◌, ℕ, List, [], ◌∷◌, ◌++◌, Bool, true, false, Contains, Option, Some, None, slice_index_or, slice_get, length, ◌+◌, ◌==◌, if◌then◌else◌, bytes_eq}
 use Rattle.std.specs.List.{IsDistinct}
 use Rattle.cil_specs.specs.Names.{Word}
 use Rattle.cil_specs.specs.Statements.{Statements, Form, block}
@@ -9,6 +9,8 @@ use Rattle.cil_bind.specs.Rows.{IsDeclared, AreRows, AreNumbered}
 use Rattle.cil_parse.specs.Parsed.{Spells}
 use Rattle.cil_bind.specs.declared.rows.Row.{Row}
 use Rattle.cil_parse.specs.declared.table.Table.{Table}
+use Rattle.cil_parse.specs.declared.row.StatementKind.{StatementKind}
+use Rattle.cil_parse.specs.declared.row.StatementKind.TheVariants as kinds
 use Rattle.cil_bind.specs.declared.scope.Scope.{Scope}
 use Rattle.cil_bind.specs.declared.joined.NamedModule.{NamedModule}
 
@@ -19,6 +21,7 @@ IsOpenedIn names policy space = (space ≡ []) ⊎ ((s : Placed) × (id : Word) 
 -- These names, namespaces and rows are those of a policy.
 pub record Stands (names spaces : List (List ℕ)) (rows : List Row) (policy : List Placed) : Type 0 where
   pub numbered : AreNumbered names spaces
+  pub global : slice_index_or spaces 0 [] ≡ []
   pub rows_are : AreRows names spaces rows policy
   pub opened_by : (space : List ℕ) → Contains spaces space → IsOpenedIn names policy space
 
@@ -36,3 +39,20 @@ pub record Declares {A : Type 0} (old new : Scope A) (found : Option (Table × �
   pub kept : (more : List (List ℕ)) × (new.names ≡ old.names ++ more)
   pub distinct : IsDistinct bytes_eq old.names → IsDistinct bytes_eq new.names
   pub declares : (form : Form) → Says form → IsDeclared new.names found form
+
+-- the number of the word of a block
+abbrev pub block_word : StatementKind → Option (Table × ℕ) → Option ℕ
+block_word kinds.Block (Some (table, w)) = Some w
+block_word _ _ = None
+
+abbrev pub is_optional_kind : StatementKind → Bool
+is_optional_kind kinds.Optional = true
+is_optional_kind _ = false
+
+-- the number of an optional in a policy by that in its module, whose statements begin at a place; 0 stays 0
+abbrev pub optional_number : ℕ → ℕ → ℕ
+optional_number start optional = if optional == 0 then 0 else start + optional
+
+-- the names, namespaces and rows are those of a policy
+abbrev pub StandsFor : {A : Type 0} → Scope A → List Placed → Type 0
+StandsFor scope policy = Stands scope.names scope.namespaces scope.rows.items policy

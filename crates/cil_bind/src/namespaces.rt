@@ -2,6 +2,7 @@
 
 ghost use Rattle.std.specs.Prelude.{◌≡◌, ◌<◌, ◌++◌, ◌∷◌, ◌⊎◌, [], length, slice_index_or, bytes_eq, Contains, IfOk, OnErr, IfSome, IfNone, List, ℕ};
 ghost use Rattle.std.specs.List.{IsDistinct};
+ghost use Rattle.cil_bind.specs.Namespaces.{Opens};
 
 use indexmap::IndexSet;
 use std::alloc::{AllocError, Allocator, Global};
@@ -62,7 +63,31 @@ impl<A: Allocator + Copy> Namespaces<A> {
     }
 }
 
+impl<A: Allocator + Copy> Namespaces<A> {
+    /// The namespace inside a block of this word, which is new or known; the global one if there is no word.
+    pub fn inside(&mut self, namespace: u32, word: Option<u32>) -> Result<u32, AllocError>
+        requires { namespace < length self.old }
+        ensures { IfOk result (Opens self.old self.new namespace word) }
+    {
+        match word {
+            Some(word) => {
+                let opened = self.open(namespace, word)?;
+                Ok(opened)
+            }
+            None => Ok(0),
+        }
+    }
+}
+
 impl<A: Allocator> Namespaces<A> {
+    /// How many namespaces there are, the global one included.
+    pub fn len(&self) -> usize
+        ensures len { result ≡ length self.now }
+        ensures some { 0 < result }
+    {
+        self.blocks.len() + 1
+    }
+
     /// The namespace around one; none around the global one.
     pub fn outer(&self, n: u32) -> Option<u32>
         requires { n < length self.now }

@@ -1,6 +1,6 @@
 //! The statements of a joined policy by numbers.
 
-ghost use Rattle.std.specs.Prelude.{◌≡◌, ◌<◌, ◌≤◌, ◌+◌, ◌++◌, ◌^◌, ℕ, List, length, take, slice_get, IfOk, OnOk, Some};
+ghost use Rattle.std.specs.Prelude.{◌≡◌, ◌<◌, ◌≤◌, ◌+◌, ◌++◌, ◌^◌, ℕ, suc, List, length, take, slice_get, [], IfOk, OnOk, IfSome, Some};
 ghost use Rattle.cil_specs.specs.Names.{Word};
 ghost use Rattle.cil_specs.specs.Statements.{Statements, is_optional as is_optional_form};
 ghost use Rattle.cil_specs.specs.Joined.{Placed, placed};
@@ -8,7 +8,8 @@ ghost use Rattle.cil_parse.specs.Flat.{FlatStatement};
 ghost use Rattle.cil_parse.specs.Parsed.{texts_of, statement_count, Spells};
 ghost use Rattle.cil_parse.specs.View.{IsShown};
 ghost use Rattle.cil_bind.specs.Rows.{IsDeclared};
-ghost use Rattle.cil_bind.specs.Scope.{Stands, Declares};
+ghost use Rattle.cil_bind.specs.Scope.{StandsFor, Declares, optional_number, block_word as word_of_block, is_optional_kind};
+ghost use Rattle.cil_bind.specs.declared.rows.Row.{Row};
 
 use crate::names::Names;
 use crate::namespaces::Namespaces;
@@ -40,4 +41,92 @@ impl<'m, A: Allocator + Copy> Scope<'m, A> {
         let number = self.names.number(module.text(word.text as usize))?;
         Ok(Some((table, number)))
     }
+
+    /// Takes up the statement of an index of a module whose statements begin at a place. A number that 32 bits don't hold is answered as
+    /// out of memory.
+    fn place(
+        &mut self,
+        number: u32,
+        start: u32,
+        module: &'m ParsedModule<A>,
+        i: usize,
+    ) -> Result<(), AllocError>
+        requires spelt { (statements : Statements) × Spells «module».now statements }
+        requires within { i < statement_count «module».now }
+        ensures { OnOk result ((before : List Placed) (name : List ℕ) (statements : Statements) → Spells «module».now statements → length before ≡ start
+            → StandsFor self.old (before ++ take i (placed name [] [] statements)) → StandsFor self.new (before ++ take (i + 1) (placed name [] [] statements))) }
+    {
+        let view = module.statement(i);
+        let Some(numbers) = numbers_at(start, i, view.optional) else {
+            return Err(AllocError);
+        };
+        let namespace = self.around(start as usize, view.block);
+        let declares = self.declared(module, &view)?;
+        let word = block_word(view.kind, declares);
+        let inside = self.namespaces.inside(namespace, word)?;
+        self.rows.push(Row {
+            module: number,
+            index: numbers.0,
+            namespace,
+            inside,
+            optional: numbers.1,
+            declares,
+            is_optional: is_optional(view.kind),
+        })?;
+        Ok(())
+    }
+
+    /// The namespace around a statement of a module whose statements begin at a place, by the number of the innermost block.
+    fn around(&self, start: usize, block: u32) -> u32
+        requires { start < 2 ^ 32 }
+        ensures within { result < length self.now.namespaces }
+        ensures global { block ≡ 0 → result ≡ 0 }
+        ensures inside { (k : ℕ) (row : Row) → block ≡ suc k → slice_get self.now.rows.items (start + k) ≡ Some row → row.inside < length self.now.namespaces → result ≡ row.inside }
+    {
+        prove!(self.namespaces.len() > 0);
+        if block == 0 {
+            return 0;
+        }
+        match self.rows.get(start + (block as usize - 1)) {
+            Some(row) => {
+                if (row.inside as usize) < self.namespaces.len() {
+                    row.inside
+                } else {
+                    0
+                }
+            }
+            None => 0,
+        }
+    }
+}
+
+/// The word of a block.
+fn block_word(kind: StatementKind, declares: Option<(Table, u32)>) -> Option<u32>
+    ensures { result ≡ word_of_block kind declares }
+{
+    match (kind, declares) {
+        (StatementKind::Block, Some((_, word))) => Some(word),
+        _ => None,
+    }
+}
+
+/// Whether a statement is an optional.
+fn is_optional(kind: StatementKind) -> bool
+    ensures { result ≡ is_optional_kind kind }
+{
+    matches!(kind, StatementKind::Optional)
+}
+
+/// An index, and the number of the innermost optional in the policy by that in its module, whose statements begin at a place.
+fn numbers_at(start: u32, index: usize, optional: u32) -> Option<(u32, u32)>
+    ensures { IfSome result (λ numbers. (numbers.0 ≡ index) × (numbers.1 ≡ optional_number start optional)) }
+{
+    if index > 0xFFFF_FFFF {
+        return None;
+    }
+    if optional == 0 {
+        return Some((index as u32, 0));
+    }
+    let number = start.checked_add(optional)?;
+    Some((index as u32, number))
 }

@@ -1,0 +1,8 @@
+use Rattle.std.proofs.Common.{◌≡◌, ◌∷◌, get_or, [], inl, inr, ap, sym, ◌∙◌, refl, length, ◌<◌, subst}
+use Rattle.std.proofs.lemmas.Option.{same_Some, none-some}
+use Rattle.cil_bind.proofs.NamespaceLemmas.{opens-some}
+use Rattle.cil_bind.proofs.namespaces.Namespaces.inside.Goals as goal
+
+pub returns-in_ok-opened-in-Some : goal.returns-in_ok-opened-in-Some
+returns-in_ok-opened-in-Some g c =
+    opens-some c.args.self.now c.open.new.self c.args.namespace c.in-Some.word c.in_ok-opened-in-Some.opened c.in_ok-opened-in-Some.ensures.within c.in_ok-opened-in-Some.ensures.opened c.in_ok-opened-in-Some.ensures.kept c.in_ok-opened-in-Some.ensures.exact c.in_ok-opened-in-Some.ensures.distinct
