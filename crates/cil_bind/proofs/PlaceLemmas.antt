@@ -1,12 +1,12 @@
 -- Statements of a module that come to those of a joined policy.
-use Rattle.std.proofs.Common.{◌≡◌, ◌⊎◌, inl, inr, ℕ, zero, suc, ◌+◌, ◌<◌, ◌≤◌, Bool, List, [], ◌∷◌, ◌++◌, map, length, get_or, slice_get, take, Option, Some, None, bytes_eq, refl, sym, ap, ◌∙◌, subst, append_assoc, add-one, arith, length-append}
+use Rattle.std.proofs.Common.{◌≡◌, ◌⊎◌, inl, inr, ℕ, zero, suc, ◌+◌, ◌<◌, ◌≤◌, Bool, List, [], ◌∷◌, ◌++◌, map, length, get_or, slice_get, take, Option, Some, None, bytes_eq, refl, sym, ap, ◌∙◌, subst, append_assoc, append-nil, add-one, Contains, arith, length-append}
 use Rattle.std.specs.List.{IsDistinct}
-use Rattle.std.proofs.lemmas.List.{length-map, get_or_append_left}
+use Rattle.std.proofs.lemmas.List.{length-map, take_all}
 use Rattle.std.proofs.lemmas.Option.{none-some, same_Some}
 use Rattle.cil_text.specs.Image.{place_of}
 use Rattle.cil_specs.specs.Names.{Word}
 use Rattle.cil_specs.specs.Statements.{Form, block, is_optional, Statements}
-use Rattle.cil_specs.specs.Joined.{Placed, placed}
+use Rattle.cil_specs.specs.Joined.{Placed, Module, placed, joined}
 use Rattle.cil_parse.specs.Flat.{FlatStatement, flat}
 use Rattle.cil_parse.specs.Forms.{kind_of}
 use Rattle.cil_parse.specs.Builder.{row_of, row_for}
@@ -21,7 +21,8 @@ use Rattle.cil_parse.proofs.AroundLemmas.{placed-flat}
 use Rattle.cil_bind.specs.Lookup.{named, namespace_at}
 use Rattle.cil_bind.specs.Namespaces.{Opens}
 use Rattle.cil_bind.specs.Rows.{IsDeclared, IsRow, AreRows}
-use Rattle.cil_bind.specs.Scope.{Stands, block_word, is_optional_kind}
+use Rattle.cil_bind.specs.Scope.{Stands, AreSpelt, block_word, is_optional_kind}
+use Rattle.cil_bind.specs.declared.joined.NamedModule.{NamedModule}
 use Rattle.cil_bind.specs.declared.rows.Row.{Row}
 use Rattle.cil_bind.proofs.PositionLemmas.{take-next}
 use Rattle.cil_bind.proofs.ScopeLemmas.{stands-next, kind-optional}
@@ -114,3 +115,81 @@ placed-next p statements v i names spaces more spaces' rows before name start ro
 
     whole : (before ++ take i all) ++ it.0 ∷ [] ≡ before ++ take (i + 1) all
     whole = append_assoc before (take i all) (it.0 ∷ []) ∙ ap (λ l. before ++ l) (sym (rw add-one (take-next all i it.0 it.1)))
+
+-- a module has as many statements as its policy
+pub placed-long : {A : Type 0} (p : ParsedModule A) (statements : Statements) (name : List ℕ) → Spells p statements → length (placed name [] [] statements) ≡ statement_count p
+placed-long p statements name spells =
+    sym (same-long row_of row_for p.rows.items (flat 0 0 0 statements) spells.rows ∙ long (placed name [] [] statements) 0 (flat 0 0 0 statements) (placed name [] [] statements) (placed-flat name statements))
+  where
+    long : (all : List Placed) (index : ℕ) (list : List FlatStatement) (statements : List Placed) → ArePlacedAs all index list statements → length list ≡ length statements
+    long all index [] [] are = refl
+    long all index [] (s ∷ statements) are = absurd are
+    long all index (f ∷ list) [] are = absurd are
+    long all index (f ∷ list) (s ∷ statements) are = ap suc (long all (index + 1) list statements are.1)
+
+pub stands-start : (names spaces : List (List ℕ)) (rows : List Row) (before some : List Placed) → some ≡ [] → Stands names spaces rows before → Stands names spaces rows (before ++ some)
+stands-start names spaces rows before some e stands = subst (Stands names spaces rows) (sym (ap (λ l. before ++ l) e ∙ append-nil before)) stands
+
+pub stands-all : {A : Type 0} (p : ParsedModule A) (statements : Statements) (name : List ℕ) (names spaces : List (List ℕ)) (rows : List Row) (before : List Placed) (i : ℕ) → Spells p statements → statement_count p ≤ i
+    → Stands names spaces rows (before ++ take i (placed name [] [] statements)) → Stands names spaces rows (before ++ placed name [] [] statements)
+stands-all p statements name names spaces rows before i spells past stands =
+    let long = placed-long p statements name spells in
+    subst (λ l. Stands names spaces rows (before ++ l)) (take_all i (placed name [] [] statements) (omega arith)) stands
+
+pub kept-next : (a b c : List (List ℕ)) → (more : List (List ℕ)) × (b ≡ a ++ more) → (more : List (List ℕ)) × (c ≡ b ++ more) → (more : List (List ℕ)) × (c ≡ a ++ more)
+kept-next a b c first next = (first.0 ++ next.0, next.1 ∙ ap (λ l. l ++ next.0) first.1 ∙ append_assoc a first.0 next.0)
+
+-- nothing stands for no policy
+pub stands-none : (names : List (List ℕ)) → IsDistinct bytes_eq names → Stands names ([] ∷ []) [] []
+unfolding IsDistinct
+stands-none names distinct = record {
+  numbered = record { names_distinct = distinct; spaces_distinct = (tt, tt); within = (tt, tt) };
+  global = refl;
+  rows_are = tt;
+  opened_by = λ space there. inl (only space there);
+}
+  where
+    only : (space : List ℕ) → Contains ([] ∷ []) space → space ≡ []
+    only space (zero, low, is) = sym is
+    only space (suc i, low, is) = absurd (omega arith)
+
+pub stands-first : (names spaces : List (List ℕ)) (rows : List Row) (policy : List Placed) → spaces ≡ [] ∷ [] → rows ≡ [] → policy ≡ [] → IsDistinct bytes_eq names → Stands names spaces rows policy
+stands-first names spaces rows policy s r p distinct =
+    subst (λ l. Stands names l rows policy) (sym s) (subst (λ l. Stands names ([] ∷ []) l policy) (sym r) (subst (Stands names ([] ∷ []) []) (sym p) (stands-none names distinct)))
+
+-- the modules up to the next
+pub joined-next : (modules : List Module) (i : ℕ) (m : Module) → slice_get modules i ≡ Some m → joined (take (i + 1) modules) ≡ joined (take i modules) ++ placed m.name [] [] m.statements
+joined-next modules i m at =
+    let next : take (i + 1) modules ≡ take i modules ++ m ∷ [] = rw add-one (take-next modules i m at) in
+    ap joined next ∙ several (take i modules)
+  where
+    several : (ms : List Module) → joined (ms ++ m ∷ []) ≡ joined ms ++ placed m.name [] [] m.statements
+    several [] = append-nil (placed m.name [] [] m.statements)
+    several (x ∷ ms) = ap (λ l. placed x.name [] [] x.statements ++ l) (several ms) ∙ sym (append_assoc (placed x.name [] [] x.statements) (joined ms) (placed m.name [] [] m.statements))
+
+-- the module of an index
+pub spelt-at : {A : Type 0} (parsed : List (NamedModule A)) (modules : List Module) (i : ℕ) (d : NamedModule A) → AreSpelt parsed modules → i < length parsed
+    → (m : Module) × (slice_get modules i ≡ Some m) × Spells (get_or parsed i d).module.now m.statements × ((get_or parsed i d).name.now ≡ m.name)
+spelt-at [] modules i d are low = absurd (omega arith)
+spelt-at (n ∷ parsed) [] i d are low = absurd are
+spelt-at (n ∷ parsed) (m ∷ modules) zero d are low = (m, refl, are.1, are.0)
+spelt-at (n ∷ parsed) (m ∷ modules) (suc i) d are low = spelt-at parsed modules i d are.2 (omega arith)
+
+-- the next module comes
+pub module-next : {A : Type 0} (parsed : List (NamedModule A)) (modules : List Module) (i : ℕ) (d : NamedModule A) (names spaces : List (List ℕ)) (rows : List Row) → AreSpelt parsed modules → i < length parsed
+    → ((m : Module) → Spells (get_or parsed i d).module.now m.statements → Stands names spaces rows (joined (take i modules) ++ placed m.name [] [] m.statements)) → Stands names spaces rows (joined (take (i + 1) modules))
+module-next parsed modules i d names spaces rows are low stands =
+    let m = spelt-at parsed modules i d are low in
+    subst (Stands names spaces rows) (sym (joined-next modules i m.0 m.1)) (stands m.0 m.2)
+
+pub spelt-long : {A : Type 0} (parsed : List (NamedModule A)) (modules : List Module) → AreSpelt parsed modules → length parsed ≡ length modules
+spelt-long [] [] are = refl
+spelt-long [] (m ∷ modules) are = absurd are
+spelt-long (n ∷ parsed) [] are = absurd are
+spelt-long (n ∷ parsed) (m ∷ modules) are = ap suc (spelt-long parsed modules are.2)
+
+pub joined-all : {A : Type 0} (parsed : List (NamedModule A)) (modules : List Module) (names spaces : List (List ℕ)) (rows : List Row) (i : ℕ) → AreSpelt parsed modules → length parsed ≤ i
+    → Stands names spaces rows (joined (take i modules)) → Stands names spaces rows (joined modules)
+joined-all parsed modules names spaces rows i are past stands =
+    let long = spelt-long parsed modules are in
+    subst (λ l. Stands names spaces rows (joined l)) (take_all i modules (omega arith)) stands

@@ -3,14 +3,17 @@
 ghost use Rattle.std.specs.Prelude.{◌≡◌, ◌<◌, ◌≤◌, ◌+◌, ◌++◌, ◌^◌, ℕ, suc, List, length, take, slice_get, [], IfOk, OnOk, IfSome, Some};
 ghost use Rattle.cil_specs.specs.Names.{Word};
 ghost use Rattle.cil_specs.specs.Statements.{Statements, is_optional as is_optional_form};
-ghost use Rattle.cil_specs.specs.Joined.{Placed, placed};
+ghost use Rattle.std.specs.Prelude.{bytes_eq};
+ghost use Rattle.std.specs.List.{IsDistinct};
+ghost use Rattle.cil_specs.specs.Joined.{Placed, Module, placed, joined as joined_policy};
 ghost use Rattle.cil_parse.specs.Flat.{FlatStatement};
 ghost use Rattle.cil_parse.specs.Parsed.{texts_of, statement_count, Spells};
 ghost use Rattle.cil_parse.specs.View.{IsShown};
 ghost use Rattle.cil_bind.specs.Rows.{IsDeclared};
-ghost use Rattle.cil_bind.specs.Scope.{StandsFor, Declares, optional_number, block_word as word_of_block, is_optional_kind};
+ghost use Rattle.cil_bind.specs.Scope.{StandsFor, AreSpelt, Declares, optional_number, block_word as word_of_block, is_optional_kind};
 ghost use Rattle.cil_bind.specs.declared.rows.Row.{Row};
 
+use crate::joined::Joined;
 use crate::names::Names;
 use crate::namespaces::Namespaces;
 use crate::rows::Row;
@@ -26,6 +29,48 @@ pub struct Scope<'m, A: Allocator = Global> {
 }
 
 impl<'m, A: Allocator + Copy> Scope<'m, A> {
+    /// The statements of a joined policy, over words that have numbers already.
+    pub fn of(
+        alloc: A,
+        names: Names<'m, A>,
+        joined: &Joined<'m, A>,
+    ) -> Result<Self, AllocError>
+        requires distinct { IsDistinct bytes_eq names }
+        requires spelt { (modules : List Module) × AreSpelt joined.now.modules.items modules }
+        ensures stands { IfOk result (λ scope. (modules : List Module) → AreSpelt joined.now.modules.items modules → StandsFor scope (joined_policy modules)) }
+        ensures kept { IfOk result (λ scope. (more : List (List ℕ)) × (scope.names ≡ names.entry ++ more)) }
+    {
+        let mut scope = Scope {
+            names,
+            namespaces: Namespaces::new(alloc),
+            rows: Vec::new(alloc),
+        };
+        for i in 0..joined.modules.len() {
+            if i > 0xFFFF_FFFF {
+                return Err(AllocError);
+            }
+            scope.add(i as u32, joined.modules[i].module)?;
+        }
+        Ok(scope)
+    }
+
+    /// Takes up the statements of a module.
+    fn add(&mut self, number: u32, module: &'m ParsedModule<A>) -> Result<(), AllocError>
+        requires { (statements : Statements) × Spells «module».now statements }
+        ensures stands { OnOk result ((before : List Placed) (name : List ℕ) (statements : Statements) → Spells «module».now statements
+            → StandsFor self.old before → StandsFor self.new (before ++ placed name [] [] statements)) }
+        ensures kept { OnOk result ((more : List (List ℕ)) × (self.new.names ≡ self.old.names ++ more)) }
+    {
+        let start = self.rows.len();
+        if start > 0xFFFF_FFFF {
+            return Err(AllocError);
+        }
+        for i in 0..module.len() {
+            self.place(number, start as u32, module, i)?;
+        }
+        Ok(())
+    }
+
     /// What a statement of a module declares.
     fn declared(
         &mut self,
@@ -53,8 +98,9 @@ impl<'m, A: Allocator + Copy> Scope<'m, A> {
     ) -> Result<(), AllocError>
         requires spelt { (statements : Statements) × Spells «module».now statements }
         requires within { i < statement_count «module».now }
-        ensures { OnOk result ((before : List Placed) (name : List ℕ) (statements : Statements) → Spells «module».now statements → length before ≡ start
+        ensures stands { OnOk result ((before : List Placed) (name : List ℕ) (statements : Statements) → Spells «module».now statements → length before ≡ start
             → StandsFor self.old (before ++ take i (placed name [] [] statements)) → StandsFor self.new (before ++ take (i + 1) (placed name [] [] statements))) }
+        ensures kept { OnOk result ((more : List (List ℕ)) × (self.new.names ≡ self.old.names ++ more)) }
     {
         let view = module.statement(i);
         let Some(numbers) = numbers_at(start, i, view.optional) else {

@@ -1,0 +1,32 @@
+use Rattle.std.proofs.Common.{◌<◌, length, take, subst, rules, [], refl, sym, append-nil, arith}
+use Rattle.cil_specs.specs.Joined.{joined}
+use Rattle.cil_parse.specs.Parsed.{Spells}
+use Rattle.cil_bind.proofs.PlaceLemmas.{stands-first, module-next, joined-all, kept-next, spelt-at}
+use Rattle.cil_bind.proofs.scope.Scope.of.Goals as goal
+
+pub loop-i-init : goal.loop-i-init
+loop-i-init g c = record {
+  stands = λ modules are. stands-first _ _ _ _ c.new.ensures c.new-2.ensures.items refl c.requires.distinct;
+  kept = ([], sym (append-nil _));
+}
+
+pub returns-clause-stands : goal.returns-clause-stands
+returns-clause-stands g c = λ modules are.
+    joined-all c.args.joined.now.modules.items modules _ _ _ c.loop-i.i are (omega arith) (c.loop-i.invariant.stands modules are)
+
+pub add-requires : goal.add-requires
+add-requires g c =
+    let items = c.args.joined.now.modules.items in
+    let low : c.loop-i.i < length items = search rules in
+    let m = spelt-at items c.requires.spelt.0 c.loop-i.i c.index.result.now c.requires.spelt.1 low in
+    (m.0.statements, subst (λ n. Spells n.«module».now m.0.statements) (sym c.index.ensures) m.2)
+
+pub loop-i-preserved : goal.loop-i-preserved
+loop-i-preserved g c = record {
+  stands = λ modules are.
+      let items = c.args.joined.now.modules.items in
+      let low : c.loop-i.i < length items = search rules in
+      module-next items modules c.loop-i.i c.index.result.now _ _ _ are low λ m spells.
+      c.in_ok-add.ensures.stands (joined (take c.loop-i.i modules)) m.name m.statements (subst (λ n. Spells n.«module».now m.statements) (sym c.index.ensures) spells) (c.loop-i.invariant.stands modules are);
+  kept = kept-next _ _ _ c.loop-i.invariant.kept c.in_ok-add.ensures.kept;
+}
