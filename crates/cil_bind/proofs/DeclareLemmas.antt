@@ -204,7 +204,7 @@ again-known policy s table w k f once first at =
     (any-before (declares table s.namespace w.text) k policy ∙ ap (λ o. is_before o k) first ∙ le-ltb k k (omega arith))
     (ap (declares table s.namespace w.text) (sym (get_or_from_slice_get policy k f f at)) ∙ (position-Some (declares table s.namespace w.text) policy k f first).1)
 
-same_namespace-refl : (a : List (List ℕ)) → same_namespace a a ≡ true
+pub same_namespace-refl : (a : List (List ℕ)) → same_namespace a a ≡ true
 same_namespace-refl [] = refl
 same_namespace-refl (x ∷ a) = both_true (bytes_eq x x) (same_namespace a a) (bytes_eq-refl x) (same_namespace-refl a)
 
@@ -212,7 +212,7 @@ same_namespace-refl (x ∷ a) = both_true (bytes_eq x x) (same_namespace a a) (b
 word-once : (names : List (List ℕ)) (spaces : List (List ℕ)) (v w : ℕ) → AreNumbered names spaces → v < length names → w < length names → word_at names v ≡ word_at names w → v ≡ w
 word-once names spaces v w are low high e = distinct-place names v w are.names_distinct low high e
 
-named-once : (names spaces : List (List ℕ)) (a b : List ℕ) → AreNumbered names spaces → AllByRecursion (λ w. w < length names) a → AllByRecursion (λ w. w < length names) b → named names a ≡ named names b → a ≡ b
+pub named-once : (names spaces : List (List ℕ)) (a b : List ℕ) → AreNumbered names spaces → AllByRecursion (λ w. w < length names) a → AllByRecursion (λ w. w < length names) b → named names a ≡ named names b → a ≡ b
 named-once names spaces [] [] are low high e = refl
 named-once names spaces [] (w ∷ b) are low high e = cc
 named-once names spaces (v ∷ a) [] are low high e = cc

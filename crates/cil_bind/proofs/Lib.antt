@@ -6,3 +6,4 @@ pub mod DeclareLemmas
 pub mod JoinLemmas
 pub mod ScopeLemmas
 pub mod PlaceLemmas
+pub mod WordLemmas

@@ -51,7 +51,7 @@ placed-there all index (g ∷ list) (s ∷ statements) (suc i) f are at =
     let rest = placed-there all (index + 1) list statements i f are.1 at in
     (rest.0, rest.1, subst (λ n. IsPlacedAs all n f rest.0) (omega arith) rest.2)
 
-row-there : (names spaces : List (List ℕ)) (rows : List Row) (policy : List Placed) (i : ℕ) (s : Placed) → AreRows names spaces rows policy → slice_get policy i ≡ Some s → (row : Row) × (slice_get rows i ≡ Some row) × IsRow names spaces row s
+pub row-there : (names spaces : List (List ℕ)) (rows : List Row) (policy : List Placed) (i : ℕ) (s : Placed) → AreRows names spaces rows policy → slice_get policy i ≡ Some s → (row : Row) × (slice_get rows i ≡ Some row) × IsRow names spaces row s
 row-there names spaces [] [] i s are at = absurd (none-some s at)
 row-there names spaces [] (p ∷ policy) i s are at = absurd are
 row-there names spaces (r ∷ rows) [] i s are at = absurd are

@@ -28,7 +28,7 @@ pub kept-more : (old new : List (List ℕ)) (word : List ℕ) → (new ≡ old) 
 kept-more old new word (inl e) = ([], e ∙ sym (append-nil old))
 kept-more old new word (inr e) = (word ∷ [], e)
 
-get-is : (xs : List (List ℕ)) (n : ℕ) (x : List ℕ) → slice_get xs n ≡ Some x → (n < length xs) × (get_or xs n [] ≡ x)
+pub get-is : (xs : List (List ℕ)) (n : ℕ) (x : List ℕ) → slice_get xs n ≡ Some x → (n < length xs) × (get_or xs n [] ≡ x)
 get-is [] n x e = absurd (none-some x e)
 get-is (y ∷ xs) zero x e = (omega arith, same_Some y x e)
 get-is (y ∷ xs) (suc n) x e = let rest = get-is xs n x e in (omega (arith, rest.0), rest.1)
@@ -64,7 +64,7 @@ all-get P d [] i all low = absurd (omega arith)
 all-get P d (x ∷ xs) zero all low = all.0
 all-get P d (x ∷ xs) (suc i) all low = all-get P d xs i all.1 (omega arith)
 
-space-within : (names spaces : List (List ℕ)) (n : ℕ) → AreNumbered names spaces → n < length spaces → AllByRecursion (λ w. w < length names) (get_or spaces n [])
+pub space-within : (names spaces : List (List ℕ)) (n : ℕ) → AreNumbered names spaces → n < length spaces → AllByRecursion (λ w. w < length names) (get_or spaces n [])
 space-within names spaces n are low = all-get (AllByRecursion (λ w. w < length names)) [] spaces n are.within low
 
 namespace-grows : (names spaces more others : List (List ℕ)) (n : ℕ) → AreNumbered names spaces → n < length spaces → namespace_at (names ++ more) (spaces ++ others) n ≡ namespace_at names spaces n

@@ -1,6 +1,7 @@
 //! What the names of a joined policy are bound to, once an edit.
 #![tactic(auto)]
 
+mod binding;
 mod declarations;
 mod joined;
 mod lookup;
@@ -8,9 +9,11 @@ mod names;
 mod namespaces;
 mod rows;
 mod scope;
+mod words;
 
 pub use declarations::{Declarations, Declared};
 pub use joined::{Joined, NamedModule, join};
 pub use lookup::{Key, Lookup};
 pub use rows::Row;
 pub use scope::Scope;
+pub use words::lead;

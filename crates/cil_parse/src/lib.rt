@@ -11,6 +11,7 @@ mod row;
 mod table;
 mod view;
 
+pub use lists::Lists;
 pub use laws::statements_are_placed;
 pub use parsed::ParsedModule;
 pub use row::{NumberedWord, SetNode, StatementKind};
