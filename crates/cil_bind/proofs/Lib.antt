@@ -7,3 +7,4 @@ pub mod JoinLemmas
 pub mod ScopeLemmas
 pub mod PlaceLemmas
 pub mod WordLemmas
+pub mod BindingLemmas

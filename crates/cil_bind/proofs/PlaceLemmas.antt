@@ -42,7 +42,7 @@ flat-there p statements i spells low =
     get-there (flat 0 0 0 statements) i (omega arith)
 
 -- and as it stands in the policy
-placed-there : (all : List Placed) (index : ℕ) (list : List FlatStatement) (statements : List Placed) (i : ℕ) (f : FlatStatement) → ArePlacedAs all index list statements → slice_get list i ≡ Some f
+pub placed-there : (all : List Placed) (index : ℕ) (list : List FlatStatement) (statements : List Placed) (i : ℕ) (f : FlatStatement) → ArePlacedAs all index list statements → slice_get list i ≡ Some f
     → (s : Placed) × (slice_get statements i ≡ Some s) × IsPlacedAs all (index + i) f s
 placed-there all index [] statements i f are at = absurd (none-some f at)
 placed-there all index (g ∷ list) [] i f are at = absurd are
@@ -58,11 +58,11 @@ row-there names spaces (r ∷ rows) [] i s are at = absurd are
 row-there names spaces (r ∷ rows) (p ∷ policy) zero s are at = (r, refl, subst (IsRow names spaces r) (same_Some p s at) are.0)
 row-there names spaces (r ∷ rows) (p ∷ policy) (suc i) s are at = row-there names spaces rows policy i s are.1 at
 
-get-behind : {X : Type 0} (xs ys : List X) (k : ℕ) → slice_get (xs ++ ys) (length xs + k) ≡ slice_get ys k
+pub get-behind : {X : Type 0} (xs ys : List X) (k : ℕ) → slice_get (xs ++ ys) (length xs + k) ≡ slice_get ys k
 get-behind [] ys k = ap (slice_get ys) (omega arith)
 get-behind (x ∷ xs) ys k = let e : suc (length xs) + k ≡ suc (length xs + k) = omega arith in ap (slice_get (x ∷ (xs ++ ys))) e ∙ get-behind xs ys k
 
-get-taken : {X : Type 0} (xs : List X) (i k : ℕ) (x : X) → k < i → slice_get xs k ≡ Some x → slice_get (take i xs) k ≡ Some x
+pub get-taken : {X : Type 0} (xs : List X) (i k : ℕ) (x : X) → k < i → slice_get xs k ≡ Some x → slice_get (take i xs) k ≡ Some x
 get-taken [] i k x low at = absurd (none-some x at)
 get-taken (y ∷ xs) zero k x low at = absurd (omega arith)
 get-taken (y ∷ xs) (suc i) zero x low at = at

@@ -36,12 +36,19 @@ get-is (y ∷ xs) (suc n) x e = let rest = get-is xs n x e in (omega (arith, res
 abbrev as_word : NumberedWord → List ℕ → Word
 as_word at t = record { at = place_of at.at; text = t }
 
-read-text : (texts : List (List ℕ)) (at : NumberedWord) (word : Word) → read texts at ≡ Some word → word.text ≡ get_or texts at.text []
+pub read-text : (texts : List (List ℕ)) (at : NumberedWord) (word : Word) → read texts at ≡ Some word → word.text ≡ get_or texts at.text []
 read-text texts at word e = by (slice_get texts at.text) refl e
   where
     by : (o : Option (List ℕ)) → slice_get texts at.text ≡ o → option_map (as_word at) o ≡ Some word → word.text ≡ get_or texts at.text []
     by None is e = absurd (none-some word e)
     by (Some t) is e = ap (λ w. w.text) (sym (same_Some (as_word at t) word e)) ∙ sym (get-is texts at.text t is).1
+
+pub read-within : (texts : List (List ℕ)) (at : NumberedWord) (word : Word) → read texts at ≡ Some word → at.text < length texts
+read-within texts at word e = by (slice_get texts at.text) refl e
+  where
+    by : (o : Option (List ℕ)) → slice_get texts at.text ≡ o → option_map (as_word at) o ≡ Some word → at.text < length texts
+    by None is e = absurd (none-some word e)
+    by (Some t) is e = (get-is texts at.text t is).0
 
 -- a word that was numbered is that of the statement
 pub declared-is : (names texts : List (List ℕ)) (n : ℕ) (at : NumberedWord) (table : code.Table) (f form : Form) (word : Word) → declared_in (table_of table) f ≡ Some word → read texts at ≡ Some word → f ≡ form

@@ -161,3 +161,19 @@ stands-opened names spaces rows policy stands n w low small = (to, from)
             let e : named names (get_or spaces row.0.inside []) ≡ named names (w ∷ get_or spaces n []) = inner.1 ∙ (λ j. id.2 j ∷ same j) in
             let numbers = named-once names spaces (get_or spaces row.0.inside []) (w ∷ get_or spaces n []) stands.numbered (space-within names spaces row.0.inside stands.numbered inner.0) (small, space-within names spaces n stands.numbered low) e in
             subst (Contains spaces) numbers (Contains-get_or spaces row.0.inside [] inner.0)
+
+-- the words of the module of an index
+pub worded-at : {A : Type 0} (all : List (List ℕ)) (words : List (Vec ℕ A)) (modules : List (NamedModule A)) (i : ℕ) (w : Vec ℕ A) (m : NamedModule A) → AreWorded all words modules → i < length modules → w ≡ get_or words i w → m ≡ get_or modules i m
+    → AreNumbersOf all w.items (names_of m.«module».now)
+worded-at all [] [] i w m are low a b = absurd (omega arith)
+worded-at all [] (n ∷ modules) i w m are low a b = absurd are
+worded-at all (v ∷ words) [] i w m are low a b = absurd are
+worded-at all (v ∷ words) (n ∷ modules) zero w m are low a b =
+    subst (λ x. AreNumbersOf all x.items (names_of m.«module».now)) (sym a) (subst (λ x. AreNumbersOf all v.items (names_of x.«module».now)) (sym b) are.0)
+worded-at all (v ∷ words) (n ∷ modules) (suc i) w m are low a b = worded-at all words modules i w m are.1 (omega arith) a b
+
+pub worded-long : {A : Type 0} (all : List (List ℕ)) (words : List (Vec ℕ A)) (modules : List (NamedModule A)) → AreWorded all words modules → length words ≡ length modules
+worded-long all [] [] are = refl
+worded-long all [] (n ∷ modules) are = absurd are
+worded-long all (v ∷ words) [] are = absurd are
+worded-long all (v ∷ words) (n ∷ modules) are = ap suc (worded-long all words modules are.1)
