@@ -53,7 +53,7 @@ leads-stay policy namespace refs k bound are none =
     past (x ∷ xs) zero e = absurd (none-some x (sym e))
     past (x ∷ xs) (suc i) e = omega (arith, past xs i e)
 
-length-tagged : (table : Table) (words : List Word) → length (map (λ w. (table, w)) words) ≡ length words
+length-tagged : (table : Table) (words : List Word) → length {A = Table × Word} (map (λ w. (table, w)) words) ≡ length words
 length-tagged table [] = refl
 length-tagged table (w ∷ words) = ap suc (length-tagged table words)
 

@@ -4,3 +4,4 @@ pub mod Rows
 pub mod Scope
 pub mod Words
 pub mod Binding
+pub mod Policy

@@ -1,0 +1,29 @@
+-- A joined policy whose references are bound.
+use Rattle.std.specs.Prelude.{◌≡◌, ℕ, List, [], ◌∷◌, take, slice_get, Some}
+use Rattle.cil_specs.specs.Names.{Word}
+use Rattle.cil_specs.specs.Joined.{Placed, Module, joined}
+use Rattle.cil_specs.specs.PolicyFault.{twice_words}
+use Rattle.cil_bind.specs.Lookup.{Knows}
+use Rattle.cil_bind.specs.Rows.{IsOnce}
+use Rattle.cil_bind.specs.Scope.{Stands, AreSpelt}
+use Rattle.cil_bind.specs.Words.{AreWorded}
+use Rattle.cil_bind.specs.Binding.{AreBound}
+use Rattle.cil_bind.specs.declared.joined.NamedModule.{NamedModule}
+use Rattle.cil_bind.specs.declared.policy.Policy.{Policy}
+use Rattle.cil_bind.specs.declared.policy.Joining.{Joining}
+use Rattle.cil_bind.specs.declared.policy.Joining.TheVariants.{Once, Twice}
+
+-- The words, the namespaces and the rows are those of this policy; each name has its first declaration, and none is declared twice; and
+-- each reference is bound to what it leads to.
+pub record IsBoundTo {A : Type 0} (p : Policy A) (parsed : List (NamedModule A)) (policy : List Placed) : Type 0 where
+  pub stands : Stands p.names p.lookup.namespaces p.rows.items policy
+  pub knows : Knows p.lookup.namespaces p.lookup.declared.entries p.names policy
+  pub once : IsOnce policy
+  pub worded : AreWorded p.names p.words.items parsed
+  pub bound : AreBound policy policy p.bound.0
+
+-- What is made of a policy: all of it bound; or the place of the first statement whose name those in front of it declare, where the two
+-- aren't both optionals.
+abbrev pub Makes : {A : Type 0} → List (NamedModule A) → List Placed → Joining A → Type 0
+Makes parsed policy (Once p) = IsBoundTo p parsed policy
+Makes parsed policy (Twice i) = IsOnce (take i policy) × ((s : Placed) × (word : Word) × (slice_get policy i ≡ Some s) × (twice_words (take i policy) s ≡ word ∷ []))
