@@ -1,6 +1,6 @@
 -- The words of modules in one numbering.
 use Rattle.std.proofs.Common.{◌≡◌, ◌⊎◌, ℕ, zero, suc, ◌+◌, ◌<◌, ◌≤◌, Bool, true, false, ◌&&◌, List, [], ◌∷◌, ◌++◌, map, length, get_or, slice_get, take, drop, Option, Some, None, All, Vec, Contains, bytes_eq, refl, sym, ap, ◌∙◌, subst, add-one, append_assoc, arith, inl, inr, true≢false, IsTrue, ◌↔◌}
-use Rattle.std.specs.List.{AllByRecursion, list_any}
+use Rattle.std.specs.List.{AllByRecursion, IsDistinct, list_any}
 use Rattle.std.proofs.lemmas.List.{length-map, map-append, get_or_append_left, take_all, get_or_default}
 use Rattle.std.proofs.lemmas.List.Elements.{Contains-get_or}
 use Rattle.std.proofs.lemmas.List.Folds.{Any-from_list_any, list_any_at}
@@ -177,3 +177,7 @@ worded-long all [] [] are = refl
 worded-long all [] (n ∷ modules) are = absurd are
 worded-long all (v ∷ words) [] are = absurd are
 worded-long all (v ∷ words) (n ∷ modules) are = ap suc (worded-long all words modules are.1)
+
+pub none-distinct : (names : List (List ℕ)) → names ≡ [] → IsDistinct bytes_eq names
+unfolding IsDistinct
+none-distinct names e = subst (IsDistinct bytes_eq) (sym e) tt
