@@ -8,3 +8,4 @@ pub mod ScopeLemmas
 pub mod PlaceLemmas
 pub mod WordLemmas
 pub mod BindingLemmas
+pub mod FromLemmas

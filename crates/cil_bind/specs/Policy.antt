@@ -5,7 +5,7 @@ use Rattle.cil_specs.specs.Joined.{Placed, Module, joined}
 use Rattle.cil_specs.specs.PolicyFault.{twice_words}
 use Rattle.cil_bind.specs.Lookup.{Knows}
 use Rattle.cil_bind.specs.Rows.{IsOnce}
-use Rattle.cil_bind.specs.Scope.{Stands, AreSpelt}
+use Rattle.cil_bind.specs.Scope.{Stands, AreFrom}
 use Rattle.cil_bind.specs.Words.{AreWorded}
 use Rattle.cil_bind.specs.Binding.{AreBound}
 use Rattle.cil_bind.specs.declared.joined.NamedModule.{NamedModule}
@@ -17,6 +17,7 @@ use Rattle.cil_bind.specs.declared.policy.Joining.TheVariants.{Once, Twice}
 -- each reference is bound to what it leads to.
 pub record IsBoundTo {A : Type 0} (p : Policy A) (parsed : List (NamedModule A)) (policy : List Placed) : Type 0 where
   pub stands : Stands p.names p.lookup.namespaces p.rows.items policy
+  pub from : AreFrom parsed p.rows.items policy
   pub knows : Knows p.lookup.namespaces p.lookup.declared.entries p.names policy
   pub once : IsOnce policy
   pub worded : AreWorded p.names p.words.items parsed

@@ -6,7 +6,9 @@ use Rattle.cil_specs.specs.Statements.{Statements, Form, block}
 use Rattle.cil_specs.specs.Joined.{Placed, Module}
 use Rattle.cil_bind.specs.Lookup.{named}
 use Rattle.cil_bind.specs.Rows.{IsDeclared, AreRows, AreNumbered}
-use Rattle.cil_parse.specs.Parsed.{Spells}
+use Rattle.cil_parse.specs.Flat.{FlatStatement, flat}
+use Rattle.cil_parse.specs.Parsed.{Spells, statement_count}
+use Rattle.cil_parse.specs.declared.parsed.ParsedModule.{ParsedModule}
 use Rattle.cil_bind.specs.declared.rows.Row.{Row}
 use Rattle.cil_parse.specs.declared.table.Table.{Table}
 use Rattle.cil_parse.specs.declared.row.StatementKind.{StatementKind}
@@ -56,3 +58,29 @@ optional_number start optional = if optional == 0 then 0 else start + optional
 -- the names, namespaces and rows are those of a policy
 abbrev pub StandsFor : {A : Type 0} → Scope A → List Placed → Type 0
 StandsFor scope policy = Stands scope.names scope.namespaces scope.rows.items policy
+
+-- A row tells the module and the index of its statement.
+pub record IsFrom {A : Type 0} (parsed : List (NamedModule A)) (row : Row) (s : Placed) : Type 0 where
+  pub m : NamedModule A
+  pub at : slice_get parsed row.«module» ≡ Some m
+  pub named : m.name.now ≡ s.module_name
+  pub within : row.index < statement_count m.«module».now
+  pub statements : Statements
+  pub spells : Spells m.«module».now statements
+  pub f : FlatStatement
+  pub is : slice_get (flat 0 0 0 statements) row.index ≡ Some f
+  pub form : f.form ≡ s.form
+  pub place : f.at ≡ s.at
+
+abbrev pub AreFrom : {A : Type 0} → List (NamedModule A) → List Row → List Placed → Type 0
+AreFrom parsed [] [] = Unit {0}
+AreFrom parsed [] (s ∷ policy) = ⊥
+AreFrom parsed (row ∷ rows) [] = ⊥
+AreFrom parsed (row ∷ rows) (s ∷ policy) = IsFrom parsed row s × AreFrom parsed rows policy
+
+-- The modules have this one, with this name, at a number.
+pub record HaveModule {A : Type 0} (parsed : List (NamedModule A)) (number : ℕ) (module_at : ParsedModule A) (name : List ℕ) : Type 0 where
+  pub m : NamedModule A
+  pub at : slice_get parsed number ≡ Some m
+  pub is : m.«module».now ≡ module_at
+  pub named : m.name.now ≡ name

@@ -10,7 +10,8 @@ ghost use Rattle.cil_parse.specs.Flat.{FlatStatement};
 ghost use Rattle.cil_parse.specs.Parsed.{texts_of, statement_count, Spells};
 ghost use Rattle.cil_parse.specs.View.{IsShown};
 ghost use Rattle.cil_bind.specs.Rows.{IsDeclared};
-ghost use Rattle.cil_bind.specs.Scope.{StandsFor, AreSpelt, Declares, optional_number, block_word as word_of_block, is_optional_kind};
+ghost use Rattle.cil_bind.specs.Scope.{StandsFor, AreSpelt, AreFrom, HaveModule, Declares, optional_number, block_word as word_of_block, is_optional_kind};
+ghost use Rattle.cil_bind.specs.declared.joined.NamedModule.{NamedModule};
 ghost use Rattle.cil_bind.specs.declared.rows.Row.{Row};
 
 use crate::joined::Joined;
@@ -39,6 +40,7 @@ impl<'m, A: Allocator + Copy> Scope<'m, A> {
         requires spelt { (modules : List Module) × AreSpelt joined.now.modules.items modules }
         ensures stands { IfOk result (λ scope. (modules : List Module) → AreSpelt joined.now.modules.items modules → StandsFor scope (joined_policy modules)) }
         ensures kept { IfOk result (λ scope. (more : List (List ℕ)) × (scope.names ≡ names.entry ++ more)) }
+        ensures from { IfOk result (λ scope. (modules : List Module) → AreSpelt joined.now.modules.items modules → AreFrom joined.now.modules.items scope.rows.items (joined_policy modules)) }
     {
         let mut scope = Scope {
             names,
@@ -60,6 +62,8 @@ impl<'m, A: Allocator + Copy> Scope<'m, A> {
         ensures stands { OnOk result ((before : List Placed) (name : List ℕ) (statements : Statements) → Spells «module».now statements
             → StandsFor self.old before → StandsFor self.new (before ++ placed name [] [] statements)) }
         ensures kept { OnOk result ((more : List (List ℕ)) × (self.new.names ≡ self.old.names ++ more)) }
+        ensures from { OnOk result ((parsed : List (NamedModule _)) (before : List Placed) (name : List ℕ) (statements : Statements) → Spells «module».now statements → HaveModule parsed number «module».now name
+            → AreFrom parsed self.old.rows.items before → AreFrom parsed self.new.rows.items (before ++ placed name [] [] statements)) }
     {
         let start = self.rows.len();
         if start > 0xFFFF_FFFF {
@@ -101,6 +105,8 @@ impl<'m, A: Allocator + Copy> Scope<'m, A> {
         ensures stands { OnOk result ((before : List Placed) (name : List ℕ) (statements : Statements) → Spells «module».now statements → length before ≡ start
             → StandsFor self.old (before ++ take i (placed name [] [] statements)) → StandsFor self.new (before ++ take (i + 1) (placed name [] [] statements))) }
         ensures kept { OnOk result ((more : List (List ℕ)) × (self.new.names ≡ self.old.names ++ more)) }
+        ensures from { OnOk result ((parsed : List (NamedModule _)) (before : List Placed) (name : List ℕ) (statements : Statements) → Spells «module».now statements → HaveModule parsed number «module».now name
+            → AreFrom parsed self.old.rows.items (before ++ take i (placed name [] [] statements)) → AreFrom parsed self.new.rows.items (before ++ take (i + 1) (placed name [] [] statements))) }
     {
         let view = module.statement(i);
         let Some(numbers) = numbers_at(start, i, view.optional) else {

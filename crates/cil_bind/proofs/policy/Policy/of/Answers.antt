@@ -29,6 +29,7 @@ returns g c = λ modules are.
     let worded : AreWorded scope.names c.in_ok-words.words.items items = worded-grows c.number_modules.new.self scope.names c.in_ok-words.words.items items c.in_ok-words.ensures.worded c.in_ok-scope.ensures.kept in
     record {
       stands = stands;
+      from = c.in_ok-scope.ensures.from modules are;
       knows = knows;
       once = declared.1;
       worded = worded;

@@ -7,6 +7,7 @@ use Rattle.cil_bind.specs.Rows.{IsDeclared}
 use Rattle.cil_bind.specs.Scope.{Stands, block_word}
 use Rattle.cil_bind.specs.declared.rows.Row.{Row}
 use Rattle.cil_bind.proofs.PlaceLemmas.{flat-there, placed-next}
+use Rattle.cil_bind.proofs.FromLemmas.{from-next}
 use Rattle.cil_bind.proofs.scope.Scope.place.Goals as goal
 
 pub declared-requires : goal.declared-requires
@@ -40,3 +41,17 @@ returns-clause-stands g c = λ before name statements spells long stands.
     (subst (λ s. Opens s spaces' c.around-namespace.result c.block_word-word.result c.in_ok-inside.inside) says.namespaces c.in_ok-inside.ensures)) in
     subst (λ n. Stands n spaces' c.push.new.self.items policy) (sym says.kept.1)
     (subst (λ r. Stands (self.names ++ says.kept.0) spaces' r policy) (sym (c.in_ok-push.ensures.items ∙ ap (λ r. r.items ++ row ∷ []) says.rows)) next)
+
+pub returns-clause-from : goal.returns-clause-from
+returns-clause-from g c = λ parsed before name statements spells have so_far.
+    let row : Row = record {
+      «module» = c.args.number;
+      index = c.in-Some.numbers.0;
+      namespace = c.around-namespace.result;
+      inside = c.in_ok-inside.inside;
+      optional = c.in-Some.numbers.1;
+      declares = c.in_ok-declares.declares;
+      is_optional = c.is_optional.result;
+    } in
+    from-next parsed c.args.«module».now statements name c.args.self.now.rows.items c.push.new.self.items before c.args.i row spells have c.in-Some.ensures.0 c.requires.within so_far
+    (c.in_ok-push.ensures.items ∙ ap (λ r. r.items ++ row ∷ []) c.in_ok-declares.ensures.rows)
