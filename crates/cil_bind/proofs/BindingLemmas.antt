@@ -18,7 +18,7 @@ use Rattle.cil_bind.specs.Rows.{IsRow, AreRows}
 use Rattle.cil_bind.specs.Scope.{AreSpelt}
 use Rattle.cil_bind.specs.declared.joined.NamedModule.{NamedModule}
 use Rattle.cil_bind.specs.declared.rows.Row.{Row}
-use Rattle.cil_bind.proofs.PlaceLemmas.{flat-there, placed-there, placed-long, row-there, get-behind, joined-next, spelt-at, spelt-long}
+use Rattle.cil_bind.proofs.DeclareLemmas.{row-at, rows-length}
 use Rattle.cil_parse.specs.View.{IsShown}
 use Rattle.cil_parse.specs.declared.row.NumberedWord.{NumberedWord}
 use Rattle.cil_parse.specs.declared.view.StatementView.{StatementView}
@@ -95,78 +95,18 @@ bound-next policy statements s namespace form old new are binds here same =
     subst (AreBound policy (statements ++ s ∷ [])) (sym (ap (λ p. p.0) binds.added))
     (bound-push policy statements old.0 s binds.bound are (subst (λ n. AreLeads policy n (references s.form) binds.bound) here (subst (λ f. AreLeads policy namespace (references f) binds.bound) same binds.leads_are)))
 
-get-front : {X : Type 0} (xs ys : List X) (i : ℕ) (x : X) → slice_get xs i ≡ Some x → slice_get (xs ++ ys) i ≡ Some x
-get-front [] ys i x e = absurd (none-some x e)
-get-front (z ∷ xs) ys zero x e = e
-get-front (z ∷ xs) ys (suc i) x e = get-front xs ys i x e
+-- one row more
+pub row-bound : (names spaces : List (List ℕ)) (rows : List Row) (policy : List Placed) (i : ℕ) (row : Row) (s : Placed) (n : ℕ) (form : Form) (old new : List (List (Option ℕ)) × List (Option ℕ)) → AreRows names spaces rows policy
+    → slice_get rows i ≡ Some row → slice_get policy i ≡ Some s → (row.namespace < length spaces → n ≡ row.namespace) → form ≡ s.form → Binds policy (namespace_at names spaces n) form old new → AreBound policy (take i policy) old.0
+    → AreBound policy (take (i + 1) policy) new.0
+row-bound names spaces rows policy i row s n form old new are at here known same binds so_far =
+    let is = row-at names spaces rows policy i row s are at here in
+    let next : take (i + 1) policy ≡ take i policy ++ s ∷ [] = rw add-one (take-next policy i s here) in
+    subst (λ l. AreBound policy l new.0) (sym next)
+    (bound-next policy (take i policy) s (namespace_at names spaces n) form old new so_far binds (ap (namespace_at names spaces) (known is.within) ∙ is.here) same)
 
--- one statement more of a module
-pub module-bound : {A : Type 0} (p : ParsedModule A) (statements : Statements) (v : StatementView) (i : ℕ) (names spaces : List (List ℕ)) (rows : List Row) (policy before behind : List Placed) (name : List ℕ) (start n : ℕ)
-    (old new : List (List (Option ℕ)) × List (Option ℕ)) → Spells p statements → i < statement_count p → length before ≡ start → AreRows names spaces rows (before ++ (placed name [] [] statements ++ behind))
-    → ((f : FlatStatement) → slice_get (flat 0 0 0 statements) i ≡ Some f → IsShown (texts_of p) v f) → ((row : Row) → slice_get rows (start + i) ≡ Some row → row.namespace < length spaces → n ≡ row.namespace)
-    → ((f : FlatStatement) → IsShown (texts_of p) v f → Binds policy (namespace_at names spaces n) f.form old new) → AreBound policy (before ++ take i (placed name [] [] statements)) old.0
-    → AreBound policy (before ++ take (i + 1) (placed name [] [] statements)) new.0
-module-bound p statements v i names spaces rows policy before behind name start n old new spells low long are shows at binds so_far =
-    subst (λ l. AreBound policy l new.0) whole
-    (bound-next policy (before ++ take i all) it.0 (namespace_at names spaces n) f.0.form old new so_far (binds f.0 (shows f.0 f.1)) (ap (namespace_at names spaces) (at row.0 row.1 row.2.within) ∙ row.2.here) (sym it.2.form))
-  where
-    all : List Placed
-    all = placed name [] [] statements
-
-    f : (f : FlatStatement) × (slice_get (flat 0 0 0 statements) i ≡ Some f)
-    f = flat-there p statements i spells low
-
-    it : (s : Placed) × (slice_get all i ≡ Some s) × IsPlacedAs all (0 + i) f.0 s
-    it = placed-there all 0 (flat 0 0 0 statements) all i f.0 (placed-flat name statements) f.1
-
-    there : slice_get (before ++ (all ++ behind)) (start + i) ≡ Some it.0
-    there = ap (λ k. slice_get (before ++ (all ++ behind)) (k + i)) (sym long) ∙ get-behind before (all ++ behind) i ∙ get-front all behind i it.0 it.1
-
-    row : (row : Row) × (slice_get rows (start + i) ≡ Some row) × IsRow names spaces row it.0
-    row = row-there names spaces rows (before ++ (all ++ behind)) (start + i) it.0 are there
-
-    next : take (i + 1) all ≡ take i all ++ it.0 ∷ []
-    next = rw add-one (take-next all i it.0 it.1)
-
-    whole : (before ++ take i all) ++ it.0 ∷ [] ≡ before ++ take (i + 1) all
-    whole = append_assoc before (take i all) (it.0 ∷ []) ∙ ap (λ l. before ++ l) (sym next)
-
-pub bound-start : (policy before some : List Placed) (bound : List (List (Option ℕ))) → some ≡ [] → AreBound policy before bound → AreBound policy (before ++ some) bound
-bound-start policy before some bound e are = subst (λ l. AreBound policy l bound) (sym (ap (λ l. before ++ l) e ∙ append-nil before)) are
-
-pub bound-whole : {A : Type 0} (p : ParsedModule A) (statements : Statements) (name : List ℕ) (policy before : List Placed) (i : ℕ) (bound : List (List (Option ℕ))) → Spells p statements → statement_count p ≤ i
-    → AreBound policy (before ++ take i (placed name [] [] statements)) bound → AreBound policy (before ++ placed name [] [] statements) bound
-bound-whole p statements name policy before i bound spells past are =
-    let long = placed-long p statements name spells in
-    subst (λ l. AreBound policy (before ++ l) bound) (take_all i (placed name [] [] statements) (omega arith)) are
-
-bound-long : (policy statements : List Placed) (bound : List (List (Option ℕ))) → AreBound policy statements bound → length statements ≡ length bound
-bound-long policy [] [] are = refl
-bound-long policy [] (b ∷ bound) are = absurd are
-bound-long policy (s ∷ statements) [] are = absurd are
-bound-long policy (s ∷ statements) (b ∷ bound) are = ap suc (bound-long policy statements bound are.1)
-
-joined-around : (modules : List Module) (i : ℕ) (m : Module) → slice_get modules i ≡ Some m → joined modules ≡ joined (take i modules) ++ (placed m.name [] [] m.statements ++ joined (drop (i + 1) modules))
-joined-around modules i m at = ap joined (around-at modules i m at) ∙ several (take i modules)
-  where
-    several : (ms : List Module) → joined (ms ++ m ∷ drop (i + 1) modules) ≡ joined ms ++ (placed m.name [] [] m.statements ++ joined (drop (i + 1) modules))
-    several [] = refl
-    several (x ∷ ms) = ap (λ l. placed x.name [] [] x.statements ++ l) (several ms) ∙ sym (append_assoc (placed x.name [] [] x.statements) (joined ms) _)
-
--- one module more
-pub modules-bound : {A : Type 0} (parsed : List (NamedModule A)) (modules : List Module) (i : ℕ) (d : NamedModule A) (names spaces : List (List ℕ)) (rows : List Row) (policy : List Placed) (start : ℕ) (old new : List (List (Option ℕ)))
-    → AreSpelt parsed modules → i < length parsed → AreRows names spaces rows (joined modules) → AreBound policy (joined (take i modules)) old → start ≡ length old
-    → ((before : List Placed) (name : List ℕ) (statements : Statements) → Spells (get_or parsed i d).«module».now statements → length before ≡ start → (behind : List Placed)
-    → AreRows names spaces rows (before ++ (placed name [] [] statements ++ behind)) → AreBound policy before old → AreBound policy (before ++ placed name [] [] statements) new)
-    → AreBound policy (joined (take (i + 1) modules)) new
-modules-bound parsed modules i d names spaces rows policy start old new are low rows_are so_far long binds =
-    let m = spelt-at parsed modules i d are low in
-    subst (λ l. AreBound policy l new) (sym (joined-next modules i m.0 m.1))
-    (binds (joined (take i modules)) m.0.name m.0.statements m.2 (bound-long policy (joined (take i modules)) old so_far ∙ sym long) (joined (drop (i + 1) modules))
-    (subst (AreRows names spaces rows) (joined-around modules i m.0 m.1) rows_are) so_far)
-
-pub modules-all : {A : Type 0} (parsed : List (NamedModule A)) (modules : List Module) (policy : List Placed) (i : ℕ) (bound : List (List (Option ℕ))) → AreSpelt parsed modules → length parsed ≤ i
-    → AreBound policy (joined (take i modules)) bound → AreBound policy (joined modules) bound
-modules-all parsed modules policy i bound are past so_far =
-    let long = spelt-long parsed modules are in
-    subst (λ l. AreBound policy (joined l) bound) (take_all i modules (omega arith)) so_far
+pub rows-all : (names spaces : List (List ℕ)) (rows : List Row) (policy statements : List Placed) (i : ℕ) (bound : List (List (Option ℕ))) → AreRows names spaces rows statements → length rows ≤ i → AreBound policy (take i statements) bound
+    → AreBound policy statements bound
+rows-all names spaces rows policy statements i bound are past so_far =
+    let long = rows-length names spaces rows statements are in
+    subst (λ l. AreBound policy l bound) (take_all i statements (omega arith)) so_far

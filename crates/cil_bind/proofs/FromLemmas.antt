@@ -2,7 +2,7 @@
 use Rattle.std.proofs.Common.{◌≡◌, ℕ, zero, suc, ◌+◌, ◌<◌, ◌≤◌, List, [], ◌∷◌, ◌++◌, length, get_or, slice_get, take, Option, Some, None, refl, sym, ap, ◌∙◌, subst, append_assoc, append-nil, add-one, arith}
 use Rattle.std.specs.List.{AllByRecursion}
 use Rattle.std.proofs.lemmas.List.{take_all}
-use Rattle.std.proofs.lemmas.Option.{none-some, same_Some, slice_get-get_or}
+use Rattle.std.proofs.lemmas.Option.{none-some, same_Some, slice_get-get_or, slice_get_within, get_or_from_slice_get}
 use Rattle.cil_specs.specs.Statements.{Statements, no_more, statement}
 use Rattle.cil_specs.specs.Joined.{Placed, Module, placed, joined, namespace_inside, optionals_inside}
 use Rattle.cil_parse.specs.Flat.{FlatStatement, flat}
@@ -95,3 +95,37 @@ pub from-joined : {A : Type 0} (parsed : List (NamedModule A)) (modules : List M
 from-joined parsed modules rows i are past so_far =
     let long = spelt-long parsed modules are in
     subst (λ l. AreFrom parsed rows (joined l)) (take_all i modules (omega arith)) so_far
+
+-- the statement of a row
+pub from-at : {A : Type 0} (parsed : List (NamedModule A)) (rows : List Row) (policy : List Placed) (i : ℕ) (row : Row) → AreFrom parsed rows policy → slice_get rows i ≡ Some row → (s : Placed) × (slice_get policy i ≡ Some s) × IsFrom parsed row s
+from-at parsed [] [] i row are at = absurd (none-some row at)
+from-at parsed [] (t ∷ policy) i row are at = absurd are
+from-at parsed (r ∷ rows) [] i row are at = absurd are
+from-at parsed (r ∷ rows) (t ∷ policy) zero row are at = (t, refl, subst (λ q. IsFrom parsed q t) (same_Some r row at) are.0)
+from-at parsed (r ∷ rows) (t ∷ policy) (suc i) row are at = from-at parsed rows policy i row are.1 at
+
+-- the module that a row tells, as it is read
+pub record IsThere {A : Type 0} (parsed : List (NamedModule A)) (row : Row) (d : NamedModule A) (s : Placed) : Type 0 where
+  pub within : row.«module» < length parsed
+  pub index : row.index < statement_count d.«module».now
+  pub statements : Statements
+  pub spells : Spells d.«module».now statements
+  pub f : FlatStatement
+  pub is : slice_get (flat 0 0 0 statements) row.index ≡ Some f
+  pub form : f.form ≡ s.form
+
+pub is-there : {A : Type 0} (parsed : List (NamedModule A)) (row : Row) (d : NamedModule A) (s : Placed) → IsFrom parsed row s → d ≡ get_or parsed row.«module» d → IsThere parsed row d s
+is-there parsed row d s from here =
+    let same : from.m ≡ d = sym (here ∙ get_or_from_slice_get parsed row.«module» from.m d from.at) in
+    record {
+      within = slice_get_within parsed row.«module» from.m from.at;
+      index = subst (λ n. row.index < statement_count n.«module».now) same from.within;
+      statements = from.statements;
+      spells = subst (λ n. Spells n.«module».now from.statements) same from.spells;
+      f = from.f;
+      is = from.is;
+      form = from.form;
+    }
+
+pub from-within : {A : Type 0} (parsed : List (NamedModule A)) (row : Row) (s : Placed) → IsFrom parsed row s → row.«module» < length parsed
+from-within parsed row s from = slice_get_within parsed row.«module» from.m from.at

@@ -1,18 +1,16 @@
 //! What references are bound to.
 
-ghost use Rattle.std.specs.Prelude.{◌≡◌, ◌<◌, ◌+◌, ◌++◌, ℕ, List, [], Some, length, slice_get, OnOk, IfOk};
-ghost use Rattle.cil_specs.specs.Joined.{Placed, Module, placed, joined as joined_policy};
-ghost use Rattle.cil_specs.specs.Statements.{Statements};
+ghost use Rattle.std.specs.Prelude.{◌≡◌, ◌<◌, ℕ, List, [], length, OnOk, IfOk};
+ghost use Rattle.cil_specs.specs.Joined.{Placed};
 ghost use Rattle.cil_parse.specs.Flat.{FlatStatement};
 ghost use Rattle.cil_parse.specs.Lexicon.{AreNumbersOf};
-ghost use Rattle.cil_parse.specs.Parsed.{names_of, texts_of, Spells};
+ghost use Rattle.cil_parse.specs.Parsed.{names_of, texts_of};
 ghost use Rattle.cil_parse.specs.View.{IsShown};
 ghost use Rattle.cil_bind.specs.Lookup.{namespace_at as namespace_of, Knows};
 ghost use Rattle.cil_bind.specs.Binding.{Binds, AreBound};
 ghost use Rattle.cil_bind.specs.Rows.{AreRows};
-ghost use Rattle.cil_bind.specs.Scope.{AreSpelt};
+ghost use Rattle.cil_bind.specs.Scope.{AreFrom};
 ghost use Rattle.cil_bind.specs.Words.{AreWorded};
-ghost use Rattle.cil_bind.specs.declared.rows.Row.{Row};
 
 use crate::joined::Joined;
 use crate::lookup::Lookup;
@@ -51,55 +49,20 @@ fn bind_statement<A: Allocator + Copy>(
     Ok(())
 }
 
-/// Binds the references of the statements of a module, which begin at a place among the rows.
-fn bind_module<A: Allocator + Copy>(
-    lookup: &Lookup<A>,
-    module: &ParsedModule<A>,
-    words: &[u32],
-    rows: &[Row],
-    start: usize,
-    bound: &mut Lists<Option<u32>, A>,
-) -> Result<(), AllocError>
-    requires words { length words.now ≡ length (names_of «module».now) }
-    requires spelt { (statements : Statements) × Spells «module».now statements }
-    requires closed { bound.old.1 ≡ [] }
-    ensures closed { OnOk result (bound.new.1 ≡ []) }
-    ensures bound { OnOk result ((names : List (List ℕ)) (policy before : List Placed) (name : List ℕ) (statements : Statements) → Knows lookup.now.namespaces lookup.now.declared.entries names policy
-        → AreNumbersOf names words.now (names_of «module».now) → Spells «module».now statements → length before ≡ start
-        → (behind : List Placed) → AreRows names lookup.now.namespaces rows.now (before ++ (placed name [] [] statements ++ behind))
-        → AreBound policy before bound.old.0 → AreBound policy (before ++ placed name [] [] statements) bound.new.0) }
-{
-    for i in 0..module.len() {
-        let view = module.statement(i);
-        let namespace = namespace_at(lookup, rows, start, i);
-        bind_statement(lookup, module, words, namespace, &view, bound)?;
-    }
-    Ok(())
-}
-
-/// The namespace of the row of an index behind a place; the global one where there is none.
-fn namespace_at<A: Allocator>(lookup: &Lookup<A>, rows: &[Row], start: usize, i: usize) -> u32
+/// A number of a namespace that is there; the global one for a number that is none's.
+fn known<A: Allocator>(lookup: &Lookup<A>, namespace: u32) -> u32
     ensures within { result < length lookup.now.namespaces }
-    ensures row { (row : Row) → slice_get rows.now (start + i) ≡ Some row → row.namespace < length lookup.now.namespaces → result ≡ row.namespace }
+    ensures known { namespace < length lookup.now.namespaces → result ≡ namespace }
 {
     let count = lookup.namespaces.len();
     prove!(count > 0);
-    let Some(at) = start.checked_add(i) else {
-        return 0;
-    };
-    match rows.get(at) {
-        Some(row) => {
-            if (row.namespace as usize) < count {
-                row.namespace
-            } else {
-                0
-            }
-        }
-        None => 0,
+    if (namespace as usize) < count {
+        return namespace;
     }
+    0
 }
 
-/// Binds the references of all statements: a list for each row.
+/// Binds the references of all rows: a list for each.
 pub fn bind<A: Allocator + Copy>(
     alloc: A,
     lookup: &Lookup<A>,
@@ -108,16 +71,19 @@ pub fn bind<A: Allocator + Copy>(
     rows: &[Row],
 ) -> Result<Lists<Option<u32>, A>, AllocError>
     requires worded { (names : List (List ℕ)) × AreWorded names words.now joined.now.modules.items }
-    requires spelt { (modules : List Module) × AreSpelt joined.now.modules.items modules }
-    ensures { IfOk result (λ bound. (names : List (List ℕ)) (policy : List Placed) (modules : List Module) → Knows lookup.now.namespaces lookup.now.declared.entries names policy
-        → AreWorded names words.now joined.now.modules.items → AreSpelt joined.now.modules.items modules → AreRows names lookup.now.namespaces rows.now (joined_policy modules)
-        → AreBound policy (joined_policy modules) bound.0) }
+    requires from { (policy : List Placed) × AreFrom joined.now.modules.items rows.now policy }
+    ensures { IfOk result (λ bound. (names : List (List ℕ)) (policy : List Placed) → Knows lookup.now.namespaces lookup.now.declared.entries names policy
+        → AreWorded names words.now joined.now.modules.items → AreRows names lookup.now.namespaces rows.now policy → AreFrom joined.now.modules.items rows.now policy
+        → AreBound policy policy bound.0) }
 {
     let mut bound = Lists::with_capacity(alloc, rows.len(), rows.len())?;
-    for i in 0..joined.modules.len() {
-        let module = joined.modules[i].module;
-        let start = bound.len();
-        bind_module(lookup, module, words[i].as_slice(), rows, start, &mut bound)?;
+    for i in 0..rows.len() {
+        let row = rows[i];
+        let number = row.module as usize;
+        let module = joined.modules[number].module;
+        let view = module.statement(row.index as usize);
+        let namespace = known(lookup, row.namespace);
+        bind_statement(lookup, module, words[number].as_slice(), namespace, &view, &mut bound)?;
     }
     Ok(bound)
 }

@@ -1,56 +1,92 @@
-use Rattle.std.proofs.Common.{◌≡◌, ◌<◌, ◌≤◌, length, get_or, rules, sym, ap, ◌∙◌, subst, arith}
+use Rattle.std.proofs.Common.{◌≡◌, ◌<◌, ◌≤◌, List, ℕ, false, None, Some, length, get_or, slice_get, rules, sym, ap, ◌∙◌, subst, arith}
+use Rattle.cil_specs.specs.Joined.{Placed}
 use Rattle.cil_parse.specs.Lexicon.{AreNumbersOf}
-use Rattle.cil_parse.specs.Parsed.{names_of, Spells}
-use Rattle.cil_bind.proofs.PlaceLemmas.{spelt-at}
+use Rattle.cil_parse.specs.Parsed.{names_of}
+use Rattle.cil_bind.specs.Scope.{IsFrom}
+use Rattle.cil_bind.specs.declared.rows.Row.{Row}
+use Rattle.cil_bind.proofs.DeclareLemmas.{row-here}
 use Rattle.cil_bind.proofs.WordLemmas.{worded-at, worded-long, numbers-long}
-use Rattle.cil_bind.proofs.BindingLemmas.{modules-bound, modules-all}
+use Rattle.cil_bind.proofs.FromLemmas.{from-at, from-within, is-there}
+use Rattle.cil_bind.proofs.BindingLemmas.{row-bound, rows-all}
 use Rattle.cil_bind.proofs.binding.bind.Goals as goal
 
-pub offset_bounds-words-i : goal.offset_bounds-words-i
-offset_bounds-words-i g c =
+-- what is read behind the end of the rows
+abbrev no_row : Row
+no_row = record { «module» = 0; index = 0; namespace = 0; inside = 0; optional = 0; declares = None; is_optional = false }
+
+pub index-requires : goal.index-requires
+index-requires g c =
+    let rows = c.args.rows.now in
     let items = c.args.joined.now.modules.items in
-    let low : c.loop-i.i < length items = search rules in
+    let row = get_or rows c.loop-i.i no_row in
+    let from = from-at items rows c.requires.from.0 c.loop-i.i row c.requires.from.1 (row-here rows c.loop-i.i no_row (omega arith)) in
+    let low : row.«module» < length items = from-within items row from.0 from.2 in
+    search rules
+
+pub statement-view-requires : goal.statement-view-requires
+statement-view-requires g c =
+    let rows = c.args.rows.now in
+    let items = c.args.joined.now.modules.items in
+    let row = get_or rows c.loop-i.i no_row in
+    let from = from-at items rows c.requires.from.0 c.loop-i.i row c.requires.from.1 (row-here rows c.loop-i.i no_row (omega arith)) in
+    (is-there items row c.index.result.now from.0 from.2 c.index.ensures).index
+
+pub bounds-words-number : goal.bounds-words-number
+bounds-words-number g c =
+    let rows = c.args.rows.now in
+    let items = c.args.joined.now.modules.items in
+    let row = get_or rows c.loop-i.i no_row in
+    let from = from-at items rows c.requires.from.0 c.loop-i.i row c.requires.from.1 (row-here rows c.loop-i.i no_row (omega arith)) in
+    let low : row.«module» < length items = from-within items row from.0 from.2 in
     let long = worded-long c.requires.worded.0 c.args.words.now items c.requires.worded.1 in
     omega arith
 
-pub bounds-words-i : goal.bounds-words-i
-bounds-words-i g c =
+pub offset_bounds-words-number : goal.offset_bounds-words-number
+offset_bounds-words-number g c =
+    let rows = c.args.rows.now in
     let items = c.args.joined.now.modules.items in
-    let low : c.loop-i.i < length items = search rules in
+    let row = get_or rows c.loop-i.i no_row in
+    let from = from-at items rows c.requires.from.0 c.loop-i.i row c.requires.from.1 (row-here rows c.loop-i.i no_row (omega arith)) in
+    let low : row.«module» < length items = from-within items row from.0 from.2 in
     let long = worded-long c.requires.worded.0 c.args.words.now items c.requires.worded.1 in
     omega arith
 
-pub bind_module-requires-clause-words : goal.bind_module-requires-clause-words
-bind_module-requires-clause-words g c =
+pub bind_statement-requires-clause-words : goal.bind_statement-requires-clause-words
+bind_statement-requires-clause-words g c =
+    let rows = c.args.rows.now in
     let items = c.args.joined.now.modules.items in
-    let low : c.loop-i.i < length items = search rules in
+    let row = get_or rows c.loop-i.i no_row in
+    let from = from-at items rows c.requires.from.0 c.loop-i.i row c.requires.from.1 (row-here rows c.loop-i.i no_row (omega arith)) in
     ap length c.as_slice.ensures.value
-    ∙ numbers-long c.requires.worded.0 c.index-words-i.result.items (names_of c.index.result.now.«module».now)
-    (worded-at c.requires.worded.0 c.args.words.now items c.loop-i.i c.index-words-i.result c.index.result.now c.requires.worded.1 low c.index-words-i.is c.index.ensures)
+    ∙ numbers-long c.requires.worded.0 c.index-words-number.result.items (names_of c.index.result.now.«module».now)
+    (worded-at c.requires.worded.0 c.args.words.now items row.«module» c.index-words-number.result c.index.result.now c.requires.worded.1 (from-within items row from.0 from.2) c.index-words-number.is c.index.ensures)
 
-pub bind_module-requires-clause-spelt : goal.bind_module-requires-clause-spelt
-bind_module-requires-clause-spelt g c =
+pub bind_statement-requires-clause-shown : goal.bind_statement-requires-clause-shown
+bind_statement-requires-clause-shown g c =
+    let rows = c.args.rows.now in
     let items = c.args.joined.now.modules.items in
-    let low : c.loop-i.i < length items = search rules in
-    let m = spelt-at items c.requires.spelt.0 c.loop-i.i c.index.result.now c.requires.spelt.1 low in
-    (m.0.statements, subst (λ n. Spells n.«module».now m.0.statements) (sym c.index.ensures) m.2)
+    let row = get_or rows c.loop-i.i no_row in
+    let from = from-at items rows c.requires.from.0 c.loop-i.i row c.requires.from.1 (row-here rows c.loop-i.i no_row (omega arith)) in
+    let there = is-there items row c.index.result.now from.0 from.2 c.index.ensures in
+    (there.f, c.statement-view.ensures there.statements there.f there.spells there.is)
 
 pub loop-i-preserved : goal.loop-i-preserved
 loop-i-preserved g c = record {
-  closed = c.in_ok-bind_module.ensures.closed;
-  bound = λ names policy modules knows worded are rows_are.
+  closed = c.in_ok-bind_statement.ensures.closed;
+  bound = λ names policy knows worded rows_are all_from.
+      let rows = c.args.rows.now in
       let items = c.args.joined.now.modules.items in
-      let low : c.loop-i.i < length items = search rules in
+      let row = get_or rows c.loop-i.i no_row in
+      let here = row-here rows c.loop-i.i no_row (omega arith) in
+      let from = from-at items rows policy c.loop-i.i row all_from here in
+      let there = is-there items row c.index.result.now from.0 from.2 c.index.ensures in
       let nums = subst (λ l. AreNumbersOf names l (names_of c.index.result.now.«module».now)) (sym c.as_slice.ensures.value)
-      (worded-at names c.args.words.now items c.loop-i.i c.index-words-i.result c.index.result.now worded low c.index-words-i.is c.index.ensures) in
-      modules-bound items modules c.loop-i.i c.index.result.now names c.args.lookup.now.namespaces c.args.rows.now policy c.len-start.result c.loop-i.bound.0 c.bind_module.new.bound.0
-      are low rows_are (c.loop-i.invariant.bound names policy modules knows worded are rows_are) c.len-start.ensures
-      (λ before name statements spells long behind all so_far.
-      c.in_ok-bind_module.ensures.bound names policy before name statements knows nums (subst (λ n. Spells n.«module».now statements) (sym c.index.ensures) spells) long behind all so_far);
+      (worded-at names c.args.words.now items row.«module» c.index-words-number.result c.index.result.now worded (from-within items row from.0 from.2) c.index-words-number.is c.index.ensures) in
+      row-bound names c.args.lookup.now.namespaces rows policy c.loop-i.i row from.0 c.known-namespace.result there.f.form c.loop-i.bound c.bind_statement.new.bound rows_are here from.1 c.known-namespace.ensures.known there.form
+      (c.in_ok-bind_statement.ensures.binds names policy there.f knows nums (c.statement-view.ensures there.statements there.f there.spells there.is))
+      (c.loop-i.invariant.bound names policy knows worded rows_are all_from);
 }
 
 pub returns : goal.returns
-returns g c = λ names policy modules knows worded are rows_are.
-    let items = c.args.joined.now.modules.items in
-    let past : length items ≤ c.loop-i.i = search rules in
-    modules-all items modules policy c.loop-i.i c.loop-i.bound.0 are past (c.loop-i.invariant.bound names policy modules knows worded are rows_are)
+returns g c = λ names policy knows worded rows_are from.
+    rows-all names c.args.lookup.now.namespaces c.args.rows.now policy policy c.loop-i.i c.loop-i.bound.0 rows_are (omega arith) (c.loop-i.invariant.bound names policy knows worded rows_are from)

@@ -2,7 +2,7 @@ use Rattle.std.proofs.Common.{List, ℕ, sym, subst}
 use Rattle.cil_specs.specs.Joined.{Module, joined}
 use Rattle.cil_bind.specs.Lookup.{Knows}
 use Rattle.cil_bind.specs.Rows.{AreRows, DeclareThat}
-use Rattle.cil_bind.specs.Scope.{AreSpelt}
+use Rattle.cil_bind.specs.Scope.{AreSpelt, AreFrom}
 use Rattle.cil_bind.specs.Words.{AreWorded}
 use Rattle.cil_bind.proofs.WordLemmas.{none-distinct, stands-opened, worded-grows}
 use Rattle.cil_bind.proofs.policy.Policy.of.Goals as goal
@@ -33,6 +33,12 @@ returns g c = λ modules are.
       knows = knows;
       once = declared.1;
       worded = worded;
-      bound = c.in_ok-bound.ensures scope.names policy modules knows (subst (λ w. AreWorded scope.names w items) (sym c.as_slice-2.ensures.value) worded) are
-          (subst (λ r. AreRows scope.names scope.namespaces r policy) (sym c.as_slice-3.ensures.value) stands.rows_are);
+      bound = c.in_ok-bound.ensures scope.names policy knows (subst (λ w. AreWorded scope.names w items) (sym c.as_slice-2.ensures.value) worded)
+          (subst (λ r. AreRows scope.names scope.namespaces r policy) (sym c.as_slice-3.ensures.value) stands.rows_are)
+          (subst (λ r. AreFrom items r policy) (sym c.as_slice-3.ensures.value) (c.in_ok-scope.ensures.from modules are));
     }
+
+pub bind-requires-clause-from : goal.bind-requires-clause-from
+bind-requires-clause-from g c =
+    let items = c.args.joined.now.modules.items in
+    (joined c.requires.0, subst (λ r. AreFrom items r (joined c.requires.0)) (sym c.as_slice-3.ensures.value) (c.in_ok-scope.ensures.from c.requires.0 c.requires.1))
