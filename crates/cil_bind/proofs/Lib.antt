@@ -9,3 +9,4 @@ pub mod PlaceLemmas
 pub mod WordLemmas
 pub mod BindingLemmas
 pub mod FromLemmas
+pub mod RestrictLemmas

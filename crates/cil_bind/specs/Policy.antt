@@ -1,8 +1,10 @@
 -- A joined policy whose references are bound.
-use Rattle.std.specs.Prelude.{◌≡◌, ℕ, List, [], ◌∷◌, take, slice_get, Some}
+use Rattle.std.specs.Prelude.{◌≡◌, ℕ, List, [], ◌∷◌, take, slice_get, slice_index_or, Some, Bool, false}
 use Rattle.cil_specs.specs.Names.{Word}
 use Rattle.cil_specs.specs.Joined.{Placed, Module, joined}
 use Rattle.cil_specs.specs.PolicyFault.{twice_words}
+use Rattle.cil_specs.specs.Kept.{Optionals, is_within}
+use Rattle.cil_bind.specs.declared.rows.Row.{Row}
 use Rattle.cil_bind.specs.Lookup.{Knows}
 use Rattle.cil_bind.specs.Rows.{IsOnce}
 use Rattle.cil_bind.specs.Scope.{Stands, AreFrom}
@@ -28,3 +30,10 @@ pub record IsBoundTo {A : Type 0} (p : Policy A) (parsed : List (NamedModule A))
 abbrev pub Makes : {A : Type 0} → List (NamedModule A) → List Placed → Joining A → Type 0
 Makes parsed policy (Once p) = IsBoundTo p parsed policy
 Makes parsed policy (Twice i) = IsOnce (take i policy) × ((s : Placed) × (word : Word) × (slice_get policy i ≡ Some s) × (twice_words (take i policy) s ≡ word ∷ []))
+
+-- A row is marked, by the number of its innermost optional, where all optionals around its statement are in the set.
+abbrev pub AreMarked : Optionals → List Bool → List Row → List Placed → Type 0
+AreMarked set kept [] [] = Unit {0}
+AreMarked set kept [] (s ∷ policy) = ⊥
+AreMarked set kept (row ∷ rows) [] = ⊥
+AreMarked set kept (row ∷ rows) (s ∷ policy) = (slice_index_or kept row.optional false ≡ is_within set s) × AreMarked set kept rows policy
