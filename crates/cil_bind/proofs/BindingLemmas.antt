@@ -1,22 +1,16 @@
 -- References that are bound.
-use Rattle.std.proofs.Common.{◌≡◌, ℕ, zero, suc, ◌+◌, ◌<◌, ◌≤◌, List, [], ◌∷◌, ◌++◌, map, length, get_or, slice_get, take, drop, Option, Some, None, refl, sym, ap, ◌∙◌, subst, append_assoc, append-nil, add-one, length-append, arith}
+use Rattle.std.proofs.Common.{◌≡◌, ℕ, zero, suc, ◌+◌, ◌<◌, ◌≤◌, List, [], ◌∷◌, ◌++◌, map, length, get_or, slice_get, take, Option, Some, None, refl, sym, ap, ◌∙◌, subst, add-one, arith}
 use Rattle.std.proofs.lemmas.List.{length-map, take_all}
-use Rattle.std.proofs.lemmas.Option.{none-some, same_Some}
+use Rattle.std.proofs.lemmas.Option.{none-some}
 use Rattle.cil_specs.specs.Names.{Word}
 use Rattle.cil_specs.specs.Expr.{leaves}
-use Rattle.cil_specs.specs.Statements.{Form, block, optional, type_name, type_alias, alias_actual, type_attribute, attribute_set, common, class, class_common, class_order, rule, itself, the_named, Statements}
-use Rattle.cil_specs.specs.Joined.{Placed, Module, placed, joined}
+use Rattle.cil_specs.specs.Statements.{Form, block, optional, type_name, type_alias, alias_actual, type_attribute, attribute_set, common, class, class_common, class_order, rule, itself, the_named}
+use Rattle.cil_specs.specs.Joined.{Placed}
 use Rattle.cil_specs.specs.Lookup.{Table, types, classes, leads, references}
 use Rattle.cil_parse.specs.Builder.{read}
-use Rattle.cil_parse.specs.Flat.{FlatStatement, flat}
+use Rattle.cil_parse.specs.Flat.{FlatStatement}
 use Rattle.cil_parse.specs.Forms.{words_in}
-use Rattle.cil_parse.specs.Around.{IsPlacedAs}
-use Rattle.cil_parse.specs.Parsed.{Spells, statement_count, texts_of}
-use Rattle.cil_parse.specs.declared.parsed.ParsedModule.{ParsedModule}
-use Rattle.cil_parse.proofs.AroundLemmas.{placed-flat}
-use Rattle.cil_bind.specs.Rows.{IsRow, AreRows}
-use Rattle.cil_bind.specs.Scope.{AreSpelt}
-use Rattle.cil_bind.specs.declared.joined.NamedModule.{NamedModule}
+use Rattle.cil_bind.specs.Rows.{AreRows}
 use Rattle.cil_bind.specs.declared.rows.Row.{Row}
 use Rattle.cil_bind.proofs.DeclareLemmas.{row-at, rows-length}
 use Rattle.cil_parse.specs.View.{IsShown}
@@ -24,7 +18,7 @@ use Rattle.cil_parse.specs.declared.row.NumberedWord.{NumberedWord}
 use Rattle.cil_parse.specs.declared.view.StatementView.{StatementView}
 use Rattle.cil_bind.specs.Lookup.{namespace_at, IsLead}
 use Rattle.cil_bind.specs.Binding.{AreLeads, AreBound, Binds}
-use Rattle.cil_bind.proofs.PositionLemmas.{take-next, around-at}
+use Rattle.cil_bind.proofs.PositionLemmas.{take-next}
 use Rattle.cil_bind.proofs.ScopeLemmas.{read-text}
 
 leads-push : (policy : List Placed) (namespace : List (List ℕ)) (refs : List (Table × Word)) (bound : List (Option ℕ)) (r : Table × Word) (found : Option ℕ) → AreLeads policy namespace refs bound

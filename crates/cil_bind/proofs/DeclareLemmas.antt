@@ -1,18 +1,18 @@
 -- What statements declare, and the entries that have it.
-use Rattle.std.proofs.Common.{◌≡◌, ℕ, zero, suc, ◌+◌, ◌<◌, ◌≤◌, Bool, true, false, not, ◌&&◌, ◌==◌, cond, List, [], ◌∷◌, ◌++◌, map, length, get_or, slice_get, take, drop, Contains, Option, Some, None, is_some, bytes_eq, position, if◌then◌else◌, refl, sym, ap, ◌∙◌, subst, add-one, true≢false, arith}
+use Rattle.std.proofs.Common.{◌≡◌, ℕ, zero, suc, ◌+◌, ◌<◌, ◌≤◌, Bool, true, false, not, ◌&&◌, ◌==◌, cond, List, [], ◌∷◌, ◌++◌, length, get_or, slice_get, take, drop, Contains, Option, Some, None, is_some, bytes_eq, position, if◌then◌else◌, refl, sym, ap, ◌∙◌, subst, add-one, true≢false, arith}
 use Rattle.std.specs.List.{list_any, AllByRecursion}
 use Rattle.std.specs.Map.{lookup}
 use Rattle.std.specs.Option.{option_or}
 use Rattle.std.proofs.lemmas.Bool.{eqb-true, eq-eqb, le-ltb}
-use Rattle.std.proofs.lemmas.Option.{none-some, same_Some, get_or_from_slice_get, slice_get_within}
+use Rattle.std.proofs.lemmas.Option.{none-some, same_Some, get_or_from_slice_get}
 use Rattle.std.proofs.lemmas.List.Quantifiers.{position-Some}
 use Rattle.std.proofs.lemmas.List.{take_all}
 use Rattle.indexmap.specs.IndexMap.{insert_entry}
 use Rattle.cil_specs.specs.Names.{Word}
-use Rattle.cil_specs.specs.Statements.{Form, is_optional}
+use Rattle.cil_specs.specs.Statements.{is_optional}
 use Rattle.cil_specs.specs.Joined.{Placed}
 use Rattle.cil_specs.specs.Lookup.{Table, types, classes, commons, scopes, declared_in, declares, is_word, same_namespace}
-use Rattle.cil_specs.specs.PolicyFault.{twice, is_again, twice_words, IsFaultOf}
+use Rattle.cil_specs.specs.PolicyFault.{is_again, twice_words}
 use Rattle.cil_specs.proofs.Runs.{both_true, first_true, second_true}
 use Rattle.cil_specs.proofs.NamesLemmas.{contains-first, stands, same_place, later, earlier}
 use Rattle.cil_specs.proofs.OnceLemmas.{table-in, twice-some, twice-nothing, PassesAmong, passes-among, any-middle}
@@ -260,10 +260,13 @@ key-declares names spaces s key w table n v are low high small little here e tex
 pub taken-nothing : (names spaces : List (List ℕ)) (policy : List Placed) (s : Placed) (entries : List (Key × ℕ)) → ((table : Table) → declared_in table s.form ≡ None) → HaveDeclared names spaces entries policy
     → IsTaken names spaces policy s entries false
 taken-nothing names spaces policy s entries none has = record {
-  once = λ _. (twice-nothing policy s none, λ table n v within small. has table n v within small ∙ sym (
-      position-append (declares (table_of table) (namespace_at names spaces n) (word_at names v)) policy s
-      ∙ ap (λ b. option_or (position (declares (table_of table) (namespace_at names spaces n) (word_at names v)) policy) (at_if b (length policy))) (nothing-declared (table_of table) (namespace_at names spaces n) (word_at names v) s (none (table_of table)))
-      ∙ or-none (position (declares (table_of table) (namespace_at names spaces n) (word_at names v)) policy)));
+  once = λ _. (
+    twice-nothing policy s none,
+    λ table n v within small. has table n v within small ∙ sym (
+        position-append (declares (table_of table) (namespace_at names spaces n) (word_at names v)) policy s
+        ∙ ap (λ b. option_or (position (declares (table_of table) (namespace_at names spaces n) (word_at names v)) policy) (at_if b (length policy))) (nothing-declared (table_of table) (namespace_at names spaces n) (word_at names v) s (none (table_of table)))
+        ∙ or-none (position (declares (table_of table) (namespace_at names spaces n) (word_at names v)) policy)),
+  );
   twice = λ e. absurd (true≢false (sym e));
 }
 

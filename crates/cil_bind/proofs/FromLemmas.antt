@@ -1,5 +1,5 @@
 -- The modules and the indices that rows tell.
-use Rattle.std.proofs.Common.{◌≡◌, ℕ, zero, suc, ◌+◌, ◌<◌, ◌≤◌, List, [], ◌∷◌, ◌++◌, length, get_or, slice_get, take, Option, Some, None, refl, sym, ap, ◌∙◌, subst, append_assoc, append-nil, add-one, arith}
+use Rattle.std.proofs.Common.{◌≡◌, ℕ, zero, suc, ◌+◌, ◌<◌, ◌≤◌, List, [], ◌∷◌, ◌++◌, length, get_or, slice_get, take, Some, refl, sym, ap, ◌∙◌, subst, append_assoc, append-nil, add-one, arith}
 use Rattle.std.specs.List.{AllByRecursion}
 use Rattle.std.proofs.lemmas.List.{take_all}
 use Rattle.std.proofs.lemmas.Option.{none-some, same_Some, slice_get-get_or, slice_get_within, get_or_from_slice_get}
@@ -28,9 +28,11 @@ all-get P (y ∷ xs) (suc i) x all at = all-get P xs i x all.1 at
 -- the statements of a module have its name
 placed-named : (name : List ℕ) (namespace : List (List ℕ)) (optionals : List ℕ) (statements : Statements) → AllByRecursion (λ s. s.module_name ≡ name) (placed name namespace optionals statements)
 placed-named name namespace optionals no_more = tt
-placed-named name namespace optionals (statement at form body more) =
-    (refl, all-append (λ s. s.module_name ≡ name) (placed name (namespace_inside form namespace) (optionals_inside form at optionals) body) (placed name namespace optionals more)
-    (placed-named name (namespace_inside form namespace) (optionals_inside form at optionals) body) (placed-named name namespace optionals more))
+placed-named name namespace optionals (statement at form body more) = (
+  refl,
+  all-append (λ s. s.module_name ≡ name) (placed name (namespace_inside form namespace) (optionals_inside form at optionals) body) (placed name namespace optionals more)
+      (placed-named name (namespace_inside form namespace) (optionals_inside form at optionals) body) (placed-named name namespace optionals more),
+)
 
 from-push : {A : Type 0} (parsed : List (NamedModule A)) (rows : List Row) (policy : List Placed) (row : Row) (s : Placed) → AreFrom parsed rows policy → IsFrom parsed row s → AreFrom parsed (rows ++ row ∷ []) (policy ++ s ∷ [])
 from-push parsed [] [] row s are is = (is, tt)

@@ -1,21 +1,19 @@
 -- What look-ups by numbers find is what the definitions lead to.
-use Rattle.std.proofs.Common.{◌≡◌, ◌⊎◌, inl, inr, ℕ, zero, suc, ◌+◌, ◌<◌, ◌≤◌, ◌==◌, Bool, true, false, not, ◌&&◌, cond, List, [], ◌∷◌, map, length, get_or, drop, slice_get, Option, Some, None, IfSome, IfNone, is_some, All, position, nat_eq, nat_lt, Contains, refl, sym, ap, ◌∙◌, subst, arith, true≢false, add-one, drop-cons, if◌then◌else◌}
-use Rattle.std.specs.List.{find, position_or_len, AllByRecursion}
-use Rattle.std.specs.Map.{lookup}
+use Rattle.std.proofs.Common.{◌≡◌, ◌⊎◌, inl, inr, ℕ, zero, suc, ◌+◌, ◌<◌, ◌≤◌, ◌==◌, Bool, true, false, ◌&&◌, cond, List, [], ◌∷◌, length, get_or, drop, slice_get, Option, Some, None, IfSome, IfNone, is_some, All, position, nat_eq, nat_lt, Contains, refl, sym, ap, ◌∙◌, subst, arith, true≢false, add-one, drop-cons, if◌then◌else◌}
+use Rattle.std.specs.List.{find, position_or_len}
 use Rattle.std.specs.Option.{option_or, option_and_then}
 use Rattle.std.proofs.lemmas.Bool.{cases_lt, eqb-true}
 use Rattle.std.proofs.lemmas.Bool.Decides.{Decides-ltb}
-use Rattle.std.proofs.lemmas.List.{get_or_default, length-map}
 use Rattle.std.proofs.lemmas.List.Elements.{Contains-get_or}
 use Rattle.std.proofs.lemmas.List.Folds.{find_at}
 use Rattle.std.proofs.lemmas.List.Quantifiers.{position-Some}
-use Rattle.std.proofs.lemmas.Option.{slice_get_past, slice_get_cases, get_or_from_slice_get, none-some}
+use Rattle.std.proofs.lemmas.Option.{slice_get_past, slice_get_cases, get_or_from_slice_get}
 use Rattle.cil_specs.specs.Names.{Word, components}
 use Rattle.cil_specs.specs.Joined.{Placed}
 use Rattle.cil_specs.specs.Lookup.{Table, declared_in, is_word, declares, is_same, same_namespace, declaration, has_block, outward, nearest_block, inside, from_namespace, leads, is_global, word_text}
 use Rattle.cil_specs.proofs.Runs.{first_true, second_true}
 use Rattle.cil_specs.proofs.DeclaredLemmas.{one-namespace}
-use Rattle.cil_bind.specs.Lookup.{word_at, named, namespace_at, path_of, table_of, table_index, is_key, HaveDeclared, AreOpened, Knows, IsFirstOf, IsLead, AreWithin}
+use Rattle.cil_bind.specs.Lookup.{word_at, named, namespace_at, path_of, table_index, is_key, AreOpened, IsFirstOf, IsLead, AreWithin}
 use Rattle.cil_parse.specs.declared.table.Table as code
 use Rattle.cil_parse.specs.declared.table.Table.TheVariants.{Types, Classes, Commons, Scopes}
 use Rattle.cil_bind.specs.declared.lookup.Key.{Key}

@@ -1,11 +1,9 @@
 -- Statements of a module that come to those of a joined policy.
-use Rattle.std.proofs.Common.{◌≡◌, ◌⊎◌, inl, inr, ℕ, zero, suc, ◌+◌, ◌<◌, ◌≤◌, Bool, List, [], ◌∷◌, ◌++◌, map, length, get_or, slice_get, take, Option, Some, None, bytes_eq, refl, sym, ap, ◌∙◌, subst, append_assoc, append-nil, add-one, Contains, arith, length-append}
+use Rattle.std.proofs.Common.{◌≡◌, inl, ℕ, zero, suc, ◌+◌, ◌<◌, ◌≤◌, List, [], ◌∷◌, ◌++◌, map, length, get_or, slice_get, take, Some, bytes_eq, refl, sym, ap, ◌∙◌, subst, append_assoc, append-nil, add-one, Contains, arith}
 use Rattle.std.specs.List.{IsDistinct}
 use Rattle.std.proofs.lemmas.List.{length-map, take_all}
 use Rattle.std.proofs.lemmas.Option.{none-some, same_Some}
-use Rattle.cil_text.specs.Image.{place_of}
-use Rattle.cil_specs.specs.Names.{Word}
-use Rattle.cil_specs.specs.Statements.{Form, block, is_optional, Statements}
+use Rattle.cil_specs.specs.Statements.{Form, is_optional, Statements}
 use Rattle.cil_specs.specs.Joined.{Placed, Module, placed, joined}
 use Rattle.cil_parse.specs.Flat.{FlatStatement, flat}
 use Rattle.cil_parse.specs.Forms.{kind_of}
@@ -15,8 +13,6 @@ use Rattle.cil_parse.specs.View.{IsShown}
 use Rattle.cil_parse.specs.Around.{IsBlockOf, IsPlacedAs, ArePlacedAs}
 use Rattle.cil_parse.specs.declared.parsed.ParsedModule.{ParsedModule}
 use Rattle.cil_parse.specs.declared.view.StatementView.{StatementView}
-use Rattle.cil_parse.specs.declared.table.Table as code
-use Rattle.cil_parse.specs.declared.row.Row as rows
 use Rattle.cil_parse.proofs.AroundLemmas.{placed-flat}
 use Rattle.cil_bind.specs.Lookup.{named, namespace_at}
 use Rattle.cil_bind.specs.Namespaces.{Opens}

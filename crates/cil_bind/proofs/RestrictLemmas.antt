@@ -1,7 +1,6 @@
 -- The statements of a policy that stand in kept optionals alone.
 use Rattle.std.proofs.Common.{◌≡◌, ◌⊎◌, inl, inr, ℕ, Bool, true, false, cond, List, [], ◌∷◌, filter, get_or, Contains, refl, sym, ap, ◌∙◌, subst, arith}
-use Rattle.cil_specs.specs.Names.{Word}
-use Rattle.cil_specs.specs.Statements.{block, stands_apart}
+use Rattle.cil_specs.specs.Statements.{stands_apart}
 use Rattle.cil_specs.specs.Joined.{Placed}
 use Rattle.std.specs.List.{list_all}
 use Rattle.cil_specs.specs.Kept.{Optionals, is_within, restricted, AreApart}

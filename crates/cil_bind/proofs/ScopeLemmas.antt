@@ -1,17 +1,15 @@
 -- Statements of a joined policy by numbers.
-use Rattle.std.proofs.Common.{◌≡◌, ◌⊎◌, inl, inr, ℕ, zero, suc, ◌+◌, ◌<◌, ◌≤◌, Bool, true, false, ◌&&◌, ◌==◌, List, [], ◌∷◌, ◌++◌, map, length, get_or, slice_get, take, drop, Contains, Option, Some, None, bytes_eq, refl, sym, ap, ◌∙◌, subst, true≢false, append_assoc, append-nil, add-one, arith, length-append}
-use Rattle.std.specs.List.{AllByRecursion, IsDistinct, list_any}
+use Rattle.std.proofs.Common.{◌≡◌, ◌⊎◌, inl, inr, ℕ, zero, suc, ◌<◌, ◌≤◌, List, [], ◌∷◌, ◌++◌, length, get_or, slice_get, Contains, Option, Some, None, bytes_eq, refl, sym, ap, ◌∙◌, subst, append-nil, arith, length-append}
+use Rattle.std.specs.List.{AllByRecursion, IsDistinct}
 use Rattle.std.specs.Option.{option_map}
-use Rattle.std.proofs.lemmas.List.{get_or_append_left, get_or_default}
-use Rattle.std.proofs.lemmas.List.Elements.{Contains-push_cases}
+use Rattle.std.proofs.lemmas.List.{get_or_append_left}
 use Rattle.std.proofs.lemmas.Option.{none-some, same_Some}
 use Rattle.cil_specs.specs.Names.{Word}
-use Rattle.cil_specs.specs.Statements.{Form, block, optional, type_name, type_alias, alias_actual, type_attribute, attribute_set, common, class, class_common, class_order, rule, itself, the_named, is_optional, Statements}
-use Rattle.cil_specs.specs.Joined.{Placed, placed}
+use Rattle.cil_specs.specs.Statements.{Form, block, optional, type_name, type_alias, alias_actual, type_attribute, attribute_set, common, class, class_common, class_order, rule, itself, the_named, is_optional}
+use Rattle.cil_specs.specs.Joined.{Placed}
 use Rattle.cil_specs.specs.Lookup.{Table, types, classes, commons, scopes, declared_in}
 use Rattle.cil_text.specs.Image.{place_of}
 use Rattle.cil_parse.specs.Builder.{read}
-use Rattle.cil_parse.specs.Flat.{FlatStatement}
 use Rattle.cil_parse.specs.Forms.{kind_of}
 use Rattle.cil_parse.specs.declared.row.NumberedWord.{NumberedWord}
 use Rattle.cil_parse.specs.declared.table.Table as code
@@ -202,7 +200,7 @@ stands-next names spaces more spaces' rows policy row s was distinct low here de
   numbered = numbered;
   global = ap (λ l. get_or l 0 []) opens.kept.1 ∙ get_or_append_left spaces opens.kept.0 [] 0 (omega arith) ∙ was.global;
   rows_are = rows-push names' spaces' rows policy row s (subst (λ l. AreRows names' l rows policy) (sym opens.kept.1) (rows-grow names spaces more opens.kept.0 rows policy was.numbered was.rows_are)) is_row;
-  opened_by = λ space there. elim (opens.exact space there) [ | inl old ↦ old-space space old | inr new ↦ inr (new-space space new) ];
+  opened_by = λ space there. elim (opens.exact space there) [ inl old ↦ old-space space old | inr new ↦ inr (new-space space new) ];
 }
   where
     names' : List (List ℕ)

@@ -1,7 +1,7 @@
 -- The words of modules in one numbering.
-use Rattle.std.proofs.Common.{◌≡◌, ◌⊎◌, ℕ, zero, suc, ◌+◌, ◌<◌, ◌≤◌, Bool, true, false, ◌&&◌, List, [], ◌∷◌, ◌++◌, map, length, get_or, slice_get, take, drop, Option, Some, None, All, Vec, Contains, bytes_eq, refl, sym, ap, ◌∙◌, subst, add-one, append_assoc, arith, inl, inr, true≢false, IsTrue, ◌↔◌}
-use Rattle.std.specs.List.{AllByRecursion, IsDistinct, list_any}
-use Rattle.std.proofs.lemmas.List.{length-map, map-append, get_or_append_left, take_all, get_or_default}
+use Rattle.std.proofs.Common.{◌≡◌, ℕ, zero, suc, ◌+◌, ◌<◌, Bool, true, List, [], ◌∷◌, ◌++◌, map, length, get_or, slice_get, take, drop, Some, None, All, Vec, Contains, bytes_eq, refl, sym, ap, ◌∙◌, subst, add-one, arith, inl, inr, true≢false, IsTrue}
+use Rattle.std.specs.List.{IsDistinct, list_any}
+use Rattle.std.proofs.lemmas.List.{length-map, map-append}
 use Rattle.std.proofs.lemmas.List.Elements.{Contains-get_or}
 use Rattle.std.proofs.lemmas.List.Folds.{Any-from_list_any, list_any_at}
 use Rattle.std.proofs.lemmas.Option.{none-some, same_Some, slice_get-get_or}
@@ -14,7 +14,6 @@ use Rattle.cil_specs.proofs.DeclaredLemmas.{one-namespace}
 use Rattle.cil_parse.specs.Lexicon.{AreNumbersOf}
 use Rattle.cil_parse.specs.Parsed.{names_of}
 use Rattle.cil_bind.specs.Lookup.{word_at, named, namespace_at, path_of, AreOpened, AreWithin}
-use Rattle.cil_bind.specs.Rows.{IsRow, AreRows}
 use Rattle.cil_bind.specs.Scope.{Stands}
 use Rattle.cil_bind.specs.Words.{AreWorded}
 use Rattle.cil_bind.specs.declared.joined.NamedModule.{NamedModule}

@@ -1,7 +1,7 @@
 -- A joined policy whose references are bound.
-use Rattle.std.specs.Prelude.{◌≡◌, ℕ, List, [], ◌∷◌, take, slice_get, slice_index_or, Some, Bool, false}
+use Rattle.std.specs.Prelude.{◌≡◌, List, [], ◌∷◌, take, slice_get, slice_index_or, Some, Bool, false}
 use Rattle.cil_specs.specs.Names.{Word}
-use Rattle.cil_specs.specs.Joined.{Placed, Module, joined}
+use Rattle.cil_specs.specs.Joined.{Placed}
 use Rattle.cil_specs.specs.PolicyFault.{twice_words}
 use Rattle.cil_specs.specs.Kept.{Optionals, is_within}
 use Rattle.cil_bind.specs.declared.rows.Row.{Row}

@@ -1,5 +1,5 @@
 -- The statements of a joined policy by numbers.
-use Rattle.std.specs.Prelude.{◌≡◌, ◌⊎◌, ◌<◌, ℕ, List, [], ◌∷◌, ◌++◌, Bool, true, false, Contains, Option, Some, None, slice_index_or, slice_get, length, ◌+◌, ◌==◌, if◌then◌else◌, bytes_eq}
+use Rattle.std.specs.Prelude.{◌≡◌, ◌⊎◌, ◌<◌, ℕ, List, [], ◌∷◌, ◌++◌, Bool, true, false, Contains, Option, Some, None, slice_index_or, slice_get, ◌+◌, ◌==◌, if◌then◌else◌, bytes_eq}
 use Rattle.std.specs.List.{IsDistinct}
 use Rattle.cil_specs.specs.Names.{Word}
 use Rattle.cil_specs.specs.Statements.{Statements, Form, block}

@@ -1,6 +1,5 @@
 -- The words of modules in one numbering.
 use Rattle.std.specs.Prelude.{ℕ, List, [], ◌∷◌, Vec}
-
 use Rattle.cil_parse.specs.Lexicon.{AreNumbersOf}
 use Rattle.cil_parse.specs.Parsed.{names_of}
 use Rattle.cil_bind.specs.declared.joined.NamedModule.{NamedModule}

@@ -83,7 +83,14 @@ pub fn bind<A: Allocator + Copy>(
         let module = joined.modules[number].module;
         let view = module.statement(row.index as usize);
         let namespace = known(lookup, row.namespace);
-        bind_statement(lookup, module, words[number].as_slice(), namespace, &view, &mut bound)?;
+        bind_statement(
+            lookup,
+            module,
+            words[number].as_slice(),
+            namespace,
+            &view,
+            &mut bound,
+        )?;
     }
     Ok(bound)
 }

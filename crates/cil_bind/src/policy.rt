@@ -60,7 +60,13 @@ impl<'m, A: Allocator + Copy> Policy<'m, A> {
         ensures { IfOk result (λ made. (policy : List Placed) (set : Optionals) → IsBoundTo self.entry joined.now.modules.items policy → AreApart policy
             → AreMarked set kept.now self.entry.rows.items policy → Makes joined.now.modules.items (restricted set policy) made) }
     {
-        let Policy { names, words, lookup, rows, bound: _ } = self;
+        let Policy {
+            names,
+            words,
+            lookup,
+            rows,
+            bound: _,
+        } = self;
         let mut rows = rows;
         retain_kept(&mut rows, kept);
         let scope = Scope {
@@ -87,7 +93,11 @@ impl<'m, A: Allocator + Copy> Policy<'m, A> {
         if scope.rows.len() > 0xFFFF_FFFF {
             return Err(AllocError);
         }
-        let Scope { names, namespaces, rows } = scope;
+        let Scope {
+            names,
+            namespaces,
+            rows,
+        } = scope;
         let first = match Declarations::of(alloc, rows.as_slice())? {
             Declared::Once(declarations) => declarations.first,
             Declared::Twice(place) => return Ok(Joining::Twice(place)),

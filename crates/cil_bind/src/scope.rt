@@ -31,11 +31,7 @@ pub struct Scope<'m, A: Allocator = Global> {
 
 impl<'m, A: Allocator + Copy> Scope<'m, A> {
     /// The statements of a joined policy, over words that have numbers already.
-    pub fn of(
-        alloc: A,
-        names: Names<'m, A>,
-        joined: &Joined<'m, A>,
-    ) -> Result<Self, AllocError>
+    pub fn of(alloc: A, names: Names<'m, A>, joined: &Joined<'m, A>) -> Result<Self, AllocError>
         requires distinct { IsDistinct bytes_eq names }
         requires spelt { (modules : List Module) × AreSpelt joined.now.modules.items modules }
         ensures stands { IfOk result (λ scope. (modules : List Module) → AreSpelt joined.now.modules.items modules → StandsFor scope (joined_policy modules)) }

@@ -1,8 +1,6 @@
-use Rattle.std.proofs.Common.{◌≡◌, ◌<◌, ◌≤◌, List, ℕ, false, None, Some, length, get_or, slice_get, rules, sym, ap, ◌∙◌, subst, arith}
-use Rattle.cil_specs.specs.Joined.{Placed}
+use Rattle.std.proofs.Common.{◌<◌, false, None, length, get_or, rules, sym, ap, ◌∙◌, subst, arith}
 use Rattle.cil_parse.specs.Lexicon.{AreNumbersOf}
 use Rattle.cil_parse.specs.Parsed.{names_of}
-use Rattle.cil_bind.specs.Scope.{IsFrom}
 use Rattle.cil_bind.specs.declared.rows.Row.{Row}
 use Rattle.cil_bind.proofs.DeclareLemmas.{row-here}
 use Rattle.cil_bind.proofs.WordLemmas.{worded-at, worded-long, numbers-long}

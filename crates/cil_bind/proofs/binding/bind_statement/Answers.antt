@@ -1,4 +1,4 @@
-use Rattle.std.proofs.Common.{◌≡◌, ◌≤◌, ◌+◌, ◌++◌, ◌∷◌, [], take, length, rules, refl, sym, ap, ◌∙◌, subst, arith}
+use Rattle.std.proofs.Common.{◌≤◌, ◌+◌, ◌++◌, ◌∷◌, [], take, length, rules, refl, sym, ap, ◌∙◌, subst}
 use Rattle.cil_specs.specs.Lookup.{references}
 use Rattle.cil_parse.specs.Kinds.{table_of}
 use Rattle.cil_parse.specs.Parsed.{texts_of}

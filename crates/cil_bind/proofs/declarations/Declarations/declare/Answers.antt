@@ -1,7 +1,6 @@
-use Rattle.std.proofs.Common.{◌≡◌, List, ℕ, false, None, Some, not, ◌&&◌, get_or, slice_get, refl, sym, ap, ◌∙◌, subst}
+use Rattle.std.proofs.Common.{false, None, get_or, refl, sym, ap, ◌∙◌, subst}
 use Rattle.std.specs.Map.{lookup}
-use Rattle.cil_bind.specs.Lookup.{table_of}
-use Rattle.cil_bind.specs.Rows.{IsDeclared, is_optional_row}
+use Rattle.cil_bind.specs.Rows.{IsDeclared}
 use Rattle.cil_bind.specs.declared.lookup.Key.{Key}
 use Rattle.cil_bind.specs.declared.rows.Row.{Row}
 use Rattle.cil_bind.proofs.LookupLemmas.{derived-key}

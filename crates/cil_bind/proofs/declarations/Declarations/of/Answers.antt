@@ -1,4 +1,4 @@
-use Rattle.std.proofs.Common.{subst, sym, ◌∙◌, arith}
+use Rattle.std.proofs.Common.{subst, arith}
 use Rattle.cil_bind.specs.Lookup.{HaveDeclared}
 use Rattle.cil_bind.specs.Rows.{IsOnce}
 use Rattle.cil_bind.proofs.DeclareLemmas.{taken-next, taken-twice, none-taken, all-taken}
@@ -15,9 +15,11 @@ loop-i-preserved g c = λ names spaces policy nums are.
 
 pub returns-then-branch : goal.returns-then-branch
 returns-then-branch g c = λ names spaces policy nums are.
-    let so_far = c.loop-i.invariant names spaces policy nums are in
-    (so_far.1, taken-twice names spaces c.args.rows.now policy c.loop-i.i c.declare.new.self.first.entries c.in_ok-declare.field-0 are (omega arith)
-    (c.in_ok-declare.ensures names spaces policy nums are so_far.0 so_far.1) c.if-branch.true)
+    let so_far = c.loop-i.invariant names spaces policy nums are in (
+      so_far.1,
+      taken-twice names spaces c.args.rows.now policy c.loop-i.i c.declare.new.self.first.entries c.in_ok-declare.field-0 are (omega arith)
+          (c.in_ok-declare.ensures names spaces policy nums are so_far.0 so_far.1) c.if-branch.true,
+    )
 
 pub returns : goal.returns
 returns g c = λ names spaces policy nums are.

@@ -1,4 +1,4 @@
-use Rattle.std.proofs.Common.{get_or, sym, ap, ◌∙◌, subst}
+use Rattle.std.proofs.Common.{sym, ap, ◌∙◌, subst}
 use Rattle.std.specs.Option.{option_and_then}
 use Rattle.cil_specs.specs.Lookup.{inside}
 use Rattle.cil_bind.specs.Lookup.{namespace_at, path_of, table_of, IsLead}

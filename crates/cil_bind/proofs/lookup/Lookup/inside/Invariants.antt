@@ -1,4 +1,4 @@
-use Rattle.std.proofs.Common.{◌≡◌, ◌<◌, ◌-◌, ℕ, List, length, drop}
+use Rattle.std.proofs.Common.{◌≡◌, ◌<◌, ℕ, List, length, drop}
 use Rattle.cil_specs.specs.Joined.{Placed}
 use Rattle.cil_specs.specs.Lookup.{inside}
 use Rattle.cil_bind.specs.Lookup.{namespace_at, path_of, table_of, Knows, AreWithin}
@@ -11,4 +11,3 @@ invariant-loop-i g l = record {
       → inside policy (table_of l.table) (namespace_at names l.self.namespaces l.fn.namespace) (path_of names l.words l.path)
       ≡ inside policy (table_of l.table) (namespace_at names l.self.namespaces l.at) (path_of names l.words (drop l.i l.path));
 }
-

@@ -1,7 +1,5 @@
-use Rattle.std.proofs.Common.{◌≡◌, ◌<◌, ◌≤◌, ◌+◌, take, length, rules, refl, sym, subst, arith}
+use Rattle.std.proofs.Common.{◌<◌, ◌≤◌, ◌+◌, take, length, rules, sym, subst}
 use Rattle.std.proofs.lemmas.List.{take_all}
-use Rattle.cil_parse.specs.Lexicon.{AreNumbersOf}
-use Rattle.cil_parse.specs.Parsed.{names_of}
 use Rattle.cil_bind.specs.Words.{AreWorded}
 use Rattle.cil_bind.proofs.WordLemmas.{worded-next}
 use Rattle.cil_bind.proofs.names.Names.number_modules.Goals as goal

@@ -1,4 +1,4 @@
-use Rattle.std.proofs.Common.{◌≡◌, ◌++◌, List, ℕ, bytes_eq, take}
+use Rattle.std.proofs.Common.{bytes_eq, take}
 use Rattle.std.specs.List.{IsDistinct}
 use Rattle.cil_bind.specs.Words.{AreWorded}
 use Rattle.cil_bind.proofs.names.Names.number_modules.Given as goal

@@ -1,4 +1,4 @@
-use Rattle.std.proofs.Common.{◌≡◌, ◌++◌, ◌<◌, ◌+◌, [], take, length, get_or, refl, sym, ap, ◌∙◌, append-nil, Some, arith, subst}
+use Rattle.std.proofs.Common.{◌<◌, ◌+◌, [], take, length, refl, sym, ap, ◌∙◌, append-nil, Some, arith, subst}
 use Rattle.std.proofs.lemmas.List.{take_all}
 use Rattle.cil_parse.specs.Lexicon.{AreNumbersOf}
 use Rattle.cil_parse.specs.Parsed.{names_of}

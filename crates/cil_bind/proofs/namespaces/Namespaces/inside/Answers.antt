@@ -1,5 +1,3 @@
-use Rattle.std.proofs.Common.{◌≡◌, ◌∷◌, get_or, [], inl, inr, ap, sym, ◌∙◌, refl, length, ◌<◌, subst}
-use Rattle.std.proofs.lemmas.Option.{same_Some, none-some}
 use Rattle.cil_bind.proofs.NamespaceLemmas.{opens-some}
 use Rattle.cil_bind.proofs.namespaces.Namespaces.inside.Goals as goal
 

@@ -1,4 +1,3 @@
-use Rattle.std.proofs.Common.{List, ℕ}
 use Rattle.cil_specs.specs.Joined.{joined}
 use Rattle.cil_bind.proofs.WordLemmas.{none-distinct, worded-grows}
 use Rattle.cil_bind.proofs.policy.Policy.of.Goals as goal

@@ -1,4 +1,4 @@
-use Rattle.std.proofs.Common.{List, ℕ, sym, subst}
+use Rattle.std.proofs.Common.{sym, subst}
 use Rattle.cil_bind.specs.Lookup.{Knows}
 use Rattle.cil_bind.specs.Rows.{AreRows, DeclareThat}
 use Rattle.cil_bind.specs.Scope.{AreFrom}

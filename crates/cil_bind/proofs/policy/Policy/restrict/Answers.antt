@@ -1,4 +1,4 @@
-use Rattle.std.proofs.Common.{List, ℕ, sym, subst}
+use Rattle.std.proofs.Common.{sym, subst}
 use Rattle.cil_specs.specs.Kept.{restricted}
 use Rattle.cil_bind.specs.Scope.{AreFrom}
 use Rattle.cil_bind.proofs.RestrictLemmas.{from-some, from-kept, stands-kept}

@@ -1,4 +1,4 @@
-use Rattle.std.proofs.Common.{◌≡◌, Some, slice_get, get_or, [], refl, sym, ap, ◌∙◌}
+use Rattle.std.proofs.Common.{Some, refl, ap, ◌∙◌}
 use Rattle.cil_parse.specs.Parsed.{texts_of}
 use Rattle.cil_bind.proofs.ScopeLemmas.{kept-more, declared-is}
 use Rattle.cil_bind.proofs.scope.Scope.declared.Goals as goal

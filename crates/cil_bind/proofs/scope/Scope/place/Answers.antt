@@ -1,10 +1,9 @@
-use Rattle.std.proofs.Common.{◌≡◌, ◌+◌, ◌++◌, ◌∷◌, [], List, ℕ, length, take, bytes_eq, sym, ap, ◌∙◌, subst, arith}
+use Rattle.std.proofs.Common.{◌+◌, ◌++◌, ◌∷◌, [], take, bytes_eq, sym, ap, ◌∙◌, subst}
 use Rattle.std.specs.List.{IsDistinct}
 use Rattle.cil_specs.specs.Joined.{placed}
-use Rattle.cil_parse.specs.Parsed.{texts_of}
 use Rattle.cil_bind.specs.Namespaces.{Opens}
 use Rattle.cil_bind.specs.Rows.{IsDeclared}
-use Rattle.cil_bind.specs.Scope.{Stands, block_word}
+use Rattle.cil_bind.specs.Scope.{Stands}
 use Rattle.cil_bind.specs.declared.rows.Row.{Row}
 use Rattle.cil_bind.proofs.PlaceLemmas.{flat-there, placed-next}
 use Rattle.cil_bind.proofs.FromLemmas.{from-next}
