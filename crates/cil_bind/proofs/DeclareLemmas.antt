@@ -33,7 +33,7 @@ same-bool false true f g = absurd (true≢false (sym (g refl)))
 same-bool false false f g = refl
 
 -- the entries with a new one
-lookup-push : (test : Key → Bool) (entries : List (Key × ℕ)) (key : Key) (n : ℕ) → lookup test (entries ++ (key, n) ∷ []) ≡ option_or (lookup test entries) (cond (test key) (Some n) None)
+pub lookup-push : {V : Type 0} (test : Key → Bool) (entries : List (Key × V)) (key : Key) (n : V) → lookup test (entries ++ (key, n) ∷ []) ≡ option_or (lookup test entries) (cond (test key) (Some n) None)
 lookup-push test [] key n = refl
 lookup-push test (e ∷ entries) key n = by (lookup-push test entries key n) (test e.0)
   where
@@ -42,7 +42,7 @@ lookup-push test (e ∷ entries) key n = by (lookup-push test entries key n) (te
     by more true = refl
     by more false = more
 
-insert-new : (eq : Key → Key → Bool) (entries : List (Key × ℕ)) (key : Key) (n : ℕ) → is_some (lookup (eq key) entries) ≡ false → insert_entry eq entries key n ≡ entries ++ (key, n) ∷ []
+insert-new : {V : Type 0} (eq : Key → Key → Bool) (entries : List (Key × V)) (key : Key) (n : V) → is_some (lookup (eq key) entries) ≡ false → insert_entry eq entries key n ≡ entries ++ (key, n) ∷ []
 insert-new eq [] key n none = refl
 insert-new eq (e ∷ entries) key n none = by (insert-new eq entries key n) (eq key e.0) none
   where
@@ -51,7 +51,7 @@ insert-new eq (e ∷ entries) key n none = by (insert-new eq entries key n) (eq 
     by more true f = absurd (true≢false f)
     by more false f = ap (λ l. e ∷ l) (more f)
 
-pub put-new : (eq : Key → Key → Bool) (entries new : List (Key × ℕ)) (key : Key) (n : ℕ) → lookup (eq key) entries ≡ None → new ≡ insert_entry eq entries key n → new ≡ entries ++ (key, n) ∷ []
+pub put-new : {V : Type 0} (eq : Key → Key → Bool) (entries new : List (Key × V)) (key : Key) (n : V) → lookup (eq key) entries ≡ None → new ≡ insert_entry eq entries key n → new ≡ entries ++ (key, n) ∷ []
 put-new eq entries new key n none e = e ∙ insert-new eq entries key n (ap is_some none)
 
 -- a word that has a name
@@ -128,7 +128,7 @@ again-first policy front f back s table w once split none first = by (is_optiona
     by false e = ap (list_any (is_again table s w)) split ∙ any-middle (is_again table s w) front f back (both_true (declares table s.namespace w.text f) (not (is_optional s.form && is_optional f.form)) first (ap not e))
     by true e = not-true (list_any (is_again table s w) policy) (λ any. never e (passes-among (is_again table s w) policy any))
 
-same-table : (t u : code.Table) → (table_index t == table_index u) ≡ true → table_of t ≡ table_of u
+pub same-table : (t u : code.Table) → (table_index t == table_index u) ≡ true → table_of t ≡ table_of u
 same-table Types Types e = refl
 same-table Types Classes e = absurd (true≢false (sym e))
 same-table Types Commons e = absurd (true≢false (sym e))

@@ -109,6 +109,7 @@ from-at parsed (r ∷ rows) (t ∷ policy) (suc i) row are at = from-at parsed r
 -- the module that a row tells, as it is read
 pub record IsThere {A : Type 0} (parsed : List (NamedModule A)) (row : Row) (d : NamedModule A) (s : Placed) : Type 0 where
   pub within : row.«module» < length parsed
+  pub at : slice_get parsed row.«module» ≡ Some d
   pub index : row.index < statement_count d.«module».now
   pub statements : Statements
   pub spells : Spells d.«module».now statements
@@ -121,6 +122,7 @@ is-there parsed row d s from here =
     let same : from.m ≡ d = sym (here ∙ get_or_from_slice_get parsed row.«module» from.m d from.at) in
     record {
       within = slice_get_within parsed row.«module» from.m from.at;
+      at = from.at ∙ ap Some same;
       index = subst (λ n. row.index < statement_count n.«module».now) same from.within;
       statements = from.statements;
       spells = subst (λ n. Spells n.«module».now from.statements) same from.spells;

@@ -10,3 +10,4 @@ pub mod WordLemmas
 pub mod BindingLemmas
 pub mod FromLemmas
 pub mod RestrictLemmas
+pub mod MemoLemmas

@@ -61,11 +61,6 @@ pub record IsLead (table : Table) (policy : List Placed) (found : Option ℕ) (l
   pub within : IfSome found (λ i. i < length policy)
   pub first : IfSome found (IsFirstOf table policy)
 
--- What is remembered is where plain names lead from namespaces outward.
-abbrev pub Remembers : List (List ℕ) → List (Key × Option ℕ) → List (List ℕ) → List Placed → Type 0
-Remembers spaces memory names policy = (table : code.Table) (n w : ℕ) (found : Option ℕ) → n < length spaces → w < length names → lookup (is_key table n w) memory ≡ Some found
-    → IsLead (table_of table) policy found (outward policy (table_of table) (namespace_at names spaces n) (word_at names w))
-
 -- the words of a module have numbers
 abbrev pub AreWithin : List (List ℕ) → List ℕ → Type 0
 AreWithin names words = AllByRecursion (λ w. w < length names) words

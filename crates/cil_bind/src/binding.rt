@@ -10,12 +10,12 @@ ghost use Rattle.cil_bind.specs.Lookup.{namespace_at as namespace_of, Knows};
 ghost use Rattle.cil_bind.specs.Binding.{Binds, AreBound};
 ghost use Rattle.cil_bind.specs.Rows.{AreRows};
 ghost use Rattle.cil_bind.specs.Scope.{AreFrom};
-ghost use Rattle.cil_bind.specs.Words.{AreWorded};
+ghost use Rattle.cil_bind.specs.Words.{AreWorded, Remembers};
 
 use crate::joined::Joined;
 use crate::lookup::Lookup;
 use crate::rows::Row;
-use crate::words::lead;
+use crate::memo::Memo;
 use cil_parse::{Lists, ParsedModule, StatementView};
 use std::alloc::{AllocError, Allocator};
 
@@ -27,6 +27,7 @@ fn bind_statement<A: Allocator + Copy>(
     words: &[u32],
     namespace: u32,
     view: &StatementView<'_>,
+    memo: &mut Memo<A>,
     bound: &mut Lists<Option<u32>, A>,
 ) -> Result<(), AllocError>
     requires within { namespace < length lookup.now.namespaces }
@@ -35,14 +36,17 @@ fn bind_statement<A: Allocator + Copy>(
     requires closed { bound.old.1 ≡ [] }
     ensures closed { OnOk result (bound.new.1 ≡ []) }
     ensures binds { OnOk result ((names : List (List ℕ)) (policy : List Placed) (f : FlatStatement) → Knows lookup.now.namespaces lookup.now.declared.entries names policy
-        → AreNumbersOf names words.now (names_of «module».now) → IsShown (texts_of «module».now) view.now f
+        → AreNumbersOf names words.now (names_of «module».now) → Remembers names lookup.now.namespaces (texts_of «module».now) policy memo.old.found.entries → IsShown (texts_of «module».now) view.now f
         → Binds policy (namespace_of names lookup.now.namespaces namespace) f.form bound.old bound.new) }
+    ensures remembers { OnOk result ((names : List (List ℕ)) (policy : List Placed) → Knows lookup.now.namespaces lookup.now.declared.entries names policy → AreNumbersOf names words.now (names_of «module».now)
+        → Remembers names lookup.now.namespaces (texts_of «module».now) policy memo.old.found.entries → Remembers names lookup.now.namespaces (texts_of «module».now) policy memo.new.found.entries) }
+    ensures same { memo.new.«module» ≡ memo.old.«module» }
 {
     for k in 0..view.words.len() {
         let Some((table, word)) = view.reference(k) else {
             continue;
         };
-        let found = lead(lookup, module, words, table, namespace, word.text);
+        let found = memo.lead(lookup, module, words, table, namespace, word.text)?;
         bound.push(found)?;
     }
     bound.close()?;
@@ -77,18 +81,21 @@ pub fn bind<A: Allocator + Copy>(
         → AreBound policy policy bound.0) }
 {
     let mut bound = Lists::with_capacity(alloc, rows.len(), rows.len())?;
+    let mut memo = Memo::new(alloc);
     for i in 0..rows.len() {
         let row = rows[i];
         let number = row.module as usize;
         let module = joined.modules[number].module;
         let view = module.statement(row.index as usize);
         let namespace = known(lookup, row.namespace);
+        memo.turn_to(row.module);
         bind_statement(
             lookup,
             module,
             words[number].as_slice(),
             namespace,
             &view,
+            &mut memo,
             &mut bound,
         )?;
     }

@@ -6,6 +6,7 @@ mod declarations;
 mod joined;
 mod lookup;
 mod names;
+mod memo;
 mod namespaces;
 mod policy;
 mod rows;
