@@ -20,13 +20,13 @@ all-append : {X : Type 0} (P : X → Type 0) (xs ys : List X) → AllByRecursion
 all-append P [] ys a b = b
 all-append P (x ∷ xs) ys a b = (a.0, all-append P xs ys a.1 b)
 
-all-get : {X : Type 0} (P : X → Type 0) (xs : List X) (i : ℕ) (x : X) → AllByRecursion P xs → slice_get xs i ≡ Some x → P x
+pub all-get : {X : Type 0} (P : X → Type 0) (xs : List X) (i : ℕ) (x : X) → AllByRecursion P xs → slice_get xs i ≡ Some x → P x
 all-get P [] i x all at = absurd (none-some x at)
 all-get P (y ∷ xs) zero x all at = subst P (same_Some y x at) all.0
 all-get P (y ∷ xs) (suc i) x all at = all-get P xs i x all.1 at
 
 -- the statements of a module have its name
-placed-named : (name : List ℕ) (namespace : List (List ℕ)) (optionals : List ℕ) (statements : Statements) → AllByRecursion (λ s. s.module_name ≡ name) (placed name namespace optionals statements)
+pub placed-named : (name : List ℕ) (namespace : List (List ℕ)) (optionals : List ℕ) (statements : Statements) → AllByRecursion (λ s. s.module_name ≡ name) (placed name namespace optionals statements)
 placed-named name namespace optionals no_more = tt
 placed-named name namespace optionals (statement at form body more) = (
   refl,

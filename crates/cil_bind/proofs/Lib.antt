@@ -11,3 +11,4 @@ pub mod BindingLemmas
 pub mod FromLemmas
 pub mod RestrictLemmas
 pub mod MemoLemmas
+pub mod AroundLemmas

@@ -1,8 +1,8 @@
 -- The statements of a joined policy by numbers.
-use Rattle.std.specs.Prelude.{◌≡◌, ◌⊎◌, ◌<◌, ℕ, List, [], ◌∷◌, ◌++◌, Bool, true, false, Contains, Option, Some, None, slice_index_or, slice_get, ◌+◌, ◌==◌, if◌then◌else◌, bytes_eq}
+use Rattle.std.specs.Prelude.{zero, suc, ◌≡◌, ◌⊎◌, ◌<◌, ℕ, List, [], ◌∷◌, ◌++◌, Bool, true, false, Contains, Option, Some, None, slice_index_or, slice_get, ◌+◌, ◌==◌, if◌then◌else◌, bytes_eq}
 use Rattle.std.specs.List.{IsDistinct}
 use Rattle.cil_specs.specs.Names.{Word}
-use Rattle.cil_specs.specs.Statements.{Statements, Form, block}
+use Rattle.cil_specs.specs.Statements.{Statements, Form, block, optional}
 use Rattle.cil_specs.specs.Joined.{Placed, Module}
 use Rattle.cil_bind.specs.Lookup.{named}
 use Rattle.cil_bind.specs.Rows.{IsDeclared, AreRows, AreNumbered}
@@ -53,7 +53,7 @@ is_optional_kind _ = false
 
 -- the number of an optional in a policy by that in its module, whose statements begin at a place; 0 stays 0
 abbrev pub optional_number : ℕ → ℕ → ℕ
-optional_number start optional = if optional == 0 then 0 else start + optional
+optional_number start number = if number == 0 then 0 else start + number
 
 -- the names, namespaces and rows are those of a policy
 abbrev pub StandsFor : {A : Type 0} → Scope A → List Placed → Type 0
@@ -84,3 +84,15 @@ pub record HaveModule {A : Type 0} (parsed : List (NamedModule A)) (number : ℕ
   pub at : slice_get parsed number ≡ Some m
   pub is : m.«module».now ≡ module_at
   pub named : m.name.now ≡ name
+
+-- the number is that of the innermost optional around a statement in front of a place: its place and 1 more; 0 stands for none
+abbrev pub IsAround : List Placed → ℕ → ℕ → Placed → Type 0
+IsAround policy place zero s = s.optionals ≡ []
+IsAround policy place (suc k) s = (o : Placed) × (id : Word) × (k < place) × (slice_get policy k ≡ Some o) × (o.form ≡ optional id) × (o.module_name ≡ s.module_name) × (s.optionals ≡ o.at.offset ∷ o.optionals)
+
+-- Rows from a place on tell the innermost optionals around their statements.
+abbrev pub AreAround : List Placed → ℕ → List Row → List Placed → Type 0
+AreAround policy place [] [] = Unit {0}
+AreAround policy place [] (s ∷ statements) = ⊥
+AreAround policy place (row ∷ rows) [] = ⊥
+AreAround policy place (row ∷ rows) (s ∷ statements) = IsAround policy place row.optional s × AreAround policy (place + 1) rows statements

@@ -10,7 +10,7 @@ ghost use Rattle.cil_parse.specs.Flat.{FlatStatement};
 ghost use Rattle.cil_parse.specs.Parsed.{texts_of, statement_count, Spells};
 ghost use Rattle.cil_parse.specs.View.{IsShown};
 ghost use Rattle.cil_bind.specs.Rows.{IsDeclared};
-ghost use Rattle.cil_bind.specs.Scope.{StandsFor, AreSpelt, AreFrom, HaveModule, Declares, optional_number, block_word as word_of_block, is_optional_kind};
+ghost use Rattle.cil_bind.specs.Scope.{StandsFor, AreSpelt, AreFrom, AreAround, HaveModule, Declares, optional_number, block_word as word_of_block, is_optional_kind};
 ghost use Rattle.cil_bind.specs.declared.joined.NamedModule.{NamedModule};
 ghost use Rattle.cil_bind.specs.declared.rows.Row.{Row};
 
@@ -60,6 +60,9 @@ impl<'m, A: Allocator + Copy> Scope<'m, A> {
         ensures kept { OnOk result ((more : List (List ℕ)) × (self.new.names ≡ self.old.names ++ more)) }
         ensures from { OnOk result ((parsed : List (NamedModule _)) (before : List Placed) (name : List ℕ) (statements : Statements) → Spells «module».now statements → HaveModule parsed number «module».now name
             → AreFrom parsed self.old.rows.items before → AreFrom parsed self.new.rows.items (before ++ placed name [] [] statements)) }
+        ensures around { OnOk result ((before behind : List Placed) (name : List ℕ) (statements : Statements) → Spells «module».now statements → length before ≡ length self.old.rows.items
+            → AreAround (before ++ (placed name [] [] statements ++ behind)) 0 self.old.rows.items before
+            → AreAround (before ++ (placed name [] [] statements ++ behind)) 0 self.new.rows.items (before ++ placed name [] [] statements)) }
     {
         let start = self.rows.len();
         if start > 0xFFFF_FFFF {
@@ -103,6 +106,9 @@ impl<'m, A: Allocator + Copy> Scope<'m, A> {
         ensures kept { OnOk result ((more : List (List ℕ)) × (self.new.names ≡ self.old.names ++ more)) }
         ensures from { OnOk result ((parsed : List (NamedModule _)) (before : List Placed) (name : List ℕ) (statements : Statements) → Spells «module».now statements → HaveModule parsed number «module».now name
             → AreFrom parsed self.old.rows.items (before ++ take i (placed name [] [] statements)) → AreFrom parsed self.new.rows.items (before ++ take (i + 1) (placed name [] [] statements))) }
+        ensures around { OnOk result ((before behind : List Placed) (name : List ℕ) (statements : Statements) → Spells «module».now statements → length before ≡ start
+            → AreAround (before ++ (placed name [] [] statements ++ behind)) 0 self.old.rows.items (before ++ take i (placed name [] [] statements))
+            → AreAround (before ++ (placed name [] [] statements ++ behind)) 0 self.new.rows.items (before ++ take (i + 1) (placed name [] [] statements))) }
     {
         let view = module.statement(i);
         let Some(numbers) = numbers_at(start, i, view.optional) else {

@@ -6,6 +6,7 @@ use Rattle.cil_bind.specs.Rows.{IsDeclared}
 use Rattle.cil_bind.specs.Scope.{Stands}
 use Rattle.cil_bind.specs.declared.rows.Row.{Row}
 use Rattle.cil_bind.proofs.PlaceLemmas.{flat-there, placed-next}
+use Rattle.cil_bind.proofs.AroundLemmas.{around-next}
 use Rattle.cil_bind.proofs.FromLemmas.{from-next}
 use Rattle.cil_bind.proofs.scope.Scope.place.Goals as goal
 
@@ -53,4 +54,19 @@ returns-clause-from g c = λ parsed before name statements spells have so_far.
       is_optional = c.is_optional.result;
     } in
     from-next parsed c.args.«module».now statements name c.args.self.now.rows.items c.push.new.self.items before c.args.i row spells have c.in-Some.ensures.0 c.requires.within so_far
+    (c.in_ok-push.ensures.items ∙ ap (λ r. r.items ++ row ∷ []) c.in_ok-declares.ensures.rows)
+
+pub returns-clause-around : goal.returns-clause-around
+returns-clause-around g c = λ before behind name statements spells long so_far.
+    let row : Row = record {
+      «module» = c.args.number;
+      index = c.in-Some.numbers.0;
+      namespace = c.around-namespace.result;
+      inside = c.in_ok-inside.inside;
+      optional = c.in-Some.numbers.1;
+      declares = c.in_ok-declares.declares;
+      is_optional = c.is_optional.result;
+    } in
+    around-next c.args.«module».now statements c.statement-view.result c.args.i name c.args.self.now.rows.items c.push.new.self.items before behind c.args.start row spells c.requires.within long
+    (λ f at. c.statement-view.ensures statements f spells at) c.in-Some.ensures.1 so_far
     (c.in_ok-push.ensures.items ∙ ap (λ r. r.items ++ row ∷ []) c.in_ok-declares.ensures.rows)
