@@ -1,11 +1,11 @@
 -- The optionals around statements, by the numbers of rows.
-use Rattle.std.proofs.Common.{◌≡◌, ℕ, zero, suc, ◌+◌, ◌<◌, ◌≤◌, ◌==◌, Bool, true, false, List, [], ◌∷◌, ◌++◌, length, slice_get, take, Some, refl, sym, ap, ◌∙◌, subst, append_assoc, append-nil, add-one, length-append, arith, if◌then◌else◌}
+use Rattle.std.proofs.Common.{◌≡◌, ℕ, zero, suc, ◌+◌, ◌<◌, ◌≤◌, ◌==◌, Bool, true, false, List, [], ◌∷◌, ◌++◌, length, get_or, slice_get, take, drop, Some, refl, sym, ap, ◌∙◌, subst, append_assoc, append-nil, add-one, length-append, arith, if◌then◌else◌}
 use Rattle.std.proofs.lemmas.List.{take_all}
 use Rattle.std.proofs.lemmas.Option.{none-some}
 use Rattle.std.proofs.lemmas.Bool.{eqb-true}
 use Rattle.cil_specs.specs.Names.{Word}
 use Rattle.cil_specs.specs.Statements.{Statements, optional}
-use Rattle.cil_specs.specs.Joined.{Placed, placed}
+use Rattle.cil_specs.specs.Joined.{Placed, Module, placed, joined}
 use Rattle.cil_parse.specs.Flat.{FlatStatement, flat}
 use Rattle.cil_parse.specs.Around.{IsOptionalOf, IsPlacedAs}
 use Rattle.cil_parse.specs.Parsed.{Spells, statement_count, texts_of}
@@ -13,10 +13,11 @@ use Rattle.cil_parse.specs.View.{IsShown}
 use Rattle.cil_parse.specs.declared.parsed.ParsedModule.{ParsedModule}
 use Rattle.cil_parse.specs.declared.view.StatementView.{StatementView}
 use Rattle.cil_parse.proofs.AroundLemmas.{placed-flat}
-use Rattle.cil_bind.specs.Scope.{IsAround, AreAround, optional_number}
+use Rattle.cil_bind.specs.Scope.{AreSpelt, IsAround, AreAround, optional_number}
+use Rattle.cil_bind.specs.declared.joined.NamedModule.{NamedModule}
 use Rattle.cil_bind.specs.declared.rows.Row.{Row}
-use Rattle.cil_bind.proofs.PositionLemmas.{take-next, take-length}
-use Rattle.cil_bind.proofs.PlaceLemmas.{flat-there, placed-there, placed-long, get-behind}
+use Rattle.cil_bind.proofs.PositionLemmas.{take-next, take-length, around-at}
+use Rattle.cil_bind.proofs.PlaceLemmas.{flat-there, placed-there, placed-long, get-behind, joined-next, spelt-at, spelt-long}
 use Rattle.cil_bind.proofs.FromLemmas.{all-get, placed-named}
 
 get-front : {X : Type 0} (xs ys : List X) (i : ℕ) (x : X) → slice_get xs i ≡ Some x → slice_get (xs ++ ys) i ≡ Some x
@@ -95,3 +96,35 @@ pub around-all : {A : Type 0} (p : ParsedModule A) (statements : Statements) (na
 around-all p statements name policy rows before i spells past are =
     let long = placed-long p statements name spells in
     subst (λ l. AreAround policy 0 rows (before ++ l)) (take_all i (placed name [] [] statements) (omega arith)) are
+
+around-long : (policy : List Placed) (place : ℕ) (rows : List Row) (statements : List Placed) → AreAround policy place rows statements → length rows ≡ length statements
+around-long policy place [] [] are = refl
+around-long policy place [] (t ∷ statements) are = absurd are
+around-long policy place (r ∷ rows) [] are = absurd are
+around-long policy place (r ∷ rows) (t ∷ statements) are = ap suc (around-long policy (place + 1) rows statements are.1)
+
+joined-around : (modules : List Module) (i : ℕ) (m : Module) → slice_get modules i ≡ Some m → joined modules ≡ joined (take i modules) ++ (placed m.name [] [] m.statements ++ joined (drop (i + 1) modules))
+joined-around modules i m at = ap joined (around-at modules i m at) ∙ several (take i modules)
+  where
+    several : (ms : List Module) → joined (ms ++ m ∷ drop (i + 1) modules) ≡ joined ms ++ (placed m.name [] [] m.statements ++ joined (drop (i + 1) modules))
+    several [] = refl
+    several (x ∷ ms) = ap (λ l. placed x.name [] [] x.statements ++ l) (several ms) ∙ sym (append_assoc (placed x.name [] [] x.statements) (joined ms) _)
+
+-- one module more
+pub around-module : {A : Type 0} (parsed : List (NamedModule A)) (modules : List Module) (i : ℕ) (d : NamedModule A) (rows new : List Row) → AreSpelt parsed modules → i < length parsed → d ≡ get_or parsed i d
+    → AreAround (joined modules) 0 rows (joined (take i modules))
+    → ((before behind : List Placed) (name : List ℕ) (statements : Statements) → Spells d.«module».now statements → length before ≡ length rows
+    → AreAround (before ++ (placed name [] [] statements ++ behind)) 0 rows before → AreAround (before ++ (placed name [] [] statements ++ behind)) 0 new (before ++ placed name [] [] statements))
+    → AreAround (joined modules) 0 new (joined (take (i + 1) modules))
+around-module parsed modules i d rows new are low here so_far next =
+    let m = spelt-at parsed modules i d are low in
+    let whole = joined-around modules i m.0 m.1 in
+    subst (λ l. AreAround (joined modules) 0 new l) (sym (joined-next modules i m.0 m.1))
+    (subst (λ l. AreAround l 0 new (joined (take i modules) ++ placed m.0.name [] [] m.0.statements)) (sym whole)
+    (next (joined (take i modules)) (joined (drop (i + 1) modules)) m.0.name m.0.statements (subst (λ n. Spells n.«module».now m.0.statements) (sym here) m.2)
+    (sym (around-long (joined modules) 0 rows (joined (take i modules)) so_far)) (subst (λ l. AreAround l 0 rows (joined (take i modules))) whole so_far)))
+
+pub around-joined : {A : Type 0} (parsed : List (NamedModule A)) (modules : List Module) (rows : List Row) (i : ℕ) → AreSpelt parsed modules → length parsed ≤ i → AreAround (joined modules) 0 rows (joined (take i modules)) → AreAround (joined modules) 0 rows (joined modules)
+around-joined parsed modules rows i are past so_far =
+    let long = spelt-long parsed modules are in
+    subst (λ l. AreAround (joined modules) 0 rows (joined l)) (take_all i modules (omega arith)) so_far

@@ -6,8 +6,10 @@ use Rattle.std.specs.List.{list_all}
 use Rattle.cil_specs.specs.Kept.{Optionals, is_within, restricted, AreApart}
 use Rattle.cil_specs.proofs.NamesLemmas.{contains-cases, contains-first, contains-other}
 use Rattle.cil_bind.specs.Rows.{AreRows}
-use Rattle.cil_bind.specs.Scope.{IsOpenedIn, Stands, AreFrom}
-use Rattle.cil_bind.specs.Policy.{AreMarked}
+use Rattle.cil_bind.specs.Scope.{IsOpenedIn, Stands, AreFrom, AreAround}
+use Rattle.cil_bind.specs.Policy.{AreMarked, HasRows, TellsAround}
+use Rattle.cil_bind.specs.declared.policy.Joining.{Joining}
+use Rattle.cil_bind.specs.declared.policy.Joining.TheVariants.{Once, Twice}
 use Rattle.cil_bind.specs.declared.joined.NamedModule.{NamedModule}
 use Rattle.cil_bind.specs.declared.rows.Row.{Row}
 
@@ -76,3 +78,7 @@ stands-kept names spaces set kept rows new policy apart marked stands e = record
     by space (inr (s, id, there, form, is)) =
         let none = apart s there (ap stands_apart form) in
         inr (s, id, contains-kept set policy s (ap (list_all (set s.module_name)) none) there, form, is)
+
+pub tells-around : {A : Type 0} (policy : List Placed) (rows : List Row) (made : Joining A) → HasRows rows made → AreAround policy 0 rows policy → TellsAround policy made
+tells-around policy rows (Once p) has are = subst (λ r. AreAround policy 0 r policy) (sym has) are
+tells-around policy rows (Twice i) has are = tt

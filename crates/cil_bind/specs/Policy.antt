@@ -7,7 +7,7 @@ use Rattle.cil_specs.specs.Kept.{Optionals, is_within}
 use Rattle.cil_bind.specs.declared.rows.Row.{Row}
 use Rattle.cil_bind.specs.Lookup.{Knows}
 use Rattle.cil_bind.specs.Rows.{IsOnce}
-use Rattle.cil_bind.specs.Scope.{Stands, AreFrom}
+use Rattle.cil_bind.specs.Scope.{Stands, AreFrom, AreAround}
 use Rattle.cil_bind.specs.Words.{AreWorded}
 use Rattle.cil_bind.specs.Binding.{AreBound}
 use Rattle.cil_bind.specs.declared.joined.NamedModule.{NamedModule}
@@ -37,3 +37,13 @@ AreMarked set kept [] [] = Unit {0}
 AreMarked set kept [] (s ∷ policy) = ⊥
 AreMarked set kept (row ∷ rows) [] = ⊥
 AreMarked set kept (row ∷ rows) (s ∷ policy) = (slice_index_or kept row.optional false ≡ is_within set s) × AreMarked set kept rows policy
+
+-- the rows of what is made, where each name is declared once
+abbrev pub HasRows : {A : Type 0} → List Row → Joining A → Type 0
+HasRows rows (Once p) = p.rows.items ≡ rows
+HasRows rows (Twice i) = Unit {0}
+
+-- of what is made of a whole policy, the rows tell the innermost optionals around their statements
+abbrev pub TellsAround : {A : Type 0} → List Placed → Joining A → Type 0
+TellsAround policy (Once p) = AreAround policy 0 p.rows.items policy
+TellsAround policy (Twice i) = Unit {0}

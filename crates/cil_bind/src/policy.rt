@@ -3,7 +3,7 @@
 ghost use Rattle.std.specs.Prelude.{◌≡◌, ℕ, IfOk, List, false, filter, slice_index_or};
 ghost use Rattle.cil_specs.specs.Joined.{Placed, Module, joined as joined_policy};
 ghost use Rattle.cil_bind.specs.Scope.{AreSpelt, AreFrom, StandsFor};
-ghost use Rattle.cil_bind.specs.Policy.{Makes, IsBoundTo, AreMarked};
+ghost use Rattle.cil_bind.specs.Policy.{Makes, IsBoundTo, AreMarked, HasRows, TellsAround};
 ghost use Rattle.cil_bind.specs.Words.{AreWorded};
 ghost use Rattle.cil_specs.specs.Kept.{Optionals, AreApart, restricted};
 
@@ -39,7 +39,8 @@ impl<'m, A: Allocator + Copy> Policy<'m, A> {
     /// The joined policy of modules.
     pub fn of(alloc: A, joined: &Joined<'m, A>) -> Result<Joining<'m, A>, AllocError>
         requires { (modules : List Module) × AreSpelt joined.now.modules.items modules }
-        ensures { IfOk result (λ made. (modules : List Module) → AreSpelt joined.now.modules.items modules → Makes joined.now.modules.items (joined_policy modules) made) }
+        ensures made { IfOk result (λ made. (modules : List Module) → AreSpelt joined.now.modules.items modules → Makes joined.now.modules.items (joined_policy modules) made) }
+        ensures around { IfOk result (λ made. (modules : List Module) → AreSpelt joined.now.modules.items modules → TellsAround (joined_policy modules) made) }
     {
         let mut names = Names::new(alloc);
         let words = names.number_modules(alloc, joined)?;
@@ -87,8 +88,9 @@ impl<'m, A: Allocator + Copy> Policy<'m, A> {
     ) -> Result<Joining<'m, A>, AllocError>
         requires worded { (names : List (List ℕ)) × AreWorded names words.items joined.now.modules.items }
         requires from { (policy : List Placed) × AreFrom joined.now.modules.items scope.rows.items policy }
-        ensures { IfOk result (λ made. (policy : List Placed) → StandsFor scope.entry policy → AreFrom joined.now.modules.items scope.entry.rows.items policy
+        ensures made { IfOk result (λ made. (policy : List Placed) → StandsFor scope.entry policy → AreFrom joined.now.modules.items scope.entry.rows.items policy
             → AreWorded scope.entry.names words.items joined.now.modules.items → Makes joined.now.modules.items policy made) }
+        ensures rows { IfOk result (HasRows scope.entry.rows.items) }
     {
         if scope.rows.len() > 0xFFFF_FFFF {
             return Err(AllocError);

@@ -37,6 +37,7 @@ impl<'m, A: Allocator + Copy> Scope<'m, A> {
         ensures stands { IfOk result (λ scope. (modules : List Module) → AreSpelt joined.now.modules.items modules → StandsFor scope (joined_policy modules)) }
         ensures kept { IfOk result (λ scope. (more : List (List ℕ)) × (scope.names ≡ names.entry ++ more)) }
         ensures from { IfOk result (λ scope. (modules : List Module) → AreSpelt joined.now.modules.items modules → AreFrom joined.now.modules.items scope.rows.items (joined_policy modules)) }
+        ensures around { IfOk result (λ scope. (modules : List Module) → AreSpelt joined.now.modules.items modules → AreAround (joined_policy modules) 0 scope.rows.items (joined_policy modules)) }
     {
         let mut scope = Scope {
             names,

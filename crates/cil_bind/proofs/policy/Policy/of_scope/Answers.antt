@@ -16,14 +16,14 @@ bind-requires-clause-from g c =
     let items = c.args.joined.now.modules.items in
     (c.requires.from.0, subst (λ r. AreFrom items r c.requires.from.0) (sym c.as_slice-3.ensures.value) c.requires.from.1)
 
-pub returns-in-Twice : goal.returns-in-Twice
-returns-in-Twice g c = λ policy stands from worded.
+pub returns-in-Twice-clause-made : goal.returns-in-Twice-clause-made
+returns-in-Twice-clause-made g c = λ policy stands from worded.
     let scope = c.args.scope in
     subst (DeclareThat scope.names scope.namespaces policy) c.in-Twice.is
     (c.in_ok-declarations.ensures scope.names scope.namespaces policy stands.numbered (subst (λ r. AreRows scope.names scope.namespaces r policy) (sym c.as_slice.ensures.value) stands.rows_are))
 
-pub returns : goal.returns
-returns g c = λ policy stands from worded.
+pub returns-clause-made : goal.returns-clause-made
+returns-clause-made g c = λ policy stands from worded.
     let scope = c.args.scope in
     let items = c.args.joined.now.modules.items in
     let declared = subst (DeclareThat scope.names scope.namespaces policy) c.in-Once.is

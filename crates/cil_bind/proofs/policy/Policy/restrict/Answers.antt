@@ -17,7 +17,7 @@ pub returns : goal.returns
 returns g c = λ policy set is apart marked.
     let self = c.args.self in
     let items = c.args.joined.now.modules.items in
-    c.in_ok-made.ensures (restricted set policy)
+    c.in_ok-made.ensures.made (restricted set policy)
     (stands-kept self.names self.lookup.namespaces set c.args.kept.now self.rows.items c.retain_kept.new.rows.items policy apart marked is.stands c.retain_kept.ensures)
     (subst (λ r. AreFrom items r (restricted set policy)) (sym c.retain_kept.ensures) (from-kept items set c.args.kept.now self.rows.items policy marked is.from))
     is.worded

@@ -2,7 +2,8 @@ use Rattle.std.proofs.Common.{◌<◌, ◌≤◌, length, take, subst, rules, []
 use Rattle.cil_specs.specs.Joined.{joined}
 use Rattle.cil_parse.specs.Parsed.{Spells}
 use Rattle.cil_bind.proofs.PlaceLemmas.{stands-first, module-next, joined-all, kept-next, spelt-at}
-use Rattle.cil_bind.specs.Scope.{AreFrom}
+use Rattle.cil_bind.specs.Scope.{AreFrom, AreAround}
+use Rattle.cil_bind.proofs.AroundLemmas.{around-module, around-joined}
 use Rattle.cil_bind.proofs.FromLemmas.{from-module, from-joined}
 use Rattle.cil_bind.proofs.scope.Scope.of.Goals as goal
 
@@ -10,6 +11,7 @@ pub loop-i-init : goal.loop-i-init
 loop-i-init g c = record {
   stands = λ modules are. stands-first _ _ _ _ c.new.ensures c.new-2.ensures.items refl c.requires.distinct;
   from = λ modules are. subst (λ r. AreFrom c.args.joined.now.modules.items r []) (sym c.new-2.ensures.items) tt;
+  around = λ modules are. subst (λ r. AreAround (joined modules) 0 r []) (sym c.new-2.ensures.items) tt;
   kept = ([], sym (append-nil _));
 }
 
@@ -36,6 +38,10 @@ loop-i-preserved g c = record {
       let low : c.loop-i.i < length items = search rules in
       from-module items modules c.loop-i.i c.index.result.now c.loop-i.scope.rows.items c.add.new.self.rows.items are low c.index.ensures (c.loop-i.invariant.from modules are)
       (λ name statements spells have. c.in_ok-add.ensures.from items (joined (take c.loop-i.i modules)) name statements spells have (c.loop-i.invariant.from modules are));
+  around = λ modules are.
+      let items = c.args.joined.now.modules.items in
+      let low : c.loop-i.i < length items = search rules in
+      around-module items modules c.loop-i.i c.index.result.now c.loop-i.scope.rows.items c.add.new.self.rows.items are low c.index.ensures (c.loop-i.invariant.around modules are) c.in_ok-add.ensures.around;
   kept = kept-next _ _ _ c.loop-i.invariant.kept c.in_ok-add.ensures.kept;
 }
 
@@ -44,3 +50,9 @@ returns-clause-from g c = λ modules are.
     let items = c.args.joined.now.modules.items in
     let past : length items ≤ c.loop-i.i = search rules in
     from-joined items modules _ c.loop-i.i are past (c.loop-i.invariant.from modules are)
+
+pub returns-clause-around : goal.returns-clause-around
+returns-clause-around g c = λ modules are.
+    let items = c.args.joined.now.modules.items in
+    let past : length items ≤ c.loop-i.i = search rules in
+    around-joined items modules _ c.loop-i.i are past (c.loop-i.invariant.around modules are)
