@@ -7,7 +7,6 @@ use Rattle.std.proofs.lemmas.Option.{none-some, same_Some}
 use Rattle.cil_specs.specs.Joined.{Placed}
 use Rattle.cil_specs.specs.Lookup.{leads}
 use Rattle.cil_specs.proofs.Runs.{first_true, second_true}
-use Rattle.cil_parse.specs.declared.table.Table as code
 use Rattle.cil_bind.specs.Lookup.{namespace_at, table_of, table_index, is_key, IsLead}
 use Rattle.cil_bind.specs.Words.{Remembers}
 use Rattle.cil_parse.specs.Parsed.{texts_of}

@@ -4,7 +4,7 @@ use Rattle.std.specs.List.{position, AllByRecursion}
 use Rattle.std.specs.Map.{lookup}
 use Rattle.std.specs.Option.{option_and_then}
 use Rattle.cil_specs.specs.Joined.{Placed}
-use Rattle.cil_specs.specs.Lookup.{Table, declares, is_same, has_block, outward}
+use Rattle.cil_specs.specs.Lookup.{Table, declares, is_same, has_block}
 pub use Rattle.cil_parse.specs.Kinds.{table_of}
 use Rattle.cil_parse.specs.declared.table.Table as code
 use Rattle.cil_parse.specs.declared.table.Table.TheVariants.{Types, Classes, Commons, Scopes}

@@ -14,8 +14,8 @@ ghost use Rattle.cil_bind.specs.Words.{AreWorded, Remembers};
 
 use crate::joined::Joined;
 use crate::lookup::Lookup;
-use crate::rows::Row;
 use crate::memo::Memo;
+use crate::rows::Row;
 use cil_parse::{Lists, ParsedModule, StatementView};
 use std::alloc::{AllocError, Allocator};
 
