@@ -14,6 +14,7 @@ mod view;
 
 pub use from_text::parse;
 pub use laws::statements_are_placed;
+pub use lists::Lists;
 pub use parsed::ParsedModule;
 pub use row::{NumberedWord, SetNode, StatementKind};
 pub use table::Table;

@@ -1,0 +1,14 @@
+pub mod NamespaceLemmas
+pub mod NameLemmas
+pub mod LookupLemmas
+pub mod PositionLemmas
+pub mod DeclareLemmas
+pub mod JoinLemmas
+pub mod ScopeLemmas
+pub mod PlaceLemmas
+pub mod WordLemmas
+pub mod BindingLemmas
+pub mod FromLemmas
+pub mod RestrictLemmas
+pub mod MemoLemmas
+pub mod AroundLemmas

@@ -1,0 +1,84 @@
+-- The statements of a policy that stand in kept optionals alone.
+use Rattle.std.proofs.Common.{◌≡◌, ◌⊎◌, inl, inr, ℕ, Bool, true, false, cond, List, [], ◌∷◌, filter, get_or, Contains, refl, sym, ap, ◌∙◌, subst, arith}
+use Rattle.cil_specs.specs.Statements.{stands_apart}
+use Rattle.cil_specs.specs.Joined.{Placed}
+use Rattle.std.specs.List.{list_all}
+use Rattle.cil_specs.specs.Kept.{Optionals, is_within, restricted, AreApart}
+use Rattle.cil_specs.proofs.NamesLemmas.{contains-cases, contains-first, contains-other}
+use Rattle.cil_bind.specs.Rows.{AreRows}
+use Rattle.cil_bind.specs.Scope.{IsOpenedIn, Stands, AreFrom, AreAround}
+use Rattle.cil_bind.specs.Policy.{AreMarked, HasRows, TellsAround}
+use Rattle.cil_bind.specs.declared.policy.Joining.{Joining}
+use Rattle.cil_bind.specs.declared.policy.Joining.TheVariants.{Once, Twice}
+use Rattle.cil_bind.specs.declared.joined.NamedModule.{NamedModule}
+use Rattle.cil_bind.specs.declared.rows.Row.{Row}
+
+abbrev mark : List Bool → Row → Bool
+mark kept row = get_or kept row.optional false
+
+rows-kept : (names spaces : List (List ℕ)) (set : Optionals) (kept : List Bool) (rows : List Row) (policy : List Placed) → AreMarked set kept rows policy → AreRows names spaces rows policy → AreRows names spaces (filter (mark kept) rows) (restricted set policy)
+rows-kept names spaces set kept [] [] marked are = tt
+rows-kept names spaces set kept [] (s ∷ policy) marked are = absurd marked
+rows-kept names spaces set kept (row ∷ rows) [] marked are = absurd marked
+rows-kept names spaces set kept (row ∷ rows) (s ∷ policy) marked are = by (mark kept row) (is_within set s) marked.0 (rows-kept names spaces set kept rows policy marked.1 are.1)
+  where
+    by : (b d : Bool) → b ≡ d → AreRows names spaces (filter (mark kept) rows) (restricted set policy)
+        → AreRows names spaces (cond b (row ∷ filter (mark kept) rows) (filter (mark kept) rows)) (cond d (s ∷ restricted set policy) (restricted set policy))
+    by true true e rest = (are.0, rest)
+    by false false e rest = rest
+    by true false e rest = cc
+    by false true e rest = cc
+
+pub from-kept : {A : Type 0} (parsed : List (NamedModule A)) (set : Optionals) (kept : List Bool) (rows : List Row) (policy : List Placed) → AreMarked set kept rows policy → AreFrom parsed rows policy → AreFrom parsed (filter (mark kept) rows) (restricted set policy)
+from-kept parsed set kept [] [] marked are = tt
+from-kept parsed set kept [] (s ∷ policy) marked are = absurd marked
+from-kept parsed set kept (row ∷ rows) [] marked are = absurd marked
+from-kept parsed set kept (row ∷ rows) (s ∷ policy) marked are = by (mark kept row) (is_within set s) marked.0 (from-kept parsed set kept rows policy marked.1 are.1)
+  where
+    by : (b d : Bool) → b ≡ d → AreFrom parsed (filter (mark kept) rows) (restricted set policy)
+        → AreFrom parsed (cond b (row ∷ filter (mark kept) rows) (filter (mark kept) rows)) (cond d (s ∷ restricted set policy) (restricted set policy))
+    by true true e rest = (are.0, rest)
+    by false false e rest = rest
+    by true false e rest = cc
+    by false true e rest = cc
+
+-- whatever is kept, the rows are those of some statements
+pub from-some : {A : Type 0} (parsed : List (NamedModule A)) (kept : List Bool) (rows : List Row) (policy : List Placed) → AreFrom parsed rows policy → (others : List Placed) × AreFrom parsed (filter (mark kept) rows) others
+from-some parsed kept [] [] are = ([], tt)
+from-some parsed kept [] (s ∷ policy) are = absurd are
+from-some parsed kept (row ∷ rows) [] are = absurd are
+from-some {A} parsed kept (row ∷ rows) (s ∷ policy) are = by (mark kept row) (from-some parsed kept rows policy are.1)
+  where
+    by : (b : Bool) → (others : List Placed) × AreFrom parsed (filter (mark kept) rows) others → (others : List Placed) × AreFrom parsed (cond b (row ∷ filter (mark kept) rows) (filter (mark kept) rows)) others
+    by true rest = (s ∷ rest.0, (are.0, rest.1))
+    by false rest = rest
+
+contains-kept : (set : Optionals) (policy : List Placed) (s : Placed) → is_within set s ≡ true → Contains policy s → Contains (restricted set policy) s
+contains-kept set [] s e there = absurd (omega (arith, there.1))
+contains-kept set (t ∷ policy) s e there = by (contains-kept set policy s e) (is_within set t) refl (contains-cases t policy s there)
+  where
+    by : (Contains policy s → Contains (restricted set policy) s) → (b : Bool) → is_within set t ≡ b → (t ≡ s) ⊎ Contains policy s → Contains (cond b (t ∷ restricted set policy) (restricted set policy)) s
+    by more true is (inl same) = subst (Contains (t ∷ restricted set policy)) same (contains-first t (restricted set policy))
+    by more true is (inr others) = contains-other t (restricted set policy) s (more others)
+    by more false is (inl same) = absurd (let f : false ≡ true = sym is ∙ ap (is_within set) same ∙ e in cc)
+    by more false is (inr others) = more others
+
+-- blocks stand in no optional, so that all namespaces stay
+pub stands-kept : (names spaces : List (List ℕ)) (set : Optionals) (kept : List Bool) (rows new : List Row) (policy : List Placed) → AreApart policy → AreMarked set kept rows policy → Stands names spaces rows policy → new ≡ filter (mark kept) rows
+    → Stands names spaces new (restricted set policy)
+stands-kept names spaces set kept rows new policy apart marked stands e = record {
+  numbered = stands.numbered;
+  global = stands.global;
+  rows_are = subst (λ r. AreRows names spaces r (restricted set policy)) (sym e) (rows-kept names spaces set kept rows policy marked stands.rows_are);
+  opened_by = λ space there. by space (stands.opened_by space there);
+}
+  where
+    by : (space : List ℕ) → IsOpenedIn names policy space → IsOpenedIn names (restricted set policy) space
+    by space (inl none) = inl none
+    by space (inr (s, id, there, form, is)) =
+        let none = apart s there (ap stands_apart form) in
+        inr (s, id, contains-kept set policy s (ap (list_all (set s.module_name)) none) there, form, is)
+
+pub tells-around : {A : Type 0} (policy : List Placed) (rows : List Row) (made : Joining A) → HasRows rows made → AreAround policy 0 rows policy → TellsAround policy made
+tells-around policy rows (Once p) has are = subst (λ r. AreAround policy 0 r policy) (sym has) are
+tells-around policy rows (Twice i) has are = tt

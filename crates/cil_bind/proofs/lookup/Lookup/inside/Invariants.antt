@@ -1,0 +1,13 @@
+use Rattle.std.proofs.Common.{◌≡◌, ◌<◌, ℕ, List, length, drop}
+use Rattle.cil_specs.specs.Joined.{Placed}
+use Rattle.cil_specs.specs.Lookup.{inside}
+use Rattle.cil_bind.specs.Lookup.{namespace_at, path_of, table_of, Knows, AreWithin}
+use Rattle.cil_bind.proofs.lookup.Lookup.inside.Given as goal
+
+abbrev pub invariant-loop-i : goal.invariant-loop-i
+invariant-loop-i g l = record {
+  within : l.at < length l.self.namespaces;
+  left : (names : List (List ℕ)) (policy : List Placed) → Knows l.self.namespaces l.self.declared.entries names policy → AreWithin names l.words
+      → inside policy (table_of l.table) (namespace_at names l.self.namespaces l.fn.namespace) (path_of names l.words l.path)
+      ≡ inside policy (table_of l.table) (namespace_at names l.self.namespaces l.at) (path_of names l.words (drop l.i l.path));
+}

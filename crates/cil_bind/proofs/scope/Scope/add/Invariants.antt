@@ -1,0 +1,20 @@
+use Rattle.std.proofs.Common.{◌≡◌, ◌++◌, List, ℕ, [], length, take}
+use Rattle.cil_specs.specs.Statements.{Statements}
+use Rattle.cil_specs.specs.Joined.{Placed, placed}
+use Rattle.cil_parse.specs.Parsed.{Spells}
+use Rattle.cil_bind.specs.Scope.{StandsFor, AreFrom, AreAround, HaveModule}
+use Rattle.cil_bind.specs.declared.joined.NamedModule.{NamedModule}
+use Rattle.cil_bind.proofs.scope.Scope.add.Given as goal
+
+-- so many statements of the module came
+abbrev pub invariant-loop-i : goal.invariant-loop-i
+invariant-loop-i g l = record {
+  stands : (before : List Placed) (name : List ℕ) (statements : Statements) → Spells l.«module» statements → length before ≡ l.start → StandsFor l.fn.self before
+      → StandsFor l.self (before ++ take l.i (placed name [] [] statements));
+  from : (parsed : List (NamedModule g.row.A.Denot)) (before : List Placed) (name : List ℕ) (statements : Statements) → Spells l.«module» statements → HaveModule parsed l.number l.«module» name
+      → AreFrom parsed l.fn.self.rows.items before → AreFrom parsed l.self.rows.items (before ++ take l.i (placed name [] [] statements));
+  around : (before behind : List Placed) (name : List ℕ) (statements : Statements) → Spells l.«module» statements → length before ≡ l.start
+      → AreAround (before ++ (placed name [] [] statements ++ behind)) 0 l.fn.self.rows.items before
+      → AreAround (before ++ (placed name [] [] statements ++ behind)) 0 l.self.rows.items (before ++ take l.i (placed name [] [] statements));
+  kept : (more : List (List ℕ)) × (l.self.names ≡ l.fn.self.names ++ more);
+}

@@ -1,0 +1,72 @@
+use Rattle.std.proofs.Common.{◌+◌, ◌++◌, ◌∷◌, [], take, bytes_eq, sym, ap, ◌∙◌, subst}
+use Rattle.std.specs.List.{IsDistinct}
+use Rattle.cil_specs.specs.Joined.{placed}
+use Rattle.cil_bind.specs.Namespaces.{Opens}
+use Rattle.cil_bind.specs.Rows.{IsDeclared}
+use Rattle.cil_bind.specs.Scope.{Stands}
+use Rattle.cil_bind.specs.declared.rows.Row.{Row}
+use Rattle.cil_bind.proofs.PlaceLemmas.{flat-there, placed-next}
+use Rattle.cil_bind.proofs.AroundLemmas.{around-next}
+use Rattle.cil_bind.proofs.FromLemmas.{from-next}
+use Rattle.cil_bind.proofs.scope.Scope.place.Goals as goal
+
+pub declared-requires : goal.declared-requires
+declared-requires g c =
+    let spelt = c.requires.spelt in
+    let f = flat-there c.args.«module».now spelt.0 c.args.i spelt.1 c.requires.within in
+    (f.0, c.statement-view.ensures spelt.0 f.0 spelt.1 f.1)
+
+pub returns-clause-stands : goal.returns-clause-stands
+returns-clause-stands g c = λ before name statements spells long stands.
+    let self = c.args.self.now in
+    let says = c.in_ok-declares.ensures in
+    let spaces' = c.inside.new.self in
+    let policy = before ++ take (c.args.i + 1) (placed name [] [] statements) in
+    let row : Row = record {
+      «module» = c.args.number;
+      index = c.in-Some.numbers.0;
+      namespace = c.around-namespace.result;
+      inside = c.in_ok-inside.inside;
+      optional = c.in-Some.numbers.1;
+      declares = c.in_ok-declares.declares;
+      is_optional = c.is_optional.result;
+    } in
+    let next = placed-next c.args.«module».now statements c.statement-view.result c.args.i self.names self.namespaces says.kept.0 spaces' self.rows.items before name c.args.start row
+    spells c.requires.within long stands (λ f at. c.statement-view.ensures statements f spells at)
+    (λ d. subst (IsDistinct bytes_eq) says.kept.1 (says.distinct d))
+    c.around-namespace.ensures.within c.around-namespace.ensures.global c.around-namespace.ensures.inside
+    (λ form is. subst (λ n. IsDeclared n c.in_ok-declares.declares form) says.kept.1 (says.declares form is))
+    c.is_optional.ensures
+    (subst (λ w. Opens self.namespaces spaces' c.around-namespace.result w c.in_ok-inside.inside) c.block_word-word.ensures
+    (subst (λ s. Opens s spaces' c.around-namespace.result c.block_word-word.result c.in_ok-inside.inside) says.namespaces c.in_ok-inside.ensures)) in
+    subst (λ n. Stands n spaces' c.push.new.self.items policy) (sym says.kept.1)
+    (subst (λ r. Stands (self.names ++ says.kept.0) spaces' r policy) (sym (c.in_ok-push.ensures.items ∙ ap (λ r. r.items ++ row ∷ []) says.rows)) next)
+
+pub returns-clause-from : goal.returns-clause-from
+returns-clause-from g c = λ parsed before name statements spells have so_far.
+    let row : Row = record {
+      «module» = c.args.number;
+      index = c.in-Some.numbers.0;
+      namespace = c.around-namespace.result;
+      inside = c.in_ok-inside.inside;
+      optional = c.in-Some.numbers.1;
+      declares = c.in_ok-declares.declares;
+      is_optional = c.is_optional.result;
+    } in
+    from-next parsed c.args.«module».now statements name c.args.self.now.rows.items c.push.new.self.items before c.args.i row spells have c.in-Some.ensures.0 c.requires.within so_far
+    (c.in_ok-push.ensures.items ∙ ap (λ r. r.items ++ row ∷ []) c.in_ok-declares.ensures.rows)
+
+pub returns-clause-around : goal.returns-clause-around
+returns-clause-around g c = λ before behind name statements spells long so_far.
+    let row : Row = record {
+      «module» = c.args.number;
+      index = c.in-Some.numbers.0;
+      namespace = c.around-namespace.result;
+      inside = c.in_ok-inside.inside;
+      optional = c.in-Some.numbers.1;
+      declares = c.in_ok-declares.declares;
+      is_optional = c.is_optional.result;
+    } in
+    around-next c.args.«module».now statements c.statement-view.result c.args.i name c.args.self.now.rows.items c.push.new.self.items before behind c.args.start row spells c.requires.within long
+    (λ f at. c.statement-view.ensures statements f spells at) c.in-Some.ensures.1 so_far
+    (c.in_ok-push.ensures.items ∙ ap (λ r. r.items ++ row ∷ []) c.in_ok-declares.ensures.rows)

@@ -1,0 +1,98 @@
+-- The statements of a joined policy by numbers.
+use Rattle.std.specs.Prelude.{zero, suc, ◌≡◌, ◌⊎◌, ◌<◌, ℕ, List, [], ◌∷◌, ◌++◌, Bool, true, false, Contains, Option, Some, None, slice_index_or, slice_get, ◌+◌, ◌==◌, if◌then◌else◌, bytes_eq}
+use Rattle.std.specs.List.{IsDistinct}
+use Rattle.cil_specs.specs.Names.{Word}
+use Rattle.cil_specs.specs.Statements.{Statements, Form, block, optional}
+use Rattle.cil_specs.specs.Joined.{Placed, Module}
+use Rattle.cil_bind.specs.Lookup.{named}
+use Rattle.cil_bind.specs.Rows.{IsDeclared, AreRows, AreNumbered}
+use Rattle.cil_parse.specs.Flat.{FlatStatement, flat}
+use Rattle.cil_parse.specs.Parsed.{Spells, statement_count}
+use Rattle.cil_parse.specs.declared.parsed.ParsedModule.{ParsedModule}
+use Rattle.cil_bind.specs.declared.rows.Row.{Row}
+use Rattle.cil_parse.specs.declared.table.Table.{Table}
+use Rattle.cil_parse.specs.declared.row.StatementKind.{StatementKind}
+use Rattle.cil_parse.specs.declared.row.StatementKind.TheVariants as kinds
+use Rattle.cil_bind.specs.declared.scope.Scope.{Scope}
+use Rattle.cil_bind.specs.declared.joined.NamedModule.{NamedModule}
+
+-- a namespace is the global one, or a block of the policy opens it
+abbrev pub IsOpenedIn : List (List ℕ) → List Placed → List ℕ → Type 0
+IsOpenedIn names policy space = (space ≡ []) ⊎ ((s : Placed) × (id : Word) × Contains policy s × (s.form ≡ block id) × (named names space ≡ id.text ∷ s.namespace))
+
+-- These names, namespaces and rows are those of a policy.
+pub record Stands (names spaces : List (List ℕ)) (rows : List Row) (policy : List Placed) : Type 0 where
+  pub numbered : AreNumbered names spaces
+  pub global : slice_index_or spaces 0 [] ≡ []
+  pub rows_are : AreRows names spaces rows policy
+  pub opened_by : (space : List ℕ) → Contains spaces space → IsOpenedIn names policy space
+
+-- these modules, by their names, have these statements
+abbrev pub AreSpelt : {A : Type 0} → List (NamedModule A) → List Module → Type 0
+AreSpelt [] [] = Unit {0}
+AreSpelt [] (m ∷ modules) = ⊥
+AreSpelt (n ∷ parsed) [] = ⊥
+AreSpelt (n ∷ parsed) (m ∷ modules) = (n.name.now ≡ m.name) × Spells n.module.now m.statements × AreSpelt parsed modules
+
+-- A word was numbered, if a statement that says this declares one; all else stays.
+pub record Declares {A : Type 0} (old new : Scope A) (found : Option (Table × ℕ)) (Says : Form → Type 0) : Type 0 where
+  pub namespaces : new.namespaces ≡ old.namespaces
+  pub rows : new.rows ≡ old.rows
+  pub kept : (more : List (List ℕ)) × (new.names ≡ old.names ++ more)
+  pub distinct : IsDistinct bytes_eq old.names → IsDistinct bytes_eq new.names
+  pub declares : (form : Form) → Says form → IsDeclared new.names found form
+
+-- the number of the word of a block
+abbrev pub block_word : StatementKind → Option (Table × ℕ) → Option ℕ
+block_word kinds.Block (Some (table, w)) = Some w
+block_word _ _ = None
+
+abbrev pub is_optional_kind : StatementKind → Bool
+is_optional_kind kinds.Optional = true
+is_optional_kind _ = false
+
+-- the number of an optional in a policy by that in its module, whose statements begin at a place; 0 stays 0
+abbrev pub optional_number : ℕ → ℕ → ℕ
+optional_number start number = if number == 0 then 0 else start + number
+
+-- the names, namespaces and rows are those of a policy
+abbrev pub StandsFor : {A : Type 0} → Scope A → List Placed → Type 0
+StandsFor scope policy = Stands scope.names scope.namespaces scope.rows.items policy
+
+-- A row tells the module and the index of its statement.
+pub record IsFrom {A : Type 0} (parsed : List (NamedModule A)) (row : Row) (s : Placed) : Type 0 where
+  pub m : NamedModule A
+  pub at : slice_get parsed row.«module» ≡ Some m
+  pub named : m.name.now ≡ s.module_name
+  pub within : row.index < statement_count m.«module».now
+  pub statements : Statements
+  pub spells : Spells m.«module».now statements
+  pub f : FlatStatement
+  pub is : slice_get (flat 0 0 0 statements) row.index ≡ Some f
+  pub form : f.form ≡ s.form
+  pub place : f.at ≡ s.at
+
+abbrev pub AreFrom : {A : Type 0} → List (NamedModule A) → List Row → List Placed → Type 0
+AreFrom parsed [] [] = Unit {0}
+AreFrom parsed [] (s ∷ policy) = ⊥
+AreFrom parsed (row ∷ rows) [] = ⊥
+AreFrom parsed (row ∷ rows) (s ∷ policy) = IsFrom parsed row s × AreFrom parsed rows policy
+
+-- The modules have this one, with this name, at a number.
+pub record HaveModule {A : Type 0} (parsed : List (NamedModule A)) (number : ℕ) (module_at : ParsedModule A) (name : List ℕ) : Type 0 where
+  pub m : NamedModule A
+  pub at : slice_get parsed number ≡ Some m
+  pub is : m.«module».now ≡ module_at
+  pub named : m.name.now ≡ name
+
+-- the number is that of the innermost optional around a statement in front of a place: its place and 1 more; 0 stands for none
+abbrev pub IsAround : List Placed → ℕ → ℕ → Placed → Type 0
+IsAround policy place zero s = s.optionals ≡ []
+IsAround policy place (suc k) s = (o : Placed) × (id : Word) × (k < place) × (slice_get policy k ≡ Some o) × (o.form ≡ optional id) × (o.module_name ≡ s.module_name) × (s.optionals ≡ o.at.offset ∷ o.optionals)
+
+-- Rows from a place on tell the innermost optionals around their statements.
+abbrev pub AreAround : List Placed → ℕ → List Row → List Placed → Type 0
+AreAround policy place [] [] = Unit {0}
+AreAround policy place [] (s ∷ statements) = ⊥
+AreAround policy place (row ∷ rows) [] = ⊥
+AreAround policy place (row ∷ rows) (s ∷ statements) = IsAround policy place row.optional s × AreAround policy (place + 1) rows statements

@@ -1,0 +1,103 @@
+//! What references are bound to.
+
+ghost use Rattle.std.specs.Prelude.{◌≡◌, ◌<◌, ℕ, List, [], length, OnOk, IfOk};
+ghost use Rattle.cil_specs.specs.Joined.{Placed};
+ghost use Rattle.cil_parse.specs.Flat.{FlatStatement};
+ghost use Rattle.cil_parse.specs.Lexicon.{AreNumbersOf};
+ghost use Rattle.cil_parse.specs.Parsed.{names_of, texts_of};
+ghost use Rattle.cil_parse.specs.View.{IsShown};
+ghost use Rattle.cil_bind.specs.Lookup.{namespace_at as namespace_of, Knows};
+ghost use Rattle.cil_bind.specs.Binding.{Binds, AreBound};
+ghost use Rattle.cil_bind.specs.Rows.{AreRows};
+ghost use Rattle.cil_bind.specs.Scope.{AreFrom};
+ghost use Rattle.cil_bind.specs.Words.{AreWorded, Remembers};
+
+use crate::joined::Joined;
+use crate::lookup::Lookup;
+use crate::memo::Memo;
+use crate::rows::Row;
+use cil_parse::{Lists, ParsedModule, StatementView};
+use std::alloc::{AllocError, Allocator};
+
+/// Binds the references of a statement of a module from a namespace, in a list of their own. The words are the numbers of the module's
+/// names.
+fn bind_statement<A: Allocator + Copy>(
+    lookup: &Lookup<A>,
+    module: &ParsedModule<A>,
+    words: &[u32],
+    namespace: u32,
+    view: &StatementView<'_>,
+    memo: &mut Memo<A>,
+    bound: &mut Lists<Option<u32>, A>,
+) -> Result<(), AllocError>
+    requires within { namespace < length lookup.now.namespaces }
+    requires words { length words.now ≡ length (names_of «module».now) }
+    requires shown { (f : FlatStatement) × IsShown (texts_of «module».now) view.now f }
+    requires closed { bound.old.1 ≡ [] }
+    ensures closed { OnOk result (bound.new.1 ≡ []) }
+    ensures binds { OnOk result ((names : List (List ℕ)) (policy : List Placed) (f : FlatStatement) → Knows lookup.now.namespaces lookup.now.declared.entries names policy
+        → AreNumbersOf names words.now (names_of «module».now) → Remembers names lookup.now.namespaces (texts_of «module».now) policy memo.old.found.entries → IsShown (texts_of «module».now) view.now f
+        → Binds policy (namespace_of names lookup.now.namespaces namespace) f.form bound.old bound.new) }
+    ensures remembers { OnOk result ((names : List (List ℕ)) (policy : List Placed) → Knows lookup.now.namespaces lookup.now.declared.entries names policy → AreNumbersOf names words.now (names_of «module».now)
+        → Remembers names lookup.now.namespaces (texts_of «module».now) policy memo.old.found.entries → Remembers names lookup.now.namespaces (texts_of «module».now) policy memo.new.found.entries) }
+    ensures same { memo.new.«module» ≡ memo.old.«module» }
+{
+    for k in 0..view.words.len() {
+        let Some((table, word)) = view.reference(k) else {
+            continue;
+        };
+        let found = memo.lead(lookup, module, words, table, namespace, word.text)?;
+        bound.push(found)?;
+    }
+    bound.close()?;
+    Ok(())
+}
+
+/// A number of a namespace that is there; the global one for a number that is none's.
+fn known<A: Allocator>(lookup: &Lookup<A>, namespace: u32) -> u32
+    ensures within { result < length lookup.now.namespaces }
+    ensures known { namespace < length lookup.now.namespaces → result ≡ namespace }
+{
+    let count = lookup.namespaces.len();
+    prove!(count > 0);
+    if (namespace as usize) < count {
+        return namespace;
+    }
+    0
+}
+
+/// Binds the references of all rows: a list for each.
+pub fn bind<A: Allocator + Copy>(
+    alloc: A,
+    lookup: &Lookup<A>,
+    joined: &Joined<'_, A>,
+    words: &[Vec<u32, A>],
+    rows: &[Row],
+) -> Result<Lists<Option<u32>, A>, AllocError>
+    requires worded { (names : List (List ℕ)) × AreWorded names words.now joined.now.modules.items }
+    requires from { (policy : List Placed) × AreFrom joined.now.modules.items rows.now policy }
+    ensures { IfOk result (λ bound. (names : List (List ℕ)) (policy : List Placed) → Knows lookup.now.namespaces lookup.now.declared.entries names policy
+        → AreWorded names words.now joined.now.modules.items → AreRows names lookup.now.namespaces rows.now policy → AreFrom joined.now.modules.items rows.now policy
+        → AreBound policy policy bound.0) }
+{
+    let mut bound = Lists::with_capacity(alloc, rows.len(), rows.len())?;
+    let mut memo = Memo::new(alloc);
+    for i in 0..rows.len() {
+        let row = rows[i];
+        let number = row.module as usize;
+        let module = joined.modules[number].module;
+        let view = module.statement(row.index as usize);
+        let namespace = known(lookup, row.namespace);
+        memo.turn_to(row.module);
+        bind_statement(
+            lookup,
+            module,
+            words[number].as_slice(),
+            namespace,
+            &view,
+            &mut memo,
+            &mut bound,
+        )?;
+    }
+    Ok(bound)
+}

@@ -1,0 +1,82 @@
+//! Where each name is declared first.
+
+ghost use Rattle.std.specs.Prelude.{◌≡◌, ◌<◌, ◌∷◌, ◌^◌, ℕ, List, [], true, false, not, ◌&&◌, length, take, slice_get, IfOk, Some};
+ghost use Rattle.cil_specs.specs.Joined.{Placed};
+ghost use Rattle.cil_specs.specs.Names.{Word};
+ghost use Rattle.cil_specs.specs.PolicyFault.{twice_words};
+ghost use Rattle.cil_bind.specs.Lookup.{HaveDeclared};
+ghost use Rattle.cil_bind.specs.Rows.{AreRows, AreNumbered, IsOnce, IsTaken, DeclareThat, is_optional_row};
+
+use crate::lookup::Key;
+use crate::rows::Row;
+use indexmap::IndexMap;
+use std::alloc::{AllocError, Allocator, Global};
+use std::hash::{BuildHasherDefault, FoldHasher};
+
+/// The place of the first statement that declares a name, for each name.
+#[derive(Drop)]
+pub struct Declarations<A: Allocator = Global> {
+    pub first: IndexMap<Key, u32, BuildHasherDefault<FoldHasher>, A>,
+}
+
+/// Whether a row and that of an earlier place aren't both optionals.
+fn are_apart(row: &Row, rows: &[Row], at: usize) -> bool
+    ensures { result ≡ not (row.now.is_optional && is_optional_row (slice_get rows.now at)) }
+{
+    match rows.get(at) {
+        Some(earlier) => !(row.is_optional && earlier.is_optional),
+        None => true,
+    }
+}
+
+impl<A: Allocator + Copy> Declarations<A> {
+    /// Takes up what the row at a place declares. True if its name is declared already, but where both are optionals.
+    fn declare(&mut self, rows: &[Row], i: usize) -> Result<bool, AllocError>
+        requires within { i < length rows.now }
+        requires few { length rows.now < 2 ^ 32 }
+        ensures { IfOk result (λ again. (names spaces : List (List ℕ)) (policy : List Placed) → AreNumbered names spaces → AreRows names spaces rows.now policy
+            → HaveDeclared names spaces self.old.first.entries (take i policy) → IsOnce (take i policy)
+            → (s : Placed) → slice_get policy i ≡ Some s → IsTaken names spaces (take i policy) s self.new.first.entries again) }
+    {
+        let row = rows[i];
+        let Some((table, word)) = row.declares else {
+            return Ok(false);
+        };
+        let key = Key {
+            table,
+            namespace: row.namespace,
+            word,
+        };
+        if let Some(earlier) = self.first.get(&key) {
+            return Ok(are_apart(&row, rows, *earlier as usize));
+        }
+        self.first.insert(key, i as u32)?;
+        Ok(false)
+    }
+}
+
+/// What rows declare: each name once, or the place of the first row whose name is declared already.
+#[derive(Drop)]
+pub enum Declared<A: Allocator = Global> {
+    Once(Declarations<A>),
+    Twice(usize),
+}
+
+impl<A: Allocator + Copy> Declarations<A> {
+    /// What rows declare.
+    pub fn of(alloc: A, rows: &[Row]) -> Result<Declared<A>, AllocError>
+        requires { length rows.now < 2 ^ 32 }
+        ensures { IfOk result (λ found. (names spaces : List (List ℕ)) (policy : List Placed) → AreNumbered names spaces → AreRows names spaces rows.now policy
+            → DeclareThat names spaces policy found) }
+    {
+        let mut declarations = Declarations {
+            first: IndexMap::new(alloc),
+        };
+        for i in 0..rows.len() {
+            if declarations.declare(rows, i)? {
+                return Ok(Declared::Twice(i));
+            }
+        }
+        Ok(Declared::Once(declarations))
+    }
+}

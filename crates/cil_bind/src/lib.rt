@@ -1,0 +1,22 @@
+//! What the names of a joined policy are bound to, once an edit.
+#![tactic(auto)]
+
+mod binding;
+mod declarations;
+mod joined;
+mod lookup;
+mod memo;
+mod names;
+mod namespaces;
+mod policy;
+mod rows;
+mod scope;
+mod words;
+
+pub use declarations::{Declarations, Declared};
+pub use joined::{Joined, NamedModule, join};
+pub use lookup::{Key, Lookup};
+pub use policy::{Joining, Policy};
+pub use rows::Row;
+pub use scope::Scope;
+pub use words::lead;

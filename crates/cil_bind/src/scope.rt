@@ -1,0 +1,187 @@
+//! The statements of a joined policy by numbers.
+
+ghost use Rattle.std.specs.Prelude.{◌≡◌, ◌<◌, ◌≤◌, ◌+◌, ◌++◌, ◌^◌, ℕ, suc, List, length, take, slice_get, [], IfOk, OnOk, IfSome, Some};
+ghost use Rattle.cil_specs.specs.Names.{Word};
+ghost use Rattle.cil_specs.specs.Statements.{Statements, is_optional as is_optional_form};
+ghost use Rattle.std.specs.Prelude.{bytes_eq};
+ghost use Rattle.std.specs.List.{IsDistinct};
+ghost use Rattle.cil_specs.specs.Joined.{Placed, Module, placed, joined as joined_policy};
+ghost use Rattle.cil_parse.specs.Flat.{FlatStatement};
+ghost use Rattle.cil_parse.specs.Parsed.{texts_of, statement_count, Spells};
+ghost use Rattle.cil_parse.specs.View.{IsShown};
+ghost use Rattle.cil_bind.specs.Rows.{IsDeclared};
+ghost use Rattle.cil_bind.specs.Scope.{StandsFor, AreSpelt, AreFrom, AreAround, HaveModule, Declares, optional_number, block_word as word_of_block, is_optional_kind};
+ghost use Rattle.cil_bind.specs.declared.joined.NamedModule.{NamedModule};
+ghost use Rattle.cil_bind.specs.declared.rows.Row.{Row};
+
+use crate::joined::Joined;
+use crate::names::Names;
+use crate::namespaces::Namespaces;
+use crate::rows::Row;
+use cil_parse::{ParsedModule, StatementKind, StatementView, Table};
+use std::alloc::{AllocError, Allocator, Global};
+
+/// The words of a policy, its namespaces and its statements, by their numbers.
+#[derive(Drop)]
+pub struct Scope<'m, A: Allocator = Global> {
+    pub names: Names<'m, A>,
+    pub namespaces: Namespaces<A>,
+    pub rows: Vec<Row, A>,
+}
+
+impl<'m, A: Allocator + Copy> Scope<'m, A> {
+    /// The statements of a joined policy, over words that have numbers already.
+    pub fn of(alloc: A, names: Names<'m, A>, joined: &Joined<'m, A>) -> Result<Self, AllocError>
+        requires distinct { IsDistinct bytes_eq names }
+        requires spelt { (modules : List Module) × AreSpelt joined.now.modules.items modules }
+        ensures stands { IfOk result (λ scope. (modules : List Module) → AreSpelt joined.now.modules.items modules → StandsFor scope (joined_policy modules)) }
+        ensures kept { IfOk result (λ scope. (more : List (List ℕ)) × (scope.names ≡ names.entry ++ more)) }
+        ensures from { IfOk result (λ scope. (modules : List Module) → AreSpelt joined.now.modules.items modules → AreFrom joined.now.modules.items scope.rows.items (joined_policy modules)) }
+        ensures around { IfOk result (λ scope. (modules : List Module) → AreSpelt joined.now.modules.items modules → AreAround (joined_policy modules) 0 scope.rows.items (joined_policy modules)) }
+    {
+        let mut scope = Scope {
+            names,
+            namespaces: Namespaces::new(alloc),
+            rows: Vec::new(alloc),
+        };
+        for i in 0..joined.modules.len() {
+            if i > 0xFFFF_FFFF {
+                return Err(AllocError);
+            }
+            scope.add(i as u32, joined.modules[i].module)?;
+        }
+        Ok(scope)
+    }
+
+    /// Takes up the statements of a module.
+    fn add(&mut self, number: u32, module: &'m ParsedModule<A>) -> Result<(), AllocError>
+        requires { (statements : Statements) × Spells «module».now statements }
+        ensures stands { OnOk result ((before : List Placed) (name : List ℕ) (statements : Statements) → Spells «module».now statements
+            → StandsFor self.old before → StandsFor self.new (before ++ placed name [] [] statements)) }
+        ensures kept { OnOk result ((more : List (List ℕ)) × (self.new.names ≡ self.old.names ++ more)) }
+        ensures from { OnOk result ((parsed : List (NamedModule _)) (before : List Placed) (name : List ℕ) (statements : Statements) → Spells «module».now statements → HaveModule parsed number «module».now name
+            → AreFrom parsed self.old.rows.items before → AreFrom parsed self.new.rows.items (before ++ placed name [] [] statements)) }
+        ensures around { OnOk result ((before behind : List Placed) (name : List ℕ) (statements : Statements) → Spells «module».now statements → length before ≡ length self.old.rows.items
+            → AreAround (before ++ (placed name [] [] statements ++ behind)) 0 self.old.rows.items before
+            → AreAround (before ++ (placed name [] [] statements ++ behind)) 0 self.new.rows.items (before ++ placed name [] [] statements)) }
+    {
+        let start = self.rows.len();
+        if start > 0xFFFF_FFFF {
+            return Err(AllocError);
+        }
+        for i in 0..module.len() {
+            self.place(number, start as u32, module, i)?;
+        }
+        Ok(())
+    }
+
+    /// What a statement of a module declares.
+    fn declared(
+        &mut self,
+        module: &'m ParsedModule<A>,
+        view: &StatementView<'_>,
+    ) -> Result<Option<(Table, u32)>, AllocError>
+        requires { (f : FlatStatement) × IsShown (texts_of «module».now) view.now f }
+        ensures { IfOk result (λ found. Declares self.old self.new found (λ form. (f : FlatStatement) × IsShown (texts_of «module».now) view.now f × (f.form ≡ form))) }
+    {
+        let Some((table, word)) = view.declared() else {
+            return Ok(None);
+        };
+        let number = self.names.number(module.text(word.text as usize))?;
+        Ok(Some((table, number)))
+    }
+
+    /// Takes up the statement of an index of a module whose statements begin at a place. A number that 32 bits don't hold is answered as
+    /// out of memory.
+    fn place(
+        &mut self,
+        number: u32,
+        start: u32,
+        module: &'m ParsedModule<A>,
+        i: usize,
+    ) -> Result<(), AllocError>
+        requires spelt { (statements : Statements) × Spells «module».now statements }
+        requires within { i < statement_count «module».now }
+        ensures stands { OnOk result ((before : List Placed) (name : List ℕ) (statements : Statements) → Spells «module».now statements → length before ≡ start
+            → StandsFor self.old (before ++ take i (placed name [] [] statements)) → StandsFor self.new (before ++ take (i + 1) (placed name [] [] statements))) }
+        ensures kept { OnOk result ((more : List (List ℕ)) × (self.new.names ≡ self.old.names ++ more)) }
+        ensures from { OnOk result ((parsed : List (NamedModule _)) (before : List Placed) (name : List ℕ) (statements : Statements) → Spells «module».now statements → HaveModule parsed number «module».now name
+            → AreFrom parsed self.old.rows.items (before ++ take i (placed name [] [] statements)) → AreFrom parsed self.new.rows.items (before ++ take (i + 1) (placed name [] [] statements))) }
+        ensures around { OnOk result ((before behind : List Placed) (name : List ℕ) (statements : Statements) → Spells «module».now statements → length before ≡ start
+            → AreAround (before ++ (placed name [] [] statements ++ behind)) 0 self.old.rows.items (before ++ take i (placed name [] [] statements))
+            → AreAround (before ++ (placed name [] [] statements ++ behind)) 0 self.new.rows.items (before ++ take (i + 1) (placed name [] [] statements))) }
+    {
+        let view = module.statement(i);
+        let Some(numbers) = numbers_at(start, i, view.optional) else {
+            return Err(AllocError);
+        };
+        let namespace = self.around(start as usize, view.block);
+        let declares = self.declared(module, &view)?;
+        let word = block_word(view.kind, declares);
+        let inside = self.namespaces.inside(namespace, word)?;
+        self.rows.push(Row {
+            module: number,
+            index: numbers.0,
+            namespace,
+            inside,
+            optional: numbers.1,
+            declares,
+            is_optional: is_optional(view.kind),
+        })?;
+        Ok(())
+    }
+
+    /// The namespace around a statement of a module whose statements begin at a place, by the number of the innermost block.
+    fn around(&self, start: usize, block: u32) -> u32
+        requires { start < 2 ^ 32 }
+        ensures within { result < length self.now.namespaces }
+        ensures global { block ≡ 0 → result ≡ 0 }
+        ensures inside { (k : ℕ) (row : Row) → block ≡ suc k → slice_get self.now.rows.items (start + k) ≡ Some row → row.inside < length self.now.namespaces → result ≡ row.inside }
+    {
+        prove!(self.namespaces.len() > 0);
+        if block == 0 {
+            return 0;
+        }
+        match self.rows.get(start + (block as usize - 1)) {
+            Some(row) => {
+                if (row.inside as usize) < self.namespaces.len() {
+                    row.inside
+                } else {
+                    0
+                }
+            }
+            None => 0,
+        }
+    }
+}
+
+/// The word of a block.
+fn block_word(kind: StatementKind, declares: Option<(Table, u32)>) -> Option<u32>
+    ensures { result ≡ word_of_block kind declares }
+{
+    match (kind, declares) {
+        (StatementKind::Block, Some((_, word))) => Some(word),
+        _ => None,
+    }
+}
+
+/// Whether a statement is an optional.
+fn is_optional(kind: StatementKind) -> bool
+    ensures { result ≡ is_optional_kind kind }
+{
+    matches!(kind, StatementKind::Optional)
+}
+
+/// An index, and the number of the innermost optional in the policy by that in its module, whose statements begin at a place.
+fn numbers_at(start: u32, index: usize, optional: u32) -> Option<(u32, u32)>
+    ensures { IfSome result (λ numbers. (numbers.0 ≡ index) × (numbers.1 ≡ optional_number start optional)) }
+{
+    if index > 0xFFFF_FFFF {
+        return None;
+    }
+    if optional == 0 {
+        return Some((index as u32, 0));
+    }
+    let number = start.checked_add(optional)?;
+    Some((index as u32, number))
+}
