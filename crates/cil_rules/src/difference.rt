@@ -46,7 +46,7 @@ pub fn missing<A: Allocator + Copy>(
     requires others_ordered { IsStrictlySortedBy numbers_cmp others.now }
     ensures { IfOk result (λ v. v.items ≡ filter (is_absent others.now) atoms.now) }
 {
-    let mut kept = Vec::new(alloc);
+    let mut kept = Vec::with_capacity(alloc, atoms.len())?;
     let mut place = 0;
     for atom in atoms {
         place = first_from(others, place, atom);
