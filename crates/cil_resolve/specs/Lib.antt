@@ -1,0 +1,4 @@
+pub mod Below
+pub mod Resolved
+pub mod Views
+pub mod Modules

@@ -1,0 +1,69 @@
+-- What is read of a resolved policy.
+use Rattle.std.specs.Prelude.{ℕ, List, length}
+use Rattle.cil_specs.specs.Place.{Place}
+use Rattle.cil_specs.specs.Statements.{RuleKind}
+use Rattle.cil_specs.specs.Rule.{Element, a_type, an_attribute, Aim, at_itself, at_element, Declared, ClassOf, Rule}
+use Rattle.cil_text.specs.Image.{place_of, rule_kind_of}
+use Rattle.cil_resolve.specs.declared.views.NameView.{NameView}
+use Rattle.cil_resolve.specs.declared.views.ClassView.{ClassView}
+use Rattle.cil_resolve.specs.declared.views.ElementView.{ElementView}
+use Rattle.cil_resolve.specs.declared.views.ElementView.TheVariants.{«Type», Attribute}
+use Rattle.cil_resolve.specs.declared.views.AimView.{AimView}
+use Rattle.cil_resolve.specs.declared.views.AimView.TheVariants as aims
+use Rattle.cil_resolve.specs.declared.views.RuleView.{RuleView}
+
+abbrev pub declared_seen : NameView → Declared
+declared_seen v = record { module_name = v.«module».now; at = place_of v.at; name = v.name.now }
+
+-- a class but for its permissions, which are counted
+pub record ClassHead : Type 0 where
+  pub module_name : List ℕ
+  pub at : Place
+  pub name : List ℕ
+  pub permissions : ℕ
+
+abbrev pub class_head : ClassOf → ClassHead
+class_head c = record { module_name = c.module_name; at = c.at; name = c.name; permissions = length c.permissions }
+
+abbrev pub class_seen : ClassView → ClassHead
+class_seen v = record { module_name = v.«module».now; at = place_of v.at; name = v.name.now; permissions = v.permissions }
+
+abbrev pub element_seen : ElementView → Element
+element_seen («Type» name) = a_type name.now
+element_seen (Attribute name) = an_attribute name.now
+
+abbrev pub aim_seen : AimView → Aim
+aim_seen aims.Itself = at_itself
+aim_seen (aims.Element e) = at_element (element_seen e)
+
+-- a rule but for its permissions, which are counted
+pub record RuleHead : Type 0 where
+  pub module_name : List ℕ
+  pub at : Place
+  pub kind : RuleKind
+  pub source : Element
+  pub target : Aim
+  pub the_class : List ℕ
+  pub permissions : ℕ
+
+abbrev pub rule_head : Rule → RuleHead
+rule_head r = record {
+  module_name = r.module_name;
+  at = r.at;
+  kind = r.kind;
+  source = r.source;
+  target = r.target;
+  the_class = r.the_class;
+  permissions = length r.permissions;
+}
+
+abbrev pub rule_seen : RuleView → RuleHead
+rule_seen v = record {
+  module_name = v.«module».now;
+  at = place_of v.at;
+  kind = rule_kind_of v.kind;
+  source = element_seen v.source;
+  target = aim_seen v.target;
+  the_class = v.class.now;
+  permissions = v.permissions;
+}

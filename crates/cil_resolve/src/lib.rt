@@ -1,0 +1,16 @@
+//! What a joined policy of parsed modules resolves to.
+#![tactic(auto)]
+
+mod numbered;
+mod resolved;
+mod resolver;
+mod text;
+mod views;
+
+pub use cil_bind::{Joined, NamedModule, join};
+pub use cil_check::{PolicyFault, PolicyFaultKind};
+pub use numbered::{Aim, DroppedOptional, Element, NumberedClass, NumberedName, NumberedRule};
+pub use resolved::Resolved;
+pub use resolver::{resolve, resolve_types};
+pub use text::Text;
+pub use views::{AimView, ClassView, ElementView, NameView, RuleView};

@@ -1,0 +1,57 @@
+//! Types, classes and rules by the numbers of their names.
+
+use crate::text::Text;
+use cil_text::{Place, RuleKind};
+use std::alloc::{Allocator, Global};
+
+/// What a name of a rule leads to, an alias to its type, by the place of its full name in a list of names.
+#[derive(Clone, Copy, Debug, PartialEq, Eq)]
+pub enum Element {
+    Type(usize),
+    Attribute(usize),
+}
+
+/// A rule's target: each source itself, or what a name leads to.
+#[derive(Clone, Copy, Debug, PartialEq, Eq)]
+pub enum Aim {
+    Itself,
+    Element(Element),
+}
+
+/// A type or an attribute, by the place of its full name, and where it is declared: the place of its module's name, and the place
+/// of its statement.
+#[derive(Clone, Copy, Debug)]
+pub struct NumberedName {
+    pub module: usize,
+    pub at: Place,
+    pub name: usize,
+}
+
+/// A class with its permissions, its common's included, each once.
+#[derive(Debug, Drop)]
+pub struct NumberedClass<A: Allocator = Global> {
+    pub module: usize,
+    pub at: Place,
+    pub name: usize,
+    pub permissions: Vec<usize, A>,
+}
+
+/// A rule whose names are numbers: places in a list of names.
+#[derive(Debug, Drop)]
+pub struct NumberedRule<A: Allocator = Global> {
+    pub module: usize,
+    pub at: Place,
+    pub kind: RuleKind,
+    pub source: Element,
+    pub target: Aim,
+    pub class: usize,
+    pub permissions: Vec<usize, A>,
+}
+
+/// An optional that drops, also one inside another: the place of its module's name, the place of its statement, and its full name.
+#[derive(Debug, Drop)]
+pub struct DroppedOptional<A: Allocator = Global> {
+    pub module: usize,
+    pub at: Place,
+    pub name: Text<A>,
+}

@@ -1,0 +1,28 @@
+//! What a joined policy resolves to.
+
+ghost use Rattle.std.specs.Prelude.{IsTrue, length};
+ghost use Rattle.std.specs.List.{list_all};
+ghost use Rattle.cil_specs.specs.Report.{names_rise};
+ghost use Rattle.cil_resolve.specs.Below.{is_rule_below, is_name_below, is_class_below};
+
+use crate::numbered::{DroppedOptional, NumberedClass, NumberedName, NumberedRule};
+use crate::text::Text;
+use std::alloc::{Allocator, Global};
+
+/// A policy that compiles, by full names, which it owns. The names of types, attributes, classes and permissions are numbered in
+/// the order of their bytes, so that the order of the numbers is that of the names.
+#[derive(Debug, Drop)]
+pub struct Resolved<A: Allocator = Global> {
+    pub(crate) modules: Vec<Text<A>, A>,
+    pub(crate) names: Vec<Text<A>, A>,
+    pub(crate) types: Vec<NumberedName, A>,
+    pub(crate) attributes: Vec<NumberedName, A>,
+    pub(crate) classes: Vec<NumberedClass<A>, A>,
+    pub(crate) rules: Vec<NumberedRule<A>, A>,
+    pub(crate) dropped: Vec<DroppedOptional<A>, A>,
+    pub(crate) ghost ordered: { IsTrue (names_rise names.items) },
+    pub(crate) ghost types_within: { IsTrue (list_all (is_name_below (length names.items)) types.items) },
+    pub(crate) ghost attributes_within: { IsTrue (list_all (is_name_below (length names.items)) attributes.items) },
+    pub(crate) ghost classes_within: { IsTrue (list_all (is_class_below (length names.items)) classes.items) },
+    pub(crate) ghost rules_within: { IsTrue (list_all (is_rule_below (length names.items)) rules.items) },
+}

@@ -1,0 +1,232 @@
+//! What is read of a resolved policy. It takes no memory.
+
+ghost use Rattle.std.specs.Prelude.{◌≡◌, IsTrue, [], length, slice_get, slice_index_or, option_map};
+ghost use Rattle.std.specs.List.{list_all};
+ghost use Rattle.std.specs.Option.{option_and_then};
+ghost use Rattle.cil_specs.specs.Report.{names_rise};
+ghost use Rattle.cil_resolve.specs.Below.{is_rule_below};
+ghost use Rattle.cil_resolve.specs.Resolved.{element_of, aim_of, meaning_in};
+ghost use Rattle.cil_resolve.specs.Views.{declared_seen, class_seen, class_head, element_seen, aim_seen, rule_seen, rule_head};
+
+use crate::numbered::{Aim, Element, NumberedRule};
+use crate::resolved::Resolved;
+use crate::text::Text;
+use cil_text::{Place, RuleKind};
+use std::alloc::Allocator;
+
+/// A type, an attribute or an optional: the name of its module, the place of its statement, and its full name.
+#[derive(Clone, Copy, Debug)]
+pub struct NameView<'r> {
+    pub module: &'r [u8],
+    pub at: Place,
+    pub name: &'r [u8],
+}
+
+/// A class, and how many permissions it has.
+#[derive(Clone, Copy, Debug)]
+pub struct ClassView<'r> {
+    pub module: &'r [u8],
+    pub at: Place,
+    pub name: &'r [u8],
+    pub permissions: usize,
+}
+
+/// What a name of a rule leads to, by its full name.
+#[derive(Clone, Copy, Debug)]
+pub enum ElementView<'r> {
+    Type(&'r [u8]),
+    Attribute(&'r [u8]),
+}
+
+/// A rule's target: each source itself, or what a name leads to.
+#[derive(Clone, Copy, Debug)]
+pub enum AimView<'r> {
+    Itself,
+    Element(ElementView<'r>),
+}
+
+/// A rule by full names, and how many permissions it names.
+#[derive(Clone, Copy, Debug)]
+pub struct RuleView<'r> {
+    pub module: &'r [u8],
+    pub at: Place,
+    pub kind: RuleKind,
+    pub source: ElementView<'r>,
+    pub target: AimView<'r>,
+    pub class: &'r [u8],
+    pub permissions: usize,
+}
+
+impl<A: Allocator> Resolved<A> {
+    /// The name of a module, by its place.
+    fn module(&self, i: usize) -> &[u8]
+        ensures { result.now ≡ slice_index_or self.now.modules.items i [] }
+    {
+        match self.modules.get(i) {
+            Some(name) => name.as_slice(),
+            None => b"",
+        }
+    }
+
+    /// A name by its number.
+    fn name(&self, i: usize) -> &[u8]
+        ensures { result.now ≡ slice_index_or self.now.names.items i [] }
+    {
+        match self.names.get(i) {
+            Some(name) => name.as_slice(),
+            None => b"",
+        }
+    }
+
+    fn element(&self, element: Element) -> ElementView<'_>
+        ensures { element_seen result ≡ element_of self.now.names.items element }
+    {
+        match element {
+            Element::Type(i) => ElementView::Type(self.name(i)),
+            Element::Attribute(i) => ElementView::Attribute(self.name(i)),
+        }
+    }
+
+    fn aim(&self, aim: Aim) -> AimView<'_>
+        ensures { aim_seen result ≡ aim_of self.now.names.items aim }
+    {
+        match aim {
+            Aim::Itself => AimView::Itself,
+            Aim::Element(element) => AimView::Element(self.element(element)),
+        }
+    }
+
+    /// How many types there are.
+    pub fn types_len(&self) -> usize
+        ensures { result ≡ length (meaning_in self.now).types }
+    {
+        self.types.len()
+    }
+
+    /// The type at a place, in the order of the statements.
+    pub fn type_at(&self, i: usize) -> Option<NameView<'_>>
+        ensures { option_map declared_seen result ≡ slice_get (meaning_in self.now).types i }
+    {
+        let declared = self.types.get(i)?;
+        Some(NameView {
+            module: self.module(declared.module),
+            at: declared.at,
+            name: self.name(declared.name),
+        })
+    }
+
+    /// How many attributes there are.
+    pub fn attributes_len(&self) -> usize
+        ensures { result ≡ length (meaning_in self.now).attributes }
+    {
+        self.attributes.len()
+    }
+
+    /// The attribute at a place, in the order of the statements.
+    pub fn attribute_at(&self, i: usize) -> Option<NameView<'_>>
+        ensures { option_map declared_seen result ≡ slice_get (meaning_in self.now).attributes i }
+    {
+        let declared = self.attributes.get(i)?;
+        Some(NameView {
+            module: self.module(declared.module),
+            at: declared.at,
+            name: self.name(declared.name),
+        })
+    }
+
+    /// How many classes there are.
+    pub fn classes_len(&self) -> usize
+        ensures { result ≡ length (meaning_in self.now).classes }
+    {
+        self.classes.len()
+    }
+
+    /// The class at a place, in the order of the statements.
+    pub fn class_at(&self, i: usize) -> Option<ClassView<'_>>
+        ensures { option_map class_seen result ≡ option_map class_head (slice_get (meaning_in self.now).classes i) }
+    {
+        let class = self.classes.get(i)?;
+        Some(ClassView {
+            module: self.module(class.module),
+            at: class.at,
+            name: self.name(class.name),
+            permissions: class.permissions.len(),
+        })
+    }
+
+    /// A permission of the class at a place.
+    pub fn class_permission(&self, i: usize, k: usize) -> Option<&[u8]>
+        ensures { option_map (λ name. name.now) result ≡ option_and_then (λ c. slice_get c.permissions k) (slice_get (meaning_in self.now).classes i) }
+    {
+        let class = self.classes.get(i)?;
+        let permission = class.permissions.get(k)?;
+        Some(self.name(*permission))
+    }
+
+    /// How many rules there are.
+    pub fn rules_len(&self) -> usize
+        ensures { result ≡ length (meaning_in self.now).rules }
+    {
+        self.rules.len()
+    }
+
+    /// The rule at a place, in the order of the statements.
+    pub fn rule_at(&self, i: usize) -> Option<RuleView<'_>>
+        ensures { option_map rule_seen result ≡ option_map rule_head (slice_get (meaning_in self.now).rules i) }
+    {
+        let rule = self.rules.get(i)?;
+        Some(RuleView {
+            module: self.module(rule.module),
+            at: rule.at,
+            kind: rule.kind,
+            source: self.element(rule.source),
+            target: self.aim(rule.target),
+            class: self.name(rule.class),
+            permissions: rule.permissions.len(),
+        })
+    }
+
+    /// A permission of the rule at a place.
+    pub fn rule_permission(&self, i: usize, k: usize) -> Option<&[u8]>
+        ensures { option_map (λ name. name.now) result ≡ option_and_then (λ r. slice_get r.permissions k) (slice_get (meaning_in self.now).rules i) }
+    {
+        let rule = self.rules.get(i)?;
+        let permission = rule.permissions.get(k)?;
+        Some(self.name(*permission))
+    }
+
+    /// How many optionals drop.
+    pub fn dropped_len(&self) -> usize
+        ensures { result ≡ length (meaning_in self.now).dropped }
+    {
+        self.dropped.len()
+    }
+
+    /// The optional at a place of those that drop, in the order of the statements.
+    pub fn dropped_at(&self, i: usize) -> Option<NameView<'_>>
+        ensures { option_map declared_seen result ≡ slice_get (meaning_in self.now).dropped i }
+    {
+        let dropped = self.dropped.get(i)?;
+        Some(NameView {
+            module: self.module(dropped.module),
+            at: dropped.at,
+            name: dropped.name.as_slice(),
+        })
+    }
+
+    /// The rules by the numbers of their names.
+    pub fn rules(&self) -> &[NumberedRule<A>]
+        ensures rules { result.now ≡ self.now.rules.items }
+        ensures within { IsTrue (list_all (is_rule_below (length self.now.names.items)) result.now) }
+    {
+        &self.rules
+    }
+
+    /// The names, in the order of their numbers, which is that of their bytes.
+    pub fn into_names(self) -> Vec<Text<A>, A>
+        ensures names { result.items ≡ self.names.items }
+        ensures ordered { IsTrue (names_rise result.items) }
+    {
+        self.names
+    }
+}
