@@ -4,6 +4,7 @@
 mod binding;
 mod declarations;
 mod joined;
+mod laws;
 mod lookup;
 mod memo;
 mod names;
@@ -15,6 +16,10 @@ mod words;
 
 pub use declarations::{Declarations, Declared};
 pub use joined::{Joined, NamedModule, join};
+pub use laws::{
+    kept_is_ordered, kept_permissions_are_names, names_are_in_order, permissions_are_names,
+    policies_are_apart, policies_are_ordered, rows_are_nested,
+};
 pub use lookup::{Key, Lookup};
 pub use policy::{Joining, Policy};
 pub use rows::Row;
