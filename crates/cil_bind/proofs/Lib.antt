@@ -15,3 +15,4 @@ pub mod AroundLemmas
 pub mod OrderedLemmas
 pub mod NestedLemmas
 pub mod WrittenLemmas
+pub mod TwiceLemmas

@@ -1,13 +1,18 @@
 //! Laws of joined policies. They have no code.
 
-ghost use Rattle.std.specs.Prelude.{List, map, IsTrue};
+ghost use Rattle.std.specs.Prelude.{ℕ, List, map, IsTrue};
 ghost use Rattle.cil_specs.specs.Joined.{Placed, Module, joined as joined_policy};
 ghost use Rattle.cil_specs.specs.Kept.{Optionals, AreApart, restricted};
+ghost use Rattle.cil_specs.specs.Next.{IsModuleText};
+ghost use Rattle.cil_specs.specs.PolicyFault.{twice, IsFaultOf};
 ghost use Rattle.cil_specs.specs.Report.{names_rise};
 ghost use Rattle.cil_bind.specs.Scope.{AreSpelt, AreAround};
-ghost use Rattle.cil_bind.specs.Ordered.{AreOrdered};
+ghost use Rattle.cil_bind.specs.Ordered.{AreOrdered, IsLeast};
+ghost use Rattle.cil_bind.specs.Policy.{IsFirstAgain, fault_of};
+ghost use Rattle.cil_bind.specs.Rows.{IsOnce};
 ghost use Rattle.cil_bind.specs.Nested.{AreNested};
-ghost use Rattle.cil_bind.specs.Written.{AreWritten, HaveOneNames};
+ghost use Rattle.cil_bind.specs.Written.{IsWritten, AreWritten, HaveOneNames};
+ghost use Rattle.cil_bind.specs.declared.redeclaration.Redeclaration.{Redeclaration};
 ghost use Rattle.cil_bind.specs.declared.rows.Row.{Row};
 
 use crate::joined::Joined;
@@ -46,4 +51,19 @@ pub fn kept_is_ordered()
 /// What is kept of statements whose permissions are names without dots has such permissions.
 pub fn kept_permissions_are_names()
     ensures { (set : Optionals) (policy : List Placed) → HaveOneNames policy → HaveOneNames (restricted set policy) }
+{}
+
+/// The first name that is declared again is the first fault of its kind, of statements in order.
+pub fn first_again_is_least()
+    ensures { (policy : List Placed) (again : Redeclaration) → AreOrdered policy → IsFirstAgain policy again → IsLeast (IsFaultOf twice policy) (fault_of again) }
+{}
+
+/// What is kept of statements that declare each name once declares each name once.
+pub fn kept_is_once()
+    ensures { (set : Optionals) (policy : List Placed) → IsOnce policy → IsOnce (restricted set policy) }
+{}
+
+/// A module that a text spells is written.
+pub fn texts_are_written()
+    ensures { (m : Module) (bytes : List ℕ) → IsModuleText bytes m.statements → IsWritten m }
 {}

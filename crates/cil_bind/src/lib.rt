@@ -10,6 +10,7 @@ mod memo;
 mod names;
 mod namespaces;
 mod policy;
+mod redeclaration;
 mod rows;
 mod scope;
 mod words;
@@ -17,11 +18,13 @@ mod words;
 pub use declarations::{Declarations, Declared};
 pub use joined::{Joined, NamedModule, join};
 pub use laws::{
-    kept_is_ordered, kept_permissions_are_names, names_are_in_order, permissions_are_names,
-    policies_are_apart, policies_are_ordered, rows_are_nested,
+    first_again_is_least, kept_is_once, kept_is_ordered, kept_permissions_are_names,
+    names_are_in_order, permissions_are_names, policies_are_apart, policies_are_ordered,
+    rows_are_nested, texts_are_written,
 };
 pub use lookup::{Key, Lookup};
 pub use policy::{Joining, Policy};
+pub use redeclaration::Redeclaration;
 pub use rows::Row;
 pub use scope::Scope;
 pub use words::lead;
