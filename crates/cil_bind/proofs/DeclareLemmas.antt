@@ -1,18 +1,18 @@
 -- What statements declare, and the entries that have it.
-use Rattle.std.proofs.Common.{◌≡◌, ℕ, zero, suc, ◌+◌, ◌<◌, ◌≤◌, Bool, true, false, not, ◌&&◌, ◌==◌, cond, List, [], ◌∷◌, ◌++◌, length, get_or, slice_get, take, drop, Contains, Option, Some, None, is_some, bytes_eq, position, if◌then◌else◌, refl, sym, ap, ◌∙◌, subst, add-one, true≢false, arith}
+use Rattle.std.proofs.Common.{◌≡◌, ℕ, zero, suc, ◌+◌, ◌<◌, ◌≤◌, Bool, true, false, not, ◌&&◌, ◌==◌, cond, List, [], ◌∷◌, ◌++◌, length, get_or, slice_get, take, drop, Contains, Option, Some, None, is_some, bytes_eq, position, if◌then◌else◌, refl, sym, ap, ◌∙◌, subst, add-one, append_assoc, true≢false, arith}
 use Rattle.std.specs.List.{list_any, AllByRecursion}
 use Rattle.std.specs.Map.{lookup}
 use Rattle.std.specs.Option.{option_or}
 use Rattle.std.proofs.lemmas.Bool.{eqb-true, eq-eqb, le-ltb}
 use Rattle.std.proofs.lemmas.Option.{none-some, same_Some, get_or_from_slice_get}
 use Rattle.std.proofs.lemmas.List.Quantifiers.{position-Some}
-use Rattle.std.proofs.lemmas.List.{take_all}
+use Rattle.std.proofs.lemmas.List.{take_all, take-append-drop}
 use Rattle.indexmap.specs.IndexMap.{insert_entry}
 use Rattle.cil_specs.specs.Names.{Word}
 use Rattle.cil_specs.specs.Statements.{is_optional}
 use Rattle.cil_specs.specs.Joined.{Placed}
 use Rattle.cil_specs.specs.Lookup.{Table, types, classes, commons, scopes, declared_in, declares, is_word, same_namespace}
-use Rattle.cil_specs.specs.PolicyFault.{is_again, twice_words}
+use Rattle.cil_specs.specs.PolicyFault.{twice, is_again, twice_words}
 use Rattle.cil_specs.proofs.Runs.{both_true, first_true, second_true}
 use Rattle.cil_specs.proofs.NamesLemmas.{contains-first, stands, same_place, later, earlier}
 use Rattle.cil_specs.proofs.OnceLemmas.{table-in, twice-some, twice-nothing, PassesAmong, passes-among, any-middle}
@@ -460,3 +460,37 @@ none-taken names spaces policy entries none =
 -- in front of the end are all
 pub all-taken : (names spaces : List (List ℕ)) (rows : List Row) (policy : List Placed) (i : ℕ) → AreRows names spaces rows policy → length rows ≤ i → take i policy ≡ policy
 all-taken names spaces rows policy i are past = take_all i policy (subst (λ n. n ≤ i) (rows-length names spaces rows policy are) past)
+
+-- no name is declared twice in front of a place where none is in the whole policy
+pub once-front : (policy : List Placed) (i : ℕ) → IsOnce policy → IsOnce (take i policy)
+once-front policy i once fault is =
+    once fault record {
+      before = is.before;
+      s = is.s;
+      after = is.after ++ drop i policy;
+      word = is.word;
+      split = sym (take-append-drop i policy) ∙ ap (λ l. l ++ drop i policy) is.split ∙ append_assoc is.before (is.s ∷ is.after) (drop i policy);
+      is_faulty = is.is_faulty;
+      is_at = is.is_at;
+    }
+
+-- a statement that declares a name again is a fault of its policy
+twice-faulty : (policy : List Placed) (i : ℕ) (s : Placed) (word : Word) → slice_get policy i ≡ Some s → twice_words (take i policy) s ≡ word ∷ [] → IsOnce policy → ⊥
+twice-faulty policy i s word at is once =
+    once (record { kind = twice; module_name = s.module_name; at = word.at; word = word.text }) record {
+      before = take i policy;
+      s = s;
+      after = drop (i + 1) policy;
+      word = word;
+      split = around-at policy i s at;
+      is_faulty = subst (λ l. Contains l word) (sym is) (contains-first word []);
+      is_at = refl;
+    }
+
+-- where none is, the next statement's name is taken up too
+pub taken-once : (names spaces : List (List ℕ)) (rows : List Row) (policy : List Placed) (i : ℕ) (entries : List (Key × ℕ)) (again : Bool) → AreRows names spaces rows policy → i < length rows → IsOnce policy
+    → ((s : Placed) → slice_get policy i ≡ Some s → IsTaken names spaces (take i policy) s entries again) → HaveDeclared names spaces entries (take (i + 1) policy)
+taken-once names spaces rows policy i entries false are low once taken = (taken-next names spaces rows policy i entries false are low (once-front policy i once) taken refl).0
+taken-once names spaces rows policy i entries true are low once taken =
+    let found = taken-twice names spaces rows policy i entries true are low taken refl in
+    absurd (twice-faulty policy i found.0 found.1 found.2 found.3 once)

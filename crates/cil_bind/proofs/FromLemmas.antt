@@ -110,6 +110,7 @@ from-at parsed (r ∷ rows) (t ∷ policy) (suc i) row are at = from-at parsed r
 pub record IsThere {A : Type 0} (parsed : List (NamedModule A)) (row : Row) (d : NamedModule A) (s : Placed) : Type 0 where
   pub within : row.«module» < length parsed
   pub at : slice_get parsed row.«module» ≡ Some d
+  pub named : d.name.now ≡ s.module_name
   pub index : row.index < statement_count d.«module».now
   pub statements : Statements
   pub spells : Spells d.«module».now statements
@@ -123,6 +124,7 @@ is-there parsed row d s from here =
     record {
       within = slice_get_within parsed row.«module» from.m from.at;
       at = from.at ∙ ap Some same;
+      named = ap (λ n. n.name.now) (sym same) ∙ from.named;
       index = subst (λ n. row.index < statement_count n.«module».now) same from.within;
       statements = from.statements;
       spells = subst (λ n. Spells n.«module».now from.statements) same from.spells;

@@ -12,3 +12,7 @@ pub mod FromLemmas
 pub mod RestrictLemmas
 pub mod MemoLemmas
 pub mod AroundLemmas
+pub mod OrderedLemmas
+pub mod NestedLemmas
+pub mod WrittenLemmas
+pub mod TwiceLemmas

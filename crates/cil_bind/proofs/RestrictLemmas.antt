@@ -1,15 +1,14 @@
 -- The statements of a policy that stand in kept optionals alone.
-use Rattle.std.proofs.Common.{◌≡◌, ◌⊎◌, inl, inr, ℕ, Bool, true, false, cond, List, [], ◌∷◌, filter, get_or, Contains, refl, sym, ap, ◌∙◌, subst, arith}
+use Rattle.std.proofs.Common.{◌≡◌, ◌⊎◌, inl, inr, ℕ, suc, ◌<◌, ◌≤◌, ◌^◌, length, Bool, true, false, cond, List, [], ◌∷◌, filter, get_or, Contains, refl, sym, ap, ◌∙◌, subst, arith}
 use Rattle.cil_specs.specs.Statements.{stands_apart}
 use Rattle.cil_specs.specs.Joined.{Placed}
 use Rattle.std.specs.List.{list_all}
 use Rattle.cil_specs.specs.Kept.{Optionals, is_within, restricted, AreApart}
+use Rattle.cil_specs.proofs.Runs.{first_true, second_true}
 use Rattle.cil_specs.proofs.NamesLemmas.{contains-cases, contains-first, contains-other}
 use Rattle.cil_bind.specs.Rows.{AreRows}
 use Rattle.cil_bind.specs.Scope.{IsOpenedIn, Stands, AreFrom, AreAround}
-use Rattle.cil_bind.specs.Policy.{AreMarked, HasRows, TellsAround}
-use Rattle.cil_bind.specs.declared.policy.Joining.{Joining}
-use Rattle.cil_bind.specs.declared.policy.Joining.TheVariants.{Once, Twice}
+use Rattle.cil_bind.specs.Policy.{AreMarked}
 use Rattle.cil_bind.specs.declared.joined.NamedModule.{NamedModule}
 use Rattle.cil_bind.specs.declared.rows.Row.{Row}
 
@@ -79,6 +78,26 @@ stands-kept names spaces set kept rows new policy apart marked stands e = record
         let none = apart s there (ap stands_apart form) in
         inr (s, id, contains-kept set policy s (ap (list_all (set s.module_name)) none) there, form, is)
 
-pub tells-around : {A : Type 0} (policy : List Placed) (rows : List Row) (made : Joining A) → HasRows rows made → AreAround policy 0 rows policy → TellsAround policy made
-tells-around policy rows (Once p) has are = subst (λ r. AreAround policy 0 r policy) (sym has) are
-tells-around policy rows (Twice i) has are = tt
+-- no more rows are kept than there are
+pub few-kept : (kept : List Bool) (rows : List Row) → length rows < 2 ^ 32 → length (filter (mark kept) rows) < 2 ^ 32
+few-kept kept rows few = let less = fewer rows in omega arith
+  where
+    fewer : (rows : List Row) → length (filter (mark kept) rows) ≤ length rows
+    fewer [] = omega arith
+    fewer (row ∷ rows) = by (fewer rows) (mark kept row)
+      where
+        by : length (filter (mark kept) rows) ≤ length rows → (b : Bool) → length (cond b (row ∷ filter (mark kept) rows) (filter (mark kept) rows)) ≤ suc (length rows)
+        by less true = omega arith
+        by less false = omega arith
+
+-- where all rows are kept, so are all statements
+pub all-restricted : (set : Optionals) (kept : List Bool) (rows seen : List Row) (policy : List Placed) → seen ≡ rows → list_all (mark kept) seen ≡ true → AreMarked set kept rows policy → restricted set policy ≡ policy
+all-restricted set kept rows seen policy same all marked = whole rows policy (ap (list_all (mark kept)) (sym same) ∙ all) marked
+  where
+    whole : (rows : List Row) (policy : List Placed) → list_all (mark kept) rows ≡ true → AreMarked set kept rows policy → restricted set policy ≡ policy
+    whole [] [] all marked = refl
+    whole [] (s ∷ policy) all marked = absurd marked
+    whole (row ∷ rows) [] all marked = absurd marked
+    whole (row ∷ rows) (s ∷ policy) all marked =
+        ap (λ b. cond b (s ∷ restricted set policy) (restricted set policy)) (sym marked.0 ∙ first_true (mark kept row) (list_all (mark kept) rows) all)
+        ∙ ap (λ l. s ∷ l) (whole rows policy (second_true (mark kept row) (list_all (mark kept) rows) all) marked.1)

@@ -41,6 +41,13 @@ read-text texts at word e = by (slice_get texts at.text) refl e
     by None is e = absurd (none-some word e)
     by (Some t) is e = ap (λ w. w.text) (sym (same_Some (as_word at t) word e)) ∙ sym (get-is texts at.text t is).1
 
+pub read-place : (texts : List (List ℕ)) (at : NumberedWord) (word : Word) → read texts at ≡ Some word → place_of at.at ≡ word.at
+read-place texts at word e = by (slice_get texts at.text) e
+  where
+    by : (o : Option (List ℕ)) → option_map (as_word at) o ≡ Some word → place_of at.at ≡ word.at
+    by None e = absurd (none-some word e)
+    by (Some t) e = ap (λ w. w.at) (same_Some (as_word at t) word e)
+
 pub read-within : (texts : List (List ℕ)) (at : NumberedWord) (word : Word) → read texts at ≡ Some word → at.text < length texts
 read-within texts at word e = by (slice_get texts at.text) refl e
   where

@@ -5,3 +5,6 @@ pub mod Scope
 pub mod Words
 pub mod Binding
 pub mod Policy
+pub mod Ordered
+pub mod Nested
+pub mod Written

@@ -1,8 +1,9 @@
 -- A joined policy whose references are bound.
-use Rattle.std.specs.Prelude.{◌≡◌, List, [], ◌∷◌, take, slice_get, slice_index_or, Some, Bool, false}
+use Rattle.std.specs.Prelude.{◌≡◌, ◌<◌, ◌^◌, ℕ, List, [], ◌∷◌, length, take, slice_get, slice_index_or, Some, Bool, false}
 use Rattle.cil_specs.specs.Names.{Word}
 use Rattle.cil_specs.specs.Joined.{Placed}
-use Rattle.cil_specs.specs.PolicyFault.{twice_words}
+use Rattle.cil_specs.specs.PolicyFault.{PolicyFault, twice, twice_words}
+use Rattle.cil_text.specs.Image.{place_of}
 use Rattle.cil_specs.specs.Kept.{Optionals, is_within}
 use Rattle.cil_bind.specs.declared.rows.Row.{Row}
 use Rattle.cil_bind.specs.Lookup.{Knows}
@@ -11,12 +12,13 @@ use Rattle.cil_bind.specs.Scope.{Stands, AreFrom, AreAround}
 use Rattle.cil_bind.specs.Words.{AreWorded}
 use Rattle.cil_bind.specs.Binding.{AreBound}
 use Rattle.cil_bind.specs.declared.joined.NamedModule.{NamedModule}
+use Rattle.cil_bind.specs.declared.redeclaration.Redeclaration.{Redeclaration}
 use Rattle.cil_bind.specs.declared.policy.Policy.{Policy}
 use Rattle.cil_bind.specs.declared.policy.Joining.{Joining}
 use Rattle.cil_bind.specs.declared.policy.Joining.TheVariants.{Once, Twice}
 
--- The words, the namespaces and the rows are those of this policy; each name has its first declaration, and none is declared twice; and
--- each reference is bound to what it leads to.
+-- The words, the namespaces and the rows are those of this policy; each name has its first declaration, and none is declared twice;
+-- each reference is bound to what it leads to; and places have 32 bits.
 pub record IsBoundTo {A : Type 0} (p : Policy A) (parsed : List (NamedModule A)) (policy : List Placed) : Type 0 where
   pub stands : Stands p.names p.lookup.namespaces p.rows.items policy
   pub from : AreFrom parsed p.rows.items policy
@@ -24,12 +26,32 @@ pub record IsBoundTo {A : Type 0} (p : Policy A) (parsed : List (NamedModule A))
   pub once : IsOnce policy
   pub worded : AreWorded p.names p.words.items parsed
   pub bound : AreBound policy policy p.bound.0
+  pub few : length p.rows.items < 2 ^ 32
 
--- What is made of a policy: all of it bound; or the place of the first statement whose name those in front of it declare, where the two
--- aren't both optionals.
+-- a word of a statement, by its module and its place
+pub record IsTold (again : Redeclaration) (s : Placed) (word : Word) : Type 0 where
+  pub named : again.«module».now ≡ s.module_name
+  pub place : place_of again.at ≡ word.at
+  pub text : again.word.now ≡ word.text
+
+-- The word is that of the first statement whose name those in front of it declare, where the two aren't both optionals.
+pub record IsFirstAgain (policy : List Placed) (again : Redeclaration) : Type 0 where
+  pub place : ℕ
+  pub s : Placed
+  pub word : Word
+  pub once : IsOnce (take place policy)
+  pub at : slice_get policy place ≡ Some s
+  pub is_twice : twice_words (take place policy) s ≡ word ∷ []
+  pub told : IsTold again s word
+
+-- what is made of a policy: all of it bound; or the first name that is declared again
 abbrev pub Makes : {A : Type 0} → List (NamedModule A) → List Placed → Joining A → Type 0
 Makes parsed policy (Once p) = IsBoundTo p parsed policy
-Makes parsed policy (Twice i) = IsOnce (take i policy) × ((s : Placed) × (word : Word) × (slice_get policy i ≡ Some s) × (twice_words (take i policy) s ≡ word ∷ []))
+Makes parsed policy (Twice again) = IsFirstAgain policy again
+
+-- the fault of a name that is declared again
+abbrev pub fault_of : Redeclaration → PolicyFault
+fault_of again = record { kind = twice; module_name = again.«module».now; at = place_of again.at; word = again.word.now }
 
 -- A row is marked, by the number of its innermost optional, where all optionals around its statement are in the set.
 abbrev pub AreMarked : Optionals → List Bool → List Row → List Placed → Type 0
@@ -38,12 +60,7 @@ AreMarked set kept [] (s ∷ policy) = ⊥
 AreMarked set kept (row ∷ rows) [] = ⊥
 AreMarked set kept (row ∷ rows) (s ∷ policy) = (slice_index_or kept row.optional false ≡ is_within set s) × AreMarked set kept rows policy
 
--- the rows of what is made, where each name is declared once
-abbrev pub HasRows : {A : Type 0} → List Row → Joining A → Type 0
-HasRows rows (Once p) = p.rows.items ≡ rows
-HasRows rows (Twice i) = Unit {0}
-
 -- of what is made of a whole policy, the rows tell the innermost optionals around their statements
 abbrev pub TellsAround : {A : Type 0} → List Placed → Joining A → Type 0
 TellsAround policy (Once p) = AreAround policy 0 p.rows.items policy
-TellsAround policy (Twice i) = Unit {0}
+TellsAround policy (Twice again) = Unit {0}

@@ -79,4 +79,19 @@ impl<A: Allocator + Copy> Declarations<A> {
         }
         Ok(Declared::Once(declarations))
     }
+
+    /// What rows declare that are known to declare each name once.
+    pub fn of_once(alloc: A, rows: &[Row]) -> Result<Self, AllocError>
+        requires { length rows.now < 2 ^ 32 }
+        ensures { IfOk result (λ d. (names spaces : List (List ℕ)) (policy : List Placed) → AreNumbered names spaces → AreRows names spaces rows.now policy → IsOnce policy
+            → HaveDeclared names spaces d.first.entries policy) }
+    {
+        let mut declarations = Declarations {
+            first: IndexMap::new(alloc),
+        };
+        for i in 0..rows.len() {
+            declarations.declare(rows, i)?;
+        }
+        Ok(declarations)
+    }
 }

@@ -1,9 +1,12 @@
 //! A joined policy whose references are bound.
 
-ghost use Rattle.std.specs.Prelude.{◌≡◌, ℕ, IfOk, List, false, filter, slice_index_or};
+ghost use Rattle.std.specs.Prelude.{◌≡◌, ◌<◌, ◌^◌, ℕ, IfOk, List, false, filter, length, slice_index_or};
+ghost use Rattle.std.specs.List.{list_all};
 ghost use Rattle.cil_specs.specs.Joined.{Placed, Module, joined as joined_policy};
 ghost use Rattle.cil_bind.specs.Scope.{AreSpelt, AreFrom, StandsFor};
-ghost use Rattle.cil_bind.specs.Policy.{Makes, IsBoundTo, AreMarked, HasRows, TellsAround};
+ghost use Rattle.cil_bind.specs.Lookup.{HaveDeclared};
+ghost use Rattle.cil_bind.specs.Rows.{IsOnce};
+ghost use Rattle.cil_bind.specs.Policy.{Makes, IsBoundTo, AreMarked, TellsAround};
 ghost use Rattle.cil_bind.specs.Words.{AreWorded};
 ghost use Rattle.cil_specs.specs.Kept.{Optionals, AreApart, restricted};
 
@@ -12,6 +15,7 @@ use crate::declarations::{Declarations, Declared};
 use crate::joined::Joined;
 use crate::lookup::Lookup;
 use crate::names::Names;
+use crate::redeclaration::Redeclaration;
 use crate::rows::Row;
 use crate::scope::Scope;
 use cil_parse::Lists;
@@ -28,15 +32,15 @@ pub struct Policy<'m, A: Allocator = Global> {
     pub bound: Lists<Option<u32>, A>,
 }
 
-/// A policy in which each name is declared once, or the place of the first statement whose name is declared already.
+/// A policy in which each name is declared once, or the first name that is declared again.
 #[derive(Drop)]
 pub enum Joining<'m, A: Allocator = Global> {
     Once(Policy<'m, A>),
-    Twice(usize),
+    Twice(Redeclaration<'m>),
 }
 
 impl<'m, A: Allocator + Copy> Policy<'m, A> {
-    /// The joined policy of modules.
+    /// The joined policy of modules. One of 2^32 statements or more is answered as out of memory.
     pub fn of(alloc: A, joined: &Joined<'m, A>) -> Result<Joining<'m, A>, AllocError>
         requires { (modules : List Module) × AreSpelt joined.now.modules.items modules }
         ensures made { IfOk result (λ made. (modules : List Module) → AreSpelt joined.now.modules.items modules → Makes joined.now.modules.items (joined_policy modules) made) }
@@ -45,8 +49,18 @@ impl<'m, A: Allocator + Copy> Policy<'m, A> {
         let mut names = Names::new(alloc);
         let words = names.number_modules(alloc, joined)?;
         let scope = Scope::of(alloc, names, joined)?;
-        let made = Policy::of_scope(alloc, joined, scope, words)?;
-        Ok(made)
+        if scope.rows.len() > 0xFFFF_FFFF {
+            return Err(AllocError);
+        }
+        let declarations = match Declarations::of(alloc, scope.rows.as_slice())? {
+            Declared::Once(declarations) => declarations,
+            Declared::Twice(place) => {
+                let again = Redeclaration::of(joined, &scope.rows[place]);
+                return Ok(Joining::Twice(again));
+            }
+        };
+        let policy = Policy::of_scope(alloc, joined, scope, words, declarations)?;
+        Ok(Joining::Once(policy))
     }
 
     /// The policy of the statements that stand in marked optionals alone, or in none. An optional's mark is that of its number, its place
@@ -56,11 +70,14 @@ impl<'m, A: Allocator + Copy> Policy<'m, A> {
         alloc: A,
         joined: &Joined<'m, A>,
         kept: &[bool],
-    ) -> Result<Joining<'m, A>, AllocError>
+    ) -> Result<Self, AllocError>
         requires { (policy : List Placed) × IsBoundTo self joined.now.modules.items policy }
-        ensures { IfOk result (λ made. (policy : List Placed) (set : Optionals) → IsBoundTo self.entry joined.now.modules.items policy → AreApart policy
-            → AreMarked set kept.now self.entry.rows.items policy → Makes joined.now.modules.items (restricted set policy) made) }
+        ensures { IfOk result (λ p. (policy : List Placed) (set : Optionals) → IsBoundTo self.entry joined.now.modules.items policy → AreApart policy
+            → AreMarked set kept.now self.entry.rows.items policy → IsBoundTo p joined.now.modules.items (restricted set policy)) }
     {
+        if are_kept(self.rows.as_slice(), kept) {
+            return Ok(self);
+        }
         let Policy {
             names,
             words,
@@ -70,58 +87,69 @@ impl<'m, A: Allocator + Copy> Policy<'m, A> {
         } = self;
         let mut rows = rows;
         retain_kept(&mut rows, kept);
+        let declarations = Declarations::of_once(alloc, rows.as_slice())?;
         let scope = Scope {
             names,
             namespaces: lookup.namespaces,
             rows,
         };
-        let made = Policy::of_scope(alloc, joined, scope, words)?;
-        Ok(made)
+        let policy = Policy::of_scope(alloc, joined, scope, words, declarations)?;
+        Ok(policy)
     }
 
-    /// The policy of rows.
+    /// The policy of rows that declare each name once.
     fn of_scope(
         alloc: A,
         joined: &Joined<'m, A>,
         scope: Scope<'m, A>,
         words: Vec<Vec<u32, A>, A>,
-    ) -> Result<Joining<'m, A>, AllocError>
+        declarations: Declarations<A>,
+    ) -> Result<Self, AllocError>
         requires worded { (names : List (List ℕ)) × AreWorded names words.items joined.now.modules.items }
         requires from { (policy : List Placed) × AreFrom joined.now.modules.items scope.rows.items policy }
-        ensures made { IfOk result (λ made. (policy : List Placed) → StandsFor scope.entry policy → AreFrom joined.now.modules.items scope.entry.rows.items policy
-            → AreWorded scope.entry.names words.items joined.now.modules.items → Makes joined.now.modules.items policy made) }
-        ensures rows { IfOk result (HasRows scope.entry.rows.items) }
+        requires few { length scope.rows.items < 2 ^ 32 }
+        ensures made { IfOk result (λ p. (policy : List Placed) → StandsFor scope.entry policy → AreFrom joined.now.modules.items scope.entry.rows.items policy
+            → AreWorded scope.entry.names words.items joined.now.modules.items → HaveDeclared scope.entry.names scope.entry.namespaces declarations.first.entries policy → IsOnce policy
+            → IsBoundTo p joined.now.modules.items policy) }
+        ensures rows { IfOk result (λ p. p.rows.items ≡ scope.entry.rows.items) }
     {
-        if scope.rows.len() > 0xFFFF_FFFF {
-            return Err(AllocError);
-        }
         let Scope {
             names,
             namespaces,
             rows,
         } = scope;
-        let first = match Declarations::of(alloc, rows.as_slice())? {
-            Declared::Once(declarations) => declarations.first,
-            Declared::Twice(place) => return Ok(Joining::Twice(place)),
-        };
         let lookup = Lookup {
             namespaces,
-            declared: first,
+            declared: declarations.first,
         };
         let bound = bind(alloc, &lookup, joined, words.as_slice(), rows.as_slice())?;
-        Ok(Joining::Once(Policy {
+        Ok(Policy {
             names,
             words,
             lookup,
             rows,
             bound,
-        }))
+        })
     }
 }
 
-/// Keeps the rows whose innermost optional is marked, by its number, and drops the others.
+/// Whether the innermost optional of a row is marked, by its number.
+fn is_kept(row: &Row, kept: &[bool]) -> bool
+    ensures { result ≡ slice_index_or kept.now row.now.optional false }
+{
+    kept.get(row.optional as usize).copied().unwrap_or(false)
+}
+
+/// Whether those of all rows are.
+fn are_kept(rows: &[Row], kept: &[bool]) -> bool
+    ensures { result ≡ list_all (λ row. slice_index_or kept.now row.optional false) rows.now }
+{
+    rows.iter().all(|row| is_kept(row, kept))
+}
+
+/// Keeps the rows whose innermost optional is marked, and drops the others.
 fn retain_kept<A: Allocator>(rows: &mut Vec<Row, A>, kept: &[bool])
     ensures { rows.new.items ≡ filter (λ row. slice_index_or kept.now row.optional false) rows.old.items }
 {
-    rows.retain(|row| kept.get(row.optional as usize).copied().unwrap_or(false));
+    rows.retain(|row| is_kept(row, kept));
 }

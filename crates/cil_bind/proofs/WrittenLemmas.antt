@@ -1,0 +1,91 @@
+-- What holds of the statements of modules that are spelt by texts.
+use Rattle.std.proofs.Common.{◌≡◌, ℕ, Bool, true, false, not, ◌&&◌, ◌||◌, ◌==◌, cond, nat_le, List, [], ◌∷◌, ◌++◌, length, map, filter, None, Some, Contains, if◌then◌else◌, refl, sym, ap, ◌∙◌, subst, true≢false}
+use Rattle.std.specs.List.{AllByRecursion, list_all, list_any, slice_split, onto_first}
+use Rattle.std.specs.Prelude.{IsTrue}
+use Rattle.std.proofs.lemmas.Bool.{eqb-true}
+use Rattle.std.proofs.lemmas.Option.{none-some}
+use Rattle.std.proofs.lemmas.List.Splits.{slice_split-cons_no}
+use Rattle.cil_specs.specs.TextFault.{bad_name, reserved}
+use Rattle.cil_specs.specs.Names.{Word, Role, declared, begins_name, is_name_byte, is_name, components, is_reserved, name_fault}
+use Rattle.cil_specs.specs.Shape.{IsGoodWord, Shapes}
+use Rattle.cil_specs.specs.Statements.{Form, block, optional, type_name, type_alias, alias_actual, type_attribute, attribute_set, common, class, class_common, class_order, rule, target_words, words_of, as_declared, as_referred, is_optional, Statements, no_more, statement, are_apart}
+use Rattle.cil_specs.specs.Joined.{Module, Placed, namespace_inside, optionals_inside, placed, joined}
+use Rattle.cil_specs.specs.Kept.{AreApart}
+use Rattle.cil_specs.specs.Trees.{Trees}
+use Rattle.cil_specs.proofs.Runs.{first_true, second_true}
+use Rattle.cil_specs.proofs.NamesLemmas.{all-weaker, all-append, all-second, all-contained}
+use Rattle.cil_specs.proofs.ShapeLemmas.{shapes_apart}
+use Rattle.cil_specs.proofs.ApartLemmas.{joined-apart}
+use Rattle.cil_parse.specs.Forms.{permissions_in}
+use Rattle.cil_bind.specs.Written.{IsWritten, AreWritten, IsOneName, HaveOneNames}
+
+pub written-apart : (modules : List Module) → AreWritten modules → AreApart (joined modules)
+written-apart modules written = joined-apart modules (all-weaker IsWritten (λ m. are_apart false m.statements ≡ true) (λ m w. shapes_apart m.statements false w.trees w.shapes) modules written)
+
+-- a byte of a name is no dot
+no-dot : (p : ℕ → Bool) → p 46 ≡ false → (b : ℕ) → p b ≡ true → (b == 46) ≡ false
+no-dot p none b is = by (b == 46) refl
+  where
+    by : (c : Bool) → (b == 46) ≡ c → c ≡ false
+    by false e = refl
+    by true e = absurd (true≢false (sym is ∙ ap p (eqb-true b 46 e) ∙ none))
+
+whole : (bytes : List ℕ) → list_all is_name_byte bytes ≡ true → slice_split (λ c. c == 46) bytes ≡ bytes ∷ []
+whole [] all = refl
+whole (b ∷ bytes) all =
+    slice_split-cons_no (λ c. c == 46) b bytes (no-dot is_name_byte refl b (first_true (is_name_byte b) (list_all is_name_byte bytes) all))
+    ∙ ap (onto_first b) (whole bytes (second_true (is_name_byte b) (list_all is_name_byte bytes) all))
+
+name-one : (text : List ℕ) → is_name text ≡ true → components text ≡ text ∷ []
+name-one [] is = absurd (true≢false (sym is))
+name-one (b ∷ bytes) is =
+    let first = no-dot begins_name refl b (first_true (begins_name b) (list_all is_name_byte bytes && nat_le (length (b ∷ bytes)) 2048) is) in
+    let others = first_true (list_all is_name_byte bytes) (nat_le (length (b ∷ bytes)) 2048) (second_true (begins_name b) (list_all is_name_byte bytes && nat_le (length (b ∷ bytes)) 2048) is) in
+    ap (λ c. cond c (slice_split (λ c. c == 46) bytes) (slice_split (λ c. c == 46) (b ∷ bytes))) first
+    ∙ slice_split-cons_no (λ c. c == 46) b bytes first ∙ ap (onto_first b) (whole bytes others)
+
+-- a good word in the place of a name is one
+good-name : (w : Word) → IsGoodWord (declared, w) → IsOneName w
+good-name w good = name-one w.text (by (is_name w.text) refl good)
+  where
+    by : (b : Bool) → is_name w.text ≡ b → (if not b then Some bad_name else if list_any is_reserved (components w.text) then Some reserved else None) ≡ None → b ≡ true
+    by true e good = refl
+    by false e good = absurd (none-some bad_name (sym good))
+
+good-names : (words : List Word) → AllByRecursion IsGoodWord (map as_declared words) → AllByRecursion IsOneName words
+good-names [] good = tt
+good-names (w ∷ words) good = (good-name w good.0, good-names words good.1)
+
+good-permissions : (form : Form) → AllByRecursion IsGoodWord (words_of form) → AllByRecursion IsOneName (permissions_in form)
+good-permissions (block id) good = tt
+good-permissions (optional id) good = tt
+good-permissions (type_name id) good = tt
+good-permissions (type_alias id) good = tt
+good-permissions (alias_actual alias actual) good = tt
+good-permissions (type_attribute id) good = tt
+good-permissions (attribute_set attribute expr) good = tt
+good-permissions (common id permissions) good = good-names permissions good.1
+good-permissions (class id permissions) good = good-names permissions good.1
+good-permissions (class_common the_class the_common) good = tt
+good-permissions (class_order classes) good = tt
+good-permissions (rule kind source target the_class permissions) good =
+    good-names permissions (all-second IsGoodWord (map as_referred (target_words target)) (as_referred the_class ∷ map as_declared permissions) good.1).1
+
+abbrev ListsNames : Placed → Type 0
+ListsNames s = AllByRecursion IsOneName (permissions_in s.form)
+
+placed-names : (name : List ℕ) (namespace : List (List ℕ)) (optionals : List ℕ) (inside : Bool) (trees : Trees) (statements : Statements) → Shapes inside trees statements → AllByRecursion ListsNames (placed name namespace optionals statements)
+placed-names name namespace optionals inside trees no_more shapes = tt
+placed-names name namespace optionals inside trees (statement at form body more) (end, parts, inner, rest, is, fits, allowed, good, within, behind) = (
+  good-permissions form good,
+  all-append ListsNames (placed name (namespace_inside form namespace) (optionals_inside form at optionals) body) (placed name namespace optionals more)
+      (placed-names name (namespace_inside form namespace) (optionals_inside form at optionals) (inside || is_optional form) inner body within) (placed-names name namespace optionals inside rest more behind),
+)
+
+joined-names : (modules : List Module) → AreWritten modules → AllByRecursion ListsNames (joined modules)
+joined-names [] written = tt
+joined-names (m ∷ modules) written =
+    all-append ListsNames (placed m.name [] [] m.statements) (joined modules) (placed-names m.name [] [] false written.0.trees m.statements written.0.shapes) (joined-names modules written.1)
+
+pub written-names : (modules : List Module) → AreWritten modules → HaveOneNames (joined modules)
+written-names modules written s there = all-contained ListsNames (joined modules) s (joined-names modules written) there

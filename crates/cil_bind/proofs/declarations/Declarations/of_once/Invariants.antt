@@ -1,0 +1,9 @@
+use Rattle.std.proofs.Common.{ℕ, List, take}
+use Rattle.cil_specs.specs.Joined.{Placed}
+use Rattle.cil_bind.specs.Lookup.{HaveDeclared}
+use Rattle.cil_bind.specs.Rows.{AreRows, AreNumbered, IsOnce}
+use Rattle.cil_bind.proofs.declarations.Declarations.of_once.Given as goal
+
+-- the entries have what is declared so far
+abbrev pub invariant-loop-i : goal.invariant-loop-i
+invariant-loop-i g l = (names spaces : List (List ℕ)) (policy : List Placed) → AreNumbered names spaces → AreRows names spaces l.rows policy → IsOnce policy → HaveDeclared names spaces l.declarations.first.entries (take l.i policy)

@@ -1,0 +1,6 @@
+use Rattle.cil_specs.specs.Kept.{is_within}
+use Rattle.cil_specs.proofs.OnceLemmas.{once-filtered}
+use Rattle.cil_bind.proofs.laws.kept_is_once.Goals as goal
+
+pub returns : goal.returns
+returns c = λ set policy once. once-filtered (is_within set) policy once
