@@ -5,3 +5,4 @@ pub mod ProviderLemmas
 pub mod AsksLemmas
 pub mod KeptLemmas
 pub mod OthersLemmas
+pub mod PermissionLemmas

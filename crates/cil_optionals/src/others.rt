@@ -44,7 +44,7 @@ fn asked<'m, A: Allocator + Copy>(
     i: usize,
     needs: &mut Vec<Need<A>, A>,
 ) -> Result<(), AllocError>
-    requires ready { (all : List Placed) × IsReady policy.now joined.now.modules.items all × HavePermissions all (permissions_in permissions.now) }
+    requires ready { (all : List Placed) × IsReady policy.now joined.now.modules.items all }
     requires within { i < length policy.now.rows.items }
     ensures { OnOk result ((all : List Placed) (s : Placed) → IsReady policy.now joined.now.modules.items all → HavePermissions all (permissions_in permissions.now) → slice_get all i ≡ Some s
         → Asks all (optional_at policy.now i) (λ set. are_found (restricted set all) s.namespace (references_of s.form) && are_there (restricted set all) s.namespace (named_permissions s.form)) needs.old.items needs.new.items) }
@@ -67,7 +67,7 @@ fn need_at<'m, A: Allocator + Copy>(
     i: usize,
     needs: &mut Vec<Need<A>, A>,
 ) -> Result<(), AllocError>
-    requires ready { (all : List Placed) × IsReady policy.now joined.now.modules.items all × HavePermissions all (permissions_in permissions.now) }
+    requires ready { (all : List Placed) × IsReady policy.now joined.now.modules.items all }
     requires within { i < length policy.now.rows.items }
     ensures { OnOk result ((all : List Placed) → IsReady policy.now joined.now.modules.items all → HavePermissions all (permissions_in permissions.now)
         → AreOthersTo all policy.now.rows.items i i needs.old.items → AreOthersTo all policy.now.rows.items (i + 1) (i + 1) needs.new.items) }
@@ -88,7 +88,7 @@ pub fn others<'m, A: Allocator + Copy>(
     policy: &Policy<'m, A>,
     permissions: &Permissions<'m, A>,
 ) -> Result<Vec<Need<A>, A>, AllocError>
-    requires ready { (all : List Placed) × IsReady policy.now joined.now.modules.items all × HavePermissions all (permissions_in permissions.now) }
+    requires ready { (all : List Placed) × IsReady policy.now joined.now.modules.items all }
     ensures { IfOk result (λ needs. (all : List Placed) → IsReady policy.now joined.now.modules.items all → HavePermissions all (permissions_in permissions.now)
         → AreOthers all policy.now.rows.items needs.items) }
 {

@@ -33,7 +33,7 @@ are_there-requires g c =
     let parsed = c.args.joined.now.modules.items in
     let row = c.index-row.result.now in
     let has = row-of p parsed r.0 c.args.i row r.1 c.requires.within c.index-row.ensures in
-    (parsed, r.0, has.s, r.1, r.2, has.at, of-row p parsed r.0 c.args.i row c.index.result.now r.1 has c.index.ensures)
+    (parsed, r.0, has.s, r.1, has.at, of-row p parsed r.0 c.args.i row c.index.result.now r.1 has c.index.ensures)
 
 pub returns-in_ok-add_need : goal.returns-in_ok-add_need
 returns-in_ok-add_need g c = λ all s ready permissions at.
