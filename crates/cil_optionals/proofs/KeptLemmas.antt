@@ -17,7 +17,7 @@ use Rattle.cil_specs.proofs.Runs.{first_true, second_true, both_true}
 use Rattle.cil_bind.specs.Policy.{AreMarked}
 use Rattle.cil_bind.specs.declared.rows.Row.{Row}
 use Rattle.cil_bind.proofs.PositionLemmas.{any-position}
-use Rattle.cil_optionals.specs.Needs.{is_met, are_met}
+use Rattle.cil_optionals.specs.Needs.{is_met, are_met, is_need_below}
 use Rattle.cil_optionals.specs.Nested.{IsInnermost, AreNested, mark_at, set_of, ShowsKept}
 use Rattle.cil_optionals.specs.Nodes.{declared_table, declared_text, is_naming, is_provided, AreOptionalsOf, AreNodesOf}
 use Rattle.cil_optionals.specs.Providers.{further_out, IsDeclaration, IsFurther, IsProvidedBy, AreProviders}
@@ -128,6 +128,33 @@ mark-of rows policy marks nested k s at is = by (position test policy) refl
         same-read [] i d low = refl
         same-read (x ∷ xs) zero d low = refl
         same-read (x ∷ xs) (suc i) d low = same-read xs i d (omega (arith, low))
+
+-- each statement has its row
+pub rows-there : (rows : List Row) (policy : List Placed) → length rows ≡ length policy → (i : ℕ) (s : Placed) → slice_get policy i ≡ Some s → (row : Row) × (slice_get rows i ≡ Some row)
+rows-there rows policy same i s at = elim (slice_get_cases rows i).1 [
+  | inl (row, low, here, is) ↦ (row, here)
+  | inr (past, here) ↦ (let low = slice_get_within policy i s at in absurd (omega (arith, low, past, same)))
+]
+
+-- the needs of statements are of nodes of the policy
+pub within-below : {A : Type 0} (count : ℕ) (needs : List (Need A)) → list_all (is_need_within count) needs ≡ true → list_all (is_need_below (count + count + 1)) needs ≡ true
+within-below count [] all = refl
+within-below count (need ∷ needs) all =
+    let first = first_true (is_need_within count need) (list_all (is_need_within count) needs) all in
+    let rest = second_true (nat_lt 0 need.optional) (nat_lt need.optional (count + 1) && list_all (λ n. nat_lt n (count + count + 1)) need.from.items) first in
+    let low : need.optional < count + 1 = ltb-true need.optional (count + 1) (first_true (nat_lt need.optional (count + 1)) (list_all (λ n. nat_lt n (count + count + 1)) need.from.items) rest) in
+    both_true (is_need_below (count + count + 1) need) (list_all (is_need_below (count + count + 1)) needs)
+    (both_true (nat_lt 0 need.optional) (nat_lt need.optional (count + count + 1) && list_all (λ n. nat_lt n (count + count + 1)) need.from.items)
+    (first_true (nat_lt 0 need.optional) (nat_lt need.optional (count + 1) && list_all (λ n. nat_lt n (count + count + 1)) need.from.items) first)
+    (both_true (nat_lt need.optional (count + count + 1)) (list_all (λ n. nat_lt n (count + count + 1)) need.from.items) (lt-ltb need.optional (count + count + 1) (omega (arith, low)))
+    (second_true (nat_lt need.optional (count + 1)) (list_all (λ n. nat_lt n (count + count + 1)) need.from.items) rest)))
+    (within-below count needs (second_true (is_need_within count need) (list_all (is_need_within count) needs) all))
+
+pub all-below : {A : Type 0} (policy : List Placed) (rows : List Row) (lower others : List (Need A)) → AreProviders policy rows (length policy) lower → AreOthers policy rows others
+    → list_all (is_need_below (length policy + length policy + 1)) (lower ++ others) ≡ true
+all-below policy rows lower others providers_are others_are =
+    list_all-append (is_need_below (length policy + length policy + 1)) lower others
+    ∙ both_true (list_all (is_need_below (length policy + length policy + 1)) lower) (list_all (is_need_below (length policy + length policy + 1)) others) providers_are.below (within-below (length policy) others others_are.below)
 
 -- what is asked of the marks: they are the greatest set in which the needs are met
 pub record AreGreatest {A : Type 0} (policy : List Placed) (rows : List Row) (lower others : List (Need A)) (marks : List Bool) : Type 0 where

@@ -32,5 +32,6 @@ pub fn kept_optionals<'m, A: Allocator + Copy>(
     let mut needs = providers(alloc, policy)?;
     let more = others(alloc, joined, policy, &permissions)?;
     needs.extend(more)?;
-    greatest(alloc, count + count, &needs)
+    let kept = greatest(alloc, count + count, &needs)?;
+    Ok(kept)
 }
