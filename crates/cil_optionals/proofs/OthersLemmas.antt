@@ -88,7 +88,8 @@ others-skip policy rows i row s needs nested at here none are = record {
           let same : j ≡ i = omega (arith, less, past) in
           absurd (some (ap (λ q. q.optionals) (same_Some t s (sym t_at ∙ ap (slice_get policy) same ∙ here)) ∙ outside row.optional none (nested.around i row s at here)))
     ],
-    λ all. (are.found set has nodes).1 (λ j t less. all j t (omega (arith, less))));
+    λ all. (are.found set has nodes).1 (λ j t less. all j t (omega (arith, less))),
+  );
 }
   where
     outside : (n : ℕ) → n ≡ 0 → IsInnermost policy i n s → s.optionals ≡ []
@@ -120,10 +121,10 @@ others-around {A} policy rows i row s old new nested at here optional adds are =
       let one : is_met has need ≡ true =
       (λ j. not (has ((number ∙ next) j)) || list_any has (adds.from_is j))
       ∙ (λ j. not (nodes.optionals_are.optional_is i s here optional j) || (row-within rows policy set has nested nodes.optionals_are i row s at here j || false))
-      ∙ always (set s.module_name s.at.offset) (is_within set s) in
-      (
+      ∙ always (set s.module_name s.at.offset) (is_within set s) in (
         λ met. (are.found set has nodes).0 (first_true (are_met has old) (is_met has need && true) (sym (list_all-append (is_met has) old (need ∷ [])) ∙ met)),
-        λ all. list_all-append (is_met has) old (need ∷ []) ∙ both_true (are_met has old) (is_met has need && true) ((are.found set has nodes).1 all) (both_true (is_met has need) true one refl));
+        λ all. list_all-append (is_met has) old (need ∷ []) ∙ both_true (are_met has old) (is_met has need && true) ((are.found set has nodes).1 all) (both_true (is_met has need) true one refl),
+      );
 })
   where
     count : ℕ
@@ -181,8 +182,7 @@ others-asks {A} policy rows i row s m old new nested at here inside asks are = s
   inside = λ has met. are.inside has (first_true (are_met has old) (are_met has asks.more) (sym (list_all-append (is_met has) old asks.more) ∙ met));
   found = λ set has nodes.
       let found_it : Bool = are_found (restricted set policy) s.namespace (references s.form) && are_there (restricted set policy) s.namespace (named_permissions s.form) in
-      let there = row-within rows policy set has nested nodes.optionals_are i row s at here in
-      (
+      let there = row-within rows policy set has nested nodes.optionals_are i row s at here in (
         λ met j t less t_at some within.
             let parts = sym (list_all-append (is_met has) old asks.more) ∙ met in
             elim (cases_lt j i) [
@@ -199,7 +199,8 @@ others-asks {A} policy rows i row s m old new nested at here inside asks are = s
             ∙ both_true (are_met has old) (are_met has asks.more) ((are.found set has nodes).1 (λ j t less. all j t (omega (arith, less))))
             (asks.met set has nodes
             ∙ given (has row.optional) found_it
-            (λ has_it. found-all (restricted set policy) s (all i s (omega arith) here (some_around row.optional inside (nested.around i row s at here)) (sym there ∙ has_it)))));
+            (λ has_it. found-all (restricted set policy) s (all i s (omega arith) here (some_around row.optional inside (nested.around i row s at here)) (sym there ∙ has_it)))),
+      );
 })
   where
     count : ℕ
@@ -245,7 +246,8 @@ others-all policy rows n needs past are = record {
   inside = λ has met first k row s at here. are.inside has met first k row s (let low = slice_get_within policy k s here in omega (arith, low, past)) at here;
   found = λ set has nodes. (
     λ met s c. (let there = place-of policy s c in (are.found set has nodes).0 met there.0 s (let low = slice_get_within policy there.0 s there.1 in omega (arith, low, past)) there.1),
-    λ all. (are.found set has nodes).1 (λ i s low at. all s (contains-place policy s i at)));
+    λ all. (are.found set has nodes).1 (λ i s low at. all s (contains-place policy s i at)),
+  );
 }
 
 -- the statement of a row is one of its module

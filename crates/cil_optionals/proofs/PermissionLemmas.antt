@@ -261,8 +261,8 @@ upto-lists policy i t old new at own listed same are =
     upto-next policy i t old new at
     (λ place name. listed place name ∙ ap (λ l. lists old.listed.keys place name || (place == i && has_name (texts l) name)) (kind-own t.form own))
     (λ k s test here first.
-        ap (λ l. list_any (λ c. holds_of test (slice_get policy c)) (commons_at l k)) same ∙ sym (or-false (list_any (λ c. holds_of test (slice_get policy c)) (commons_at old.given.items k)))
-        ∙ ap (λ b. list_any (λ c. holds_of test (slice_get policy c)) (commons_at old.given.items k) || b) (sym (gives-none policy s t test (own-gives t.form own))))
+    ap (λ l. list_any (λ c. holds_of test (slice_get policy c)) (commons_at l k)) same ∙ sym (or-false (list_any (λ c. holds_of test (slice_get policy c)) (commons_at old.given.items k)))
+    ∙ ap (λ b. list_any (λ c. holds_of test (slice_get policy c)) (commons_at old.given.items k) || b) (sym (gives-none policy s t test (own-gives t.form own))))
     (ap length same) are
 
 -- it gives nothing
@@ -272,8 +272,8 @@ upto-other policy i t p at own gives are =
     upto-next policy i t p p at
     (λ place name. none-listed t.form own name (lists p.listed.keys place name) (place == i))
     (λ k s test here first.
-        sym (or-false (list_any (λ c. holds_of test (slice_get policy c)) (commons_at p.given.items k)))
-        ∙ ap (λ b. list_any (λ c. holds_of test (slice_get policy c)) (commons_at p.given.items k) || b) (sym (gives-none policy s t test gives)))
+    sym (or-false (list_any (λ c. holds_of test (slice_get policy c)) (commons_at p.given.items k)))
+    ∙ ap (λ b. list_any (λ c. holds_of test (slice_get policy c)) (commons_at p.given.items k) || b) (sym (gives-none policy s t test gives)))
     refl are
 
 -- what it gives by what its references are bound to
@@ -313,8 +313,8 @@ upto-gives policy i t bound old new at gives leads_are given long same are =
     upto-next policy i t old new at
     (λ place name. ap (λ l. lists l place name) same ∙ none-listed t.form (gives-lists t.form gives) name (lists old.listed.keys place name) (place == i))
     (λ k s test here first.
-        ap (list_any (λ c. holds_of test (slice_get policy c))) (given k) ∙ list_any-append (λ c. holds_of test (slice_get policy c)) (commons_at old.given.items k) (given_at (gift bound) k)
-        ∙ ap (λ b. list_any (λ c. holds_of test (slice_get policy c)) (commons_at old.given.items k) || b) (given-by policy k s test here first t.namespace t.form gives bound leads_are))
+    ap (list_any (λ c. holds_of test (slice_get policy c))) (given k) ∙ list_any-append (λ c. holds_of test (slice_get policy c)) (commons_at old.given.items k) (given_at (gift bound) k)
+    ∙ ap (λ b. list_any (λ c. holds_of test (slice_get policy c)) (commons_at old.given.items k) || b) (given-by policy k s test here first t.namespace t.form gives bound leads_are))
     long are
 
 -- the class of a gift is a place

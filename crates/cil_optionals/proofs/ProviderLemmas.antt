@@ -232,9 +232,9 @@ providers-next {A} policy rows i row s next need needs apart once nested at here
     chosen has (Some q) lead any = elim (either-of (has row.optional) (has (length policy + 1 + q)) any) [
       | inl here_it ↦ inl here_it
       | inr there_it ↦ elim (slice_get_cases policy q).1 [
-          | inl (t, less, at_it, same) ↦ inr (record { place = q; found = t; at = at_it; further = sym lead.is ∙ at_it; there = there_it })
-          | inr (past, at_it) ↦ (let less = lead.within in absurd (omega arith))
-        ]
+        | inl (t, less, at_it, same) ↦ inr (record { place = q; found = t; at = at_it; further = sym lead.is ∙ at_it; there = there_it })
+        | inr (past, at_it) ↦ (let less = lead.within in absurd (omega arith))
+      ]
     ]
 
 -- no needs of no statements

@@ -90,11 +90,7 @@ fn no_commons<A: Allocator + Copy>(
 
 impl<'m, A: Allocator + Copy> Permissions<'m, A> {
     /// The permissions of a policy's classes.
-    pub fn of(
-        alloc: A,
-        joined: &Joined<'m, A>,
-        policy: &Policy<'m, A>,
-    ) -> Result<Self, AllocError>
+    pub fn of(alloc: A, joined: &Joined<'m, A>, policy: &Policy<'m, A>) -> Result<Self, AllocError>
         requires { (all : List Placed) × IsReady policy.now joined.now.modules.items all }
         ensures { IfOk result (λ permissions. (all : List Placed) → IsReady policy.now joined.now.modules.items all → HavePermissions all (permissions_in permissions)) }
     {
@@ -205,12 +201,7 @@ impl<'m, A: Allocator> Permissions<'m, A> {
     }
 
     /// Whether the class at a place has all of these permissions.
-    fn has_all(
-        &self,
-        class: u32,
-        module: &'m ParsedModule<A>,
-        words: &[NumberedWord],
-    ) -> bool
+    fn has_all(&self, class: u32, module: &'m ParsedModule<A>, words: &[NumberedWord]) -> bool
         requires { (list : List Word) × (map (read (texts_of «module».now)) words.now ≡ map Some list) }
         ensures { (list : List Word) → map (read (texts_of «module».now)) words.now ≡ map Some list → result ≡ list_all (λ word. permissions_in self.now class word.text) list }
     {
@@ -223,12 +214,7 @@ impl<'m, A: Allocator> Permissions<'m, A> {
     }
 
     /// Whether the class that the statement at a place names has all permissions that it names.
-    pub fn are_there(
-        &self,
-        policy: &Policy<'m, A>,
-        module: &'m ParsedModule<A>,
-        i: usize,
-    ) -> bool
+    pub fn are_there(&self, policy: &Policy<'m, A>, module: &'m ParsedModule<A>, i: usize) -> bool
         requires { (parsed : List (NamedModule _)) × (all : List Placed) × (s : Placed) × IsReady policy.now parsed all × slice_get all i ≡ Some s × IsOf policy.now «module».now i s }
         ensures { (parsed : List (NamedModule _)) (all : List Placed) (s : Placed) → IsReady policy.now parsed all → HavePermissions all (permissions_in self.now) → slice_get all i ≡ Some s → IsOf policy.now «module».now i s
             → result ≡ all_there all s.namespace (named_permissions s.form) }

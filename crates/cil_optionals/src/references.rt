@@ -40,11 +40,7 @@ fn is_global(text: &[u8]) -> bool
 
 /// The node that meets a reference by what it leads to: for a plain name that of the name, and else that of the optional around the
 /// declaration. None meets one that leads nowhere.
-fn meeting<A: Allocator>(
-    policy: &Policy<'_, A>,
-    plain: bool,
-    found: Option<u32>,
-) -> Option<usize>
+fn meeting<A: Allocator>(policy: &Policy<'_, A>, plain: bool, found: Option<u32>) -> Option<usize>
     requires { (parsed : List (NamedModule _)) × (all : List Placed) × (table : TableOf) × (lead : Option Placed) × IsReady policy.now parsed all × IsLead table all found lead }
     ensures below { IfSome result (λ n. n < length policy.now.rows.items + length policy.now.rows.items + 1) }
     ensures meets { (parsed : List (NamedModule _)) (all : List Placed) (table : TableOf) (lead : Option Placed) → IsReady policy.now parsed all → IsLead table all found lead
@@ -61,10 +57,7 @@ fn meeting<A: Allocator>(
 }
 
 /// A node, if there is one, as a list.
-fn nodes<A: Allocator + Copy>(
-    alloc: A,
-    node: Option<usize>,
-) -> Result<Vec<usize, A>, AllocError>
+fn nodes<A: Allocator + Copy>(alloc: A, node: Option<usize>) -> Result<Vec<usize, A>, AllocError>
     ensures { IfOk result (λ nodes. nodes.items ≡ option_to_list node) }
 {
     let mut nodes = Vec::with_capacity(alloc, 1)?;
@@ -84,10 +77,7 @@ pub fn add_need<A: Allocator + Copy>(
     ensures { OnOk result (AddsNeed needs.old.items needs.new.items optional node) }
 {
     let from = nodes(alloc, node)?;
-    needs.push(Need {
-        optional,
-        from,
-    })?;
+    needs.push(Need { optional, from })?;
     Ok(())
 }
 
