@@ -1,0 +1,48 @@
+use Rattle.std.proofs.Common.{◌≡◌, ◌<◌, ◌≤◌, ◌+◌, ◌++◌, ◌^◌, true, false, length, get_or, sym, ap, ◌∙◌, subst, arith}
+use Rattle.std.specs.List.{list_all}
+use Rattle.indexmap.proofs.CallerLemmas.{Drains-YieldsInOrder}
+use Rattle.cil_bind.proofs.DeclareLemmas.{rows-length}
+use Rattle.cil_optionals.specs.Needs.{are_met, is_need_below}
+use Rattle.cil_optionals.specs.Providers.{IsReady}
+use Rattle.cil_optionals.proofs.KeptLemmas.{rows-there, all-below, shows-kept}
+use Rattle.cil_optionals.proofs.kept.kept_optionals.Goals as goal
+
+pub greatest-requires : goal.greatest-requires
+greatest-requires g c =
+    let (all, bound, nested, apart) = c.requires in
+    let p = c.args.policy.now in
+    let parsed = c.args.joined.now.modules.items in
+    let count = c.len-count.ensures in
+    let few = c.if-count-gt4294967295.false in
+    let ready : IsReady p parsed all = record { bound = bound; nested = nested; apart = apart; few = omega (arith, count, few) } in
+    let long = rows-length p.names p.lookup.namespaces p.rows.items all bound.stands.rows_are in
+    let ran = c.in_ok-extend.ensures.ran in
+    let more : ran.1 ≡ c.in_ok-more.more.items = Drains-YieldsInOrder _ _ ran.0 ran.1 ran.2.3 ran.4 ∙ ran.2.0 in
+    let is : c.deref.result.now ≡ c.in_ok-needs.needs.items ++ c.in_ok-more.more.items = c.deref.ensures.value ∙ ran.3.0 ∙ ap (λ l. c.in_ok-needs.needs.items ++ l) more in
+    let size : length all + length all + 1 ≡ c.len-count.result + c.len-count.result + 1 = omega (arith, long, count) in
+    record {
+      below = (λ k. list_all (is_need_below (sym size k)) (is k))
+          ∙ all-below all p.rows.items c.in_ok-needs.needs.items c.in_ok-more.more.items (c.in_ok-needs.ensures parsed all ready) (c.in_ok-more.ensures all ready (c.in_ok-permissions.ensures all ready));
+    }
+
+pub returns : goal.returns
+returns g c = λ all bound nested apart.
+    let p = c.args.policy.now in
+    let parsed = c.args.joined.now.modules.items in
+    let count = c.len-count.ensures in
+    let few = c.if-count-gt4294967295.false in
+    let ready : IsReady p parsed all = record { bound = bound; nested = nested; apart = apart; few = omega (arith, count, few) } in
+    let long = rows-length p.names p.lookup.namespaces p.rows.items all bound.stands.rows_are in
+    let ran = c.in_ok-extend.ensures.ran in
+    let more : ran.1 ≡ c.in_ok-more.more.items = Drains-YieldsInOrder _ _ ran.0 ran.1 ran.2.3 ran.4 ∙ ran.2.0 in
+    let is : c.deref.result.now ≡ c.in_ok-needs.needs.items ++ c.in_ok-more.more.items = c.deref.ensures.value ∙ ran.3.0 ∙ ap (λ l. c.in_ok-needs.needs.items ++ l) more in
+    let marks = c.in_ok-kept.kept.items in
+    let told = c.in_ok-kept.ensures in
+    shows-kept all p.rows.items (rows-there p.rows.items all long) nested apart bound.once c.in_ok-needs.needs.items c.in_ok-more.more.items marks
+    (record {
+      providers_are = c.in_ok-needs.ensures parsed all ready;
+      others_are = c.in_ok-more.ensures all ready (c.in_ok-permissions.ensures all ready);
+      outside = told.outside;
+      met = ap (are_met (λ n. get_or marks n false)) (sym is) ∙ told.met;
+      greatest = λ has met n within. told.greatest has (ap (are_met has) is ∙ met) n (omega (arith, within, long, count));
+    }) long

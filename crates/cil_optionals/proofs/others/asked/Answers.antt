@@ -1,0 +1,62 @@
+use Rattle.std.proofs.Common.{◌≡◌, ◌<◌, false, true, not, length, sym, ap, ◌∙◌, subst, None, arith}
+use Rattle.std.proofs.lemmas.Bool.{not-false}
+use Rattle.std.proofs.lemmas.Option.{same_Some}
+use Rattle.cil_optionals.specs.Asks.{Asks, AddsNeed, IsOf, optional_at}
+use Rattle.cil_optionals.proofs.AsksLemmas.{row-one}
+use Rattle.cil_optionals.proofs.ProviderLemmas.{row-of}
+use Rattle.cil_optionals.proofs.OthersLemmas.{of-row, module-low, asks-there, asks-lacking}
+use Rattle.cil_optionals.proofs.others.asked.Goals as goal
+
+pub index-requires : goal.index-requires
+index-requires g c =
+    let r = c.requires.ready in
+    let p = c.args.policy.now in
+    let parsed = c.args.joined.now.modules.items in
+    let row = c.index-row.result.now in
+    let low : row.«module» < length parsed = module-low p parsed r.0 c.args.i row r.1 (row-of p parsed r.0 c.args.i row r.1 c.requires.within c.index-row.ensures) in
+    let size = c.args.joined.now.modules.ok.0 in
+    omega (arith, low, size)
+
+pub references-requires : goal.references-requires
+references-requires g c =
+    let r = c.requires.ready in
+    let p = c.args.policy.now in
+    let parsed = c.args.joined.now.modules.items in
+    let row = c.index-row.result.now in
+    let has = row-of p parsed r.0 c.args.i row r.1 c.requires.within c.index-row.ensures in
+    record { ready = (parsed, r.0, has.s, r.1, has.at, of-row p parsed r.0 c.args.i row c.index.result.now r.1 has c.index.ensures) }
+
+pub are_there-requires : goal.are_there-requires
+are_there-requires g c =
+    let r = c.requires.ready in
+    let p = c.args.policy.now in
+    let parsed = c.args.joined.now.modules.items in
+    let row = c.index-row.result.now in
+    let has = row-of p parsed r.0 c.args.i row r.1 c.requires.within c.index-row.ensures in
+    (parsed, r.0, has.s, r.1, has.at, of-row p parsed r.0 c.args.i row c.index.result.now r.1 has c.index.ensures)
+
+pub returns-in_ok-add_need : goal.returns-in_ok-add_need
+returns-in_ok-add_need g c = λ all s ready permissions at.
+    let p = c.args.policy.now in
+    let parsed = c.args.joined.now.modules.items in
+    let row = c.index-row.result.now in
+    let has = row-of p parsed all c.args.i row ready c.requires.within c.index-row.ensures in
+    let one = same_Some has.s s (sym has.at ∙ at) in
+    let of : IsOf p c.index.result.now.«module».now c.args.i s = subst (IsOf p c.index.result.now.«module».now c.args.i) one (of-row p parsed all c.args.i row c.index.result.now ready has c.index.ensures) in
+    let number = (row-one p c.index.result.now.«module».now c.args.i s row of c.index-row.ensures).1 in
+    asks-lacking all (optional_at p c.args.i) s c.args.needs.now.items c.references.new.needs.items c.add_need.new.needs.items ready.apart
+    (sym (c.are_there.ensures parsed all s ready permissions at of) ∙ c.if-not-are_there.true)
+    (subst (λ o. AddsNeed c.references.new.needs.items c.add_need.new.needs.items o None) (sym number) c.in_ok-add_need.ensures)
+    (c.in_ok-references.ensures parsed all s ready at of)
+
+pub returns-else-not-are_there : goal.returns-else-not-are_there
+returns-else-not-are_there g c = λ all s ready permissions at.
+    let p = c.args.policy.now in
+    let parsed = c.args.joined.now.modules.items in
+    let row = c.index-row.result.now in
+    let has = row-of p parsed all c.args.i row ready c.requires.within c.index-row.ensures in
+    let one = same_Some has.s s (sym has.at ∙ at) in
+    let of : IsOf p c.index.result.now.«module».now c.args.i s = subst (IsOf p c.index.result.now.«module».now c.args.i) one (of-row p parsed all c.args.i row c.index.result.now ready has c.index.ensures) in
+    asks-there all (optional_at p c.args.i) s c.args.needs.now.items c.references.new.needs.items ready.apart
+    (sym (c.are_there.ensures parsed all s ready permissions at of) ∙ c.if-not-are_there.false)
+    (c.in_ok-references.ensures parsed all s ready at of)

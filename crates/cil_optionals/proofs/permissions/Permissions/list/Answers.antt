@@ -1,0 +1,34 @@
+use Rattle.std.proofs.Common.{◌≡◌, ◌||◌, ◌&&◌, ◌==◌, length, bytes_eq, take, sym, ap, ◌∙◌, subst, arith}
+use Rattle.std.proofs.lemmas.List.{take_all}
+use Rattle.cil_specs.specs.Lookup.{has_name, texts}
+use Rattle.cil_bind.proofs.ScopeLemmas.{read-text, read-within}
+use Rattle.cil_parse.specs.Parsed.{texts_of}
+use Rattle.cil_optionals.specs.Given.{lists}
+use Rattle.cil_optionals.proofs.PermissionLemmas.{words-next, word-read, as-many, no_word}
+use Rattle.cil_optionals.proofs.permissions.Permissions.list.Goals as goal
+
+pub text-requires : goal.text-requires
+text-requires g c =
+    let texts = texts_of c.args.«module».now in
+    let found = word-read texts c.args.words.now c.requires.0 c.loop-word.word-index no_word c.requires.1 c.loop-word-test.true in
+    read-within texts _ found.0 found.2
+
+pub loop-word-preserved : goal.loop-word-preserved
+loop-word-preserved g c = record {
+  listed = λ list shown i name.
+      let module_texts = texts_of c.args.«module».now in
+      let k = c.loop-word.word-index in
+      let found = word-read module_texts c.args.words.now list k no_word shown c.loop-word-test.true in
+      let named = read-text module_texts _ found.0 found.2 in
+      words-next list k found.0 c.args.place i name (lists c.args.self.now.listed.keys i name) (lists c.loop-word.self.listed.keys i name) (lists c.insert.new.self.listed.keys i name)
+      found.1 (c.loop-word.invariant.listed list shown i name)
+      (c.in_ok-insert.ensures.listed i name ∙ ap (λ text. lists c.loop-word.self.listed.keys i name || (i == c.args.place && bytes_eq name text)) (c.text.ensures ∙ sym named));
+  given = c.in_ok-insert.ensures.given ∙ c.loop-word.invariant.given;
+}
+
+pub returns-clause-listed : goal.returns-clause-listed
+returns-clause-listed g c = λ list shown i name.
+    let long = as-many (texts_of c.args.«module».now) c.args.words.now list shown in
+    let past = c.loop-word-test.false in
+    c.loop-word.invariant.listed list shown i name
+    ∙ ap (λ l. lists c.args.self.now.listed.keys i name || (i == c.args.place && has_name (texts l) name)) (take_all c.loop-word.word-index list (omega (arith, long, past)))

@@ -1,0 +1,15 @@
+use Rattle.std.proofs.Common.{◌≡◌, ◌||◌, ◌&&◌, ◌==◌, ℕ, List, Some, map, take}
+use Rattle.cil_specs.specs.Names.{Word}
+use Rattle.cil_specs.specs.Lookup.{has_name, texts}
+use Rattle.cil_parse.specs.Builder.{read}
+use Rattle.cil_parse.specs.Parsed.{texts_of}
+use Rattle.cil_optionals.specs.Given.{lists}
+use Rattle.cil_optionals.proofs.permissions.Permissions.list.Given as goal
+
+-- so many words are taken up
+abbrev pub invariant-loop-word : goal.invariant-loop-word
+invariant-loop-word g l = record {
+  listed : (list : List Word) → map (read (texts_of l.«module»)) l.words ≡ map Some list → (i : ℕ) (name : List ℕ)
+      → lists l.self.listed.keys i name ≡ (lists l.fn.self.listed.keys i name || (i == l.place && has_name (texts (take l.word-index list)) name));
+  given : l.self.given.items ≡ l.fn.self.given.items;
+}

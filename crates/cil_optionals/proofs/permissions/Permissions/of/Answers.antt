@@ -1,0 +1,67 @@
+use Rattle.std.proofs.Common.{◌≡◌, ◌≤◌, ◌<◌, length, sym, ◌∙◌, subst, arith}
+use Rattle.cil_bind.proofs.DeclareLemmas.{rows-length}
+use Rattle.cil_optionals.proofs.ProviderLemmas.{row-of}
+use Rattle.cil_optionals.proofs.OthersLemmas.{of-row, module-low}
+use Rattle.cil_optionals.proofs.PermissionLemmas.{upto-none, upto-all}
+use Rattle.cil_optionals.proofs.permissions.Permissions.of.Goals as goal
+
+pub loop-i-init : goal.loop-i-init
+loop-i-init g c = λ all ready.
+    let p = c.args.policy.now in
+    let long = rows-length p.names p.lookup.namespaces p.rows.items all ready.bound.stands.rows_are in
+    let size = c.len.ensures in
+    let made = c.in_ok-no_commons.ensures.len in
+    upto-none all _ c.new.ensures.empty c.in_ok-no_commons.ensures.none (omega (arith, made, size, long))
+
+pub overflow_cast-row : goal.overflow_cast-row
+overflow_cast-row g c =
+    let r = c.requires in
+    let p = c.args.policy.now in
+    let parsed = c.args.joined.now.modules.items in
+    let row = c.index-row.result.now in
+    let count = c.len-i-end.ensures in
+    let here = c.loop-i-test.true in
+    let low : row.«module» < length parsed = module-low p parsed r.0 c.loop-i.i row r.1 (row-of p parsed r.0 c.loop-i.i row r.1 (omega (arith, count, here)) c.index-row.ensures) in
+    let size = c.args.joined.now.modules.ok.0 in
+    omega (arith, low, size)
+
+pub index-requires : goal.index-requires
+index-requires g c =
+    let r = c.requires in
+    let p = c.args.policy.now in
+    let parsed = c.args.joined.now.modules.items in
+    let row = c.index-row.result.now in
+    let count = c.len-i-end.ensures in
+    let here = c.loop-i-test.true in
+    let low : row.«module» < length parsed = module-low p parsed r.0 c.loop-i.i row r.1 (row-of p parsed r.0 c.loop-i.i row r.1 (omega (arith, count, here)) c.index-row.ensures) in
+    let size = c.args.joined.now.modules.ok.0 in
+    omega (arith, low, size)
+
+pub add-requires : goal.add-requires
+add-requires g c =
+    let r = c.requires in
+    let p = c.args.policy.now in
+    let parsed = c.args.joined.now.modules.items in
+    let row = c.index-row.result.now in
+    let count = c.len-i-end.ensures in
+    let here = c.loop-i-test.true in
+    let has = row-of p parsed r.0 c.loop-i.i row r.1 (omega (arith, count, here)) c.index-row.ensures in
+    (parsed, r.0, has.s, r.1, has.at, of-row p parsed r.0 c.loop-i.i row c.index.result.now r.1 has c.index.ensures, c.loop-i.invariant r.0 r.1)
+
+pub loop-i-preserved : goal.loop-i-preserved
+loop-i-preserved g c = λ all ready.
+    let p = c.args.policy.now in
+    let parsed = c.args.joined.now.modules.items in
+    let row = c.index-row.result.now in
+    let count = c.len-i-end.ensures in
+    let here = c.loop-i-test.true in
+    let has = row-of p parsed all c.loop-i.i row ready (omega (arith, count, here)) c.index-row.ensures in
+    c.in_ok-add.ensures parsed all has.s ready has.at (of-row p parsed all c.loop-i.i row c.index.result.now ready has c.index.ensures) (c.loop-i.invariant all ready)
+
+pub returns : goal.returns
+returns g c = λ all ready.
+    let p = c.args.policy.now in
+    let long = rows-length p.names p.lookup.namespaces p.rows.items all ready.bound.stands.rows_are in
+    let count = c.len-i-end.ensures in
+    let past : length all ≤ c.loop-i.i = omega (arith, count, long) in
+    upto-all all c.loop-i.i c.loop-i.permissions past (c.loop-i.invariant all ready)

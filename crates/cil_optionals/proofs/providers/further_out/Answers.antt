@@ -1,0 +1,12 @@
+use Rattle.std.proofs.Common.{sym, ap, ◌∙◌, subst, Some, None, IfNone}
+use Rattle.cil_bind.specs.Lookup.{named, word_at, namespace_at, table_of, IsLead}
+use Rattle.cil_bind.proofs.LookupLemmas.{no-lead, around}
+use Rattle.cil_optionals.specs.Providers.{further_out}
+use Rattle.cil_optionals.proofs.providers.further_out.Goals as goal
+
+pub returns : goal.returns
+returns g c = λ names policy knows low.
+    let spaces = c.args.lookup.now.namespaces in
+    let some = c.in_ok-outer.ensures.some in
+    subst (λ n. IsLead (table_of c.args.table) policy c.outward.result (further_out policy (table_of c.args.table) n (word_at names c.args.word)))
+    (sym (around names spaces c.args.namespace c.in_ok-outer.outer some.0 some.1)) (c.outward.ensures names policy knows low)

@@ -1,0 +1,57 @@
+use Rattle.std.proofs.Common.{◌≡◌, ◌<◌, ◌+◌, length, refl, sym, ap, ◌∙◌, subst, arith}
+use Rattle.std.proofs.lemmas.Option.{same_Some}
+use Rattle.cil_bind.proofs.DeclareLemmas.{rows-length}
+use Rattle.cil_optionals.specs.Providers.{alternatives, IsDeclaration, AreProviders}
+use Rattle.cil_optionals.proofs.ProviderLemmas.{providers-skip, providers-next, row-nothing, row-scopes, row-of, row-next}
+use Rattle.cil_optionals.proofs.providers.provide.Goals as goal
+
+pub returns-in_default : goal.returns-in_default
+returns-in_default g c = λ parsed all ready are.
+    let p = c.args.policy.now in
+    let has = row-of p parsed all c.args.i c.index-row.result.now ready c.requires.within c.index-row.ensures in
+    providers-skip all p.rows.items c.args.i c.args.needs.now.items
+    (λ row s at here declared. absurd (row-nothing p.names c.index-row.result.now.declares has.s c.in_default.is has.is.declares
+    (subst IsDeclaration (same_Some s has.s (sym here ∙ has.at)) declared))) are
+
+pub returns-then-row-eq0 : goal.returns-then-row-eq0
+returns-then-row-eq0 g c = λ parsed all ready are.
+    let p = c.args.policy.now in
+    let has = row-of p parsed all c.args.i c.index-row.result.now ready c.requires.within c.index-row.ensures in
+    providers-skip all p.rows.items c.args.i c.args.needs.now.items
+    (λ row s at here declared. ap (λ r. r.optional) (same_Some row c.index-row.result.now (sym at ∙ has.row_at)) ∙ c.if-row-eq0.true) are
+
+pub returns-then-is_scopes : goal.returns-then-is_scopes
+returns-then-is_scopes g c = λ parsed all ready are.
+    let p = c.args.policy.now in
+    let has = row-of p parsed all c.args.i c.index-row.result.now ready c.requires.within c.index-row.ensures in
+    providers-skip all p.rows.items c.args.i c.args.needs.now.items
+    (λ row s at here declared. absurd (row-scopes p.names c.in-Some.table c.in-Some.word c.index-row.result.now.declares has.s c.in-Some.is (c.is_scopes.ensures.yes c.if-is_scopes.true) has.is.declares
+    (subst IsDeclaration (same_Some s has.s (sym here ∙ has.at)) declared))) are
+
+pub further_out-next-requires : goal.further_out-next-requires
+further_out-next-requires g c =
+    let p = c.args.policy.now in
+    let ready = c.requires.ready.2 in
+    (row-of p c.requires.ready.0 c.requires.ready.1 c.args.i c.index-row.result.now ready c.requires.within c.index-row.ensures).is.within
+
+pub alternatives-requires : goal.alternatives-requires
+alternatives-requires g c =
+    let few = c.requires.ready.2.few in
+    let size = c.args.policy.now.rows.ok.0 in
+    let long = c.len.ensures in
+    omega (arith, few, size, long)
+
+pub returns : goal.returns
+returns g c = λ parsed all ready are.
+    let p = c.args.policy.now in
+    let row = c.index-row.result.now in
+    let has = row-of p parsed all c.args.i row ready c.requires.within c.index-row.ensures in
+    let long = rows-length p.names p.lookup.namespaces p.rows.items all ready.bound.stands.rows_are in
+    let size = p.rows.ok.0 in
+    let count = c.len-2.ensures in
+    subst (AreProviders all p.rows.items (c.args.i + 1)) (sym c.in_ok-push.ensures.items)
+    (providers-next all p.rows.items c.args.i row has.s c.further_out-next.result _ c.args.needs.now.items ready.apart ready.bound.once ready.nested has.row_at has.at
+    (row-next p all c.args.i row c.in-Some.table c.in-Some.word c.further_out-next.result has c.in-Some.is (c.is_scopes.ensures.no c.if-is_scopes.false) (c.further_out-next.ensures p.names all ready.bound.knows))
+    (omega (arith, size, count, long))
+    (c.in_ok-from.ensures ∙ ap (λ n. alternatives n row.optional c.further_out-next.result) (let first = c.len.ensures in omega (arith, first, size, long)))
+    are)

@@ -1,0 +1,9 @@
+use Rattle.std.proofs.Common.{ℕ, List}
+use Rattle.cil_specs.specs.Joined.{Placed}
+use Rattle.cil_bind.specs.declared.joined.NamedModule.{NamedModule}
+use Rattle.cil_optionals.specs.Providers.{IsReady, AreProviders}
+use Rattle.cil_optionals.proofs.providers.providers.Given as goal
+
+-- the names of so many rows
+abbrev pub invariant-loop-i : goal.invariant-loop-i
+invariant-loop-i g l = (parsed : List (NamedModule _)) (all : List Placed) → IsReady l.policy parsed all → AreProviders all l.policy.rows.items l.i l.needs.items

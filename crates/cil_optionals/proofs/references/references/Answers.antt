@@ -1,0 +1,75 @@
+use Rattle.std.proofs.Common.{◌≡◌, ◌≤◌, ◌<◌, ◌+◌, [], not, ◌&&◌, None, IfSome, length, get_or, take, refl, sym, ap, ◌∙◌, subst, arith}
+use Rattle.cil_specs.specs.Kept.{restricted}
+use Rattle.cil_specs.specs.Lookup.{references, leads}
+use Rattle.cil_specs.specs.PolicyFault.{is_unfound}
+use Rattle.cil_bind.proofs.DeclareLemmas.{rows-length}
+use Rattle.cil_parse.specs.Parsed.{texts_of}
+use Rattle.cil_bind.specs.Lookup.{table_of}
+use Rattle.cil_optionals.specs.Asks.{are_found, optional_at, AddsNeed, Asks}
+use Rattle.cil_optionals.proofs.AsksLemmas.{asks-none, asks-same, asks-need, bound-at, row-one, seen-of, reference-of, reference-there, reference-met, found-next, found-all}
+use Rattle.cil_optionals.proofs.references.references.Goals as goal
+
+pub get-bound-requires : goal.get-bound-requires
+get-bound-requires g c =
+    let r = c.requires.ready in
+    (bound-at r.1 r.1 c.args.policy.now.bound.0 c.args.i r.2 r.3.bound.bound r.4).0
+
+pub loop-k-preserved-in_default : goal.loop-k-preserved-in_default
+loop-k-preserved-in_default g c = λ parsed all s ready at of.
+    let p = c.args.policy.now in
+    let m = c.args.«module».now in
+    let seen = seen-of p parsed m all c.args.i s c.index-row.result.now c.statement-view.result c.get-bound.result.now ready at of c.index-row.ensures c.statement-view.ensures c.get-bound.ensures in
+    absurd (reference-there p m all c.args.i s c.statement-view.result c.get-bound.result.now c.loop-k.k seen (c.in_default.ensures.none (texts_of m) seen.f seen.shown) c.loop-k-test.true)
+
+pub is_plain-plain-requires : goal.is_plain-plain-requires
+is_plain-plain-requires g c =
+    let p = c.args.policy.now in
+    let m = c.args.«module».now in
+    let r = c.requires.ready in
+    let seen = seen-of p r.0 m r.1 c.args.i r.2 c.index-row.result.now c.statement-view.result c.get-bound.result.now r.3 r.4 r.5 c.index-row.ensures c.statement-view.ensures c.get-bound.ensures in
+    (reference-of p m r.1 c.args.i r.2 c.statement-view.result c.get-bound.result.now c.loop-k.k c.in-Some._table c.in-Some.word (get_or c.get-bound.result.now c.loop-k.k None) seen
+    (c.in-Some.ensures.some (texts_of m) seen.f seen.shown) refl).low
+
+pub meeting-node-requires : goal.meeting-node-requires
+meeting-node-requires g c =
+    let p = c.args.policy.now in
+    let m = c.args.«module».now in
+    let r = c.requires.ready in
+    let seen = seen-of p r.0 m r.1 c.args.i r.2 c.index-row.result.now c.statement-view.result c.get-bound.result.now r.3 r.4 r.5 c.index-row.ensures c.statement-view.ensures c.get-bound.ensures in
+    let is = reference-of p m r.1 c.args.i r.2 c.statement-view.result c.get-bound.result.now c.loop-k.k c.in-Some._table c.in-Some.word (get_or c.get-bound.result.now c.loop-k.k None) seen
+    (c.in-Some.ensures.some (texts_of m) seen.f seen.shown) refl in
+    (r.0, r.1, table_of c.in-Some._table, leads r.1 (table_of c.in-Some._table) r.2.namespace is.word.text, r.3, is.lead)
+
+pub loop-k-preserved : goal.loop-k-preserved
+loop-k-preserved g c = λ parsed all s ready at of.
+    let p = c.args.policy.now in
+    let m = c.args.«module».now in
+    let found = get_or c.get-bound.result.now c.loop-k.k None in
+    let seen = seen-of p parsed m all c.args.i s c.index-row.result.now c.statement-view.result c.get-bound.result.now ready at of c.index-row.ensures c.statement-view.ensures c.get-bound.ensures in
+    let is = reference-of p m all c.args.i s c.statement-view.result c.get-bound.result.now c.loop-k.k c.in-Some._table c.in-Some.word found seen (c.in-Some.ensures.some (texts_of m) seen.f seen.shown) refl in
+    let table = table_of c.in-Some._table in
+    let long = rows-length p.names p.lookup.namespaces p.rows.items all ready.bound.stands.rows_are in
+    let one = (row-one p m c.args.i s c.index-row.result.now of c.index-row.ensures).1 in
+    asks-same all (optional_at p c.args.i) (λ set. are_found (restricted set all) s.namespace (take c.loop-k.k (references s.form)) && not (is_unfound (restricted set all) s.namespace (table, is.word)))
+    (λ set. are_found (restricted set all) s.namespace (take (c.loop-k.k + 1) (references s.form))) c.args.needs.now.items c.add_need.new.needs.items
+    (λ set. found-next (restricted set all) s.namespace (references s.form) c.loop-k.k (table, is.word) is.there)
+    (asks-need all (optional_at p c.args.i) (λ set. are_found (restricted set all) s.namespace (take c.loop-k.k (references s.form))) (λ set. not (is_unfound (restricted set all) s.namespace (table, is.word)))
+    c.meeting-node.result c.args.needs.now.items c.loop-k.needs.items c.add_need.new.needs.items
+    (subst (λ n. IfSome c.meeting-node.result (λ k. k < n + n + 1)) long c.meeting-node.ensures.below)
+    (reference-met p parsed all s c.loop-k.k table is.word (get_or (texts_of m) c.in-Some.word.text []) found c.is_plain-plain.result c.meeting-node.result ready is.there is.text c.is_plain-plain.ensures
+    (c.meeting-node.ensures.meets parsed all table (leads all table s.namespace is.word.text) ready is.lead))
+    (subst (λ o. AddsNeed c.loop-k.needs.items c.add_need.new.needs.items o c.meeting-node.result) (sym one) c.in_ok-add_need.ensures)
+    (c.loop-k.invariant parsed all s ready at of))
+
+pub loop-k-init : goal.loop-k-init
+loop-k-init g c = λ parsed all s ready at of. asks-none all (optional_at c.args.policy.now c.args.i) c.args.needs.now.items
+
+pub returns : goal.returns
+returns g c = λ parsed all s ready at of.
+    let p = c.args.policy.now in
+    let m = c.args.«module».now in
+    let seen = seen-of p parsed m all c.args.i s c.index-row.result.now c.statement-view.result c.get-bound.result.now ready at of c.index-row.ensures c.statement-view.ensures c.get-bound.ensures in
+    let past : length c.get-bound.result.now ≤ c.loop-k.k = omega arith in
+    let end = found-all p m all c.args.i s c.statement-view.result c.get-bound.result.now c.loop-k.k seen past in
+    asks-same all (optional_at p c.args.i) (λ set. are_found (restricted set all) s.namespace (take c.loop-k.k (references s.form))) (λ set. are_found (restricted set all) s.namespace (references s.form))
+    c.args.needs.now.items c.loop-k.needs.items (λ set. ap (are_found (restricted set all) s.namespace) end) (c.loop-k.invariant parsed all s ready at of)

@@ -1,0 +1,13 @@
+use Rattle.std.proofs.Common.{◌≡◌, ℕ, List, Some, slice_get, take}
+use Rattle.cil_specs.specs.Joined.{Placed}
+use Rattle.cil_specs.specs.Kept.{Optionals, restricted}
+use Rattle.cil_specs.specs.Lookup.{references}
+use Rattle.cil_bind.specs.declared.joined.NamedModule.{NamedModule}
+use Rattle.cil_optionals.specs.Providers.{IsReady}
+use Rattle.cil_optionals.specs.Asks.{are_found, optional_at, Asks, IsOf}
+use Rattle.cil_optionals.proofs.references.references.Given as goal
+
+-- so many references
+abbrev pub invariant-loop-k : goal.invariant-loop-k
+invariant-loop-k g l = (parsed : List (NamedModule _)) (all : List Placed) (s : Placed) → IsReady l.policy parsed all → slice_get all l.i ≡ Some s → IsOf l.policy l.«module» l.i s
+    → Asks all (optional_at l.policy l.i) (λ set. are_found (restricted set all) s.namespace (take l.k (references s.form))) l.fn.needs.items l.needs.items

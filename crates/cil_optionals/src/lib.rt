@@ -1,0 +1,11 @@
+//! The optionals that a policy keeps, whose references are bound.
+#![tactic(auto)]
+
+mod greatest;
+mod kept;
+mod others;
+mod permissions;
+mod providers;
+mod references;
+
+pub use kept::kept_optionals;

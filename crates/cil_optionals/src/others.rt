@@ -1,0 +1,100 @@
+//! What the statements in optionals need, and the optionals inside others.
+
+ghost use Rattle.std.specs.Prelude.{◌≡◌, ◌≢◌, ◌<◌, ◌+◌, ◌&&◌, ℕ, List, Some, length, slice_get, IfOk, OnOk};
+ghost use Rattle.cil_specs.specs.Joined.{Placed};
+ghost use Rattle.cil_specs.specs.Kept.{restricted};
+ghost use Rattle.cil_specs.specs.Lookup.{references as references_of, named_permissions};
+ghost use Rattle.cil_bind.specs.declared.joined.NamedModule.{NamedModule};
+ghost use Rattle.cil_optionals.specs.Asks.{are_found, are_there, optional_at, Asks};
+ghost use Rattle.cil_optionals.specs.Given.{permissions_in};
+ghost use Rattle.cil_optionals.specs.Others.{AreOthers, AreOthersTo};
+ghost use Rattle.cil_optionals.specs.Permissions.{HavePermissions};
+ghost use Rattle.cil_optionals.specs.Providers.{IsReady};
+
+use crate::greatest::Need;
+use crate::permissions::Permissions;
+use crate::references::{add_need, references};
+use cil_bind::{Joined, Policy};
+use std::alloc::{AllocError, Allocator};
+
+/// Puts what an optional inside another needs behind others: that.
+fn around<A: Allocator + Copy>(
+    alloc: A,
+    policy: &Policy<'_, A>,
+    i: usize,
+    needs: &mut Vec<Need<A>, A>,
+) -> Result<(), AllocError>
+    requires ready { (parsed : List (NamedModule _)) × (all : List Placed) × IsReady policy.now parsed all }
+    requires within { i < length policy.now.rows.items }
+    ensures { OnOk result ((parsed : List (NamedModule _)) (all : List Placed) → IsReady policy.now parsed all → AreOthersTo all policy.now.rows.items i i needs.old.items → AreOthersTo all policy.now.rows.items i (i + 1) needs.new.items) }
+{
+    let row = policy.rows[i];
+    if row.is_optional {
+        add_need(alloc, i + 1, Some(row.optional as usize), needs)?;
+    }
+    Ok(())
+}
+
+/// Puts what the names of the statement at a place need behind others, and what nothing meets where its class lacks a permission.
+fn asked<'m, A: Allocator + Copy>(
+    alloc: A,
+    joined: &Joined<'m, A>,
+    policy: &Policy<'m, A>,
+    permissions: &Permissions<'m, A>,
+    i: usize,
+    needs: &mut Vec<Need<A>, A>,
+) -> Result<(), AllocError>
+    requires ready { (all : List Placed) × IsReady policy.now joined.now.modules.items all }
+    requires within { i < length policy.now.rows.items }
+    ensures { OnOk result ((all : List Placed) (s : Placed) → IsReady policy.now joined.now.modules.items all → HavePermissions all (permissions_in permissions.now) → slice_get all i ≡ Some s
+        → Asks all (optional_at policy.now i) (λ set. are_found (restricted set all) s.namespace (references_of s.form) && are_there (restricted set all) s.namespace (named_permissions s.form)) needs.old.items needs.new.items) }
+{
+    let row = policy.rows[i];
+    let module = joined.modules[row.module as usize].module;
+    references(alloc, policy, module, i, needs)?;
+    if !permissions.are_there(policy, module, i) {
+        add_need(alloc, row.optional as usize, None, needs)?;
+    }
+    Ok(())
+}
+
+/// Puts what the statement at a place needs behind others.
+fn need_at<'m, A: Allocator + Copy>(
+    alloc: A,
+    joined: &Joined<'m, A>,
+    policy: &Policy<'m, A>,
+    permissions: &Permissions<'m, A>,
+    i: usize,
+    needs: &mut Vec<Need<A>, A>,
+) -> Result<(), AllocError>
+    requires ready { (all : List Placed) × IsReady policy.now joined.now.modules.items all }
+    requires within { i < length policy.now.rows.items }
+    ensures { OnOk result ((all : List Placed) → IsReady policy.now joined.now.modules.items all → HavePermissions all (permissions_in permissions.now)
+        → AreOthersTo all policy.now.rows.items i i needs.old.items → AreOthersTo all policy.now.rows.items (i + 1) (i + 1) needs.new.items) }
+{
+    let row = policy.rows[i];
+    if row.optional == 0 {
+        return Ok(());
+    }
+    around(alloc, policy, i, needs)?;
+    asked(alloc, joined, policy, permissions, i, needs)?;
+    Ok(())
+}
+
+/// What the statements in optionals need, and the optionals inside others.
+pub fn others<'m, A: Allocator + Copy>(
+    alloc: A,
+    joined: &Joined<'m, A>,
+    policy: &Policy<'m, A>,
+    permissions: &Permissions<'m, A>,
+) -> Result<Vec<Need<A>, A>, AllocError>
+    requires ready { (all : List Placed) × IsReady policy.now joined.now.modules.items all }
+    ensures { IfOk result (λ needs. (all : List Placed) → IsReady policy.now joined.now.modules.items all → HavePermissions all (permissions_in permissions.now)
+        → AreOthers all policy.now.rows.items needs.items) }
+{
+    let mut needs = Vec::new(alloc);
+    for i in 0..policy.rows.len() {
+        need_at(alloc, joined, policy, permissions, i, &mut needs)?;
+    }
+    Ok(needs)
+}

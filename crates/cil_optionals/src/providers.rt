@@ -1,0 +1,102 @@
+//! What the nodes of names need.
+
+ghost use Rattle.std.specs.Prelude.{◌≡◌, ◌<◌, ◌+◌, ◌^◌, ℕ, List, false, length, IfOk, OnOk, IsTrue};
+ghost use Rattle.cil_parse.specs.declared.table.Table.TheVariants.{Scopes};
+ghost use Rattle.cil_specs.specs.Joined.{Placed};
+ghost use Rattle.cil_bind.specs.Lookup.{word_at, namespace_at, table_of, Knows, IsLead};
+ghost use Rattle.cil_bind.specs.declared.joined.NamedModule.{NamedModule};
+ghost use Rattle.cil_optionals.specs.Providers.{alternatives as alternative_nodes, further_out as looked_further, IsReady, AreProviders};
+
+use crate::greatest::Need;
+use cil_bind::{Lookup, Policy};
+use cil_parse::Table;
+use std::alloc::{AllocError, Allocator};
+
+/// A first node, and that of the declaration at a place, if there is one.
+fn alternatives<A: Allocator + Copy>(
+    alloc: A,
+    count: usize,
+    first: u32,
+    next: Option<u32>,
+) -> Result<Vec<usize, A>, AllocError>
+    requires { count < 2 ^ 32 }
+    ensures { IfOk result (λ from. from.items ≡ alternative_nodes count first next) }
+{
+    let mut from = Vec::with_capacity(alloc, 2)?;
+    from.push(first as usize)?;
+    if let Some(place) = next {
+        from.push(count + 1 + place as usize)?;
+    }
+    Ok(from)
+}
+
+/// Where a plain name leads from the namespace around one.
+fn further_out<A: Allocator>(
+    lookup: &Lookup<A>,
+    table: Table,
+    namespace: u32,
+    word: u32,
+) -> Option<u32>
+    requires { namespace < length lookup.now.namespaces }
+    ensures { (names : List (List ℕ)) (policy : List Placed) → Knows lookup.now.namespaces lookup.now.declared.entries names policy → word < length names
+        → IsLead (table_of table) policy result (looked_further policy (table_of table) (namespace_at names lookup.now.namespaces namespace) (word_at names word)) }
+{
+    let outer = lookup.namespaces.outer(namespace)?;
+    lookup.outward(table, outer, word)
+}
+
+/// Whether a table is that of blocks and optionals.
+fn is_scopes(table: Table) -> bool
+    ensures yes { IsTrue result → table ≡ Scopes }
+    ensures no { result ≡ false → table ≡ Scopes → ⊥ }
+{
+    matches!(table, Table::Scopes)
+}
+
+/// Puts what the name that a statement declares needs behind others: the optional around the statement, or what the name leads to further
+/// out. Outside optionals it needs nothing.
+fn provide<A: Allocator + Copy>(
+    alloc: A,
+    policy: &Policy<'_, A>,
+    i: usize,
+    needs: &mut Vec<Need<A>, A>,
+) -> Result<(), AllocError>
+    requires ready { (parsed : List (NamedModule _)) × (all : List Placed) × IsReady policy.now parsed all }
+    requires within { i < length policy.now.rows.items }
+    ensures { OnOk result ((parsed : List (NamedModule _)) (all : List Placed) → IsReady policy.now parsed all → AreProviders all policy.now.rows.items i needs.old.items
+        → AreProviders all policy.now.rows.items (i + 1) needs.new.items) }
+{
+    let row = policy.rows[i];
+    let Some((table, word)) = row.declares else {
+        return Ok(());
+    };
+    if row.optional == 0 {
+        return Ok(());
+    }
+    if is_scopes(table) {
+        return Ok(());
+    }
+    let next = further_out(&policy.lookup, table, row.namespace, word);
+    let from = alternatives(alloc, policy.rows.len(), row.optional, next)?;
+    needs.push(Need {
+        optional: policy.rows.len() + 1 + i,
+        from,
+    })?;
+    Ok(())
+}
+
+/// What the names that statements in optionals declare need.
+pub fn providers<A: Allocator + Copy>(
+    alloc: A,
+    policy: &Policy<'_, A>,
+) -> Result<Vec<Need<A>, A>, AllocError>
+    requires ready { (parsed : List (NamedModule _)) × (all : List Placed) × IsReady policy.now parsed all }
+    ensures { IfOk result (λ needs. (parsed : List (NamedModule _)) (all : List Placed) → IsReady policy.now parsed all
+        → AreProviders all policy.now.rows.items (length all) needs.items) }
+{
+    let mut needs = Vec::new(alloc);
+    for i in 0..policy.rows.len() {
+        provide(alloc, policy, i, &mut needs)?;
+    }
+    Ok(needs)
+}

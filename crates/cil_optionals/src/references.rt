@@ -1,0 +1,108 @@
+//! What the references of statements in optionals need.
+
+ghost use Rattle.std.specs.Prelude.{◌≡◌, ◌<◌, ◌+◌, ℕ, List, Bool, Some, [], length, slice_get, slice_index_or, IfOk, IfSome, OnOk, Option, if◌then◌else◌};
+ghost use Rattle.std.specs.Option.{option_to_list};
+ghost use Rattle.cil_specs.specs.Joined.{Placed};
+ghost use Rattle.cil_specs.specs.Kept.{Optionals, is_within, restricted};
+ghost use Rattle.cil_specs.specs.Lookup.{Table as TableOf, holds_of, references as references_of, is_global as is_global_text};
+ghost use Rattle.cil_bind.specs.Lookup.{IsLead};
+ghost use Rattle.cil_bind.specs.declared.joined.NamedModule.{NamedModule};
+ghost use Rattle.cil_parse.specs.Parsed.{texts_of};
+ghost use Rattle.cil_optionals.specs.Asks.{has_node, are_found, optional_at, AddsNeed, Asks, IsOf};
+ghost use Rattle.cil_optionals.specs.Nodes.{is_provided, is_plain as is_plain_text, is_single as are_single, AreNodesOf};
+ghost use Rattle.cil_optionals.specs.Providers.{IsReady};
+
+use crate::greatest::Need;
+use cil_bind::Policy;
+use cil_parse::ParsedModule;
+use std::alloc::{AllocError, Allocator};
+
+/// Whether a text is a plain name, which is looked up outward.
+fn is_plain<A: Allocator>(module: &ParsedModule<A>, text: u32) -> bool
+    requires { text < length (texts_of «module».now) }
+    ensures { result ≡ is_plain_text (slice_index_or (texts_of «module».now) text []) }
+{
+    if is_global(module.text(text as usize)) {
+        return false;
+    }
+    module.components(text as usize).len() == 1
+}
+
+/// Whether a reference has a leading dot.
+fn is_global(text: &[u8]) -> bool
+    ensures { result ≡ is_global_text text.now }
+{
+    match text {
+        [b, ..] => *b == b'.',
+        [] => false,
+    }
+}
+
+/// The node that meets a reference by what it leads to: for a plain name that of the name, and else that of the optional around the
+/// declaration. None meets one that leads nowhere.
+fn meeting<A: Allocator>(policy: &Policy<'_, A>, plain: bool, found: Option<u32>) -> Option<usize>
+    requires { (parsed : List (NamedModule _)) × (all : List Placed) × (table : TableOf) × (lead : Option Placed) × IsReady policy.now parsed all × IsLead table all found lead }
+    ensures below { IfSome result (λ n. n < length policy.now.rows.items + length policy.now.rows.items + 1) }
+    ensures meets { (parsed : List (NamedModule _)) (all : List Placed) (table : TableOf) (lead : Option Placed) → IsReady policy.now parsed all → IsLead table all found lead
+        → (set : Optionals) (has : ℕ → Bool) → AreNodesOf all set has
+        → holds_of (λ s. if plain then is_provided (restricted set all) s else is_within set s) lead ≡ has_node has result }
+{
+    let Some(place) = found else {
+        return None;
+    };
+    if plain {
+        return Some(policy.rows.len() + 1 + place as usize);
+    }
+    Some(policy.rows[place as usize].optional as usize)
+}
+
+/// A node, if there is one, as a list.
+fn nodes<A: Allocator + Copy>(alloc: A, node: Option<usize>) -> Result<Vec<usize, A>, AllocError>
+    ensures { IfOk result (λ nodes. nodes.items ≡ option_to_list node) }
+{
+    let mut nodes = Vec::with_capacity(alloc, 1)?;
+    if let Some(node) = node {
+        nodes.push(node)?;
+    }
+    Ok(nodes)
+}
+
+/// Puts a need of an optional behind others: of one node, or what nothing meets.
+pub fn add_need<A: Allocator + Copy>(
+    alloc: A,
+    optional: usize,
+    node: Option<usize>,
+    needs: &mut Vec<Need<A>, A>,
+) -> Result<(), AllocError>
+    ensures { OnOk result (AddsNeed needs.old.items needs.new.items optional node) }
+{
+    let from = nodes(alloc, node)?;
+    needs.push(Need { optional, from })?;
+    Ok(())
+}
+
+/// Puts what the references of the statement at a place need behind others.
+pub fn references<A: Allocator + Copy>(
+    alloc: A,
+    policy: &Policy<'_, A>,
+    module: &ParsedModule<A>,
+    i: usize,
+    needs: &mut Vec<Need<A>, A>,
+) -> Result<(), AllocError>
+    requires ready { (parsed : List (NamedModule _)) × (all : List Placed) × (s : Placed) × IsReady policy.now parsed all × slice_get all i ≡ Some s × IsOf policy.now «module».now i s }
+    ensures { OnOk result ((parsed : List (NamedModule _)) (all : List Placed) (s : Placed) → IsReady policy.now parsed all → slice_get all i ≡ Some s → IsOf policy.now «module».now i s
+        → Asks all (optional_at policy.now i) (λ set. are_found (restricted set all) s.namespace (references_of s.form)) needs.old.items needs.new.items) }
+{
+    let row = policy.rows[i];
+    let view = module.statement(row.index as usize);
+    let bound = policy.bound.get(i);
+    for k in 0..bound.len() {
+        let Some((_table, word)) = view.reference(k) else {
+            continue;
+        };
+        let plain = is_plain(module, word.text);
+        let node = meeting(policy, plain, bound[k]);
+        add_need(alloc, row.optional as usize, node, needs)?;
+    }
+    Ok(())
+}
