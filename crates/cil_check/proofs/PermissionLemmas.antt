@@ -1,0 +1,199 @@
+-- Permissions by numbers.
+use Rattle.std.proofs.Common.{◌≡◌, ℕ, zero, suc, ◌+◌, ◌<◌, ◌==◌, ◌&&◌, ◌||◌, nat_eq, nat_lt, ◌≤◌, inl, inr, Bool, true, false, List, [], ◌∷◌, ◌++◌, map, length, take, get_or, slice_get, Some, bytes_eq, refl, sym, ap, ◌∙◌, subst, true≢false, add-one, arith, cond, if◌then◌else◌}
+use Rattle.std.specs.List.{list_any, AllByRecursion, IsDistinct}
+use Rattle.std.proofs.lemmas.Option.{none-some, same_Some, get_or_from_slice_get, slice_get_within}
+use Rattle.std.proofs.lemmas.Bool.{eqb-true, eq-eqb, cases_order, lt-ltb, le-ltb}
+use Rattle.std.proofs.lemmas.List.Folds.{list_any-append}
+use Rattle.std.proofs.lemmas.List.{length-map}
+use Rattle.std.proofs.Math.Bool.{or-false}
+use Rattle.std.proofs.lemmas.Slice.Eq.{bytes_eq-Decides}
+use Rattle.indexmap.specs.IndexSet.{insert_key}
+use Rattle.cil_specs.specs.Names.{Word}
+use Rattle.cil_specs.specs.Statements.{Form, block, optional, type_name, type_alias, alias_actual, type_attribute, attribute_set, common, class, class_common, class_order, rule, itself, the_named}
+use Rattle.cil_specs.specs.Joined.{Placed}
+use Rattle.cil_parse.specs.Forms.{kind_of, permissions_in}
+use Rattle.cil_specs.specs.Lookup.{has_name, texts, own_permissions}
+use Rattle.cil_parse.specs.Builder.{read}
+use Rattle.cil_parse.specs.declared.row.NumberedWord.{NumberedWord}
+use Rattle.cil_bind.specs.Lookup.{word_at}
+use Rattle.cil_bind.proofs.NamespaceLemmas.{distinct-place}
+use Rattle.cil_check.specs.Permissions.{is_listed, HaveListed, lists_own}
+use Rattle.cil_check.specs.Bound.{IsOneName}
+use Rattle.cil_check.specs.declared.permissions.Listed.{Listed}
+use Rattle.cil_check.specs.contracts.permissions.ListedPartialEq.TheImpl as listed_eq
+use Rattle.cil_check.proofs.FirstsLemmas.{same_bytes}
+use Rattle.cil_check.proofs.PositionLemmas.{take-next}
+
+pub derived-listed : (l : Listed) → (listed_eq.eq-value).it l ≡ is_listed l.owner l.word
+derived-listed l = λ i other. nat_eq l.owner other.owner && nat_eq l.word other.word
+
+and-both : (a b c d : ℕ) → a ≡ c → b ≡ d → (k n : ℕ) → (k == a && n == b) ≡ (k == c && n == d)
+and-both a b c d e f k n = ap (λ x. k == x && n == b) e ∙ ap (λ x. k == c && n == x) f
+
+or-same : (a b : Bool) → (b ≡ true → a ≡ true) → a ≡ (a || b)
+or-same true b h = refl
+or-same false true h = h refl
+or-same false false h = refl
+
+-- one permission more
+pub listed-insert : (keys : List Listed) (l : Listed) (k n : ℕ) → list_any (is_listed k n) (insert_key (listed_eq.eq-value).it keys l) ≡ (list_any (is_listed k n) keys || (k == l.owner && n == l.word))
+listed-insert keys l k n = by (list_any ((listed_eq.eq-value).it l) keys) refl
+  where
+    there : list_any ((listed_eq.eq-value).it l) keys ≡ true → (k == l.owner && n == l.word) ≡ true → list_any (is_listed k n) keys ≡ true
+    there has is =
+        let owner : k ≡ l.owner = eqb-true k l.owner (first (k == l.owner) (n == l.word) is) in
+        let word : n ≡ l.word = eqb-true n l.word (second (k == l.owner) (n == l.word) is) in
+        ap (λ x. list_any (is_listed x n) keys) owner ∙ ap (λ x. list_any (is_listed l.owner x) keys) word ∙ ap (λ test. list_any test keys) (sym (derived-listed l)) ∙ has
+      where
+        first : (a b : Bool) → (a && b) ≡ true → a ≡ true
+        first true b e = refl
+        first false b e = e
+
+        second : (a b : Bool) → (a && b) ≡ true → b ≡ true
+        second true b e = e
+        second false b e = absurd (true≢false (sym e))
+
+    by : (b : Bool) → list_any ((listed_eq.eq-value).it l) keys ≡ b → list_any (is_listed k n) (if b then keys else keys ++ l ∷ []) ≡ (list_any (is_listed k n) keys || (k == l.owner && n == l.word))
+    by true has = or-same (list_any (is_listed k n) keys) (k == l.owner && n == l.word) (there has)
+    by false has = list_any-append (is_listed k n) keys (l ∷ []) ∙ ap (λ b. list_any (is_listed k n) keys || b) (or-false (is_listed k n l))
+
+-- a number is that of a name
+pub number-same : (names : List (List ℕ)) (n m : ℕ) (text : List ℕ) → IsDistinct bytes_eq names → n < length names → slice_get names m ≡ Some text → (n == m) ≡ bytes_eq (word_at names n) text
+number-same names n m text distinct less at = by (n == m) (bytes_eq (word_at names n) text) refl refl
+  where
+    here : get_or names m [] ≡ text
+    here = get_or_from_slice_get names m text [] at
+
+    by : (b c : Bool) → (n == m) ≡ b → bytes_eq (word_at names n) text ≡ c → b ≡ c
+    by true true e f = refl
+    by false false e f = refl
+    by true false e f = sym ((bytes_eq-Decides (word_at names n) text).1 (ap (word_at names) (eqb-true n m e) ∙ here)) ∙ f
+    by false true e f = sym e ∙ eq-eqb n m (distinct-place names n m distinct less (slice_get_within names m text at) (same_bytes (word_at names n) text f ∙ sym here))
+
+any-last : {X : Type 0} (p : X → Bool) (xs : List X) (x : X) → list_any p (xs ++ x ∷ []) ≡ (list_any p xs || p x)
+any-last p xs x = list_any-append p xs (x ∷ []) ∙ ap (λ b. list_any p xs || b) (or-false (p x))
+
+texts-last : (words : List Word) (w : Word) → texts (words ++ w ∷ []) ≡ texts words ++ w.text ∷ []
+texts-last [] w = refl
+texts-last (v ∷ words) w = ap (λ l. v.text ∷ l) (texts-last words w)
+
+pub names-next : (list : List Word) (i : ℕ) (w : Word) (name : List ℕ) → slice_get list i ≡ Some w → has_name (texts (take (i + 1) list)) name ≡ (has_name (texts (take i list)) name || bytes_eq name w.text)
+names-next list i w name at =
+    ap (λ k. has_name (texts (take k list)) name) (add-one i) ∙ ap (λ l. has_name (texts l) name) (take-next list i w at) ∙ ap (λ l. has_name l name) (texts-last (take i list) w) ∙ any-last (bytes_eq name) (texts (take i list)) w.text
+
+spread : (a e h b : Bool) → ((a || (e && h)) || (e && b)) ≡ (a || (e && (h || b)))
+spread true e h b = refl
+spread false true h b = refl
+spread false false h b = refl
+
+-- one word more
+pub words-next : (names : List (List ℕ)) (list : List Word) (i : ℕ) (w : Word) (m owner k n : ℕ) (first old new : Bool) → IsDistinct bytes_eq names → n < length names → slice_get list i ≡ Some w → slice_get names m ≡ Some w.text
+    → old ≡ (first || (k == owner && has_name (texts (take i list)) (word_at names n))) → new ≡ (old || (k == owner && n == m)) → new ≡ (first || (k == owner && has_name (texts (take (i + 1) list)) (word_at names n)))
+words-next names list i w m owner k n first old new distinct less at numbered so_far added =
+    added ∙ ap (λ b. b || (k == owner && n == m)) so_far ∙ ap (λ b. (first || (k == owner && has_name (texts (take i list)) (word_at names n))) || (k == owner && b)) (number-same names n m w.text distinct less numbered)
+    ∙ spread first (k == owner) (has_name (texts (take i list)) (word_at names n)) (bytes_eq (word_at names n) w.text)
+    ∙ ap (λ b. first || (k == owner && b)) (sym (names-next list i w (word_at names n) at))
+
+-- a word that is read
+pub word-read : (texts : List (List ℕ)) (shown : List NumberedWord) (list : List Word) (i : ℕ) (d : NumberedWord) → map (read texts) shown ≡ map Some list → i < length shown
+    → (w : Word) × (slice_get list i ≡ Some w) × (read texts (get_or shown i d) ≡ Some w)
+word-read texts [] list i d is less = absurd (omega (arith, less))
+word-read texts (y ∷ shown) [] i d is less = cc
+word-read texts (y ∷ shown) (w ∷ list) zero d is less = (w, refl, (let head : read texts y ≡ Some w = cc in head))
+word-read texts (y ∷ shown) (w ∷ list) (suc i) d is less = let rest : map (read texts) shown ≡ map {A = Word} Some list = cc in word-read texts shown list i d rest (omega (arith, less))
+
+pub as-many : (texts : List (List ℕ)) (shown : List NumberedWord) (list : List Word) → map (read texts) shown ≡ map Some list → length list ≡ length shown
+as-many texts shown list is = sym (length-map list Some) ∙ ap length (sym is) ∙ length-map shown (read texts)
+
+pub one-name-at : (list : List Word) (i : ℕ) (w : Word) → AllByRecursion IsOneName list → slice_get list i ≡ Some w → IsOneName w
+one-name-at [] i w all at = absurd (none-some w at)
+one-name-at (v ∷ list) zero w all at = subst IsOneName (same_Some v w at) all.0
+one-name-at (v ∷ list) (suc i) w all at = one-name-at list i w all.1 at
+
+-- what a statement lists is its own where its kind lists any
+pub own-listed : (form : Form) → lists_own (kind_of form) ≡ true → permissions_in form ≡ own_permissions form
+own-listed (block id) is = cc
+own-listed (optional id) is = cc
+own-listed (type_name id) is = cc
+own-listed (type_alias id) is = cc
+own-listed (alias_actual alias actual) is = cc
+own-listed (type_attribute id) is = cc
+own-listed (attribute_set attribute expr) is = cc
+own-listed (common id permissions) is = refl
+own-listed (class id permissions) is = refl
+own-listed (class_common the_class the_common) is = cc
+own-listed (class_order the_classes) is = cc
+own-listed (rule kind source itself the_class permissions) is = cc
+own-listed (rule kind source (the_named word) the_class permissions) is = cc
+
+pub none-listed : (form : Form) → lists_own (kind_of form) ≡ false → own_permissions form ≡ []
+none-listed (block id) is = refl
+none-listed (optional id) is = refl
+none-listed (type_name id) is = refl
+none-listed (type_alias id) is = refl
+none-listed (alias_actual alias actual) is = refl
+none-listed (type_attribute id) is = refl
+none-listed (attribute_set attribute expr) is = refl
+none-listed (common id permissions) is = cc
+none-listed (class id permissions) is = cc
+none-listed (class_common the_class the_common) is = refl
+none-listed (class_order the_classes) is = refl
+none-listed (rule kind source itself the_class permissions) is = refl
+none-listed (rule kind source (the_named word) the_class permissions) is = refl
+
+-- of the statements in front of a place, each lists the permissions that the keys have
+abbrev pub HaveListedBelow : List (List ℕ) → List Placed → ℕ → List Listed → Type 0
+HaveListedBelow names policy i keys = (j : ℕ) (s : Placed) → slice_get policy j ≡ Some s → (n : ℕ) → n < length names
+    → list_any (is_listed j n) keys ≡ (nat_lt j i && has_name (texts (own_permissions s.form)) (word_at names n))
+
+none-of : (b : Bool) → (b && false) ≡ false
+none-of true = refl
+none-of false = refl
+
+below-next : (j i : ℕ) (a : Bool) → ((nat_lt j i && a) || (j == i && a)) ≡ (nat_lt j (i + 1) && a)
+below-next j i a = elim (cases_order j i) [
+  | inl same ↦ ap (λ b. (b && a) || (j == i && a)) (le-ltb j i (omega arith)) ∙ ap (λ b. b && a) (eq-eqb j i same) ∙ ap (λ b. b && a) (sym (lt-ltb j (i + 1) (omega arith)))
+  | inr other ↦ elim other [
+    | inl lesser ↦ ap (λ b. (b && a) || (j == i && a)) (lt-ltb j i lesser) ∙ either a (j == i) ∙ ap (λ b. b && a) (sym (lt-ltb j (i + 1) (omega arith)))
+    | inr greater ↦ ap (λ b. (b && a) || (j == i && a)) (le-ltb j i (omega arith)) ∙ ap (λ b. b && a) (unequal j i greater) ∙ ap (λ b. b && a) (sym (le-ltb j (i + 1) (omega arith)))
+  ]
+]
+  where
+    either : (a b : Bool) → (a || (b && a)) ≡ a
+    either true b = refl
+    either false b = none-of b
+
+    unequal : (j i : ℕ) → i < j → (j == i) ≡ false
+    unequal j i less = by (j == i) refl
+      where
+        by : (b : Bool) → (j == i) ≡ b → (j == i) ≡ false
+        by true e = let same : j ≡ i = eqb-true j i e in absurd (omega (arith, same, less))
+        by false e = e
+
+-- one statement more, which lists permissions
+pub listed-next : (names : List (List ℕ)) (policy : List Placed) (i : ℕ) (t : Placed) (list : List Word) (old new : List Listed) → slice_get policy i ≡ Some t → list ≡ own_permissions t.form
+    → ((k n : ℕ) → n < length names → list_any (is_listed k n) new ≡ (list_any (is_listed k n) old || (k == i && has_name (texts list) (word_at names n))))
+    → HaveListedBelow names policy i old → HaveListedBelow names policy (i + 1) new
+listed-next names policy i t list old new here own added so_far j s at n less =
+    added j n less ∙ ap (λ b. b || (j == i && has_name (texts list) (word_at names n))) (so_far j s at n less)
+    ∙ by (j == i) refl ∙ below-next j i (has_name (texts (own_permissions s.form)) (word_at names n))
+  where
+    mine : Bool
+    mine = has_name (texts (own_permissions s.form)) (word_at names n)
+
+    by : (b : Bool) → (j == i) ≡ b → ((nat_lt j i && mine) || (b && has_name (texts list) (word_at names n))) ≡ ((nat_lt j i && mine) || (b && mine))
+    by true e =
+        let one : t ≡ s = same_Some t s (sym here ∙ ap (slice_get policy) (sym (eqb-true j i e)) ∙ at) in
+        ap (λ l. (nat_lt j i && mine) || has_name (texts l) (word_at names n)) (own ∙ ap (λ u. own_permissions u.form) one)
+    by false e = refl
+
+-- and one that lists none
+pub listed-stay : (names : List (List ℕ)) (policy : List Placed) (i : ℕ) (t : Placed) (keys : List Listed) → slice_get policy i ≡ Some t → own_permissions t.form ≡ [] → HaveListedBelow names policy i keys → HaveListedBelow names policy (i + 1) keys
+listed-stay names policy i t keys here own so_far =
+    listed-next names policy i t [] keys keys here (sym own)
+    (λ k n less. sym (ap (λ b. list_any (is_listed k n) keys || b) (none-of (k == i)) ∙ or-false (list_any (is_listed k n) keys))) so_far
+
+pub listed-all : (names : List (List ℕ)) (policy : List Placed) (i : ℕ) (keys : List Listed) → length policy ≤ i → HaveListedBelow names policy i keys → HaveListed names policy keys
+listed-all names policy i keys past so_far j s at n less =
+    let within = slice_get_within policy j s at in
+    so_far j s at n less ∙ ap (λ b. b && has_name (texts (own_permissions s.form)) (word_at names n)) (lt-ltb j i (omega (arith, within, past)))

@@ -1,0 +1,358 @@
+-- Words with faults, one by one.
+use Rattle.std.proofs.Common.{◌≡◌, ℕ, ◌<◌, zero, suc, arith, Bool, true, false, not, ◌&&◌, ◌||◌, nat_lt, List, [], ◌∷◌, ◌++◌, length, take, drop, filter, map, flat_map, fold, Contains, ◌+◌, cond, Option, Some, None, is_some, option_map, position, slice_get, bytes_eq, append-nil, refl, sym, ap, ◌∙◌, subst, true≢false, if◌then◌else◌}
+use Rattle.std.specs.Option.{option_or, option_and_then, option_to_list}
+use Rattle.std.specs.List.{find, list_any}
+use Rattle.std.proofs.lemmas.Option.{none-some, same_Some}
+use Rattle.std.proofs.lemmas.List.Folds.{list_any-append}
+use Rattle.std.proofs.Math.Bool.{or-false}
+use Rattle.std.proofs.lemmas.Slice.Eq.{bytes_eq-Decides}
+use Rattle.cil_specs.specs.Names.{Word}
+use Rattle.cil_specs.specs.Statements.{RuleKind, Target, itself, the_named, target_words, Form, block, optional, type_name, type_alias, alias_actual, type_attribute, attribute_set, common, class, class_common, class_order, rule, is_optional}
+use Rattle.cil_specs.specs.Joined.{Placed}
+use Rattle.cil_specs.specs.Lookup.{Table, declares, types, classes, declared_in, is_same, is_word, same_namespace, word_text, holds_of, leads, references, named_permissions, has_name, with_name, distinct, permissions_of, gives_actual, gives_common, actual_statement, is_type, is_alias}
+use Rattle.cil_specs.specs.PolicyFault.{PolicyFault, twice, tables, is_again, twice_words, IsFaultOf, is_unfound, is_lacking, kinds_asked, has_earlier_actual, has_earlier_common, is_of_another_kind, element_words, is_unset, has_too_many, too_many_words}
+use Rattle.cil_specs.specs.Rule.{is_class}
+use Rattle.cil_specs.proofs.Runs.{both_true, first_true}
+use Rattle.cil_specs.proofs.NamesLemmas.{contains-first}
+use Rattle.cil_bind.specs.Lookup.{IsFirstOf}
+use Rattle.cil_bind.specs.Lookup.{IsLead}
+use Rattle.cil_check.specs.Gifts.{first_at, gift_table, given_word, given_lead, gives, HasFirsts}
+use Rattle.cil_check.specs.Kinds.{word_if, first_missing_permission, again_words}
+use Rattle.cil_check.specs.declared.firsts.Gift.{Gift}
+use Rattle.cil_check.specs.declared.firsts.Gift.TheVariants as gift
+use Rattle.cil_check.proofs.PositionLemmas.{at_if, position-next, any-position, position-more, is_before, any-before, any-same, find-position, first-append}
+use Rattle.cil_check.proofs.FirstsLemmas.{first-itself, same_bytes}
+use Rattle.cil_check.proofs.LeastLemmas.{around-at}
+
+-- below the length there is an element
+pub none-there : {X : Type 0} (xs : List X) (n : ℕ) → slice_get xs n ≡ None → n < length xs → ⊥
+none-there [] n e within = omega (arith, within)
+none-there (x ∷ xs) zero e within = none-some x (sym e)
+none-there (x ∷ xs) (suc n) e within = none-there xs n e (omega (arith, within))
+
+-- where a look-up leads, with what is known of the place
+pub record Led (table : Table) (policy : List Placed) (place : ℕ) (lead : Option Placed) : Type 0 where
+  pub s : Placed
+  pub at : slice_get policy place ≡ Some s
+  pub is : lead ≡ Some s
+  pub first : IsFirstOf table policy place
+
+pub led-at : (table : Table) (policy : List Placed) (place : ℕ) (lead : Option Placed) → IsLead table policy (Some place) lead → Led table policy place lead
+led-at table policy place lead led = by (slice_get policy place) refl
+  where
+    by : (o : Option Placed) → slice_get policy place ≡ o → Led table policy place lead
+    by None e = absurd (none-there policy place e led.within)
+    by (Some s) e = record { s = s; at = e; is = sym led.is ∙ e; first = led.first }
+
+-- the first of one word, or of more
+pub words-one : {X : Type 0} (p : X → Bool) (f : X → Word) (x : X) → slice_get (map f (filter p (x ∷ []))) 0 ≡ word_if (p x) (f x)
+words-one p f x = by (p x)
+  where
+    by : (b : Bool) → slice_get (map f (cond b (x ∷ []) [])) 0 ≡ word_if b (f x)
+    by true = refl
+    by false = refl
+
+pub words-cons : {X : Type 0} (p : X → Bool) (f : X → Word) (x : X) (xs : List X) → slice_get (map f (filter p (x ∷ xs))) 0 ≡ option_or (word_if (p x) (f x)) (slice_get (map f (filter p xs)) 0)
+words-cons p f x xs = by (p x)
+  where
+    by : (b : Bool) → slice_get (map f (cond b (x ∷ filter p xs) (filter p xs))) 0 ≡ option_or (word_if b (f x)) (slice_get (map f (filter p xs)) 0)
+    by true = refl
+    by false = refl
+
+-- of words with something else each
+pub words-find : {X : Type 0} (p : X × Word → Bool) (x : X) (words : List Word) → slice_get (map (λ r. r.1) (filter p (map (λ w. (x, w)) words))) 0 ≡ find (λ w. p (x, w)) words
+words-find p x [] = refl
+words-find p x (w ∷ words) = words-cons p (λ r. r.1) (x, w) (map (λ v. (x, v)) words) ∙ by (p (x, w)) (words-find p x words)
+  where
+    by : (b : Bool) → slice_get (map (λ r. r.1) (filter p (map (λ v. (x, v)) words))) 0 ≡ find (λ v. p (x, v)) words
+        → option_or (word_if b w) (slice_get (map (λ r. r.1) (filter p (map (λ v. (x, v)) words))) 0) ≡ cond b (Some w) (find (λ v. p (x, v)) words)
+    by true more = refl
+    by false more = more
+
+pub or-map : {X Y : Type 0} (f : X → Y) (a b : Option X) → option_map f (option_or a b) ≡ option_or (option_map f a) (option_map f b)
+or-map f None b = refl
+or-map f (Some x) b = refl
+
+-- names, each once, are the same names
+has-with : (names : List (List ℕ)) (name n : List ℕ) → has_name (with_name names n) name ≡ (has_name names name || bytes_eq name n)
+has-with names name n = by (has_name names n) refl
+  where
+    last : (l : List (List ℕ)) → list_any (bytes_eq name) (l ++ n ∷ []) ≡ (list_any (bytes_eq name) l || bytes_eq name n)
+    last l = list_any-append (bytes_eq name) l (n ∷ []) ∙ ap (λ b. list_any (bytes_eq name) l || b) (or-false (bytes_eq name n))
+
+    there : (b : Bool) → bytes_eq name n ≡ b → has_name names n ≡ true → has_name names name ≡ (has_name names name || b)
+    there true e has = let same : name ≡ n = same_bytes name n e in
+        let here : has_name names name ≡ true = ap (has_name names) same ∙ has in
+        here ∙ ap (λ b. b || true) (sym here)
+    there false e has = sym (or-false (has_name names name))
+
+    by : (b : Bool) → has_name names n ≡ b → has_name (if b then names else names ++ n ∷ []) name ≡ (has_name names name || bytes_eq name n)
+    by true e = there (bytes_eq name n) refl e
+    by false e = last names
+
+or-assoc : (a b c : Bool) → ((a || b) || c) ≡ (a || (b || c))
+or-assoc true b c = refl
+or-assoc false b c = refl
+
+has-fold : (names more : List (List ℕ)) (name : List ℕ) → has_name (fold with_name names more) name ≡ (has_name names name || has_name more name)
+has-fold names [] name = sym (or-false (has_name names name))
+has-fold names (n ∷ more) name =
+    has-fold (with_name names n) more name ∙ ap (λ b. b || has_name more name) (has-with names name n) ∙ or-assoc (has_name names name) (bytes_eq name n) (has_name more name)
+
+pub has-distinct : (names : List (List ℕ)) (name : List ℕ) → has_name (distinct names) name ≡ has_name names name
+has-distinct names name = has-fold [] names name
+
+-- a class is what is declared in the table of classes
+declared-class : (form : Form) (name : List ℕ) → is_word name (declared_in classes form) ≡ true → is_class form ≡ true
+declared-class (block id) name e = absurd (true≢false (sym e))
+declared-class (optional id) name e = absurd (true≢false (sym e))
+declared-class (type_name id) name e = absurd (true≢false (sym e))
+declared-class (type_alias id) name e = absurd (true≢false (sym e))
+declared-class (alias_actual alias actual) name e = absurd (true≢false (sym e))
+declared-class (type_attribute id) name e = absurd (true≢false (sym e))
+declared-class (attribute_set attribute expr) name e = absurd (true≢false (sym e))
+declared-class (common id permissions) name e = absurd (true≢false (sym e))
+declared-class (class id permissions) name e = refl
+declared-class (class_common the_class the_common) name e = absurd (true≢false (sym e))
+declared-class (class_order the_classes) name e = absurd (true≢false (sym e))
+declared-class (rule kind source target the_class permissions) name e = absurd (true≢false (sym e))
+
+pub first-class : (policy : List Placed) (i : ℕ) (s : Placed) → slice_get policy i ≡ Some s → IsFirstOf classes policy i → is_class s.form ≡ true
+first-class policy i s is first =
+    let name = word_text (declared_in classes s.form) in
+    declared-class s.form name (first_true (is_word name (declared_in classes s.form)) (same_namespace s.namespace s.namespace) (first-itself classes policy i s is first))
+
+find-same : {X : Type 0} (p q : X → Bool) → ((x : X) → p x ≡ q x) → (xs : List X) → find p xs ≡ find q xs
+find-same p q same [] = refl
+find-same p q same (x ∷ xs) = ap (λ b. cond b (Some x) (find p xs)) (same x) ∙ ap (λ o. cond (q x) (Some x) o) (find-same p q same xs)
+
+abbrev pub again_if : Gift → List Placed → List Placed → Placed → Word → Option Word
+again_if g policy before t w = word_if (holds_of (λ s. list_any (gives g policy s) before) (leads policy (gift_table g) t.namespace w.text)) w
+
+filter-one : (p : Word → Bool) (w : Word) → slice_get (filter p (w ∷ [])) 0 ≡ word_if (p w) w
+filter-one p w = by (p w)
+  where
+    by : (b : Bool) → slice_get (cond b (w ∷ []) []) 0 ≡ word_if b w
+    by true = refl
+    by false = refl
+
+pub again-word : (g : Gift) (policy before : List Placed) (t : Placed) → slice_get (again_words g policy before t) 0 ≡ option_and_then (again_if g policy before t) (given_word g t.form)
+again-word g policy before t = by g t.form
+  where
+    by : (g : Gift) (form : Form) → slice_get (again_words g policy before (record { module_name = t.module_name; at = t.at; form = form; namespace = t.namespace; optionals = t.optionals })) 0
+        ≡ option_and_then (again_if g policy before t) (given_word g form)
+    by gift.Actual (block id) = refl
+    by gift.Actual (optional id) = refl
+    by gift.Actual (type_name id) = refl
+    by gift.Actual (type_alias id) = refl
+    by gift.Actual (alias_actual alias actual) =
+        filter-one (has_earlier_actual policy before t.namespace) alias
+    by gift.Actual (type_attribute id) = refl
+    by gift.Actual (attribute_set attribute expr) = refl
+    by gift.Actual (common id permissions) = refl
+    by gift.Actual (class id permissions) = refl
+    by gift.Actual (class_common the_class the_common) = refl
+    by gift.Actual (class_order the_classes) = refl
+    by gift.Actual (rule kind source target the_class permissions) = refl
+    by gift.Common (block id) = refl
+    by gift.Common (optional id) = refl
+    by gift.Common (type_name id) = refl
+    by gift.Common (type_alias id) = refl
+    by gift.Common (alias_actual alias actual) = refl
+    by gift.Common (type_attribute id) = refl
+    by gift.Common (attribute_set attribute expr) = refl
+    by gift.Common (common id permissions) = refl
+    by gift.Common (class id permissions) = refl
+    by gift.Common (class_common the_class the_common) =
+        filter-one (has_earlier_common policy before t.namespace) the_class
+    by gift.Common (class_order the_classes) = refl
+    by gift.Common (rule kind source target the_class permissions) = refl
+
+-- the noted place tells whether an earlier statement gives something
+pub again-noted : (g : Gift) (policy : List Placed) (place : ℕ) (t : Placed) (word : Word) (firsts : List (ℕ × ℕ)) (found : Option ℕ) → HasFirsts g policy firsts → Some word ≡ given_word g t.form
+    → IsLead (gift_table g) policy found (given_lead g policy t)
+    → slice_get (again_words g policy (take place policy) t) 0 ≡ word_if (is_before (option_and_then (first_at firsts) found) place) word
+again-noted g policy place t word firsts found has is led =
+    again-word g policy (take place policy) t ∙ ap (option_and_then (again_if g policy (take place policy) t)) (sym is)
+    ∙ ap (λ o. word_if (holds_of given o) word) (ap (option_and_then (λ w. leads policy (gift_table g) t.namespace w.text)) is) ∙ by found led
+  where
+    given : Placed → Bool
+    given s = list_any (gives g policy s) (take place policy)
+
+    at : (k : ℕ) → Led (gift_table g) policy k (given_lead g policy t) → word_if (holds_of given (given_lead g policy t)) word ≡ word_if (is_before (first_at firsts k) place) word
+    at k lead =
+        ap (λ o. word_if (holds_of given o) word) lead.is ∙ ap (λ b. word_if b word) (any-before (gives g policy lead.s) place policy)
+        ∙ ap (λ o. word_if (is_before o place) word) (sym (has k lead.s lead.at lead.first))
+
+    by : (found : Option ℕ) → IsLead (gift_table g) policy found (given_lead g policy t)
+        → word_if (holds_of given (given_lead g policy t)) word ≡ word_if (is_before (option_and_then (first_at firsts) found) place) word
+    by None led = ap (λ o. word_if (holds_of given o) word) (sym led.is)
+    by (Some k) led = at k (led-at (gift_table g) policy k (given_lead g policy t) led)
+
+-- an alias that a word leads to is unset where no place is noted
+pub unset-noted : (policy : List Placed) (namespace : List (List ℕ)) (word : Word) (firsts : List (ℕ × ℕ)) (place : ℕ) (lead : Led types policy place (leads policy types namespace word.text))
+    → HasFirsts gift.Actual policy firsts → is_unset policy namespace word ≡ (is_alias lead.s.form && not (is_some (first_at firsts place)))
+unset-noted policy namespace word firsts place lead has =
+    ap (holds_of (λ s. is_alias s.form && not (is_some (actual_statement policy s)))) lead.is
+    ∙ ap (λ b. is_alias lead.s.form && not b)
+    (ap is_some (find-same (λ t. gives_actual policy lead.s t.namespace t.form) (gives gift.Actual policy lead.s) (λ t. refl) policy)
+    ∙ find-position (gives gift.Actual policy lead.s) policy ∙ ap is_some (sym (has place lead.s lead.at lead.first)))
+
+pub unset-first : (policy : List Placed) (namespace : List (List ℕ)) (word : Word) (firsts : List (ℕ × ℕ)) (place : ℕ) (alias : Bool)
+    → IsLead types policy (Some place) (leads policy types namespace word.text) → HasFirsts gift.Actual policy firsts
+    → ((s : Placed) → slice_get policy place ≡ Some s → alias ≡ is_alias s.form)
+    → word_if (is_unset policy namespace word) word ≡ word_if (alias && not (is_some (first_at firsts place))) word
+unset-first policy namespace word firsts place alias led has is =
+    let lead = led-at types policy place (leads policy types namespace word.text) led in
+    ap (λ b. word_if b word) (unset-noted policy namespace word firsts place lead has ∙ ap (λ b. b && not (is_some (first_at firsts place))) (sym (is lead.s lead.at)))
+
+filter-two : (p : Word → Bool) (v w : Word) → slice_get (filter p (v ∷ w ∷ [])) 0 ≡ option_or (word_if (p v) v) (word_if (p w) w)
+filter-two p v w = by (p v) (filter-one p w)
+  where
+    by : (b : Bool) → slice_get (filter p (w ∷ [])) 0 ≡ word_if (p w) w → slice_get (cond b (v ∷ filter p (w ∷ [])) (filter p (w ∷ []))) 0 ≡ option_or (word_if b v) (word_if (p w) w)
+    by true one = refl
+    by false one = one
+
+-- the first word with a fault of a rule's source and target
+pub rule-unset : (policy : List Placed) (namespace : List (List ℕ)) (kind : RuleKind) (source target the_class : Word) (permissions : List Word)
+    → slice_get (filter (is_unset policy namespace) (element_words (rule kind source (the_named target) the_class permissions))) 0
+    ≡ option_or (word_if (is_unset policy namespace source) source) (word_if (is_unset policy namespace target) target)
+rule-unset policy namespace kind source target the_class permissions = filter-two (is_unset policy namespace) source target
+
+-- and of its source alone
+pub itself-unset : (policy : List Placed) (namespace : List (List ℕ)) (kind : RuleKind) (source the_class : Word) (permissions : List Word)
+    → slice_get (filter (is_unset policy namespace) (element_words (rule kind source itself the_class permissions))) 0 ≡ word_if (is_unset policy namespace source) source
+itself-unset policy namespace kind source the_class permissions = filter-one (is_unset policy namespace) source
+
+pub actual-kinds : (policy : List Placed) (namespace : List (List ℕ)) (alias actual : Word)
+    → slice_get (map (λ r. r.1) (filter (is_of_another_kind policy namespace) (kinds_asked (alias_actual alias actual)))) 0
+    ≡ option_or (word_if (is_of_another_kind policy namespace (is_alias, alias)) alias) (word_if (is_of_another_kind policy namespace (is_type, actual)) actual)
+actual-kinds policy namespace alias actual =
+    words-cons (is_of_another_kind policy namespace) (λ r. r.1) (is_alias, alias) ((is_type, actual) ∷ [])
+    ∙ ap (option_or (word_if (is_of_another_kind policy namespace (is_alias, alias)) alias)) (words-one (is_of_another_kind policy namespace) (λ r. r.1) (is_type, actual))
+
+-- the first word that is missing of a form
+abbrev pub first_missing : List Placed → List (List ℕ) → Form → Option Word
+first_missing policy namespace form =
+    slice_get (map (λ r. r.1) (filter (is_unfound policy namespace) (references form)) ++ map (λ p. p.1) (filter (is_lacking policy namespace) (named_permissions form))) 0
+
+pub missing-order : (policy : List Placed) (namespace : List (List ℕ)) (the_classes : List Word) → first_missing policy namespace (class_order the_classes)
+    ≡ find (λ w. is_unfound policy namespace (classes, w)) the_classes
+missing-order policy namespace the_classes =
+    ap (λ l. slice_get l 0) (append-nil (map (λ r. r.1) (filter (is_unfound policy namespace) (map (λ w. (classes, w)) the_classes))))
+    ∙ words-find (is_unfound policy namespace) classes the_classes
+
+or-or : {X : Type 0} (a b c : Option X) → option_or (option_or a b) c ≡ option_or a (option_or b c)
+or-or None b c = refl
+or-or (Some x) b c = refl
+
+pub missing-rule : (policy : List Placed) (namespace : List (List ℕ)) (kind : RuleKind) (source : Word) (target : Target) (the_class : Word) (permissions : List Word)
+    → first_missing policy namespace (rule kind source target the_class permissions)
+    ≡ option_or (word_if (is_unfound policy namespace (types, source)) source)
+    (option_or (find (λ w. is_unfound policy namespace (types, w)) (target_words target)) (first_missing_permission policy namespace the_class permissions))
+missing-rule policy namespace kind source target the_class permissions =
+    first-append (map (λ r. r.1) (filter test ((types, source) ∷ aims))) (map (λ p. p.1) (filter (is_lacking policy namespace) (map (λ w. (the_class, w)) permissions)))
+    ∙ ap (λ o. option_or o lacked) (words-cons test (λ r. r.1) (types, source) aims)
+    ∙ or-or first (slice_get (map (λ r. r.1) (filter test aims)) 0) lacked
+    ∙ ap (λ o. option_or first (option_or o lacked)) (behind target)
+    ∙ ap (option_or first) (or-or (find aimed (target_words target)) last lacked
+    ∙ ap (λ o. option_or (find aimed (target_words target)) (option_or last o)) (words-find (is_lacking policy namespace) the_class permissions))
+  where
+    test : Table × Word → Bool
+    test r = is_unfound policy namespace r
+
+    aimed : Word → Bool
+    aimed w = is_unfound policy namespace (types, w)
+
+    aims : List (Table × Word)
+    aims = map (λ w. (types, w)) (target_words target) ++ (classes, the_class) ∷ []
+
+    first : Option Word
+    first = word_if (test (types, source)) source
+
+    last : Option Word
+    last = word_if (test (classes, the_class)) the_class
+
+    lacked : Option Word
+    lacked = slice_get (map (λ p. p.1) (filter (is_lacking policy namespace) (map (λ w. (the_class, w)) permissions))) 0
+
+    behind : (t : Target) → slice_get (map (λ r. r.1) (filter test (map (λ w. (types, w)) (target_words t) ++ (classes, the_class) ∷ []))) 0 ≡ option_or (find aimed (target_words t)) last
+    behind itself = words-one test (λ r. r.1) (classes, the_class)
+    behind (the_named word) =
+        words-cons test (λ r. r.1) (types, word) ((classes, the_class) ∷ []) ∙ ap (option_or (word_if (test (types, word)) word)) (words-one test (λ r. r.1) (classes, the_class))
+
+and-true : (b : Bool) → (b && true) ≡ b
+and-true true = refl
+and-true false = refl
+
+same-itself : (namespace : List (List ℕ)) → same_namespace namespace namespace ≡ true
+same-itself [] = refl
+same-itself (name ∷ names) = both_true (bytes_eq name name) (same_namespace names names) ((bytes_eq-Decides name name).1 refl) (same-itself names)
+
+-- no class stands behind another of its name, where none is declared twice
+not-again : (policy : List Placed) (i : ℕ) (s : Placed) (id : Word) (permissions : List Word) → ((fault : PolicyFault) → IsFaultOf twice policy fault → ⊥) → slice_get policy i ≡ Some s
+    → s.form ≡ class id permissions → list_any (declares classes s.namespace id.text) (take i policy) ≡ true → ⊥
+not-again policy i s id permissions once is form earlier =
+    once (record { kind = twice; module_name = s.module_name; at = id.at; word = id.text })
+    (record { before = take i policy; s = s; after = drop (i + 1) policy; word = id; split = around-at policy i s is; is_faulty = faulty; is_at = refl })
+  where
+    again : list_any (is_again classes s id) (take i policy) ≡ true
+    again =
+        any-same (is_again classes s id) (declares classes s.namespace id.text)
+        (λ t. ap (λ f. declares classes s.namespace id.text t && not (is_optional f && is_optional t.form)) form ∙ and-true (declares classes s.namespace id.text t)) (take i policy)
+        ∙ earlier
+
+    words : twice_words (take i policy) s ≡ id ∷ []
+    words =
+        ap (λ f. flat_map (λ table. filter (λ w. list_any (is_again table s w) (take i policy)) (option_to_list (declared_in table f))) tables) form
+        ∙ ap (λ b. cond b (id ∷ []) [] ++ []) again
+
+    faulty : Contains (twice_words (take i policy) s) id
+    faulty = subst (λ l. Contains l id) (sym words) (contains-first id [])
+
+first-of-class : (policy : List Placed) (i : ℕ) (s : Placed) (id : Word) (permissions : List Word) → ((fault : PolicyFault) → IsFaultOf twice policy fault → ⊥) → slice_get policy i ≡ Some s
+    → s.form ≡ class id permissions → position (is_same classes s) policy ≡ Some i
+first-of-class policy i s id permissions once is form = by (position (is_same classes s) policy) refl
+  where
+    named : word_text (declared_in classes s.form) ≡ id.text
+    named = ap (λ f. word_text (declared_in classes f)) form
+
+    itself : is_same classes s s ≡ true
+    itself =
+        ap (λ n. declares classes s.namespace n s) named ∙ ap (λ f. is_word id.text (declared_in classes f) && same_namespace s.namespace s.namespace) form
+        ∙ both_true (bytes_eq id.text id.text) (same_namespace s.namespace s.namespace) ((bytes_eq-Decides id.text id.text).1 refl) (same-itself s.namespace)
+
+    none_earlier : list_any (is_same classes s) (take i policy) ≡ false
+    none_earlier = no (list_any (is_same classes s) (take i policy)) refl
+      where
+        no : (b : Bool) → list_any (is_same classes s) (take i policy) ≡ b → list_any (is_same classes s) (take i policy) ≡ false
+        no true e = absurd (not-again policy i s id permissions once is form (ap (λ n. list_any (declares classes s.namespace n) (take i policy)) (sym named) ∙ e))
+        no false e = e
+
+    next : position (is_same classes s) (take (i + 1) policy) ≡ Some i
+    next = position-next (is_same classes s) policy i s is ∙ alone (position (is_same classes s) (take i policy)) refl
+      where
+        alone : (o : Option ℕ) → position (is_same classes s) (take i policy) ≡ o → option_or o (at_if (is_same classes s s) i) ≡ Some i
+        alone None e = ap (λ b. at_if b i) itself
+        alone (Some m) e = absurd (true≢false (sym (ap is_some e) ∙ sym (any-position (is_same classes s) (take i policy)) ∙ none_earlier))
+
+    by : (o : Option ℕ) → position (is_same classes s) policy ≡ o → position (is_same classes s) policy ≡ Some i
+    by o e = position-more (is_same classes s) policy (i + 1) i next
+
+pub once-first : (policy : List Placed) (i : ℕ) (s : Placed) → ((fault : PolicyFault) → IsFaultOf twice policy fault → ⊥) → slice_get policy i ≡ Some s → is_class s.form ≡ true
+    → IsFirstOf classes policy i
+once-first policy i s once is its t at = ap (λ u. position (is_same classes u) policy) (same_Some t s (sym at ∙ is)) ∙ by s.form refl its
+  where
+    by : (form : Form) → s.form ≡ form → is_class form ≡ true → position (is_same classes s) policy ≡ Some i
+    by (class id permissions) e c = first-of-class policy i s id permissions once is e
+    by (block id) e c = absurd (true≢false (sym c))
+    by (optional id) e c = absurd (true≢false (sym c))
+    by (type_name id) e c = absurd (true≢false (sym c))
+    by (type_alias id) e c = absurd (true≢false (sym c))
+    by (alias_actual alias actual) e c = absurd (true≢false (sym c))
+    by (type_attribute id) e c = absurd (true≢false (sym c))
+    by (attribute_set attribute expr) e c = absurd (true≢false (sym c))
+    by (common id permissions) e c = absurd (true≢false (sym c))
+    by (class_common the_class the_common) e c = absurd (true≢false (sym c))
+    by (class_order the_classes) e c = absurd (true≢false (sym c))
+    by (rule kind source target the_class permissions) e c = absurd (true≢false (sym c))

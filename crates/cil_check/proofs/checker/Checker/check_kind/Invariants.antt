@@ -1,0 +1,10 @@
+use Rattle.std.proofs.Common.{List}
+use Rattle.cil_specs.specs.Joined.{Placed}
+use Rattle.cil_check.specs.Checker.{IsNoted}
+use Rattle.cil_check.specs.Image.{policy_kind_of}
+use Rattle.cil_check.proofs.LeastLemmas.{NoneFaultyBelow}
+use Rattle.cil_check.proofs.checker.Checker.check_kind.Given as goal
+
+-- the statements gone over have no fault of the kind
+abbrev pub invariant-loop-i : goal.invariant-loop-i
+invariant-loop-i g l = (policy : List Placed) → IsNoted l.self policy → NoneFaultyBelow (policy_kind_of l.kind) policy l.i

@@ -1,0 +1,10 @@
+use Rattle.std.proofs.Common.{◌≡◌, List}
+use Rattle.cil_specs.specs.Joined.{Placed}
+use Rattle.cil_specs.specs.Lookup.{references}
+use Rattle.cil_check.specs.Bound.{IsSeen}
+use Rattle.cil_check.specs.Checker.{first_unfound}
+use Rattle.cil_check.proofs.checker.Checker.unfound.Given as goal
+
+-- the first that leads nowhere stands no earlier
+abbrev pub invariant-loop-k : goal.invariant-loop-k
+invariant-loop-k g l = (policy : List Placed) (s : Placed) → IsSeen l.seen policy s → first_unfound policy s.namespace 0 (references s.form) ≡ first_unfound policy s.namespace l.k (references s.form)

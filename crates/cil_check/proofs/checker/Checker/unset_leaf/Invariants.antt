@@ -1,0 +1,16 @@
+use Rattle.std.proofs.Common.{◌≡◌, List}
+use Rattle.cil_specs.specs.Joined.{Placed}
+use Rattle.cil_specs.specs.PolicyFault.{is_unset}
+use Rattle.cil_parse.specs.Forms.{words_in}
+use Rattle.cil_specs.specs.Names.{Word}
+use Rattle.cil_specs.specs.Expr.{WordExpr}
+use Rattle.cil_specs.specs.Statements.{attribute_set}
+use Rattle.cil_check.specs.Bound.{IsSeen}
+use Rattle.cil_check.specs.Checker.{IsNoted}
+use Rattle.cil_check.proofs.AskedLemmas.{first_from}
+use Rattle.cil_check.proofs.checker.Checker.unset_leaf.Given as goal
+
+-- the first that is unset stands no earlier
+abbrev pub invariant-loop-k : goal.invariant-loop-k
+invariant-loop-k g l = (policy : List Placed) (s : Placed) (attribute : Word) (expr : WordExpr) → IsNoted l.self policy → IsSeen l.seen policy s → s.form ≡ attribute_set attribute expr
+    → first_from (is_unset policy s.namespace) 1 (words_in s.form) ≡ first_from (is_unset policy s.namespace) l.k (words_in s.form)

@@ -1,0 +1,46 @@
+-- Statements of a bound policy.
+use Rattle.std.specs.Prelude.{◌≡◌, List, [], ◌∷◌, Contains, Option, Some, IfSome, slice_get}
+use Rattle.std.specs.List.{AllByRecursion}
+use Rattle.std.specs.Option.{option_map}
+use Rattle.cil_specs.specs.Names.{Word, components}
+use Rattle.cil_specs.specs.Joined.{Placed}
+use Rattle.cil_specs.specs.Lookup.{references}
+use Rattle.cil_specs.specs.PolicyFault.{missing_words}
+use Rattle.cil_parse.specs.Builder.{read}
+use Rattle.cil_parse.specs.Forms.{permissions_in}
+use Rattle.cil_parse.specs.Flat.{FlatStatement}
+use Rattle.cil_parse.specs.Parsed.{texts_of}
+use Rattle.cil_parse.specs.View.{IsShown}
+use Rattle.cil_parse.specs.declared.row.NumberedWord.{NumberedWord}
+use Rattle.cil_bind.specs.Binding.{AreLeads}
+use Rattle.cil_bind.specs.Policy.{IsBoundTo}
+use Rattle.cil_check.specs.Ordered.{AreOrdered}
+use Rattle.cil_check.specs.declared.bound.Seen.{Seen}
+use Rattle.cil_check.specs.declared.bound.BoundPolicy.{BoundPolicy}
+
+-- The statements in optionals have all their names found.
+abbrev pub AreFoundInside : List Placed → Type 0
+AreFoundInside policy = (s : Placed) → Contains policy s → (s.optionals ≡ [] → ⊥) → missing_words policy s ≡ []
+
+-- a word is one name, without dots
+abbrev pub IsOneName : Word → Type 0
+IsOneName word = components word.text ≡ word.text ∷ []
+
+-- The policy is bound and stands in order, what stands in optionals has its names found, and permissions are names without dots.
+pub record IsOf {A : Type 0} (b : BoundPolicy A) (policy : List Placed) : Type 0 where
+  pub bound : IsBoundTo b.policy.now b.joined.now.modules.items policy
+  pub ordered : AreOrdered policy
+  pub inside : AreFoundInside policy
+  pub spelt : (s : Placed) → Contains policy s → AllByRecursion IsOneName (permissions_in s.form)
+
+-- what is seen of a statement
+pub record IsSeen {A : Type 0} (seen : Seen A) (policy : List Placed) (s : Placed) : Type 0 where
+  pub f : FlatStatement
+  pub shown : IsShown (texts_of seen.«module».now) seen.view f
+  pub form : f.form ≡ s.form
+  pub named : seen.name.now ≡ s.module_name
+  pub leads_are : AreLeads policy s.namespace (references s.form) seen.bound.now
+
+-- the numbered word is this one, by the texts of the statement's module
+abbrev pub Reads : {A : Type 0} → Seen A → Option NumberedWord → Option Word → Type 0
+Reads seen found word = option_map (read (texts_of seen.«module».now)) found ≡ option_map Some word

@@ -1,0 +1,197 @@
+//! The first fault of a policy whose references are bound, but for names that are declared twice.
+
+ghost use Rattle.std.specs.Prelude.{◌≡◌, List, Some, None, slice_get, take, filter, IfOk, IfErr, OnOk, IsTrue};
+ghost use Rattle.cil_specs.specs.Names.{Word};
+ghost use Rattle.cil_specs.specs.Expr.{WordExpr, leaves};
+ghost use Rattle.cil_specs.specs.Statements.{attribute_set};
+ghost use Rattle.cil_specs.specs.Joined.{Placed};
+ghost use Rattle.cil_specs.specs.Lookup.{types, references};
+ghost use Rattle.cil_specs.specs.PolicyFault.{is_of_another_kind, wrong_kind_words, is_unset, alias_unset_words, faulty_words, IsFaultOf};
+ghost use Rattle.cil_parse.specs.Forms.{words_in};
+ghost use Rattle.cil_check.specs.Bound.{IsOf, IsSeen, Reads};
+ghost use Rattle.cil_check.specs.Checker.{IsNoted, is_by_leads, first_unfound};
+ghost use Rattle.cil_check.specs.Gifts.{HasFirsts};
+ghost use Rattle.cil_check.specs.Image.{policy_kind_of, IsFoundFault};
+ghost use Rattle.cil_check.specs.Ordered.{IsLeast};
+ghost use Rattle.cil_check.specs.Kinds.{test_of, word_if, again_words};
+
+use crate::bound::{BoundPolicy, Seen};
+use crate::fault::{PolicyFault, PolicyFaultKind};
+use crate::firsts::{Firsts, Gift};
+use crate::kinds::Kind;
+use cil_parse::{NumberedWord, StatementKind};
+use std::alloc::{AllocError, Allocator, Global};
+
+/// A bound policy, and the first statements that give an actual type or a common.
+#[derive(Drop)]
+pub struct Checker<'p, 'm, A: Allocator = Global> {
+    pub bound: BoundPolicy<'p, 'm, A>,
+    pub actuals: Firsts<A>,
+    pub commons: Firsts<A>,
+}
+
+impl<'p, 'm, A: Allocator + Copy> Checker<'p, 'm, A> {
+    /// What a bound policy's faults are found by.
+    pub fn of(alloc: A, bound: BoundPolicy<'p, 'm, A>) -> Result<Self, AllocError>
+        requires { (policy : List Placed) × IsOf bound policy }
+        ensures noted { IfOk result (λ checker. (policy : List Placed) → IsOf bound.entry policy → IsNoted checker policy) }
+        ensures bound { IfOk result (λ checker. checker.bound ≡ bound.entry) }
+    {
+        let actuals = Firsts::of(alloc, &bound, Gift::Actual)?;
+        let commons = Firsts::of(alloc, &bound, Gift::Common)?;
+        Ok(Checker {
+            bound,
+            actuals,
+            commons,
+        })
+    }
+}
+
+impl<'p, 'm, A: Allocator> Checker<'p, 'm, A> {
+    /// The word of a reference, if it leads to a thing of another kind.
+    fn of_another_kind(&self, seen: &Seen<'p, 'm, A>, k: usize, kind: Kind) -> Option<NumberedWord>
+        requires { (policy : List Placed) × IsOf self.now.bound policy }
+        ensures { (policy : List Placed) (s : Placed) (word : Word) → IsOf self.now.bound policy → IsSeen seen.now policy s → slice_get (references s.form) k ≡ Some (types, word) → slice_get (words_in s.form) k ≡ Some word
+            → Reads seen.now result (word_if (is_of_another_kind policy s.namespace (test_of kind, word)) word) }
+    {
+        let found = seen.lead(k)?;
+        if self.bound.is(found, kind) {
+            None
+        } else {
+            seen.word(k)
+        }
+    }
+
+    /// The first reference of a statement that leads to a thing of another kind than is asked.
+    fn wrong_kind_word(&self, seen: &Seen<'p, 'm, A>) -> Option<NumberedWord>
+        requires { (policy : List Placed) × IsOf self.now.bound policy }
+        ensures { (policy : List Placed) (s : Placed) → IsOf self.now.bound policy → IsSeen seen.now policy s → Reads seen.now result (slice_get (wrong_kind_words policy s) 0) }
+    {
+        match seen.view.kind {
+            StatementKind::TypeAliasActual => {
+                let first = self.of_another_kind(seen, 0, Kind::Alias);
+                first.or(self.of_another_kind(seen, 1, Kind::Type))
+            }
+            StatementKind::TypeAttributeSet => self.of_another_kind(seen, 0, Kind::Attribute),
+            _ => None,
+        }
+    }
+
+    /// The word to which a statement gives something, if one in front of a place gives it already.
+    fn given_again(
+        &self,
+        gift: Gift,
+        firsts: &Firsts<A>,
+        place: usize,
+        seen: &Seen<'p, 'm, A>,
+    ) -> Option<NumberedWord>
+        ensures { (policy : List Placed) (s : Placed) → HasFirsts gift policy firsts.now → IsSeen seen.now policy s → Reads seen.now result (slice_get (again_words gift policy (take place policy) s) 0) }
+    {
+        let found = gift.lead(seen)?;
+        let first = firsts.get(found)?;
+        if (first as usize) < place {
+            seen.word(0)
+        } else {
+            None
+        }
+    }
+
+    /// The word of a reference, if it leads to an alias without an actual type.
+    fn unset(&self, seen: &Seen<'p, 'm, A>, k: usize) -> Option<NumberedWord>
+        requires { (policy : List Placed) × IsOf self.now.bound policy }
+        ensures { (policy : List Placed) (s : Placed) (word : Word) → IsNoted self.now policy → IsSeen seen.now policy s → slice_get (references s.form) k ≡ Some (types, word) → slice_get (words_in s.form) k ≡ Some word
+            → Reads seen.now result (word_if (is_unset policy s.namespace word) word) }
+    {
+        let found = seen.lead(k)?;
+        if !self.bound.is(found, Kind::Alias) {
+            return None;
+        }
+        match self.actuals.get(found) {
+            None => seen.word(k),
+            Some(_) => None,
+        }
+    }
+
+    /// The first word behind the first of a set statement that leads to an alias without an actual type.
+    fn unset_leaf(&self, seen: &Seen<'p, 'm, A>) -> Option<NumberedWord>
+        requires { (policy : List Placed) × IsOf self.now.bound policy }
+        ensures { (policy : List Placed) (s : Placed) (attribute : Word) (expr : WordExpr) → IsNoted self.now policy → IsSeen seen.now policy s → s.form ≡ attribute_set attribute expr
+            → Reads seen.now result (slice_get (filter (is_unset policy s.namespace) (leaves expr)) 0) }
+    {
+        for k in 1..seen.view.words.len() {
+            if let Some(word) = self.unset(seen, k) {
+                return Some(word);
+            }
+        }
+        None
+    }
+
+    /// The first word of a rule's source and target, or of a set expression, that leads to an alias without an actual type.
+    fn unset_word(&self, seen: &Seen<'p, 'm, A>) -> Option<NumberedWord>
+        requires { (policy : List Placed) × IsOf self.now.bound policy }
+        ensures { (policy : List Placed) (s : Placed) → IsNoted self.now policy → IsSeen seen.now policy s → Reads seen.now result (slice_get (alias_unset_words policy s) 0) }
+    {
+        match seen.view.kind {
+            StatementKind::Rule(_) => {
+                let first = self.unset(seen, 0);
+                first.or(self.unset(seen, 1))
+            }
+            StatementKind::RuleToSelf(_) => self.unset(seen, 0),
+            StatementKind::TypeAttributeSet => self.unset_leaf(seen),
+            _ => None,
+        }
+    }
+
+    /// The first reference of a statement that leads nowhere.
+    fn unfound(&self, seen: &Seen<'p, 'm, A>) -> Option<NumberedWord>
+        ensures { (policy : List Placed) (s : Placed) → IsSeen seen.now policy s → Reads seen.now result (first_unfound policy s.namespace 0 (references s.form)) }
+    {
+        for k in 0..seen.bound.len() {
+            if let Some(_found) = seen.lead(k) {
+                continue;
+            }
+            return seen.word(k);
+        }
+        None
+    }
+
+    /// The first word at which the statement at a place has a fault of a kind that is told by references alone.
+    fn faulty_word(
+        &self,
+        kind: PolicyFaultKind,
+        place: usize,
+        seen: &Seen<'p, 'm, A>,
+    ) -> Option<NumberedWord>
+        requires ready { (policy : List Placed) × IsOf self.now.bound policy }
+        requires kind { IsTrue (is_by_leads kind) }
+        ensures { (policy : List Placed) (s : Placed) → IsNoted self.now policy → IsSeen seen.now policy s → Reads seen.now result (slice_get (faulty_words (policy_kind_of kind) policy (take place policy) s) 0) }
+    {
+        match kind {
+            PolicyFaultKind::WrongKind => self.wrong_kind_word(seen),
+            PolicyFaultKind::AliasTwice => {
+                self.given_again(Gift::Actual, &self.actuals, place, seen)
+            }
+            PolicyFaultKind::AliasUnset => self.unset_word(seen),
+            PolicyFaultKind::SecondCommon => {
+                self.given_again(Gift::Common, &self.commons, place, seen)
+            }
+            _ => None,
+        }
+    }
+
+    /// The first fault of a kind that is told by references alone.
+    pub fn check_kind(&self, kind: PolicyFaultKind) -> Result<(), PolicyFault<'m>>
+        requires ready { (policy : List Placed) × IsNoted self.now policy }
+        requires kind { IsTrue (is_by_leads kind) }
+        ensures ok { OnOk result ((policy : List Placed) → IsNoted self.now policy → (fault : _) → IsFaultOf (policy_kind_of kind) policy fault → ⊥) }
+        ensures err { IfErr result (λ fault. (policy : List Placed) → IsNoted self.now policy → IsFoundFault fault (IsLeast (IsFaultOf (policy_kind_of kind) policy))) }
+    {
+        for i in 0..self.bound.len() {
+            let seen = self.bound.seen(i);
+            if let Some(word) = self.faulty_word(kind, i, &seen) {
+                return Err(seen.fault(kind, word));
+            }
+        }
+        Ok(())
+    }
+}

@@ -1,0 +1,104 @@
+//! Which statement is the first that gives something to a declaration.
+
+ghost use Rattle.std.specs.Prelude.{◌≡◌, List, is_some, IfOk, OnOk, OnErr};
+ghost use Rattle.cil_specs.specs.Joined.{Placed};
+ghost use Rattle.cil_bind.specs.Lookup.{IsLead};
+ghost use Rattle.cil_check.specs.Bound.{IsOf, IsSeen};
+ghost use Rattle.cil_check.specs.Gifts.{gift_table, given_kind, given_lead, first_at, with_first, HasFirsts};
+
+use crate::bound::{BoundPolicy, Seen};
+use cil_parse::StatementKind;
+use indexmap::IndexMap;
+use std::alloc::{AllocError, Allocator, Global};
+use std::hash::{BuildHasherDefault, FoldHasher};
+use std::marker::Model;
+
+/// For declarations, by the places of their statements, the place of the first statement that gives them something.
+#[derive(Drop)]
+pub struct Firsts<A: Allocator = Global> {
+    places: IndexMap<u32, u32, BuildHasherDefault<FoldHasher>, A>,
+}
+
+impl<A: Allocator> Model for Firsts<A> {
+    ghost use Rattle.std.specs.Prelude.{List, ℕ};
+
+    ghost Value = { List (ℕ × ℕ) };
+
+    ghost view = { λ f. f.places.entries };
+}
+
+/// What statements give: an actual type to an alias, or a common to a class.
+#[derive(Clone, Copy, Debug, PartialEq, Eq)]
+pub enum Gift {
+    Actual,
+    Common,
+}
+
+impl Gift {
+    /// Whether statements of a kind give this, to what their first reference leads to.
+    pub fn is_given_by(self, kind: StatementKind) -> bool
+        ensures { result ≡ given_kind self kind }
+    {
+        match (self, kind) {
+            (Gift::Actual, StatementKind::TypeAliasActual) => true,
+            (Gift::Common, StatementKind::ClassCommon) => true,
+            _ => false,
+        }
+    }
+
+    /// What a statement gives this to, by its place.
+    pub fn lead<A: Allocator>(self, seen: &Seen<'_, '_, A>) -> Option<u32>
+        ensures { (policy : List Placed) (s : Placed) → IsSeen seen.now policy s → IsLead (gift_table self) policy result (given_lead self policy s) }
+    {
+        if self.is_given_by(seen.view.kind) {
+            seen.lead(0)
+        } else {
+            None
+        }
+    }
+}
+
+impl<A: Allocator + Copy> Firsts<A> {
+    /// The first statements of a policy that give this. A policy of more than 4294967295 statements is answered as out of memory.
+    pub fn of(alloc: A, bound: &BoundPolicy<'_, '_, A>, gift: Gift) -> Result<Self, AllocError>
+        requires { (policy : List Placed) × IsOf bound.now policy }
+        ensures { IfOk result (λ firsts. (policy : List Placed) → IsOf bound.now policy → HasFirsts gift policy firsts) }
+    {
+        let mut firsts = Firsts {
+            places: IndexMap::new(alloc),
+        };
+        let count = bound.len();
+        if count > 0xFFFF_FFFF {
+            return Err(AllocError);
+        }
+        for i in 0..count {
+            let seen = bound.seen(i);
+            let Some(to) = gift.lead(&seen) else {
+                continue;
+            };
+            firsts.insert(to, i as u32)?;
+        }
+        Ok(firsts)
+    }
+
+    /// Takes up a statement, if none came before.
+    fn insert(&mut self, to: u32, place: u32) -> Result<(), AllocError>
+        ensures ok { OnOk result (self.new ≡ with_first self.old to place) }
+        ensures err { OnErr result (self.new ≡ self.old) }
+    {
+        if self.places.contains_key(&to) {
+            return Ok(());
+        }
+        self.places.insert(to, place)?;
+        Ok(())
+    }
+}
+
+impl<A: Allocator> Firsts<A> {
+    /// The place of the first statement that gives something to the declaration at a place.
+    pub fn get(&self, place: u32) -> Option<u32>
+        ensures { result ≡ first_at self.now place }
+    {
+        self.places.get(&place).copied()
+    }
+}

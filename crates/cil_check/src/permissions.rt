@@ -1,0 +1,102 @@
+//! The permissions that classes and commons list, by numbers.
+
+ghost use Rattle.std.specs.Prelude.{◌≡◌, ◌<◌, ◌||◌, ◌&&◌, ◌==◌, ℕ, List, map, length, bytes_eq, Some, OnOk, IfOk, []};
+ghost use Rattle.std.specs.List.{list_any, AllByRecursion, IsDistinct};
+ghost use Rattle.cil_specs.specs.Names.{Word};
+ghost use Rattle.cil_specs.specs.Joined.{Placed};
+ghost use Rattle.cil_specs.specs.Lookup.{has_name, texts};
+ghost use Rattle.cil_parse.specs.Builder.{read};
+ghost use Rattle.cil_parse.specs.Lexicon.{AreNumbersOf};
+ghost use Rattle.cil_parse.specs.Parsed.{texts_of, names_of};
+ghost use Rattle.cil_bind.specs.Lookup.{word_at};
+ghost use Rattle.cil_check.specs.Permissions.{is_listed, HaveListed, lists_own};
+ghost use Rattle.cil_check.specs.Bound.{IsOf, IsOneName};
+
+use crate::bound::{BoundPolicy, Seen};
+use cil_parse::{NumberedWord, StatementKind};
+use indexmap::IndexSet;
+use std::alloc::{AllocError, Allocator, Global};
+use std::hash::{BuildHasherDefault, FoldHasher};
+
+/// A permission that a class or a common lists, by the place of its statement and the number of the permission's name.
+#[derive(Clone, Copy, Debug, PartialEq, Eq, Hash)]
+pub struct Listed {
+    pub owner: u32,
+    pub word: u32,
+}
+
+/// Whether statements of a kind list permissions of their own.
+fn lists_own(kind: StatementKind) -> bool
+    ensures { result ≡ lists_own kind }
+{
+    match kind {
+        StatementKind::Common => true,
+        StatementKind::Class => true,
+        _ => false,
+    }
+}
+
+/// The permissions that classes and commons list.
+#[derive(Drop)]
+pub struct Permissions<A: Allocator = Global> {
+    pub listed: IndexSet<Listed, BuildHasherDefault<FoldHasher>, A>,
+}
+
+impl<A: Allocator> Permissions<A> {
+    /// Whether the class or the common of a place lists a permission.
+    pub fn has(&self, owner: u32, word: u32) -> bool
+        ensures { result ≡ list_any (is_listed owner word) self.now.listed.keys }
+    {
+        self.listed.contains(&Listed { owner, word })
+    }
+}
+
+impl<A: Allocator + Copy> Permissions<A> {
+    /// Takes up a permission.
+    fn add(&mut self, owner: u32, word: u32) -> Result<(), AllocError>
+        ensures { OnOk result ((k n : ℕ) → list_any (is_listed k n) self.new.listed.keys ≡ (list_any (is_listed k n) self.old.listed.keys || (k == owner && n == word))) }
+    {
+        self.listed.insert(Listed { owner, word })?;
+        Ok(())
+    }
+
+    /// Takes up the permissions that a statement lists.
+    fn add_words(
+        &mut self,
+        owner: u32,
+        seen: &Seen<'_, '_, A>,
+        words: &[NumberedWord],
+    ) -> Result<(), AllocError>
+        requires { (list : List Word) × (map (read (texts_of seen.now.«module».now)) words.now ≡ map Some list) }
+        ensures { OnOk result ((names : List (List ℕ)) (list : List Word) → IsDistinct bytes_eq names → AreNumbersOf names seen.now.words.now (names_of seen.now.«module».now)
+            → map (read (texts_of seen.now.«module».now)) words.now ≡ map Some list → AllByRecursion IsOneName list → (k n : ℕ) → n < length names
+            → list_any (is_listed k n) self.new.listed.keys ≡ (list_any (is_listed k n) self.old.listed.keys || (k == owner && has_name (texts list) (word_at names n)))) }
+    {
+        for word in words {
+            self.add(owner, seen.number(*word))?;
+        }
+        Ok(())
+    }
+
+    /// The permissions that the classes and the commons of a policy list. A policy of more than 4294967295 statements is answered as out
+    /// of memory.
+    pub fn of(alloc: A, bound: &BoundPolicy<'_, '_, A>) -> Result<Self, AllocError>
+        requires { (policy : List Placed) × IsOf bound.now policy }
+        ensures { IfOk result (λ permissions. (policy : List Placed) → IsOf bound.now policy → HaveListed bound.now.policy.now.names policy permissions.listed.keys) }
+    {
+        let mut permissions = Permissions {
+            listed: IndexSet::new(alloc),
+        };
+        let count = bound.len();
+        if count > 0xFFFF_FFFF {
+            return Err(AllocError);
+        }
+        for i in 0..count {
+            let seen = bound.seen(i);
+            if lists_own(seen.view.kind) {
+                permissions.add_words(i as u32, &seen, seen.view.permissions())?;
+            }
+        }
+        Ok(permissions)
+    }
+}
