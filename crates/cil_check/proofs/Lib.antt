@@ -7,3 +7,5 @@ pub mod SeenLemmas
 pub mod WordLemmas
 pub mod AskedLemmas
 pub mod PermissionLemmas
+pub mod InheritedLemmas
+pub mod FewLemmas

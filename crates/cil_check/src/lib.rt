@@ -4,7 +4,9 @@
 mod bound;
 mod checker;
 mod fault;
+mod few;
 mod firsts;
+mod inherited;
 mod kinds;
 mod permissions;
 
