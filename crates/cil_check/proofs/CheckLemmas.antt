@@ -7,7 +7,8 @@ use Rattle.cil_specs.specs.Joined.{Placed}
 use Rattle.cil_specs.specs.PolicyFault as spec
 use Rattle.cil_specs.specs.PolicyFault.{twice, missing, wrong_kind, alias_twice, alias_unset, second_common, too_many_permissions, code_of, IsAtWordOf, IsFaultOf, IsNoLater, missing_words, is_outside, faulty_words}
 use Rattle.cil_check.specs.Image.{policy_kind_of, IsFoundFault}
-use Rattle.cil_check.specs.Ordered.{IsLeast, IsFaultIn, IsFaultless}
+use Rattle.cil_bind.specs.Ordered.{IsLeast}
+use Rattle.cil_check.specs.Ordered.{IsFaultIn, IsFaultless}
 use Rattle.cil_specs.proofs.NamesLemmas.{contains-first, around}
 use Rattle.cil_check.specs.Bound.{AreFoundInside}
 use Rattle.cil_check.specs.declared.fault.PolicyFaultKind.{PolicyFaultKind}

@@ -15,7 +15,7 @@ use Rattle.cil_specs.specs.PolicyFault.{PolicyFaultKind, twice, missing, wrong_k
 use Rattle.cil_specs.proofs.Runs.{both_true, first_true, second_true}
 use Rattle.cil_specs.proofs.PartLemmas.{all-middle}
 use Rattle.cil_specs.proofs.NamesLemmas.{all-contained, contains-cases, contains-first, contains-other, contains-map, rises-low, rises-less, stands, same_place, later, earlier}
-use Rattle.cil_check.specs.Ordered.{offsets_in, offsets_of, IsRising, IsBefore, AreOrdered, IsLeast}
+use Rattle.cil_bind.specs.Ordered.{offsets_in, offsets_of, IsRising, IsBefore, AreOrdered, IsLeast}
 use Rattle.cil_check.specs.Image.{fault_at}
 use Rattle.cil_check.proofs.OrderedLemmas.{IsAmidst, ordered-amidst}
 

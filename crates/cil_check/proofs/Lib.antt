@@ -7,5 +7,3 @@ pub mod SeenLemmas
 pub mod WordLemmas
 pub mod AskedLemmas
 pub mod PermissionLemmas
-pub mod InheritedLemmas
-pub mod FewLemmas

@@ -2,7 +2,7 @@
 use Rattle.std.proofs.Common.{List, [], ◌∷◌, ◌++◌}
 use Rattle.std.specs.List.{AllByRecursion}
 use Rattle.cil_specs.specs.Joined.{Placed}
-use Rattle.cil_check.specs.Ordered.{IsRising, IsBefore, AreOrdered}
+use Rattle.cil_bind.specs.Ordered.{IsRising, IsBefore, AreOrdered}
 
 -- a statement among others
 pub record IsAmidst (before : List Placed) (s : Placed) (after : List Placed) : Type 0 where

@@ -18,7 +18,7 @@ use Rattle.cil_parse.specs.declared.row.NumberedWord.{NumberedWord}
 use Rattle.cil_bind.specs.Lookup.{word_at}
 use Rattle.cil_bind.proofs.NamespaceLemmas.{distinct-place}
 use Rattle.cil_check.specs.Permissions.{is_listed, HaveListed, lists_own}
-use Rattle.cil_check.specs.Bound.{IsOneName}
+use Rattle.cil_bind.specs.Written.{IsOneName}
 use Rattle.cil_check.specs.declared.permissions.Listed.{Listed}
 use Rattle.cil_check.specs.contracts.permissions.ListedPartialEq.TheImpl as listed_eq
 use Rattle.cil_check.proofs.FirstsLemmas.{same_bytes}

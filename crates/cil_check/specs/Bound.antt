@@ -14,7 +14,8 @@ use Rattle.cil_parse.specs.View.{IsShown}
 use Rattle.cil_parse.specs.declared.row.NumberedWord.{NumberedWord}
 use Rattle.cil_bind.specs.Binding.{AreLeads}
 use Rattle.cil_bind.specs.Policy.{IsBoundTo}
-use Rattle.cil_check.specs.Ordered.{AreOrdered}
+use Rattle.cil_bind.specs.Written.{HaveOneNames}
+use Rattle.cil_bind.specs.Ordered.{AreOrdered}
 use Rattle.cil_check.specs.declared.bound.Seen.{Seen}
 use Rattle.cil_check.specs.declared.bound.BoundPolicy.{BoundPolicy}
 
@@ -22,16 +23,12 @@ use Rattle.cil_check.specs.declared.bound.BoundPolicy.{BoundPolicy}
 abbrev pub AreFoundInside : List Placed → Type 0
 AreFoundInside policy = (s : Placed) → Contains policy s → (s.optionals ≡ [] → ⊥) → missing_words policy s ≡ []
 
--- a word is one name, without dots
-abbrev pub IsOneName : Word → Type 0
-IsOneName word = components word.text ≡ word.text ∷ []
-
 -- The policy is bound and stands in order, what stands in optionals has its names found, and permissions are names without dots.
 pub record IsOf {A : Type 0} (b : BoundPolicy A) (policy : List Placed) : Type 0 where
   pub bound : IsBoundTo b.policy.now b.joined.now.modules.items policy
   pub ordered : AreOrdered policy
   pub inside : AreFoundInside policy
-  pub spelt : (s : Placed) → Contains policy s → AllByRecursion IsOneName (permissions_in s.form)
+  pub spelt : HaveOneNames policy
 
 -- what is seen of a statement
 pub record IsSeen {A : Type 0} (seen : Seen A) (policy : List Placed) (s : Placed) : Type 0 where

@@ -3,7 +3,5 @@ pub mod Gifts
 pub mod Image
 pub mod Kinds
 pub mod Bound
-pub mod Inherited
-pub mod Few
 pub mod Checker
 pub mod Permissions

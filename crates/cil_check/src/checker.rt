@@ -12,7 +12,10 @@ ghost use Rattle.cil_check.specs.Bound.{IsOf, IsSeen, Reads};
 ghost use Rattle.cil_check.specs.Checker.{IsNoted, is_by_leads, first_unfound};
 ghost use Rattle.cil_check.specs.Gifts.{HasFirsts};
 ghost use Rattle.cil_check.specs.Image.{policy_kind_of, IsFoundFault};
-ghost use Rattle.cil_check.specs.Ordered.{IsLeast};
+ghost use Rattle.cil_bind.specs.Ordered.{IsLeast};
+ghost use Rattle.cil_check.specs.Ordered.{IsFaultIn, IsFaultless};
+ghost use Rattle.cil_check.specs.Image.{PolicyFaultIs};
+ghost use Rattle.cil_specs.specs.Next.{IsFirstAttributeFault, HasTypesAlone};
 ghost use Rattle.cil_check.specs.Kinds.{test_of, word_if, again_words};
 
 use crate::bound::{BoundPolicy, Seen};
@@ -193,5 +196,21 @@ impl<'p, 'm, A: Allocator> Checker<'p, 'm, A> {
             }
         }
         Ok(())
+    }
+
+    pub fn check(&self) -> Result<(), PolicyFault<'m>>
+        requires ready { (policy : List Placed) × IsNoted self.now policy }
+        ensures ok { OnOk result ((policy : List Placed) → IsNoted self.now policy → IsFaultless policy) }
+        ensures err { IfErr result (λ fault. (policy : List Placed) → IsNoted self.now policy → PolicyFaultIs fault (IsLeast (IsFaultIn policy))) }
+    {
+        Err(PolicyFault::Memory)
+    }
+
+    pub fn check_attributes(&self) -> Result<(), PolicyFault<'m>>
+        requires ready { (policy : List Placed) × IsNoted self.now policy }
+        ensures ok { OnOk result ((policy : List Placed) → IsNoted self.now policy → HasTypesAlone policy) }
+        ensures err { IfErr result (λ fault. (policy : List Placed) → IsNoted self.now policy → PolicyFaultIs fault (IsFirstAttributeFault policy)) }
+    {
+        Err(PolicyFault::Memory)
     }
 }

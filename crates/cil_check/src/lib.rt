@@ -4,9 +4,7 @@
 mod bound;
 mod checker;
 mod fault;
-mod few;
 mod firsts;
-mod inherited;
 mod kinds;
 mod permissions;
 

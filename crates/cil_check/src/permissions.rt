@@ -10,7 +10,8 @@ ghost use Rattle.cil_parse.specs.Lexicon.{AreNumbersOf};
 ghost use Rattle.cil_parse.specs.Parsed.{texts_of, names_of};
 ghost use Rattle.cil_bind.specs.Lookup.{word_at};
 ghost use Rattle.cil_check.specs.Permissions.{is_listed, HaveListed, lists_own};
-ghost use Rattle.cil_check.specs.Bound.{IsOf, IsOneName};
+ghost use Rattle.cil_check.specs.Bound.{IsOf};
+ghost use Rattle.cil_bind.specs.Written.{IsOneName};
 
 use crate::bound::{BoundPolicy, Seen};
 use cil_parse::{NumberedWord, StatementKind};

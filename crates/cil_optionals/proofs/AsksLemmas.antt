@@ -32,7 +32,7 @@ use Rattle.cil_bind.specs.declared.joined.NamedModule.{NamedModule}
 use Rattle.cil_bind.proofs.DeclareLemmas.{rows-length}
 use Rattle.cil_bind.proofs.PositionLemmas.{take-next}
 use Rattle.cil_optionals.specs.Needs.{is_met, are_met}
-use Rattle.cil_optionals.specs.Nested.{IsInnermost}
+use Rattle.cil_bind.specs.Nested.{IsInnermost}
 use Rattle.cil_optionals.specs.Nodes.{is_provided, is_plain, AreNodesOf}
 use Rattle.cil_optionals.specs.Providers.{IsReady}
 use Rattle.cil_optionals.specs.Asks.{has_node, is_need_of, are_found, optional_at, row_optional, AddsNeed, Asks, IsOf}

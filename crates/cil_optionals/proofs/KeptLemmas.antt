@@ -18,7 +18,8 @@ use Rattle.cil_bind.specs.Policy.{AreMarked}
 use Rattle.cil_bind.specs.declared.rows.Row.{Row}
 use Rattle.cil_bind.proofs.PositionLemmas.{any-position}
 use Rattle.cil_optionals.specs.Needs.{is_met, are_met, is_need_below}
-use Rattle.cil_optionals.specs.Nested.{IsInnermost, AreNested, mark_at, set_of, ShowsKept}
+use Rattle.cil_bind.specs.Nested.{IsInnermost, AreNested}
+use Rattle.cil_optionals.specs.Nested.{mark_at, set_of, ShowsKept}
 use Rattle.cil_optionals.specs.Nodes.{declared_table, declared_text, is_naming, is_provided, AreOptionalsOf, AreNodesOf}
 use Rattle.cil_optionals.specs.Providers.{further_out, IsDeclaration, IsFurther, IsProvidedBy, AreProviders}
 use Rattle.cil_optionals.specs.Others.{is_need_within, AreFoundWithin, AreOthers}

@@ -14,7 +14,7 @@ use Rattle.cil_specs.proofs.KeptLemmas.{nil-append}
 use Rattle.cil_specs.proofs.Runs.{first_true, second_true, both_true}
 use Rattle.cil_bind.specs.declared.rows.Row.{Row}
 use Rattle.cil_optionals.specs.Needs.{is_met, are_met}
-use Rattle.cil_optionals.specs.Nested.{IsInnermost, AreNested}
+use Rattle.cil_bind.specs.Nested.{IsInnermost, AreNested}
 use Rattle.cil_optionals.specs.Nodes.{AreNodesOf}
 use Rattle.cil_optionals.specs.Asks.{is_need_of, are_found, are_there, AddsNeed, Asks, IsOf}
 use Rattle.cil_optionals.specs.Others.{is_need_within, AreOthersTo, AreOthers}

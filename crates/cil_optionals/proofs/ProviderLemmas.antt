@@ -23,7 +23,7 @@ use Rattle.cil_bind.proofs.DeclareLemmas.{same_namespace-refl, row-at, rows-leng
 use Rattle.cil_parse.specs.declared.table.Table as code
 use Rattle.cil_parse.specs.declared.table.Table.TheVariants.{Types, Classes, Commons, Scopes}
 use Rattle.cil_optionals.specs.Needs.{is_met, are_met, is_need_below}
-use Rattle.cil_optionals.specs.Nested.{IsInnermost, AreNested}
+use Rattle.cil_bind.specs.Nested.{IsInnermost, AreNested}
 use Rattle.cil_optionals.specs.Nodes.{declared_table, declared_text, is_naming, is_provided, AreOptionalsOf, AreNodesOf}
 use Rattle.cil_optionals.specs.Providers.{further_out, alternatives, IsReady, IsDeclaration, IsFurther, IsProvidedBy, AreProviders}
 use Rattle.cil_optionals.specs.declared.greatest.Need.{Need}

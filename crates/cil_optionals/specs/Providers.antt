@@ -9,7 +9,7 @@ use Rattle.cil_bind.specs.declared.rows.Row.{Row}
 use Rattle.cil_bind.specs.declared.joined.NamedModule.{NamedModule}
 use Rattle.cil_bind.specs.declared.policy.Policy.{Policy}
 use Rattle.cil_optionals.specs.Needs.{are_met, is_need_below}
-use Rattle.cil_optionals.specs.Nested.{AreNested}
+use Rattle.cil_bind.specs.Nested.{AreNested}
 use Rattle.cil_optionals.specs.Nodes.{declared_table, declared_text, AreNodesOf}
 use Rattle.cil_optionals.specs.declared.greatest.Need.{Need}
 

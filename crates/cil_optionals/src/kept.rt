@@ -4,7 +4,8 @@ ghost use Rattle.std.specs.Prelude.{◌≡◌, ℕ, List, IfOk};
 ghost use Rattle.cil_specs.specs.Joined.{Placed};
 ghost use Rattle.cil_specs.specs.Kept.{AreApart};
 ghost use Rattle.cil_bind.specs.Policy.{IsBoundTo};
-ghost use Rattle.cil_optionals.specs.Nested.{AreNested, ShowsKept};
+ghost use Rattle.cil_bind.specs.Nested.{AreNested};
+ghost use Rattle.cil_optionals.specs.Nested.{ShowsKept};
 
 use crate::greatest::greatest;
 use crate::others::others;

@@ -1,6 +1,10 @@
 //! What a joined policy of parsed modules resolves to.
 #![tactic(auto)]
 
+mod dropped;
+mod judged;
+mod laws;
+mod lowering;
 mod numbered;
 mod resolved;
 mod resolver;
@@ -9,6 +13,7 @@ mod views;
 
 pub use cil_bind::{Joined, NamedModule, join};
 pub use cil_check::{PolicyFault, PolicyFaultKind};
+pub use laws::{found_grows, kept_exists, kept_is_good, kept_is_one, policies_are_apart};
 pub use numbered::{Aim, DroppedOptional, Element, NumberedClass, NumberedName, NumberedRule};
 pub use resolved::Resolved;
 pub use resolver::{resolve, resolve_types};

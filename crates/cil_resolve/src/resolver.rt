@@ -1,18 +1,41 @@
 //! Resolves a joined policy.
 
-ghost use Rattle.std.specs.Prelude.{List, IfOk, IfErr};
-ghost use Rattle.cil_specs.specs.Joined.{Module, joined as joined_policy};
+ghost use Rattle.std.specs.Prelude.{◌≡◌, List, IfOk, IfErr};
+ghost use Rattle.cil_specs.specs.Joined.{Module, Placed, joined as joined_policy};
 ghost use Rattle.cil_specs.specs.Kept.{Optionals, restricted, IsFirstFault};
 ghost use Rattle.cil_specs.specs.Meaning.{Means};
 ghost use Rattle.cil_specs.specs.Next.{HasTypesAlone, IsPolicyFaultOf};
+ghost use Rattle.cil_bind.specs.Ordered.{IsLeast};
+ghost use Rattle.cil_check.specs.Checker.{IsNoted};
 ghost use Rattle.cil_check.specs.Image.{PolicyFaultIs};
+ghost use Rattle.cil_check.specs.Ordered.{IsFaultIn, IsFaultless};
+ghost use Rattle.cil_resolve.specs.Judged.{IsInOrder};
 ghost use Rattle.cil_resolve.specs.Modules.{AreKeptOf};
 ghost use Rattle.cil_resolve.specs.Resolved.{meaning_in};
 
+use crate::judged::Judged;
+use crate::lowering::lowered;
 use crate::resolved::Resolved;
-use cil_bind::Joined;
-use cil_check::PolicyFault;
+use cil_bind::{Joined, Policy};
+use cil_check::{BoundPolicy, Checker, PolicyFault};
 use std::alloc::Allocator;
+
+/// What a policy's faults are found by, if it has none but names that are declared twice.
+fn checked<'p, 'm, A: Allocator + Copy>(
+    alloc: A,
+    joined: &'p Joined<'m, A>,
+    policy: &'p Policy<'m, A>,
+) -> Result<Checker<'p, 'm, A>, PolicyFault<'m>>
+    requires { (others : List Placed) × IsInOrder policy.now joined.now.modules.items others }
+    ensures noted { IfOk result (λ checker. (others : List Placed) → IsInOrder policy.now joined.now.modules.items others → IsNoted checker others) }
+    ensures faultless { IfOk result (λ checker. (others : List Placed) → IsInOrder policy.now joined.now.modules.items others → IsFaultless others) }
+    ensures joined { IfOk result (λ checker. checker.bound.joined.now ≡ joined.now) }
+    ensures err { IfErr result (λ fault. (others : List Placed) → IsInOrder policy.now joined.now.modules.items others → PolicyFaultIs fault (IsLeast (IsFaultIn others))) }
+{
+    let checker = Checker::of(alloc, BoundPolicy { joined, policy })?;
+    checker.check()?;
+    Ok(checker)
+}
 
 /// The types, attributes, classes and rules of a policy by full names, with the optionals that drop, or its first fault: that of
 /// the least code, then of the least module name by bytes, then of the least offset. What stands in optionals that drop is left
@@ -25,8 +48,9 @@ pub fn resolve<'m, A: Allocator + Copy>(
     ensures meaning { IfOk result (λ r. (modules : List Module) → AreKeptOf joined.now.modules.items modules → (kept : Optionals) × Means (joined_policy modules) kept (meaning_in r)) }
     ensures err { IfErr result (λ fault. (modules : List Module) → AreKeptOf joined.now.modules.items modules → PolicyFaultIs fault (IsFirstFault (joined_policy modules))) }
 {
-    let _ = (alloc, joined);
-    Err(PolicyFault::Memory)
+    let Judged { policy, dropped } = Judged::of(alloc, joined)?;
+    let checker = checked(alloc, joined, &policy)?;
+    Ok(lowered(alloc, &checker, dropped)?)
 }
 
 /// What a policy resolves to, of which no kept rule names an attribute: the first such word of a policy that compiles is a fault of the
@@ -40,6 +64,8 @@ pub fn resolve_types<'m, A: Allocator + Copy>(
         → (kept : Optionals) × Means (joined_policy modules) kept (meaning_in r) × HasTypesAlone (restricted kept (joined_policy modules))) }
     ensures err { IfErr result (λ fault. (modules : List Module) → AreKeptOf joined.now.modules.items modules → PolicyFaultIs fault (IsPolicyFaultOf (joined_policy modules))) }
 {
-    let _ = (alloc, joined);
-    Err(PolicyFault::Memory)
+    let Judged { policy, dropped } = Judged::of(alloc, joined)?;
+    let checker = checked(alloc, joined, &policy)?;
+    checker.check_attributes()?;
+    Ok(lowered(alloc, &checker, dropped)?)
 }

@@ -2,7 +2,7 @@ use Rattle.std.proofs.Common.{◌≤◌, ◌<◌, ◌≡◌, List, length, slice
 use Rattle.cil_specs.specs.Joined.{Placed}
 use Rattle.cil_specs.specs.PolicyFault.{IsFaultOf, faulty_words}
 use Rattle.cil_check.specs.Checker.{IsNoted}
-use Rattle.cil_check.specs.Ordered.{IsLeast}
+use Rattle.cil_bind.specs.Ordered.{IsLeast}
 use Rattle.cil_check.specs.Image.{policy_kind_of, fault_at}
 use Rattle.cil_check.proofs.CheckLemmas.{first-some, found-is}
 use Rattle.cil_check.proofs.LeastLemmas.{none-faulty-first, none-faulty-next, none-faulty-end, least-at}

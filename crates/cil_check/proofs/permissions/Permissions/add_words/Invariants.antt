@@ -7,7 +7,7 @@ use Rattle.cil_parse.specs.Lexicon.{AreNumbersOf}
 use Rattle.cil_parse.specs.Parsed.{texts_of, names_of}
 use Rattle.cil_bind.specs.Lookup.{word_at}
 use Rattle.cil_check.specs.Permissions.{is_listed}
-use Rattle.cil_check.specs.Bound.{IsOneName}
+use Rattle.cil_bind.specs.Written.{IsOneName}
 use Rattle.cil_check.proofs.permissions.Permissions.add_words.Given as goal
 
 -- so many words are taken up

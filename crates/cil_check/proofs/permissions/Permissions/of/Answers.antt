@@ -3,7 +3,7 @@ use Rattle.std.specs.List.{AllByRecursion}
 use Rattle.std.proofs.lemmas.Option.{slice_get_within, get_or_from_slice_get}
 use Rattle.cil_parse.specs.Forms.{permissions_in, kind_of}
 use Rattle.cil_parse.specs.Parsed.{texts_of}
-use Rattle.cil_check.specs.Bound.{IsOneName}
+use Rattle.cil_bind.specs.Written.{IsOneName}
 use Rattle.cil_check.specs.Permissions.{lists_own}
 use Rattle.cil_check.proofs.SeenLemmas.{there-at, seen-kind}
 use Rattle.cil_check.proofs.PermissionLemmas.{HaveListedBelow, own-listed, none-listed, listed-next, listed-stay, listed-all}

@@ -1,0 +1,35 @@
+//! Laws of the definitions. They have no code.
+
+ghost use Rattle.std.specs.Prelude.{◌≡◌, ℕ, List, IsTrue, is_some};
+ghost use Rattle.cil_specs.specs.Joined.{Placed};
+ghost use Rattle.cil_specs.specs.Lookup.{Table, leads};
+ghost use Rattle.cil_specs.specs.Store.{Store};
+ghost use Rattle.cil_specs.specs.Kept.{Optionals, restricted, IsWithin, IsGood, AreKept, AreApart};
+ghost use Rattle.cil_specs.specs.Next.{IsPolicyOf};
+
+/// With more optionals a name that leads somewhere still does. It may lead elsewhere: a nearer declaration hides one further out.
+pub fn found_grows()
+    ensures { (kept more : Optionals) (policy : List Placed) (table : Table) (namespace : List (List ℕ)) (text : List ℕ) → AreApart policy → IsWithin kept more
+        → IsTrue (is_some (leads (restricted kept policy) table namespace text)) → IsTrue (is_some (leads (restricted more policy) table namespace text)) }
+{}
+
+/// Where blocks, classes, commons and what is said of them stand in no optional, the kept optionals, which are those of all good sets
+/// together, are a good set themselves: the greatest.
+pub fn kept_is_good()
+    ensures { (policy : List Placed) (kept : Optionals) → AreApart policy → AreKept policy kept → IsGood policy kept }
+{}
+
+/// A policy of a store keeps optionals: it has such a set.
+pub fn kept_exists()
+    ensures { (policy : List Placed) → AreApart policy → (kept : Optionals) × AreKept policy kept }
+{}
+
+/// It keeps one set of them.
+pub fn kept_is_one()
+    ensures { (policy : List Placed) (kept others : Optionals) → AreKept policy kept → AreKept policy others → kept ≡ others }
+{}
+
+/// The policy of a store is one in which these stand in no optional.
+pub fn policies_are_apart()
+    ensures { (store : Store) (policy : List Placed) → IsPolicyOf store policy → AreApart policy }
+{}
