@@ -15,7 +15,6 @@ mod rows;
 mod scope;
 mod words;
 
-pub use declarations::{Declarations, Declared};
 pub use joined::{Joined, NamedModule, join};
 pub use laws::{
     first_again_is_least, kept_is_once, kept_is_ordered, kept_permissions_are_names,
@@ -26,5 +25,3 @@ pub use lookup::{Key, Lookup};
 pub use policy::{Joining, Policy};
 pub use redeclaration::Redeclaration;
 pub use rows::Row;
-pub use scope::Scope;
-pub use words::lead;
