@@ -7,7 +7,7 @@ use Rattle.cil_specs.specs.Kept.{Optionals, is_within, restricted, AreApart}
 use Rattle.cil_specs.proofs.Runs.{first_true, second_true}
 use Rattle.cil_specs.proofs.NamesLemmas.{contains-cases, contains-first, contains-other}
 use Rattle.cil_bind.specs.Rows.{AreRows}
-use Rattle.cil_bind.specs.Scope.{IsOpenedIn, Stands, AreFrom, AreAround}
+use Rattle.cil_bind.specs.Scope.{IsOpenedIn, Stands, AreFrom}
 use Rattle.cil_bind.specs.Policy.{AreMarked}
 use Rattle.cil_bind.specs.declared.joined.NamedModule.{NamedModule}
 use Rattle.cil_bind.specs.declared.rows.Row.{Row}

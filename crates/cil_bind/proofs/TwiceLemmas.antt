@@ -1,12 +1,14 @@
 -- Names that are declared again.
-use Rattle.std.proofs.Common.{◌≡◌, ◌⊎◌, inl, inr, ℕ, ◌+◌, ◌<◌, ◌≤◌, Bool, true, false, cond, get_or, List, [], ◌∷◌, ◌++◌, length, take, drop, map, Option, Some, None, slice_get, refl, sym, ap, ◌∙◌, subst, Contains, arith}
+use Rattle.std.proofs.Common.{◌≡◌, ◌⊎◌, inl, inr, ℕ, ◌+◌, ◌<◌, Bool, true, false, cond, get_or, List, [], ◌∷◌, ◌++◌, length, take, drop, Option, Some, None, slice_get, refl, sym, ap, ◌∙◌, subst, Contains, arith}
 use Rattle.std.specs.List.{AllByRecursion, list_any}
 use Rattle.std.proofs.lemmas.Option.{none-some, same_Some, slice_get-get_or, slice_get_within}
 use Rattle.cil_specs.specs.Names.{Word}
 use Rattle.cil_specs.specs.Joined.{Placed}
 use Rattle.cil_specs.specs.Lookup.{Table, declared_in}
 use Rattle.cil_specs.specs.Statements.{Form}
-use Rattle.cil_specs.specs.PolicyFault.{PolicyFault, twice, is_again, twice_words, IsFaultOf, IsNoLater}
+use Rattle.cil_specs.specs.PolicyFault.{PolicyFaultKind, twice, missing, wrong_kind, alias_twice, alias_unset, second_common, too_many_permissions, code_of, PolicyFault, is_again, twice_words, IsFaultOf, IsNoLater}
+use Rattle.cil_specs.specs.Kept.{Optionals, AreApart, judged, IsFirst, IsFirstFault}
+use Rattle.cil_specs.proofs.ExistsLemmas.{kept-exists}
 use Rattle.cil_specs.proofs.NamesLemmas.{contains-first, contains-cases, contains-other, contains-map, stands, same_place, later, earlier}
 use Rattle.cil_specs.proofs.OnceLemmas.{table_in, table-in, twice-some, twice-nothing}
 use Rattle.cil_specs.proofs.PartLemmas.{all-middle}
@@ -80,6 +82,32 @@ pub least-again : (policy : List Placed) (again : Redeclaration) → AreOrdered 
 least-again policy again ordered is =
     subst (IsLeast (IsFaultOf twice policy)) (λ k. record { kind = twice; module_name = sym is.told.named k; at = sym is.told.place k; word = sym is.told.text k })
     (least-at policy is.place is.s is.word ordered is.at is.once is.is_twice)
+
+-- no fault of another kind is earlier
+kind-later : (kind : PolicyFaultKind) (policy : List Placed) (fault other : PolicyFault) → IsLeast (IsFaultOf twice policy) fault → fault.kind ≡ twice → other.kind ≡ kind → IsFaultOf twice policy other ⊎ (code_of twice < code_of kind) → IsNoLater fault other
+kind-later kind policy fault other least own is (inl same) = least.first other same
+kind-later kind policy fault other least own is (inr less) = inl (let a = ap code_of own in let b = ap code_of is in omega (arith, less, a, b))
+
+-- so it is the first of all faults, whatever is kept
+first-of : (policy : List Placed) (kept : Optionals) (fault : PolicyFault) → fault.kind ≡ twice → IsLeast (IsFaultOf twice policy) fault → IsFirst kept policy fault
+first-of policy kept fault own least = record {
+  is = subst (λ kind. IsFaultOf kind (judged kind kept policy) fault) (sym own) least.is;
+  first = λ other is. kind-later other.kind policy fault other least own refl (by other.kind is);
+}
+  where
+    by : {other : PolicyFault} (kind : PolicyFaultKind) → IsFaultOf kind (judged kind kept policy) other → IsFaultOf twice policy other ⊎ (code_of twice < code_of kind)
+    by twice is = inl is
+    by missing is = inr (omega arith)
+    by wrong_kind is = inr (omega arith)
+    by alias_twice is = inr (omega arith)
+    by alias_unset is = inr (omega arith)
+    by second_common is = inr (omega arith)
+    by too_many_permissions is = inr (omega arith)
+
+pub first-fault-again : (policy : List Placed) (again : Redeclaration) → AreApart policy → AreOrdered policy → IsFirstAgain policy again → IsFirstFault policy (fault_of again)
+first-fault-again policy again apart ordered is =
+    let kept = kept-exists policy apart in
+    (kept.0, kept.1, first-of policy kept.0 (fault_of again) refl (least-again policy again ordered is))
 
 -- what is declared again is declared
 pub declares-again : (before : List Placed) (s : Placed) (word : Word) → twice_words before s ≡ word ∷ [] → (table : Table) × (declared_in table s.form ≡ Some word)

@@ -1,12 +1,11 @@
 -- What holds of the statements of modules that are spelt by texts.
-use Rattle.std.proofs.Common.{◌≡◌, ℕ, Bool, true, false, not, ◌&&◌, ◌||◌, ◌==◌, cond, nat_le, List, [], ◌∷◌, ◌++◌, length, map, filter, None, Some, Contains, if◌then◌else◌, refl, sym, ap, ◌∙◌, subst, true≢false}
+use Rattle.std.proofs.Common.{◌≡◌, ℕ, Bool, true, false, not, ◌&&◌, ◌||◌, ◌==◌, cond, nat_le, List, [], ◌∷◌, length, map, None, Some, if◌then◌else◌, refl, sym, ap, ◌∙◌, true≢false}
 use Rattle.std.specs.List.{AllByRecursion, list_all, list_any, slice_split, onto_first}
-use Rattle.std.specs.Prelude.{IsTrue}
 use Rattle.std.proofs.lemmas.Bool.{eqb-true}
 use Rattle.std.proofs.lemmas.Option.{none-some}
 use Rattle.std.proofs.lemmas.List.Splits.{slice_split-cons_no}
 use Rattle.cil_specs.specs.TextFault.{bad_name, reserved}
-use Rattle.cil_specs.specs.Names.{Word, Role, declared, begins_name, is_name_byte, is_name, components, is_reserved, name_fault}
+use Rattle.cil_specs.specs.Names.{Word, declared, begins_name, is_name_byte, is_name, components, is_reserved}
 use Rattle.cil_specs.specs.Shape.{IsGoodWord, Shapes}
 use Rattle.cil_specs.specs.Statements.{Form, block, optional, type_name, type_alias, alias_actual, type_attribute, attribute_set, common, class, class_common, class_order, rule, target_words, words_of, as_declared, as_referred, is_optional, Statements, no_more, statement, are_apart}
 use Rattle.cil_specs.specs.Joined.{Module, Placed, namespace_inside, optionals_inside, placed, joined}

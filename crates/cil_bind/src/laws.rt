@@ -2,7 +2,7 @@
 
 ghost use Rattle.std.specs.Prelude.{ℕ, List, map, IsTrue};
 ghost use Rattle.cil_specs.specs.Joined.{Placed, Module, joined as joined_policy};
-ghost use Rattle.cil_specs.specs.Kept.{Optionals, AreApart, restricted};
+ghost use Rattle.cil_specs.specs.Kept.{Optionals, AreApart, IsFirstFault, restricted};
 ghost use Rattle.cil_specs.specs.Next.{IsModuleText};
 ghost use Rattle.cil_specs.specs.PolicyFault.{twice, IsFaultOf};
 ghost use Rattle.cil_specs.specs.Report.{names_rise};
@@ -56,6 +56,11 @@ pub fn kept_permissions_are_names()
 /// The first name that is declared again is the first fault of its kind, of statements in order.
 pub fn first_again_is_least()
     ensures { (policy : List Placed) (again : Redeclaration) → AreOrdered policy → IsFirstAgain policy again → IsLeast (IsFaultOf twice policy) (fault_of again) }
+{}
+
+/// It is the first of all faults, whatever is kept, where blocks, classes, commons and what is said of them stand in no optional.
+pub fn first_again_is_first_fault()
+    ensures { (policy : List Placed) (again : Redeclaration) → AreApart policy → AreOrdered policy → IsFirstAgain policy again → IsFirstFault policy (fault_of again) }
 {}
 
 /// What is kept of statements that declare each name once declares each name once.

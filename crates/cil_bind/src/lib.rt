@@ -15,16 +15,13 @@ mod rows;
 mod scope;
 mod words;
 
-pub use declarations::{Declarations, Declared};
 pub use joined::{Joined, NamedModule, join};
 pub use laws::{
-    first_again_is_least, kept_is_once, kept_is_ordered, kept_permissions_are_names,
-    names_are_in_order, permissions_are_names, policies_are_apart, policies_are_ordered,
-    rows_are_nested, texts_are_written,
+    first_again_is_first_fault, first_again_is_least, kept_is_once, kept_is_ordered,
+    kept_permissions_are_names, names_are_in_order, permissions_are_names, policies_are_apart,
+    policies_are_ordered, rows_are_nested, texts_are_written,
 };
 pub use lookup::{Key, Lookup};
 pub use policy::{Joining, Policy};
 pub use redeclaration::Redeclaration;
 pub use rows::Row;
-pub use scope::Scope;
-pub use words::lead;

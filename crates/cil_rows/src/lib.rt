@@ -4,6 +4,8 @@
 #[cfg(test)]
 mod answers;
 #[cfg(test)]
+mod bound;
+#[cfg(test)]
 mod commands;
 #[cfg(test)]
 mod cuts;

@@ -1,4 +1,4 @@
-use Rattle.std.proofs.Common.{sym, ap, subst}
+use Rattle.std.proofs.Common.{subst}
 use Rattle.std.specs.Prelude.{IsTrue}
 use Rattle.cil_specs.specs.Report.{names_rise}
 use Rattle.cil_bind.proofs.OrderedLemmas.{spelt-names}

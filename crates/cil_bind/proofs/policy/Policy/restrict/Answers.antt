@@ -1,4 +1,4 @@
-use Rattle.std.proofs.Common.{◌<◌, ◌^◌, length, sym, ap, ◌∙◌, subst}
+use Rattle.std.proofs.Common.{◌<◌, ◌^◌, length, sym, ◌∙◌, subst}
 use Rattle.cil_specs.specs.Kept.{is_within, restricted}
 use Rattle.cil_specs.proofs.OnceLemmas.{once-filtered}
 use Rattle.cil_bind.specs.Policy.{IsBoundTo}
