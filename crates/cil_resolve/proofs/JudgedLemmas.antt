@@ -1,15 +1,34 @@
 -- What is judged of the statements in kept optionals holds of the policy by these.
-use Rattle.std.proofs.Common.{◌≡◌, ◌<◌, inl, inr, Bool, true, false, cond, List, [], ◌∷◌, filter, Contains, refl, sym, ap, ◌∙◌, subst, arith}
+use Rattle.std.proofs.Common.{◌≡◌, ℕ, inl, inr, Bool, true, false, cond, map, List, [], ◌∷◌, filter, Contains, refl, sym, ap, ◌∙◌, subst, arith}
+use Rattle.std.specs.List.{list_all, AllByRecursion}
 use Rattle.cil_specs.specs.Joined.{Placed}
-use Rattle.cil_specs.specs.PolicyFault.{PolicyFaultKind, PolicyFault, twice, missing, wrong_kind, alias_twice, alias_unset, second_common, too_many_permissions, code_of, IsFaultOf, IsNoLater}
+use Rattle.cil_specs.specs.PolicyFault.{PolicyFaultKind, PolicyFault, twice, missing, wrong_kind, alias_twice, alias_unset, second_common, too_many_permissions, IsFaultOf}
 use Rattle.cil_specs.specs.Kept.{Optionals, dropped_of, has_innermost, is_within, restricted, AreKept, AreApart, judged, IsPolicyFault, IsFirst, Compiles, IsFirstFault}
 use Rattle.cil_specs.specs.Meaning.{Meaning, meaning_of, Means}
 use Rattle.cil_specs.specs.Next.{IsFirstAttributeFault, first_fault, first_attribute, IsPolicyFaultOf}
 use Rattle.cil_specs.proofs.NamesLemmas.{contains-first, contains-other, contains-cases}
-use Rattle.cil_specs.proofs.ExistsLemmas.{kept-exists}
 use Rattle.cil_specs.proofs.KeptLemmas.{kept-good}
+use Rattle.cil_specs.proofs.Runs.{first_true}
 use Rattle.cil_specs.proofs.OnceLemmas.{once-filtered}
-use Rattle.cil_bind.specs.Ordered.{IsLeast}
+use Rattle.cil_specs.specs.Joined.{Module, joined}
+use Rattle.cil_specs.specs.Report.{names_rise}
+use Rattle.cil_specs.proofs.FaultWords.{contains-filtered}
+use Rattle.cil_bind.specs.Ordered.{AreOrdered, IsLeast}
+use Rattle.cil_bind.specs.Written.{AreWritten, HaveOneNames}
+use Rattle.cil_bind.specs.declared.joined.NamedModule.{NamedModule}
+use Rattle.cil_bind.proofs.OrderedLemmas.{spelt-names, joined-ordered, ordered-filtered}
+use Rattle.cil_bind.specs.Policy.{Makes, IsFirstAgain, fault_of, TellsAround}
+use Rattle.cil_bind.specs.declared.policy.Joining.{Joining}
+use Rattle.cil_bind.specs.declared.policy.Joining.TheVariants.{Once, Twice}
+use Rattle.cil_bind.specs.declared.policy.Policy.{Policy}
+use Rattle.cil_bind.specs.declared.redeclaration.Redeclaration.{Redeclaration}
+use Rattle.cil_bind.proofs.NestedLemmas.{nested-rows}
+use Rattle.cil_bind.proofs.TwiceLemmas.{first-fault-again}
+use Rattle.cil_bind.proofs.WrittenLemmas.{written-apart, written-names}
+use Rattle.cil_resolve.specs.Judged.{IsJudged, IsWhole, IsInOrder}
+use Rattle.cil_resolve.specs.Resolved.{dropped_with}
+use Rattle.cil_resolve.specs.Modules.{IsSound, AreKeptOf, names_of}
+use Rattle.cil_resolve.specs.declared.judged.Judged.{Judged}
 use Rattle.cil_check.specs.Ordered.{IsFaultIn, IsFaultless}
 use Rattle.cil_check.specs.Bound.{AreFoundInside}
 
@@ -38,31 +57,6 @@ pub kept-inside : (policy : List Placed) (kept : Optionals) → AreApart policy 
 kept-inside policy kept apart are s there inside =
     let from = filter-contained (is_within kept) policy s there in
     (kept-good policy kept apart are).found s from.0 (within-directly kept s.module_name s.optionals inside from.1)
-
--- The least name that is declared twice is the first fault, whatever is kept.
-twice-first : (kept : Optionals) (policy : List Placed) (fault : PolicyFault) → IsLeast (IsFaultOf twice policy) fault → IsFirst kept policy fault
-twice-first kept policy fault least = record {
-  is = subst (λ kind. IsFaultOf kind (judged kind kept policy) fault) (sym its) least.is;
-  first = λ other. by other other.kind refl;
-}
-  where
-    its : fault.kind ≡ twice
-    its = ap (λ g. g.kind) least.is.is_at
-
-    less : (other : PolicyFault) (kind : PolicyFaultKind) → other.kind ≡ kind → 41 < code_of kind → IsNoLater fault other
-    less other kind e more = inl (omega (arith, ap code_of its, ap code_of e, more))
-
-    by : (other : PolicyFault) (kind : PolicyFaultKind) → other.kind ≡ kind → IsPolicyFault kept policy other → IsNoLater fault other
-    by other twice e g = least.first other (subst (λ k. IsFaultOf k (judged k kept policy) other) e g)
-    by other missing e g = less other missing e (omega arith)
-    by other wrong_kind e g = less other wrong_kind e (omega arith)
-    by other alias_twice e g = less other alias_twice e (omega arith)
-    by other alias_unset e g = less other alias_unset e (omega arith)
-    by other second_common e g = less other second_common e (omega arith)
-    by other too_many_permissions e g = less other too_many_permissions e (omega arith)
-
-pub twice-fault : (policy : List Placed) → AreApart policy → (fault : PolicyFault) → IsLeast (IsFaultOf twice policy) fault → IsFirstFault policy fault
-twice-fault policy apart fault least = let kept = kept-exists policy apart in (kept.0, kept.1, twice-first kept.0 policy fault least)
 
 -- a first fault is one that the policy is refused for
 pub first-refused : (policy : List Placed) (fault : PolicyFault) → IsFirstFault policy fault → IsPolicyFaultOf policy fault
@@ -114,3 +108,47 @@ module _ (policy : List Placed) (kept : Optionals) (are : AreKept policy kept) (
 
   pub judged-attribute : (fault : PolicyFault) → IsFaultless (restricted kept policy) → IsFirstAttributeFault (restricted kept policy) fault → IsPolicyFaultOf policy fault
   judged-attribute fault faultless first = (kept, are, first_attribute (compiles faultless) first)
+
+-- modules of texts are written
+pub sound-written : (modules : List Module) → AllByRecursion IsSound modules → AreWritten modules
+sound-written [] sound = tt
+sound-written (m ∷ modules) (sound, others) = (sound.written, sound-written modules others)
+
+-- The modules of texts have these names, in order, and this joined policy.
+module _ {A : Type 0} (parsed : List (NamedModule A)) (modules : List Module) (are : AreKeptOf parsed modules) (rise : names_rise (names_of parsed) ≡ true) where
+  abbrev policy : List Placed
+  policy = joined modules
+
+  ordered : AreOrdered policy
+  ordered = joined-ordered modules (subst (λ names. names_rise names ≡ true) (spelt-names parsed modules are.spelt) rise) (sound-written modules are.sound)
+
+  apart : AreApart policy
+  apart = written-apart modules (sound-written modules are.sound)
+
+  -- the whole policy, where each name is declared once
+  pub once-whole : (joining : Joining A) (p : Policy A) → Makes parsed policy joining → TellsAround policy joining → joining ≡ Once p → IsWhole p parsed policy
+  once-whole joining p makes around is = record {
+    bound = subst (Makes parsed policy) is makes;
+    nested = nested-rows p.rows.items policy ordered (subst (TellsAround policy) is around);
+    apart = apart;
+  }
+
+  -- the first fault, where a name is declared again
+  pub twice-first : (joining : Joining A) (again : Redeclaration) → Makes parsed policy joining → joining ≡ Twice again → IsFirstFault policy (fault_of again)
+  twice-first joining again makes is = first-fault-again policy again apart ordered (subst (Makes parsed policy) is makes)
+
+  -- what is kept of the policy is in order
+  pub judged-in-order : (judged : Judged A) → (is : IsJudged policy parsed judged) → IsInOrder judged.policy parsed (restricted is.kept policy)
+  judged-in-order judged is = record {
+    bound = is.bound;
+    ordered = ordered-filtered (is_within is.kept) policy ordered;
+    inside = kept-inside policy is.kept is.apart is.are_kept;
+    spelt = λ s there. written-names modules (sound-written modules are.sound) s (contains-filtered (is_within is.kept) policy s there);
+  }
+
+-- What it means is what its statements in kept optionals mean, and the optionals that drop.
+pub kept-means : {A : Type 0} (policy : List Placed) (parsed others : List (NamedModule A)) (judged : Judged A) (is : IsJudged policy parsed judged) (meaning : Meaning) → others ≡ parsed → IsFaultless (restricted is.kept policy)
+    → meaning ≡ meaning_of (restricted is.kept policy) (map (dropped_with (names_of others)) judged.dropped.items) → Means policy is.kept meaning
+kept-means policy parsed others judged is meaning same faultless means =
+    judged-means policy is.kept is.are_kept is.once meaning faultless
+    (means ∙ ap (λ parsed. meaning_of (restricted is.kept policy) (map (dropped_with (names_of parsed)) judged.dropped.items)) same ∙ ap (meaning_of (restricted is.kept policy)) is.dropped_are)

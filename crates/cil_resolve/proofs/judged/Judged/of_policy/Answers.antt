@@ -1,0 +1,18 @@
+use Rattle.std.proofs.Common.{◌≡◌, List, Bool, false, Some, slice_get, slice_index_or, suc, map, IsTrue, sym, subst}
+use Rattle.cil_specs.specs.Joined.{Placed}
+use Rattle.cil_specs.specs.Kept.{dropped_of}
+use Rattle.cil_bind.specs.Policy.{AreMarked}
+use Rattle.cil_resolve.specs.Dropped.{HaveMarks}
+use Rattle.cil_resolve.proofs.judged.Judged.of_policy.Goals as goal
+
+pub returns : goal.returns
+returns g c = λ all is.
+    let shown = c.in_ok-kept.ensures all is.bound is.nested is.apart in
+    record {
+      kept = shown.set;
+      are_kept = shown.are_kept;
+      apart = is.apart;
+      once = is.bound.once;
+      bound = c.in_ok-policy.ensures all shown.set is.bound is.apart (subst (λ marks. AreMarked shown.set marks c.args.policy.rows.items all) (sym c.deref-2.ensures.value) shown.marked);
+      dropped_are = c.in_ok-dropped.ensures all shown.set is.bound (subst (λ marks. HaveMarks shown.set marks all) (sym c.deref.ensures.value) shown.own);
+    }
