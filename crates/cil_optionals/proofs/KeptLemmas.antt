@@ -1,9 +1,8 @@
 -- The marked optionals are those that a policy keeps.
-use Rattle.std.proofs.Common.{◌≡◌, ◌≢◌, ◌↔◌, ◌⊎◌, inl, inr, ℕ, zero, suc, ◌+◌, ◌-◌, ◌<◌, ◌≤◌, ◌==◌, Bool, true, false, not, ◌&&◌, ◌||◌, nat_lt, List, [], ◌∷◌, ◌++◌, length, get_or, take, slice_get, position, Option, Some, None, is_some, bytes_eq, Contains, refl, sym, ap, ◌∙◌, subst, arith, true≢false, if◌then◌else◌}
+use Rattle.std.proofs.Common.{◌≡◌, inl, inr, ℕ, zero, suc, ◌+◌, ◌-◌, ◌<◌, ◌≤◌, ◌==◌, Bool, true, false, not, ◌&&◌, ◌||◌, nat_lt, List, [], ◌∷◌, ◌++◌, length, get_or, take, slice_get, position, Option, Some, None, is_some, bytes_eq, Contains, refl, sym, ap, ◌∙◌, subst, arith, true≢false, if◌then◌else◌}
 use Rattle.std.specs.List.{list_all, list_any}
 use Rattle.std.specs.Option.{option_or}
 use Rattle.std.proofs.lemmas.Bool.{cases_lt, lt-ltb, ltb-true, eqb-true, eq-eqb}
-use Rattle.std.proofs.lemmas.Bool.Decides.{Decides-ltb}
 use Rattle.std.proofs.lemmas.List.Quantifiers.{position-Some}
 use Rattle.std.proofs.lemmas.List.{get_or-take}
 use Rattle.std.proofs.lemmas.List.Folds.{list_all-append}
@@ -11,7 +10,7 @@ use Rattle.std.proofs.lemmas.Option.{none-some, same_Some, slice_get_within, sli
 use Rattle.std.proofs.lemmas.Slice.Eq.{bytes_eq-Decides}
 use Rattle.cil_specs.specs.Statements.{is_optional}
 use Rattle.cil_specs.specs.Joined.{Placed}
-use Rattle.cil_specs.specs.Lookup.{Table, scopes, declares, declaration, outward, holds_of}
+use Rattle.cil_specs.specs.Lookup.{Table, declares, declaration, outward, holds_of}
 use Rattle.cil_specs.specs.PolicyFault.{PolicyFault, twice, missing_words, IsFaultOf}
 use Rattle.cil_specs.specs.Kept.{Optionals, is_within, is_member, is_directly_in, has_innermost, is_optional_at, restricted, IsGood, AreKept, AreApart}
 use Rattle.cil_specs.proofs.Runs.{first_true, second_true, both_true}
@@ -21,11 +20,11 @@ use Rattle.cil_bind.proofs.PositionLemmas.{any-position}
 use Rattle.cil_optionals.specs.Needs.{is_met, are_met, is_need_below}
 use Rattle.cil_optionals.specs.Nested.{IsInnermost, AreNested, mark_at, set_of, ShowsKept}
 use Rattle.cil_optionals.specs.Nodes.{declared_table, declared_text, is_naming, is_provided, AreOptionalsOf, AreNodesOf}
-use Rattle.cil_optionals.specs.Providers.{further_out, IsDeclaration, IsFurther, IsProvidedBy, AreProviders}
+use Rattle.cil_optionals.specs.Providers.{further_out, IsDeclaration, IsProvidedBy, AreProviders}
 use Rattle.cil_optionals.specs.Others.{is_need_within, AreFoundWithin, AreOthers}
 use Rattle.cil_optionals.specs.declared.greatest.Need.{Need}
 use Rattle.cil_optionals.proofs.FoundLemmas.{IsNamed, declared-named, found-passes}
-use Rattle.cil_optionals.proofs.ProviderLemmas.{row-within, provided-by, naming-declaration}
+use Rattle.cil_optionals.proofs.ProviderLemmas.{provided-by, naming-declaration}
 
 -- an element that passes stands at a place
 any-place : {X : Type 0} (p : X → Bool) (xs : List X) (k : ℕ) (x : X) → slice_get xs k ≡ Some x → p x ≡ true → list_any p xs ≡ true
