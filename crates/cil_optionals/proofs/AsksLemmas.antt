@@ -1,16 +1,16 @@
 -- Needs of statements.
-use Rattle.std.proofs.Common.{◌≡◌, ◌⊎◌, inl, inr, ℕ, zero, suc, ◌+◌, ◌<◌, ◌≤◌, ◌==◌, Bool, true, false, not, ◌&&◌, ◌||◌, nat_lt, List, [], ◌∷◌, ◌++◌, map, length, get_or, slice_get, take, Option, Some, None, is_some, IfSome, refl, sym, ap, ◌∙◌, subst, arith, add-one, append_assoc, append-nil, true≢false, if◌then◌else◌}
+use Rattle.std.proofs.Common.{◌≡◌, ℕ, zero, suc, ◌+◌, ◌<◌, ◌≤◌, ◌==◌, Bool, true, false, not, ◌&&◌, ◌||◌, nat_lt, List, [], ◌∷◌, ◌++◌, map, length, get_or, slice_get, take, Option, Some, None, is_some, IfSome, refl, sym, ap, ◌∙◌, subst, arith, add-one, append_assoc, append-nil, if◌then◌else◌}
 use Rattle.std.specs.List.{list_all, list_any}
 use Rattle.std.specs.Option.{option_to_list}
 use Rattle.std.proofs.lemmas.Bool.{eq-eqb, lt-ltb}
 use Rattle.std.proofs.lemmas.List.{take_all}
 use Rattle.std.proofs.lemmas.List.Folds.{list_all-append}
-use Rattle.std.proofs.lemmas.Option.{none-some, same_Some, slice_get_within, slice_get_cases, slice_get_read}
+use Rattle.std.proofs.lemmas.Option.{none-some, same_Some, slice_get_within, slice_get_read}
 use Rattle.cil_specs.specs.Names.{Word}
 use Rattle.cil_specs.specs.Statements.{Form, block, optional, type_name, type_alias, alias_actual, type_attribute, attribute_set, common, class, class_common, class_order, rule, itself, the_named}
 use Rattle.cil_specs.specs.Expr.{leaves}
 use Rattle.cil_specs.specs.Joined.{Placed}
-use Rattle.cil_specs.specs.Lookup.{Table, types, classes, commons, scopes, holds_of, leads, references}
+use Rattle.cil_specs.specs.Lookup.{Table, types, classes, scopes, holds_of, leads, references}
 use Rattle.cil_specs.specs.PolicyFault.{is_unfound}
 use Rattle.cil_specs.specs.Kept.{Optionals, is_within, restricted}
 use Rattle.cil_specs.specs.Statements.{Statements}
@@ -23,7 +23,7 @@ use Rattle.cil_parse.specs.declared.row.NumberedWord.{NumberedWord}
 use Rattle.cil_parse.specs.declared.table.Table as code
 use Rattle.cil_parse.specs.declared.view.StatementView.{StatementView}
 use Rattle.cil_bind.proofs.ScopeLemmas.{read-text, read-within}
-use Rattle.cil_specs.proofs.Runs.{first_true, second_true, both_true}
+use Rattle.cil_specs.proofs.Runs.{both_true}
 use Rattle.cil_bind.specs.Binding.{AreLeads, AreBound}
 use Rattle.cil_bind.specs.Lookup.{IsLead, table_of}
 use Rattle.cil_bind.specs.declared.rows.Row.{Row}
@@ -31,7 +31,7 @@ use Rattle.cil_bind.specs.declared.policy.Policy.{Policy}
 use Rattle.cil_bind.specs.declared.joined.NamedModule.{NamedModule}
 use Rattle.cil_bind.proofs.DeclareLemmas.{rows-length}
 use Rattle.cil_bind.proofs.PositionLemmas.{take-next}
-use Rattle.cil_optionals.specs.Needs.{is_met, are_met}
+use Rattle.cil_optionals.specs.Needs.{is_met}
 use Rattle.cil_bind.specs.Nested.{IsInnermost}
 use Rattle.cil_optionals.specs.Nodes.{is_provided, is_plain, AreNodesOf}
 use Rattle.cil_optionals.specs.Providers.{IsReady}

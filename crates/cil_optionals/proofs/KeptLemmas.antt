@@ -1,16 +1,16 @@
 -- The marked optionals are those that a policy keeps.
-use Rattle.std.proofs.Common.{◌≡◌, ◌≢◌, ◌↔◌, ◌⊎◌, inl, inr, ℕ, zero, suc, ◌+◌, ◌-◌, ◌<◌, ◌≤◌, ◌==◌, Bool, true, false, not, ◌&&◌, ◌||◌, nat_lt, List, [], ◌∷◌, ◌++◌, length, get_or, slice_get, position, Option, Some, None, is_some, bytes_eq, Contains, refl, sym, ap, ◌∙◌, subst, arith, true≢false, if◌then◌else◌}
+use Rattle.std.proofs.Common.{◌≡◌, inl, inr, ℕ, zero, suc, ◌+◌, ◌-◌, ◌<◌, ◌≤◌, ◌==◌, Bool, true, false, not, ◌&&◌, ◌||◌, nat_lt, List, [], ◌∷◌, ◌++◌, length, get_or, take, slice_get, position, Option, Some, None, is_some, bytes_eq, Contains, refl, sym, ap, ◌∙◌, subst, arith, true≢false, if◌then◌else◌}
 use Rattle.std.specs.List.{list_all, list_any}
 use Rattle.std.specs.Option.{option_or}
 use Rattle.std.proofs.lemmas.Bool.{cases_lt, lt-ltb, ltb-true, eqb-true, eq-eqb}
-use Rattle.std.proofs.lemmas.Bool.Decides.{Decides-ltb}
 use Rattle.std.proofs.lemmas.List.Quantifiers.{position-Some}
+use Rattle.std.proofs.lemmas.List.{get_or-take}
 use Rattle.std.proofs.lemmas.List.Folds.{list_all-append}
 use Rattle.std.proofs.lemmas.Option.{none-some, same_Some, slice_get_within, slice_get_cases, slice_get_read, get_or_from_slice_get}
 use Rattle.std.proofs.lemmas.Slice.Eq.{bytes_eq-Decides}
 use Rattle.cil_specs.specs.Statements.{is_optional}
 use Rattle.cil_specs.specs.Joined.{Placed}
-use Rattle.cil_specs.specs.Lookup.{Table, scopes, declares, declaration, outward, holds_of}
+use Rattle.cil_specs.specs.Lookup.{Table, declares, declaration, outward, holds_of}
 use Rattle.cil_specs.specs.PolicyFault.{PolicyFault, twice, missing_words, IsFaultOf}
 use Rattle.cil_specs.specs.Kept.{Optionals, is_within, is_member, is_directly_in, has_innermost, is_optional_at, restricted, IsGood, AreKept, AreApart}
 use Rattle.cil_specs.proofs.Runs.{first_true, second_true, both_true}
@@ -21,11 +21,11 @@ use Rattle.cil_optionals.specs.Needs.{is_met, are_met, is_need_below}
 use Rattle.cil_bind.specs.Nested.{IsInnermost, AreNested}
 use Rattle.cil_optionals.specs.Nested.{mark_at, set_of, ShowsKept}
 use Rattle.cil_optionals.specs.Nodes.{declared_table, declared_text, is_naming, is_provided, AreOptionalsOf, AreNodesOf}
-use Rattle.cil_optionals.specs.Providers.{further_out, IsDeclaration, IsFurther, IsProvidedBy, AreProviders}
+use Rattle.cil_optionals.specs.Providers.{further_out, IsDeclaration, IsProvidedBy, AreProviders}
 use Rattle.cil_optionals.specs.Others.{is_need_within, AreFoundWithin, AreOthers}
 use Rattle.cil_optionals.specs.declared.greatest.Need.{Need}
 use Rattle.cil_optionals.proofs.FoundLemmas.{IsNamed, declared-named, found-passes}
-use Rattle.cil_optionals.proofs.ProviderLemmas.{row-within, provided-by, naming-declaration}
+use Rattle.cil_optionals.proofs.ProviderLemmas.{provided-by, naming-declaration}
 
 -- an element that passes stands at a place
 any-place : {X : Type 0} (p : X → Bool) (xs : List X) (k : ℕ) (x : X) → slice_get xs k ≡ Some x → p x ≡ true → list_any p xs ≡ true
@@ -411,3 +411,23 @@ module _ {A : Type 0} (policy : List Placed) (rows : List Row) (row-there : (i :
     marked = marked-all rows policy same within-marked;
     own = λ k s at is. sym (mark-of rows policy marks nested k s at is);
   }
+
+-- and the marks behind the last number aren't needed
+pub shows-taken : (policy : List Placed) (rows : List Row) (marks : List Bool) (n : ℕ) → AreNested rows policy → length policy < n → ShowsKept policy rows marks → ShowsKept policy rows (take n marks)
+shows-taken policy rows marks n nested long shows = record {
+  set = shows.set;
+  are_kept = shows.are_kept;
+  marked = by rows policy (λ i row s at here. number i row.optional s (slice_get_within policy i s here) (nested.around i row s at here)) shows.marked;
+  own = λ k s at is. (let low = slice_get_within policy k s at in get_or-take n marks (suc k) false (omega (arith, low, long))) ∙ shows.own k s at is;
+}
+  where
+    number : (i m : ℕ) (s : Placed) → i < length policy → IsInnermost policy i m s → m < n
+    number i zero s low outside = omega (arith, low, long)
+    number i (suc k) s low inside = (let before = inside.1 in omega (arith, low, long, before))
+
+    by : (rs : List Row) (statements : List Placed) → ((i : ℕ) (row : Row) (s : Placed) → slice_get rs i ≡ Some row → slice_get statements i ≡ Some s → row.optional < n)
+        → AreMarked shows.set marks rs statements → AreMarked shows.set (take n marks) rs statements
+    by [] [] low are = are
+    by [] (s ∷ statements) low are = are
+    by (row ∷ rs) [] low are = are
+    by (row ∷ rs) (s ∷ statements) low are = (get_or-take n marks row.optional false (low 0 row s refl refl) ∙ are.0, by rs statements (λ i r t at here. low (suc i) r t at here) are.1)

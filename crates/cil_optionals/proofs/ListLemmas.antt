@@ -1,6 +1,5 @@
 -- Lists with an element set.
-use Rattle.std.proofs.Common.{◌≡◌, ℕ, zero, suc, List, [], ◌∷◌, set, slice_get, Option, Some, None, refl, ap}
-use Rattle.std.proofs.lemmas.Option.{same_Some}
+use Rattle.std.proofs.Common.{◌≡◌, ℕ, zero, suc, List, [], ◌∷◌, set, slice_get, Some, refl, ap}
 
 pub get-set_same : {X : Type 0} (xs : List X) (m : ℕ) (x y : X) → slice_get xs m ≡ Some x → slice_get (set xs m y) m ≡ Some y
 get-set_same [] m x y is = absurd (cc is)

@@ -1,7 +1,6 @@
 -- What statements and optionals inside others need.
-use Rattle.std.proofs.Common.{◌≡◌, ◌≢◌, ◌↔◌, ◌⊎◌, inl, inr, ℕ, zero, suc, ◌+◌, ◌<◌, ◌≤◌, ◌==◌, Bool, true, false, not, ◌&&◌, ◌||◌, nat_lt, cond, List, [], ◌∷◌, ◌++◌, map, filter, length, get_or, slice_get, Some, None, Contains, refl, sym, ap, ◌∙◌, subst, arith, true≢false}
+use Rattle.std.proofs.Common.{◌≡◌, ◌≢◌, inl, inr, ℕ, zero, suc, ◌+◌, ◌<◌, ◌≤◌, ◌==◌, Bool, true, false, not, ◌&&◌, ◌||◌, nat_lt, cond, List, [], ◌∷◌, ◌++◌, map, filter, length, get_or, slice_get, Some, None, refl, sym, ap, ◌∙◌, subst, arith, true≢false}
 use Rattle.std.specs.List.{list_all, list_any}
-use Rattle.std.specs.Option.{option_to_list}
 use Rattle.std.proofs.lemmas.Bool.{cases_lt, lt-ltb, eqb-true}
 use Rattle.std.proofs.lemmas.List.Folds.{list_all-append}
 use Rattle.std.proofs.lemmas.Option.{same_Some, slice_get_within}
@@ -15,12 +14,11 @@ use Rattle.cil_specs.proofs.Runs.{first_true, second_true, both_true}
 use Rattle.cil_bind.specs.declared.rows.Row.{Row}
 use Rattle.cil_optionals.specs.Needs.{is_met, are_met}
 use Rattle.cil_bind.specs.Nested.{IsInnermost, AreNested}
-use Rattle.cil_optionals.specs.Nodes.{AreNodesOf}
 use Rattle.cil_optionals.specs.Asks.{is_need_of, are_found, are_there, AddsNeed, Asks, IsOf}
 use Rattle.cil_optionals.specs.Others.{is_need_within, AreOthersTo, AreOthers}
 use Rattle.cil_optionals.specs.declared.greatest.Need.{Need}
 use Rattle.cil_optionals.proofs.KeptLemmas.{place-of, contains-place}
-use Rattle.cil_optionals.proofs.ProviderLemmas.{row-within, HasRow, row-of}
+use Rattle.cil_optionals.proofs.ProviderLemmas.{row-within, HasRow}
 use Rattle.cil_optionals.proofs.AsksLemmas.{asks-same, asks-need}
 use Rattle.cil_optionals.specs.Providers.{IsReady}
 use Rattle.cil_specs.specs.Names.{Word}

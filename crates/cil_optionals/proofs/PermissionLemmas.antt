@@ -1,9 +1,8 @@
 -- The permissions of classes.
-use Rattle.std.proofs.Common.{◌≡◌, ℕ, zero, suc, ◌+◌, ◌-◌, ◌<◌, ◌≤◌, ◌==◌, ◌&&◌, ◌||◌, not, nat_eq, Bool, true, false, List, [], ◌∷◌, ◌++◌, map, flat_map, length, set, take, position, get_or, slice_get, Option, Some, None, Vec, IfSome, bytes_eq, refl, sym, ap, ◌∙◌, subst, true≢false, add-one, arith, cond, inl, inr, if◌then◌else◌}
+use Rattle.std.proofs.Common.{◌≡◌, ℕ, zero, suc, ◌+◌, ◌<◌, ◌≤◌, ◌==◌, ◌&&◌, ◌||◌, not, Bool, true, false, List, [], ◌∷◌, ◌++◌, map, flat_map, length, take, position, get_or, slice_get, Option, Some, None, IfSome, bytes_eq, refl, sym, ap, ◌∙◌, true≢false, add-one, arith, inl, inr, if◌then◌else◌}
 use Rattle.std.specs.List.{list_all, list_any}
-use Rattle.std.specs.Option.{option_and_then}
-use Rattle.std.proofs.lemmas.Option.{none-some, same_Some, get_or_from_slice_get, slice_get_within, slice_get-get_or}
-use Rattle.std.proofs.lemmas.Bool.{eqb-true, eqb-false, eq-eqb, ne_eqb, cases_eq}
+use Rattle.std.proofs.lemmas.Option.{none-some, same_Some, get_or_from_slice_get, slice_get-get_or}
+use Rattle.std.proofs.lemmas.Bool.{eqb-true, eq-eqb, ne_eqb, cases_eq}
 use Rattle.std.proofs.lemmas.List.{take_all, length-map}
 use Rattle.std.proofs.lemmas.List.Folds.{list_any-append}
 use Rattle.std.proofs.lemmas.List.Quantifiers.{position-Some}
@@ -24,13 +23,11 @@ use Rattle.cil_parse.specs.Builder.{read}
 use Rattle.cil_parse.specs.Forms.{kind_of, permissions_in as listed_in}
 use Rattle.cil_parse.specs.declared.row.NumberedWord.{NumberedWord}
 use Rattle.cil_optionals.specs.Asks.{are_there}
-use Rattle.cil_optionals.specs.Given.{lists, commons_of, commons_at, gift, given_at, last_bound, is_rule, lists_own, gives_common, lists_at, common_passes, gives_passing, permissions_in, IsUpTo}
+use Rattle.cil_optionals.specs.Given.{lists, commons_at, gift, given_at, last_bound, is_rule, lists_own, gives_common, lists_at, common_passes, gives_passing, permissions_in, IsUpTo}
 use Rattle.cil_optionals.specs.Permissions.{SeenPermissions, HavePermissions}
 use Rattle.cil_optionals.specs.declared.permissions.Permission.{Permission}
 use Rattle.cil_optionals.specs.declared.permissions.Permissions.{Permissions}
 use Rattle.cil_optionals.specs.contracts.permissions.PermissionPartialEq.TheImpl as permission_eq
-use Rattle.cil_optionals.proofs.GreatestLemmas.{got-push}
-use Rattle.cil_optionals.proofs.ListLemmas.{get-set_same, get-set_other}
 
 pub derived-permission : (p : Permission) → (permission_eq.eq-value).it p ≡ (λ other. (p.place == other.place) && bytes_eq p.name.now other.name.now)
 derived-permission p = refl

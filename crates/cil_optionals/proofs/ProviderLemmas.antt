@@ -1,7 +1,6 @@
 -- What the nodes of names need is met by what is found.
-use Rattle.std.proofs.Common.{◌≡◌, ◌≢◌, ◌⊎◌, inl, inr, ℕ, zero, suc, ◌+◌, ◌<◌, ◌≤◌, Bool, true, false, not, ◌&&◌, ◌||◌, nat_lt, nat_eq, cond, List, [], ◌∷◌, ◌++◌, length, get_or, slice_get, find, Option, Some, None, is_some, Contains, refl, sym, ap, ◌∙◌, subst, arith, true≢false, if◌then◌else◌}
+use Rattle.std.proofs.Common.{◌≡◌, ◌⊎◌, inl, inr, ℕ, zero, suc, ◌+◌, ◌<◌, ◌≤◌, Bool, true, false, not, ◌&&◌, ◌||◌, nat_lt, cond, List, [], ◌∷◌, ◌++◌, length, get_or, slice_get, find, Option, Some, None, is_some, refl, sym, ap, ◌∙◌, subst, arith, true≢false, if◌then◌else◌}
 use Rattle.std.specs.List.{list_all, list_any}
-use Rattle.std.specs.Option.{option_or, option_and_then}
 use Rattle.std.proofs.lemmas.Bool.{cases_lt, lt-ltb}
 use Rattle.std.proofs.lemmas.Option.{none-some, same_Some, slice_get_within, slice_get_cases, slice_get_read}
 use Rattle.std.proofs.lemmas.List.Folds.{list_all-append}
@@ -25,7 +24,7 @@ use Rattle.cil_parse.specs.declared.table.Table.TheVariants.{Types, Classes, Com
 use Rattle.cil_optionals.specs.Needs.{is_met, are_met, is_need_below}
 use Rattle.cil_bind.specs.Nested.{IsInnermost, AreNested}
 use Rattle.cil_optionals.specs.Nodes.{declared_table, declared_text, is_naming, is_provided, AreOptionalsOf, AreNodesOf}
-use Rattle.cil_optionals.specs.Providers.{further_out, alternatives, IsReady, IsDeclaration, IsFurther, IsProvidedBy, AreProviders}
+use Rattle.cil_optionals.specs.Providers.{further_out, alternatives, IsReady, IsDeclaration, IsProvidedBy, AreProviders}
 use Rattle.cil_optionals.specs.declared.greatest.Need.{Need}
 use Rattle.cil_optionals.proofs.FoundLemmas.{either-some, table-of, naming-of, declaration-within, outward-provided}
 

@@ -1,5 +1,5 @@
 -- What nodes need of others, by their numbers.
-use Rattle.std.specs.Prelude.{◌≡◌, ◌<◌, ◌≤◌, ℕ, Bool, true, false, not, ◌&&◌, ◌||◌, nat_lt, List, length, slice_index, slice_index_or, slice_get, Option, Some, MatchOption, Contains, All, Vec}
+use Rattle.std.specs.Prelude.{◌≡◌, ◌<◌, ◌≤◌, ℕ, Bool, false, not, ◌&&◌, ◌||◌, nat_lt, List, length, slice_index, slice_index_or, slice_get, Some, MatchOption, Contains, All, Vec}
 use Rattle.std.specs.List.{list_all, list_any}
 use Rattle.cil_optionals.specs.declared.greatest.Need.{Need}
 

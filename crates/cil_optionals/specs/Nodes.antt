@@ -1,7 +1,7 @@
 -- The nodes of a policy by numbers: none at 0; then its statements, of which the optionals count; and then its statements once more, for the
 -- names that they declare.
-use Rattle.std.specs.Prelude.{◌≡◌, ◌⊎◌, ℕ, suc, ◌+◌, Bool, true, false, not, ◌&&◌, List, [], ◌∷◌, length, slice_get, is_some, Option, Some, None, IsTrue, if◌then◌else◌}
-use Rattle.cil_specs.specs.Names.{Word, components}
+use Rattle.std.specs.Prelude.{◌≡◌, ℕ, suc, ◌+◌, Bool, true, false, ◌&&◌, List, [], ◌∷◌, length, slice_get, is_some, Some, IsTrue, if◌then◌else◌}
+use Rattle.cil_specs.specs.Names.{components}
 use Rattle.cil_specs.specs.Statements.{Form, block, optional, type_name, type_alias, type_attribute, common, class, is_optional}
 use Rattle.cil_specs.specs.Joined.{Placed}
 use Rattle.cil_specs.specs.Lookup.{Table, types, classes, commons, scopes, declared_in, word_text, outward, is_global}

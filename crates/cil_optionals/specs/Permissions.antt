@@ -1,5 +1,5 @@
 -- The permissions of classes.
-use Rattle.std.specs.Prelude.{◌≡◌, ℕ, Bool, ◌||◌, List, bytes_eq, slice_get, Some}
+use Rattle.std.specs.Prelude.{◌≡◌, ℕ, Bool, List, bytes_eq, slice_get, Some}
 use Rattle.std.specs.List.{list_any}
 use Rattle.cil_specs.specs.Joined.{Placed}
 use Rattle.cil_specs.specs.Lookup.{classes, permissions_of}

@@ -1,6 +1,6 @@
 //! The optionals that a policy keeps.
 
-ghost use Rattle.std.specs.Prelude.{◌≡◌, ℕ, List, IfOk};
+ghost use Rattle.std.specs.Prelude.{◌≡◌, ◌+◌, ℕ, List, length, IfOk};
 ghost use Rattle.cil_specs.specs.Joined.{Placed};
 ghost use Rattle.cil_specs.specs.Kept.{AreApart};
 ghost use Rattle.cil_bind.specs.Policy.{IsBoundTo};
@@ -14,15 +14,16 @@ use crate::providers::providers;
 use cil_bind::{Joined, Policy};
 use std::alloc::{AllocError, Allocator};
 
-/// A mark for each number of an optional, its place and 1 more, whether the policy keeps it. 0, which stands for none, is marked, and
-/// behind the last number there are marks of no meaning. A policy whose places have more than 32 bits is answered as out of memory.
+/// A mark for each number of an optional, its place and 1 more, whether the policy keeps it. 0, which stands for none, is marked, and the
+/// marks of other statements have no meaning. A policy whose places have more than 32 bits is answered as out of memory.
 pub fn kept_optionals<'m, A: Allocator + Copy>(
     alloc: A,
     joined: &Joined<'m, A>,
     policy: &Policy<'m, A>,
 ) -> Result<Vec<bool, A>, AllocError>
     requires { (all : List Placed) × IsBoundTo policy.now joined.now.modules.items all × AreNested policy.now.rows.items all × AreApart all }
-    ensures { IfOk result (λ kept. (all : List Placed) → IsBoundTo policy.now joined.now.modules.items all → AreNested policy.now.rows.items all → AreApart all
+    ensures len { IfOk result (λ kept. length kept.items ≡ length policy.now.rows.items + 1) }
+    ensures kept { IfOk result (λ kept. (all : List Placed) → IsBoundTo policy.now joined.now.modules.items all → AreNested policy.now.rows.items all → AreApart all
         → ShowsKept all policy.now.rows.items kept.items) }
 {
     let count = policy.rows.len();
@@ -33,6 +34,7 @@ pub fn kept_optionals<'m, A: Allocator + Copy>(
     let mut needs = providers(alloc, policy)?;
     let more = others(alloc, joined, policy, &permissions)?;
     needs.extend(more)?;
-    let kept = greatest(alloc, count + count, &needs)?;
+    let mut kept = greatest(alloc, count + count, &needs)?;
+    kept.truncate(count + 1);
     Ok(kept)
 }

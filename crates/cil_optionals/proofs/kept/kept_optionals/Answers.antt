@@ -1,10 +1,11 @@
-use Rattle.std.proofs.Common.{◌≡◌, ◌<◌, ◌≤◌, ◌+◌, ◌++◌, ◌^◌, true, false, length, get_or, sym, ap, ◌∙◌, subst, arith}
+use Rattle.std.proofs.Common.{◌≡◌, ◌<◌, ◌+◌, ◌++◌, false, length, get_or, sym, ap, ◌∙◌, subst, arith}
 use Rattle.std.specs.List.{list_all}
 use Rattle.indexmap.proofs.CallerLemmas.{Drains-YieldsInOrder}
 use Rattle.cil_bind.proofs.DeclareLemmas.{rows-length}
 use Rattle.cil_optionals.specs.Needs.{are_met, is_need_below}
+use Rattle.cil_optionals.specs.Nested.{ShowsKept}
 use Rattle.cil_optionals.specs.Providers.{IsReady}
-use Rattle.cil_optionals.proofs.KeptLemmas.{rows-there, all-below, shows-kept}
+use Rattle.cil_optionals.proofs.KeptLemmas.{rows-there, all-below, shows-kept, shows-taken}
 use Rattle.cil_optionals.proofs.kept.kept_optionals.Goals as goal
 
 pub greatest-requires : goal.greatest-requires
@@ -25,8 +26,8 @@ greatest-requires g c =
           ∙ all-below all p.rows.items c.in_ok-needs.needs.items c.in_ok-more.more.items (c.in_ok-needs.ensures parsed all ready) (c.in_ok-more.ensures all ready (c.in_ok-permissions.ensures all ready));
     }
 
-pub returns : goal.returns
-returns g c = λ all bound nested apart.
+pub returns-clause-kept : goal.returns-clause-kept
+returns-clause-kept g c = λ all bound nested apart.
     let p = c.args.policy.now in
     let parsed = c.args.joined.now.modules.items in
     let count = c.len-count.ensures in
@@ -38,11 +39,14 @@ returns g c = λ all bound nested apart.
     let is : c.deref.result.now ≡ c.in_ok-needs.needs.items ++ c.in_ok-more.more.items = c.deref.ensures.value ∙ ran.3.0 ∙ ap (λ l. c.in_ok-needs.needs.items ++ l) more in
     let marks = c.in_ok-kept.kept.items in
     let told = c.in_ok-kept.ensures in
-    shows-kept all p.rows.items (rows-there p.rows.items all long) nested apart bound.once c.in_ok-needs.needs.items c.in_ok-more.more.items marks
+    let all_numbers : length all < c.len-count.result + 1 = omega (arith, long, count) in
+    subst (ShowsKept all p.rows.items) (sym c.truncate.ensures.items)
+    (shows-taken all p.rows.items marks (c.len-count.result + 1) nested all_numbers
+    (shows-kept all p.rows.items (rows-there p.rows.items all long) nested apart bound.once c.in_ok-needs.needs.items c.in_ok-more.more.items marks
     (record {
       providers_are = c.in_ok-needs.ensures parsed all ready;
       others_are = c.in_ok-more.ensures all ready (c.in_ok-permissions.ensures all ready);
       outside = told.outside;
       met = ap (are_met (λ n. get_or marks n false)) (sym is) ∙ told.met;
       greatest = λ has met n within. told.greatest has (ap (are_met has) is ∙ met) n (omega (arith, within, long, count));
-    }) long
+    }) long))

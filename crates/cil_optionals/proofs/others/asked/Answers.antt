@@ -1,7 +1,6 @@
-use Rattle.std.proofs.Common.{◌≡◌, ◌<◌, false, true, not, length, sym, ap, ◌∙◌, subst, None, arith}
-use Rattle.std.proofs.lemmas.Bool.{not-false}
+use Rattle.std.proofs.Common.{◌<◌, length, sym, ◌∙◌, subst, None, arith}
 use Rattle.std.proofs.lemmas.Option.{same_Some}
-use Rattle.cil_optionals.specs.Asks.{Asks, AddsNeed, IsOf, optional_at}
+use Rattle.cil_optionals.specs.Asks.{AddsNeed, IsOf, optional_at}
 use Rattle.cil_optionals.proofs.AsksLemmas.{row-one}
 use Rattle.cil_optionals.proofs.ProviderLemmas.{row-of}
 use Rattle.cil_optionals.proofs.OthersLemmas.{of-row, module-low, asks-there, asks-lacking}

@@ -1,6 +1,5 @@
-use Rattle.std.proofs.Common.{◌≡◌, ◌≤◌, length, ◌∙◌, subst, sym, arith}
+use Rattle.std.proofs.Common.{◌≤◌, length, arith}
 use Rattle.cil_bind.proofs.DeclareLemmas.{rows-length}
-use Rattle.cil_optionals.specs.Providers.{AreProviders}
 use Rattle.cil_optionals.proofs.ProviderLemmas.{providers-none, providers-all}
 use Rattle.cil_optionals.proofs.providers.providers.Goals as goal
 

@@ -1,6 +1,5 @@
-use Rattle.std.proofs.Common.{◌≡◌, ◌<◌, ◌+◌, length, None, sym, subst, arith}
-use Rattle.cil_bind.specs.Lookup.{IsLead}
-use Rattle.cil_optionals.proofs.AsksLemmas.{lead-low, meets-plain, meets-other, meets-none, around-low}
+use Rattle.std.proofs.Common.{arith}
+use Rattle.cil_optionals.proofs.AsksLemmas.{lead-low, meets-plain, meets-other, around-low}
 use Rattle.cil_optionals.proofs.references.meeting.Goals as goal
 
 pub returns-then-plain-clause-below : goal.returns-then-plain-clause-below

@@ -1,6 +1,6 @@
-use Rattle.std.proofs.Common.{◌≡◌, ℕ, List, Some, slice_get, take}
+use Rattle.std.proofs.Common.{◌≡◌, List, Some, slice_get, take}
 use Rattle.cil_specs.specs.Joined.{Placed}
-use Rattle.cil_specs.specs.Kept.{Optionals, restricted}
+use Rattle.cil_specs.specs.Kept.{restricted}
 use Rattle.cil_specs.specs.Lookup.{references}
 use Rattle.cil_bind.specs.declared.joined.NamedModule.{NamedModule}
 use Rattle.cil_optionals.specs.Providers.{IsReady}

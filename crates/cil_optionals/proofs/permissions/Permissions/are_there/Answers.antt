@@ -1,4 +1,4 @@
-use Rattle.std.proofs.Common.{◌≡◌, true, false, [], map, get_or, Some, None, refl, sym, ap, ◌∙◌, subst}
+use Rattle.std.proofs.Common.{◌≡◌, true, false, [], map, get_or, Some, refl, sym, ap, ◌∙◌, subst}
 use Rattle.cil_specs.specs.Lookup.{classes, leads}
 use Rattle.cil_bind.specs.Lookup.{IsLead}
 use Rattle.cil_parse.specs.Forms.{kind_of, permissions_in as listed_in}

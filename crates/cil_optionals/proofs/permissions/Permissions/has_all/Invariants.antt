@@ -1,4 +1,4 @@
-use Rattle.std.proofs.Common.{◌≡◌, ℕ, List, Some, true, map, take}
+use Rattle.std.proofs.Common.{◌≡◌, List, Some, true, map, take}
 use Rattle.std.specs.List.{list_all}
 use Rattle.cil_specs.specs.Names.{Word}
 use Rattle.cil_parse.specs.Builder.{read}

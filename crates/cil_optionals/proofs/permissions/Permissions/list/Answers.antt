@@ -1,4 +1,4 @@
-use Rattle.std.proofs.Common.{◌≡◌, ◌||◌, ◌&&◌, ◌==◌, length, bytes_eq, take, sym, ap, ◌∙◌, subst, arith}
+use Rattle.std.proofs.Common.{◌||◌, ◌&&◌, ◌==◌, bytes_eq, sym, ap, ◌∙◌, arith}
 use Rattle.std.proofs.lemmas.List.{take_all}
 use Rattle.cil_specs.specs.Lookup.{has_name, texts}
 use Rattle.cil_bind.proofs.ScopeLemmas.{read-text, read-within}
