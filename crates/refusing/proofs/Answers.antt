@@ -22,7 +22,7 @@ module _ {M : Type 1} {𝓤 : Ura M} (𝓛 : Logic 𝓤) (S : Signature) (c : Sp
     abbrev Result : RattleType
     Result = type_at S.result x.0.0
 
-    abbrev given_back : Res S x.0.0 → SProp 𝓤
+    abbrev pub given_back : Res S x.0.0 → SProp 𝓤
     given_back r = sep 𝓤 (Back 𝓛 S x.0 v r) ((c x.0.0 x.0.3).ensures x.1 r)
 
     -- all that the caller has once the update is made
@@ -36,3 +36,8 @@ module _ {M : Type 1} {𝓤 : Ura M} (𝓛 : Logic 𝓤) (S : Signature) (c : Sp
         (via 𝓤 own (snd∗ 𝓤 (alive 𝓛 S x.0.0 x.0.1) own)
         (via 𝓤 (fact 𝓤 (Is Result r (v ∷ []))) (shows 𝓛 Result r (v ∷ [])) (fact_mono 𝓤 (Is Result r (v ∷ [])) φ (told r))))))
         (guard_i 𝓤 φ Had))
+
+  -- the tokens of the lifetimes are among it
+  pub tokens_back : (x : Asked.Ghost) (v : Val) → ent 𝓤 (Had x v) (alive 𝓛 S x.0.0 x.0.1)
+  tokens_back x v = let tokens = alive 𝓛 S x.0.0 x.0.1 in
+      ex_e 𝓤 (given_back x v) (λ r. via 𝓤 (Back 𝓛 S x.0 v r) (fst∗ 𝓤 (Back 𝓛 S x.0 v r) ((c x.0.0 x.0.3).ensures x.1 r)) (fst∗ 𝓤 tokens (sem 𝓛 ((Result x v).own_val r (v ∷ [])))))
