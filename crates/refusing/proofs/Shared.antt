@@ -30,7 +30,7 @@ module _ (inside : Al) where
 
   -- the references that the code makes of its own
   abbrev pub to_inner : Bor Refuser.Denot → Bor inside.row.Denot
-  to_inner r = record { ref_ptr = inner_at r.ref_ptr; now = r.now.inner }
+  to_inner r = record { ref_ptr = inner_at r.ref_ptr; now = r.now.heap }
 
   abbrev pub to_growths : Bor Refuser.Denot → Bor (growths.the_row).Denot
   to_growths r = record { ref_ptr = growths_at r.ref_ptr; now = r.now.growths }
@@ -41,7 +41,7 @@ module _ (inside : Al) {M : Type 1} {𝓤 : Ura M} (𝓛 : Logic 𝓤) (κ : Lft
 
   -- the padding of the struct is let go
   fields_seen : (x : (Refuser inside).Denot) (p : ℕ × ℕ)
-      → ent 𝓤 ⟦ hidden_shr (Refuser inside) κ x p.0 p.1 ⟧ (sep 𝓤 ⟦ seen inside κ (inner_at inside p) x.inner ⟧ ⟦ hidden_shr growths.the_row κ x.growths (growths_at inside p).0 (growths_at inside p).1 ⟧)
+      → ent 𝓤 ⟦ hidden_shr (Refuser inside) κ x p.0 p.1 ⟧ (sep 𝓤 ⟦ seen inside κ (inner_at inside p) x.heap ⟧ ⟦ hidden_shr growths.the_row κ x.growths (growths_at inside p).0 (growths_at inside p).1 ⟧)
   fields_seen x p = qed 𝓛 (‵ (hidden_shr (Refuser inside) κ x p.0 p.1) ∷ []) ∵ unhide ! $ fsplit ! $ fsplit ! $ move ! (1 ∷ []) $ fsplit ! $ keep ! (2 ∷ 0 ∷ []) $ done !
 
   -- what a reference to an R owns, at the one machine value that it has
@@ -54,7 +54,7 @@ module _ (inside : Al) {M : Type 1} {𝓤 : Ura M} (𝓛 : Logic 𝓤) (κ : Lft
   refers_to_fields r vs =
       let p = r.ref_ptr in let inner = shr_vals (to_inner inside r) in let counts = shr_vals (to_growths inside r) in
       qed 𝓛 (‵ ((ShrRef (named 0) κ (Refuser inside)).own_val r vs) ∷ []) ∵ fsplit ! $ drop ! $
-      use1 𝓛 (‵ (seen inside κ (inner_at inside p) r.now.inner) ⊛ ‵ (hidden_shr growths.the_row κ r.now.growths (growths_at inside p).0 (growths_at inside p).1)) (fields_seen r.now p) $ split ! $
+      use1 𝓛 (‵ (seen inside κ (inner_at inside p) r.now.heap) ⊛ ‵ (hidden_shr growths.the_row κ r.now.growths (growths_at inside p).0 (growths_at inside p).1)) (fields_seen r.now p) $ split ! $
       feq_i ! (List Val) inner inner refl $ fjoin ! $ move ! (1 ∷ []) $ feq_i ! (List Val) counts counts refl $ fjoin ! $ move ! (1 ∷ []) $ done !
 
   pub refers_inside : (r : Bor (Refuser inside).Denot) (vs : List Val)

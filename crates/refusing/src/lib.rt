@@ -12,17 +12,17 @@ struct Growths {
     refused: Cell<u64>,
 }
 
-/// It passes each call on, but for the growths that it refuses, which it counts.
-pub struct Refusing<B: Allocator> {
-    inner: B,
+/// A heap, but for the growths that it refuses, which it counts.
+pub struct Refusing<A: Allocator> {
+    heap: A,
     growths: Growths,
 }
 
-impl<B: Allocator> Refusing<B> {
+impl<A: Allocator> Refusing<A> {
     /// It refuses none.
-    pub fn new(inner: B) -> Refusing<B> {
+    pub fn new(heap: A) -> Refusing<A> {
         Refusing {
-            inner,
+            heap,
             growths: Growths {
                 left: Cell::new(0),
                 all_behind: Cell::new(false),
@@ -49,10 +49,10 @@ impl<B: Allocator> Refusing<B> {
     }
 }
 
-impl<B: Allocator> Drop for Refusing<B> {
+impl<A: Allocator> Drop for Refusing<A> {
     fn drop(self) {
-        let Self {
-            inner: _,
+        let Refusing {
+            heap: _,
             growths: _,
         } = self;
     }
@@ -71,17 +71,19 @@ fn is_refused(growths: &Growths) -> bool {
     is
 }
 
-unsafe impl<B: Allocator> Allocator for Refusing<B> {
-    ghost dealloc_token = { λ heap ty ptr. B.dealloc_token heap.inner ty ptr };
+unsafe impl<A: Allocator> Allocator for Refusing<A> {
+    // A block is the heap's, so the right to free it is too.
+    ghost dealloc_token = { λ refusing. A.dealloc_token refusing.heap };
 
     fn allocate(&self, size: usize, align: usize) -> Result<*mut u8, AllocError> {
         if is_refused(&self.growths) {
-            return Err(AllocError);
+            Err(AllocError)
+        } else {
+            self.heap.allocate(size, align)
         }
-        self.inner.allocate(size, align)
     }
 
     unsafe fn deallocate(&self, ptr: *mut u8, size: usize, align: usize) {
-        self.inner.deallocate(ptr, size, align);
+        self.heap.deallocate(ptr, size, align);
     }
 }

@@ -11,9 +11,9 @@ use prog.Routine.{Routine}
 use prog.Wp.{Tables, WpFn}
 use types.Logic.{Logic, sem}
 use types.Kit.{‵, raw, ◌⊛◌, later, given, ◌$◌, ◌∵◌, !, qed, by, move, use1, use2, split, join, await, learn, frame, assume, group, use0, show, at_ret, done}
-use types.Run.{stop, fld, addr, no_more, and_then, lit, returns, returns_within, enter, first, branches, skips, exec}
+use types.Run.{stop, fld, addr, no_more, and_then, lit, of_opd, returns, enter, first, branches, exec}
 use types.Part.{agg}
-use types.ByLocal.{alloc_all, pass_all, free_all, look_at, get, through, sets, lands_as, env}
+use types.ByLocal.{alloc_all, pass_all, free_all, look_at, get, through, sets, sets_last, lands_as, lands_last, env}
 use contract.Lifetimes.{Lfts}
 use contract.Monad.{Fun}
 use contract.Running.{tables, tables_of}
@@ -27,7 +27,7 @@ use denote.RattleType.{owns}
 use denote.Ref.{ShrRef, shr_vals, shr_Tells}
 use denote.Signature.{Signature, types_at}
 use denote.Steps.{only, nothing}
-use denote.Triple.Call.{calls_at}
+use denote.Triple.Call.{calls_at, calls_at_last}
 use denote.Triple.Clauses.{Lasts, lasts}
 use denote.Triple.Entry.{alive}
 use denote.Triple.Spec.{Spec, triple_of}
@@ -159,7 +159,7 @@ module _ (inside : Al) {M : Type 1} {𝓤 : Ura M} (𝓛 : Logic 𝓤) (at_mem :
     walk : (x : Outer.Ghost) → Are (types_at (S inside).params x.0.0) (Ises (types_at (S inside).params x.0.0)) x.0.3 (plainly x).0.4
         → ent 𝓤 (Outer.pre (plainly x)) (WpFn 𝓤 H 𝓣.C 𝓣.Λ (body inside) (Outer.args (plainly x)) (Outer.post (plainly x)))
     walk x are =
-        let y = plainly x in let framed = fm_of 𝓤 H 𝓛.laws 𝓣 in let Typed = λ (v : Val). T (has_ty (layout Answer) v) × WT v in let refusal = answer_val false 0 0 in
+        let y = plainly x in let framed = fm_of 𝓤 H 𝓛.laws 𝓣 in let Typed = λ (v : Val). T (has_ty (layout Answer) v) × WT v in let refusal = answer_val false 0 0 in let leaves = after 3 (body inside).body in
         qed 𝓛 (raw (Outer.pre y) ∷ []) ∵ use1 𝓛 (raw (Counts.pre (counted y)) ⊛ raw (Waits y)) (counts_first y) $ split ! $
         enter ! _ _ _ _ _ $ alloc_all ! (λ l. pass_all ! refl ((tt, tt), ((tt, record { fits = are.1.0.1 }), ((tt, record { fits = are.1.1.0.1 }), tt))) $
         sets ! (addr ! (through ! refl (fld ! refl (stop !)))) refl (tt, tt) $
@@ -167,13 +167,13 @@ module _ (inside : Al) {M : Type 1} {𝓤 : Ura M} (𝓛 : Logic 𝓤) (at_mem :
         use1 𝓛 (later (given (Told u) (raw (Counted y u)))) (tells_which y u) $ await ! tt $ learn ! (λ told.
         use1 𝓛 (‵ (flft y.0.0.0 y.0.1.0)) (token_back y u) $ use2 𝓛 (raw (Inner.pre (handed y))) (apply∗ 𝓤 (A.lft y.0.0.0 y.0.1.0) (Inner.pre (handed y))) $
         lands_as ! told.1 refl (tt, tt) $ first ! $ branches ! (get ! refl)
-        (λ _. sets ! (agg ! (no_more !)) refl (tt, tt) $ sets ! (agg ! (and_then ! (lit ! tt) (and_then ! (get ! refl) (no_more !)))) refl (Answer-typed false 0 0) $
-        returns_within ! (Outer.post y) refl (look_at ! 0 refl) $ free_all ! refl $ use1 𝓛 (raw (Back y refusal)) (refuses y) $ by ! (passes_back y refusal))
-        (λ _. skips ! $ exec ! 𝓣.C 𝓣.Λ (env (body inside).locals l) (after 3 (body inside).body) (at_ret _ (Outer.post y)) $
-        sets ! (addr ! (through ! refl (fld ! refl (stop !)))) refl (tt, tt) $
-        calls_at ! framed Inner met (handed y) (and_then ! (get ! refl) (and_then ! (get ! refl) (and_then ! (get ! refl) (no_more !)))) (λ v.
-        use1 𝓛 (later (given (Typed v) (raw (Back y v)))) (is_typed y v) $ await ! tt $ learn ! (λ typed.
-        lands_as ! refl refl typed $ returns ! (look_at ! 0 refl) $ free_all ! refl $ by ! (passes_back y v)))))))
+        (λ _. sets ! (agg ! (no_more !)) refl (tt, tt) $ sets_last ! (agg ! (and_then ! (lit ! tt) (and_then ! (get ! refl) (no_more !)))) refl (Answer-typed false 0 0) $
+        exec ! 𝓣.C 𝓣.Λ (env (body inside).locals l) leaves (at_ret _ (Outer.post y)) $ sets ! (of_opd ! (get ! refl)) refl (Answer-typed false 0 0) $ returns ! (look_at ! 0 refl) $ free_all ! refl $
+        use1 𝓛 (raw (Back y refusal)) (refuses y) $ by ! (passes_back y refusal))
+        (λ _. sets ! (addr ! (through ! refl (fld ! refl (stop !)))) refl (tt, tt) $
+        calls_at_last ! framed Inner met (handed y) (and_then ! (get ! refl) (and_then ! (get ! refl) (and_then ! (get ! refl) (no_more !)))) (λ v.
+        use1 𝓛 (later (given (Typed v) (raw (Back y v)))) (is_typed y v) $ await ! tt $ learn ! (λ typed. lands_last ! refl typed $
+        exec ! 𝓣.C 𝓣.Λ (env (body inside).locals l) leaves (at_ret _ (Outer.post y)) $ sets ! (of_opd ! (get ! refl)) refl typed $ returns ! (look_at ! 0 refl) $ free_all ! refl $ by ! (passes_back y v)))))))
 
 pub allocate_spec : {M : Type 1} → statement M
 unfolding tables_of
