@@ -26,7 +26,7 @@ fn a_store_of_300_modules(rt: HostRuntime) {
         let found = answer(&rt, alloc, &heap, &mut engine, Asked::Edit(edit));
         assert_eq!(&rt; shown(&found), "ok 1 0\n");
     }
-    let all = state(&rt, alloc, &heap, &engine);
+    let all = state(&rt, alloc, &heap, &mut engine);
     assert!(&rt; shown(&all).contains("end 300\nend 0\n"));
     assert_eq!(&rt; heap.refused(), 0);
 }

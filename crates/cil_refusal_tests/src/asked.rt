@@ -20,8 +20,16 @@ pub enum Asked<'a> {
     Rows,
     Dropped,
     Run(&'a [Call<'a>]),
-    Session(&'a str),
+    /// A script, by its commands.
+    Session(&'a [&'a str]),
 }
+
+/// A module that compiles to nothing. To install it compiles the store anew.
+const EMPTY: Edit<'static> = Edit::Install {
+    name: b"probe",
+    priority: 400,
+    text: b"",
+};
 
 /// An install at the priority that the store takes.
 pub fn install<'a>(name: &'a str, text: &'a str) -> Edit<'a> {
@@ -87,7 +95,23 @@ fn write_run<'h>(
     }
 }
 
-/// The answer, in memory that is not refused.
+fn write_session<'h>(
+    rt: &impl Abort,
+    alloc: Global,
+    sink: &mut MemorySink,
+    heap: &'h Heap,
+    engine: &mut Engine<'h>,
+    commands: &[&str],
+) {
+    let mut script = String::new(alloc);
+    for command in commands {
+        script.push_str(command).expect(rt, "memory");
+    }
+    let mut source = MemorySource::new(script.as_bytes());
+    let _status = session(heap, &mut source, sink, engine).expect(rt, "a session");
+}
+
+/// The answer, written in memory that is not refused.
 pub fn answer<'h>(
     rt: &impl Abort,
     alloc: Global,
@@ -101,24 +125,23 @@ pub fn answer<'h>(
         Asked::Rows => write_rows(rt, &mut sink, engine),
         Asked::Dropped => write_dropped(rt, &mut sink, engine),
         Asked::Run(calls) => write_run(rt, &mut sink, heap, engine, calls),
-        Asked::Session(script) => {
-            let mut source = MemorySource::new(script.as_bytes());
-            let _status = session(heap, &mut source, &mut sink, engine).expect(rt, "a session");
-        }
+        Asked::Session(commands) => write_session(rt, alloc, &mut sink, heap, engine, commands),
     }
     sink
 }
 
-/// The listing and the optionals that drop, with memory for them.
+/// What stands compiled and what the store compiles to, with memory for it.
 pub fn state<'h>(
     rt: &impl Abort,
     alloc: Global,
     heap: &'h Heap,
-    engine: &Engine<'h>,
+    engine: &mut Engine<'h>,
 ) -> MemorySink {
     heap.refuse(0);
     let mut sink = MemorySink::new(alloc);
     write_rows(rt, &mut sink, engine);
+    write_dropped(rt, &mut sink, engine);
+    write_edit(rt, &mut sink, engine, EMPTY);
     write_dropped(rt, &mut sink, engine);
     sink
 }

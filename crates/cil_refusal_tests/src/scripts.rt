@@ -31,11 +31,18 @@ fn a_run(rt: HostRuntime) {
     assert_each_growth(&rt, rt.alloc(), BASE, Asked::Run(CALLS));
 }
 
-const SCRIPT: &str = "install late 400 11\n(type late)\nrules\ndropped\n\
-    install -bad 400 0\n\ninstall text 400 6\n(type)\n\
-    install more 400 42\n(optional p (allow a never (file (read))))\nrules\ndropped\n";
+const COMMANDS: &[&str] = &[
+    "install late 400 11\n(type late)\n",
+    "rules\n",
+    "dropped\n",
+    "install -bad 400 0\n\n",
+    "install text 400 6\n(type)\n",
+    "install more 400 42\n(optional p (allow a never (file (read))))\n",
+    "rules\n",
+    "dropped\n",
+];
 
 #[test]
 fn a_session(rt: HostRuntime) {
-    assert_each_growth(&rt, rt.alloc(), BASE, Asked::Session(SCRIPT));
+    assert_each_growth(&rt, rt.alloc(), BASE, Asked::Session(COMMANDS));
 }
