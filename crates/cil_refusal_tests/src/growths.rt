@@ -70,15 +70,15 @@ fn behind_step<'h, 'f>(
     alloc: Global,
     heap: &'h Heap,
     engine: &mut Engine<'h>,
-    found: &'f str,
+    found: &'f [u8],
     step: Asked<'_>,
-) -> &'f str {
-    if let Some(rest) = found.strip_prefix(OUT_OF_MEMORY) {
+) -> &'f [u8] {
+    if let Some(rest) = found.strip_prefix(OUT_OF_MEMORY.as_bytes()) {
         return rest;
     }
     let want = answer(rt, alloc, heap, engine, step);
     found
-        .strip_prefix(shown(&want))
+        .strip_prefix(want.bytes())
         .expect(rt, "the call's answer with memory")
 }
 
@@ -87,7 +87,7 @@ fn assert_steps(rt: &impl Abort, alloc: Global, case: Case<'_>, found: &str, now
     let heap = Refusing::new(alloc);
     let mut engine = Plain::new(&heap);
     set_up(rt, alloc, &heap, &mut engine, case.base);
-    let mut rest = found;
+    let mut rest = found.as_bytes();
     match case.asked {
         Asked::Run(calls) => {
             for call in calls {
@@ -107,7 +107,7 @@ fn assert_steps(rt: &impl Abort, alloc: Global, case: Case<'_>, found: &str, now
         }
         step => rest = behind_step(rt, alloc, &heap, &mut engine, rest, step),
     }
-    assert_eq!(rt; rest, "");
+    assert!(rt; rest.is_empty());
     let want = state(rt, alloc, &heap, &mut engine);
     assert_eq!(rt; now, shown(&want));
 }

@@ -1,7 +1,7 @@
 -- A `&` to an allocator that refuses is a `&` to the allocator inside, beside one to the growths. Assumes `Logic`.
 use Rattle.std.proofs.Common.{ℕ, ◌+◌, List, [], ◌∷◌, Bor, refl}
 use seplogic.Ra.Ura.{Ura}
-use mir.Syntax.{Lifetime, named}
+use mir.Syntax.{Args, a_type, dcons, dnil, named}
 use mir.Val.{Val}
 use base.Logic.{SProp, ent, sep, emp, via, fst∗, mono_r}
 use base.Fml.{Lft, Fml, fsep}
@@ -11,13 +11,17 @@ use types.Kit.{‵, ◌⊛◌, ◌$◌, ◌∵◌, !, qed, keep, move, drop, use
 use denote.RattleType.{RattleType}
 use denote.Opens.{unhide}
 use denote.Memory.{hidden_shr}
-use denote.Param.{param}
+use denote.Param.{bounded, param}
 use denote.Ref.{ShrRef, shr_vals}
 use Rattle.std.proofs.alloc.Calls.{Al, α, seen}
 use Rattle.refusing.specs.contracts.Growths as growths
 use Rattle.refusing.specs.contracts.Refusing as refusing
 
 module _ (inside : Al) where
+  -- by which the code is told its heap
+  abbrev pub kinds : Args
+  kinds = bounded (a_type ∷ []) (inside.row, tt) (dcons inside.d (dcons inside.drops dnil))
+
   abbrev pub Refuser : RattleType
   Refuser = refusing.the_row (param 0 inside.row)
 
