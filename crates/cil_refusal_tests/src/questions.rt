@@ -1,0 +1,15 @@
+//! Questions whose growths are refused in turn.
+
+use crate::asked::Asked;
+use crate::edits::BASE;
+use crate::growths::assert_each_growth;
+
+#[test]
+fn rows(rt: HostRuntime) {
+    assert_each_growth(&rt, rt.alloc(), BASE, Asked::Rows);
+}
+
+#[test]
+fn dropped(rt: HostRuntime) {
+    assert_each_growth(&rt, rt.alloc(), BASE, Asked::Dropped);
+}

@@ -1,0 +1,4 @@
+pub mod Answers
+pub mod Shared
+pub mod Spelt
+pub mod Steps
