@@ -1,9 +1,0 @@
-pub mod PositionLemmas
-pub mod OrderedLemmas
-pub mod LeastLemmas
-pub mod CheckLemmas
-pub mod FirstsLemmas
-pub mod SeenLemmas
-pub mod WordLemmas
-pub mod AskedLemmas
-pub mod PermissionLemmas
