@@ -25,7 +25,8 @@ pub fn resolve<'m, A: Allocator + Copy>(
     ensures meaning { IfOk result (λ r. (modules : List Module) → AreKeptOf joined.now.modules.items modules → (kept : Optionals) × Means (joined_policy modules) kept (meaning_in r)) }
     ensures err { IfErr result (λ fault. (modules : List Module) → AreKeptOf joined.now.modules.items modules → PolicyFaultIs fault (IsFirstFault (joined_policy modules))) }
 {
-    let _ = (alloc, joined);
+    let _alloc = alloc;
+    let _joined = joined;
     Err(PolicyFault::Memory)
 }
 
@@ -40,6 +41,7 @@ pub fn resolve_types<'m, A: Allocator + Copy>(
         → (kept : Optionals) × Means (joined_policy modules) kept (meaning_in r) × HasTypesAlone (restricted kept (joined_policy modules))) }
     ensures err { IfErr result (λ fault. (modules : List Module) → AreKeptOf joined.now.modules.items modules → PolicyFaultIs fault (IsPolicyFaultOf (joined_policy modules))) }
 {
-    let _ = (alloc, joined);
+    let _alloc = alloc;
+    let _joined = joined;
     Err(PolicyFault::Memory)
 }
