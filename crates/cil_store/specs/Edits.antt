@@ -5,7 +5,7 @@ use Rattle.cil_specs.specs.Next.{install, by_store, at_place, for_memory}
 use Rattle.cil_specs.specs.TextFault as text_fault
 use Rattle.cil_specs.specs.PolicyFault as policy_fault
 use Rattle.cil_text.specs.Image.{place_of, kind_of}
-use Rattle.cil_names.specs.Image.{policy_kind_of}
+use Rattle.cil_check.specs.Image.{policy_kind_of}
 use Rattle.cil_store.specs.declared.edit.Edit.{Edit}
 use Rattle.cil_store.specs.declared.edit.Edit.TheVariants.{Install}
 use Rattle.cil_store.specs.declared.refusal.StoreFault.{StoreFault}

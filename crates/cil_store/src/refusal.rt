@@ -5,7 +5,7 @@ ghost use Rattle.std.specs.List.{list_all};
 ghost use Rattle.cil_specs.specs.Next.{begins_module_name as front_byte, is_module_name as module_name, install_refusal};
 ghost use Rattle.cil_store.specs.Edits.{store_refusal_of};
 
-use cil_names::PolicyFaultKind;
+use cil_resolve::{PolicyFaultKind, Text};
 use cil_text::{Place, TextFaultKind};
 use std::alloc::{AllocError, Allocator, Global};
 
@@ -40,19 +40,19 @@ impl StoreFault {
 pub enum Refusal<A: Allocator = Global> {
     Store {
         fault: StoreFault,
-        word: cil_names::Text<A>,
+        word: Text<A>,
     },
     Text {
-        module: cil_names::Text<A>,
+        module: Text<A>,
         kind: TextFaultKind,
         at: Place,
-        word: cil_names::Text<A>,
+        word: Text<A>,
     },
     Policy {
-        module: cil_names::Text<A>,
+        module: Text<A>,
         kind: PolicyFaultKind,
         at: Place,
-        word: cil_names::Text<A>,
+        word: Text<A>,
     },
     Memory,
 }

@@ -7,27 +7,27 @@ ghost use Rattle.cil_store.specs.Edits.{refusal_of, store_refusal_of};
 ghost use Rattle.cil_store.specs.Refusing.{IsRefusalOf, IsRefusalOfText, IsRefusalOfPolicy};
 
 use crate::refusal::{Refusal, StoreFault};
-use cil_names::PolicyFault;
+use cil_resolve::{PolicyFault, Text};
 use cil_text::{ShownWord, TextFault};
 use itoa::Buffer;
 use std::alloc::{AllocError, Allocator};
 
 /// A byte as two hexadecimal digits.
-fn byte_text<A: Allocator>(alloc: A, b: u8) -> Result<cil_names::Text<A>, AllocError>
+fn byte_text<A: Allocator>(alloc: A, b: u8) -> Result<Text<A>, AllocError>
     ensures { IfOk result (λ t. t ≡ hex b) }
 {
     let mut digits = [0; 2];
     let _fits = hex::encode_to_slice([b], &mut digits);
-    cil_names::Text::of(alloc, &digits)
+    Text::of(alloc, &digits)
 }
 
 /// The word that shows a fault.
-fn shown_text<A: Allocator>(alloc: A, word: ShownWord<'_>) -> Result<cil_names::Text<A>, AllocError>
+fn shown_text<A: Allocator>(alloc: A, word: ShownWord<'_>) -> Result<Text<A>, AllocError>
     ensures { IfOk result (λ t. t ≡ shown word.entry) }
 {
     match word {
         ShownWord::Byte(b) => byte_text(alloc, b),
-        ShownWord::Text(word) => cil_names::Text::of(alloc, word),
+        ShownWord::Text(word) => Text::of(alloc, word),
     }
 }
 
@@ -45,7 +45,7 @@ pub fn refuse_install<A: Allocator + Copy>(
         StoreFault::BadPriority => digits.format(priority).as_bytes(),
         StoreFault::BadModuleName | StoreFault::TextTooLong => name,
     };
-    match cil_names::Text::of(alloc, word) {
+    match Text::of(alloc, word) {
         Ok(word) => Refusal::Store { fault, word },
         Err(_) => Refusal::Memory,
     }
@@ -58,7 +58,7 @@ pub fn refuse_text<A: Allocator + Copy>(alloc: A, name: &[u8], fault: TextFault<
     let TextFault::Found { kind, at, word } = fault else {
         return Refusal::Memory;
     };
-    let Ok(name) = cil_names::Text::of(alloc, name) else {
+    let Ok(name) = Text::of(alloc, name) else {
         return Refusal::Memory;
     };
     let Ok(word) = shown_text(alloc, word) else {
@@ -85,10 +85,10 @@ pub fn refuse_policy<A: Allocator + Copy>(alloc: A, fault: PolicyFault<'_>) -> R
     else {
         return Refusal::Memory;
     };
-    let Ok(name) = cil_names::Text::of(alloc, name) else {
+    let Ok(name) = Text::of(alloc, name) else {
         return Refusal::Memory;
     };
-    let Ok(word) = cil_names::Text::of(alloc, word) else {
+    let Ok(word) = Text::of(alloc, word) else {
         return Refusal::Memory;
     };
     Refusal::Policy {
