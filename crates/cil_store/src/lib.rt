@@ -27,5 +27,5 @@ pub use laws::{
 };
 pub use modules::Store;
 pub use plain::Plain;
-pub use refusal::{Refusal, StoreFault, check_install};
+pub use refusal::{FaultKind, Refusal, StoreFault, check_install};
 pub use runs::run;

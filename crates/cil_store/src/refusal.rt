@@ -34,23 +34,39 @@ impl StoreFault {
     }
 }
 
-/// Why an edit is refused: by the store; by the fault of its text; by the first fault of the policy that it would lead to;
-/// or out of memory. It owns its words.
+/// What is wrong with a text, or else with the policy that it would lead to.
+#[derive(Clone, Copy, Debug, PartialEq, Eq)]
+pub enum FaultKind {
+    Text(TextFaultKind),
+    Policy(PolicyFaultKind),
+}
+
+impl FaultKind {
+    ghost use Rattle.std.specs.Prelude.{◌≡◌};
+    ghost use Rattle.cil_store.specs.Edits.{fault_code};
+
+    /// The number that a reply shows.
+    pub fn code(self) -> u8
+        ensures { result ≡ fault_code self }
+    {
+        match self {
+            FaultKind::Text(kind) => kind.code(),
+            FaultKind::Policy(kind) => kind.code(),
+        }
+    }
+}
+
+/// Why an edit is refused: by the store; by the fault of its text, or the first of the policy that it would lead to, at a place of a
+/// module; or out of memory. It owns its words.
 #[derive(Debug, Drop)]
 pub enum Refusal<A: Allocator = Global> {
     Store {
         fault: StoreFault,
         word: Text<A>,
     },
-    Text {
+    Fault {
         module: Text<A>,
-        kind: TextFaultKind,
-        at: Place,
-        word: Text<A>,
-    },
-    Policy {
-        module: Text<A>,
-        kind: PolicyFaultKind,
+        kind: FaultKind,
         at: Place,
         word: Text<A>,
     },

@@ -2,13 +2,14 @@
 
 ghost use Rattle.std.specs.Prelude.{◌≡◌, IfOk, IfSome};
 ghost use Rattle.cil_specs.specs.Bytes.{hex};
-ghost use Rattle.cil_text.specs.Image.{shown};
-ghost use Rattle.cil_store.specs.Edits.{refusal_of, store_refusal_of};
+ghost use Rattle.cil_specs.specs.Next.{at_place};
+ghost use Rattle.cil_text.specs.Image.{place_of, shown};
+ghost use Rattle.cil_store.specs.Edits.{fault_code, refusal_of, store_refusal_of};
 ghost use Rattle.cil_store.specs.Refusing.{IsRefusalOf, IsRefusalOfText, IsRefusalOfPolicy};
 
-use crate::refusal::{Refusal, StoreFault};
+use crate::refusal::{FaultKind, Refusal, StoreFault};
 use cil_resolve::{PolicyFault, Text};
-use cil_text::{ShownWord, TextFault};
+use cil_text::{Place, ShownWord, TextFault};
 use itoa::Buffer;
 use std::alloc::{AllocError, Allocator};
 
@@ -51,24 +52,39 @@ pub fn refuse_install<A: Allocator + Copy>(
     }
 }
 
-/// The refusal of an install by the fault of its text.
-pub fn refuse_text<A: Allocator + Copy>(alloc: A, name: &[u8], fault: TextFault<'_>) -> Refusal<A>
-    ensures { IsRefusalOfText fault.entry name.now (refusal_of result) }
+/// The refusal for a fault at a place of a module.
+fn refuse_at<A: Allocator + Copy>(
+    alloc: A,
+    name: &[u8],
+    kind: FaultKind,
+    at: Place,
+    word: ShownWord<'_>,
+) -> Refusal<A>
+    ensures { IsRefusalOf (refusal_of result) (at_place (fault_code kind) name.now (place_of at) (shown word.entry)) }
 {
-    let TextFault::Found { kind, at, word } = fault else {
-        return Refusal::Memory;
-    };
-    let Ok(name) = Text::of(alloc, name) else {
+    let Ok(module) = Text::of(alloc, name) else {
         return Refusal::Memory;
     };
     let Ok(word) = shown_text(alloc, word) else {
         return Refusal::Memory;
     };
-    Refusal::Text {
-        module: name,
+    Refusal::Fault {
+        module,
         kind,
         at,
         word,
+    }
+}
+
+/// The refusal of an install by the fault of its text.
+pub fn refuse_text<A: Allocator + Copy>(alloc: A, name: &[u8], fault: TextFault<'_>) -> Refusal<A>
+    ensures { IsRefusalOfText fault.entry name.now (refusal_of result) }
+{
+    match fault {
+        TextFault::Memory => Refusal::Memory,
+        TextFault::Found { kind, at, word } => {
+            refuse_at(alloc, name, FaultKind::Text(kind), at, word)
+        }
     }
 }
 
@@ -76,25 +92,16 @@ pub fn refuse_text<A: Allocator + Copy>(alloc: A, name: &[u8], fault: TextFault<
 pub fn refuse_policy<A: Allocator + Copy>(alloc: A, fault: PolicyFault<'_>) -> Refusal<A>
     ensures { IsRefusalOfPolicy fault.entry (refusal_of result) }
 {
-    let PolicyFault::Found {
-        kind,
-        module: name,
-        at,
-        word,
-    } = fault
-    else {
-        return Refusal::Memory;
-    };
-    let Ok(name) = Text::of(alloc, name) else {
-        return Refusal::Memory;
-    };
-    let Ok(word) = Text::of(alloc, word) else {
-        return Refusal::Memory;
-    };
-    Refusal::Policy {
-        module: name,
-        kind,
-        at,
-        word,
+    match fault {
+        PolicyFault::Memory => Refusal::Memory,
+        PolicyFault::Found {
+            kind,
+            module: name,
+            at,
+            word,
+        } => {
+            let word = ShownWord::Text(word);
+            refuse_at(alloc, name, FaultKind::Policy(kind), at, word)
+        }
     }
 }
