@@ -3,7 +3,7 @@ use Rattle.cil_specs.specs.Shape.{IsFirstShapeFault}
 use Rattle.cil_text.specs.Image.{statements_of}
 use Rattle.cil_text.specs.Forest.{forest_of}
 use Rattle.cil_text.proofs.FirstBad.{handed_on, fault_weaker}
-use Rattle.cil_store.proofs.parse.parse.Goals as goal
+use Rattle.cil_store.proofs.from_text.parse.Goals as goal
 
 pub returns-in_err-shaped-clause-err : goal.returns-in_err-shaped-clause-err
 returns-in_err-shaped-clause-err g c =

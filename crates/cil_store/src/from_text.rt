@@ -1,4 +1,4 @@
-//! The parsed module of a text.
+//! From a text to its parsed module.
 
 ghost use Rattle.std.specs.Prelude.{◌≤◌, length, IfOk, IfErr};
 ghost use Rattle.cil_specs.specs.Next.{IsTextFault};
