@@ -1,10 +1,10 @@
 //! The plain engine and its store, by calls.
 
 use crate::answers::{FIRST_TEXT, assert_same, shown};
-use cil_names::Text;
+use cil_resolve::Text;
 use cil_store::{
-    Call, Compiled, Dropped, Edit, Plain, Refusal, Reply, StoreFault, WriteFault, check_install,
-    run,
+    Call, Compiled, Dropped, Edit, FaultKind, Plain, Refusal, Reply, StoreFault, WriteFault,
+    check_install, run,
 };
 use cil_text::{MemorySink, Place};
 use std::alloc::Global;
@@ -98,30 +98,25 @@ fn place(at: Place) -> (u32, u32, u32) {
     (at.offset, at.line, at.column)
 }
 
+fn faulty(kind: FaultKind) -> &'static str {
+    match kind {
+        FaultKind::Text(_) => "text",
+        FaultKind::Policy(_) => "policy",
+    }
+}
+
 fn refused(refusal: &Refusal) -> Refused<'_> {
     match refusal {
         Refusal::Store { fault, word } => {
             ("store", "", fault.code(), (0, 0, 0), shown(word.as_slice()))
         }
-        Refusal::Text {
+        Refusal::Fault {
             module,
             kind,
             at,
             word,
         } => (
-            "text",
-            shown(module.as_slice()),
-            kind.code(),
-            place(*at),
-            shown(word.as_slice()),
-        ),
-        Refusal::Policy {
-            module,
-            kind,
-            at,
-            word,
-        } => (
-            "policy",
+            faulty(*kind),
             shown(module.as_slice()),
             kind.code(),
             place(*at),

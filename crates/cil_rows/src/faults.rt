@@ -1,8 +1,8 @@
 //! Faults: their codes, and how they are printed for a programmer.
 
 use crate::answers::assert_same;
-use cil_names::{PolicyFault, PolicyFaultKind};
 use cil_program::script::session::SessionFault;
+use cil_resolve::{PolicyFault, PolicyFaultKind};
 use cil_store::{Refusal, StoreFault, WriteFault};
 use cil_text::{Place, ShownWord, SinkFault, SourceFault, TextFault, TextFaultKind};
 use std::alloc::{AllocError, Global};

@@ -1,6 +1,6 @@
 //! The entries of a store, by calls.
 
-use crate::answers::{assert_same, shown};
+use crate::answers::{assert_same, module_of, shown};
 use cil_store::{Entry, Store};
 use std::alloc::Global;
 use std::process::Abort;
@@ -9,13 +9,13 @@ use std::process::Abort;
 fn store_of(rt: &impl Abort, alloc: Global, entries: &[(&str, &str)]) -> Store {
     let mut store = Store::new(alloc);
     for (name, text) in entries {
-        assert!(rt; text.len() <= 16_777_216, "too long a text");
         let entry = Entry {
             name: name.as_bytes(),
             priority: 400,
             text: text.as_bytes(),
         };
-        store.put(alloc, entry).expect(rt, "memory");
+        let module = module_of(rt, alloc, entry.text);
+        store.put(alloc, entry, module).expect(rt, "memory");
     }
     store
 }
@@ -37,7 +37,8 @@ const PLACES: &[(&str, usize)] = &[("a", 0), ("m", 0), ("m-", 1), ("n", 1), ("o"
 
 #[test]
 fn entries_stand_in_the_order_of_their_names(rt: HostRuntime) {
-    let store = store_of(&rt, rt.alloc(), &[("n", "1"), ("m", "2"), ("n", "3")]);
+    let entries = [("n", "(type a)"), ("m", "(type b)"), ("n", "(type c)")];
+    let store = store_of(&rt, rt.alloc(), &entries);
     assert_same(
         &rt,
         (
@@ -45,14 +46,18 @@ fn entries_stand_in_the_order_of_their_names(rt: HostRuntime) {
             seen(store.entry(1)),
             seen(store.entry(2)),
         ),
-        (Some(("m", 400, "2")), Some(("n", 400, "3")), None),
+        (
+            Some(("m", 400, "(type b)")),
+            Some(("n", 400, "(type c)")),
+            None,
+        ),
     );
     for (name, place) in PLACES {
         assert_same(&rt, (*name, store.place(name.as_bytes())), (*name, *place));
     }
 }
 
-const THREE: &[(&str, &str)] = &[("a", ""), ("b", "text"), ("c", "")];
+const THREE: &[(&str, &str)] = &[("a", ""), ("b", "(type t)"), ("c", "")];
 
 #[test]
 fn the_entries_beside_one(rt: HostRuntime) {
@@ -64,7 +69,8 @@ fn the_entries_beside_one(rt: HostRuntime) {
 }
 
 // Names and texts of the entries b and c, whether they are named b, and whether they come before c.
-const BEHIND: &[(&str, &str, bool, bool)] = &[("b", "text", true, true), ("c", "", false, false)];
+const BEHIND: &[(&str, &str, bool, bool)] =
+    &[("b", "(type t)", true, true), ("c", "", false, false)];
 
 #[test]
 fn what_is_asked_of_an_entry(rt: HostRuntime) {
@@ -79,5 +85,6 @@ fn what_is_asked_of_an_entry(rt: HostRuntime) {
             entry.is_before(b"c"),
         );
         assert_same(&rt, found, *want);
+        assert_same(&rt, entry.module().len(), usize::from(!text.is_empty()));
     }
 }

@@ -14,14 +14,14 @@ use Rattle.cil_specs.specs.Report.{AreAtoms, names_rise}
 use Rattle.cil_specs.proofs.ReportLemmas.{same-kind}
 use Rattle.cil_specs.proofs.ReportLemmasMembers.{AnyByRecursion, any_to, any_from, contains_to, contains_from, any_weaker, any-map, any_from_map, any-flat_map, any_from_flat_map, any_from_test, test_from_any, counted_from_any, any_from_counted, any_along, all_from_contains}
 use Rattle.cil_text.specs.Image.{rule_kind_of}
-use Rattle.cil_names.specs.declared.numbered.NumberedRule.{NumberedRule}
+use Rattle.cil_resolve.specs.declared.numbered.NumberedRule.{NumberedRule}
 use Rattle.cil_rules.specs.declared.numbers.AtomNumbers.{AtomNumbers}
-use Rattle.cil_names.specs.Resolved.{rule_of, element_of, aim_of}
-use Rattle.cil_names.specs.declared.numbered.Element.{Element}
-use Rattle.cil_names.specs.declared.numbered.Element.TheVariants.{«Type», Attribute}
-use Rattle.cil_names.specs.declared.numbered.Aim.{Aim}
-use Rattle.cil_names.specs.declared.numbered.Aim.TheVariants as targets
-use Rattle.cil_names.specs.Below.{is_element_below, is_aim_below, is_rule_below}
+use Rattle.cil_resolve.specs.Resolved.{rule_of, element_of, aim_of}
+use Rattle.cil_resolve.specs.declared.numbered.Element.{Element}
+use Rattle.cil_resolve.specs.declared.numbered.Element.TheVariants.{«Type», Attribute}
+use Rattle.cil_resolve.specs.declared.numbered.Aim.{Aim}
+use Rattle.cil_resolve.specs.declared.numbered.Aim.TheVariants as targets
+use Rattle.cil_resolve.specs.Below.{is_element_below, is_aim_below, is_rule_below}
 use Rattle.cil_rules.specs.Atoms.{atom_at, name_at, IsWithin, numbers_cmp, given_for, given_between, given, AreNumbered}
 use Rattle.cil_rules.proofs.AtomLemmas.{atoms-ordered}
 

@@ -8,11 +8,11 @@ use Rattle.cil_specs.specs.Rule as spec
 use Rattle.cil_specs.specs.Rule.{kind_index}
 use Rattle.cil_specs.specs.Report.{names_rise}
 use Rattle.cil_text.specs.Image.{rule_kind_of}
-use Rattle.cil_names.specs.declared.numbered.Element.{Element}
-use Rattle.cil_names.specs.declared.numbered.Element.TheVariants.{«Type», Attribute}
-use Rattle.cil_names.specs.declared.numbered.Aim.{Aim}
-use Rattle.cil_names.specs.declared.numbered.Aim.TheVariants as aims
-use Rattle.cil_names.specs.declared.numbered.NumberedRule.{NumberedRule}
+use Rattle.cil_resolve.specs.declared.numbered.Element.{Element}
+use Rattle.cil_resolve.specs.declared.numbered.Element.TheVariants.{«Type», Attribute}
+use Rattle.cil_resolve.specs.declared.numbered.Aim.{Aim}
+use Rattle.cil_resolve.specs.declared.numbered.Aim.TheVariants as aims
+use Rattle.cil_resolve.specs.declared.numbered.NumberedRule.{NumberedRule}
 use Rattle.cil_rules.specs.declared.atom.Atom.{Atom}
 use Rattle.cil_rules.specs.declared.numbers.AtomNumbers.{AtomNumbers}
 

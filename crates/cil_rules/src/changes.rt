@@ -10,7 +10,7 @@ use crate::difference::{missing, renumber};
 use crate::merge::merge;
 use crate::numbers::AtomNumbers;
 use crate::table::Table;
-use cil_names::Text;
+use cil_resolve::Text;
 use std::alloc::{AllocError, Allocator, Global};
 use std::marker::Model;
 

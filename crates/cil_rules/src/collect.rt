@@ -6,7 +6,7 @@ ghost use Rattle.std.specs.List.Sorted.{IsStrictlySortedBy};
 ghost use Rattle.cil_rules.specs.Atoms.{numbers_cmp, target_for, given};
 
 use crate::numbers::AtomNumbers;
-use cil_names::{Aim, Element, NumberedRule};
+use cil_resolve::{Aim, Element, NumberedRule};
 use std::alloc::{AllocError, Allocator};
 
 /// The type that a rule's target takes in for a source: the source itself, or the type that the target leads to.

@@ -13,7 +13,7 @@ ghost use Rattle.cil_rules.specs.NumberedRows.{row_of};
 use crate::first_row::split_row;
 use crate::numbers::AtomNumbers;
 use crate::row::Row;
-use cil_names::Text;
+use cil_resolve::Text;
 use cil_text::{RuleKind, Sink, SinkFault, write_all, write_pieces};
 use std::alloc::Allocator;
 

@@ -4,7 +4,7 @@ ghost use Rattle.std.specs.Prelude.{◌≡◌, ◌+◌, ◌<◌, ◌≤◌, [], 
 ghost use Rattle.cil_specs.specs.Report.{names_rise};
 ghost use Rattle.cil_rules.specs.Merge.{IsMerged, IsNext};
 
-use cil_names::Text;
+use cil_resolve::Text;
 use std::alloc::{AllocError, Allocator};
 use std::cmp::Ordering;
 

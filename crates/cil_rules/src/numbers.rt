@@ -8,7 +8,7 @@ ghost use Rattle.cil_rules.specs.Difference.{renumbered};
 ghost use Rattle.cil_rules.specs.Rows.{is_in_row_of};
 
 use crate::atom::Atom;
-use cil_names::Text;
+use cil_resolve::Text;
 use cil_text::RuleKind;
 use std::alloc::Allocator;
 

@@ -2,7 +2,7 @@
 
 ghost use Rattle.std.specs.Prelude.{◌≡◌, ◌==◌, length, slice_get, option_map};
 
-use cil_names::Text;
+use cil_resolve::Text;
 use cil_text::RuleKind;
 use std::alloc::{Allocator, Global};
 use std::marker::Model;

@@ -12,7 +12,7 @@ use crate::first_row::split_row;
 use crate::listing::write_row_line;
 use crate::numbers::AtomNumbers;
 use crate::row::{Names, Row};
-use cil_names::Text;
+use cil_resolve::Text;
 use cil_text::{RuleKind, Sink, SinkFault};
 use std::alloc::{AllocError, Allocator, Global};
 use std::marker::Model;

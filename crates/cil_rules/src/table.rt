@@ -5,7 +5,7 @@ ghost use Rattle.std.specs.List.{flat_map};
 ghost use Rattle.cil_specs.specs.Rule as spec;
 ghost use Rattle.cil_specs.specs.Meaning.{is_in_table};
 ghost use Rattle.cil_specs.specs.Report.{AreAtoms, Row, AreRows, row_line};
-ghost use Rattle.cil_names.specs.Resolved.{meaning_in};
+ghost use Rattle.cil_resolve.specs.Resolved.{meaning_in};
 ghost use Rattle.cil_text.specs.Device.{HasFailed, Gains, GainsFront};
 ghost use Rattle.cil_rules.specs.Atoms.{atom_of};
 
@@ -14,7 +14,7 @@ use crate::collect::{collect, sort_distinct};
 use crate::listing::write_rows;
 use crate::numbers::AtomNumbers;
 use crate::rows::{Rows, copied};
-use cil_names::{Resolved, Text};
+use cil_resolve::{Resolved, Text};
 use cil_text::{Sink, SinkFault};
 use std::alloc::{AllocError, Allocator, Global};
 use std::marker::Model;

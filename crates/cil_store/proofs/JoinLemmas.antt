@@ -1,69 +1,52 @@
--- The modules of entries, one list of them after another.
-use Rattle.std.proofs.Common.{◌≡◌, inl, inr, ◌+◌, ◌<◌, List, ℕ, [], ◌∷◌, ◌++◌, length, get_or, map, take, drop, Bool, true, false, ◌&&◌, IsTrue, bytes_eq, true≢false, refl, ap, sym, ◌∙◌, subst, append_assoc}
-use Rattle.std.specs.List.{list_all, AllByRecursion, IsDistinct}
+-- The parsed modules of entries, one list of them after another.
+use Rattle.std.proofs.Common.{◌≡◌, inl, inr, ◌+◌, ◌<◌, List, ℕ, [], ◌∷◌, ◌++◌, length, get_or, map, take, Bool, true, false, IsTrue, bytes_eq, true≢false, refl, ap, sym, ◌∙◌, subst, append_assoc}
+use Rattle.std.specs.List.{AllByRecursion, IsDistinct}
 use Rattle.std.specs.List.Sorted.{IsStrictlySortedBy, IsPermutation}
 use Rattle.std.specs.Ordering.{is_lt, ordering_reverse}
 use Rattle.std.specs.declared.cmp.Ordering.TheVariants.{Less}
 use Rattle.std.specs.Cmp.Lexicographic.{bytes_decides}
 use Rattle.std.proofs.lemmas.Cmp.{tied_itself}
 use Rattle.std.proofs.lemmas.List.Sorted.{Contains-permutation, IsPermutation-sym}
-use Rattle.std.proofs.lemmas.List.{take-append-drop, take_more, map-append}
-use Rattle.std.proofs.lemmas.List.Folds.{list_all-append}
-use Rattle.cil_specs.proofs.Runs.{both_true}
-use Rattle.cil_specs.specs.Joined.{Module}
-use Rattle.cil_specs.specs.Next.{IsModuleText, AreModules}
+use Rattle.std.proofs.lemmas.List.{take_more, map-append}
 use Rattle.cil_specs.specs.Report.{name_cmp, names_rise}
 use Rattle.cil_specs.specs.Store.{Entry}
 use Rattle.cil_specs.proofs.ReportLemmas.{name_total, sorted_from_names_rise}
 use Rattle.cil_specs.proofs.ReportLemmasMembers.{AnyByRecursion, contains_to, contains_from}
-use Rattle.cil_specs.proofs.NamesLemmas.{all-first, all-second}
-use Rattle.cil_store.specs.Compiled.{is_compiled}
+use Rattle.cil_bind.specs.declared.joined.NamedModule.{NamedModule}
+use Rattle.cil_store.specs.Stored.{IsParsedOf, AreParsedOf}
 
-pub modules-append : (es fs : List Entry) (ms ns : List Module) → AreModules es ms → AreModules fs ns → AreModules (es ++ fs) (ms ++ ns)
-modules-append [] fs [] ns a b = b
-modules-append [] fs (m ∷ ms) ns a b = absurd a
-modules-append (e ∷ es) fs [] ns a b = absurd a
-modules-append (e ∷ es) fs (m ∷ ms) ns a b = (a.0, a.1, modules-append es fs ms ns a.2 b)
+parsed-append : {A : Type 0} (es fs : List Entry) (ms ns : List (NamedModule A)) → AreParsedOf es ms → AreParsedOf fs ns → AreParsedOf (es ++ fs) (ms ++ ns)
+parsed-append [] fs [] ns a b = b
+parsed-append [] fs (m ∷ ms) ns a b = absurd a
+parsed-append (e ∷ es) fs [] ns a b = absurd a
+parsed-append (e ∷ es) fs (m ∷ ms) ns a b = (a.0, a.1, parsed-append es fs ms ns a.2 b)
 
-pub modules-names : (es : List Entry) (ms : List Module) → AreModules es ms → map (λ m. m.name) ms ≡ map (λ e. e.name) es
-modules-names [] [] a = refl
-modules-names [] (m ∷ ms) a = absurd a
-modules-names (e ∷ es) [] a = absurd a
-modules-names (e ∷ es) (m ∷ ms) a = λ i. a.0 i ∷ modules-names es ms a.2 i
+parsed-names : {A : Type 0} (es : List Entry) (ms : List (NamedModule A)) → AreParsedOf es ms → map (λ m. m.name.now) ms ≡ map (λ e. e.name) es
+parsed-names [] [] a = refl
+parsed-names [] (m ∷ ms) a = absurd a
+parsed-names (e ∷ es) [] a = absurd a
+parsed-names (e ∷ es) (m ∷ ms) a = λ i. a.0 i ∷ parsed-names es ms a.2 i
 
-pub all-take : {X : Type 0} (P : X → Type 0) (xs : List X) (k : ℕ) → AllByRecursion P xs → AllByRecursion P (take k xs)
-all-take P xs k all = all-first P (take k xs) (drop k xs) (subst (AllByRecursion P) (sym (take-append-drop k xs)) all)
+-- the parsed module of one more entry
+pub parsed-more : {A : Type 0} (entries : List Entry) (i : ℕ) (e d : Entry) (ms : List (NamedModule A)) (m : NamedModule A) → i < length entries → e ≡ get_or entries i d → AreParsedOf (take i entries) ms → m.name.now ≡ e.name
+    → IsParsedOf e.text m.«module».now → AreParsedOf (take (i + 1) entries) (ms ++ m ∷ [])
+parsed-more entries i e d ms m within is are name text =
+    subst (λ es. AreParsedOf es (ms ++ m ∷ [])) (sym (take_more entries i d within))
+    (parsed-append (take i entries) (get_or entries i d ∷ []) ms (m ∷ []) are (name ∙ ap (λ o. o.name) is, subst (λ t. IsParsedOf t m.«module».now) (ap (λ o. o.text) is) text, tt))
 
-pub all-drop : {X : Type 0} (P : X → Type 0) (xs : List X) (k : ℕ) → AllByRecursion P xs → AllByRecursion P (drop k xs)
-all-drop P xs k all = all-second P (take k xs) (drop k xs) (subst (AllByRecursion P) (sym (take-append-drop k xs)) all)
+-- the parsed modules of entries before and after one, with its own between
+pub parsed-around : {A : Type 0} (before after : List Entry) (e : Entry) (first second : List (NamedModule A)) (m : NamedModule A) → AreParsedOf before first → AreParsedOf after second → m.name.now ≡ e.name
+    → IsParsedOf e.text m.«module».now → AreParsedOf (before ++ e ∷ after) ((first ++ m ∷ []) ++ second)
+parsed-around before after e first second m a b name text =
+    subst (AreParsedOf (before ++ e ∷ after)) (sym (append_assoc first (m ∷ []) second)) (parsed-append before (e ∷ after) first (m ∷ second) a (name, text, b))
 
-one-more : (b : Bool) → b ≡ true → (b && true) ≡ true
-one-more true e = refl
-one-more false e = e
-
--- the module of one more entry
-pub module-more : (entries : List Entry) (i : ℕ) (e d : Entry) (ms : List Module) (m : Module) → i < length entries → e ≡ get_or entries i d → AreModules (take i entries) ms → m.name ≡ e.name → IsModuleText e.text m.statements → AreModules (take (i + 1) entries) (ms ++ m ∷ [])
-module-more entries i e d ms m within is are name text =
-    subst (λ es. AreModules es (ms ++ m ∷ [])) (sym (take_more entries i d within))
-    (modules-append (take i entries) (get_or entries i d ∷ []) ms (m ∷ []) are (name ∙ ap (λ o. o.name) is, subst (λ t. IsModuleText t m.statements) (ap (λ o. o.text) is) text, tt))
-
-pub compiled-both : (ms ns : List Module) → IsTrue (list_all (λ m. is_compiled m.statements) ms) → IsTrue (list_all (λ m. is_compiled m.statements) ns) → IsTrue (list_all (λ m. is_compiled m.statements) (ms ++ ns))
-compiled-both ms ns a b = list_all-append (λ m. is_compiled m.statements) ms ns ∙ both_true (list_all (λ m. is_compiled m.statements) ms) (list_all (λ m. is_compiled m.statements) ns) a b
-
-pub compiled-more : (ms : List Module) (m : Module) → IsTrue (list_all (λ m. is_compiled m.statements) ms) → IsTrue (is_compiled m.statements) → IsTrue (list_all (λ m. is_compiled m.statements) (ms ++ m ∷ []))
-compiled-more ms m all is = compiled-both ms (m ∷ []) all (one-more (is_compiled m.statements) is)
-
--- the modules of entries before and after one, with its own module between
-pub modules-around : (before after : List Entry) (e : Entry) (first second : List Module) (m : Module) → AreModules before first → AreModules after second → m.name ≡ e.name → IsModuleText e.text m.statements
-    → AreModules (before ++ e ∷ after) ((first ++ m ∷ []) ++ second)
-modules-around before after e first second m a b name text =
-    subst (AreModules (before ++ e ∷ after)) (sym (append_assoc first (m ∷ []) second)) (modules-append before (e ∷ after) first (m ∷ second) a (name, text, b))
-
-pub names-around : (before after : List Entry) (first second : List Module) (m : Module) → AreModules before first → AreModules after second
-    → map (λ e. e.name) before ++ m.name ∷ map (λ e. e.name) after ≡ map (λ m. m.name) ((first ++ m ∷ []) ++ second)
+-- their names are in order
+pub names-around : {A : Type 0} (before after : List Entry) (first second : List (NamedModule A)) (m : NamedModule A) → AreParsedOf before first → AreParsedOf after second
+    → IsStrictlySortedBy name_cmp (map (λ e. e.name) before ++ m.name.now ∷ map (λ e. e.name) after) → IsStrictlySortedBy name_cmp (map (λ n. n.name.now) ((first ++ m ∷ []) ++ second))
 names-around before after first second m a b =
-    (λ i. sym (modules-names before first a) i ++ m.name ∷ sym (modules-names after second b) i)
-    ∙ sym (ap (map (λ m. m.name)) (append_assoc first (m ∷ []) second) ∙ map-append (λ m. m.name) first (m ∷ second))
+    subst (IsStrictlySortedBy name_cmp)
+    ((λ i. sym (parsed-names before first a) i ++ m.name.now ∷ sym (parsed-names after second b) i)
+    ∙ sym (ap (map (λ n. n.name.now)) (append_assoc first (m ∷ []) second) ∙ map-append (λ n. n.name.now) first (m ∷ second)))
 
 -- names that rise differ
 unequal : (a b : List ℕ) → name_cmp a b ≡ Less → bytes_eq a b ≡ false

@@ -1,7 +1,6 @@
 pub mod StoredLemmas
-pub mod CompiledLemmas
+pub mod ParsedLemmas
 pub mod JoinLemmas
 pub mod PlainLemmas
 pub mod UnsupportedLemmas
-pub mod ParseLemmas
 pub mod DroppedLemmas

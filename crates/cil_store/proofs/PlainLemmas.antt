@@ -10,17 +10,20 @@ use Rattle.cil_specs.specs.Meaning.{Means, meaning_of, is_in_table}
 use Rattle.cil_specs.specs.Report.{AreAtoms, Changes, AreChanges}
 use Rattle.cil_specs.specs.Store.{Entry, Store, empty, is_highest, active, put}
 use Rattle.cil_specs.specs.Kept.{Optionals, AreKept, restricted, judged, Compiles}
-use Rattle.cil_specs.specs.Next.{AreModules, IsPolicyOf, HasTypesAlone, IsPolicyFaultOf, install, Refusal, by_store, is_module_name, changed, install_refusal, HasGoodText, IsPolicyRefusal, by_itself, by_its_text, not_taken, bad_policy, good}
+use Rattle.cil_specs.specs.Next.{AreModules, IsPolicyOf, HasTypesAlone, IsPolicyFaultOf, IsTextFault, install, Refusal, by_store, is_module_name, changed, install_refusal, HasGoodText, IsPolicyRefusal, by_itself, by_its_text, not_taken, bad_policy, good}
 use Rattle.cil_specs.specs.Run.{an_edit, changed_by, refused, accepted, rejected, out_of_memory, Step}
 use Rattle.cil_specs.proofs.Runs.{both_true, first_true, second_true}
-use Rattle.cil_names.specs.Image.{PolicyFaultIs}
-use Rattle.cil_names.specs.Resolved.{meaning_in}
-use Rattle.cil_names.specs.declared.resolved.Resolved.{Resolved}
-use Rattle.cil_store.specs.Refusing.{IsRefusalOf, IsRefusalOfPolicy}
-use Rattle.cil_store.specs.Stored.{IsGood, entry_for}
-use Rattle.cil_store.specs.Plain.{IsCompiledTo, IsKept, IsRefused}
-use Rattle.cil_names.specs.declared.fault.PolicyFault.{PolicyFault}
-use Rattle.cil_names.specs.declared.fault.PolicyFault.TheVariants.{Memory, Found}
+use Rattle.cil_text.specs.Image.{FaultIs, kind_of, place_of, shown}
+use Rattle.cil_text.specs.declared.fault.TextFault.{TextFault}
+use Rattle.cil_text.specs.declared.fault.TextFault.TheVariants as texts
+use Rattle.cil_check.specs.Image.{PolicyFaultIs}
+use Rattle.cil_check.specs.declared.fault.PolicyFault.{PolicyFault}
+use Rattle.cil_check.specs.declared.fault.PolicyFault.TheVariants.{Memory, Found}
+use Rattle.cil_resolve.specs.Resolved.{meaning_in}
+use Rattle.cil_resolve.specs.declared.resolved.Resolved.{Resolved}
+use Rattle.cil_store.specs.Refusing.{IsRefusalOf, IsRefusalOfText, IsRefusalOfPolicy}
+use Rattle.cil_store.specs.Stored.{entry_for}
+use Rattle.cil_store.specs.Plain.{IsCompiledTo, IsKept, IsRefusedPolicy}
 use Rattle.cil_store.proofs.StoredLemmas.{none-stored, put-stored}
 
 filter-every : (p : Entry → Bool) (xs : List Entry) → AllByRecursion (λ x. p x ≡ true) xs → filter p xs ≡ xs
@@ -53,37 +56,23 @@ each-active disabled entries (e ∷ some) none all passes = (
 pub active-all : (store : Store) → store.disabled ≡ [] → list_all (λ o. o.priority == 400) store.entries ≡ true → active store ≡ store.entries
 active-all store none all = filter-every (λ e. not (list_any (bytes_eq e.name) store.disabled) && is_highest store.entries e) store.entries (each-active store.disabled store.entries store.entries none all all)
 
-good-entries : (entries : List Entry) (modules : List Module) → list_all (λ e. nat_le (length e.text) 16777216) entries ≡ true → AreModules entries modules → AllByRecursion IsGood entries
-good-entries [] [] short are = tt
-good-entries [] (m ∷ modules) short are = absurd are
-good-entries (e ∷ entries) [] short are = absurd are
-good-entries (e ∷ entries) (m ∷ modules) short are = (
-  record { short = leb-true (length e.text) 16777216 (first_true (nat_le (length e.text) 16777216) _ short); statements = m.statements; is_text = are.1 },
-  good-entries entries modules (second_true (nat_le (length e.text) 16777216) _ short) are.2,
-)
-
-pub kept-good : (store : Store) (table : List Atom) (dropped : List Declared) → IsKept store table dropped → AllByRecursion IsGood store.entries
-kept-good store table dropped kept =
-    let policy = kept.is_compiled.is_meaning.is_policy in
-    good-entries store.entries policy.0 kept.stored.short (subst (λ es. AreModules es policy.0) (active-all store kept.enabled kept.stored.one_priority) policy.1)
-
 -- the entries after an install are all active
-changed-active : (store : Store) (table : List Atom) (dropped : List Declared) (name text : List ℕ) → length text ≤ 16777216 → IsKept store table dropped
+changed-active : (store : Store) (table : List Atom) (dropped : List Declared) (name text : List ℕ) → IsKept store table dropped
     → active (changed store (install name 400 text)) ≡ put (entry_for name text) store.entries
-changed-active store table dropped name text short kept =
-    active-all (changed store (install name 400 text)) kept.enabled (put-stored (entry_for name text) store.entries refl short kept.stored).one_priority
+changed-active store table dropped name text kept =
+    active-all (changed store (install name 400 text)) kept.enabled (put-stored (entry_for name text) store.entries refl kept.stored).one_priority
 
 -- the policy of the store after an install
-pub changed-policy : (store : Store) (table : List Atom) (dropped : List Declared) (name text : List ℕ) (modules : List Module) → length text ≤ 16777216 → IsKept store table dropped
+pub changed-policy : (store : Store) (table : List Atom) (dropped : List Declared) (name text : List ℕ) (modules : List Module) → IsKept store table dropped
     → AreModules (put (entry_for name text) store.entries) modules → IsPolicyOf (changed store (install name 400 text)) (joined modules)
-changed-policy store table dropped name text modules short kept are = (modules, subst (λ es. AreModules es modules) (sym (changed-active store table dropped name text short kept)) are, refl)
+changed-policy store table dropped name text modules kept are = (modules, subst (λ es. AreModules es modules) (sym (changed-active store table dropped name text kept)) are, refl)
 
-pub policy-refused : (fault : PolicyFault) (refusal : Refusal) (store : Store) (table : List Atom) (dropped : List Declared) (name text : List ℕ) (modules : List Module) → length text ≤ 16777216 → IsKept store table dropped
-    → AreModules (put (entry_for name text) store.entries) modules → HasGoodText (install name 400 text) → PolicyFaultIs fault (IsPolicyFaultOf (joined modules)) → IsRefusalOfPolicy fault refusal → IsRefused store name text refusal
-policy-refused Memory refusal store table dropped name text modules short kept are is_good first is = inl is
-policy-refused (Found kind module_name at word) refusal store table dropped name text modules short kept are is_good first (inl is) = inl is
-policy-refused (Found kind module_name at word) refusal store table dropped name text modules short kept are is_good first (inr is) =
-    inr (inr (is_good, (joined modules, _, changed-policy store table dropped name text modules short kept are, first, is)))
+pub policy-refused : (fault : PolicyFault) (refusal : Refusal) (store : Store) (table : List Atom) (dropped : List Declared) (name text : List ℕ) (modules : List Module) → IsKept store table dropped
+    → AreModules (put (entry_for name text) store.entries) modules → PolicyFaultIs fault (IsPolicyFaultOf (joined modules)) → IsRefusalOfPolicy fault refusal → IsRefusedPolicy store name text refusal
+policy-refused Memory refusal store table dropped name text modules kept are first is = inl is
+policy-refused (Found kind module_name at word) refusal store table dropped name text modules kept are first (inl is) = inl is
+policy-refused (Found kind module_name at word) refusal store table dropped name text modules kept are first (inr is) =
+    inr (joined modules, _, changed-policy store table dropped name text modules kept are, first, is)
 
 -- the set of no optional
 abbrev no_optional : Optionals
@@ -121,12 +110,12 @@ kept-empty table dropped none nothing = record {
 }
 
 -- what the store after an install compiles to, by the resolved policy
-pub compiled-to : {A : Type 0} (store : Store) (table atoms : List Atom) (dropped others : List Declared) (name text : List ℕ) (modules : List Module) (r : Resolved A) → length text ≤ 16777216 → IsKept store table dropped
+pub compiled-to : {A : Type 0} (store : Store) (table atoms : List Atom) (dropped others : List Declared) (name text : List ℕ) (modules : List Module) (r : Resolved A) → IsKept store table dropped
     → AreModules (put (entry_for name text) store.entries) modules → (kept : Optionals) × Means (joined modules) kept (meaning_in r) × HasTypesAlone (restricted kept (joined modules)) → AreAtoms (is_in_table (meaning_in r)) atoms
     → others ≡ (meaning_in r).dropped → IsCompiledTo (changed store (install name 400 text)) atoms others
-compiled-to store table atoms dropped others name text modules r short kept are means are_atoms are_dropped = record {
+compiled-to store table atoms dropped others name text modules r kept are means are_atoms are_dropped = record {
   meaning = meaning_in r;
-  is_meaning = record { policy = joined modules; kept = means.0; is_policy = changed-policy store table dropped name text modules short kept are; means = means.1; types_alone = means.2 };
+  is_meaning = record { policy = joined modules; kept = means.0; is_policy = changed-policy store table dropped name text modules kept are; means = means.1; types_alone = means.2 };
   are_atoms = are_atoms;
   are_dropped = are_dropped;
 }
@@ -153,14 +142,22 @@ taken-short name priority size e =
     let short = if-none (nat_lt 16777216 size) (by_store 34 name) None one.1 in
     ltb-false 16777216 size short.0
 
--- the step of a refused install
-pub refused-step : (store : Store) (name text : List ℕ) (priority : ℕ) (refusal : Refusal) → install_refusal name priority (length text) ≡ None → IsRefused store name text refusal → Step store (an_edit (install name priority text)) (refused refusal) store
-refused-step store name text priority refusal taken (inl memory) = out_of_memory (ap refused memory) refl
-refused-step store name text priority refusal taken (inr (inl fault)) = rejected (install name priority text) refusal refl refl (not_taken refusal (by_its_text taken fault) refl) refl
-refused-step store name text priority refusal taken (inr (inr policy)) =
+-- the step of an install that is refused for its text
+pub text-step : (store : Store) (name text : List ℕ) (priority : ℕ) (fault : TextFault) (refusal : Refusal) → install_refusal name priority (length text) ≡ None → FaultIs fault (IsTextFault text) → IsRefusalOfText fault name refusal
+    → Step store (an_edit (install name priority text)) (refused refusal) store
+text-step store name text priority texts.Memory refusal taken bad is = out_of_memory (ap refused is) refl
+text-step store name text priority (texts.Found kind at word) refusal taken bad (inl is) = out_of_memory (ap refused is) refl
+text-step store name text priority (texts.Found kind at word) refusal taken bad (inr is) =
+    rejected (install name priority text) refusal refl refl (not_taken refusal (by_its_text taken (record { kind = kind_of kind; at = place_of at; word = shown word }, bad, is)) refl) refl
+
+-- the step of an install that is refused for the policy
+pub policy-step : (store : Store) (name text : List ℕ) (priority : ℕ) (refusal : Refusal) → install_refusal name priority (length text) ≡ None → HasGoodText (install name 400 text) → IsRefusedPolicy store name text refusal
+    → Step store (an_edit (install name priority text)) (refused refusal) store
+policy-step store name text priority refusal taken good_text (inl memory) = out_of_memory (ap refused memory) refl
+policy-step store name text priority refusal taken good_text (inr policy) =
     rejected (install name priority text) refusal refl refl
-    (bad_policy (changed store (install name priority text)) refusal (record { not_refused = taken; good_text = policy.0; is = refl })
-    (subst (λ p. IsPolicyRefusal (changed store (install name p text)) refusal) (sym (taken-priority name priority (length text) taken)) policy.1) refl) refl
+    (bad_policy (changed store (install name priority text)) refusal (record { not_refused = taken; good_text = good_text; is = refl })
+    (subst (λ p. IsPolicyRefusal (changed store (install name p text)) refusal) (sym (taken-priority name priority (length text) taken)) policy) refl) refl
 
 -- the step of an install that was made
 pub accepted-step : (store : Store) (old atoms : List Atom) (dropped others : List Declared) (name text : List ℕ) (priority : ℕ) (changes : Changes) → install_refusal name priority (length text) ≡ None → HasGoodText (install name 400 text)
@@ -178,9 +175,9 @@ accepted-step store old atoms dropped others name text priority changes taken go
       are_changes = between (is_in_table before) (is_in_table made.meaning) kept.is_compiled.are_atoms made.are_atoms;
     })
 
-pub kept-changed : (store : Store) (old atoms : List Atom) (dropped others : List Declared) (name text : List ℕ) → length text ≤ 16777216 → IsKept store old dropped → IsCompiledTo (changed store (install name 400 text)) atoms others
+pub kept-changed : (store : Store) (old atoms : List Atom) (dropped others : List Declared) (name text : List ℕ) → IsKept store old dropped → IsCompiledTo (changed store (install name 400 text)) atoms others
     → IsKept (changed store (install name 400 text)) atoms others
-kept-changed store old atoms dropped others name text short kept made = record { stored = put-stored (entry_for name text) store.entries refl short kept.stored; enabled = kept.enabled; is_compiled = made }
+kept-changed store old atoms dropped others name text kept made = record { stored = put-stored (entry_for name text) store.entries refl kept.stored; enabled = kept.enabled; is_compiled = made }
 
 -- an install that the store refuses by its line
 pub line-step : (store : Store) (name text : List ℕ) (priority : ℕ) (refusal meant : Refusal) → install_refusal name priority (length text) ≡ Some meant → IsRefusalOf refusal meant → Step store (an_edit (install name priority text)) (refused refusal) store

@@ -21,7 +21,7 @@ is_before name o = is_lt (name_cmp o.name name)
 
 pub none-stored : AreStored []
 unfolding IsStrictlySortedBy
-none-stored = record { ordered = tt; one_priority = refl; short = refl }
+none-stored = record { ordered = tt; one_priority = refl }
 
 less-is : (o : Ordering) → is_lt o ≡ true → o ≡ Less
 less-is Less e = refl
@@ -173,13 +173,12 @@ puts e (o ∷ rest) p alike sorted = by (puts e rest p (second_true (o.priority 
         (put-before e o rest p alike less (behind-weaker (λ n. name_cmp o.name n ≡ Less) (λ n. name_cmp e.name n ≡ Less) (λ n h. nat_list_cmp_total.trans e.name o.name n less h) rest sorted.0) sorted)
 
 -- the entries with one more are those of a store
-pub put-stored : (e : Entry) (entries : List Entry) → e.priority ≡ 400 → length e.text ≤ 16777216 → AreStored entries → AreStored (put e entries)
-put-stored e entries p short stored =
+pub put-stored : (e : Entry) (entries : List Entry) → e.priority ≡ 400 → AreStored entries → AreStored (put e entries)
+put-stored e entries p stored =
     let all = puts e entries p stored.one_priority stored.ordered in
     record {
       ordered = all.ordered;
       one_priority = all.passes (λ o. o.priority == 400) (ap (λ n. n == 400) p) stored.one_priority;
-      short = all.passes (λ o. nat_le (length o.text) 16777216) (le-leb (length e.text) 16777216 short) stored.short;
     }
 
 set-split : (xs : List Entry) (k : ℕ) (x : Entry) (name : List ℕ) → IsNamedAt xs k name → slice_set xs k x ≡ take k xs ++ x ∷ drop (suc k) xs

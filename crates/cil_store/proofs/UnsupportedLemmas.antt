@@ -8,9 +8,9 @@ use Rattle.cil_specs.specs.Place as spec_place
 use Rattle.cil_specs.specs.Names as spec_names
 use Rattle.cil_specs.specs.TextFault.{TextFault, IsNoLater}
 use Rattle.cil_specs.specs.Trees.{Trees, none, a_word, a_string, a_list, in_order}
-use Rattle.cil_specs.specs.Statements.{allow, auditallow, dontaudit, neverallow, itself, the_named, Form, block, optional, attribute_set, rule, is_optional, Statements, no_more, statement}
+use Rattle.cil_specs.specs.Statements.{Form, block, optional, attribute_set, is_optional, Statements, no_more, statement}
 use Rattle.cil_specs.specs.Shape.{Shapes, holds_others}
-use Rattle.cil_specs.specs.Next.{has_self, is_unsupported, IsUnsupportedFault, IsFirstUnsupportedFault}
+use Rattle.cil_specs.specs.Next.{has_self, is_unsupported, is_plain_form, is_plain, IsModuleText, IsUnsupportedFault, IsFirstUnsupportedFault}
 use Rattle.cil_specs.proofs.FormLemmas.{first_word, OperandsFit, fits_begin}
 use Rattle.cil_specs.proofs.OrderLemmas.{order_word, order_list, order_le}
 use Rattle.cil_specs.proofs.UnsupportedOrder.{unsupported_between}
@@ -20,7 +20,6 @@ use Rattle.cil_text.specs.declared.word.Word.{Word}
 use Rattle.cil_text.specs.declared.tree.Tree.{Tree}
 use Rattle.cil_text.specs.declared.tree.Tree.TheVariants as variants
 use Rattle.cil_text.specs.declared.tree.TreeSlice.{TreeSlice}
-use Rattle.cil_store.specs.Compiled.{is_compiled_form, is_compiled}
 use Rattle.cil_store.specs.Unsupported.{unsupported_word, fault_at, word_option}
 
 -- a tree, and those behind it
@@ -200,39 +199,30 @@ pub none_unsupported : (trees : Trees) (found : Option Word) → word_option fou
 none_unsupported trees None h = unsupported_none trees (sym h)
 none_unsupported trees (Some w) h = tt
 
--- a statement that is not of a compiled form has a first word or operands that aren't compiled yet
-unsupported_form : (form : Form) (operands inner : Trees) → OperandsFit operands form inner → is_compiled_form form ≡ false → is_unsupported (first_word form) operands ≡ true
-unsupported_form (attribute_set attribute expr) operands inner fits h = refl
-unsupported_form (rule allow source (the_named target) the_class permissions) operands inner fits h = absurd (true≢false h)
-unsupported_form (rule allow source itself the_class permissions) operands inner fits h =
-    let targets = fits.0.0 in
-    let has : has_self targets ≡ true = ap has_self fits.0.3.1 in
-    ap has_self fits.0.2 ∙ ap (λ b. bytes_eq source.text (codes "self") || b) has ∙ or_right (bytes_eq source.text (codes "self")) true refl
-unsupported_form (rule auditallow source target the_class permissions) operands inner fits h = refl
-unsupported_form (rule dontaudit source target the_class permissions) operands inner fits h = refl
-unsupported_form (rule neverallow source target the_class permissions) operands inner fits h = refl
-unsupported_form _ operands inner fits h = absurd (true≢false h)
+-- a statement that is not plain has a first word that isn't compiled yet
+unsupported_form : (form : Form) (operands : Trees) → is_plain_form form ≡ false → is_unsupported (first_word form) operands ≡ true
+unsupported_form (attribute_set attribute expr) operands h = refl
+unsupported_form _ operands h = absurd (true≢false h)
 
--- the statements inside one of a compiled form have no unsupported fault, where those of a block or an optional have none
-inner_never : (form : Form) (operands inner : Trees) → OperandsFit operands form inner → is_compiled_form form ≡ true
-    → ((fault : TextFault) → IsTrue (holds_others (first_word form)) → IsUnsupportedFault operands fault → ⊥) → (fault : TextFault) → IsUnsupportedFault inner fault → ⊥
-inner_never (block id) operands inner fits is never fault bad = never fault refl (subst (λ trees. IsUnsupportedFault trees fault) (sym fits.0) bad)
-inner_never (optional id) operands inner fits is never fault bad = never fault refl (subst (λ trees. IsUnsupportedFault trees fault) (sym fits.0) bad)
-inner_never _ operands inner fits is never fault bad = subst (λ trees. IsUnsupportedFault trees fault) fits.1 bad
+-- the statements inside another have no unsupported fault, where those of a block or an optional have none
+inner_never : (form : Form) (operands inner : Trees) → OperandsFit operands form inner → ((fault : TextFault) → IsTrue (holds_others (first_word form)) → IsUnsupportedFault operands fault → ⊥)
+    → (fault : TextFault) → IsUnsupportedFault inner fault → ⊥
+inner_never (block id) operands inner fits never fault bad = never fault refl (subst (λ trees. IsUnsupportedFault trees fault) (sym fits.0) bad)
+inner_never (optional id) operands inner fits never fault bad = never fault refl (subst (λ trees. IsUnsupportedFault trees fault) (sym fits.0) bad)
+inner_never _ operands inner fits never fault bad = subst (λ trees. IsUnsupportedFault trees fault) fits.1 bad
 
--- the statements of trees without an unsupported fault are compiled
-compiled-from : (inside : Bool) (trees : Trees) (statements : Statements) → Shapes inside trees statements → ((fault : TextFault) → IsUnsupportedFault trees fault → ⊥) → is_compiled statements ≡ true
-compiled-from inside trees no_more shapes never = refl
-compiled-from inside trees (statement at form body more) shapes never =
+-- the statements of trees without an unsupported fault are plain
+plain_statements : (inside : Bool) (trees : Trees) (statements : Statements) → Shapes inside trees statements → ((fault : TextFault) → IsUnsupportedFault trees fault → ⊥) → is_plain statements ≡ true
+plain_statements inside trees no_more shapes never = refl
+plain_statements inside trees (statement at form body more) shapes never =
     let b = fits_begin shapes.1 form shapes.2 shapes.5 in
     let path : trees ≡ a_list at shapes.0 (a_word b.0 (first_word form) b.1) shapes.3 = shapes.4 ∙ ap (λ parts. a_list at shapes.0 parts shapes.3) b.2 in
     let never' : (fault : TextFault) → IsUnsupportedFault (a_list at shapes.0 (a_word b.0 (first_word form) b.1) shapes.3) fault → ⊥ = λ fault bad. never fault (subst (λ trees. IsUnsupportedFault trees fault) (sym path) bad) in
-    let here : is_compiled_form form ≡ true = true_from_ne_false (is_compiled_form form)
-    (λ h. never' (fault_at (record { at = b.0; text = first_word form })) (inl (unsupported_form form b.1 shapes.2 b.3 h, refl))) in
-    let within : is_compiled body ≡ true = compiled-from (inside || is_optional form) shapes.2 body shapes.8
-    (inner_never form b.1 shapes.2 b.3 here (λ fault holds bad. never' fault (inr (inl (holds, bad))))) in
-    let rest : is_compiled more ≡ true = compiled-from inside shapes.3 more shapes.9 (λ fault bad. never' fault (inr (inr bad))) in
-    and_from (is_compiled_form form) (is_compiled body && is_compiled more) here (and_from (is_compiled body) (is_compiled more) within rest)
+    let here : is_plain_form form ≡ true = true_from_ne_false (is_plain_form form) (λ h. never' (fault_at (record { at = b.0; text = first_word form })) (inl (unsupported_form form b.1 h, refl))) in
+    let within : is_plain body ≡ true = plain_statements (inside || is_optional form) shapes.2 body shapes.8 (inner_never form b.1 shapes.2 b.3 (λ fault holds bad. never' fault (inr (inl (holds, bad))))) in
+    let rest : is_plain more ≡ true = plain_statements inside shapes.3 more shapes.9 (λ fault bad. never' fault (inr (inr bad))) in
+    and_from (is_plain_form form) (is_plain body && is_plain more) here (and_from (is_plain body) (is_plain more) within rest)
 
-pub compiled_statements : (trees : Trees) (statements : Statements) → Shapes false trees statements → ((fault : TextFault) → IsUnsupportedFault trees fault → ⊥) → is_compiled statements ≡ true
-compiled_statements trees statements shapes never = compiled-from false trees statements shapes never
+-- so are those of the text of a module
+pub text_plain : (bytes : List ℕ) (statements : Statements) → IsModuleText bytes statements → is_plain statements ≡ true
+text_plain bytes statements text = plain_statements false text.trees statements text.shapes text.compiled

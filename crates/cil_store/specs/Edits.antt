@@ -5,13 +5,15 @@ use Rattle.cil_specs.specs.Next.{install, by_store, at_place, for_memory}
 use Rattle.cil_specs.specs.TextFault as text_fault
 use Rattle.cil_specs.specs.PolicyFault as policy_fault
 use Rattle.cil_text.specs.Image.{place_of, kind_of}
-use Rattle.cil_names.specs.Image.{policy_kind_of}
+use Rattle.cil_check.specs.Image.{policy_kind_of}
 use Rattle.cil_store.specs.declared.edit.Edit.{Edit}
 use Rattle.cil_store.specs.declared.edit.Edit.TheVariants.{Install}
 use Rattle.cil_store.specs.declared.refusal.StoreFault.{StoreFault}
 use Rattle.cil_store.specs.declared.refusal.StoreFault.TheVariants.{BadModuleName, BadPriority, TextTooLong}
+use Rattle.cil_store.specs.declared.refusal.FaultKind.{FaultKind}
+use Rattle.cil_store.specs.declared.refusal.FaultKind.TheVariants.{Text, Policy}
 use Rattle.cil_store.specs.declared.refusal.Refusal.{Refusal}
-use Rattle.cil_store.specs.declared.refusal.Refusal.TheVariants.{Store, Text, Policy, Memory}
+use Rattle.cil_store.specs.declared.refusal.Refusal.TheVariants.{Store, Fault, Memory}
 
 abbrev pub edit_of : Edit → spec.Edit
 edit_of (Install name priority text) = install name.now priority text.now
@@ -32,8 +34,12 @@ store_word TextTooLong name priority = name
 abbrev pub store_refusal_of : StoreFault → List ℕ → ℕ → spec.Refusal
 store_refusal_of fault name priority = by_store (store_code fault) (store_word fault name priority)
 
+-- the code of a fault of a text or of a policy
+abbrev pub fault_code : FaultKind → ℕ
+fault_code (Text kind) = text_fault.code_of (kind_of kind)
+fault_code (Policy kind) = policy_fault.code_of (policy_kind_of kind)
+
 abbrev pub refusal_of : {A : Type 0} → Refusal A → spec.Refusal
 refusal_of (Store fault word) = by_store (store_code fault) word
-refusal_of (Text module_name kind at word) = at_place (text_fault.code_of (kind_of kind)) module_name (place_of at) word
-refusal_of (Policy module_name kind at word) = at_place (policy_fault.code_of (policy_kind_of kind)) module_name (place_of at) word
+refusal_of (Fault module_name kind at word) = at_place (fault_code kind) module_name (place_of at) word
 refusal_of Memory = for_memory

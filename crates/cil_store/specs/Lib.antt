@@ -4,4 +4,3 @@ pub mod Stored
 pub mod Refusing
 pub mod Plain
 pub mod Unsupported
-pub mod Compiled

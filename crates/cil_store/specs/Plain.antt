@@ -4,7 +4,7 @@ use Rattle.cil_specs.specs.Rule.{Atom, Declared}
 use Rattle.cil_specs.specs.Meaning.{Meaning, is_in_table}
 use Rattle.cil_specs.specs.Report.{AreAtoms}
 use Rattle.cil_specs.specs.Store.{Store}
-use Rattle.cil_specs.specs.Next.{install, Refusal, for_memory, changed, IsMeaningOf, IsTextRefusal, HasGoodText, IsPolicyRefusal}
+use Rattle.cil_specs.specs.Next.{install, Refusal, for_memory, changed, IsMeaningOf, IsPolicyRefusal}
 use Rattle.cil_store.specs.Stored.{AreStored}
 
 -- the table is that of what the store means, and these are its optionals that drop
@@ -19,7 +19,6 @@ pub record IsKept (store : Store) (table : List Atom) (dropped : List Declared) 
   pub enabled : store.disabled ≡ []
   pub is_compiled : IsCompiledTo store table dropped
 
--- the refusal is out of memory, that of the text, or that of the policy
-abbrev pub IsRefused : Store → List ℕ → List ℕ → Refusal → Type 0
-IsRefused store name text refusal = (refusal ≡ for_memory) ⊎ (IsTextRefusal (install name 400 text) refusal
-    ⊎ (HasGoodText (install name 400 text) × IsPolicyRefusal (changed store (install name 400 text)) refusal))
+-- the refusal is out of memory, or that of the policy of the store with the text
+abbrev pub IsRefusedPolicy : Store → List ℕ → List ℕ → Refusal → Type 0
+IsRefusedPolicy store name text refusal = (refusal ≡ for_memory) ⊎ IsPolicyRefusal (changed store (install name 400 text)) refusal

@@ -6,9 +6,9 @@ use Rattle.cil_specs.specs.PolicyFault as policy_fault
 use Rattle.cil_text.specs.Image.{place_of, kind_of, shown}
 use Rattle.cil_text.specs.declared.fault.TextFault.{TextFault}
 use Rattle.cil_text.specs.declared.fault.TextFault.TheVariants as texts
-use Rattle.cil_names.specs.Image.{policy_kind_of}
-use Rattle.cil_names.specs.declared.fault.PolicyFault.{PolicyFault}
-use Rattle.cil_names.specs.declared.fault.PolicyFault.TheVariants as policies
+use Rattle.cil_check.specs.Image.{policy_kind_of}
+use Rattle.cil_check.specs.declared.fault.PolicyFault.{PolicyFault}
+use Rattle.cil_check.specs.declared.fault.PolicyFault.TheVariants as policies
 
 -- the refusal, or out of memory for its words
 abbrev pub IsRefusalOf : Refusal → Refusal → Type 0

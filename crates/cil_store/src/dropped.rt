@@ -1,10 +1,10 @@
 //! The optionals that drop, owned.
 
 ghost use Rattle.std.specs.Prelude.{◌≡◌, ◌==◌, [], length, slice_get, option_map, IfOk};
-ghost use Rattle.cil_names.specs.Resolved.{meaning_in};
-ghost use Rattle.cil_names.specs.Views.{declared_seen};
+ghost use Rattle.cil_resolve.specs.Resolved.{meaning_in};
+ghost use Rattle.cil_resolve.specs.Views.{declared_seen};
 
-use cil_names::{NameView, Resolved, Text};
+use cil_resolve::{NameView, Resolved, Text};
 use cil_text::Place;
 use std::alloc::{AllocError, Allocator, Global};
 use std::marker::Model;

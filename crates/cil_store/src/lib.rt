@@ -6,10 +6,10 @@ mod compiled;
 mod dropped;
 mod edit;
 mod entry;
+mod from_text;
 mod join;
 mod laws;
 mod modules;
-mod parse;
 mod plain;
 mod refusal;
 mod refusing;
@@ -21,11 +21,12 @@ pub use compiled::{Compiled, WriteFault};
 pub use dropped::Dropped;
 pub use edit::Edit;
 pub use entry::Entry;
+pub use from_text::parse;
 pub use laws::{
     no_meaning_beside_a_refusal, one_judgement, one_meaning, one_policy_refusal,
     stores_are_in_order,
 };
 pub use modules::Store;
 pub use plain::Plain;
-pub use refusal::{Refusal, StoreFault, check_install};
+pub use refusal::{FaultKind, Refusal, StoreFault, check_install};
 pub use runs::run;

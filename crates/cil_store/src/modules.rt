@@ -5,14 +5,16 @@ ghost use Rattle.std.specs.List.{prefix_len};
 ghost use Rattle.std.specs.Ordering.{is_lt};
 ghost use Rattle.cil_specs.specs.Report.{name_cmp};
 ghost use Rattle.cil_specs.specs.Store.{empty, put};
-ghost use Rattle.cil_store.specs.Stored.{entry_of, IsNamedAt};
+ghost use Rattle.cil_store.specs.Stored.{entry_of, IsNamedAt, IsParsedOf};
 
 use crate::entry::{Entry, StoredEntry};
+use cil_parse::ParsedModule;
 use std::alloc::{AllocError, Allocator, Global};
 use std::marker::Model;
 
-/// The modules by their names (`semodule(8)`). For now each has the priority 400 and none is disabled.
-#[derive(Debug, Drop)]
+/// The modules by their names (`semodule(8)`), each with its text and kept parsed. For now each has the priority 400 and none is
+/// disabled.
+#[derive(Drop)]
 pub struct Store<A: Allocator = Global> {
     entries: Vec<StoredEntry<A>, A>,
 }
@@ -89,15 +91,20 @@ impl<A: Allocator> Store<A> {
 }
 
 impl<A: Allocator + Copy> Store<A> {
-    /// Puts in an entry, in place of one of its name.
-    pub fn put(&mut self, alloc: A, entry: Entry<'_>) -> Result<(), AllocError>
+    /// Puts in an entry with the parsed module of its text, in place of one of its name.
+    pub fn put(
+        &mut self,
+        alloc: A,
+        entry: Entry<'_>,
+        module: ParsedModule<A>,
+    ) -> Result<(), AllocError>
         requires priority { entry.priority ≡ 400 }
-        requires short { length entry.text.now ≤ 16777216 }
+        requires parsed { IsParsedOf entry.text.now «module» }
         ensures ok { OnOk result (self.new ≡ record { entries = put (entry_of entry.entry) self.old.entries; disabled = self.old.disabled }) }
         ensures err { OnErr result (self.new ≡ self.old) }
     {
         let place = self.place(entry.name);
-        let stored = StoredEntry::of(alloc, entry)?;
+        let stored = StoredEntry::of(alloc, entry, module)?;
         if self.has_at(place, entry.name) {
             self.entries[place] = stored;
         } else {

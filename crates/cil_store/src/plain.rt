@@ -1,30 +1,32 @@
 //! The plain engine, which compiles its store anew at each edit.
 
-ghost use Rattle.std.specs.Prelude.{◌≡◌, ◌≤◌, length, IfOk, IfErr};
-ghost use Rattle.cil_specs.specs.Next.{install, changed, HasGoodText};
+ghost use Rattle.std.specs.Prelude.{◌≡◌, ℕ, List, IfOk, IfErr};
+ghost use Rattle.cil_specs.specs.Next.{install, changed};
 ghost use Rattle.cil_specs.specs.Run.{Step, an_edit};
 ghost use Rattle.cil_specs.specs.Store.{empty};
 ghost use Rattle.cil_store.specs.Calls.{edit_reply};
 ghost use Rattle.cil_store.specs.Edits.{refusal_of};
-ghost use Rattle.cil_store.specs.Plain.{IsCompiledTo, IsRefused};
+ghost use Rattle.cil_store.specs.Plain.{IsCompiledTo, IsRefusedPolicy};
+ghost use Rattle.cil_store.specs.Stored.{IsParsedOf};
 
 use crate::compiled::{Compiled, WriteFault};
 use crate::dropped::Dropped;
 use crate::edit::Edit;
 use crate::entry::Entry;
+use crate::from_text::parse;
 use crate::join::join;
 use crate::modules::Store;
-use crate::parse::parse;
 use crate::refusal::{Refusal, check_install};
 use crate::refusing::{refuse_install, refuse_policy, refuse_text};
-use cil_names::resolve_types;
+use cil_parse::ParsedModule;
+use cil_resolve::resolve_types;
 use cil_rules::{Changes, Rows, Table};
 use cil_text::Sink;
 use std::alloc::{AllocError, Allocator, Global};
 use std::marker::Model;
 
-/// A store, the table of its accesses and the optionals that drop. At an edit the changed store is compiled anew, and what it
-/// compiles to put in place of the old where nothing is against it.
+/// A store, the table of its accesses and the optionals that drop. At an edit the text that it brings is parsed, the changed store is
+/// compiled anew from its parsed modules, and what it compiles to put in place of the old where nothing is against it.
 #[derive(Drop)]
 pub struct Plain<A: Allocator = Global> {
     alloc: A,
@@ -58,17 +60,16 @@ impl<A: Allocator + Copy> Plain<A> {
     }
 
     /// The table of the store with one more module, and the optionals that drop.
-    fn compile(&self, name: &[u8], text: &[u8]) -> Result<(Table<A>, Dropped<A>), Refusal<A>>
-        requires { length text.now ≤ 16777216 }
-        ensures good { IfOk result (λ _. HasGoodText (install name.now 400 text.now)) }
-        ensures compiled { IfOk result (λ made. IsCompiledTo (changed self.now (install name.now 400 text.now)) made.0 made.1) }
-        ensures err { IfErr result (λ refusal. IsRefused self.now name.now text.now (refusal_of refusal)) }
+    fn compile(
+        &self,
+        name: &[u8],
+        module: &ParsedModule<A>,
+    ) -> Result<(Table<A>, Dropped<A>), Refusal<A>>
+        requires { (text : List ℕ) × IsParsedOf text «module».now }
+        ensures ok { IfOk result (λ made. (text : List ℕ) → IsParsedOf text «module».now → IsCompiledTo (changed self.now (install name.now 400 text)) made.0 made.1) }
+        ensures err { IfErr result (λ refusal. (text : List ℕ) → IsParsedOf text «module».now → IsRefusedPolicy self.now name.now text (refusal_of refusal)) }
     {
-        let parsed = match parse(self.alloc, text) {
-            Ok(parsed) => parsed,
-            Err(fault) => return Err(refuse_text(self.alloc, name, fault)),
-        };
-        let joined = join(self.alloc, &self.store, name, parsed)?;
+        let joined = join(self.alloc, &self.store, name, module)?;
         let resolved = match resolve_types(self.alloc, &joined) {
             Ok(resolved) => resolved,
             Err(fault) => return Err(refuse_policy(self.alloc, fault)),
@@ -84,7 +85,11 @@ impl<A: Allocator + Copy> Plain<A> {
         if let Err(fault) = check_install(name, priority, text.len()) {
             return Err(refuse_install(self.alloc, fault, name, priority));
         }
-        let (table, dropped) = self.compile(name, text)?;
+        let module = match parse(self.alloc, text) {
+            Ok(module) => module,
+            Err(fault) => return Err(refuse_text(self.alloc, name, fault)),
+        };
+        let (table, dropped) = self.compile(name, &module)?;
         let changes = Changes::between(self.alloc, &self.table, &table)?;
         self.store.put(
             self.alloc,
@@ -93,6 +98,7 @@ impl<A: Allocator + Copy> Plain<A> {
                 priority,
                 text,
             },
+            module,
         )?;
         self.table = table;
         self.dropped = dropped;

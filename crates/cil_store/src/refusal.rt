@@ -5,7 +5,7 @@ ghost use Rattle.std.specs.List.{list_all};
 ghost use Rattle.cil_specs.specs.Next.{begins_module_name as front_byte, is_module_name as module_name, install_refusal};
 ghost use Rattle.cil_store.specs.Edits.{store_refusal_of};
 
-use cil_names::PolicyFaultKind;
+use cil_resolve::{PolicyFaultKind, Text};
 use cil_text::{Place, TextFaultKind};
 use std::alloc::{AllocError, Allocator, Global};
 
@@ -34,25 +34,41 @@ impl StoreFault {
     }
 }
 
-/// Why an edit is refused: by the store; by the fault of its text; by the first fault of the policy that it would lead to;
-/// or out of memory. It owns its words.
+/// What is wrong with a text, or else with the policy that it would lead to.
+#[derive(Clone, Copy, Debug, PartialEq, Eq)]
+pub enum FaultKind {
+    Text(TextFaultKind),
+    Policy(PolicyFaultKind),
+}
+
+impl FaultKind {
+    ghost use Rattle.std.specs.Prelude.{◌≡◌};
+    ghost use Rattle.cil_store.specs.Edits.{fault_code};
+
+    /// The number that a reply shows.
+    pub fn code(self) -> u8
+        ensures { result ≡ fault_code self }
+    {
+        match self {
+            FaultKind::Text(kind) => kind.code(),
+            FaultKind::Policy(kind) => kind.code(),
+        }
+    }
+}
+
+/// Why an edit is refused: by the store; by the fault of its text, or the first of the policy that it would lead to, at a place of a
+/// module; or out of memory. It owns its words.
 #[derive(Debug, Drop)]
 pub enum Refusal<A: Allocator = Global> {
     Store {
         fault: StoreFault,
-        word: cil_names::Text<A>,
+        word: Text<A>,
     },
-    Text {
-        module: cil_names::Text<A>,
-        kind: TextFaultKind,
+    Fault {
+        module: Text<A>,
+        kind: FaultKind,
         at: Place,
-        word: cil_names::Text<A>,
-    },
-    Policy {
-        module: cil_names::Text<A>,
-        kind: PolicyFaultKind,
-        at: Place,
-        word: cil_names::Text<A>,
+        word: Text<A>,
     },
     Memory,
 }

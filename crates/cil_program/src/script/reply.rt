@@ -7,11 +7,11 @@ ghost use Rattle.cil_specs.specs.Report.{dropped_line};
 ghost use Rattle.cil_specs.specs.Script.{refusal_line, answer, last_line, stops};
 ghost use Rattle.cil_specs.specs.Run.{changed_by, dropped_optionals};
 ghost use Rattle.cil_text.specs.Image.{place_of};
-ghost use Rattle.cil_names.specs.Views.{declared_seen};
+ghost use Rattle.cil_resolve.specs.Views.{declared_seen};
 ghost use Rattle.cil_store.specs.Edits.{refusal_of};
 ghost use Rattle.cil_program.specs.Replies.{end_line};
 
-use cil_names::NameView;
+use cil_resolve::NameView;
 use cil_rules::Changes;
 use cil_store::{Dropped, Refusal};
 use cil_text::{Place, Sink, SinkFault, write_all, write_pieces};
@@ -199,13 +199,7 @@ pub fn write_refusal<W: Sink, A: Allocator>(
         Refusal::Store { fault, word } => {
             write_store_refusal(sink, fault.code(), word.as_slice())
         }
-        Refusal::Text {
-            module,
-            kind,
-            at,
-            word,
-        } => write_place(sink, kind.code(), module.as_slice(), *at, word.as_slice()),
-        Refusal::Policy {
+        Refusal::Fault {
             module,
             kind,
             at,

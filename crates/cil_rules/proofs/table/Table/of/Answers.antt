@@ -1,6 +1,6 @@
 use Rattle.std.proofs.Common.{◌∙◌, ◌↔◌, ap, refl, Contains}
 use Rattle.std.specs.List.{flat_map}
-use Rattle.cil_names.specs.Resolved.{meaning_in}
+use Rattle.cil_resolve.specs.Resolved.{meaning_in}
 use Rattle.cil_rules.specs.declared.numbers.AtomNumbers.{AtomNumbers}
 use Rattle.cil_rules.specs.Atoms.{given}
 use Rattle.cil_rules.proofs.GivenLemmas.{numbered-from_given, table-from_given}

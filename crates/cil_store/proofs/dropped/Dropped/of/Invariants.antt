@@ -1,5 +1,5 @@
 use Rattle.std.proofs.Common.{◌≡◌, ◌≤◌, ◌-◌, take, length}
-use Rattle.cil_names.specs.Resolved.{meaning_in}
+use Rattle.cil_resolve.specs.Resolved.{meaning_in}
 use Rattle.cil_store.proofs.dropped.Dropped.of.Given as goal
 
 abbrev pub invariant-loop-name : goal.invariant-loop-name

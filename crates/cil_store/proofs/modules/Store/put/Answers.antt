@@ -16,14 +16,14 @@ between : (store : Store) (entries : List Entry) (k : ℕ) (e stored : Entry) �
 between store entries k e stored same at copied p are other =
     (λ i. insert (same i) k (copied i)) ∙ insert-put e store.entries k at p (subst AreStored same are) other
 
-all-stored : (store : Store) (entries : List Entry) (e : Entry) → entries ≡ store.entries → e.priority ≡ 400 → length e.text ≤ 16777216 → AreStored entries → AreStored (put e store.entries)
-all-stored store entries e same p short are = put-stored e store.entries p short (subst AreStored same are)
+all-stored : (store : Store) (entries : List Entry) (e : Entry) → entries ≡ store.entries → e.priority ≡ 400 → AreStored entries → AreStored (put e store.entries)
+all-stored store entries e same p are = put-stored e store.entries p (subst AreStored same are)
 
 pub invariant_of-self : goal.invariant_of-self
 invariant_of-self g c =
     let same : c.self.inside.entries.items ≡ c.args.self.now.entries = ap (λ s. s.entries) c.self.view_is in
     let put_is = replaced c.args.self.now c.self.inside.entries.items c.place-place.result (entry_of c.args.entry) c.in_ok-stored.stored same c.place-place.ensures.value c.in_ok-stored.ensures c.requires.priority c.self.invariant (c.has_at.ensures.value.0 c.if-has_at.true) in
-    subst AreStored (sym put_is) (all-stored c.args.self.now c.self.inside.entries.items (entry_of c.args.entry) same c.requires.priority c.requires.short c.self.invariant)
+    subst AreStored (sym put_is) (all-stored c.args.self.now c.self.inside.entries.items (entry_of c.args.entry) same c.requires.priority c.self.invariant)
 
 pub insert-requires : goal.insert-requires
 insert-requires g c =
@@ -35,7 +35,7 @@ invariant_of-self-in-Continue-branch-2 g c =
     let same : c.self.inside.entries.items ≡ c.args.self.now.entries = ap (λ s. s.entries) c.self.view_is in
     let other : IsNamedAt c.args.self.now.entries c.place-place.result c.args.entry.name.now → ⊥ = λ named. true≢false (sym (c.has_at.ensures.value.1 named) ∙ c.if-has_at.false) in
     let put_is = between c.args.self.now c.self.inside.entries.items c.place-place.result (entry_of c.args.entry) c.in_ok-stored.stored same c.place-place.ensures.value c.in_ok-stored.ensures c.requires.priority c.self.invariant other in
-    subst AreStored (sym (c.in_ok-insert.ensures.items ∙ put_is)) (all-stored c.args.self.now c.self.inside.entries.items (entry_of c.args.entry) same c.requires.priority c.requires.short c.self.invariant)
+    subst AreStored (sym (c.in_ok-insert.ensures.items ∙ put_is)) (all-stored c.args.self.now c.self.inside.entries.items (entry_of c.args.entry) same c.requires.priority c.self.invariant)
 
 pub returns-then-has_at-clause-ok : goal.returns-then-has_at-clause-ok
 returns-then-has_at-clause-ok g c =

@@ -1,0 +1,12 @@
+use Rattle.std.proofs.Common.{List, [], ◌∷◌, codes, refl, sym, subst}
+use Rattle.cil_specs.specs.Joined.{Module}
+use Rattle.cil_specs.specs.Store.{Entry}
+use Rattle.cil_resolve.specs.Modules.{AreKeptOf}
+use Rattle.cil_store.proofs.ParsedLemmas.{kept-modules}
+use Rattle.cil_rows.proofs.names.joined.Goals as goal
+
+pub returns : goal.returns
+returns c first second m n =
+    let entries : List Entry = record { name = codes "m"; priority = 400; text = first } ∷ record { name = codes "n"; priority = 400; text = second } ∷ [] in
+    let kept = kept-modules entries _ (refl, m, refl, n, tt) in
+    subst (λ items. (modules : List Module) × AreKeptOf items modules) (sym c.in_ok-modules.ensures.items) (kept.0, kept.1)
