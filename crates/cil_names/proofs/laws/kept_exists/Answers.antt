@@ -1,5 +1,0 @@
-use Rattle.cil_specs.proofs.ExistsLemmas.{kept-exists}
-use Rattle.cil_names.proofs.laws.kept_exists.Goals as goal
-
-pub returns : goal.returns
-returns g = λ policy apart. kept-exists policy apart
