@@ -7,7 +7,7 @@ use Rattle.cil_resolve.proofs.judged.Judged.of_policy.Goals as goal
 
 pub returns : goal.returns
 returns g c = λ all is.
-    let shown = c.in_ok-kept.ensures all is.bound is.nested is.apart in
+    let shown = c.in_ok-kept.ensures.kept all is.bound is.nested is.apart in
     record {
       kept = shown.set;
       are_kept = shown.are_kept;
