@@ -1,9 +1,9 @@
 -- The commons that statements give to classes.
-use Rattle.std.proofs.Common.{◌≡◌, ℕ, ◌+◌, ◌<◌, zero, suc, Bool, true, false, ◌==◌, List, [], ◌∷◌, ◌++◌, length, get_or, set, map, take, flat_map, cond, Option, Some, None, is_some, option_map, position, slice_get, refl, sym, ap, ◌∙◌, subst, arith, append-nil, add-one, if◌then◌else◌}
+use Rattle.std.proofs.Common.{◌≡◌, ℕ, ◌+◌, ◌<◌, zero, suc, Bool, true, false, ◌==◌, List, [], ◌∷◌, ◌++◌, length, get_or, set, map, take, flat_map, cond, Option, Some, None, Bor, IfSome, is_some, nat_lt, true≢false, option_map, position, slice_get, refl, sym, ap, ◌∙◌, subst, arith, append-nil, add-one, if◌then◌else◌}
 use Rattle.std.specs.Option.{option_or, option_and_then}
 use Rattle.std.specs.List.{list_any, AllByRecursion}
-use Rattle.std.proofs.lemmas.Option.{none-some, same_Some, slice_get_within, slice_get-map}
-use Rattle.std.proofs.lemmas.Bool.{eqb-true, eqb-false, eq-eqb, ne_eqb}
+use Rattle.std.proofs.lemmas.Option.{none-some, same_Some, slice_get_within, slice_get_read}
+use Rattle.std.proofs.lemmas.Bool.{eqb-true, eqb-false, ltb-true, lt-ltb}
 use Rattle.std.proofs.lemmas.List.{map-append, map-set, length-map}
 use Rattle.std.proofs.lemmas.List.Quantifiers.{position-Some}
 use Rattle.std.proofs.lemmas.Grind.{flat_map-append}
@@ -214,3 +214,16 @@ inherited-first policy noted empty = record {
   where
     none : (k : ℕ) → commons_at noted k ≡ []
     none k = ap (λ keys. places_in (option_and_then (slice_get noted.1) (position (λ key. k == key) keys))) empty
+
+-- what a look-up by an index gives
+pub at-index : {X : Type 0} (r : Option (Bor X)) (xs : List X) (i : ℕ) → is_some r ≡ nat_lt i (length xs) → IfSome r (λ x. x.now ≡ get_or xs i x.now) → option_map (λ x. x.now) r ≡ slice_get xs i
+at-index None xs i there is = none (slice_get xs i) refl
+  where
+    none : (o : Option _) → slice_get xs i ≡ o → None ≡ slice_get xs i
+    none None e = sym e
+    none (Some x) e = absurd (true≢false (sym (there ∙ lt-ltb i (length xs) (slice_get_within xs i x e))))
+at-index (Some x) xs i there is = sym (slice_get_read xs (length xs) i x.now refl (ltb-true i (length xs) (sym there)) is)
+
+-- the list of a class that is found
+pub found-list : (lists : List (List ℕ)) (keys : List ℕ) (owner at : ℕ) (o : Option (List ℕ)) → position (λ k. owner == k) keys ≡ Some at → o ≡ slice_get lists at → places_in o ≡ commons_at (keys, lists) owner
+found-list lists keys owner at o found is = ap places_in is ∙ ap (λ p. places_in (option_and_then (slice_get lists) p)) (sym found)

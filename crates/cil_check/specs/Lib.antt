@@ -5,5 +5,6 @@ pub mod Kinds
 pub mod Bound
 pub mod Inherited
 pub mod Few
+pub mod Missing
 pub mod Checker
 pub mod Permissions

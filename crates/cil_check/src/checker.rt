@@ -9,7 +9,7 @@ ghost use Rattle.cil_specs.specs.Lookup.{types, references};
 ghost use Rattle.cil_specs.specs.PolicyFault.{is_of_another_kind, wrong_kind_words, is_unset, alias_unset_words, faulty_words, IsFaultOf};
 ghost use Rattle.cil_parse.specs.Forms.{words_in};
 ghost use Rattle.cil_check.specs.Bound.{IsOf, IsSeen, Reads};
-ghost use Rattle.cil_check.specs.Checker.{IsNoted, is_by_leads, first_unfound};
+ghost use Rattle.cil_check.specs.Checker.{IsNoted, is_by_leads};
 ghost use Rattle.cil_check.specs.Gifts.{HasFirsts};
 ghost use Rattle.cil_check.specs.Image.{policy_kind_of, IsFoundFault};
 ghost use Rattle.cil_check.specs.Ordered.{IsLeast};
@@ -18,31 +18,43 @@ ghost use Rattle.cil_check.specs.Kinds.{test_of, word_if, again_words};
 use crate::bound::{BoundPolicy, Seen};
 use crate::fault::{PolicyFault, PolicyFaultKind};
 use crate::firsts::{Firsts, Gift};
+use crate::inherited::Inherited;
 use crate::kinds::Kind;
+use crate::permissions::Permissions;
 use cil_parse::{NumberedWord, StatementKind};
 use std::alloc::{AllocError, Allocator, Global};
 
-/// A bound policy, and the first statements that give an actual type or a common.
+/// A bound policy, the first statements that give an actual type or a common, the permissions that classes and commons list, and all commons
+/// that classes are given.
 #[derive(Drop)]
 pub struct Checker<'p, 'm, A: Allocator = Global> {
     pub bound: BoundPolicy<'p, 'm, A>,
     pub actuals: Firsts<A>,
     pub commons: Firsts<A>,
+    pub permissions: Permissions<A>,
+    pub inherited: Inherited<A>,
 }
 
 impl<'p, 'm, A: Allocator + Copy> Checker<'p, 'm, A> {
-    /// What a bound policy's faults are found by.
+    /// What a bound policy's faults are found by. A policy of more than 4294967295 statements is answered as out of memory.
     pub fn of(alloc: A, bound: BoundPolicy<'p, 'm, A>) -> Result<Self, AllocError>
         requires { (policy : List Placed) × IsOf bound policy }
         ensures noted { IfOk result (λ checker. (policy : List Placed) → IsOf bound.entry policy → IsNoted checker policy) }
         ensures bound { IfOk result (λ checker. checker.bound ≡ bound.entry) }
     {
+        if bound.len() > 0xFFFF_FFFF {
+            return Err(AllocError);
+        }
         let actuals = Firsts::of(alloc, &bound, Gift::Actual)?;
         let commons = Firsts::of(alloc, &bound, Gift::Common)?;
+        let permissions = Permissions::of(alloc, &bound)?;
+        let inherited = Inherited::of(alloc, &bound)?;
         Ok(Checker {
             bound,
             actuals,
             commons,
+            permissions,
+            inherited,
         })
     }
 }
@@ -140,19 +152,6 @@ impl<'p, 'm, A: Allocator> Checker<'p, 'm, A> {
             StatementKind::TypeAttributeSet => self.unset_leaf(seen),
             _ => None,
         }
-    }
-
-    /// The first reference of a statement that leads nowhere.
-    fn unfound(&self, seen: &Seen<'p, 'm, A>) -> Option<NumberedWord>
-        ensures { (policy : List Placed) (s : Placed) → IsSeen seen.now policy s → Reads seen.now result (first_unfound policy s.namespace 0 (references s.form)) }
-    {
-        for k in 0..seen.bound.len() {
-            if let Some(_found) = seen.lead(k) {
-                continue;
-            }
-            return seen.word(k);
-        }
-        None
     }
 
     /// The first word at which the statement at a place has a fault of a kind that is told by references alone.

@@ -8,6 +8,7 @@ mod few;
 mod firsts;
 mod inherited;
 mod kinds;
+mod missing;
 mod permissions;
 
 pub use bound::BoundPolicy;
