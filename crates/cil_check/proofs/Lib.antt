@@ -9,3 +9,4 @@ pub mod AskedLemmas
 pub mod PermissionLemmas
 pub mod InheritedLemmas
 pub mod FewLemmas
+pub mod MissingLemmas

@@ -59,7 +59,7 @@ impl<'p, 'm, A: Allocator> Checker<'p, 'm, A> {
 
     /// The first permission of a rule that its class lacks.
     fn lacking(&self, seen: &Seen<'p, 'm, A>) -> Option<NumberedWord>
-        requires { (policy : List Placed) (s : Placed) × IsNoted self.now policy × IsSeen seen.now policy s }
+        requires { (policy : List Placed) × (s : Placed) × IsNoted self.now policy × IsSeen seen.now policy s }
         ensures { (policy : List Placed) (s : Placed) → IsNoted self.now policy → IsSeen seen.now policy s → AreNumbersOf self.now.bound.policy.now.names seen.now.words.now (names_of seen.now.«module».now)
             → Contains policy s → Reads seen.now result (slice_get (lacking_words policy s) 0) }
     {
@@ -74,7 +74,7 @@ impl<'p, 'm, A: Allocator> Checker<'p, 'm, A> {
 
     /// The first reference of a statement that leads nowhere, or else the first permission that its class lacks.
     pub fn missing_word(&self, seen: &Seen<'p, 'm, A>) -> Option<NumberedWord>
-        requires { (policy : List Placed) (s : Placed) × IsNoted self.now policy × IsSeen seen.now policy s }
+        requires { (policy : List Placed) × (s : Placed) × IsNoted self.now policy × IsSeen seen.now policy s }
         ensures { (policy : List Placed) (s : Placed) → IsNoted self.now policy → IsSeen seen.now policy s → AreNumbersOf self.now.bound.policy.now.names seen.now.words.now (names_of seen.now.«module».now)
             → Contains policy s → Reads seen.now result (slice_get (missing_words policy s) 0) }
     {

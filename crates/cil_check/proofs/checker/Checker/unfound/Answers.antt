@@ -7,7 +7,7 @@ use Rattle.cil_check.specs.Checker.{first_unfound}
 use Rattle.cil_check.specs.Kinds.{word_if}
 use Rattle.cil_check.proofs.SeenLemmas.{seen-word}
 use Rattle.cil_check.proofs.AskedLemmas.{reads-as, bound-as-many, reference-there, bound-nowhere, unfound-at, unfound-past}
-use Rattle.cil_check.proofs.missing.Checker.unfound.Goals as goal
+use Rattle.cil_check.proofs.checker.Checker.unfound.Goals as goal
 
 pub loop-k-init : goal.loop-k-init
 loop-k-init g c = λ policy s seen. refl

@@ -3,7 +3,7 @@ use Rattle.cil_specs.specs.Joined.{Placed}
 use Rattle.cil_specs.specs.Lookup.{references}
 use Rattle.cil_check.specs.Bound.{IsSeen}
 use Rattle.cil_check.specs.Checker.{first_unfound}
-use Rattle.cil_check.proofs.missing.Checker.unfound.Given as goal
+use Rattle.cil_check.proofs.checker.Checker.unfound.Given as goal
 
 -- the first that leads nowhere stands no earlier
 abbrev pub invariant-loop-k : goal.invariant-loop-k
