@@ -10,3 +10,4 @@ pub mod PermissionLemmas
 pub mod InheritedLemmas
 pub mod FewLemmas
 pub mod MissingLemmas
+pub mod TooManyLemmas

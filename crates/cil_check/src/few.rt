@@ -9,6 +9,7 @@ use std::marker::Model;
 const GREATEST_CLASS: usize = 32;
 
 /// The first of some numbers, each once, up to one more than a class may have permissions.
+#[derive(Drop)]
 pub struct Few {
     numbers: [u32; 33],
     count: usize,

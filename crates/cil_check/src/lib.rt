@@ -10,6 +10,7 @@ mod inherited;
 mod kinds;
 mod missing;
 mod permissions;
+mod too_many;
 
 pub use bound::BoundPolicy;
 pub use checker::Checker;
