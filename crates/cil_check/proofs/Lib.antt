@@ -11,3 +11,4 @@ pub mod InheritedLemmas
 pub mod FewLemmas
 pub mod MissingLemmas
 pub mod TooManyLemmas
+pub mod AttributeLemmas

@@ -1,6 +1,7 @@
 //! The faults of a policy whose references are bound, and what it resolves to.
 #![tactic(auto)]
 
+mod attributes;
 mod bound;
 mod checker;
 mod fault;
