@@ -42,7 +42,7 @@ returns-then-not-has_permission g c policy s noted seen numbered contained =
     let (word, is) = class-named policy s c.in_ok-class.class led in
     let are = c.permissions-word-items.ensures texts seen.f seen.shown ∙ ap (λ f. map Some (permissions_in f)) seen.form in
     let asked = asked-at c.args.self.now view policy s word c.in_ok-class.class c.permissions-word-items.result.now i no_word c.number.result c.has_permission.result noted contained are c.loop-word-test.true led is
-        (λ w reads one. c.number.ensures c.args.self.now.bound.policy.now.names w numbered reads one) (λ u at first less. c.has_permission.ensures policy u noted at first less) in
+    (λ w reads one. c.number.ensures c.args.self.now.bound.policy.now.names w numbered reads one) (λ u at first less. c.has_permission.ensures policy u noted at first less) in
     ap Some asked.reads
     ∙ sym (ap (option_map Some) (lacking-first policy s word is ∙ c.loop-word.invariant policy s word noted seen numbered contained is ∙ from-at (lacks policy s word) listed i asked.w asked.at
     ∙ ap (λ b. option_or (word_if b asked.w) (first_from (lacks policy s word) (i + 1) listed)) (asked.lacking ∙ ap (λ b. not b) c.if-not-has_permission.true)))
@@ -56,7 +56,7 @@ loop-word-preserved g c = λ policy s word noted seen numbered contained is.
     let led = c.in_ok-class.ensures policy s seen in
     let are = c.permissions-word-items.ensures texts seen.f seen.shown ∙ ap (λ f. map Some (permissions_in f)) seen.form in
     let asked = asked-at c.args.self.now view policy s word c.in_ok-class.class c.permissions-word-items.result.now i no_word c.number.result c.has_permission.result noted contained are c.loop-word-test.true led is
-        (λ w reads one. c.number.ensures c.args.self.now.bound.policy.now.names w numbered reads one) (λ u at first less. c.has_permission.ensures policy u noted at first less) in
+    (λ w reads one. c.number.ensures c.args.self.now.bound.policy.now.names w numbered reads one) (λ u at first less. c.has_permission.ensures policy u noted at first less) in
     c.loop-word.invariant policy s word noted seen numbered contained is ∙ from-at (lacks policy s word) listed i asked.w asked.at
     ∙ ap (λ b. option_or (word_if b asked.w) (first_from (lacks policy s word) (i + 1) listed)) (asked.lacking ∙ ap (λ b. not b) c.if-not-has_permission.false)
 

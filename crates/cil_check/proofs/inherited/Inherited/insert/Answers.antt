@@ -1,4 +1,4 @@
-use Rattle.std.proofs.Common.{◌≡◌, ◌<◌, ◌+◌, length-append, ◌==◌, ◌++◌, ◌∷◌, [], ℕ, List, None, length, map, set, position, slice_get, Some, option_map,  sym, ap, ◌∙◌, subst, refl, arith}
+use Rattle.std.proofs.Common.{◌≡◌, ◌<◌, ◌+◌, length-append, ◌==◌, ◌++◌, ◌∷◌, [], ℕ, List, None, length, map, set, position, slice_get, Some, option_map, sym, ap, ◌∙◌, subst, refl, arith}
 use Rattle.std.proofs.lemmas.Option.{slice_get_read, slice_get-map}
 use Rattle.std.proofs.lemmas.List.{map-append, map-set, length-map, length-set}
 use Rattle.cil_check.specs.Inherited.{commons_at}
@@ -35,7 +35,7 @@ returns g c =
     let one : list.items ≡ c.args.common ∷ [] = c.in_ok-push-2.ensures.items ∙ ap (λ l. l ++ c.args.common ∷ []) c.new-commons.ensures.items in
     let placed : c.insert.new.self.keys ≡ keys ++ c.args.class ∷ [] = inserted-last keys c.insert.new.self.keys c.args.class none c.in_ok-insert.ensures.keys in
     let more : map (λ v. v.items) c.push-3.new.self.items ≡ map (λ v. v.items) all ++ (c.args.common ∷ []) ∷ [] =
-        ap (map (λ v. v.items)) c.in_ok-push-3.ensures.items ∙ map-append (λ v. v.items) all (list ∷ []) ∙ ap (λ l. map (λ v. v.items) all ++ l ∷ []) one in
+    ap (map (λ v. v.items)) c.in_ok-push-3.ensures.items ∙ map-append (λ v. v.items) all (list ∷ []) ∙ ap (λ l. map (λ v. v.items) all ++ l ∷ []) one in
     record {
       same = ap length placed ∙ length-append keys (c.args.class ∷ []) ∙ ap (λ n. n + 1) same ∙ sym (length-append (map (λ v. v.items) all) ((c.args.common ∷ []) ∷ [])) ∙ ap length (sym more);
       noted = λ k.
