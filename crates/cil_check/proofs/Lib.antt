@@ -7,3 +7,8 @@ pub mod SeenLemmas
 pub mod WordLemmas
 pub mod AskedLemmas
 pub mod PermissionLemmas
+pub mod InheritedLemmas
+pub mod FewLemmas
+pub mod MissingLemmas
+pub mod TooManyLemmas
+pub mod AttributeLemmas

@@ -1,10 +1,11 @@
 -- Permissions by numbers.
-use Rattle.std.proofs.Common.{◌≡◌, ℕ, zero, suc, ◌+◌, ◌<◌, ◌==◌, ◌&&◌, ◌||◌, nat_eq, nat_lt, ◌≤◌, inl, inr, Bool, true, false, List, [], ◌∷◌, ◌++◌, map, length, take, get_or, slice_get, Some, bytes_eq, refl, sym, ap, ◌∙◌, subst, true≢false, add-one, arith, cond, if◌then◌else◌}
+use Rattle.std.proofs.Common.{◌≡◌, ℕ, zero, suc, ◌+◌, ◌<◌, ◌==◌, ◌&&◌, ◌||◌, nat_eq, nat_lt, ◌≤◌, inl, inr, Bool, true, false, not, List, [], ◌∷◌, ◌++◌, map, length, take, get_or, slice_get, Option, Some, bytes_eq, refl, sym, ap, ◌∙◌, subst, true≢false, add-one, arith, cond, if◌then◌else◌}
 use Rattle.std.specs.List.{list_any, AllByRecursion, IsDistinct}
 use Rattle.std.proofs.lemmas.Option.{none-some, same_Some, get_or_from_slice_get, slice_get_within}
 use Rattle.std.proofs.lemmas.Bool.{eqb-true, eq-eqb, cases_order, lt-ltb, le-ltb}
 use Rattle.std.proofs.lemmas.List.Folds.{list_any-append}
-use Rattle.std.proofs.lemmas.List.{length-map}
+use Rattle.std.proofs.lemmas.List.{length-map, map-append}
+use Rattle.std.proofs.lemmas.List.Sums.{fold-append}
 use Rattle.std.proofs.Math.Bool.{or-false}
 use Rattle.std.proofs.lemmas.Slice.Eq.{bytes_eq-Decides}
 use Rattle.indexmap.specs.IndexSet.{insert_key}
@@ -12,16 +13,18 @@ use Rattle.cil_specs.specs.Names.{Word}
 use Rattle.cil_specs.specs.Statements.{Form, block, optional, type_name, type_alias, alias_actual, type_attribute, attribute_set, common, class, class_common, class_order, rule, itself, the_named}
 use Rattle.cil_specs.specs.Joined.{Placed}
 use Rattle.cil_parse.specs.Forms.{kind_of, permissions_in}
-use Rattle.cil_specs.specs.Lookup.{has_name, texts, own_permissions}
+use Rattle.cil_specs.specs.Lookup.{has_name, with_name, distinct, texts, own_permissions}
 use Rattle.cil_parse.specs.Builder.{read}
 use Rattle.cil_parse.specs.declared.row.NumberedWord.{NumberedWord}
 use Rattle.cil_bind.specs.Lookup.{word_at}
 use Rattle.cil_bind.proofs.NamespaceLemmas.{distinct-place}
-use Rattle.cil_check.specs.Permissions.{is_listed, HaveListed, lists_own}
+use Rattle.cil_check.specs.Permissions.{is_listed, HaveListed, HaveWords, lists_own}
 use Rattle.cil_bind.specs.Written.{IsOneName}
 use Rattle.cil_check.specs.declared.permissions.Listed.{Listed}
 use Rattle.cil_check.specs.contracts.permissions.ListedPartialEq.TheImpl as listed_eq
+use Rattle.cil_parse.specs.Lexicon.{AreNumbersOf}
 use Rattle.cil_check.proofs.FirstsLemmas.{same_bytes}
+use Rattle.cil_check.proofs.WordLemmas.{has-distinct}
 use Rattle.cil_check.proofs.PositionLemmas.{take-next}
 
 pub derived-listed : (l : Listed) → (listed_eq.eq-value).it l ≡ is_listed l.owner l.word
@@ -93,6 +96,48 @@ words-next names list i w m owner k n first old new distinct less at numbered so
     added ∙ ap (λ b. b || (k == owner && n == m)) so_far ∙ ap (λ b. (first || (k == owner && has_name (texts (take i list)) (word_at names n))) || (k == owner && b)) (number-same names n m w.text distinct less numbered)
     ∙ spread first (k == owner) (has_name (texts (take i list)) (word_at names n)) (bytes_eq (word_at names n) w.text)
     ∙ ap (λ b. first || (k == owner && b)) (sym (names-next list i w (word_at names n) at))
+
+pub nothing-more : (a b : Bool) → a ≡ (a || (b && false))
+nothing-more true b = refl
+nothing-more false true = refl
+nothing-more false false = refl
+
+-- no number is in an open list at first
+pub open-first : (names : List (List ℕ)) (open_list : List ℕ) (list : List Word) → open_list ≡ [] → AreNumbersOf names open_list (distinct (texts (take 0 list)))
+open-first names open_list list none = ap (map (slice_get names)) none
+
+-- names, each once, with one more
+pub distinct-last : (names : List (List ℕ)) (name : List ℕ) → distinct (names ++ name ∷ []) ≡ with_name (distinct names) name
+distinct-last names name = fold-append with_name [] names (name ∷ [])
+
+-- one word more goes to the open list, if it isn't there
+pub open-next : (names : List (List ℕ)) (list : List Word) (i : ℕ) (w : Word) (m owner : ℕ) (first keys : List Listed) (old new : List ℕ) → slice_get list i ≡ Some w → slice_get names m ≡ Some w.text
+    → ((n : ℕ) → n < length names → list_any (is_listed owner n) first ≡ false)
+    → ((n : ℕ) → n < length names → list_any (is_listed owner n) keys ≡ (list_any (is_listed owner n) first || (owner == owner && has_name (texts (take i list)) (word_at names n))))
+    → new ≡ (if list_any (is_listed owner m) keys then old else old ++ m ∷ []) → AreNumbersOf names old (distinct (texts (take i list)))
+    → AreNumbersOf names new (distinct (texts (take (i + 1) list)))
+open-next names list i w m owner first keys old new at numbered none so_far is before =
+    ap (map (slice_get names)) (is ∙ ap (λ b. if b then old else old ++ m ∷ []) there) ∙ by (has_name (distinct earlier) w.text) ∙ ap (map Some) (sym more)
+  where
+    earlier : List (List ℕ)
+    earlier = texts (take i list)
+
+    less : m < length names
+    less = slice_get_within names m w.text numbered
+
+    there : list_any (is_listed owner m) keys ≡ has_name (distinct earlier) w.text
+    there =
+        so_far m less ∙ ap (λ b. b || (owner == owner && has_name earlier (word_at names m))) (none m less) ∙ ap (λ b. b && has_name earlier (word_at names m)) (eq-eqb owner owner refl)
+        ∙ ap (has_name earlier) (get_or_from_slice_get names m w.text [] numbered) ∙ sym (has-distinct earlier w.text)
+
+    more : distinct (texts (take (i + 1) list)) ≡ with_name (distinct earlier) w.text
+    more = ap (λ k. distinct (texts (take k list))) (add-one i) ∙ ap (λ l. distinct (texts l)) (take-next list i w at) ∙ ap distinct (texts-last (take i list) w) ∙ distinct-last earlier w.text
+
+    by : (b : Bool) → map (slice_get names) (if b then old else old ++ m ∷ []) ≡ map Some (if b then distinct earlier else distinct earlier ++ w.text ∷ [])
+    by true = before
+    by false =
+        map-append (slice_get names) old (m ∷ []) ∙ ap (λ l. l ++ slice_get names m ∷ []) before ∙ ap (λ o. map Some (distinct earlier) ++ o ∷ []) numbered
+        ∙ sym (map-append Some (distinct earlier) (w.text ∷ []))
 
 -- a word that is read
 pub word-read : (texts : List (List ℕ)) (shown : List NumberedWord) (list : List Word) (i : ℕ) (d : NumberedWord) → map (read texts) shown ≡ map Some list → i < length shown
@@ -197,3 +242,39 @@ pub listed-all : (names : List (List ℕ)) (policy : List Placed) (i : ℕ) (key
 listed-all names policy i keys past so_far j s at n less =
     let within = slice_get_within policy j s at in
     so_far j s at n less ∙ ap (λ b. b && has_name (texts (own_permissions s.form)) (word_at names n)) (lt-ltb j i (omega (arith, within, past)))
+
+-- an insertion tells whether a permission is new
+pub told-new : (keys : List Listed) (l : Listed) (b : Bool) → b ≡ not (list_any ((listed_eq.eq-value).it l) keys) → list_any (is_listed l.owner l.word) keys ≡ not b
+told-new keys l b is = ap (λ test. list_any test keys) (sym (derived-listed l)) ∙ twice (list_any ((listed_eq.eq-value).it l) keys) ∙ ap not (sym is)
+  where
+    twice : (a : Bool) → a ≡ not (not a)
+    twice true = refl
+    twice false = refl
+
+-- a statement that isn't taken up yet lists nothing
+pub none-below : (names : List (List ℕ)) (policy : List Placed) (i : ℕ) (t : Placed) (keys : List Listed) → slice_get policy i ≡ Some t → HaveListedBelow names policy i keys
+    → (n : ℕ) → n < length names → list_any (is_listed i n) keys ≡ false
+none-below names policy i t keys here so_far n less =
+    so_far i t here n less ∙ ap (λ b. b && has_name (texts (own_permissions t.form)) (word_at names n)) (le-ltb i i (omega arith))
+
+-- one list more, of a statement
+pub lists-next : (names : List (List ℕ)) (policy : List Placed) (i : ℕ) (t : Placed) (lists more : List (List ℕ)) (numbers : List ℕ) → slice_get policy i ≡ Some t
+    → more ≡ lists ++ numbers ∷ [] → AreNumbersOf names numbers (distinct (texts (own_permissions t.form))) → HaveWords names (take i policy) lists → HaveWords names (take (i + 1) policy) more
+lists-next names policy i t lists more numbers here is numbered so_far =
+    ap (map (map (slice_get names))) is ∙ map-append (map (slice_get names)) lists (numbers ∷ []) ∙ ap (λ l. l ++ map (slice_get names) numbers ∷ []) so_far
+    ∙ ap (λ l. map told (take i policy) ++ l ∷ []) numbered ∙ sym (map-append told (take i policy) (t ∷ [])) ∙ ap (map told) (sym (ap (λ k. take k policy) (add-one i) ∙ take-next policy i t here))
+  where
+    told : Placed → List (Option (List ℕ))
+    told s = map Some (distinct (texts (own_permissions s.form)))
+
+-- the list of a statement
+pub words-at : (names : List (List ℕ)) (policy : List Placed) (lists : List (List ℕ)) (i : ℕ) (s : Placed) → HaveWords names policy lists → slice_get policy i ≡ Some s
+    → (i < length lists) × AreNumbersOf names (get_or lists i []) (distinct (texts (own_permissions s.form)))
+words-at names [] lists i s have at = absurd (none-some s at)
+words-at names (t ∷ policy) [] i s have at = cc
+words-at names (t ∷ policy) (l ∷ lists) zero s have at = (omega arith, (let head : map (slice_get names) l ≡ map Some (distinct (texts (own_permissions t.form))) = cc in head ∙ ap (λ u. map Some (distinct (texts (own_permissions u.form)))) (same_Some t s at)))
+words-at names (t ∷ policy) (l ∷ lists) (suc i) s have at =
+    let rest : map (map (slice_get names)) lists ≡ map (λ u. map {A = List ℕ} Some (distinct (texts (own_permissions u.form)))) policy = cc in
+    let more = words-at names policy lists i s rest at in
+    let less = more.0 in
+    (omega (arith, less), more.1)

@@ -94,7 +94,7 @@ or-assoc : (a b c : Bool) → ((a || b) || c) ≡ (a || (b || c))
 or-assoc true b c = refl
 or-assoc false b c = refl
 
-has-fold : (names more : List (List ℕ)) (name : List ℕ) → has_name (fold with_name names more) name ≡ (has_name names name || has_name more name)
+pub has-fold : (names more : List (List ℕ)) (name : List ℕ) → has_name (fold with_name names more) name ≡ (has_name names name || has_name more name)
 has-fold names [] name = sym (or-false (has_name names name))
 has-fold names (n ∷ more) name =
     has-fold (with_name names n) more name ∙ ap (λ b. b || has_name more name) (has-with names name n) ∙ or-assoc (has_name names name) (bytes_eq name n) (has_name more name)

@@ -1,5 +1,5 @@
 -- What is asked of words.
-use Rattle.std.specs.Prelude.{ℕ, Bool, true, false, List, Option, Some, None, if◌then◌else◌}
+use Rattle.std.specs.Prelude.{ℕ, Bool, true, false, List, filter, Option, Some, None, if◌then◌else◌}
 use Rattle.std.specs.List.{find}
 use Rattle.std.specs.Option.{option_or}
 use Rattle.cil_specs.specs.Names.{Word}
@@ -7,6 +7,7 @@ use Rattle.cil_specs.specs.Statements.{Form}
 use Rattle.cil_specs.specs.Joined.{Placed}
 use Rattle.cil_specs.specs.Lookup.{classes, is_type, is_alias, is_attribute}
 use Rattle.cil_specs.specs.PolicyFault.{is_unfound, is_lacking, alias_twice_words, second_common_words}
+use Rattle.cil_specs.specs.Next.{is_attribute_word, rule_elements}
 use Rattle.cil_parse.specs.declared.row.StatementKind.{StatementKind}
 use Rattle.cil_parse.specs.declared.row.StatementKind.TheVariants as statements
 use Rattle.cil_check.specs.declared.kinds.Kind.{Kind}
@@ -40,3 +41,7 @@ first_missing_permission policy namespace the_class permissions = option_or (wor
 abbrev pub again_words : Gift → List Placed → List Placed → Placed → List Word
 again_words Actual policy before s = alias_twice_words policy before s
 again_words Common policy before s = second_common_words policy before s
+
+-- the words of a rule's source and target that lead to attributes
+abbrev pub attribute_words : List Placed → Placed → List Word
+attribute_words policy s = filter (is_attribute_word policy s.namespace) (rule_elements s.form)

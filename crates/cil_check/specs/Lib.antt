@@ -3,5 +3,8 @@ pub mod Gifts
 pub mod Image
 pub mod Kinds
 pub mod Bound
+pub mod Inherited
+pub mod Few
+pub mod Missing
 pub mod Checker
 pub mod Permissions

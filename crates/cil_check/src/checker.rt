@@ -1,6 +1,6 @@
 //! The first fault of a policy whose references are bound, but for names that are declared twice.
 
-ghost use Rattle.std.specs.Prelude.{◌≡◌, List, Some, None, slice_get, take, filter, IfOk, IfErr, OnOk, IsTrue};
+ghost use Rattle.std.specs.Prelude.{◌≡◌, ◌≢◌, List, Some, None, slice_get, take, filter, IfOk, IfErr, OnOk};
 ghost use Rattle.cil_specs.specs.Names.{Word};
 ghost use Rattle.cil_specs.specs.Expr.{WordExpr, leaves};
 ghost use Rattle.cil_specs.specs.Statements.{attribute_set};
@@ -8,44 +8,67 @@ ghost use Rattle.cil_specs.specs.Joined.{Placed};
 ghost use Rattle.cil_specs.specs.Lookup.{types, references};
 ghost use Rattle.cil_specs.specs.PolicyFault.{is_of_another_kind, wrong_kind_words, is_unset, alias_unset_words, faulty_words, IsFaultOf};
 ghost use Rattle.cil_parse.specs.Forms.{words_in};
+ghost use Rattle.cil_parse.specs.Lexicon.{AreNumbersOf};
+ghost use Rattle.cil_parse.specs.Parsed.{names_of};
 ghost use Rattle.cil_check.specs.Bound.{IsOf, IsSeen, Reads};
-ghost use Rattle.cil_check.specs.Checker.{IsNoted, is_by_leads, first_unfound};
+ghost use Rattle.cil_check.specs.Checker.{IsNoted};
 ghost use Rattle.cil_check.specs.Gifts.{HasFirsts};
 ghost use Rattle.cil_check.specs.Image.{policy_kind_of, IsFoundFault};
 ghost use Rattle.cil_bind.specs.Ordered.{IsLeast};
 ghost use Rattle.cil_check.specs.Ordered.{IsFaultIn, IsFaultless};
-ghost use Rattle.cil_check.specs.Image.{PolicyFaultIs};
-ghost use Rattle.cil_specs.specs.Next.{IsFirstAttributeFault, HasTypesAlone};
+ghost use Rattle.cil_check.specs.declared.fault.PolicyFaultKind.TheVariants.{Twice};
 ghost use Rattle.cil_check.specs.Kinds.{test_of, word_if, again_words};
 
 use crate::bound::{BoundPolicy, Seen};
 use crate::fault::{PolicyFault, PolicyFaultKind};
 use crate::firsts::{Firsts, Gift};
+use crate::inherited::Inherited;
 use crate::kinds::Kind;
+use crate::permissions::Permissions;
 use cil_parse::{NumberedWord, StatementKind};
 use std::alloc::{AllocError, Allocator, Global};
 
-/// A bound policy, and the first statements that give an actual type or a common.
+/// The kinds of faults but for names that are declared twice, in the order of their codes.
+const CHECKED: [PolicyFaultKind; 6] = [
+    PolicyFaultKind::Missing,
+    PolicyFaultKind::WrongKind,
+    PolicyFaultKind::AliasTwice,
+    PolicyFaultKind::AliasUnset,
+    PolicyFaultKind::SecondCommon,
+    PolicyFaultKind::TooManyPermissions,
+];
+
+/// A bound policy, the first statements that give an actual type or a common, the permissions that classes and commons list, and all commons
+/// that classes are given.
 #[derive(Drop)]
 pub struct Checker<'p, 'm, A: Allocator = Global> {
     pub bound: BoundPolicy<'p, 'm, A>,
     pub actuals: Firsts<A>,
     pub commons: Firsts<A>,
+    pub permissions: Permissions<A>,
+    pub inherited: Inherited<A>,
 }
 
 impl<'p, 'm, A: Allocator + Copy> Checker<'p, 'm, A> {
-    /// What a bound policy's faults are found by.
+    /// What a bound policy's faults are found by. A policy of more than 4294967295 statements is answered as out of memory.
     pub fn of(alloc: A, bound: BoundPolicy<'p, 'm, A>) -> Result<Self, AllocError>
         requires { (policy : List Placed) × IsOf bound policy }
         ensures noted { IfOk result (λ checker. (policy : List Placed) → IsOf bound.entry policy → IsNoted checker policy) }
         ensures bound { IfOk result (λ checker. checker.bound ≡ bound.entry) }
     {
+        if bound.len() > 0xFFFF_FFFF {
+            return Err(AllocError);
+        }
         let actuals = Firsts::of(alloc, &bound, Gift::Actual)?;
         let commons = Firsts::of(alloc, &bound, Gift::Common)?;
+        let permissions = Permissions::of(alloc, &bound)?;
+        let inherited = Inherited::of(alloc, &bound)?;
         Ok(Checker {
             bound,
             actuals,
             commons,
+            permissions,
+            inherited,
         })
     }
 }
@@ -145,31 +168,21 @@ impl<'p, 'm, A: Allocator> Checker<'p, 'm, A> {
         }
     }
 
-    /// The first reference of a statement that leads nowhere.
-    fn unfound(&self, seen: &Seen<'p, 'm, A>) -> Option<NumberedWord>
-        ensures { (policy : List Placed) (s : Placed) → IsSeen seen.now policy s → Reads seen.now result (first_unfound policy s.namespace 0 (references s.form)) }
-    {
-        for k in 0..seen.bound.len() {
-            if let Some(_found) = seen.lead(k) {
-                continue;
-            }
-            return seen.word(k);
-        }
-        None
-    }
-
-    /// The first word at which the statement at a place has a fault of a kind that is told by references alone.
+    /// The first word at which the statement at a place has a fault of a kind.
     fn faulty_word(
         &self,
         kind: PolicyFaultKind,
         place: usize,
         seen: &Seen<'p, 'm, A>,
     ) -> Option<NumberedWord>
-        requires ready { (policy : List Placed) × IsOf self.now.bound policy }
-        requires kind { IsTrue (is_by_leads kind) }
-        ensures { (policy : List Placed) (s : Placed) → IsNoted self.now policy → IsSeen seen.now policy s → Reads seen.now result (slice_get (faulty_words (policy_kind_of kind) policy (take place policy) s) 0) }
+        requires ready { (policy : List Placed) × (s : Placed) × IsNoted self.now policy × IsSeen seen.now policy s × (slice_get policy place ≡ Some s) }
+        requires kind { kind ≢ Twice }
+        ensures { (policy : List Placed) (s : Placed) → IsNoted self.now policy → IsSeen seen.now policy s → AreNumbersOf self.now.bound.policy.now.names seen.now.words.now (names_of seen.now.«module».now)
+            → slice_get policy place ≡ Some s → Reads seen.now result (slice_get (faulty_words (policy_kind_of kind) policy (take place policy) s) 0) }
     {
         match kind {
+            PolicyFaultKind::Twice => None,
+            PolicyFaultKind::Missing => self.missing_word(seen),
             PolicyFaultKind::WrongKind => self.wrong_kind_word(seen),
             PolicyFaultKind::AliasTwice => {
                 self.given_again(Gift::Actual, &self.actuals, place, seen)
@@ -178,14 +191,14 @@ impl<'p, 'm, A: Allocator> Checker<'p, 'm, A> {
             PolicyFaultKind::SecondCommon => {
                 self.given_again(Gift::Common, &self.commons, place, seen)
             }
-            _ => None,
+            PolicyFaultKind::TooManyPermissions => self.too_many_word(place, seen),
         }
     }
 
-    /// The first fault of a kind that is told by references alone.
+    /// The first fault of a kind.
     pub fn check_kind(&self, kind: PolicyFaultKind) -> Result<(), PolicyFault<'m>>
         requires ready { (policy : List Placed) × IsNoted self.now policy }
-        requires kind { IsTrue (is_by_leads kind) }
+        requires kind { kind ≢ Twice }
         ensures ok { OnOk result ((policy : List Placed) → IsNoted self.now policy → (fault : _) → IsFaultOf (policy_kind_of kind) policy fault → ⊥) }
         ensures err { IfErr result (λ fault. (policy : List Placed) → IsNoted self.now policy → IsFoundFault fault (IsLeast (IsFaultOf (policy_kind_of kind) policy))) }
     {
@@ -198,19 +211,16 @@ impl<'p, 'm, A: Allocator> Checker<'p, 'm, A> {
         Ok(())
     }
 
+    /// The first fault but for names that are declared twice: of the least code, then of the least module name by bytes, then of the
+    /// least offset.
     pub fn check(&self) -> Result<(), PolicyFault<'m>>
-        requires ready { (policy : List Placed) × IsNoted self.now policy }
+        requires { (policy : List Placed) × IsNoted self.now policy }
         ensures ok { OnOk result ((policy : List Placed) → IsNoted self.now policy → IsFaultless policy) }
-        ensures err { IfErr result (λ fault. (policy : List Placed) → IsNoted self.now policy → PolicyFaultIs fault (IsLeast (IsFaultIn policy))) }
+        ensures err { IfErr result (λ fault. (policy : List Placed) → IsNoted self.now policy → IsFoundFault fault (IsLeast (IsFaultIn policy))) }
     {
-        Err(PolicyFault::Memory)
-    }
-
-    pub fn check_attributes(&self) -> Result<(), PolicyFault<'m>>
-        requires ready { (policy : List Placed) × IsNoted self.now policy }
-        ensures ok { OnOk result ((policy : List Placed) → IsNoted self.now policy → HasTypesAlone policy) }
-        ensures err { IfErr result (λ fault. (policy : List Placed) → IsNoted self.now policy → PolicyFaultIs fault (IsFirstAttributeFault policy)) }
-    {
-        Err(PolicyFault::Memory)
+        for kind in CHECKED {
+            self.check_kind(kind)?;
+        }
+        Ok(())
     }
 }

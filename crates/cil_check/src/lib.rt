@@ -1,13 +1,22 @@
-//! The faults of a policy whose references are bound, and what it resolves to.
+//! The faults of a policy whose references are bound, but for names that are declared twice.
 #![tactic(auto)]
 
+mod attributes;
 mod bound;
 mod checker;
 mod fault;
+mod few;
 mod firsts;
+mod inherited;
 mod kinds;
+mod missing;
 mod permissions;
+mod too_many;
 
-pub use bound::BoundPolicy;
+pub use bound::{BoundPolicy, Seen};
 pub use checker::Checker;
 pub use fault::{PolicyFault, PolicyFaultKind};
+pub use firsts::{Firsts, Gift};
+pub use inherited::Inherited;
+pub use kinds::Kind;
+pub use permissions::{Listed, Permissions};

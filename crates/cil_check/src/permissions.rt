@@ -1,20 +1,20 @@
 //! The permissions that classes and commons list, by numbers.
 
-ghost use Rattle.std.specs.Prelude.{◌≡◌, ◌<◌, ◌||◌, ◌&&◌, ◌==◌, ℕ, List, map, length, bytes_eq, Some, OnOk, IfOk, []};
+ghost use Rattle.std.specs.Prelude.{◌≡◌, ◌<◌, ◌||◌, ◌&&◌, ◌==◌, ◌++◌, ◌∷◌, [], ℕ, false, List, map, length, bytes_eq, Some, OnOk, IfOk, if◌then◌else◌};
 ghost use Rattle.std.specs.List.{list_any, AllByRecursion, IsDistinct};
 ghost use Rattle.cil_specs.specs.Names.{Word};
 ghost use Rattle.cil_specs.specs.Joined.{Placed};
-ghost use Rattle.cil_specs.specs.Lookup.{has_name, texts};
+ghost use Rattle.cil_specs.specs.Lookup.{has_name, texts, distinct};
 ghost use Rattle.cil_parse.specs.Builder.{read};
 ghost use Rattle.cil_parse.specs.Lexicon.{AreNumbersOf};
 ghost use Rattle.cil_parse.specs.Parsed.{texts_of, names_of};
 ghost use Rattle.cil_bind.specs.Lookup.{word_at};
-ghost use Rattle.cil_check.specs.Permissions.{is_listed, HaveListed, lists_own};
+ghost use Rattle.cil_check.specs.Permissions.{is_listed, HaveListed, HaveWords, lists_own};
 ghost use Rattle.cil_check.specs.Bound.{IsOf};
 ghost use Rattle.cil_bind.specs.Written.{IsOneName};
 
 use crate::bound::{BoundPolicy, Seen};
-use cil_parse::{NumberedWord, StatementKind};
+use cil_parse::{Lists, NumberedWord, StatementKind};
 use indexmap::IndexSet;
 use std::alloc::{AllocError, Allocator, Global};
 use std::hash::{BuildHasherDefault, FoldHasher};
@@ -37,10 +37,11 @@ fn lists_own(kind: StatementKind) -> bool
     }
 }
 
-/// The permissions that classes and commons list.
+/// The permissions that classes and commons list; and for each statement the numbers of those that it lists, each once.
 #[derive(Drop)]
 pub struct Permissions<A: Allocator = Global> {
     pub listed: IndexSet<Listed, BuildHasherDefault<FoldHasher>, A>,
+    pub words: Lists<u32, A>,
 }
 
 impl<A: Allocator> Permissions<A> {
@@ -55,9 +56,12 @@ impl<A: Allocator> Permissions<A> {
 impl<A: Allocator + Copy> Permissions<A> {
     /// Takes up a permission.
     fn add(&mut self, owner: u32, word: u32) -> Result<(), AllocError>
-        ensures { OnOk result ((k n : ℕ) → list_any (is_listed k n) self.new.listed.keys ≡ (list_any (is_listed k n) self.old.listed.keys || (k == owner && n == word))) }
+        ensures listed { OnOk result ((k n : ℕ) → list_any (is_listed k n) self.new.listed.keys ≡ (list_any (is_listed k n) self.old.listed.keys || (k == owner && n == word))) }
+        ensures words { OnOk result (self.new.words ≡ (self.old.words.0, if list_any (is_listed owner word) self.old.listed.keys then self.old.words.1 else self.old.words.1 ++ word ∷ [])) }
     {
-        self.listed.insert(Listed { owner, word })?;
+        if self.listed.insert(Listed { owner, word })? {
+            self.words.push(word)?;
+        }
         Ok(())
     }
 
@@ -69,9 +73,13 @@ impl<A: Allocator + Copy> Permissions<A> {
         words: &[NumberedWord],
     ) -> Result<(), AllocError>
         requires { (list : List Word) × (map (read (texts_of seen.now.«module».now)) words.now ≡ map Some list) }
-        ensures { OnOk result ((names : List (List ℕ)) (list : List Word) → IsDistinct bytes_eq names → AreNumbersOf names seen.now.words.now (names_of seen.now.«module».now)
+        ensures listed { OnOk result ((names : List (List ℕ)) (list : List Word) → IsDistinct bytes_eq names → AreNumbersOf names seen.now.words.now (names_of seen.now.«module».now)
             → map (read (texts_of seen.now.«module».now)) words.now ≡ map Some list → AllByRecursion IsOneName list → (k n : ℕ) → n < length names
             → list_any (is_listed k n) self.new.listed.keys ≡ (list_any (is_listed k n) self.old.listed.keys || (k == owner && has_name (texts list) (word_at names n)))) }
+        ensures closed { OnOk result (self.new.words.0 ≡ self.old.words.0) }
+        ensures words { OnOk result ((names : List (List ℕ)) (list : List Word) → IsDistinct bytes_eq names → AreNumbersOf names seen.now.words.now (names_of seen.now.«module».now)
+            → map (read (texts_of seen.now.«module».now)) words.now ≡ map Some list → AllByRecursion IsOneName list → ((n : ℕ) → n < length names → list_any (is_listed owner n) self.old.listed.keys ≡ false)
+            → self.old.words.1 ≡ [] → AreNumbersOf names self.new.words.1 (distinct (texts list))) }
     {
         for word in words {
             self.add(owner, seen.number(*word))?;
@@ -83,20 +91,23 @@ impl<A: Allocator + Copy> Permissions<A> {
     /// of memory.
     pub fn of(alloc: A, bound: &BoundPolicy<'_, '_, A>) -> Result<Self, AllocError>
         requires { (policy : List Placed) × IsOf bound.now policy }
-        ensures { IfOk result (λ permissions. (policy : List Placed) → IsOf bound.now policy → HaveListed bound.now.policy.now.names policy permissions.listed.keys) }
+        ensures listed { IfOk result (λ permissions. (policy : List Placed) → IsOf bound.now policy → HaveListed bound.now.policy.now.names policy permissions.listed.keys) }
+        ensures words { IfOk result (λ permissions. (policy : List Placed) → IsOf bound.now policy → HaveWords bound.now.policy.now.names policy permissions.words.0) }
     {
-        let mut permissions = Permissions {
-            listed: IndexSet::new(alloc),
-        };
         let count = bound.len();
         if count > 0xFFFF_FFFF {
             return Err(AllocError);
         }
+        let mut permissions = Permissions {
+            listed: IndexSet::new(alloc),
+            words: Lists::with_capacity(alloc, count, 0)?,
+        };
         for i in 0..count {
             let seen = bound.seen(i);
             if lists_own(seen.view.kind) {
                 permissions.add_words(i as u32, &seen, seen.view.permissions())?;
             }
+            permissions.words.close()?;
         }
         Ok(permissions)
     }

@@ -1,4 +1,4 @@
-use Rattle.std.proofs.Common.{◌≡◌, length, rules, arith}
+use Rattle.std.proofs.Common.{◌≡◌, length, rules}
 use Rattle.cil_check.proofs.SeenLemmas.{is-long}
 use Rattle.cil_check.proofs.bound.BoundPolicy.len.Goals as goal
 

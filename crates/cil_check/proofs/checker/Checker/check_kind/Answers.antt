@@ -18,6 +18,14 @@ seen-seen-requires g c =
     let count = c.len-i-end.ensures c.requires.ready.0 c.requires.ready.1.is in
     record { is = (c.requires.ready.0, c.requires.ready.1.is, omega (arith, count)) }
 
+pub faulty_word-requires : goal.faulty_word-requires
+faulty_word-requires g c =
+    let (policy, noted) = c.requires.ready in
+    let count = c.len-i-end.ensures policy noted.is in
+    let less : c.loop-i.i < length policy = omega (arith, count) in
+    let (s, at) = there-at policy c.loop-i.i less in
+    record { ready = (policy, s, noted, c.seen-seen.ensures.seen policy s noted.is at, at); kind = c.requires.kind }
+
 pub fault-requires : goal.fault-requires
 fault-requires g c =
     let (policy, noted) = c.requires.ready in
@@ -25,7 +33,7 @@ fault-requires g c =
     let less : c.loop-i.i < length policy = omega (arith, count) in
     let (s, at) = there-at policy c.loop-i.i less in
     let seen = c.seen-seen.ensures.seen policy s noted.is at in
-    let found = reads-word c.seen-seen.result c.in-Some.word _ (c.in-Some.ensures policy s noted seen) in
+    let found = reads-word c.seen-seen.result c.in-Some.word _ (c.in-Some.ensures policy s noted seen (c.seen-seen.ensures.worded policy noted.is) at) in
     (found.0, found.2)
 
 pub returns-in-Some : goal.returns-in-Some
@@ -37,7 +45,7 @@ returns-in-Some g c = record {
       let kind = policy_kind_of c.args.kind in
       let (s, at) = there-at policy c.loop-i.i less in
       let seen = c.seen-seen.ensures.seen policy s noted.is at in
-      let found = reads-word c.seen-seen.result c.in-Some.word (slice_get (faulty_words kind policy (take c.loop-i.i policy) s) 0) (c.in-Some.ensures policy s noted seen) in
+      let found = reads-word c.seen-seen.result c.in-Some.word (slice_get (faulty_words kind policy (take c.loop-i.i policy) s) 0) (c.in-Some.ensures policy s noted seen (c.seen-seen.ensures.worded policy noted.is) at) in
       let first = first-some (faulty_words kind policy (take c.loop-i.i policy) s) found.0 (sym found.1) in
       found-is c.fault.result (IsLeast (IsFaultOf kind policy)) (fault_at kind s found.0) (c.fault.ensures policy s found.0 seen found.2)
       (least-at kind policy c.loop-i.i s found.0 first.0 noted.is.ordered at (c.loop-i.invariant policy noted) first.1);
@@ -50,7 +58,7 @@ loop-i-preserved g c = λ policy noted.
     let kind = policy_kind_of c.args.kind in
     let (s, at) = there-at policy c.loop-i.i less in
     let seen = c.seen-seen.ensures.seen policy s noted.is at in
-    none-faulty-next kind policy c.loop-i.i s at (reads-nothing c.seen-seen.result (faulty_words kind policy (take c.loop-i.i policy) s) (c.in_default.ensures policy s noted seen)) (c.loop-i.invariant policy noted)
+    none-faulty-next kind policy c.loop-i.i s at (reads-nothing c.seen-seen.result (faulty_words kind policy (take c.loop-i.i policy) s) (c.in_default.ensures policy s noted seen (c.seen-seen.ensures.worded policy noted.is) at)) (c.loop-i.invariant policy noted)
 
 pub returns : goal.returns
 returns g c = record {

@@ -1,11 +1,26 @@
-use Rattle.std.proofs.Common.{ap, ◌∙◌}
+use Rattle.std.proofs.Common.{◌++◌, ◌∷◌, [], not, ap, sym, ◌∙◌, if◌then◌else◌}
 use Rattle.std.specs.List.{list_any}
 use Rattle.cil_check.specs.Permissions.{is_listed}
 use Rattle.cil_check.specs.declared.permissions.Listed.{Listed}
-use Rattle.cil_check.proofs.PermissionLemmas.{listed-insert}
+use Rattle.cil_check.proofs.PermissionLemmas.{listed-insert, told-new}
 use Rattle.cil_check.proofs.permissions.Permissions.add.Goals as goal
 
-pub returns : goal.returns
-returns g c = λ k n.
+pub returns-in_ok-push : goal.returns-in_ok-push
+returns-in_ok-push g c =
     let l : Listed = record { owner = c.args.owner; word = c.args.word } in
-    ap (list_any (is_listed k n)) c.in_ok-insert.ensures.keys ∙ listed-insert c.args.self.now.listed.keys l k n
+    let old = c.args.self.now in
+    record {
+      listed = λ k n. ap (list_any (is_listed k n)) c.in_ok-insert.ensures.keys ∙ listed-insert old.listed.keys l k n;
+      words = c.in_ok-push.ensures.ok ∙ ap (λ b. (old.words.0, if b then old.words.1 else old.words.1 ++ c.args.word ∷ []))
+          (sym (told-new old.listed.keys l c.in_ok-insert.field-0 c.in_ok-insert.ensures.added ∙ ap not c.if-branch.true));
+    }
+
+pub returns-else-branch : goal.returns-else-branch
+returns-else-branch g c =
+    let l : Listed = record { owner = c.args.owner; word = c.args.word } in
+    let old = c.args.self.now in
+    record {
+      listed = λ k n. ap (list_any (is_listed k n)) c.in_ok-insert.ensures.keys ∙ listed-insert old.listed.keys l k n;
+      words = ap (λ b. (old.words.0, if b then old.words.1 else old.words.1 ++ c.args.word ∷ []))
+          (sym (told-new old.listed.keys l c.in_ok-insert.field-0 c.in_ok-insert.ensures.added ∙ ap not c.if-branch.false));
+    }

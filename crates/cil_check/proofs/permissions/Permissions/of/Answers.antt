@@ -1,14 +1,30 @@
-use Rattle.std.proofs.Common.{◌≡◌, ◌≤◌, ◌<◌, ◌+◌, true, false, length, sym, ap, ◌∙◌, subst, arith}
-use Rattle.std.specs.List.{AllByRecursion}
+use Rattle.std.proofs.Common.{◌≡◌, ◌≤◌, ◌<◌, ◌+◌, ◌&&◌, ℕ, List, [], ◌∷◌, ◌++◌, Some, map, slice_get, length, take, sym, ap, ◌∙◌, subst, arith}
+use Rattle.std.specs.List.{list_any, AllByRecursion}
+use Rattle.std.proofs.lemmas.List.{take_all}
 use Rattle.std.proofs.lemmas.Option.{slice_get_within, get_or_from_slice_get}
+use Rattle.cil_specs.specs.Lookup.{has_name, texts, distinct, own_permissions}
+use Rattle.std.proofs.lemmas.Bool.{le-ltb}
+use Rattle.cil_specs.specs.Joined.{Placed}
+use Rattle.cil_bind.specs.Lookup.{word_at}
 use Rattle.cil_parse.specs.Forms.{permissions_in, kind_of}
+use Rattle.cil_parse.specs.Lexicon.{AreNumbersOf}
 use Rattle.cil_parse.specs.Parsed.{texts_of}
+use Rattle.cil_check.specs.Bound.{IsOf}
 use Rattle.cil_bind.specs.Written.{IsOneName}
-use Rattle.cil_check.specs.Permissions.{lists_own}
+use Rattle.cil_check.specs.Permissions.{is_listed, HaveWords, lists_own}
 use Rattle.cil_check.proofs.SeenLemmas.{there-at, seen-kind}
-use Rattle.cil_check.proofs.PermissionLemmas.{HaveListedBelow, own-listed, none-listed, listed-next, listed-stay, listed-all}
+use Rattle.cil_check.proofs.PermissionLemmas.{HaveListedBelow, own-listed, none-listed, listed-next, listed-stay, listed-all, none-below, lists-next}
 use Rattle.cil_check.proofs.permissions.Permissions.of.Goals as goal
 use Rattle.cil_check.proofs.permissions.Permissions.of.Goals.{then-lists_own+in_ok-add_words, else-lists_own}
+
+pub loop-i-init : goal.loop-i-init
+loop-i-init g c = record {
+  listed = λ policy is j s at n less.
+      ap (list_any (is_listed j n)) c.new.ensures.empty
+      ∙ ap (λ b. b && has_name (texts (own_permissions s.form)) (word_at c.args.bound.now.policy.now.names n)) (sym (le-ltb j 0 (omega arith)));
+  open_list = ap (λ w. w.1) c.in_ok-with_capacity.ensures;
+  words = λ policy is. ap (λ w. map (map (slice_get c.args.bound.now.policy.now.names)) w.0) c.in_ok-with_capacity.ensures;
+}
 
 pub add_words-requires : goal.add_words-requires
 add_words-requires g c =
@@ -20,30 +36,73 @@ add_words-requires g c =
     (permissions_in seen.f.form, c.permissions.ensures (texts_of c.seen-seen.result.«module».now) seen.f seen.shown)
 
 pub loop-i-preserved : goal.loop-i-preserved
-loop-i-preserved g c = λ policy is.
-    let names = c.args.bound.now.policy.now.names in
-    let i = c.loop-i.i in
-    let count = c.len-count.ensures policy is in
-    let less : i < length policy = omega (arith, count) in
-    let (t, at) = there-at policy i less in
-    let seen = c.seen-seen.ensures.seen policy t is at in
-    let kind = c.lists_own.ensures ∙ ap lists_own (seen-kind c.seen-seen.result policy t seen) in
-    elim c.if-lists_own.branch [
+loop-i-preserved g c = record {
+  listed = λ policy is.
+      let (t, at) = there-at policy i (less policy is) in
+      elim c.if-lists_own.branch [
+        | then-lists_own+in_ok-add_words w ↦
+            let seen = c.seen-seen.ensures.seen policy t is at in
+            let own = ap permissions_in seen.form ∙ own-listed t.form (sym (kind policy is t at) ∙ w.if-lists_own.true) in
+            subst (λ p. HaveListedBelow names policy (i + 1) p.listed.keys) (sym w.permissions-is)
+            (listed-next names policy i t (permissions_in seen.f.form) c.loop-i.permissions.listed.keys w.add_words.new.self.listed.keys at own
+            (w.in_ok-add_words.ensures.listed names (permissions_in seen.f.form) is.bound.stands.numbered.names_distinct (c.seen-seen.ensures.worded policy is)
+            (w.permissions.ensures (texts_of c.seen-seen.result.«module».now) seen.f seen.shown) (single policy is t at)) (c.loop-i.invariant.listed policy is))
+        | else-lists_own w ↦
+            subst (λ p. HaveListedBelow names policy (i + 1) p.listed.keys) (sym w.permissions-is)
+            (listed-stay names policy i t c.loop-i.permissions.listed.keys at (none-listed t.form (sym (kind policy is t at) ∙ w.if-lists_own.false)) (c.loop-i.invariant.listed policy is))
+      ];
+  open_list = ap (λ w. w.1) c.in_ok-close.ensures.ok;
+  words = λ policy is.
+      let (t, at) = there-at policy i (less policy is) in
+      lists-next names policy i t c.loop-i.permissions.words.0 c.close.new.self.0 c.if-lists_own.permissions.words.1 at (ap (λ w. w.0) c.in_ok-close.ensures.ok ∙ ap (λ l. l ++ c.if-lists_own.permissions.words.1 ∷ []) closed)
+      (numbered policy is t at) (c.loop-i.invariant.words policy is);
+}
+  where
+    names : List (List ℕ)
+    names = c.args.bound.now.policy.now.names
+
+    i : ℕ
+    i = c.loop-i.i
+
+    less : (policy : List Placed) → IsOf c.args.bound.now policy → i < length policy
+    less policy is = let count = c.len-count.ensures policy is in omega (arith, count)
+
+    kind : (policy : List Placed) → IsOf c.args.bound.now policy → (t : Placed) → slice_get policy i ≡ Some t → c.lists_own.result ≡ lists_own (kind_of t.form)
+    kind policy is t at = c.lists_own.ensures ∙ ap lists_own (seen-kind c.seen-seen.result policy t (c.seen-seen.ensures.seen policy t is at))
+
+    single : (policy : List Placed) (is : IsOf c.args.bound.now policy) (t : Placed) (at : slice_get policy i ≡ Some t)
+        → AllByRecursion IsOneName (permissions_in (c.seen-seen.ensures.seen policy t is at).f.form)
+    single policy is t at =
+        subst (λ f. AllByRecursion IsOneName (permissions_in f)) (sym (c.seen-seen.ensures.seen policy t is at).form) (is.spelt t (i, less policy is, get_or_from_slice_get policy i t t at))
+
+    closed : c.if-lists_own.permissions.words.0 ≡ c.loop-i.permissions.words.0
+    closed = elim c.if-lists_own.branch [
+      | then-lists_own+in_ok-add_words w ↦ ap (λ p. p.words.0) w.permissions-is ∙ w.in_ok-add_words.ensures.closed
+      | else-lists_own w ↦ ap (λ p. p.words.0) w.permissions-is
+    ]
+
+    numbered : (policy : List Placed) → IsOf c.args.bound.now policy → (t : Placed) → slice_get policy i ≡ Some t → AreNumbersOf names c.if-lists_own.permissions.words.1 (distinct (texts (own_permissions t.form)))
+    numbered policy is t at = elim c.if-lists_own.branch [
       | then-lists_own+in_ok-add_words w ↦
-          let list = permissions_in seen.f.form in
-          let own = ap permissions_in seen.form ∙ own-listed t.form (sym kind ∙ w.if-lists_own.true) in
-          let single = subst (λ f. AllByRecursion IsOneName (permissions_in f)) (sym seen.form) (is.spelt t (i, less, get_or_from_slice_get policy i t t at)) in
-          subst (λ p. HaveListedBelow names policy (i + 1) p.listed.keys) (sym w.permissions-is)
-          (listed-next names policy i t list c.loop-i.permissions.listed.keys w.add_words.new.self.listed.keys at own
-          (w.in_ok-add_words.ensures names list is.bound.stands.numbered.names_distinct (c.seen-seen.ensures.worded policy is) (w.permissions.ensures (texts_of c.seen-seen.result.«module».now) seen.f seen.shown) single)
-          (c.loop-i.invariant policy is))
+          let seen = c.seen-seen.ensures.seen policy t is at in
+          let own = ap permissions_in seen.form ∙ own-listed t.form (sym (kind policy is t at) ∙ w.if-lists_own.true) in
+          ap (λ p. map (slice_get names) p.words.1) w.permissions-is
+          ∙ w.in_ok-add_words.ensures.words names (permissions_in seen.f.form) is.bound.stands.numbered.names_distinct (c.seen-seen.ensures.worded policy is)
+          (w.permissions.ensures (texts_of c.seen-seen.result.«module».now) seen.f seen.shown) (single policy is t at)
+          (none-below names policy i t c.loop-i.permissions.listed.keys at (c.loop-i.invariant.listed policy is)) c.loop-i.invariant.open_list
+          ∙ ap (λ l. map Some (distinct (texts l))) own
       | else-lists_own w ↦
-          subst (λ p. HaveListedBelow names policy (i + 1) p.listed.keys) (sym w.permissions-is)
-          (listed-stay names policy i t c.loop-i.permissions.listed.keys at (none-listed t.form (sym kind ∙ w.if-lists_own.false)) (c.loop-i.invariant policy is))
+          ap (λ p. map (slice_get names) p.words.1) w.permissions-is ∙ ap (map (slice_get names)) c.loop-i.invariant.open_list
+          ∙ ap (λ l. map Some (distinct (texts l))) (sym (none-listed t.form (sym (kind policy is t at) ∙ w.if-lists_own.false)))
     ]
 
 pub returns : goal.returns
-returns g c = λ policy is.
-    let count = c.len-count.ensures policy is in
-    let past : length policy ≤ c.loop-i.i = omega (arith, count) in
-    listed-all c.args.bound.now.policy.now.names policy c.loop-i.i c.loop-i.permissions.listed.keys past (c.loop-i.invariant policy is)
+returns g c = record {
+  listed = λ policy is.
+      let count = c.len-count.ensures policy is in
+      let past : length policy ≤ c.loop-i.i = omega (arith, count) in
+      listed-all c.args.bound.now.policy.now.names policy c.loop-i.i c.loop-i.permissions.listed.keys past (c.loop-i.invariant.listed policy is);
+  words = λ policy is.
+      let count = c.len-count.ensures policy is in
+      subst (λ l. HaveWords c.args.bound.now.policy.now.names l c.loop-i.permissions.words.0) (take_all c.loop-i.i policy (omega (arith, count))) (c.loop-i.invariant.words policy is);
+}

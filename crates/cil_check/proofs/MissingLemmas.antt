@@ -1,0 +1,192 @@
+-- Permissions that classes have, and those that they lack.
+use Rattle.std.proofs.Common.{◌≡◌, ℕ, ◌+◌, ◌<◌, ◌≤◌, not, ◌||◌, Bool, true, false, List, [], ◌∷◌, ◌++◌, length, map, filter, take, drop, flat_map, cond, Option, Some, None, Contains, bytes_eq, get_or, slice_get, refl, sym, ap, ◌∙◌, subst}
+use Rattle.std.specs.Option.{option_and_then}
+use Rattle.std.specs.List.{list_any}
+use Rattle.std.proofs.lemmas.Option.{none-some, same_Some, slice_get-get_or, slice_get_within, get_or_from_slice_get}
+use Rattle.std.proofs.lemmas.List.Folds.{list_any-append}
+use Rattle.cil_specs.specs.Names.{Word}
+use Rattle.cil_specs.specs.Statements.{Form, block, optional, type_name, type_alias, alias_actual, type_attribute, attribute_set, common, class, class_common, class_order, rule}
+use Rattle.cil_specs.specs.Joined.{Placed}
+use Rattle.cil_specs.specs.Lookup.{classes, leads, holds_of, has_name, texts, listed_by, own_permissions, permissions_of, named_permissions}
+use Rattle.cil_specs.specs.PolicyFault.{is_lacking}
+use Rattle.cil_parse.specs.Forms.{permissions_in}
+use Rattle.cil_parse.specs.Builder.{read}
+use Rattle.cil_parse.specs.Parsed.{texts_of}
+use Rattle.cil_parse.specs.declared.row.NumberedWord.{NumberedWord}
+use Rattle.cil_bind.specs.Lookup.{word_at, IsFirstOf, IsLead}
+use Rattle.cil_bind.specs.Written.{IsOneName}
+use Rattle.cil_check.specs.Checker.{IsNoted}
+use Rattle.cil_check.specs.Inherited.{commons_at, names_listed, given_names, HasInherited}
+use Rattle.cil_check.specs.Missing.{rule_class, class_lead, lacking_words}
+use Rattle.cil_check.specs.Permissions.{is_listed, HaveListed}
+use Rattle.cil_check.specs.declared.bound.Seen.{Seen}
+use Rattle.cil_check.specs.declared.checker.Checker.{Checker}
+use Rattle.cil_check.specs.declared.permissions.Listed.{Listed}
+use Rattle.cil_check.proofs.PositionLemmas.{all-at}
+use Rattle.cil_check.proofs.SeenLemmas.{there-at}
+use Rattle.cil_check.proofs.PermissionLemmas.{word-read, one-name-at}
+use Rattle.cil_check.proofs.AskedLemmas.{first_from, drop-at, drop-past}
+use Rattle.cil_check.proofs.WordLemmas.{Led, led-at}
+
+-- the permissions of a class are its own, and those that the commons noted for it list
+pub all-permissions : (policy : List Placed) (noted : List ℕ × List (List ℕ)) (i : ℕ) (s : Placed) → HasInherited policy noted → slice_get policy i ≡ Some s → IsFirstOf classes policy i
+    → permissions_of policy s ≡ texts (own_permissions s.form) ++ names_listed policy (commons_at noted i)
+all-permissions policy noted i s has at first = ap (λ l. texts (own_permissions s.form) ++ l) (sym (has.listed i s at first))
+
+-- a class without a permission of its own has it by a common
+pub has-inherited : (policy : List Placed) (noted : List ℕ × List (List ℕ)) (i : ℕ) (s : Placed) (name : List ℕ) → HasInherited policy noted → slice_get policy i ≡ Some s → IsFirstOf classes policy i
+    → has_name (texts (own_permissions s.form)) name ≡ false → has_name (permissions_of policy s) name ≡ has_name (names_listed policy (drop 0 (commons_at noted i))) name
+has-inherited policy noted i s name has at first none =
+    ap (λ l. has_name l name) (all-permissions policy noted i s has at first) ∙ list_any-append (bytes_eq name) (texts (own_permissions s.form)) (names_listed policy (commons_at noted i))
+    ∙ ap (λ b. b || has_name (names_listed policy (commons_at noted i)) name) none
+
+pub has-own : (policy : List Placed) (s : Placed) (name : List ℕ) → has_name (texts (own_permissions s.form)) name ≡ true → has_name (permissions_of policy s) name ≡ true
+has-own policy s name is =
+    list_any-append (bytes_eq name) (texts (own_permissions s.form)) (flat_map (given_names policy s) policy) ∙ ap (λ b. b || has_name (flat_map (given_names policy s) policy) name) is
+
+-- the common at an index, and those behind
+pub has-listed-at : (policy : List Placed) (places : List ℕ) (i m : ℕ) (name : List ℕ) → slice_get places i ≡ Some m
+    → has_name (names_listed policy (drop i places)) name ≡ (has_name (listed_by (slice_get policy m)) name || has_name (names_listed policy (drop (i + 1) places)) name)
+has-listed-at policy places i m name at =
+    ap (λ l. has_name (names_listed policy l) name) (drop-at places i m at) ∙ list_any-append (bytes_eq name) (listed_by (slice_get policy m)) (names_listed policy (drop (i + 1) places))
+
+pub has-listed-past : (policy : List Placed) (places : List ℕ) (i : ℕ) (name : List ℕ) → length places ≤ i → has_name (names_listed policy (drop i places)) name ≡ false
+has-listed-past policy places i name past = ap (λ l. has_name (names_listed policy l) name) (drop-past places i past)
+
+pub common-has : (names : List (List ℕ)) (policy : List Placed) (keys : List Listed) (m n : ℕ) → HaveListed names policy keys → m < length policy → n < length names
+    → list_any (is_listed m n) keys ≡ has_name (listed_by (slice_get policy m)) (word_at names n)
+common-has names policy keys m n have within less =
+    let (u, at) = there-at policy m within in
+    have m u at n less ∙ ap (λ o. has_name (listed_by o) (word_at names n)) (sym at)
+
+-- one common more that is looked at
+pub has-step : (names : List (List ℕ)) (policy : List Placed) (noted : List ℕ × List (List ℕ)) (keys : List Listed) (items : List ℕ) (owner n i : ℕ) (found : Bool) → HasInherited policy noted → HaveListed names policy keys
+    → items ≡ commons_at noted owner → i < length items → n < length names → found ≡ list_any (is_listed (get_or items i 0) n) keys
+    → has_name (names_listed policy (drop i (commons_at noted owner))) (word_at names n) ≡ (found || has_name (names_listed policy (drop (i + 1) (commons_at noted owner))) (word_at names n))
+has-step names policy noted keys items owner n i found has have is within less told =
+    ap (λ l. has_name (names_listed policy (drop i l)) name) (sym is) ∙ has-listed-at policy items i m name at
+    ∙ ap (λ b. b || has_name (names_listed policy (drop (i + 1) items)) name) (sym (told ∙ common-has names policy keys m n have there less))
+    ∙ ap (λ l. found || has_name (names_listed policy (drop (i + 1) l)) name) is
+  where
+    name : List ℕ
+    name = word_at names n
+
+    m : ℕ
+    m = get_or items i 0
+
+    at : slice_get items i ≡ Some m
+    at = slice_get-get_or items i 0 within
+
+    there : m < length policy
+    there = all-at (λ k. k < length policy) (commons_at noted owner) i m (has.within owner) (ap (λ l. slice_get l i) (sym is) ∙ at)
+
+-- the permissions that a rule names are all that it lists
+named-of : (form : Form) (word : Word) → rule_class form ≡ Some word → named_permissions form ≡ map (λ w. (word, w)) (permissions_in form)
+named-of (block id) word is = absurd (none-some word is)
+named-of (optional id) word is = absurd (none-some word is)
+named-of (type_name id) word is = absurd (none-some word is)
+named-of (type_alias id) word is = absurd (none-some word is)
+named-of (alias_actual alias actual) word is = absurd (none-some word is)
+named-of (type_attribute id) word is = absurd (none-some word is)
+named-of (attribute_set attribute expr) word is = absurd (none-some word is)
+named-of (common id permissions) word is = absurd (none-some word is)
+named-of (class id permissions) word is = absurd (none-some word is)
+named-of (class_common the_class the_common) word is = absurd (none-some word is)
+named-of (class_order the_classes) word is = absurd (none-some word is)
+named-of (rule kind source target the_class permissions) word is = ap (λ c. map (λ w. (c, w)) permissions) (same_Some the_class word is)
+
+named-none : (form : Form) → rule_class form ≡ None → named_permissions form ≡ []
+named-none (block id) is = refl
+named-none (optional id) is = refl
+named-none (type_name id) is = refl
+named-none (type_alias id) is = refl
+named-none (alias_actual alias actual) is = refl
+named-none (type_attribute id) is = refl
+named-none (attribute_set attribute expr) is = refl
+named-none (common id permissions) is = refl
+named-none (class id permissions) is = refl
+named-none (class_common the_class the_common) is = refl
+named-none (class_order the_classes) is = refl
+named-none (rule kind source target the_class permissions) is = absurd (none-some the_class (sym is))
+
+second-of : (p : Word × Word → Bool) (word : Word) (words : List Word) → map (λ r. r.1) (filter p (map (λ w. (word, w)) words)) ≡ filter (λ w. p (word, w)) words
+second-of p word [] = refl
+second-of p word (w ∷ words) = by (p (word, w)) (second-of p word words)
+  where
+    by : (b : Bool) → map (λ r. r.1) (filter p (map (λ v. (word, v)) words)) ≡ filter (λ v. p (word, v)) words
+        → map (λ r. r.1) (cond b ((word, w) ∷ filter p (map (λ v. (word, v)) words)) (filter p (map (λ v. (word, v)) words))) ≡ cond b (w ∷ filter (λ v. p (word, v)) words) (filter (λ v. p (word, v)) words)
+    by true more = ap (λ l. w ∷ l) more
+    by false more = more
+
+-- whether the class of a rule lacks a permission
+abbrev pub lacks : List Placed → Placed → Word → Word → Bool
+lacks policy s word w = is_lacking policy s.namespace (word, w)
+
+-- the first that is lacking, by the words that the rule lists
+pub lacking-first : (policy : List Placed) (s : Placed) (word : Word) → rule_class s.form ≡ Some word → slice_get (lacking_words policy s) 0 ≡ first_from (lacks policy s word) 0 (permissions_in s.form)
+lacking-first policy s word is =
+    ap (λ l. slice_get (map (λ p. p.1) (filter (is_lacking policy s.namespace) l)) 0) (named-of s.form word is) ∙ ap (λ l. slice_get l 0) (second-of (is_lacking policy s.namespace) word (permissions_in s.form))
+
+-- the class that a rule names
+pub class-named : (policy : List Placed) (s : Placed) (place : ℕ) → IsLead classes policy (Some place) (class_lead policy s) → (word : Word) × (rule_class s.form ≡ Some word)
+class-named policy s place led = by (rule_class s.form) refl
+  where
+    there : Led classes policy place (class_lead policy s)
+    there = led-at classes policy place (class_lead policy s) led
+
+    by : (o : Option Word) → rule_class s.form ≡ o → (word : Word) × (rule_class s.form ≡ Some word)
+    by None none = absurd (none-some there.s (sym (ap (option_and_then (λ w. leads policy classes s.namespace w.text)) none) ∙ there.is))
+    by (Some word) is = (word, is)
+
+-- a class that is found lacks a permission that isn't among its own
+pub lacks-one : (policy : List Placed) (s : Placed) (place : ℕ) (word w : Word) (lead : Led classes policy place (class_lead policy s)) → rule_class s.form ≡ Some word
+    → lacks policy s word w ≡ not (has_name (permissions_of policy lead.s) w.text)
+lacks-one policy s place word w lead is =
+    ap (holds_of (λ u. not (has_name (permissions_of policy u) w.text))) (sym (ap (option_and_then (λ v. leads policy classes s.namespace v.text)) is) ∙ lead.is)
+
+-- nothing is lacking where no class is found
+pub lacks-none : (policy : List Placed) (s : Placed) → IsLead classes policy None (class_lead policy s) → lacking_words policy s ≡ []
+lacks-none policy s led = by (rule_class s.form) refl
+  where
+    by : (o : Option Word) → rule_class s.form ≡ o → lacking_words policy s ≡ []
+    by None none = ap (λ l. map (λ p. p.1) (filter (is_lacking policy s.namespace) l)) (named-none s.form none)
+    by (Some word) is =
+        ap (λ l. map (λ p. p.1) (filter (is_lacking policy s.namespace) l)) (named-of s.form word is) ∙ second-of (is_lacking policy s.namespace) word (permissions_in s.form)
+        ∙ nothing (permissions_in s.form)
+      where
+        none : leads policy classes s.namespace word.text ≡ None
+        none = sym (ap (option_and_then (λ v. leads policy classes s.namespace v.text)) is) ∙ sym led.is
+
+        nothing : (words : List Word) → filter (lacks policy s word) words ≡ []
+        nothing [] = refl
+        nothing (w ∷ words) =
+            ap (λ b. cond b (w ∷ filter (lacks policy s word) words) (filter (lacks policy s word) words)) (ap (holds_of (λ u. not (has_name (permissions_of policy u) w.text))) none) ∙ nothing words
+
+-- a permission of a rule: its word, and whether its class lacks it
+pub record IsAsked {A : Type 0} (seen : Seen A) (policy : List Placed) (s : Placed) (word : Word) (i : ℕ) (shown : NumberedWord) (has : Bool) : Type 0 where
+  pub w : Word
+  pub at : slice_get (permissions_in s.form) i ≡ Some w
+  pub reads : read (texts_of seen.«module».now) shown ≡ Some w
+  pub lacking : lacks policy s word w ≡ not has
+
+pub asked-at : {A : Type 0} (checker : Checker A) (seen : Seen A) (policy : List Placed) (s : Placed) (word : Word) (place : ℕ) (shown : List NumberedWord) (i : ℕ) (d : NumberedWord) (number : ℕ) (has : Bool)
+    → IsNoted checker policy → Contains policy s → map (read (texts_of seen.«module».now)) shown ≡ map Some (permissions_in s.form) → i < length shown → IsLead classes policy (Some place) (class_lead policy s)
+    → rule_class s.form ≡ Some word
+    → ((w : Word) → read (texts_of seen.«module».now) (get_or shown i d) ≡ Some w → IsOneName w → slice_get checker.bound.policy.now.names number ≡ Some w.text)
+    → ((u : Placed) → slice_get policy place ≡ Some u → IsFirstOf classes policy place → number < length checker.bound.policy.now.names
+    → has ≡ has_name (permissions_of policy u) (word_at checker.bound.policy.now.names number))
+    → IsAsked seen policy s word i (get_or shown i d) has
+asked-at checker seen policy s word place shown i d number has noted contained are within led is numbered told =
+    let names = checker.bound.policy.now.names in
+    let found = word-read (texts_of seen.«module».now) shown (permissions_in s.form) i d are within in
+    let w = found.0 in
+    let at = numbered w found.2 (one-name-at (permissions_in s.form) i w (noted.is.spelt s contained) found.1) in
+    let lead = led-at classes policy place (class_lead policy s) led in
+    record {
+      w = w;
+      at = found.1;
+      reads = found.2;
+      lacking = lacks-one policy s place word w lead is
+          ∙ ap (λ n. not (has_name (permissions_of policy lead.s) n)) (sym (get_or_from_slice_get names number w.text [] at))
+          ∙ ap not (sym (told lead.s lead.at lead.first (slice_get_within names number w.text at)));
+    }

@@ -1,0 +1,17 @@
+use Rattle.std.proofs.Common.{◌≡◌, List, Contains, Some}
+use Rattle.cil_specs.specs.Names.{Word}
+use Rattle.cil_specs.specs.Joined.{Placed}
+use Rattle.cil_parse.specs.Forms.{permissions_in}
+use Rattle.cil_parse.specs.Lexicon.{AreNumbersOf}
+use Rattle.cil_parse.specs.Parsed.{names_of}
+use Rattle.cil_check.specs.Bound.{IsSeen}
+use Rattle.cil_check.specs.Checker.{IsNoted}
+use Rattle.cil_check.specs.Missing.{rule_class}
+use Rattle.cil_check.proofs.AskedLemmas.{first_from}
+use Rattle.cil_check.proofs.MissingLemmas.{lacks}
+use Rattle.cil_check.proofs.checker.Checker.lacking.Given as goal
+
+-- the first that is lacking stands no earlier
+abbrev pub invariant-loop-word : goal.invariant-loop-word
+invariant-loop-word g l = (policy : List Placed) (s : Placed) (word : Word) → IsNoted l.self policy → IsSeen l.seen policy s → AreNumbersOf l.self.bound.policy.now.names l.seen.words.now (names_of l.seen.«module».now)
+    → Contains policy s → rule_class s.form ≡ Some word → first_from (lacks policy s word) 0 (permissions_in s.form) ≡ first_from (lacks policy s word) l.word-index (permissions_in s.form)

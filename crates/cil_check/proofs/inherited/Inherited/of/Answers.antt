@@ -1,0 +1,58 @@
+use Rattle.std.proofs.Common.{◌≡◌, ◌<◌, ◌≤◌, [], List, None, Some, get_or, length, map, take, subst, sym, refl, ap, ◌∙◌, arith}
+use Rattle.std.proofs.lemmas.List.{take_all}
+use Rattle.cil_specs.specs.Joined.{Placed}
+use Rattle.cil_specs.specs.Lookup.{classes, commons}
+use Rattle.cil_bind.specs.Lookup.{IsLead}
+use Rattle.cil_check.specs.Gifts.{given_lead}
+use Rattle.cil_check.specs.Inherited.{common_lead, HasInheritedOf}
+use Rattle.cil_check.specs.declared.firsts.Gift.TheVariants.{Common}
+use Rattle.cil_check.proofs.SeenLemmas.{there-at}
+use Rattle.cil_check.proofs.InheritedLemmas.{common-led, inherited-first, inherited-next, no-class-stay, no-common-stay}
+use Rattle.cil_check.proofs.inherited.Inherited.of.Goals as goal
+
+pub loop-i-init : goal.loop-i-init
+loop-i-init g c = record {
+  same = ap length c.new.ensures.empty ∙ sym (ap (λ l. length (map (λ v. v.items) l)) c.new-2.ensures.items);
+  noted = λ policy is. inherited-first policy (c.new.result.keys, map (λ v. v.items) c.new-2.result.items) c.new.ensures.empty;
+}
+
+pub loop-i-preserved-in_default : goal.loop-i-preserved-in_default
+loop-i-preserved-in_default g c = record {
+  same = c.loop-i.invariant.same;
+  noted = λ policy is.
+      let count = c.len-i-end.ensures policy is in
+      let less : c.loop-i.i < length policy = omega (arith, count) in
+      let (t, at) = there-at policy c.loop-i.i less in
+      let led = subst (λ found. IsLead classes policy found (given_lead Common policy t)) c.in_default.is (c.lead.ensures policy t (c.seen-seen.ensures.seen policy t is at)) in
+      no-class-stay policy c.loop-i.i t c.loop-i.inherited at led (c.loop-i.invariant.noted policy is);
+}
+
+pub loop-i-preserved-in_default-lead : goal.loop-i-preserved-in_default-lead
+loop-i-preserved-in_default-lead g c = record {
+  same = c.loop-i.invariant.same;
+  noted = λ policy is.
+      let count = c.len-i-end.ensures policy is in
+      let less : c.loop-i.i < length policy = omega (arith, count) in
+      let (t, at) = there-at policy c.loop-i.i less in
+      let seen = c.seen-seen.ensures.seen policy t is at in
+      let led = subst (λ found. IsLead commons policy found (common_lead policy t)) (sym c.in_default-lead.ensures) (common-led c.seen-seen.result policy t c.in-Some.class seen (c.in-Some.ensures policy t seen)) in
+      no-common-stay policy c.loop-i.i t c.loop-i.inherited at led (c.loop-i.invariant.noted policy is);
+}
+
+pub loop-i-preserved : goal.loop-i-preserved
+loop-i-preserved g c = record {
+  same = c.in_ok-insert.ensures.same;
+  noted = λ policy is.
+      let count = c.len-i-end.ensures policy is in
+      let less : c.loop-i.i < length policy = omega (arith, count) in
+      let (t, at) = there-at policy c.loop-i.i less in
+      let seen = c.seen-seen.ensures.seen policy t is at in
+      let led = subst (λ found. IsLead commons policy found (common_lead policy t)) (sym c.in-Some-lead.ensures) (common-led c.seen-seen.result policy t c.in-Some.class seen (c.in-Some.ensures policy t seen)) in
+      inherited-next policy c.loop-i.i t c.in-Some.class c.in-Some-lead.common c.loop-i.inherited c.insert.new.self at (c.in-Some.ensures policy t seen) led c.in_ok-insert.ensures.noted
+      (c.loop-i.invariant.noted policy is);
+}
+
+pub returns : goal.returns
+returns g c = λ policy is.
+    let count = c.len-i-end.ensures policy is in
+    subst (λ l. HasInheritedOf policy l c.loop-i.inherited) (take_all c.loop-i.i policy (omega (arith, count))) (c.loop-i.invariant.noted policy is)

@@ -1,0 +1,12 @@
+use Rattle.std.proofs.Common.{◌≡◌, List, length, take}
+use Rattle.cil_specs.specs.Joined.{Placed}
+use Rattle.cil_check.specs.Bound.{IsOf}
+use Rattle.cil_check.specs.Inherited.{HasInheritedOf}
+use Rattle.cil_check.proofs.inherited.Inherited.of.Given as goal
+
+-- what so many statements give is noted
+abbrev pub invariant-loop-i : goal.invariant-loop-i
+invariant-loop-i g l = record {
+  same : length l.inherited.0 ≡ length l.inherited.1;
+  noted : (policy : List Placed) → IsOf l.bound policy → HasInheritedOf policy (take l.i policy) l.inherited;
+}

@@ -1,0 +1,21 @@
+-- The permissions that rules name, and those that classes have.
+use Rattle.std.specs.Prelude.{◌≡◌, ℕ, ◌<◌, List, map, filter, length, Option, Some, None, slice_get}
+use Rattle.std.specs.Option.{option_and_then}
+use Rattle.cil_specs.specs.Names.{Word}
+use Rattle.cil_specs.specs.Statements.{Form, rule}
+use Rattle.cil_specs.specs.Joined.{Placed}
+use Rattle.cil_specs.specs.Lookup.{classes, leads, named_permissions}
+use Rattle.cil_specs.specs.PolicyFault.{is_lacking}
+
+-- the class of a rule
+abbrev pub rule_class : Form → Option Word
+rule_class (rule kind source target the_class permissions) = Some the_class
+rule_class _ = None
+
+-- where it leads
+abbrev pub class_lead : List Placed → Placed → Option Placed
+class_lead policy s = option_and_then (λ w. leads policy classes s.namespace w.text) (rule_class s.form)
+
+-- the permissions that a statement names and its class lacks
+abbrev pub lacking_words : List Placed → Placed → List Word
+lacking_words policy s = map (λ p. p.1) (filter (is_lacking policy s.namespace) (named_permissions s.form))

@@ -1,0 +1,84 @@
+//! Names that lead to nothing, and permissions that their classes lack.
+
+ghost use Rattle.std.specs.Prelude.{◌≡◌, ◌<◌, List, ℕ, Contains, Some, length, slice_get};
+ghost use Rattle.cil_specs.specs.Joined.{Placed};
+ghost use Rattle.cil_specs.specs.Lookup.{classes, references, has_name, permissions_of};
+ghost use Rattle.cil_specs.specs.PolicyFault.{missing_words};
+ghost use Rattle.cil_parse.specs.Lexicon.{AreNumbersOf};
+ghost use Rattle.cil_parse.specs.Parsed.{names_of};
+ghost use Rattle.cil_bind.specs.Lookup.{word_at, IsFirstOf, IsLead};
+ghost use Rattle.cil_check.specs.Bound.{IsSeen, Reads};
+ghost use Rattle.cil_check.specs.Checker.{IsNoted, first_unfound};
+ghost use Rattle.cil_check.specs.Missing.{class_lead, lacking_words};
+
+use crate::bound::Seen;
+use crate::checker::Checker;
+use cil_parse::{NumberedWord, StatementKind};
+use std::alloc::Allocator;
+
+/// The place that the class of a rule leads to.
+fn class_lead<A: Allocator>(seen: &Seen<'_, '_, A>) -> Option<u32>
+    ensures { (policy : List Placed) (s : Placed) → IsSeen seen.now policy s → IsLead classes policy result (class_lead policy s) }
+{
+    match seen.view.kind {
+        StatementKind::Rule(_) => seen.lead(2),
+        StatementKind::RuleToSelf(_) => seen.lead(1),
+        _ => None,
+    }
+}
+
+impl<'p, 'm, A: Allocator> Checker<'p, 'm, A> {
+    /// The first reference of a statement that leads nowhere.
+    fn unfound(&self, seen: &Seen<'p, 'm, A>) -> Option<NumberedWord>
+        ensures { (policy : List Placed) (s : Placed) → IsSeen seen.now policy s → Reads seen.now result (first_unfound policy s.namespace 0 (references s.form)) }
+    {
+        for k in 0..seen.bound.len() {
+            if let Some(_found) = seen.lead(k) {
+                continue;
+            }
+            return seen.word(k);
+        }
+        None
+    }
+
+    /// Whether the class of a place has a permission, of its own or by a common that a statement gives it.
+    pub fn has_permission(&self, class: u32, word: u32) -> bool
+        ensures { (policy : List Placed) (s : Placed) → IsNoted self.now policy → slice_get policy class ≡ Some s → IsFirstOf classes policy class → word < length self.now.bound.policy.now.names
+            → result ≡ has_name (permissions_of policy s) (word_at self.now.bound.policy.now.names word) }
+    {
+        if self.permissions.has(class, word) {
+            return true;
+        }
+        for common in self.inherited.get(class) {
+            if self.permissions.has(*common, word) {
+                return true;
+            }
+        }
+        false
+    }
+
+    /// The first permission of a rule that its class lacks.
+    fn lacking(&self, seen: &Seen<'p, 'm, A>) -> Option<NumberedWord>
+        requires { (policy : List Placed) × (s : Placed) × IsNoted self.now policy × IsSeen seen.now policy s }
+        ensures { (policy : List Placed) (s : Placed) → IsNoted self.now policy → IsSeen seen.now policy s → AreNumbersOf self.now.bound.policy.now.names seen.now.words.now (names_of seen.now.«module».now)
+            → Contains policy s → Reads seen.now result (slice_get (lacking_words policy s) 0) }
+    {
+        let class = class_lead(seen)?;
+        for word in seen.view.permissions() {
+            if !self.has_permission(class, seen.number(*word)) {
+                return Some(*word);
+            }
+        }
+        None
+    }
+
+    /// The first reference of a statement that leads nowhere, or else the first permission that its class lacks.
+    pub fn missing_word(&self, seen: &Seen<'p, 'm, A>) -> Option<NumberedWord>
+        requires { (policy : List Placed) × (s : Placed) × IsNoted self.now policy × IsSeen seen.now policy s }
+        ensures { (policy : List Placed) (s : Placed) → IsNoted self.now policy → IsSeen seen.now policy s → AreNumbersOf self.now.bound.policy.now.names seen.now.words.now (names_of seen.now.«module».now)
+            → Contains policy s → Reads seen.now result (slice_get (missing_words policy s) 0) }
+    {
+        let first = self.unfound(seen);
+        first.or(self.lacking(seen))
+    }
+}
