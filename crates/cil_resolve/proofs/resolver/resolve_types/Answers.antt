@@ -6,7 +6,7 @@ use Rattle.cil_specs.specs.Next.{IsFirstAttributeFault, IsPolicyFaultOf}
 use Rattle.cil_bind.specs.Ordered.{IsLeast}
 use Rattle.cil_check.specs.Ordered.{IsFaultIn}
 use Rattle.cil_resolve.specs.Resolved.{meaning_in}
-use Rattle.cil_resolve.proofs.FaultLemmas.{fault-weaker}
+use Rattle.cil_resolve.proofs.FaultLemmas.{fault-weaker, found-weaker}
 use Rattle.cil_resolve.proofs.JudgedLemmas.{judged-in-order, judged-first, judged-attribute, first-refused, kept-means}
 use Rattle.cil_resolve.proofs.resolver.resolve_types.Goals as goal
 
@@ -35,7 +35,7 @@ check_attributes-requires g c =
     let modules = c.requires.0 in
     let is = c.in_ok-policy.ensures.judged modules c.requires.1 in
     let kept = restricted is.kept (joined modules) in
-    record { ready = (kept, c.in_ok-checker.ensures.noted kept (judged-in-order c.args.joined.now.modules.items modules c.requires.1 c.args.joined.now.ordered c.in_ok-policy.field-0 is)) }
+    (kept, (c.in_ok-checker.ensures.noted kept (judged-in-order c.args.joined.now.modules.items modules c.requires.1 c.args.joined.now.ordered c.in_ok-policy.field-0 is)).is)
 
 pub returns-in_err-check_attributes-clause-err : goal.returns-in_err-check_attributes-clause-err
 returns-in_err-check_attributes-clause-err g c =
@@ -44,8 +44,8 @@ returns-in_err-check_attributes-clause-err g c =
     let is = c.in_ok-policy.ensures.judged modules are in
     let kept = restricted is.kept (joined modules) in
     let order = judged-in-order c.args.joined.now.modules.items modules are c.args.joined.now.ordered c.in_ok-policy.field-0 is in
-    fault-weaker c.in_err-check_attributes.field-0.0 (IsFirstAttributeFault kept) (IsPolicyFaultOf (joined modules))
-    (λ f. judged-attribute (joined modules) is.kept is.are_kept is.once f (c.in_ok-checker.ensures.faultless kept order)) (c.in_err-check_attributes.ensures.err kept (c.in_ok-checker.ensures.noted kept order)))
+    found-weaker c.in_err-check_attributes.field-0.0 (IsFirstAttributeFault kept) (IsPolicyFaultOf (joined modules))
+    (λ f. judged-attribute (joined modules) is.kept is.are_kept is.once f (c.in_ok-checker.ensures.faultless kept order)) (c.in_err-check_attributes.ensures.err kept (c.in_ok-checker.ensures.noted kept order).is))
 
 pub lowered-requires : goal.lowered-requires
 lowered-requires g c =
@@ -71,5 +71,5 @@ returns-clause-meaning g c = λ modules are.
       is.kept,
       kept-means (joined modules) parsed c.in_ok-checker.checker.bound.joined.now.modules.items c.in_ok-policy.field-0 is (meaning_in c.in_ok-lowered.field-0) (ap (λ j. j.modules.items) c.in_ok-checker.ensures.joined) faultless
       (c.in_ok-lowered.ensures kept (c.in_ok-checker.ensures.noted kept order) faultless),
-      c.in_ok-check_attributes.ensures.ok kept (c.in_ok-checker.ensures.noted kept order),
+      c.in_ok-check_attributes.ensures.ok kept (c.in_ok-checker.ensures.noted kept order).is,
     )
