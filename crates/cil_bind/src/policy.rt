@@ -64,7 +64,7 @@ impl<'m, A: Allocator + Copy> Policy<'m, A> {
     }
 
     /// The policy of the statements that stand in marked optionals alone, or in none. An optional's mark is that of its number, its place
-    /// and 1 more; 0 stands for none.
+    /// and 1 more; 0 stands for none. Where all are marked it stays as it is.
     pub fn restrict(
         self,
         alloc: A,

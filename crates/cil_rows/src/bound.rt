@@ -15,7 +15,9 @@ use std::process::Abort;
 
 const FIRST: &[u8] = b"(type t)(class c (p))(block b (type u)(allow t u (c (p))))
 (optional o (type v)(allow v .t (c (p))))";
+
 const SECOND: &[u8] = b"(allow t b.u (c (p)))";
+
 const AGAIN: &[u8] = b"(type s)(type t)";
 
 // The modules a and b, joined.
@@ -85,7 +87,9 @@ fn references_are_bound_without_an_optional(rt: HostRuntime) {
     let b = parse(alloc, SECOND).expect(&rt, "a module");
     let joined = joined(alloc, &a, &b).expect(&rt, "memory");
     let policy = bound(&rt, alloc, &joined);
-    let kept = policy.restrict(alloc, &joined, &[true]).expect(&rt, "memory");
+    let kept = policy
+        .restrict(alloc, &joined, &[true])
+        .expect(&rt, "memory");
     assert_same(&rt, kept.bound.len(), 7);
     assert_bound(&rt, &kept, 4, &[Some(0), Some(3), Some(1)]);
     assert_bound(&rt, &kept, 6, &[Some(0), Some(3), Some(1)]);
@@ -99,7 +103,9 @@ fn a_policy_that_is_kept_whole_stays(rt: HostRuntime) {
     let joined = joined(alloc, &a, &b).expect(&rt, "memory");
     let policy = bound(&rt, alloc, &joined);
     let marks = [true, false, false, false, false, false, true];
-    let kept = policy.restrict(alloc, &joined, &marks).expect(&rt, "memory");
+    let kept = policy
+        .restrict(alloc, &joined, &marks)
+        .expect(&rt, "memory");
     assert_same(&rt, kept.bound.len(), 9);
     assert_bound(&rt, &kept, 7, &[Some(6), Some(0), Some(1)]);
 }
