@@ -112,7 +112,33 @@ fn assert_steps(rt: &impl Abort, alloc: Global, case: Case<'_>, found: &str, now
     assert_eq!(rt; now, shown(&want));
 }
 
-// The nth growth is refused. Asserts what comes of the call, and says whether it came to that growth.
+// Some answer is out of memory: the store is what the others make it, and the call asked again succeeds.
+fn assert_undone<'h>(
+    rt: &impl Abort,
+    alloc: Global,
+    case: Case<'_>,
+    heap: &'h Heap,
+    engine: &mut Engine<'h>,
+    found: &MemorySink,
+    want: &Wanted,
+) {
+    let now = state(rt, alloc, heap, engine);
+    let is_whole = shown(found) == OUT_OF_MEMORY;
+    if is_whole {
+        assert_eq!(rt; shown(&now), shown(&want.before));
+    } else {
+        assert_steps(rt, alloc, case, shown(found), shown(&now));
+    }
+    let again = answer(rt, alloc, heap, engine, case.asked);
+    assert!(rt; !shown(&again).contains(OUT_OF_MEMORY));
+    if is_whole {
+        assert_eq!(rt; shown(&again), shown(&want.answer));
+    }
+    let now = state(rt, alloc, heap, engine);
+    assert_eq!(rt; shown(&now), shown(&want.after));
+}
+
+// Asks with the nth growth refused, asserts what comes of it, and says whether it came to that growth.
 fn is_refused(
     rt: &impl Abort,
     alloc: Global,
@@ -135,25 +161,12 @@ fn is_refused(
     if behind == Behind::Refused || !is {
         assert_eq!(rt; told, is);
     }
-    let now = state(rt, alloc, &heap, &mut engine);
-    if !told {
-        assert_eq!(rt;
-            (shown(&found), shown(&now)),
-            (shown(&want.answer), shown(&want.after))
-        );
-        return is;
-    }
-    if shown(&found) == OUT_OF_MEMORY {
-        assert_eq!(rt; shown(&now), shown(&want.before));
+    if told {
+        assert_undone(rt, alloc, case, &heap, &mut engine, &found, want);
     } else {
-        assert_steps(rt, alloc, case, shown(&found), shown(&now));
-    }
-    let again = answer(rt, alloc, &heap, &mut engine, case.asked);
-    assert!(rt; !shown(&again).contains(OUT_OF_MEMORY));
-    let now = state(rt, alloc, &heap, &mut engine);
-    assert_eq!(rt; shown(&now), shown(&want.after));
-    if shown(&found) == OUT_OF_MEMORY {
-        assert_eq!(rt; shown(&again), shown(&want.answer));
+        let now = state(rt, alloc, &heap, &mut engine);
+        assert_eq!(rt; shown(&found), shown(&want.answer));
+        assert_eq!(rt; shown(&now), shown(&want.after));
     }
     is
 }

@@ -3,11 +3,11 @@ use Rattle.std.proofs.Common.{ℕ, ◌+◌, List, [], ◌∷◌, Bor, refl}
 use seplogic.Ra.Ura.{Ura}
 use mir.Syntax.{Args, a_type, dcons, dnil, named}
 use mir.Val.{Val}
-use base.Logic.{SProp, ent, sep, emp, via, fst∗, mono_r}
-use base.Fml.{Lft, Fml, fsep}
+use base.Logic.{SProp, ent, sep, via, fst∗}
+use base.Fml.{Lft, Fml}
 use prog.Memory.{size, align, up}
 use types.Logic.{Logic, sem}
-use types.Kit.{‵, ◌⊛◌, ◌$◌, ◌∵◌, !, qed, keep, move, drop, use1, split, fsplit, fjoin, feq_i, feq_l, done}
+use types.Kit.{‵, ◌⊛◌, ◌$◌, ◌∵◌, !, qed, keep, move, drop, use1, split, fsplit, fjoin, feq_i, done}
 use denote.RattleType.{RattleType}
 use denote.Opens.{unhide}
 use denote.Memory.{hidden_shr}

@@ -16,7 +16,8 @@ pub use types.Part.{agg}
 pub use types.ByLocal.{alloc_all, pass_all, free_all, look_at, get, through, sets, sets_last, lands_as, lands_last, env}
 pub use contract.Lifetimes.{Lfts}
 pub use contract.Monad.{Fun}
-pub use contract.Running.{tables, tables_of}
+pub use contract.Running.{tables}
+unfoldable pub use contract.Running.{tables_of}
 pub use sound.WpLaws.{fm_of}
 pub use denote.Builtin.{RawPtr, bool, usize}
 pub use denote.Laws.{Spells, Tellss, Ises, Are}

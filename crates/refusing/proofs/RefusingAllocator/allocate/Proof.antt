@@ -1,5 +1,5 @@
 -- A growth is counted, and then refused or passed on. What is left behind the count is what the inner call is handed, and that is enough to refuse too. Assumes `Logic`.
-use Rattle.refusing.proofs.Steps.{◌≡◌, Bool, false, Err, [], ◌∷◌, ap, refl, T, w64, Ura, Fn, named, inst_fn, Val, vbool, has_ty, WT, SProp, ent, emp, sep, wand, fst∗, guard, via, apply∗, flft, Memory, Routine, Tables, WpFn, Logic, sem, ‵, raw, ◌⊛◌, later, given, ◌$◌, ◌∵◌, !, qed, by, move, use1, use2, split, join, await, learn, frame, assume, group, use0, show, at_ret, done, stop, fld, addr, no_more, and_then, lit, of_opd, returns, enter, first, branches, exec, agg, alloc_all, pass_all, free_all, look_at, get, through, sets, sets_last, lands_as, lands_last, env, Lfts, Fun, tables, tables_of, fm_of, RawPtr, bool, usize, Spells, Tellss, Ises, Are, layout, param, Laws, bool_Tells, uint_vals, uint_Tells, owns, ShrRef, shr_vals, shr_Tells, Signature, types_at, only, nothing, calls_at, calls_at_last, Lasts, lasts, alive, Spec, triple_of, Contract, Triple, cited, entered, Al, Answer, Answer-err, Answer-typed, Takes, answer_val, takes_key, ptr_laws, after}
+use Rattle.refusing.proofs.Steps.{◌≡◌, Bool, false, Err, [], ◌∷◌, ap, refl, T, w64, Ura, Fn, named, inst_fn, Val, vbool, has_ty, WT, SProp, ent, emp, sep, wand, fst∗, guard, via, apply∗, flft, Memory, Routine, Tables, WpFn, Logic, sem, ‵, raw, ◌⊛◌, later, given, ◌$◌, ◌∵◌, !, qed, by, move, use1, use2, split, join, await, learn, frame, assume, group, use0, show, at_ret, done, stop, fld, addr, no_more, and_then, lit, of_opd, returns, enter, first, branches, exec, agg, alloc_all, pass_all, free_all, look_at, get, through, sets, sets_last, lands_as, lands_last, env, Lfts, Fun, tables, tables_of, fm_of, RawPtr, usize, Spells, Tellss, Ises, Are, layout, param, Laws, bool_Tells, uint_vals, uint_Tells, owns, ShrRef, shr_vals, shr_Tells, Signature, types_at, only, nothing, calls_at, calls_at_last, Lasts, lasts, alive, Spec, triple_of, Contract, Triple, cited, entered, Al, Answer, Answer-err, Answer-typed, Takes, answer_val, takes_key, ptr_laws, after}
 use Rattle.std.proofs.alloc.AllocError.TheLaws.{the_row_laws as error_laws}
 use Rattle.std.proofs.result.Result.TheLaws.{the_row_laws as result_laws}
 use Rattle.std.specs.contracts.alloc.AllocError as error

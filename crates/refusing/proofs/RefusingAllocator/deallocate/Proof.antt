@@ -1,10 +1,9 @@
 -- A block goes back to the allocator inside. What the call is handed is what the inner call is handed, but for the reference, so the walk is one call. Assumes `Logic`.
-use Rattle.refusing.proofs.Steps.{◌≡◌, [], ◌∷◌, ap, refl, w64, Ura, Fn, named, inst_fn, Val, vunit, SProp, ent, guard, mono_l, mono_r, Memory, Routine, Tables, WpFn, Logic, sem, raw, later, given, ◌$◌, ◌∵◌, !, qed, by, use1, await, learn, rewrite, stop, fld, addr, no_more, and_then, of_opd, returns, enter, unit_lit, alloc_all, pass_all, free_all, look_at, get, through, sets, lands_as, Lfts, Fun, tables, tables_of, fm_of, RawPtr, usize, Spells, Tellss, Ises, Are, param, uint_vals, uint_Tells, Nothing-Tells, owns, shr_vals, shr_Tells, Signature, types_at, only, calls_at, alive, Spec, triple_of, Contract, Triple, entered, Al, Gives, gives_key, rawptr_vals, rawptr_Tells, rawptr_Lawful}
+use Rattle.refusing.proofs.Steps.{◌≡◌, [], ◌∷◌, ap, refl, w64, Ura, Fn, named, inst_fn, Val, vunit, SProp, ent, guard, mono_l, mono_r, Memory, Routine, Tables, WpFn, Logic, sem, raw, later, given, ◌$◌, ◌∵◌, !, qed, by, use1, await, learn, rewrite, stop, fld, addr, no_more, and_then, of_opd, returns, enter, unit_lit, alloc_all, pass_all, free_all, look_at, get, through, sets, lands_as, Lfts, Fun, tables, tables_of, fm_of, RawPtr, usize, Spells, Tellss, Ises, Are, uint_vals, uint_Tells, Nothing-Tells, owns, shr_vals, shr_Tells, Signature, types_at, only, calls_at, alive, Spec, triple_of, Contract, Triple, entered, Al, Gives, gives_key, rawptr_vals, rawptr_Tells, rawptr_Lawful}
 use Rattle.std.specs.contracts.alloc.Allocator.deallocate as method
 use Rattle.refusing.proofs.Answers.{Had, answer_shows}
 use Rattle.refusing.proofs.Shared.{Refuser, kinds, to_inner, refers_inside}
 use Rattle.refusing.proofs.Spelt.{met_if_spelt, spelt}
-use Rattle.refusing.specs.contracts.Growths as growths
 use Rattle.refusing.specs.contracts.RefusingAllocator.deallocate as outer
 use Rattle.refusing.specs.contracts.RefusingAllocator.deallocate.Key as key
 use Rattle.refusing.proofs.RefusingAllocator.deallocate.Statement.{statement}
