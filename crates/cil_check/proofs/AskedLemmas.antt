@@ -1,19 +1,17 @@
 -- Words with faults, as they are read of statements that are seen.
-use Rattle.std.proofs.Common.{◌≡◌, ℕ, zero, suc, true, false, Bool, not, ◌&&◌, List, [], ◌∷◌, map, filter, get_or, Option, Some, None, is_some, is_none, slice_get, refl, sym, ap, ◌∙◌, subst, true≢false, take, drop, cond, length, add-one, arith, ◌+◌, ◌<◌, ◌≤◌, if◌then◌else◌}
+use Rattle.std.proofs.Common.{◌≡◌, ℕ, zero, suc, true, false, Bool, not, ◌&&◌, List, [], ◌∷◌, map, filter, get_or, Option, Some, None, is_some, slice_get, refl, sym, ap, ◌∙◌, subst, take, drop, cond, length, add-one, arith, ◌+◌, ◌<◌, ◌≤◌, if◌then◌else◌}
 use Rattle.std.specs.Option.{option_map, option_or, option_and_then}
 use Rattle.std.proofs.lemmas.Option.{none-some, same_Some, slice_get-map}
 use Rattle.std.proofs.lemmas.List.{length-map}
 use Rattle.cil_specs.specs.Names.{Word}
 use Rattle.cil_specs.specs.Expr.{WordExpr, leaves}
-use Rattle.cil_text.specs.declared.statement.RuleKind as code
-use Rattle.cil_specs.specs.Statements.{RuleKind, Form, block, optional, type_name, type_alias, alias_actual, type_attribute, attribute_set, common, class, class_common, class_order, rule, itself, the_named}
+use Rattle.cil_specs.specs.Statements.{Form, block, optional, type_name, type_alias, alias_actual, type_attribute, attribute_set, common, class, class_common, class_order, rule, itself, the_named}
 use Rattle.cil_specs.specs.Joined.{Placed}
-use Rattle.cil_specs.specs.Lookup.{Table, types, actual_statement, leads, references, holds_of, is_alias, is_type, is_attribute}
-use Rattle.cil_specs.specs.PolicyFault.{is_of_another_kind, wrong_kind_words, kinds_asked, is_unset, is_unfound}
+use Rattle.cil_specs.specs.Lookup.{Table, types, actual_statement, leads, references, holds_of, is_alias}
+use Rattle.cil_specs.specs.PolicyFault.{is_of_another_kind, is_unset, is_unfound}
 use Rattle.cil_parse.specs.Builder.{read}
 use Rattle.cil_parse.specs.Forms.{kind_of, words_in}
 use Rattle.cil_parse.specs.Parsed.{texts_of}
-use Rattle.cil_parse.specs.declared.row.StatementKind.{StatementKind}
 use Rattle.cil_parse.specs.declared.row.StatementKind.TheVariants as kinds
 use Rattle.cil_parse.specs.declared.row.NumberedWord.{NumberedWord}
 use Rattle.cil_parse.specs.Kinds.{table_of, reference_table}
@@ -24,15 +22,14 @@ use Rattle.cil_bind.specs.Lookup.{IsLead}
 use Rattle.cil_check.specs.Checker.{first_unfound}
 use Rattle.cil_check.specs.Bound.{IsSeen, Reads}
 use Rattle.cil_check.specs.Kinds.{word_if, test_of, again_words}
-use Rattle.cil_check.specs.Gifts.{first_at, gift_table, given_kind, given_word, given_lead, HasFirsts}
+use Rattle.cil_check.specs.Gifts.{first_at, gift_table, given_word, given_lead, HasFirsts}
 use Rattle.cil_check.specs.declared.bound.Seen.{Seen}
 use Rattle.cil_check.specs.declared.firsts.Gift.{Gift}
 use Rattle.cil_check.specs.declared.firsts.Gift.TheVariants.{Actual, Common}
 use Rattle.cil_check.specs.declared.kinds.Kind.{Kind}
-use Rattle.cil_check.specs.declared.kinds.Kind.TheVariants.{«Type», Alias, Attribute}
-use Rattle.cil_check.proofs.SeenLemmas.{lead-of, seen-kind, seen-lead, seen-word}
+use Rattle.cil_check.proofs.SeenLemmas.{lead-of, seen-word}
 use Rattle.cil_check.proofs.PositionLemmas.{is_before}
-use Rattle.cil_check.proofs.WordLemmas.{Led, led-at, or-map, words-one, words-cons, actual-kinds, again_if, again-word, again-noted, unset-first}
+use Rattle.cil_check.proofs.WordLemmas.{led-at, or-map, words-cons, again_if, again-word, again-noted}
 
 -- no word, and one of two
 pub reads-none : {A : Type 0} (seen : Seen A) (passes : Bool) (word : Word) (found : Option NumberedWord) → found ≡ None → passes ≡ false → Reads seen found (word_if passes word)
@@ -61,21 +58,6 @@ there-kind policy namespace kind word place b led is =
     ap (holds_of (λ s. not (test_of kind s.form))) lead.is ∙ ap not (sym (is lead.s lead.at))
 
 -- statements by their kinds
-pub form-actual : (form : Form) → kind_of form ≡ kinds.TypeAliasActual → (alias actual : Word) × (form ≡ alias_actual alias actual)
-form-actual (block id) is = cc
-form-actual (optional id) is = cc
-form-actual (type_name id) is = cc
-form-actual (type_alias id) is = cc
-form-actual (alias_actual alias actual) is = (alias, actual, refl)
-form-actual (type_attribute id) is = cc
-form-actual (attribute_set attribute expr) is = cc
-form-actual (common id permissions) is = cc
-form-actual (class id permissions) is = cc
-form-actual (class_common the_class the_common) is = cc
-form-actual (class_order the_classes) is = cc
-form-actual (rule kind source itself the_class permissions) is = cc
-form-actual (rule kind source (the_named word) the_class permissions) is = cc
-
 pub form-set : (form : Form) → kind_of form ≡ kinds.TypeAttributeSet → (attribute : Word) × (expr : WordExpr) × (form ≡ attribute_set attribute expr)
 form-set (block id) is = cc
 form-set (optional id) is = cc
@@ -210,39 +192,6 @@ set-reference form attribute expr k word is at =
     by : (k : ℕ) → slice_get (attribute ∷ leaves expr) k ≡ Some word → slice_get (references (attribute_set attribute expr)) k ≡ Some (types, word)
     by zero e = ap (option_map (λ w. (types, w))) e
     by (suc k) e = slice_get-map (λ w. (types, w)) (leaves expr) k ∙ ap (option_map (λ w. (types, w))) e
-
--- rules by their kinds
-pub form-rule : (form : Form) (kind : code.RuleKind) → kind_of form ≡ kinds.Rule kind
-    → (k : RuleKind) × (source word the_class : Word) × (permissions : List Word) × (form ≡ rule k source (the_named word) the_class permissions)
-form-rule (block id) kind is = cc
-form-rule (optional id) kind is = cc
-form-rule (type_name id) kind is = cc
-form-rule (type_alias id) kind is = cc
-form-rule (alias_actual alias actual) kind is = cc
-form-rule (type_attribute id) kind is = cc
-form-rule (attribute_set attribute expr) kind is = cc
-form-rule (common id permissions) kind is = cc
-form-rule (class id permissions) kind is = cc
-form-rule (class_common the_class the_common) kind is = cc
-form-rule (class_order the_classes) kind is = cc
-form-rule (rule k source itself the_class permissions) kind is = cc
-form-rule (rule k source (the_named word) the_class permissions) kind is = (k, source, word, the_class, permissions, refl)
-
-pub form-to-self : (form : Form) (kind : code.RuleKind) → kind_of form ≡ kinds.RuleToSelf kind
-    → (k : RuleKind) × (source the_class : Word) × (permissions : List Word) × (form ≡ rule k source itself the_class permissions)
-form-to-self (block id) kind is = cc
-form-to-self (optional id) kind is = cc
-form-to-self (type_name id) kind is = cc
-form-to-self (type_alias id) kind is = cc
-form-to-self (alias_actual alias actual) kind is = cc
-form-to-self (type_attribute id) kind is = cc
-form-to-self (attribute_set attribute expr) kind is = cc
-form-to-self (common id permissions) kind is = cc
-form-to-self (class id permissions) kind is = cc
-form-to-self (class_common the_class the_common) kind is = cc
-form-to-self (class_order the_classes) kind is = cc
-form-to-self (rule k source itself the_class permissions) kind is = (k, source, the_class, permissions, refl)
-form-to-self (rule k source (the_named word) the_class permissions) kind is = cc
 
 -- a word that is found stands for one that is there
 pub reads-word : {A : Type 0} (seen : Seen A) (found : NumberedWord) (o : Option Word) → Reads seen (Some found) o → (w : Word) × (o ≡ Some w) × (read (texts_of seen.«module».now) found ≡ Some w)

@@ -1,5 +1,5 @@
 -- The first fault of a policy, kind by kind.
-use Rattle.std.proofs.Common.{◌≡◌, inl, inr, ℕ, ◌+◌, ◌<◌, zero, suc, ◌==◌, List, [], ◌∷◌, get_or, Some, None, slice_get, Contains, refl, sym, ap, ◌∙◌, subst, arith, if◌then◌else◌}
+use Rattle.std.proofs.Common.{◌≡◌, inl, inr, ℕ, ◌+◌, ◌<◌, zero, suc, ◌==◌, List, [], ◌∷◌, get_or, Some, slice_get, Contains, refl, sym, ap, ◌∙◌, subst, arith, if◌then◌else◌}
 use Rattle.std.proofs.lemmas.Option.{none-some, same_Some, slice_get_within, get_or_from_slice_get}
 use Rattle.std.proofs.lemmas.Bool.{cases_order}
 use Rattle.cil_specs.specs.Names.{Word}
@@ -28,10 +28,6 @@ found-weaker (Found kind module_name at word) P Q weaker is = weaker _ is
 pub first-some : (words : List Word) (word : Word) → Some word ≡ slice_get words 0 → (more : List Word) × (words ≡ word ∷ more)
 first-some [] word is = absurd (none-some word (sym is))
 first-some (w ∷ words) word is = (words, ap (λ v. v ∷ words) (sym (same_Some word w is)))
-
-pub first-none : (words : List Word) → None ≡ slice_get words 0 → words ≡ []
-first-none [] is = refl
-first-none (w ∷ words) is = absurd (none-some w is)
 
 -- no fault of a code below 42 and some
 abbrev pub NoneBelow : List Placed → ℕ → Type 0

@@ -1,5 +1,5 @@
 -- Permissions by numbers.
-use Rattle.std.proofs.Common.{◌≡◌, ℕ, zero, suc, ◌+◌, ◌<◌, ◌==◌, ◌&&◌, ◌||◌, nat_eq, nat_lt, ◌≤◌, inl, inr, Bool, true, false, not, List, [], ◌∷◌, ◌++◌, map, length, take, get_or, slice_get, Option, Some, bytes_eq, refl, sym, ap, ◌∙◌, subst, true≢false, add-one, arith, cond, if◌then◌else◌}
+use Rattle.std.proofs.Common.{◌≡◌, ℕ, zero, suc, ◌+◌, ◌<◌, ◌==◌, ◌&&◌, ◌||◌, nat_eq, nat_lt, ◌≤◌, inl, inr, Bool, true, false, not, List, [], ◌∷◌, ◌++◌, map, length, take, get_or, slice_get, Option, Some, bytes_eq, refl, sym, ap, ◌∙◌, subst, true≢false, add-one, arith, if◌then◌else◌}
 use Rattle.std.specs.List.{list_any, AllByRecursion, IsDistinct}
 use Rattle.std.proofs.lemmas.Option.{none-some, same_Some, get_or_from_slice_get, slice_get_within}
 use Rattle.std.proofs.lemmas.Bool.{eqb-true, eq-eqb, cases_order, lt-ltb, le-ltb}
@@ -29,9 +29,6 @@ use Rattle.cil_check.proofs.PositionLemmas.{take-next}
 
 pub derived-listed : (l : Listed) → (listed_eq.eq-value).it l ≡ is_listed l.owner l.word
 derived-listed l = λ i other. nat_eq l.owner other.owner && nat_eq l.word other.word
-
-and-both : (a b c d : ℕ) → a ≡ c → b ≡ d → (k n : ℕ) → (k == a && n == b) ≡ (k == c && n == d)
-and-both a b c d e f k n = ap (λ x. k == x && n == b) e ∙ ap (λ x. k == c && n == x) f
 
 or-same : (a b : Bool) → (b ≡ true → a ≡ true) → a ≡ (a || b)
 or-same true b h = refl

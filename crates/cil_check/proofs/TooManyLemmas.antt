@@ -1,5 +1,5 @@
 -- Classes of too many permissions.
-use Rattle.std.proofs.Common.{◌≡◌, ℕ, ◌+◌, ◌<◌, ◌≤◌, nat_lt, Bool, true, false, List, [], ◌∷◌, ◌++◌, length, take, filter, fold, map, flat_map, cond, Option, Some, None, bytes_eq, get_or, slice_get, refl, sym, ap, ◌∙◌, subst, append-nil, add-one}
+use Rattle.std.proofs.Common.{◌≡◌, ℕ, ◌+◌, ◌<◌, ◌≤◌, nat_lt, Bool, true, false, List, [], ◌∷◌, ◌++◌, length, take, filter, fold, map, cond, Some, bytes_eq, get_or, slice_get, refl, sym, ap, ◌∙◌, append-nil, add-one}
 use Rattle.std.specs.Option.{option_to_list}
 use Rattle.std.specs.List.{IsDistinct}
 use Rattle.std.proofs.lemmas.Option.{slice_get-get_or}
@@ -9,12 +9,10 @@ use Rattle.std.proofs.lemmas.Grind.{flat_map-append}
 use Rattle.cil_specs.specs.Names.{Word}
 use Rattle.cil_specs.specs.Statements.{Form, block, optional, type_name, type_alias, alias_actual, type_attribute, attribute_set, common, class, class_common, class_order, rule, itself, the_named}
 use Rattle.cil_specs.specs.Joined.{Placed}
-use Rattle.cil_specs.specs.Lookup.{classes, declared_in, texts, distinct, with_name, listed_by, own_permissions, permissions_of}
+use Rattle.cil_specs.specs.Lookup.{classes, declared_in, texts, distinct, with_name, listed_by, own_permissions}
 use Rattle.cil_specs.specs.PolicyFault.{has_too_many, too_many_words}
-use Rattle.cil_specs.specs.Rule.{is_class}
-use Rattle.cil_parse.specs.Forms.{kind_of, words_in}
+use Rattle.cil_parse.specs.Forms.{kind_of}
 use Rattle.cil_parse.specs.Lexicon.{AreNumbersOf}
-use Rattle.cil_parse.specs.declared.row.StatementKind.{StatementKind}
 use Rattle.cil_parse.specs.declared.row.StatementKind.TheVariants as kinds
 use Rattle.cil_bind.specs.Lookup.{IsFirstOf}
 use Rattle.cil_check.specs.Few.{with_number}

@@ -1,5 +1,5 @@
 -- Words with faults, one by one.
-use Rattle.std.proofs.Common.{◌≡◌, ℕ, ◌<◌, zero, suc, arith, Bool, true, false, not, ◌&&◌, ◌||◌, nat_lt, List, [], ◌∷◌, ◌++◌, length, take, drop, filter, map, flat_map, fold, Contains, ◌+◌, cond, Option, Some, None, is_some, option_map, position, slice_get, bytes_eq, append-nil, refl, sym, ap, ◌∙◌, subst, true≢false, if◌then◌else◌}
+use Rattle.std.proofs.Common.{◌≡◌, ℕ, ◌<◌, zero, suc, arith, Bool, true, false, not, ◌&&◌, ◌||◌, List, [], ◌∷◌, ◌++◌, length, take, drop, filter, map, flat_map, fold, Contains, ◌+◌, cond, Option, Some, None, is_some, option_map, position, slice_get, bytes_eq, refl, sym, ap, ◌∙◌, subst, true≢false, if◌then◌else◌}
 use Rattle.std.specs.Option.{option_or, option_and_then, option_to_list}
 use Rattle.std.specs.List.{find, list_any}
 use Rattle.std.proofs.lemmas.Option.{none-some, same_Some}
@@ -7,21 +7,21 @@ use Rattle.std.proofs.lemmas.List.Folds.{list_any-append}
 use Rattle.std.proofs.Math.Bool.{or-false}
 use Rattle.std.proofs.lemmas.Slice.Eq.{bytes_eq-Decides}
 use Rattle.cil_specs.specs.Names.{Word}
-use Rattle.cil_specs.specs.Statements.{RuleKind, Target, itself, the_named, target_words, Form, block, optional, type_name, type_alias, alias_actual, type_attribute, attribute_set, common, class, class_common, class_order, rule, is_optional}
+use Rattle.cil_specs.specs.Statements.{Form, block, optional, type_name, type_alias, alias_actual, type_attribute, attribute_set, common, class, class_common, class_order, rule, is_optional}
 use Rattle.cil_specs.specs.Joined.{Placed}
-use Rattle.cil_specs.specs.Lookup.{Table, declares, types, classes, declared_in, is_same, is_word, same_namespace, word_text, holds_of, leads, references, named_permissions, has_name, with_name, distinct, permissions_of, gives_actual, gives_common, actual_statement, is_type, is_alias}
-use Rattle.cil_specs.specs.PolicyFault.{PolicyFault, twice, tables, is_again, twice_words, IsFaultOf, is_unfound, is_lacking, kinds_asked, has_earlier_actual, has_earlier_common, is_of_another_kind, element_words, is_unset, has_too_many, too_many_words}
+use Rattle.cil_specs.specs.Lookup.{Table, declares, types, classes, declared_in, is_same, is_word, same_namespace, word_text, holds_of, leads, has_name, with_name, distinct, gives_actual, actual_statement, is_alias}
+use Rattle.cil_specs.specs.PolicyFault.{PolicyFault, twice, tables, is_again, twice_words, IsFaultOf, has_earlier_actual, has_earlier_common, is_unset}
 use Rattle.cil_specs.specs.Rule.{is_class}
-use Rattle.cil_specs.proofs.Runs.{both_true, first_true}
+use Rattle.cil_specs.proofs.Runs.{both_true}
 use Rattle.cil_specs.proofs.NamesLemmas.{contains-first}
 use Rattle.cil_bind.specs.Lookup.{IsFirstOf}
 use Rattle.cil_bind.specs.Lookup.{IsLead}
 use Rattle.cil_check.specs.Gifts.{first_at, gift_table, given_word, given_lead, gives, HasFirsts}
-use Rattle.cil_check.specs.Kinds.{word_if, first_missing_permission, again_words}
+use Rattle.cil_check.specs.Kinds.{word_if, again_words}
 use Rattle.cil_check.specs.declared.firsts.Gift.{Gift}
 use Rattle.cil_check.specs.declared.firsts.Gift.TheVariants as gift
-use Rattle.cil_check.proofs.PositionLemmas.{at_if, position-next, any-position, position-more, is_before, any-before, any-same, find-position, first-append}
-use Rattle.cil_check.proofs.FirstsLemmas.{first-itself, same_bytes}
+use Rattle.cil_check.proofs.PositionLemmas.{at_if, position-next, any-position, position-more, is_before, any-before, any-same, find-position}
+use Rattle.cil_check.proofs.FirstsLemmas.{same_bytes}
 use Rattle.cil_check.proofs.LeastLemmas.{around-at}
 
 -- below the length there is an element
@@ -59,16 +59,6 @@ words-cons p f x xs = by (p x)
     by true = refl
     by false = refl
 
--- of words with something else each
-pub words-find : {X : Type 0} (p : X × Word → Bool) (x : X) (words : List Word) → slice_get (map (λ r. r.1) (filter p (map (λ w. (x, w)) words))) 0 ≡ find (λ w. p (x, w)) words
-words-find p x [] = refl
-words-find p x (w ∷ words) = words-cons p (λ r. r.1) (x, w) (map (λ v. (x, v)) words) ∙ by (p (x, w)) (words-find p x words)
-  where
-    by : (b : Bool) → slice_get (map (λ r. r.1) (filter p (map (λ v. (x, v)) words))) 0 ≡ find (λ v. p (x, v)) words
-        → option_or (word_if b w) (slice_get (map (λ r. r.1) (filter p (map (λ v. (x, v)) words))) 0) ≡ cond b (Some w) (find (λ v. p (x, v)) words)
-    by true more = refl
-    by false more = more
-
 pub or-map : {X Y : Type 0} (f : X → Y) (a b : Option X) → option_map f (option_or a b) ≡ option_or (option_map f a) (option_map f b)
 or-map f None b = refl
 or-map f (Some x) b = refl
@@ -101,26 +91,6 @@ has-fold names (n ∷ more) name =
 
 pub has-distinct : (names : List (List ℕ)) (name : List ℕ) → has_name (distinct names) name ≡ has_name names name
 has-distinct names name = has-fold [] names name
-
--- a class is what is declared in the table of classes
-declared-class : (form : Form) (name : List ℕ) → is_word name (declared_in classes form) ≡ true → is_class form ≡ true
-declared-class (block id) name e = absurd (true≢false (sym e))
-declared-class (optional id) name e = absurd (true≢false (sym e))
-declared-class (type_name id) name e = absurd (true≢false (sym e))
-declared-class (type_alias id) name e = absurd (true≢false (sym e))
-declared-class (alias_actual alias actual) name e = absurd (true≢false (sym e))
-declared-class (type_attribute id) name e = absurd (true≢false (sym e))
-declared-class (attribute_set attribute expr) name e = absurd (true≢false (sym e))
-declared-class (common id permissions) name e = absurd (true≢false (sym e))
-declared-class (class id permissions) name e = refl
-declared-class (class_common the_class the_common) name e = absurd (true≢false (sym e))
-declared-class (class_order the_classes) name e = absurd (true≢false (sym e))
-declared-class (rule kind source target the_class permissions) name e = absurd (true≢false (sym e))
-
-pub first-class : (policy : List Placed) (i : ℕ) (s : Placed) → slice_get policy i ≡ Some s → IsFirstOf classes policy i → is_class s.form ≡ true
-first-class policy i s is first =
-    let name = word_text (declared_in classes s.form) in
-    declared-class s.form name (first_true (is_word name (declared_in classes s.form)) (same_namespace s.namespace s.namespace) (first-itself classes policy i s is first))
 
 find-same : {X : Type 0} (p q : X → Bool) → ((x : X) → p x ≡ q x) → (xs : List X) → find p xs ≡ find q xs
 find-same p q same [] = refl
@@ -205,81 +175,6 @@ pub unset-first : (policy : List Placed) (namespace : List (List ℕ)) (word : W
 unset-first policy namespace word firsts place alias led has is =
     let lead = led-at types policy place (leads policy types namespace word.text) led in
     ap (λ b. word_if b word) (unset-noted policy namespace word firsts place lead has ∙ ap (λ b. b && not (is_some (first_at firsts place))) (sym (is lead.s lead.at)))
-
-filter-two : (p : Word → Bool) (v w : Word) → slice_get (filter p (v ∷ w ∷ [])) 0 ≡ option_or (word_if (p v) v) (word_if (p w) w)
-filter-two p v w = by (p v) (filter-one p w)
-  where
-    by : (b : Bool) → slice_get (filter p (w ∷ [])) 0 ≡ word_if (p w) w → slice_get (cond b (v ∷ filter p (w ∷ [])) (filter p (w ∷ []))) 0 ≡ option_or (word_if b v) (word_if (p w) w)
-    by true one = refl
-    by false one = one
-
--- the first word with a fault of a rule's source and target
-pub rule-unset : (policy : List Placed) (namespace : List (List ℕ)) (kind : RuleKind) (source target the_class : Word) (permissions : List Word)
-    → slice_get (filter (is_unset policy namespace) (element_words (rule kind source (the_named target) the_class permissions))) 0
-    ≡ option_or (word_if (is_unset policy namespace source) source) (word_if (is_unset policy namespace target) target)
-rule-unset policy namespace kind source target the_class permissions = filter-two (is_unset policy namespace) source target
-
--- and of its source alone
-pub itself-unset : (policy : List Placed) (namespace : List (List ℕ)) (kind : RuleKind) (source the_class : Word) (permissions : List Word)
-    → slice_get (filter (is_unset policy namespace) (element_words (rule kind source itself the_class permissions))) 0 ≡ word_if (is_unset policy namespace source) source
-itself-unset policy namespace kind source the_class permissions = filter-one (is_unset policy namespace) source
-
-pub actual-kinds : (policy : List Placed) (namespace : List (List ℕ)) (alias actual : Word)
-    → slice_get (map (λ r. r.1) (filter (is_of_another_kind policy namespace) (kinds_asked (alias_actual alias actual)))) 0
-    ≡ option_or (word_if (is_of_another_kind policy namespace (is_alias, alias)) alias) (word_if (is_of_another_kind policy namespace (is_type, actual)) actual)
-actual-kinds policy namespace alias actual =
-    words-cons (is_of_another_kind policy namespace) (λ r. r.1) (is_alias, alias) ((is_type, actual) ∷ [])
-    ∙ ap (option_or (word_if (is_of_another_kind policy namespace (is_alias, alias)) alias)) (words-one (is_of_another_kind policy namespace) (λ r. r.1) (is_type, actual))
-
--- the first word that is missing of a form
-abbrev pub first_missing : List Placed → List (List ℕ) → Form → Option Word
-first_missing policy namespace form =
-    slice_get (map (λ r. r.1) (filter (is_unfound policy namespace) (references form)) ++ map (λ p. p.1) (filter (is_lacking policy namespace) (named_permissions form))) 0
-
-pub missing-order : (policy : List Placed) (namespace : List (List ℕ)) (the_classes : List Word) → first_missing policy namespace (class_order the_classes)
-    ≡ find (λ w. is_unfound policy namespace (classes, w)) the_classes
-missing-order policy namespace the_classes =
-    ap (λ l. slice_get l 0) (append-nil (map (λ r. r.1) (filter (is_unfound policy namespace) (map (λ w. (classes, w)) the_classes))))
-    ∙ words-find (is_unfound policy namespace) classes the_classes
-
-or-or : {X : Type 0} (a b c : Option X) → option_or (option_or a b) c ≡ option_or a (option_or b c)
-or-or None b c = refl
-or-or (Some x) b c = refl
-
-pub missing-rule : (policy : List Placed) (namespace : List (List ℕ)) (kind : RuleKind) (source : Word) (target : Target) (the_class : Word) (permissions : List Word)
-    → first_missing policy namespace (rule kind source target the_class permissions)
-    ≡ option_or (word_if (is_unfound policy namespace (types, source)) source)
-    (option_or (find (λ w. is_unfound policy namespace (types, w)) (target_words target)) (first_missing_permission policy namespace the_class permissions))
-missing-rule policy namespace kind source target the_class permissions =
-    first-append (map (λ r. r.1) (filter test ((types, source) ∷ aims))) (map (λ p. p.1) (filter (is_lacking policy namespace) (map (λ w. (the_class, w)) permissions)))
-    ∙ ap (λ o. option_or o lacked) (words-cons test (λ r. r.1) (types, source) aims)
-    ∙ or-or first (slice_get (map (λ r. r.1) (filter test aims)) 0) lacked
-    ∙ ap (λ o. option_or first (option_or o lacked)) (behind target)
-    ∙ ap (option_or first) (or-or (find aimed (target_words target)) last lacked
-    ∙ ap (λ o. option_or (find aimed (target_words target)) (option_or last o)) (words-find (is_lacking policy namespace) the_class permissions))
-  where
-    test : Table × Word → Bool
-    test r = is_unfound policy namespace r
-
-    aimed : Word → Bool
-    aimed w = is_unfound policy namespace (types, w)
-
-    aims : List (Table × Word)
-    aims = map (λ w. (types, w)) (target_words target) ++ (classes, the_class) ∷ []
-
-    first : Option Word
-    first = word_if (test (types, source)) source
-
-    last : Option Word
-    last = word_if (test (classes, the_class)) the_class
-
-    lacked : Option Word
-    lacked = slice_get (map (λ p. p.1) (filter (is_lacking policy namespace) (map (λ w. (the_class, w)) permissions))) 0
-
-    behind : (t : Target) → slice_get (map (λ r. r.1) (filter test (map (λ w. (types, w)) (target_words t) ++ (classes, the_class) ∷ []))) 0 ≡ option_or (find aimed (target_words t)) last
-    behind itself = words-one test (λ r. r.1) (classes, the_class)
-    behind (the_named word) =
-        words-cons test (λ r. r.1) (types, word) ((classes, the_class) ∷ []) ∙ ap (option_or (word_if (test (types, word)) word)) (words-one test (λ r. r.1) (classes, the_class))
 
 and-true : (b : Bool) → (b && true) ≡ b
 and-true true = refl

@@ -1,5 +1,5 @@
 -- The commons that statements give to classes.
-use Rattle.std.specs.Prelude.{◌≡◌, ℕ, ◌<◌, ◌==◌, List, [], ◌++◌, flat_map, length, Option, Some, None, slice_get, if◌then◌else◌}
+use Rattle.std.specs.Prelude.{◌≡◌, ℕ, ◌<◌, ◌==◌, List, [], flat_map, length, Option, Some, None, slice_get, if◌then◌else◌}
 use Rattle.std.specs.List.{position, AllByRecursion}
 use Rattle.std.specs.Option.{option_and_then}
 use Rattle.cil_specs.specs.Names.{Word}

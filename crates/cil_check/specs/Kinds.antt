@@ -1,12 +1,10 @@
 -- What is asked of words.
-use Rattle.std.specs.Prelude.{ℕ, Bool, true, false, List, filter, Option, Some, None, if◌then◌else◌}
-use Rattle.std.specs.List.{find}
-use Rattle.std.specs.Option.{option_or}
+use Rattle.std.specs.Prelude.{Bool, true, false, List, filter, Option, Some, None, if◌then◌else◌}
 use Rattle.cil_specs.specs.Names.{Word}
 use Rattle.cil_specs.specs.Statements.{Form}
 use Rattle.cil_specs.specs.Joined.{Placed}
-use Rattle.cil_specs.specs.Lookup.{classes, is_type, is_alias, is_attribute}
-use Rattle.cil_specs.specs.PolicyFault.{is_unfound, is_lacking, alias_twice_words, second_common_words}
+use Rattle.cil_specs.specs.Lookup.{is_type, is_alias, is_attribute}
+use Rattle.cil_specs.specs.PolicyFault.{alias_twice_words, second_common_words}
 use Rattle.cil_specs.specs.Next.{is_attribute_word, rule_elements}
 use Rattle.cil_parse.specs.declared.row.StatementKind.{StatementKind}
 use Rattle.cil_parse.specs.declared.row.StatementKind.TheVariants as statements
@@ -31,11 +29,6 @@ is_kind «Type» statements.TypeName = true
 is_kind Alias statements.TypeAlias = true
 is_kind Attribute statements.TypeAttribute = true
 is_kind _ _ = false
-
--- the class, if it leads nowhere, or else the first permission that it lacks
-abbrev pub first_missing_permission : List Placed → List (List ℕ) → Word → List Word → Option Word
-first_missing_permission policy namespace the_class permissions = option_or (word_if (is_unfound policy namespace (classes, the_class)) the_class)
-    (find (λ w. is_lacking policy namespace (the_class, w)) permissions)
 
 -- the words to which a statement gives something again
 abbrev pub again_words : Gift → List Placed → List Placed → Placed → List Word

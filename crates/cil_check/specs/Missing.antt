@@ -1,5 +1,5 @@
 -- The permissions that rules name, and those that classes have.
-use Rattle.std.specs.Prelude.{◌≡◌, ℕ, ◌<◌, List, map, filter, length, Option, Some, None, slice_get}
+use Rattle.std.specs.Prelude.{List, map, filter, Option, Some, None}
 use Rattle.std.specs.Option.{option_and_then}
 use Rattle.cil_specs.specs.Names.{Word}
 use Rattle.cil_specs.specs.Statements.{Form, rule}

@@ -1,4 +1,4 @@
-use Rattle.std.proofs.Common.{◌≡◌, List, ℕ, [], ◌∷◌, get_or, Some, slice_get, sym, ap, ◌∙◌, subst}
+use Rattle.std.proofs.Common.{get_or, slice_get, sym, ap, ◌∙◌, subst}
 use Rattle.cil_specs.specs.Names.{components}
 use Rattle.cil_bind.proofs.ScopeLemmas.{read-within, read-text}
 use Rattle.cil_parse.specs.Lexicon.{AreNumbersOf}

@@ -1,4 +1,4 @@
-use Rattle.std.proofs.Common.{None, Some, get_or, not, refl, sym, ap, ◌∙◌, subst}
+use Rattle.std.proofs.Common.{None, Some, get_or, refl, sym, ◌∙◌, subst}
 use Rattle.cil_specs.specs.Lookup.{types, leads}
 use Rattle.cil_specs.specs.Next.{is_attribute_word}
 use Rattle.cil_bind.specs.Lookup.{IsLead}

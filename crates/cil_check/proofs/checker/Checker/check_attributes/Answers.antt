@@ -1,4 +1,4 @@
-use Rattle.std.proofs.Common.{◌≡◌, ◌≤◌, ◌<◌, length, slice_get, sym, arith}
+use Rattle.std.proofs.Common.{◌≤◌, ◌<◌, length, slice_get, sym, arith}
 use Rattle.cil_specs.specs.PolicyFault.{wrong_kind}
 use Rattle.cil_specs.specs.Next.{IsFirstAttributeFault}
 use Rattle.cil_check.specs.Image.{fault_at}

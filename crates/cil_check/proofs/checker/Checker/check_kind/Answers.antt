@@ -1,7 +1,5 @@
-use Rattle.std.proofs.Common.{◌≤◌, ◌<◌, ◌≡◌, List, length, slice_get, take, arith, sym}
-use Rattle.cil_specs.specs.Joined.{Placed}
+use Rattle.std.proofs.Common.{◌≤◌, ◌<◌, length, slice_get, take, arith, sym}
 use Rattle.cil_specs.specs.PolicyFault.{IsFaultOf, faulty_words}
-use Rattle.cil_check.specs.Checker.{IsNoted}
 use Rattle.cil_bind.specs.Ordered.{IsLeast}
 use Rattle.cil_check.specs.Image.{policy_kind_of, fault_at}
 use Rattle.cil_check.proofs.CheckLemmas.{first-some, found-is}

@@ -1,9 +1,6 @@
-use Rattle.std.proofs.Common.{None, Some, slice_get, take, refl, sym, ap, ◌∙◌, subst}
-use Rattle.std.specs.Option.{option_and_then}
+use Rattle.std.proofs.Common.{None, Some, slice_get, take, sym, ap, ◌∙◌, subst}
 use Rattle.std.proofs.lemmas.Bool.{lt-ltb, le-ltb}
-use Rattle.cil_bind.specs.Lookup.{IsLead}
 use Rattle.cil_check.specs.Bound.{Reads}
-use Rattle.cil_check.specs.Gifts.{first_at, gift_table, given_lead}
 use Rattle.cil_check.specs.Kinds.{again_words}
 use Rattle.cil_check.proofs.PositionLemmas.{is_before}
 use Rattle.cil_check.proofs.AskedLemmas.{first_if, again-reads}

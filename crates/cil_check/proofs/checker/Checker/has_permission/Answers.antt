@@ -1,4 +1,4 @@
-use Rattle.std.proofs.Common.{◌≡◌, ◌≤◌, ◌||◌, ◌+◌, length, drop, subst, sym, ap, ◌∙◌}
+use Rattle.std.proofs.Common.{◌≤◌, ◌||◌, ◌+◌, length, drop, subst, sym, ap, ◌∙◌}
 use Rattle.cil_specs.specs.Lookup.{has_name}
 use Rattle.cil_bind.specs.Lookup.{word_at}
 use Rattle.cil_check.specs.Inherited.{commons_at, names_listed}

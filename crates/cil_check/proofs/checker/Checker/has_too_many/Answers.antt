@@ -1,4 +1,4 @@
-use Rattle.std.proofs.Common.{◌≡◌, ◌<◌, ◌≤◌, [], length, fold, get_or, refl, ap, ◌∙◌, subst}
+use Rattle.std.proofs.Common.{◌<◌, ◌≤◌, [], length, fold, get_or, refl, ap, ◌∙◌, subst}
 use Rattle.cil_specs.specs.Lookup.{texts, distinct, own_permissions}
 use Rattle.cil_check.specs.Few.{with_number}
 use Rattle.cil_check.specs.Inherited.{commons_at}

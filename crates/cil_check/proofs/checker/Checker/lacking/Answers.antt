@@ -1,19 +1,14 @@
-use Rattle.std.proofs.Common.{◌≡◌, ◌≤◌, ◌+◌, not, List, Some, None, Contains, length, map, slice_get, refl, sym, ap, ◌∙◌, subst, arith}
+use Rattle.std.proofs.Common.{◌+◌, not, Some, None, map, slice_get, refl, sym, ap, ◌∙◌, arith}
 use Rattle.std.specs.Option.{option_or, option_map}
-use Rattle.cil_specs.specs.Names.{Word}
-use Rattle.cil_specs.specs.Joined.{Placed}
 use Rattle.cil_parse.specs.Builder.{read}
 use Rattle.cil_parse.specs.Forms.{permissions_in}
-use Rattle.cil_parse.specs.Lexicon.{AreNumbersOf}
-use Rattle.cil_parse.specs.Parsed.{texts_of, names_of}
+use Rattle.cil_parse.specs.Parsed.{texts_of}
 use Rattle.cil_parse.specs.declared.row.NumberedWord.{NumberedWord}
-use Rattle.cil_check.specs.Bound.{IsSeen, Reads}
-use Rattle.cil_check.specs.Checker.{IsNoted}
 use Rattle.cil_check.specs.Kinds.{word_if}
-use Rattle.cil_check.specs.Missing.{rule_class, lacking_words}
+use Rattle.cil_check.specs.Missing.{lacking_words}
 use Rattle.cil_check.proofs.PermissionLemmas.{word-read, as-many}
 use Rattle.cil_check.proofs.AskedLemmas.{first_from, from-at, from-past, reads-as}
-use Rattle.cil_check.proofs.MissingLemmas.{IsAsked, asked-at, lacks, lacks-none, lacking-first, class-named}
+use Rattle.cil_check.proofs.MissingLemmas.{asked-at, lacks, lacks-none, lacking-first, class-named}
 use Rattle.cil_check.proofs.checker.Checker.lacking.Goals as goal
 
 -- what is read behind the end of the words

@@ -1,4 +1,4 @@
-use Rattle.std.proofs.Common.{◌≡◌, ◌≤◌, ◌<◌, ◌^◌, length, arith}
+use Rattle.std.proofs.Common.{arith}
 use Rattle.cil_check.proofs.checker.Checker.of.Goals as goal
 
 pub returns-clause-noted : goal.returns-clause-noted

@@ -1,4 +1,4 @@
-use Rattle.std.proofs.Common.{◌≡◌, None, Some, slice_get, refl, sym, ap, ◌∙◌, subst}
+use Rattle.std.proofs.Common.{None, Some, slice_get, refl, sym, ap, ◌∙◌, subst}
 use Rattle.cil_specs.specs.PolicyFault.{has_too_many, too_many_words}
 use Rattle.cil_specs.specs.Rule.{is_class}
 use Rattle.cil_parse.specs.Forms.{words_in}

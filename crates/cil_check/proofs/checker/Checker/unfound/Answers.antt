@@ -1,7 +1,6 @@
-use Rattle.std.proofs.Common.{◌+◌, ◌<◌, ◌≤◌, None, Some, length, slice_get, refl, sym, ap, ◌∙◌, subst, arith}
+use Rattle.std.proofs.Common.{◌+◌, ◌<◌, ◌≤◌, None, Some, length, refl, sym, ap, ◌∙◌, subst, arith}
 use Rattle.std.specs.Option.{option_or}
 use Rattle.cil_specs.specs.Lookup.{references}
-use Rattle.cil_specs.specs.PolicyFault.{is_unfound}
 use Rattle.cil_check.specs.Bound.{Reads}
 use Rattle.cil_check.specs.Checker.{first_unfound}
 use Rattle.cil_check.specs.Kinds.{word_if}

@@ -1,7 +1,6 @@
-use Rattle.std.proofs.Common.{◌+◌, ◌<◌, ◌≤◌, None, Some, length, slice_get, refl, sym, ap, ◌∙◌, subst, arith}
+use Rattle.std.proofs.Common.{◌+◌, ◌<◌, ◌≤◌, None, Some, length, refl, sym, ap, ◌∙◌, arith}
 use Rattle.cil_specs.specs.PolicyFault.{is_unset}
 use Rattle.cil_parse.specs.Forms.{words_in}
-use Rattle.cil_check.specs.Bound.{Reads}
 use Rattle.cil_check.proofs.AskedLemmas.{first_from, from-at, from-past, first-here, first-behind, reads-as, shown-long, word-there, set-reference}
 use Rattle.cil_check.proofs.checker.Checker.unset_leaf.Goals as goal
 

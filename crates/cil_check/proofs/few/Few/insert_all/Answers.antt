@@ -1,4 +1,4 @@
-use Rattle.std.proofs.Common.{◌≡◌, length, take, drop, fold, sym, ap, ◌∙◌}
+use Rattle.std.proofs.Common.{take, drop, fold, sym, ap, ◌∙◌}
 use Rattle.std.proofs.lemmas.List.{take-append-drop}
 use Rattle.std.proofs.lemmas.List.Sums.{fold-append}
 use Rattle.cil_check.specs.Few.{with_number}

@@ -1,4 +1,4 @@
-use Rattle.std.proofs.Common.{None, Some, ap, refl, subst, arith, length, sym, ◌<◌}
+use Rattle.std.proofs.Common.{None, Some, ap, refl, subst, arith, length, ◌<◌}
 use Rattle.std.proofs.lemmas.List.{take_all}
 use Rattle.cil_bind.specs.Lookup.{IsLead}
 use Rattle.cil_check.specs.Gifts.{first_at, gift_table, given_lead, HasFirstsOf}

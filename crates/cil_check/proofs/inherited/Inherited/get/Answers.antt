@@ -1,6 +1,6 @@
-use Rattle.std.proofs.Common.{Vec, List, ℕ, Option, None, Some, map, position, ◌==◌, slice_get, option_map, sym, ap, ◌∙◌, subst}
+use Rattle.std.proofs.Common.{None, Some, map, slice_get, option_map, sym, ap, ◌∙◌}
 use Rattle.std.proofs.lemmas.Option.{slice_get-map}
-use Rattle.cil_check.specs.Inherited.{places_in, commons_at}
+use Rattle.cil_check.specs.Inherited.{commons_at}
 use Rattle.cil_check.proofs.InheritedLemmas.{at-index, found-list}
 use Rattle.cil_check.proofs.inherited.Inherited.get.Goals as goal
 

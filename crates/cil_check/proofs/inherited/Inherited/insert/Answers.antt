@@ -1,4 +1,4 @@
-use Rattle.std.proofs.Common.{◌≡◌, ◌<◌, ◌+◌, length-append, ◌==◌, ◌++◌, ◌∷◌, [], ℕ, List, None, length, map, set, position, slice_get, Some, option_map, sym, ap, ◌∙◌, subst, refl, arith}
+use Rattle.std.proofs.Common.{◌≡◌, ◌<◌, ◌+◌, length-append, ◌==◌, ◌++◌, ◌∷◌, [], None, length, map, set, position, option_map, sym, ap, ◌∙◌, subst, refl, arith}
 use Rattle.std.proofs.lemmas.Option.{slice_get_read, slice_get-map}
 use Rattle.std.proofs.lemmas.List.{map-append, map-set, length-map, length-set}
 use Rattle.cil_check.specs.Inherited.{commons_at}
