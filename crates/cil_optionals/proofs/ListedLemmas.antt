@@ -1,5 +1,5 @@
 -- What is listed and given the other way round.
-use Rattle.std.proofs.Common.{◌≡◌, ℕ, zero, suc, ◌+◌, ◌<◌, ◌==◌, ◌&&◌, ◌||◌, nat_eq, Bool, true, false, List, [], ◌∷◌, ◌++◌, length, set, position, get_or, slice_get, Option, Some, None, is_some, Vec, Bor, bytes_eq, refl, sym, ap, ◌∙◌, subst, true≢false, arith, inl, inr, if◌then◌else◌}
+use Rattle.std.proofs.Common.{◌≡◌, ℕ, zero, suc, ◌+◌, ◌<◌, ◌==◌, ◌&&◌, ◌||◌, nat_eq, Bool, true, false, List, [], ◌∷◌, ◌++◌, length, set, position, get_or, slice_get, Option, Some, None, is_some, Vec, Bor, Result, Ok, Err, OnOk, OnErr, bytes_eq, refl, sym, ap, ◌∙◌, subst, true≢false, arith, inl, inr, if◌then◌else◌}
 use Rattle.std.specs.List.{list_any}
 use Rattle.std.specs.Option.{option_or, option_and_then}
 use Rattle.std.proofs.lemmas.Option.{none-some, same_Some, slice_get_within}
@@ -200,3 +200,9 @@ answers-next has keys after p answer is answered so_far i name there = by (lists
         let place : i ≡ p.place = eqb-true i p.place (first_true (i == p.place) (bytes_eq name p.name.now) either) in
         let named : name ≡ p.name.now = (bytes_eq-Decides name p.name.now).0 (second_true (i == p.place) (bytes_eq name p.name.now) either) in
         (λ k. has (place k) (named k)) ∙ answered
+
+-- whether it was taken up or there was no memory
+pub answers-after : {T E : Type 0} (r : Result T E) (has : ℕ → List ℕ → Bool) (keys after : List Permission) (p : Permission) (answer : Bool) → OnOk r (after ≡ insert_key (permission_eq.eq-value).it keys p) → OnErr r (after ≡ keys)
+    → has p.place p.name.now ≡ answer → AreAnswers has keys answer → AreAnswers has after answer
+answers-after (Ok x) has keys after p answer is same answered so_far = answers-next has keys after p answer is answered so_far
+answers-after (Err e) has keys after p answer is same answered so_far = λ i name there. so_far i name (sym (ap (λ l. lists l i name) same) ∙ there)
