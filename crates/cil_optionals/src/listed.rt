@@ -222,9 +222,10 @@ impl<'m, A: Allocator> Listed<'m, A> {
     fn any_given(&self, class: u32, commons: &[u32]) -> bool
         ensures { result ≡ list_any (λ common. has_gift self.now.gifts.keys class common) commons.now }
     {
-        commons
-            .iter()
-            .any(|common| self.gifts.contains(&Gift { class, common: *common }))
+        commons.iter().any(|common| self.gifts.contains(&Gift {
+            class,
+            common: *common,
+        }))
     }
 
     /// The places of the statements that list a name.
