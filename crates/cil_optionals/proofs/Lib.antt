@@ -6,3 +6,4 @@ pub mod AsksLemmas
 pub mod KeptLemmas
 pub mod OthersLemmas
 pub mod PermissionLemmas
+pub mod ListedLemmas

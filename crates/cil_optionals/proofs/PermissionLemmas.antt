@@ -25,9 +25,9 @@ use Rattle.cil_parse.specs.declared.row.NumberedWord.{NumberedWord}
 use Rattle.cil_optionals.specs.Asks.{are_there}
 use Rattle.cil_optionals.specs.Given.{lists, commons_at, gift, given_at, last_bound, is_rule, lists_own, gives_common, lists_at, common_passes, gives_passing, permissions_in, IsUpTo}
 use Rattle.cil_optionals.specs.Permissions.{SeenPermissions, HavePermissions}
-use Rattle.cil_optionals.specs.declared.permissions.Permission.{Permission}
-use Rattle.cil_optionals.specs.declared.permissions.Permissions.{Permissions}
-use Rattle.cil_optionals.specs.contracts.permissions.PermissionPartialEq.TheImpl as permission_eq
+use Rattle.cil_optionals.specs.declared.listed.Permission.{Permission}
+use Rattle.cil_optionals.specs.declared.listed.Listed.{Listed}
+use Rattle.cil_optionals.specs.contracts.listed.PermissionPartialEq.TheImpl as permission_eq
 
 pub derived-permission : (p : Permission) → (permission_eq.eq-value).it p ≡ (λ other. (p.place == other.place) && bytes_eq p.name.now other.name.now)
 derived-permission p = refl
@@ -232,7 +232,7 @@ holds-last test xs t n j long = by xs n j long
     by (y ∷ ys) m (suc k) e = by ys (length ys) k refl ∙ ap (λ b. holds_of test (slice_get ys k) || (b && test t)) (equal k (length ys) ∙ ap (λ n. suc k == n) e)
 
 -- one statement more
-upto-next : {A : Type 0} (policy : List Placed) (i : ℕ) (t : Placed) (old new : Permissions A) → slice_get policy i ≡ Some t
+upto-next : {A : Type 0} (policy : List Placed) (i : ℕ) (t : Placed) (old new : Listed A) → slice_get policy i ≡ Some t
     → ((place : ℕ) (name : List ℕ) → lists new.listed.keys place name ≡ (lists old.listed.keys place name || (place == i && has_name (texts (own_permissions t.form)) name)))
     → ((k : ℕ) (s : Placed) (test : Placed → Bool) → slice_get policy k ≡ Some s → IsFirstOf classes policy k → list_any (λ c. holds_of test (slice_get policy c)) (commons_at new.given.items k)
     ≡ (list_any (λ c. holds_of test (slice_get policy c)) (commons_at old.given.items k) || gives_passing policy s test t))
@@ -251,7 +251,7 @@ none-listed : (form : Form) → lists_own (kind_of form) ≡ false → (name : L
 none-listed form is name a e = sym (ap (λ l. a || (e && has_name (texts l) name)) (kind-none form is) ∙ ap (λ b. a || b) (and-false e) ∙ or-false a)
 
 -- it lists permissions
-pub upto-lists : {A : Type 0} (policy : List Placed) (i : ℕ) (t : Placed) (old new : Permissions A) → slice_get policy i ≡ Some t → lists_own (kind_of t.form) ≡ true
+pub upto-lists : {A : Type 0} (policy : List Placed) (i : ℕ) (t : Placed) (old new : Listed A) → slice_get policy i ≡ Some t → lists_own (kind_of t.form) ≡ true
     → ((place : ℕ) (name : List ℕ) → lists new.listed.keys place name ≡ (lists old.listed.keys place name || (place == i && has_name (texts (listed_in t.form)) name)))
     → new.given.items ≡ old.given.items → IsUpTo policy i old → IsUpTo policy (i + 1) new
 upto-lists policy i t old new at own listed same are =
@@ -263,7 +263,7 @@ upto-lists policy i t old new at own listed same are =
     (ap length same) are
 
 -- it gives nothing
-pub upto-other : {A : Type 0} (policy : List Placed) (i : ℕ) (t : Placed) (p : Permissions A) → slice_get policy i ≡ Some t → lists_own (kind_of t.form) ≡ false → gives_common (kind_of t.form) ≡ false
+pub upto-other : {A : Type 0} (policy : List Placed) (i : ℕ) (t : Placed) (p : Listed A) → slice_get policy i ≡ Some t → lists_own (kind_of t.form) ≡ false → gives_common (kind_of t.form) ≡ false
     → IsUpTo policy i p → IsUpTo policy (i + 1) p
 upto-other policy i t p at own gives are =
     upto-next policy i t p p at
@@ -303,7 +303,7 @@ gives-lists (rule kind source (the_named word) the_class permissions) is = refl
 gives-lists _ is = absurd (true≢false (sym is))
 
 -- it gives a common to a class
-pub upto-gives : {A : Type 0} (policy : List Placed) (i : ℕ) (t : Placed) (bound : List (Option ℕ)) (old new : Permissions A) → slice_get policy i ≡ Some t → gives_common (kind_of t.form) ≡ true
+pub upto-gives : {A : Type 0} (policy : List Placed) (i : ℕ) (t : Placed) (bound : List (Option ℕ)) (old new : Listed A) → slice_get policy i ≡ Some t → gives_common (kind_of t.form) ≡ true
     → AreLeads policy t.namespace (references t.form) bound → ((k : ℕ) → commons_at new.given.items k ≡ commons_at old.given.items k ++ given_at (gift bound) k)
     → length new.given.items ≡ length old.given.items → new.listed.keys ≡ old.listed.keys → IsUpTo policy i old → IsUpTo policy (i + 1) new
 upto-gives policy i t bound old new at gives leads_are given long same are =
@@ -330,7 +330,7 @@ gift-within policy namespace (rule kind source (the_named word) the_class permis
 gift-within policy namespace _ is bound are = absurd (true≢false (sym is))
 
 -- nothing is taken up
-pub upto-none : {A : Type 0} (policy : List Placed) (p : Permissions A) → p.listed.keys ≡ [] → ((i : ℕ) → commons_at p.given.items i ≡ []) → length p.given.items ≡ length policy → IsUpTo policy 0 p
+pub upto-none : {A : Type 0} (policy : List Placed) (p : Listed A) → p.listed.keys ≡ [] → ((i : ℕ) → commons_at p.given.items i ≡ []) → length p.given.items ≡ length policy → IsUpTo policy 0 p
 upto-none policy p none empty long = record {
   listed = λ place name. ap (λ l. lists l place name) none;
   given = λ i s test here first. ap (list_any (λ c. holds_of test (slice_get policy c))) (empty i);
@@ -359,7 +359,7 @@ given-permissions policy s name t = by (gives_common_to policy s t.namespace t.f
     of-form _ = refl
 
 -- all are taken up
-pub upto-all : {A : Type 0} (policy : List Placed) (n : ℕ) (p : Permissions A) → length policy ≤ n → IsUpTo policy n p → HavePermissions policy (permissions_in p)
+pub upto-all : {A : Type 0} (policy : List Placed) (n : ℕ) (p : Listed A) → length policy ≤ n → IsUpTo policy n p → HavePermissions policy (permissions_in p)
 upto-all policy n p past are i s name at first =
     (λ k. listed i k || list_any (λ c. listed c k) (commons_at p.given.items i))
     ∙ ap (λ o. holds_of passes o || list_any (λ c. holds_of passes (slice_get policy c)) (commons_at p.given.items i)) at

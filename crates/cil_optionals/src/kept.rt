@@ -30,9 +30,9 @@ pub fn kept_optionals<'m, A: Allocator + Copy>(
     if count > 0xFFFF_FFFF {
         return Err(AllocError);
     }
-    let permissions = Permissions::of(alloc, joined, policy)?;
+    let mut permissions = Permissions::of(alloc, joined, policy)?;
     let mut needs = providers(alloc, policy)?;
-    let more = others(alloc, joined, policy, &permissions)?;
+    let more = others(alloc, joined, policy, &mut permissions)?;
     needs.extend(more)?;
     let mut kept = greatest(alloc, count + count, &needs)?;
     kept.truncate(count + 1);

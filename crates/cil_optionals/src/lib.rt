@@ -3,6 +3,7 @@
 
 mod greatest;
 mod kept;
+mod listed;
 mod others;
 mod permissions;
 mod providers;

@@ -40,19 +40,20 @@ fn asked<'m, A: Allocator + Copy>(
     alloc: A,
     joined: &Joined<'m, A>,
     policy: &Policy<'m, A>,
-    permissions: &Permissions<'m, A>,
+    permissions: &mut Permissions<'m, A>,
     i: usize,
     needs: &mut Vec<Need<A>, A>,
 ) -> Result<(), AllocError>
     requires ready { (all : List Placed) × IsReady policy.now joined.now.modules.items all }
     requires within { i < length policy.now.rows.items }
-    ensures { OnOk result ((all : List Placed) (s : Placed) → IsReady policy.now joined.now.modules.items all → HavePermissions all (permissions_in permissions.now) → slice_get all i ≡ Some s
+    ensures listed { OnOk result (permissions.new.listed ≡ permissions.old.listed) }
+    ensures asks { OnOk result ((all : List Placed) (s : Placed) → IsReady policy.now joined.now.modules.items all → HavePermissions all (permissions_in permissions.old.listed) → slice_get all i ≡ Some s
         → Asks all (optional_at policy.now i) (λ set. are_found (restricted set all) s.namespace (references_of s.form) && are_there (restricted set all) s.namespace (named_permissions s.form)) needs.old.items needs.new.items) }
 {
     let row = policy.rows[i];
     let module = joined.modules[row.module as usize].module;
     references(alloc, policy, module, i, needs)?;
-    if !permissions.are_there(policy, module, i) {
+    if !permissions.are_there(policy, module, i)? {
         add_need(alloc, row.optional as usize, None, needs)?;
     }
     Ok(())
@@ -63,13 +64,14 @@ fn need_at<'m, A: Allocator + Copy>(
     alloc: A,
     joined: &Joined<'m, A>,
     policy: &Policy<'m, A>,
-    permissions: &Permissions<'m, A>,
+    permissions: &mut Permissions<'m, A>,
     i: usize,
     needs: &mut Vec<Need<A>, A>,
 ) -> Result<(), AllocError>
     requires ready { (all : List Placed) × IsReady policy.now joined.now.modules.items all }
     requires within { i < length policy.now.rows.items }
-    ensures { OnOk result ((all : List Placed) → IsReady policy.now joined.now.modules.items all → HavePermissions all (permissions_in permissions.now)
+    ensures listed { OnOk result (permissions.new.listed ≡ permissions.old.listed) }
+    ensures others { OnOk result ((all : List Placed) → IsReady policy.now joined.now.modules.items all → HavePermissions all (permissions_in permissions.old.listed)
         → AreOthersTo all policy.now.rows.items i i needs.old.items → AreOthersTo all policy.now.rows.items (i + 1) (i + 1) needs.new.items) }
 {
     let row = policy.rows[i];
@@ -86,10 +88,10 @@ pub fn others<'m, A: Allocator + Copy>(
     alloc: A,
     joined: &Joined<'m, A>,
     policy: &Policy<'m, A>,
-    permissions: &Permissions<'m, A>,
+    permissions: &mut Permissions<'m, A>,
 ) -> Result<Vec<Need<A>, A>, AllocError>
     requires ready { (all : List Placed) × IsReady policy.now joined.now.modules.items all }
-    ensures { IfOk result (λ needs. (all : List Placed) → IsReady policy.now joined.now.modules.items all → HavePermissions all (permissions_in permissions.now)
+    ensures { IfOk result (λ needs. (all : List Placed) → IsReady policy.now joined.now.modules.items all → HavePermissions all (permissions_in permissions.old.listed)
         → AreOthers all policy.now.rows.items needs.items) }
 {
     let mut needs = Vec::new(alloc);

@@ -8,6 +8,16 @@ use Rattle.cil_optionals.specs.Providers.{IsReady}
 use Rattle.cil_optionals.proofs.KeptLemmas.{rows-there, all-below, shows-kept, shows-taken}
 use Rattle.cil_optionals.proofs.kept.kept_optionals.Goals as goal
 
+pub others-requires : goal.others-requires
+others-requires g c =
+    let (all, bound, nested, apart) = c.requires in
+    let p = c.args.policy.now in
+    let parsed = c.args.joined.now.modules.items in
+    let count = c.len-count.ensures in
+    let few = c.if-count-gt4294967295.false in
+    let ready : IsReady p parsed all = record { bound = bound; nested = nested; apart = apart; few = omega (arith, count, few) } in
+    record { ready = (all, ready) }
+
 pub greatest-requires : goal.greatest-requires
 greatest-requires g c =
     let (all, bound, nested, apart) = c.requires in

@@ -1,4 +1,4 @@
-use Rattle.std.proofs.Common.{List}
+use Rattle.std.proofs.Common.{◌≡◌, List}
 use Rattle.cil_specs.specs.Joined.{Placed}
 use Rattle.cil_optionals.specs.Given.{permissions_in}
 use Rattle.cil_optionals.specs.Others.{AreOthersTo}
@@ -8,4 +8,7 @@ use Rattle.cil_optionals.proofs.others.others.Given as goal
 
 -- so many rows
 abbrev pub invariant-loop-i : goal.invariant-loop-i
-invariant-loop-i g l = (all : List Placed) → IsReady l.policy l.joined.modules.items all → HavePermissions all (permissions_in l.permissions) → AreOthersTo all l.policy.rows.items l.i l.i l.needs.items
+invariant-loop-i g l = record {
+  others : (all : List Placed) → IsReady l.policy l.joined.modules.items all → HavePermissions all (permissions_in l.fn.permissions.listed) → AreOthersTo all l.policy.rows.items l.i l.i l.needs.items;
+  listed : l.permissions.listed ≡ l.fn.permissions.listed;
+}

@@ -9,8 +9,8 @@ use Rattle.cil_optionals.proofs.AsksLemmas.{bound-at, seen-of}
 use Rattle.cil_optionals.proofs.PermissionLemmas.{rule-class, names-none, there-none, there-some}
 use Rattle.cil_optionals.proofs.permissions.Permissions.are_there.Goals as goal
 
-pub returns-then-not-is_rule : goal.returns-then-not-is_rule
-returns-then-not-is_rule g c = λ parsed all s ready have at of.
+pub returns-then-not-is_rule-clause-there : goal.returns-then-not-is_rule-clause-there
+returns-then-not-is_rule-clause-there g c = λ parsed all s ready have at of.
     let p = c.args.policy.now in
     let m = c.args.«module».now in
     let seen = seen-of p parsed m all c.args.i s c.index-row.result.now c.statement-view.result (get_or p.bound.0 c.args.i []) ready at of c.index-row.ensures c.statement-view.ensures refl in
@@ -30,23 +30,23 @@ has_all-requires g c =
     let seen = seen-of p r.0 m r.1 c.args.i r.2 c.index-row.result.now c.statement-view.result c.get-bound.result.now r.3 r.4 r.5 c.index-row.ensures c.statement-view.ensures c.get-bound.ensures in
     (listed_in seen.f.form, c.permissions.ensures (texts_of m) seen.f seen.shown)
 
-pub returns-in-Some : goal.returns-in-Some
-returns-in-Some g c = λ parsed all s ready have at of.
+pub returns-clause-there : goal.returns-clause-there
+returns-clause-there g c = λ parsed all s ready have at of.
     let p = c.args.policy.now in
     let m = c.args.«module».now in
     let seen = seen-of p parsed m all c.args.i s c.index-row.result.now c.statement-view.result c.get-bound.result.now ready at of c.index-row.ensures c.statement-view.ensures c.get-bound.ensures in
     let is : is_rule (kind_of s.form) ≡ true = sym (c.is_rule.ensures ∙ ap is_rule (seen.shown.kind ∙ ap kind_of seen.form)) ∙ c.if-not-is_rule.false in
     let rule = rule-class all s.namespace s.form is c.get-bound.result.now seen.leads_are in
     let led = subst (λ o. IsLead classes all o (leads all classes s.namespace rule.the_class.text)) (sym c.last_bound.ensures ∙ c.in-Some.is) rule.lead in
-    c.has_all.ensures (listed_in s.form) (c.permissions.ensures (texts_of m) seen.f seen.shown ∙ ap (λ form. map Some (listed_in form)) seen.form)
-    ∙ there-some all (permissions_in c.args.self.now) s.namespace rule.the_class (listed_in s.form) c.in-Some.class have led ∙ ap (are_there all s.namespace) (sym rule.named)
+    c.in_ok-there.ensures.has (listed_in s.form) (c.permissions.ensures (texts_of m) seen.f seen.shown ∙ ap (λ form. map Some (listed_in form)) seen.form)
+    ∙ there-some all (permissions_in c.args.self.now.listed) s.namespace rule.the_class (listed_in s.form) c.in-Some.class have led ∙ ap (are_there all s.namespace) (sym rule.named)
 
-pub returns-in-None : goal.returns-in-None
-returns-in-None g c = λ parsed all s ready have at of.
+pub returns-in_default-clause-there : goal.returns-in_default-clause-there
+returns-in_default-clause-there g c = λ parsed all s ready have at of.
     let p = c.args.policy.now in
     let m = c.args.«module».now in
     let seen = seen-of p parsed m all c.args.i s c.index-row.result.now c.statement-view.result c.get-bound.result.now ready at of c.index-row.ensures c.statement-view.ensures c.get-bound.ensures in
     let is : is_rule (kind_of s.form) ≡ true = sym (c.is_rule.ensures ∙ ap is_rule (seen.shown.kind ∙ ap kind_of seen.form)) ∙ c.if-not-is_rule.false in
     let rule = rule-class all s.namespace s.form is c.get-bound.result.now seen.leads_are in
-    let led = subst (λ o. IsLead classes all o (leads all classes s.namespace rule.the_class.text)) (sym c.last_bound.ensures ∙ c.in-None.is) rule.lead in
+    let led = subst (λ o. IsLead classes all o (leads all classes s.namespace rule.the_class.text)) (sym c.last_bound.ensures ∙ c.in_default.is) rule.lead in
     sym (ap (are_there all s.namespace) rule.named ∙ there-none all s.namespace rule.the_class (listed_in s.form) led)

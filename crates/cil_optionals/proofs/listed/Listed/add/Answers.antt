@@ -4,18 +4,18 @@ use Rattle.cil_parse.specs.Parsed.{texts_of}
 use Rattle.cil_optionals.specs.Given.{commons_at, gift, given_at, lists_own, gives_common}
 use Rattle.cil_optionals.proofs.AsksLemmas.{bound-at, seen-of}
 use Rattle.cil_optionals.proofs.PermissionLemmas.{upto-lists, upto-gives, upto-other, gift-within}
-use Rattle.cil_optionals.proofs.permissions.Permissions.add.Goals as goal
+use Rattle.cil_optionals.proofs.listed.Listed.add.Goals as goal
 
-pub list-requires : goal.list-requires
-list-requires g c =
+pub list-requires-clause-words : goal.list-requires-clause-words
+list-requires-clause-words g c =
     let r = c.requires in
     let p = c.args.policy.now in
     let m = c.args.«module».now in
     let seen = seen-of p r.0 m r.1 c.args.i r.2 c.index-row.result.now c.statement-view.result (get_or p.bound.0 c.args.i []) r.3 r.4 r.5 c.index-row.ensures c.statement-view.ensures refl in
     (permissions_in seen.f.form, c.permissions.ensures (texts_of m) seen.f seen.shown)
 
-pub returns-then-lists_own : goal.returns-then-lists_own
-returns-then-lists_own g c = λ parsed all s ready at of are.
+pub returns-then-lists_own-clause-up_to : goal.returns-then-lists_own-clause-up_to
+returns-then-lists_own-clause-up_to g c = λ parsed all s ready at of are.
     let p = c.args.policy.now in
     let m = c.args.«module».now in
     let seen = seen-of p parsed m all c.args.i s c.index-row.result.now c.statement-view.result (get_or p.bound.0 c.args.i []) ready at of c.index-row.ensures c.statement-view.ensures refl in
@@ -28,27 +28,27 @@ get-bound-requires g c =
     let r = c.requires in
     (bound-at r.1 r.1 c.args.policy.now.bound.0 c.args.i r.2 r.3.bound.bound r.4).0
 
-pub give-requires : goal.give-requires
-give-requires g c =
+pub give-requires-clause-within : goal.give-requires-clause-within
+give-requires-clause-within g c =
     let r = c.requires in
     let p = c.args.policy.now in
     let m = c.args.«module».now in
     let seen = seen-of p r.0 m r.1 c.args.i r.2 c.index-row.result.now c.statement-view.result c.get-bound.result.now r.3 r.4 r.5 c.index-row.ensures c.statement-view.ensures c.get-bound.ensures in
     let gives : gives_common (kind_of r.2.form) ≡ true = sym (c.gives_common.ensures ∙ ap gives_common (seen.shown.kind ∙ ap kind_of seen.form)) ∙ c.if-gives_common.true in
-    subst (λ o. IfSome o (λ given. given.0 < length c.args.self.now.given.items)) (sym c.gift.ensures)
+    subst (λ o. IfSome o (λ given. given.0 < length c.args.self.now.given.items)) (sym c.gift_of.ensures)
     (subst (λ n. IfSome (gift c.get-bound.result.now) (λ given. given.0 < n)) (sym r.6.long) (gift-within r.1 r.2.namespace r.2.form gives c.get-bound.result.now seen.leads_are))
 
-pub returns-in_ok-give : goal.returns-in_ok-give
-returns-in_ok-give g c = λ parsed all s ready at of are.
+pub returns-in_ok-give-clause-up_to : goal.returns-in_ok-give-clause-up_to
+returns-in_ok-give-clause-up_to g c = λ parsed all s ready at of are.
     let p = c.args.policy.now in
     let m = c.args.«module».now in
     let seen = seen-of p parsed m all c.args.i s c.index-row.result.now c.statement-view.result c.get-bound.result.now ready at of c.index-row.ensures c.statement-view.ensures c.get-bound.ensures in
     let gives : gives_common (kind_of s.form) ≡ true = sym (c.gives_common.ensures ∙ ap gives_common (seen.shown.kind ∙ ap kind_of seen.form)) ∙ c.if-gives_common.true in
     upto-gives all c.args.i s c.get-bound.result.now c.args.self.now c.give.new.self at gives seen.leads_are
-    (λ k. c.in_ok-give.ensures.given k ∙ ap (λ o. commons_at c.args.self.now.given.items k ++ given_at o k) c.gift.ensures) c.in_ok-give.ensures.len c.in_ok-give.ensures.listed are
+    (λ k. c.in_ok-give.ensures.given k ∙ ap (λ o. commons_at c.args.self.now.given.items k ++ given_at o k) c.gift_of.ensures) c.in_ok-give.ensures.len c.in_ok-give.ensures.listed are
 
-pub returns-else-gives_common : goal.returns-else-gives_common
-returns-else-gives_common g c = λ parsed all s ready at of are.
+pub returns-else-gives_common-clause-up_to : goal.returns-else-gives_common-clause-up_to
+returns-else-gives_common-clause-up_to g c = λ parsed all s ready at of are.
     let p = c.args.policy.now in
     let m = c.args.«module».now in
     let seen = seen-of p parsed m all c.args.i s c.index-row.result.now c.statement-view.result (get_or p.bound.0 c.args.i []) ready at of c.index-row.ensures c.statement-view.ensures refl in

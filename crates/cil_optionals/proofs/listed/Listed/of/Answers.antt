@@ -2,16 +2,21 @@ use Rattle.std.proofs.Common.{◌≤◌, ◌<◌, length, arith}
 use Rattle.cil_bind.proofs.DeclareLemmas.{rows-length}
 use Rattle.cil_optionals.proofs.ProviderLemmas.{row-of}
 use Rattle.cil_optionals.proofs.OthersLemmas.{of-row, module-low}
+use Rattle.cil_optionals.proofs.ListedLemmas.{inverse-none}
 use Rattle.cil_optionals.proofs.PermissionLemmas.{upto-none, upto-all}
-use Rattle.cil_optionals.proofs.permissions.Permissions.of.Goals as goal
+use Rattle.cil_optionals.proofs.listed.Listed.of.Goals as goal
 
 pub loop-i-init : goal.loop-i-init
-loop-i-init g c = λ all ready.
+loop-i-init g c =
     let p = c.args.policy.now in
-    let long = rows-length p.names p.lookup.namespaces p.rows.items all ready.bound.stands.rows_are in
     let size = c.len.ensures in
     let made = c.in_ok-no_commons.ensures.len in
-    upto-none all _ c.new.ensures.empty c.in_ok-no_commons.ensures.none (omega (arith, made, size, long))
+    record {
+      up_to = λ all ready.
+          let long = rows-length p.names p.lookup.namespaces p.rows.items all ready.bound.stands.rows_are in
+          upto-none all _ c.new.ensures.empty c.in_ok-no_commons.ensures.none (omega (arith, made, size, long));
+      inverse = inverse-none _ c.new.ensures.empty c.new-2.ensures.empty c.new-3.ensures.empty c.new-4.ensures.items c.in_ok-no_commons.ensures.none;
+    }
 
 pub overflow_cast-row : goal.overflow_cast-row
 overflow_cast-row g c =
@@ -46,22 +51,26 @@ add-requires g c =
     let count = c.len-i-end.ensures in
     let here = c.loop-i-test.true in
     let has = row-of p parsed r.0 c.loop-i.i row r.1 (omega (arith, count, here)) c.index-row.ensures in
-    (parsed, r.0, has.s, r.1, has.at, of-row p parsed r.0 c.loop-i.i row c.index.result.now r.1 has c.index.ensures, c.loop-i.invariant r.0 r.1)
+    (parsed, r.0, has.s, r.1, has.at, of-row p parsed r.0 c.loop-i.i row c.index.result.now r.1 has c.index.ensures, c.loop-i.invariant.up_to r.0 r.1, c.loop-i.invariant.inverse)
 
 pub loop-i-preserved : goal.loop-i-preserved
-loop-i-preserved g c = λ all ready.
+loop-i-preserved g c =
     let p = c.args.policy.now in
     let parsed = c.args.joined.now.modules.items in
     let row = c.index-row.result.now in
     let count = c.len-i-end.ensures in
     let here = c.loop-i-test.true in
-    let has = row-of p parsed all c.loop-i.i row ready (omega (arith, count, here)) c.index-row.ensures in
-    c.in_ok-add.ensures parsed all has.s ready has.at (of-row p parsed all c.loop-i.i row c.index.result.now ready has c.index.ensures) (c.loop-i.invariant all ready)
+    record {
+      up_to = λ all ready.
+          let has = row-of p parsed all c.loop-i.i row ready (omega (arith, count, here)) c.index-row.ensures in
+          c.in_ok-add.ensures.up_to parsed all has.s ready has.at (of-row p parsed all c.loop-i.i row c.index.result.now ready has c.index.ensures) (c.loop-i.invariant.up_to all ready);
+      inverse = c.in_ok-add.ensures.inverse;
+    }
 
-pub returns : goal.returns
-returns g c = λ all ready.
+pub returns-clause-have : goal.returns-clause-have
+returns-clause-have g c = λ all ready.
     let p = c.args.policy.now in
     let long = rows-length p.names p.lookup.namespaces p.rows.items all ready.bound.stands.rows_are in
     let count = c.len-i-end.ensures in
     let past : length all ≤ c.loop-i.i = omega (arith, count, long) in
-    upto-all all c.loop-i.i c.loop-i.permissions past (c.loop-i.invariant all ready)
+    upto-all all c.loop-i.i c.loop-i.listed past (c.loop-i.invariant.up_to all ready)

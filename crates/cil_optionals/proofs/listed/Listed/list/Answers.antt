@@ -5,12 +5,12 @@ use Rattle.cil_bind.proofs.ScopeLemmas.{read-text, read-within}
 use Rattle.cil_parse.specs.Parsed.{texts_of}
 use Rattle.cil_optionals.specs.Given.{lists}
 use Rattle.cil_optionals.proofs.PermissionLemmas.{words-next, word-read, as-many, no_word}
-use Rattle.cil_optionals.proofs.permissions.Permissions.list.Goals as goal
+use Rattle.cil_optionals.proofs.listed.Listed.list.Goals as goal
 
 pub text-requires : goal.text-requires
 text-requires g c =
     let texts = texts_of c.args.«module».now in
-    let found = word-read texts c.args.words.now c.requires.0 c.loop-word.word-index no_word c.requires.1 c.loop-word-test.true in
+    let found = word-read texts c.args.words.now c.requires.words.0 c.loop-word.word-index no_word c.requires.words.1 c.loop-word-test.true in
     read-within texts _ found.0 found.2
 
 pub loop-word-preserved : goal.loop-word-preserved
@@ -23,6 +23,7 @@ loop-word-preserved g c = record {
       words-next list k found.0 c.args.place i name (lists c.args.self.now.listed.keys i name) (lists c.loop-word.self.listed.keys i name) (lists c.insert.new.self.listed.keys i name)
       found.1 (c.loop-word.invariant.listed list shown i name)
       (c.in_ok-insert.ensures.listed i name ∙ ap (λ text. lists c.loop-word.self.listed.keys i name || (i == c.args.place && bytes_eq name text)) (c.text.ensures ∙ sym named));
+  inverse = c.in_ok-insert.ensures.inverse;
   given = c.in_ok-insert.ensures.given ∙ c.loop-word.invariant.given;
 }
 

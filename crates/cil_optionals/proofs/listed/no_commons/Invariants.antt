@@ -1,6 +1,6 @@
 use Rattle.std.proofs.Common.{◌≡◌, ℕ, [], length}
 use Rattle.cil_optionals.specs.Given.{commons_at}
-use Rattle.cil_optionals.proofs.permissions.no_commons.Given as goal
+use Rattle.cil_optionals.proofs.listed.no_commons.Given as goal
 
 -- so many places
 abbrev pub invariant-loop : goal.invariant-loop

@@ -1,0 +1,19 @@
+use Rattle.std.proofs.Common.{◌≡◌, ◌<◌, length, slice_get, Some, IfSome, refl, subst}
+use Rattle.std.proofs.lemmas.Option.{slice_get_read}
+use Rattle.cil_optionals.specs.declared.listed.Gift.{Gift}
+use Rattle.cil_optionals.proofs.ListedLemmas.{given-push, gifts-next}
+use Rattle.cil_optionals.proofs.listed.Listed.give.Goals as goal
+
+pub returns-clause-inverse : goal.returns-clause-inverse
+returns-clause-inverse g c =
+    let gift : Gift = record { class = c.in-Some.class; common = c.in-Some.common } in
+    let given = c.args.self.now.given.items in
+    let v = c.index_mut.result.now in
+    let w = c.push.new.self in
+    let within : c.in-Some.class < length given = subst (λ o. IfSome o (λ a. a.0 < length given)) c.in-Some.is c.requires.within in
+    let at : slice_get given c.in-Some.class ≡ Some v = slice_get_read given (length given) c.in-Some.class v refl within c.index_mut.ensures.value in
+    record {
+      gifts = gifts-next c.args.self.now.gifts.keys c.insert.new.self.keys given _ gift c.in_ok-insert.ensures.keys (given-push given c.in-Some.class c.in-Some.common v w at c.in_ok-push.ensures.items) c.requires.inverse.gifts;
+      listers = c.requires.inverse.listers;
+      long = c.requires.inverse.long;
+    }

@@ -1,9 +1,0 @@
-use Rattle.std.proofs.Common.{List}
-use Rattle.cil_specs.specs.Joined.{Placed}
-use Rattle.cil_optionals.specs.Given.{IsUpTo}
-use Rattle.cil_optionals.specs.Providers.{IsReady}
-use Rattle.cil_optionals.proofs.permissions.Permissions.of.Given as goal
-
--- so many statements are taken up
-abbrev pub invariant-loop-i : goal.invariant-loop-i
-invariant-loop-i g l = (all : List Placed) → IsReady l.policy l.joined.modules.items all → IsUpTo all l.i l.permissions

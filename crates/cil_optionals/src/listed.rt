@@ -1,0 +1,260 @@
+//! What classes and commons list, and the commons that are given to classes.
+
+ghost use Rattle.std.specs.Prelude.{◌≡◌, ◌<◌, ◌+◌, ◌&&◌, ◌||◌, ◌==◌, ◌++◌, ℕ, [], List, Some, map, length, bytes_eq, position, slice_get, IfOk, IfSome, OnOk};
+ghost use Rattle.std.specs.List.{list_any};
+ghost use Rattle.cil_specs.specs.Names.{Word};
+ghost use Rattle.cil_specs.specs.Joined.{Placed};
+ghost use Rattle.cil_specs.specs.Lookup.{has_name, texts};
+ghost use Rattle.cil_bind.specs.declared.joined.NamedModule.{NamedModule};
+ghost use Rattle.cil_parse.specs.Builder.{read};
+ghost use Rattle.cil_parse.specs.Parsed.{texts_of};
+ghost use Rattle.cil_optionals.specs.Asks.{IsOf};
+ghost use Rattle.cil_optionals.specs.Given.{lists as lists_permission, commons_at, has_gift, listers_at, permissions_in, gift as gift_in, given_at, lists_own as lists_own_kind, gives_common as gives_common_kind, IsUpTo, IsInverse};
+ghost use Rattle.cil_optionals.specs.Permissions.{HavePermissions};
+ghost use Rattle.cil_optionals.specs.Providers.{IsReady};
+
+use cil_bind::{Joined, Policy};
+use cil_parse::{NumberedWord, ParsedModule, StatementKind};
+use indexmap::IndexSet;
+use std::alloc::{AllocError, Allocator, Global};
+use std::hash::{BuildHasherDefault, FoldHasher};
+
+/// A permission that the class or the common at a place lists.
+#[derive(Clone, Copy, Debug, PartialEq, Eq, Hash)]
+pub struct Permission<'m> {
+    pub place: u32,
+    pub name: &'m [u8],
+}
+
+/// A common that is given to a class, by their places.
+#[derive(Clone, Copy, Debug, PartialEq, Eq, Hash)]
+pub struct Gift {
+    pub class: u32,
+    pub common: u32,
+}
+
+/// The permissions that classes and commons list, and for the place of each statement the commons that are given to it. A class has what
+/// its commons list, which is never copied to it. Both stand the other way round too: the commons that are given as pairs, and for each
+/// name the places of the statements that list it.
+#[derive(Drop)]
+pub struct Listed<'m, A: Allocator = Global> {
+    listed: IndexSet<Permission<'m>, BuildHasherDefault<FoldHasher>, A>,
+    given: Vec<Vec<u32, A>, A>,
+    gifts: IndexSet<Gift, BuildHasherDefault<FoldHasher>, A>,
+    names: IndexSet<&'m [u8], BuildHasherDefault<FoldHasher>, A>,
+    listers: Vec<Vec<u32, A>, A>,
+}
+
+/// Whether statements of a kind list permissions of their own.
+fn lists_own(kind: StatementKind) -> bool
+    ensures { result ≡ lists_own_kind kind }
+{
+    matches!(kind, StatementKind::Class | StatementKind::Common)
+}
+
+/// Whether statements of a kind give a common to a class.
+fn gives_common(kind: StatementKind) -> bool
+    ensures { result ≡ gives_common_kind kind }
+{
+    matches!(kind, StatementKind::ClassCommon)
+}
+
+/// The class and the common of two references, by what these are bound to.
+fn gift_of(bound: &[Option<u32>]) -> Option<(u32, u32)>
+    ensures { result ≡ gift_in bound.now }
+{
+    match bound {
+        [Some(class), Some(common)] => Some((*class, *common)),
+        _ => None,
+    }
+}
+
+/// For each of so many places no commons.
+fn no_commons<A: Allocator + Copy>(
+    alloc: A,
+    count: usize,
+) -> Result<Vec<Vec<u32, A>, A>, AllocError>
+    ensures len { IfOk result (λ given. length given.items ≡ count) }
+    ensures none { IfOk result (λ given. (i : ℕ) → commons_at given.items i ≡ []) }
+{
+    let mut given = Vec::with_capacity(alloc, count)?;
+    for _ in 0..count {
+        given.push(Vec::new(alloc))?;
+    }
+    Ok(given)
+}
+
+impl<'m, A: Allocator + Copy> Listed<'m, A> {
+    /// What the statements of a policy list and give.
+    pub fn of(alloc: A, joined: &Joined<'m, A>, policy: &Policy<'m, A>) -> Result<Self, AllocError>
+        requires { (all : List Placed) × IsReady policy.now joined.now.modules.items all }
+        ensures have { IfOk result (λ listed. (all : List Placed) → IsReady policy.now joined.now.modules.items all → HavePermissions all (permissions_in listed)) }
+        ensures inverse { IfOk result IsInverse }
+    {
+        let mut listed = Listed {
+            listed: IndexSet::new(alloc),
+            given: no_commons(alloc, policy.rows.len())?,
+            gifts: IndexSet::new(alloc),
+            names: IndexSet::new(alloc),
+            listers: Vec::new(alloc),
+        };
+        for i in 0..policy.rows.len() {
+            let row = policy.rows[i];
+            let module = joined.modules[row.module as usize].module;
+            listed.add(alloc, policy, module, i)?;
+        }
+        Ok(listed)
+    }
+
+    /// Takes up the permissions that the statement at a place lists, or the common that it gives to a class.
+    fn add(
+        &mut self,
+        alloc: A,
+        policy: &Policy<'m, A>,
+        module: &'m ParsedModule<A>,
+        i: usize,
+    ) -> Result<(), AllocError>
+        requires { (parsed : List (NamedModule _)) × (all : List Placed) × (s : Placed) × IsReady policy.now parsed all × slice_get all i ≡ Some s × IsOf policy.now «module».now i s × IsUpTo all i self.old × IsInverse self.old }
+        ensures up_to { OnOk result ((parsed : List (NamedModule _)) (all : List Placed) (s : Placed) → IsReady policy.now parsed all → slice_get all i ≡ Some s → IsOf policy.now «module».now i s
+            → IsUpTo all i self.old → IsUpTo all (i + 1) self.new) }
+        ensures inverse { OnOk result (IsInverse self.new) }
+    {
+        let row = policy.rows[i];
+        let view = module.statement(row.index as usize);
+        if lists_own(view.kind) {
+            self.list(alloc, i as u32, module, view.permissions())?;
+            return Ok(());
+        }
+        if gives_common(view.kind) {
+            let bound = policy.bound.get(i);
+            self.give(gift_of(bound))?;
+        }
+        Ok(())
+    }
+
+    /// Takes up permissions that the statement at a place lists.
+    fn list(
+        &mut self,
+        alloc: A,
+        place: u32,
+        module: &'m ParsedModule<A>,
+        words: &[NumberedWord],
+    ) -> Result<(), AllocError>
+        requires inverse { IsInverse self.old }
+        requires words { (list : List Word) × (map (read (texts_of «module».now)) words.now ≡ map Some list) }
+        ensures listed { OnOk result ((list : List Word) → map (read (texts_of «module».now)) words.now ≡ map Some list → (i : ℕ) (name : List ℕ)
+            → lists_permission self.new.listed.keys i name ≡ (lists_permission self.old.listed.keys i name || (i == place && has_name (texts list) name))) }
+        ensures given { OnOk result (self.new.given.items ≡ self.old.given.items) }
+        ensures inverse { OnOk result (IsInverse self.new) }
+    {
+        for word in words {
+            self.insert(alloc, place, module.text(word.text as usize))?;
+        }
+        Ok(())
+    }
+
+    /// Takes up a permission that the statement at a place lists.
+    fn insert(&mut self, alloc: A, place: u32, name: &'m [u8]) -> Result<(), AllocError>
+        requires { IsInverse self.old }
+        ensures listed { OnOk result ((i : ℕ) (other : List ℕ) → lists_permission self.new.listed.keys i other ≡ (lists_permission self.old.listed.keys i other || (i == place && bytes_eq other name.now))) }
+        ensures given { OnOk result (self.new.given.items ≡ self.old.given.items) }
+        ensures inverse { OnOk result (IsInverse self.new) }
+    {
+        let number = self.number(alloc, name)?;
+        self.listers[number].push(place)?;
+        self.listed.insert(Permission { place, name })?;
+        Ok(())
+    }
+
+    /// The number of a name, a new one, which no statement lists yet, where it has none.
+    fn number(&mut self, alloc: A, name: &'m [u8]) -> Result<usize, AllocError>
+        requires { length self.old.names.keys ≡ length self.old.listers.items }
+        ensures long { OnOk result (length self.new.names.keys ≡ length self.new.listers.items) }
+        ensures named { IfOk result (λ number. position (λ other. bytes_eq name.now other.now) self.new.names.keys ≡ Some number) }
+        ensures listers { OnOk result ((other : List ℕ) → listers_at self.new.names.keys self.new.listers.items other ≡ listers_at self.old.names.keys self.old.listers.items other) }
+        ensures listed { OnOk result (self.new.listed ≡ self.old.listed) }
+        ensures given { OnOk result (self.new.given ≡ self.old.given) }
+        ensures gifts { OnOk result (self.new.gifts ≡ self.old.gifts) }
+    {
+        if let Some(number) = self.names.get_index_of(&name) {
+            return Ok(number);
+        }
+        let number = self.listers.len();
+        self.listers.push(Vec::new(alloc))?;
+        self.names.insert(name)?;
+        Ok(number)
+    }
+
+    /// Takes up a common that is given to a class, if one is, by their places.
+    fn give(&mut self, gift: Option<(u32, u32)>) -> Result<(), AllocError>
+        requires inverse { IsInverse self.old }
+        requires within { IfSome gift (λ given. given.0 < length self.old.given.items) }
+        ensures given { OnOk result ((i : ℕ) → commons_at self.new.given.items i ≡ commons_at self.old.given.items i ++ given_at gift i) }
+        ensures len { OnOk result (length self.new.given.items ≡ length self.old.given.items) }
+        ensures listed { OnOk result (self.new.listed.keys ≡ self.old.listed.keys) }
+        ensures inverse { OnOk result (IsInverse self.new) }
+    {
+        let Some((class, common)) = gift else {
+            return Ok(());
+        };
+        self.given[class as usize].push(common)?;
+        self.gifts.insert(Gift { class, common })?;
+        Ok(())
+    }
+}
+
+impl<'m, A: Allocator> Listed<'m, A> {
+    /// Whether the statement at a place lists a permission.
+    fn lists(&self, place: u32, name: &'m [u8]) -> bool
+        ensures { result ≡ lists_permission self.now.listed.keys place name.now }
+    {
+        self.listed.contains(&Permission { place, name })
+    }
+
+    /// Whether one of the statements at these places lists a permission.
+    fn any_lists(&self, commons: &[u32], name: &'m [u8]) -> bool
+        ensures { result ≡ list_any (λ common. lists_permission self.now.listed.keys common name.now) commons.now }
+    {
+        commons.iter().any(|common| self.lists(*common, name))
+    }
+
+    /// Whether one of the commons at these places is given to the class at a place.
+    fn any_given(&self, class: u32, commons: &[u32]) -> bool
+        ensures { result ≡ list_any (λ common. has_gift self.now.gifts.keys class common) commons.now }
+    {
+        commons.iter().any(|common| self.gifts.contains(&Gift {
+            class,
+            common: *common,
+        }))
+    }
+
+    /// The places of the statements that list a name.
+    fn listers(&self, name: &'m [u8]) -> &[u32]
+        requires { length self.now.names.keys ≡ length self.now.listers.items }
+        ensures { result.now ≡ listers_at self.now.names.keys self.now.listers.items name.now }
+    {
+        match self.names.get_index_of(&name) {
+            Some(number) => self.listers[number].as_slice(),
+            None => &[],
+        }
+    }
+
+    /// Whether the class at a place has a permission, of its own or of a common that is given to it. The fewer are gone over: its commons, or
+    /// the statements that list the name.
+    pub fn has(&self, class: u32, name: &'m [u8]) -> bool
+        requires { IsInverse self.now }
+        ensures { result ≡ permissions_in self.now class name.now }
+    {
+        if self.lists(class, name) {
+            return true;
+        }
+        let Some(commons) = self.given.get(class as usize) else {
+            return false;
+        };
+        let listers = self.listers(name);
+        if listers.len() < commons.len() {
+            return self.any_given(class, listers);
+        }
+        self.any_lists(commons, name)
+    }
+}
