@@ -8,6 +8,6 @@ mod firsts;
 mod kinds;
 mod permissions;
 
-pub use bound::BoundPolicy;
+pub use bound::{BoundPolicy, Seen};
 pub use checker::Checker;
 pub use fault::{PolicyFault, PolicyFaultKind};
