@@ -1,19 +1,33 @@
 -- What a policy without faults means, by numbers.
-use Rattle.std.specs.Prelude.{◌≡◌, ℕ, Bool, not, ◌&&◌, List, [], ◌∷◌, map, flat_map, length, slice_get, slice_index_or, is_some, Option, Some, IsTrue, if◌then◌else◌}
+use Rattle.std.specs.Prelude.{◌≡◌, ℕ, Bool, not, ◌&&◌, List, [], ◌∷◌, map, flat_map, length, slice_get, slice_index_or, is_some, Option, Some, None, Contains, IsTrue, if◌then◌else◌}
 use Rattle.cil_specs.specs.Joined.{Placed}
-use Rattle.cil_specs.specs.Lookup.{types, actual_statement, is_alias, is_type, is_attribute}
+use Rattle.std.specs.List.{list_all, find}
+use Rattle.std.specs.Option.{option_and_then}
+use Rattle.cil_specs.specs.Names.{Word}
+use Rattle.cil_specs.specs.Statements.{Form, class_common}
+use Rattle.cil_specs.specs.Lookup.{Table, types, commons, leads, gives_common, actual_statement, is_alias, is_type, is_attribute}
+use Rattle.cil_specs.specs.Next.{is_plain_form}
 use Rattle.cil_specs.specs.Rule as spec
 use Rattle.cil_specs.specs.Rule.{element_at, declared_as, class_as, is_class, set_statement_of, rule_of}
 use Rattle.cil_bind.specs.Lookup.{IsFirstOf}
 use Rattle.cil_bind.specs.declared.joined.Joined.{Joined}
+use Rattle.cil_parse.specs.Lexicon.{AreNumbersOf}
+use Rattle.cil_parse.specs.Parsed.{names_of}
+use Rattle.cil_check.specs.Bound.{IsSeen}
 use Rattle.cil_check.specs.Checker.{IsNoted}
 use Rattle.cil_check.specs.Ordered.{IsFaultless}
-use Rattle.cil_resolve.specs.Below.{is_element_below}
+use Rattle.cil_resolve.specs.Below.{is_element_below, is_name_below, is_class_below, is_rule_below}
 use Rattle.cil_resolve.specs.Numbering.{HavePlaces, HavePermissions}
-use Rattle.cil_resolve.specs.Resolved.{element_of}
+use Rattle.cil_resolve.specs.Resolved.{element_of, declared_of, class_of}
+use Rattle.cil_resolve.specs.Resolved as numbered
+use Rattle.cil_check.specs.declared.bound.Seen.{Seen}
 use Rattle.cil_resolve.specs.declared.numbered.Element.{Element}
 use Rattle.cil_resolve.specs.declared.numbered.Element.TheVariants.{«Type»}
+use Rattle.cil_resolve.specs.declared.numbered.NumberedName.{NumberedName}
+use Rattle.cil_resolve.specs.declared.numbered.NumberedClass.{NumberedClass}
+use Rattle.cil_resolve.specs.declared.numbered.NumberedRule.{NumberedRule}
 use Rattle.cil_resolve.specs.declared.lowering.Lowering.{Lowering}
+use Rattle.cil_resolve.specs.declared.lowering.Parts.{Parts}
 
 -- the names of the modules of a joined policy
 abbrev pub modules_of : {A : Type 0} → Joined A → List (List ℕ)
@@ -53,3 +67,48 @@ pub record IsLowering {A : Type 0} (l : Lowering A) (policy : List Placed) : Typ
   pub places : HavePlaces l.numbering.now.names.items policy l.numbering.now.places.items
   pub permissions : HavePermissions l.checker.now.bound.policy.now.names l.numbering.now.names.items policy l.numbering.now.permissions.items
   pub elements : HaveElements l.numbering.now.names.items policy l.elements.now
+
+-- what is seen of one of its statements
+pub record IsIn {A : Type 0} (l : Lowering A) (seen : Seen A) (policy : List Placed) (s : Placed) : Type 0 where
+  pub lowering : IsLowering l policy
+  pub there : Contains policy s
+  pub seen_is : IsSeen seen policy s
+  pub worded : AreNumbersOf l.checker.now.bound.policy.now.names seen.words.now (names_of seen.«module».now)
+
+-- where the common of a statement leads
+abbrev pub common_in : List Placed → List (List ℕ) → Form → Option Placed
+common_in policy namespace (class_common the_class the_common) = leads policy commons namespace the_common.text
+common_in policy namespace _ = None
+
+-- the common that the first statement gives to a class that gives it one
+abbrev pub common_of : List Placed → Placed → Option Placed
+common_of policy s = option_and_then (λ t. common_in policy t.namespace t.form) (find (λ t. gives_common policy s t.namespace t.form) policy)
+
+-- a type or an attribute by numbers
+pub record IsDeclared (modules names : List (List ℕ)) (d : NumberedName) (s : Placed) : Type 0 where
+  pub is : declared_of modules names d ≡ declared_as types s
+  pub below : IsTrue (is_name_below (length names) d)
+
+-- a class
+pub record IsClass {A : Type 0} (modules names : List (List ℕ)) (c : NumberedClass A) (policy : List Placed) (s : Placed) : Type 0 where
+  pub is : class_of modules names c ≡ class_as policy s
+  pub below : IsTrue (is_class_below (length names) c)
+
+-- rules
+pub record AreRules {A : Type 0} (modules names : List (List ℕ)) (rules : List (NumberedRule A)) (are : List spec.Rule) : Type 0 where
+  pub is : map (numbered.rule_of modules names) rules ≡ are
+  pub below : IsTrue (list_all (is_rule_below (length names)) rules)
+
+-- The types, attributes, classes and rules that some statements of a policy are.
+pub record ArePartsOf {A : Type 0} (modules names : List (List ℕ)) (policy statements : List Placed) (parts : Parts A) : Type 0 where
+  pub types_are : map (declared_of modules names) parts.types.items ≡ flat_map type_if statements
+  pub types_below : IsTrue (list_all (is_name_below (length names)) parts.types.items)
+  pub attributes_are : map (declared_of modules names) parts.attributes.items ≡ flat_map attribute_if statements
+  pub attributes_below : IsTrue (list_all (is_name_below (length names)) parts.attributes.items)
+  pub classes_are : map (class_of modules names) parts.classes.items ≡ flat_map (class_if policy) statements
+  pub classes_below : IsTrue (list_all (is_class_below (length names)) parts.classes.items)
+  pub rules_are : AreRules modules names parts.rules.items (flat_map (rule_if policy) statements)
+
+-- there are no attribute sets
+abbrev pub HasNoSets : List Placed → Type 0
+HasNoSets policy = (s : Placed) → Contains policy s → IsTrue (is_plain_form s.form)

@@ -1,11 +1,19 @@
 //! What a joined policy of parsed modules resolves to.
 #![tactic(auto)]
 
+mod dropped;
+mod elements;
+mod full_names;
+mod lowered;
+mod lowering;
+mod name_set;
 mod numbered;
+mod numbering;
 mod resolved;
 mod resolver;
 mod text;
 mod views;
+mod words;
 
 pub use cil_bind::{Joined, NamedModule, join};
 pub use cil_check::{PolicyFault, PolicyFaultKind};

@@ -132,7 +132,7 @@ fn note_words<A: Allocator>(
     requires is { (all : List (List ℕ)) × (list : List Word) × AreNumbersOf all seen.now.words.now (module_names seen.now.«module».now) × (map (read (texts_of seen.now.«module».now)) words.now ≡ map Some list)
         × AllByRecursion IsOneName list × AllByRecursion (λ w. IsTrue (has_name names.now w.text)) list × (length permissions.old ≡ length all) }
     ensures long { length permissions.new ≡ length permissions.old }
-    ensures { (all before : List (List ℕ)) (list : List Word) → AreNumbersOf all seen.now.words.now (module_names seen.now.«module».now) → map (read (texts_of seen.now.«module».now)) words.now ≡ map Some list
+    ensures noted { (all before : List (List ℕ)) (list : List Word) → AreNumbersOf all seen.now.words.now (module_names seen.now.«module».now) → map (read (texts_of seen.now.«module».now)) words.now ≡ map Some list
         → AllByRecursion IsOneName list → length permissions.old ≡ length all → HavePermissionsOf all names.now before permissions.old → HavePermissionsOf all names.now (before ++ texts list) permissions.new }
 {
     for word in words {
