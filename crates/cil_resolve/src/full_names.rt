@@ -53,7 +53,8 @@ fn space_name<A: Allocator + Copy>(
         return Text::of(alloc, b"");
     };
     let word = policy.names.word(block.word).unwrap();
-    full_name(alloc, spaces, block.outer, word)
+    let name = full_name(alloc, spaces, block.outer, word)?;
+    Ok(name)
 }
 
 /// The names of the namespaces of a policy, by their numbers. More than 4294967295 are answered as out of memory.

@@ -50,7 +50,9 @@ impl<'l, 'p, 'm, A: Allocator + Copy> Lowering<'l, 'p, 'm, A> {
         requires { (policy : List Placed) × IsLowering self.now policy × (i < length policy) }
         ensures { (policy : List Placed) (s : Placed) → IsLowering self.now policy → slice_get policy i ≡ Some s → slice_index_or (modules_of self.now.checker.now.bound.joined.now) result [] ≡ s.module_name }
     {
-        self.checker.bound.policy.rows[i].module as usize
+        let bound = &self.checker.bound;
+        let policy = bound.policy;
+        policy.rows[i].module as usize
     }
 
     /// What a reference of a statement stands for, an alias for its actual type.

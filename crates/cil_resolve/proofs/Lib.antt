@@ -1,0 +1,3 @@
+pub mod NameSets
+pub mod FullNamesLemmas
+pub mod StatementLemmas
