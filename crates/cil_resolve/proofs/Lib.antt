@@ -1,3 +1,4 @@
 pub mod NameSets
 pub mod FullNamesLemmas
 pub mod StatementLemmas
+pub mod NumberLemmas

@@ -1,7 +1,7 @@
 //! The names of a policy, and their numbers.
 
-ghost use Rattle.std.specs.Prelude.{◌≡◌, ◌<◌, ◌++◌, ℕ, List, [], fold, map, length, slice_get, slice_index_or, IsTrue, Some, IfOk, OnOk};
-ghost use Rattle.std.specs.List.{AllByRecursion};
+ghost use Rattle.std.specs.Prelude.{◌≡◌, ◌<◌, ◌++◌, ℕ, List, [], fold, map, length, slice_get, slice_index_or, bytes_eq, IsTrue, Some, IfOk, OnOk};
+ghost use Rattle.std.specs.List.{AllByRecursion, IsDistinct};
 ghost use Rattle.cil_specs.specs.Names.{Word};
 ghost use Rattle.cil_specs.specs.Joined.{Placed};
 ghost use Rattle.cil_specs.specs.Lookup.{has_name, with_name, texts};
@@ -133,7 +133,7 @@ fn note_words<A: Allocator>(
         × AllByRecursion IsOneName list × AllByRecursion (λ w. IsTrue (has_name names.now w.text)) list × (length permissions.old ≡ length all) }
     ensures long { length permissions.new ≡ length permissions.old }
     ensures noted { (all before : List (List ℕ)) (list : List Word) → AreNumbersOf all seen.now.words.now (module_names seen.now.«module».now) → map (read (texts_of seen.now.«module».now)) words.now ≡ map Some list
-        → AllByRecursion IsOneName list → length permissions.old ≡ length all → HavePermissionsOf all names.now before permissions.old → HavePermissionsOf all names.now (before ++ texts list) permissions.new }
+        → IsDistinct bytes_eq all → AllByRecursion IsOneName list → length permissions.old ≡ length all → HavePermissionsOf all names.now before permissions.old → HavePermissionsOf all names.now (before ++ texts list) permissions.new }
 {
     for word in words {
         let at = seen.number(*word) as usize;
