@@ -49,3 +49,7 @@ module-named b policy i row s is at here =
     let from = row-there b policy i row is (slice_get_within policy i s at) here in
     let one : from.0 ≡ s = same_Some from.0 s (sym from.1 ∙ at) in
     mapped-at (λ m. m.name.now) b.joined.now.modules.items row.«module» from.2.m [] from.2.at ∙ from.2.named ∙ ap (λ u. u.module_name) one
+
+-- an element that stands at a place
+pub contained : {X : Type 0} (xs : List X) (i : ℕ) (x : X) → slice_get xs i ≡ Some x → Contains xs x
+contained xs i x at = (at-place xs i x at).1

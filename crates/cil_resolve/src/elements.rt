@@ -1,9 +1,9 @@
 //! What names of rules stand for.
 
-ghost use Rattle.std.specs.Prelude.{◌≡◌, ◌<◌, ℕ, List, Some, slice_get, slice_index_or, length, IfOk, IsTrue};
+ghost use Rattle.std.specs.Prelude.{◌≡◌, ◌<◌, ℕ, List, Some, slice_get, slice_index_or, length, is_some, IfOk, IsTrue};
 ghost use Rattle.cil_specs.specs.Names.{Word};
 ghost use Rattle.cil_specs.specs.Joined.{Placed};
-ghost use Rattle.cil_specs.specs.Lookup.{Table, types, leads, references};
+ghost use Rattle.cil_specs.specs.Lookup.{Table, types, leads, references, actual_statement, actual_of as actual_led};
 ghost use Rattle.cil_specs.specs.Rule.{element_at as element_led};
 ghost use Rattle.cil_bind.specs.Lookup.{IsLead, IsFirstOf};
 ghost use Rattle.cil_check.specs.Bound.{IsOf};
@@ -33,6 +33,8 @@ pub fn lead_at<A: Allocator>(bound: &BoundPolicy<'_, '_, A>, place: u32, k: usiz
 /// The place of the actual type of the alias of a place.
 fn actual_of<A: Allocator>(checker: &Checker<'_, '_, A>, alias: u32) -> Option<u32>
     requires { (policy : List Placed) × IsNoted checker.now policy }
+    ensures { (policy : List Placed) (s : Placed) → IsNoted checker.now policy → IsFaultless policy → slice_get policy alias ≡ Some s → IsFirstOf types policy alias → IsTrue (is_some (actual_statement policy s))
+        → IsLead types policy result (actual_led policy s) }
 {
     let first = checker.actuals.get(alias)?;
     lead_at(&checker.bound, first, 1)

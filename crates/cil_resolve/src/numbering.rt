@@ -124,16 +124,16 @@ fn place_numbers<A: Allocator + Copy>(
 
 /// Notes the numbers of permissions at those of their words.
 fn note_words<A: Allocator>(
-    permissions: &mut [usize],
+    permissions: &mut Vec<usize, A>,
     names: &NameSet<'_, A>,
     seen: &Seen<'_, '_, A>,
     words: &[NumberedWord],
 )
     requires is { (all : List (List ℕ)) × (list : List Word) × AreNumbersOf all seen.now.words.now (module_names seen.now.«module».now) × (map (read (texts_of seen.now.«module».now)) words.now ≡ map Some list)
-        × AllByRecursion IsOneName list × AllByRecursion (λ w. IsTrue (has_name names.now w.text)) list × (length permissions.old ≡ length all) }
-    ensures long { length permissions.new ≡ length permissions.old }
+        × AllByRecursion IsOneName list × AllByRecursion (λ w. IsTrue (has_name names.now w.text)) list × (length permissions.old.items ≡ length all) }
+    ensures long { length permissions.new.items ≡ length permissions.old.items }
     ensures noted { (all before : List (List ℕ)) (list : List Word) → AreNumbersOf all seen.now.words.now (module_names seen.now.«module».now) → map (read (texts_of seen.now.«module».now)) words.now ≡ map Some list
-        → IsDistinct bytes_eq all → AllByRecursion IsOneName list → length permissions.old ≡ length all → HavePermissionsOf all names.now before permissions.old → HavePermissionsOf all names.now (before ++ texts list) permissions.new }
+        → IsDistinct bytes_eq all → AllByRecursion IsOneName list → length permissions.old.items ≡ length all → HavePermissionsOf all names.now before permissions.old.items → HavePermissionsOf all names.now (before ++ texts list) permissions.new.items }
 {
     for word in words {
         let at = seen.number(*word) as usize;

@@ -33,14 +33,14 @@ note_words-requires g c =
           c.permissions.ensures (texts_of c.seen-seen.result.«module».now) seen.f seen.shown,
           subst (λ f. AllByRecursion IsOneName (permissions_in f)) (sym seen.form) (is.spelt s there),
           has-words c.args.names.now list (λ name has. are name ∙ named-in names_with policy s name there (own-named s name (ap (λ l. has_name (texts l) name) (sym own) ∙ has))),
-          ap length c.deref_mut.ensures.value ∙ c.loop-i.invariant.long,
+          c.loop-i.invariant.long,
         );
     }
 
 pub loop-i-preserved : goal.loop-i-preserved
 loop-i-preserved g c = elim c.if-lists_own.branch [
   | then-lists_own w ↦ record {
-      long = ap (λ v. length v.items) w.permissions-is ∙ ap length w.deref_mut.ensures.writes_back ∙ w.note_words.ensures.long ∙ ap length w.deref_mut.ensures.value ∙ c.loop-i.invariant.long;
+      long = ap (λ v. length v.items) w.permissions-is ∙ w.note_words.ensures.long ∙ c.loop-i.invariant.long;
       noted = λ policy is.
           let names = c.args.bound.now.policy.now.names in
           let i = c.loop-i.i in
@@ -54,11 +54,10 @@ loop-i-preserved g c = elim c.if-lists_own.branch [
           let all : listed_names (take i policy) ++ texts list ≡ listed_names (take (i + 1) policy) =
           ap (λ l. listed_names (take i policy) ++ texts l) own ∙ sym (flat-one (λ t. texts (own_permissions t.form)) policy i s at) in
           subst (λ some. HavePermissionsOf names c.args.names.now some c.if-lists_own.permissions.items) all
-          (subst (HavePermissionsOf names c.args.names.now (listed_names (take i policy) ++ texts list)) (sym (ap (λ v. v.items) w.permissions-is ∙ w.deref_mut.ensures.writes_back))
+          (subst (HavePermissionsOf names c.args.names.now (listed_names (take i policy) ++ texts list)) (sym (ap (λ v. v.items) w.permissions-is))
           (w.note_words.ensures.noted names (listed_names (take i policy)) list (c.seen-seen.ensures.worded policy is) (w.permissions.ensures (texts_of c.seen-seen.result.«module».now) seen.f seen.shown)
           is.bound.stands.numbered.names_distinct (subst (λ f. AllByRecursion IsOneName (permissions_in f)) (sym seen.form) (is.spelt s there))
-          (ap length w.deref_mut.ensures.value ∙ c.loop-i.invariant.long)
-          (subst (HavePermissionsOf names c.args.names.now (listed_names (take i policy))) (sym w.deref_mut.ensures.value) (c.loop-i.invariant.noted policy is))));
+          c.loop-i.invariant.long (c.loop-i.invariant.noted policy is)));
     }
   | else-lists_own w ↦ record {
       long = ap (λ v. length v.items) w.permissions-is ∙ c.loop-i.invariant.long;
