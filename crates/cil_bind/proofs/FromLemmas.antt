@@ -117,6 +117,7 @@ pub record IsThere {A : Type 0} (parsed : List (NamedModule A)) (row : Row) (d :
   pub f : FlatStatement
   pub is : slice_get (flat 0 0 0 statements) row.index ≡ Some f
   pub form : f.form ≡ s.form
+  pub place : f.at ≡ s.at
 
 pub is-there : {A : Type 0} (parsed : List (NamedModule A)) (row : Row) (d : NamedModule A) (s : Placed) → IsFrom parsed row s → d ≡ get_or parsed row.«module» d → IsThere parsed row d s
 is-there parsed row d s from here =
@@ -131,6 +132,7 @@ is-there parsed row d s from here =
       f = from.f;
       is = from.is;
       form = from.form;
+      place = from.place;
     }
 
 pub from-within : {A : Type 0} (parsed : List (NamedModule A)) (row : Row) (s : Placed) → IsFrom parsed row s → row.«module» < length parsed

@@ -1,6 +1,6 @@
 //! One numbering of words.
 
-ghost use Rattle.std.specs.Prelude.{◌≡◌, ◌++◌, ◌∷◌, ◌⊎◌, [], bytes_eq, length, slice_get, Some, IfOk};
+ghost use Rattle.std.specs.Prelude.{◌≡◌, ◌++◌, ◌∷◌, ◌⊎◌, [], bytes_eq, length, slice_get, option_map, Some, IfOk};
 ghost use Rattle.std.specs.List.{IsDistinct};
 
 use indexmap::IndexSet;
@@ -52,5 +52,12 @@ impl<'m, A: Allocator> Names<'m, A> {
         ensures { result ≡ length self.now }
     {
         self.words.len()
+    }
+
+    /// The word of a number.
+    pub fn word(&self, n: u32) -> Option<&'m [u8]>
+        ensures { option_map (λ word. word.now) result ≡ slice_get self.now n }
+    {
+        self.words.as_slice().get(n as usize).copied()
     }
 }

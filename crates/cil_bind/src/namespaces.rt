@@ -102,6 +102,20 @@ impl<A: Allocator> Namespaces<A> {
         Some(blocks[n as usize - 1].outer)
     }
 
+    /// The block that opens a namespace; none opens the global one.
+    pub fn opened_by(&self, n: u32) -> Option<Block>
+        requires { n < length self.now }
+        ensures some { IfSome result (λ b. slice_index_or self.now n [] ≡ b.word ∷ slice_index_or self.now b.outer []) }
+        ensures within { IfSome result (λ b. b.outer < n) }
+        ensures none { IfNone result (slice_index_or self.now n [] ≡ []) }
+    {
+        let blocks = self.blocks.as_slice();
+        if n == 0 {
+            return None;
+        }
+        Some(blocks[n as usize - 1])
+    }
+
     /// The namespace of a block in another one, if there is such a block.
     pub fn block(&self, outer: u32, word: u32) -> Option<u32>
         requires { outer < length self.now }

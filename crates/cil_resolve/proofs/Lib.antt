@@ -1,2 +1,10 @@
+pub mod NameSets
+pub mod FullNamesLemmas
+pub mod StatementLemmas
+pub mod NumberLemmas
+pub mod FaultlessLemmas
+pub mod ElementLemmas
+pub mod LoweringLemmas
 pub mod FaultLemmas
 pub mod JudgedLemmas
+pub mod PlainLemmas

@@ -1,9 +1,13 @@
--- Optionals that drop, by marks.
-use Rattle.std.specs.Prelude.{◌≡◌, ℕ, suc, false, Bool, List, Some, slice_get, slice_index_or, IsTrue}
+-- Marks of optionals.
+use Rattle.std.specs.Prelude.{◌≡◌, ℕ, ◌+◌, Bool, false, List, slice_get, slice_index_or, Some, IsTrue}
 use Rattle.cil_specs.specs.Statements.{is_optional}
 use Rattle.cil_specs.specs.Joined.{Placed}
 use Rattle.cil_specs.specs.Kept.{Optionals}
 
--- an optional's mark, at its place and 1 more, says whether a set has it
+-- the mark of the optional of a place
+abbrev pub mark_of : List Bool → ℕ → Bool
+mark_of kept i = slice_index_or kept (i + 1) false
+
+-- Each optional of a policy is marked where it is in the set.
 abbrev pub HaveMarks : Optionals → List Bool → List Placed → Type 0
-HaveMarks set marks policy = (k : ℕ) (s : Placed) → slice_get policy k ≡ Some s → IsTrue (is_optional s.form) → slice_index_or marks (suc k) false ≡ set s.module_name s.at.offset
+HaveMarks set kept policy = (i : ℕ) (s : Placed) → slice_get policy i ≡ Some s → IsTrue (is_optional s.form) → mark_of kept i ≡ set s.module_name s.at.offset

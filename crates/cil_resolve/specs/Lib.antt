@@ -2,5 +2,8 @@ pub mod Below
 pub mod Resolved
 pub mod Views
 pub mod Modules
-pub mod Judged
+pub mod FullNames
+pub mod Numbering
+pub mod Lowering
 pub mod Dropped
+pub mod Judged

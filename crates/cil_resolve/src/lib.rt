@@ -2,14 +2,20 @@
 #![tactic(auto)]
 
 mod dropped;
+mod elements;
+mod full_names;
 mod judged;
 mod laws;
+mod lowered;
 mod lowering;
+mod name_set;
 mod numbered;
+mod numbering;
 mod resolved;
 mod resolver;
 mod text;
 mod views;
+mod words;
 
 pub use cil_bind::{Joined, NamedModule, join};
 pub use cil_check::{PolicyFault, PolicyFaultKind};

@@ -14,7 +14,7 @@ ghost use Rattle.cil_resolve.specs.Modules.{AreKeptOf};
 ghost use Rattle.cil_resolve.specs.Resolved.{meaning_in};
 
 use crate::judged::Judged;
-use crate::lowering::lowered;
+use crate::lowered::lowered;
 use crate::resolved::Resolved;
 use cil_bind::{Joined, Policy};
 use cil_check::{BoundPolicy, Checker, PolicyFault};

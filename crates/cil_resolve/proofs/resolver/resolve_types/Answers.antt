@@ -8,6 +8,7 @@ use Rattle.cil_check.specs.Ordered.{IsFaultIn}
 use Rattle.cil_resolve.specs.Resolved.{meaning_in}
 use Rattle.cil_resolve.proofs.FaultLemmas.{fault-weaker, found-weaker}
 use Rattle.cil_resolve.proofs.JudgedLemmas.{judged-in-order, judged-first, judged-attribute, first-refused, kept-means}
+use Rattle.cil_resolve.proofs.PlainLemmas.{kept-plain}
 use Rattle.cil_resolve.proofs.resolver.resolve_types.Goals as goal
 
 pub returns-in_err-policy-clause-err : goal.returns-in_err-policy-clause-err
@@ -70,6 +71,6 @@ returns-clause-meaning g c = λ modules are.
     (
       is.kept,
       kept-means (joined modules) parsed c.in_ok-checker.checker.bound.joined.now.modules.items c.in_ok-policy.field-0 is (meaning_in c.in_ok-lowered.field-0) (ap (λ j. j.modules.items) c.in_ok-checker.ensures.joined) faultless
-      (c.in_ok-lowered.ensures kept (c.in_ok-checker.ensures.noted kept order) faultless),
+      (c.in_ok-lowered.ensures kept (c.in_ok-checker.ensures.noted kept order) faultless (kept-plain is.kept modules are.sound)),
       c.in_ok-check_attributes.ensures.ok kept (c.in_ok-checker.ensures.noted kept order).is,
     )

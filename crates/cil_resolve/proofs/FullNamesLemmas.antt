@@ -1,0 +1,115 @@
+-- The names of namespaces, and the full names of what statements declare.
+use Rattle.std.proofs.Common.{◌≡◌, ℕ, ◌+◌, ◌<◌, ◌≤◌, zero, suc, Bool, true, false, List, [], ◌∷◌, ◌++◌, length, get_or, take, map, slice_get, Option, Some, None, is_some, option_map, refl, sym, ap, ◌∙◌, subst, true≢false, arith, length-take-le}
+use Rattle.std.specs.List.{AllByRecursion}
+use Rattle.std.proofs.lemmas.List.{length-map, take_all, take_more, map-append, get_or-map, get_or-take}
+use Rattle.std.proofs.lemmas.Option.{none-some, same_Some, slice_get-get_or, get_or_from_slice_get, slice_get_within}
+use Rattle.cil_specs.specs.Names.{Word}
+use Rattle.cil_specs.specs.Joined.{Placed}
+use Rattle.cil_specs.specs.Statements.{Form, block, optional, type_name, type_alias, alias_actual, type_attribute, attribute_set, common, class, class_common, class_order, rule, itself, the_named}
+use Rattle.cil_specs.specs.Lookup.{full_name}
+use Rattle.cil_parse.specs.Forms.{kind_of, words_in}
+use Rattle.cil_bind.specs.Lookup.{word_at, named, namespace_at}
+use Rattle.cil_bind.specs.Rows.{IsRow, AreNumbered}
+use Rattle.cil_bind.specs.declared.namespaces.Block.{Block}
+use Rattle.cil_bind.proofs.NamespaceLemmas.{distinct-place}
+use Rattle.cil_bind.proofs.FromLemmas.{all-get}
+use Rattle.std.specs.Borrow.{Bor}
+use Rattle.cil_bind.specs.declared.rows.Row.{Row}
+use Rattle.cil_check.specs.Bound.{Reads}
+use Rattle.cil_check.specs.declared.bound.Seen.{Seen}
+use Rattle.cil_resolve.specs.FullNames.{space_text, name_in, numbered_id, is_numbered, is_numbered_kind, full_name_or, full_name_of}
+
+-- the name of a namespace, by the numbers of its blocks' words
+abbrev pub space_name_of : List (List ℕ) → List ℕ → List ℕ
+space_name_of names space = space_text (named names space)
+
+-- a name by the names of namespaces, the first of which is the global one and no other
+pub name_in-spaces : (names spaces : List (List ℕ)) (texts : List (List ℕ)) (n : ℕ) (name : List ℕ) → get_or spaces 0 [] ≡ [] → ((m : ℕ) → suc m < length spaces → (get_or spaces (suc m) [] ≡ []) → ⊥)
+    → n < length spaces → n < length texts → ((m : ℕ) → m < length texts → get_or texts m [] ≡ space_name_of names (get_or spaces m []))
+    → name_in texts n name ≡ full_name (namespace_at names spaces n) name
+name_in-spaces names spaces texts zero name root inner within low each = ap (λ s. full_name (named names s) name) (sym root)
+name_in-spaces names spaces texts (suc n) name root inner within low each =
+    ap (λ text. text ++ 46 ∷ name) (each (suc n) low) ∙ by (get_or spaces (suc n) []) (inner n within)
+  where
+    by : (s : List ℕ) → ((s ≡ []) → ⊥) → space_name_of names s ++ 46 ∷ name ≡ full_name (named names s) name
+    by [] never = absurd (never refl)
+    by (w ∷ s) never = refl
+
+-- the names of the first namespaces, one by one
+pub each-name : (names spaces texts : List (List ℕ)) (n : ℕ) → n ≤ length spaces → texts ≡ map (space_name_of names) (take n spaces)
+    → (length texts ≡ n) × ((m : ℕ) → m < length texts → get_or texts m [] ≡ space_name_of names (get_or spaces m []))
+each-name names spaces texts n few is =
+    let long : length texts ≡ n = ap length is ∙ length-map (take n spaces) (space_name_of names) ∙ length-take-le n spaces few in
+    (long, λ m low.
+        let below : m < n = omega (arith, low, long) in
+        let taken = length-take-le n spaces few in
+        ap (λ l. get_or l m []) is ∙ get_or-map (space_name_of names) (take n spaces) m [] [] (omega (arith, below, taken)) ∙ ap (space_name_of names) (get_or-take n spaces m [] below))
+
+module _ (names spaces : List (List ℕ)) (numbered : AreNumbered names spaces) (root : get_or spaces 0 [] ≡ []) where
+  -- no other namespace is the global one
+  inner : (m : ℕ) → suc m < length spaces → (get_or spaces (suc m) [] ≡ []) → ⊥
+  inner m low e = let same : suc m ≡ 0 = distinct-place spaces (suc m) 0 numbered.spaces_distinct low (omega (arith, low)) (e ∙ sym root) in omega (arith, same)
+
+  -- the words of a namespace have numbers
+  pub word-within : (n : ℕ) (b : Block) → n < length spaces → get_or spaces n [] ≡ b.word ∷ get_or spaces b.outer [] → b.word < length names
+  word-within n b low opened =
+      (subst (AllByRecursion (λ w. w < length names)) opened (all-get (AllByRecursion (λ w. w < length names)) spaces n (get_or spaces n []) numbered.within (slice_get-get_or spaces n [] low))).0
+
+  -- the name of the namespace that a block opens
+  pub space-named : (texts : List (List ℕ)) (n : ℕ) (b : Block) (w t : List ℕ) → n < length spaces → texts ≡ map (space_name_of names) (take n spaces) → get_or spaces n [] ≡ b.word ∷ get_or spaces b.outer [] → b.outer < n
+      → w ≡ word_at names b.word → t ≡ name_in texts b.outer w → t ≡ space_name_of names (get_or spaces n [])
+  space-named texts n b w t low in_front opened outer word is =
+      let (long, each) = each-name names spaces texts n (omega (arith, low)) in_front in
+      is ∙ name_in-spaces names spaces texts b.outer w root inner (omega (arith, low, outer)) (omega (arith, outer, long)) each
+      ∙ ap (full_name (namespace_at names spaces b.outer)) word ∙ ap (space_name_of names) (sym opened)
+
+  -- a name in the namespace of a statement
+  pub name-here : (texts : List (List ℕ)) (row : Row) (s : Placed) (name : List ℕ) → texts ≡ map (space_name_of names) spaces → IsRow names spaces row s → name_in texts row.namespace name ≡ full_name s.namespace name
+  name-here texts row s name is is_row =
+      let (long, each) = each-name names spaces texts (length spaces) (omega arith) (is ∙ ap (map (space_name_of names)) (sym (take_all (length spaces) spaces (omega arith)))) in
+      let low = is_row.within in
+      name_in-spaces names spaces texts row.namespace name root inner low (omega (arith, low, long)) each ∙ ap (λ l. full_name l name) is_row.here
+
+-- a word by its number
+pub word-some : (names : List (List ℕ)) (n : ℕ) (o : Option (Bor (List ℕ))) → option_map (λ w. w.now) o ≡ slice_get names n → n < length names → is_some o ≡ true
+word-some names n None is low = absurd (none-some (get_or names n []) (is ∙ slice_get-get_or names n [] low))
+word-some names n (Some w) is low = refl
+
+pub word-is : (names : List (List ℕ)) (n : ℕ) (o : Option (Bor (List ℕ))) (w : Bor (List ℕ)) → option_map (λ w. w.now) o ≡ slice_get names n → o ≡ Some w → w.now ≡ word_at names n
+word-is names n o w is some = sym (get_or_from_slice_get names n w.now [] (sym is ∙ ap (option_map (λ v. v.now)) some))
+
+-- the name that a statement declares is its first word
+pub numbered-first : (form : Form) → is_numbered_kind (kind_of form) ≡ true → (id : Word) × (numbered_id form ≡ Some id) × (slice_get (words_in form) 0 ≡ Some id)
+numbered-first (type_name id) e = (id, refl, refl)
+numbered-first (type_attribute id) e = (id, refl, refl)
+numbered-first (class id permissions) e = (id, refl, refl)
+numbered-first (block id) e = absurd (true≢false (sym e))
+numbered-first (optional id) e = absurd (true≢false (sym e))
+numbered-first (type_alias id) e = absurd (true≢false (sym e))
+numbered-first (alias_actual alias actual) e = absurd (true≢false (sym e))
+numbered-first (attribute_set attribute expr) e = absurd (true≢false (sym e))
+numbered-first (common id permissions) e = absurd (true≢false (sym e))
+numbered-first (class_common the_class the_common) e = absurd (true≢false (sym e))
+numbered-first (class_order the_classes) e = absurd (true≢false (sym e))
+numbered-first (rule kind source itself the_class permissions) e = absurd (true≢false (sym e))
+numbered-first (rule kind source (the_named word) the_class permissions) e = absurd (true≢false (sym e))
+
+pub kind-numbered : (form : Form) → is_numbered_kind (kind_of form) ≡ is_numbered form
+kind-numbered (block id) = refl
+kind-numbered (optional id) = refl
+kind-numbered (type_name id) = refl
+kind-numbered (type_alias id) = refl
+kind-numbered (alias_actual alias actual) = refl
+kind-numbered (type_attribute id) = refl
+kind-numbered (attribute_set attribute expr) = refl
+kind-numbered (common id permissions) = refl
+kind-numbered (class id permissions) = refl
+kind-numbered (class_common the_class the_common) = refl
+kind-numbered (class_order the_classes) = refl
+kind-numbered (rule kind source itself the_class permissions) = refl
+kind-numbered (rule kind source (the_named word) the_class permissions) = refl
+
+-- nothing is read where there is no word
+pub reads-absent : {A : Type 0} (seen : Seen A) (o : Option Word) → Reads seen None o → o ≡ None
+reads-absent seen None reads = refl
+reads-absent seen (Some w) reads = absurd (none-some (Some w) reads)

@@ -1,0 +1,71 @@
+-- What statements of a policy without faults mean, by numbers.
+use Rattle.std.proofs.Common.{◌≡◌, ℕ, ◌<◌, zero, suc, Bool, true, false, not, ◌&&◌, List, [], ◌∷◌, ◌++◌, length, get_or, slice_get, Contains, Option, Some, None, is_some, refl, sym, ap, ◌∙◌, subst, true≢false}
+use Rattle.std.specs.Option.{unwrap_or}
+use Rattle.std.proofs.lemmas.Option.{none-some, same_Some}
+use Rattle.cil_specs.specs.Names.{Word}
+use Rattle.cil_specs.specs.Joined.{Placed}
+use Rattle.cil_specs.specs.Lookup.{Table, types, classes, leads, references, declared_in, declared_name, actual_statement, is_alias}
+use Rattle.cil_specs.specs.PolicyFault.{element_words}
+use Rattle.cil_specs.specs.Rule.{element_of, element_or_none, class_name, name_or_none}
+use Rattle.cil_specs.specs.Statements.{Form, block, optional, type_name, type_alias, alias_actual, type_attribute, attribute_set, common, class, class_common, class_order, rule}
+use Rattle.cil_check.specs.Ordered.{IsFaultless}
+use Rattle.cil_bind.specs.Lookup.{IsLead, IsFirstOf}
+use Rattle.cil_resolve.specs.FullNames.{numbered_id, is_numbered, full_name_of}
+use Rattle.cil_resolve.specs.Lowering.{IsElement, HaveElements, is_set}
+use Rattle.cil_resolve.specs.Numbering.{number_in, HavePlaces}
+use Rattle.cil_resolve.specs.declared.numbered.Element.{Element}
+use Rattle.cil_resolve.specs.declared.numbered.Element.TheVariants as elements
+use Rattle.cil_resolve.proofs.ElementLemmas.{first-declares, full-name-in}
+use Rattle.cil_resolve.proofs.FaultlessLemmas.{word-found, alias-set}
+
+-- where a look-up that leads somewhere was found
+pub record IsFound (table : Table) (policy : List Placed) (found : Option ℕ) (lead : Option Placed) : Type 0 where
+  pub t : Placed
+  pub lead_is : lead ≡ Some t
+  pub at : slice_get policy (unwrap_or found 0) ≡ Some t
+  pub first : IsFirstOf table policy (unwrap_or found 0)
+
+pub found-at : (table : Table) (policy : List Placed) (found : Option ℕ) (lead : Option Placed) → IsLead table policy found lead → is_some lead ≡ true → IsFound table policy found lead
+found-at table policy None lead leads some = absurd (true≢false (sym some ∙ ap is_some (sym leads.is)))
+found-at table policy (Some i) None leads some = absurd (true≢false (sym some))
+found-at table policy (Some i) (Some t) leads some = record { t = t; lead_is = refl; at = leads.is; first = leads.first }
+
+-- what declares a class is one
+class-declares : (form : Form) → is_some (declared_in classes form) ≡ true → (id : Word) × (declared_in classes form ≡ Some id) × (numbered_id form ≡ Some id)
+class-declares (class id permissions) e = (id, refl, refl)
+class-declares (block id) e = absurd (true≢false (sym e))
+class-declares (optional id) e = absurd (true≢false (sym e))
+class-declares (type_name id) e = absurd (true≢false (sym e))
+class-declares (type_alias id) e = absurd (true≢false (sym e))
+class-declares (alias_actual alias actual) e = absurd (true≢false (sym e))
+class-declares (type_attribute id) e = absurd (true≢false (sym e))
+class-declares (attribute_set attribute expr) e = absurd (true≢false (sym e))
+class-declares (common id permissions) e = absurd (true≢false (sym e))
+class-declares (class_common the_class the_common) e = absurd (true≢false (sym e))
+class-declares (class_order the_classes) e = absurd (true≢false (sym e))
+class-declares (rule kind source target the_class permissions) e = absurd (true≢false (sym e))
+
+module _ (policy : List Placed) (faultless : IsFaultless policy) (s : Placed) (there : Contains policy s) where
+  -- a word of a rule stands for what was noted where it leads
+  pub element-led : (names : List (List ℕ)) (made : List Element) (word : Word) (found : Option ℕ) → HaveElements names policy made → Contains (references s.form) (types, word) → Contains (element_words s.form) word
+      → IsLead types policy found (leads policy types s.namespace word.text) → IsElement names (get_or made (unwrap_or found 0) (elements.«Type» 0)) (element_of policy s.namespace word)
+  element-led names made word found have refers names_it lead =
+      let a = found-at types policy found (leads policy types s.namespace word.text) lead (word-found policy faultless s there types word refers) in
+      let set : is_set policy a.t ≡ true = by (is_alias a.t.form) refl (alias-set policy faultless s there word names_it a.t a.lead_is) in
+      subst (λ o. IsElement names (get_or made (unwrap_or found 0) (elements.«Type» 0)) (element_or_none policy o)) (sym a.lead_is) (have (unwrap_or found 0) a.t a.at a.first set)
+    where
+      by : {t : Placed} (b : Bool) → is_alias t.form ≡ b → (is_alias t.form ≡ true → is_some (actual_statement policy t) ≡ true) → is_set policy t ≡ true
+      by {t} true e some = ap (λ b. not (is_alias t.form && not b)) (some e) ∙ never (is_alias t.form)
+        where
+          never : (b : Bool) → not (b && false) ≡ true
+          never true = refl
+          never false = refl
+      by {t} false e some = ap (λ b. not (b && not (is_some (actual_statement policy t)))) e
+
+  -- a class has the number that stands where its name leads
+  pub class-led : (names : List (List ℕ)) (places : List ℕ) (word : Word) (found : Option ℕ) → HavePlaces names policy places → Contains (references s.form) (classes, word)
+      → IsLead classes policy found (leads policy classes s.namespace word.text) → number_in names (class_name policy s.namespace word) ≡ Some (get_or places (unwrap_or found 0) 0)
+  class-led names places word found have refers lead =
+      let a = found-at classes policy found (leads policy classes s.namespace word.text) lead (word-found policy faultless s there classes word refers) in
+      let (id, declared, numbered) = class-declares a.t.form (first-declares classes policy (unwrap_or found 0) a.t a.at a.first) in
+      ap (λ o. number_in names (name_or_none classes o)) a.lead_is ∙ ap (number_in names) (sym (full-name-in classes a.t id numbered declared)) ∙ have (unwrap_or found 0) a.t a.at (ap is_some numbered)

@@ -1,0 +1,176 @@
+-- Names, and their numbers.
+use Rattle.std.proofs.Common.{◌≡◌, ◌⊎◌, inl, inr, set, append_assoc, ℕ, ◌+◌, ◌<◌, ◌==◌, zero, suc, Bool, true, false, ◌&&◌, ◌||◌, nat_lt, List, [], ◌∷◌, ◌++◌, length, get_or, take, map, flat_map, fold, slice_get, Contains, Option, Some, None, bytes_eq, refl, sym, ap, ◌∙◌, subst, true≢false, arith, eqb-true, eq-eqb, if◌then◌else◌}
+use Rattle.std.specs.List.{list_all, list_any, AllByRecursion, IsDistinct}
+use Rattle.std.proofs.Math.Bool.{or-false}
+use Rattle.std.proofs.lemmas.Bool.{cases_order}
+use Rattle.std.proofs.lemmas.List.{get_or_append_left, get_or_push, get_or-set_same, get_or-set_other}
+use Rattle.cil_bind.proofs.NamespaceLemmas.{distinct-place}
+use Rattle.std.proofs.lemmas.Bool.{lt-ltb}
+use Rattle.std.proofs.lemmas.Option.{none-some, same_Some, slice_get_within, get_or_from_slice_get}
+use Rattle.std.proofs.lemmas.List.Folds.{list_any-append}
+use Rattle.std.proofs.lemmas.List.Sums.{fold-append}
+use Rattle.std.proofs.lemmas.List.Quantifiers.{position-Some}
+use Rattle.std.proofs.lemmas.Slice.Eq.{bytes_eq-Decides}
+use Rattle.std.proofs.lemmas.Grind.{flat_map-append}
+use Rattle.cil_specs.specs.Names.{Word}
+use Rattle.cil_specs.specs.Joined.{Placed}
+use Rattle.cil_specs.specs.Lookup.{has_name, with_name, distinct, texts, own_permissions}
+use Rattle.cil_specs.proofs.Runs.{both_true}
+use Rattle.cil_specs.proofs.NamesLemmas.{around}
+use Rattle.cil_check.proofs.FirstsLemmas.{same_bytes}
+use Rattle.cil_check.proofs.WordLemmas.{has-distinct}
+use Rattle.cil_resolve.specs.FullNames.{is_numbered, full_name_of}
+use Rattle.cil_resolve.specs.Numbering.{names_with, names_of, AreNamesOf, listed_names, number_in, AreNumbersIn, HavePermissionsOf}
+use Rattle.cil_resolve.proofs.StatementLemmas.{map-one}
+
+-- the name of a number
+pub number-is : (names : List (List ℕ)) (name : List ℕ) (n : ℕ) → number_in names name ≡ Some n → (n < length names) × (get_or names n [] ≡ name)
+number-is names name n is = let at = position-Some (bytes_eq name) names n [] is in (at.0, sym (same_bytes name (get_or names n []) at.1))
+
+-- the names of numbers
+pub numbers-are : (names some : List (List ℕ)) (numbers : List ℕ) → AreNumbersIn names some numbers → map (λ n. get_or names n []) numbers ≡ some
+numbers-are names [] [] are = refl
+numbers-are names [] (n ∷ numbers) are = cc
+numbers-are names (x ∷ some) [] are = cc
+numbers-are names (x ∷ some) (n ∷ numbers) are =
+    let first : Some n ≡ number_in names x = cc in
+    let rest : map {B = Option ℕ} Some numbers ≡ map (number_in names) some = cc in
+    let head = (number-is names x n (sym first)).1 in
+    let more = numbers-are names some numbers rest in
+    λ j. head j ∷ more j
+
+pub numbers-below : (names some : List (List ℕ)) (numbers : List ℕ) → AreNumbersIn names some numbers → list_all (λ n. nat_lt n (length names)) numbers ≡ true
+numbers-below names [] [] are = refl
+numbers-below names [] (n ∷ numbers) are = cc
+numbers-below names (x ∷ some) [] are = cc
+numbers-below names (x ∷ some) (n ∷ numbers) are =
+    let first : Some n ≡ number_in names x = cc in
+    let rest : map {B = Option ℕ} Some numbers ≡ map (number_in names) some = cc in
+    both_true (nat_lt n (length names)) (list_all (λ m. nat_lt m (length names)) numbers) (lt-ltb n (length names) (number-is names x n (sym first)).0) (numbers-below names some numbers rest)
+
+-- a number is among others if its name is among theirs
+pub number-among : (names some : List (List ℕ)) (numbers : List ℕ) (x : List ℕ) (n : ℕ) → AreNumbersIn names some numbers → number_in names x ≡ Some n → list_any (λ k. n == k) numbers ≡ has_name some x
+number-among names [] [] x n are is = refl
+number-among names [] (k ∷ numbers) x n are is = cc
+number-among names (y ∷ some) [] x n are is = cc
+number-among names (y ∷ some) (k ∷ numbers) x n are is =
+    let first : Some k ≡ number_in names y = cc in
+    let rest : map {B = Option ℕ} Some numbers ≡ map (number_in names) some = cc in
+    ap (λ b. b || list_any (λ m. n == m) numbers) (by (n == k) (bytes_eq x y) refl refl (sym first)) ∙ ap (λ b. bytes_eq x y || b) (number-among names some numbers x n rest is)
+  where
+    by : (b d : Bool) → (n == k) ≡ b → bytes_eq x y ≡ d → number_in names y ≡ Some k → (n == k) ≡ bytes_eq x y
+    by true true e f here = e ∙ sym f
+    by false false e f here = e ∙ sym f
+    by true false e f here =
+        absurd (true≢false (sym ((bytes_eq-Decides x y).1 (sym (number-is names x n is).1 ∙ ap (λ m. get_or names m []) (eqb-true n k e) ∙ (number-is names y k here).1)) ∙ f))
+    by false true e f here = absurd (true≢false (sym (eq-eqb n k (same_Some n k (sym is ∙ ap (number_in names) (same_bytes x y f) ∙ here))) ∙ e))
+
+-- with one more
+numbers-push : (names some : List (List ℕ)) (numbers : List ℕ) (x : List ℕ) (n : ℕ) → AreNumbersIn names some numbers → number_in names x ≡ Some n → AreNumbersIn names (some ++ x ∷ []) (numbers ++ n ∷ [])
+numbers-push names some numbers x n are is = map-last (λ m. Some m) numbers n ∙ (λ j. are j ++ sym is j ∷ []) ∙ sym (map-last (number_in names) some x)
+  where
+    map-last : {X Y : Type 0} (f : X → Y) (xs : List X) (z : X) → map f (xs ++ z ∷ []) ≡ map f xs ++ f z ∷ []
+    map-last f [] z = refl
+    map-last f (y ∷ xs) z = ap (λ l. f y ∷ l) (map-last f xs z)
+
+-- with one more, if it is new
+pub numbers-with : (names some : List (List ℕ)) (numbers : List ℕ) (x : List ℕ) (n : ℕ) → AreNumbersIn names some numbers → number_in names x ≡ Some n
+    → AreNumbersIn names (with_name some x) (if list_any (λ k. n == k) numbers then numbers else numbers ++ n ∷ [])
+numbers-with names some numbers x n are is = by (list_any (λ k. n == k) numbers) (number-among names some numbers x n are is)
+  where
+    by : (b : Bool) → b ≡ has_name some x → AreNumbersIn names (with_name some x) (if b then numbers else numbers ++ n ∷ [])
+    by true e = subst (λ b. AreNumbersIn names (if b then some else some ++ x ∷ []) numbers) e are
+    by false e = subst (λ b. AreNumbersIn names (if b then some else some ++ x ∷ []) (numbers ++ n ∷ [])) e (numbers-push names some numbers x n are is)
+
+-- one word more of some
+pub words-fold : (old : List (List ℕ)) (list : List Word) (i : ℕ) (w : Word) → slice_get list i ≡ Some w → fold with_name old (texts (take (i + 1) list)) ≡ with_name (fold with_name old (texts (take i list))) w.text
+words-fold old list i w at = ap (fold with_name old) (map-one (λ v. v.text) list i w at) ∙ fold-append with_name old (texts (take i list)) (w.text ∷ [])
+
+-- names that are put in one after the other, and then in order
+pub names-sorted : (policy : List Placed) (names sorted : List (List ℕ)) → names ≡ distinct (names_of policy) → ((name : List ℕ) → has_name sorted name ≡ has_name names name) → AreNamesOf policy sorted
+names-sorted policy names sorted is same name = same name ∙ ap (λ l. has_name l name) is ∙ has-distinct (names_of policy) name
+
+or-true : (b : Bool) → (b || true) ≡ true
+or-true true = refl
+or-true false = refl
+
+-- a name of one of the statements
+pub named-in : (f : Placed → List (List ℕ)) (policy : List Placed) (s : Placed) (name : List ℕ) → Contains policy s → has_name (f s) name ≡ true → has_name (flat_map f policy) name ≡ true
+named-in f policy s name there has =
+    let a = around policy s there in
+    ap (λ l. has_name (flat_map f l) name) a.whole ∙ ap (λ l. has_name l name) (flat_map-append f a.before (s ∷ a.after))
+    ∙ list_any-append (bytes_eq name) (flat_map f a.before) (f s ++ flat_map f a.after)
+    ∙ ap (λ b. has_name (flat_map f a.before) name || b) (list_any-append (bytes_eq name) (f s) (flat_map f a.after) ∙ ap (λ b. b || has_name (flat_map f a.after) name) has)
+    ∙ or-true (has_name (flat_map f a.before) name)
+
+bytes_eq-refl : (xs : List ℕ) → bytes_eq xs xs ≡ true
+bytes_eq-refl xs = (bytes_eq-Decides xs xs).1 refl
+
+-- the full name that a statement brings
+pub full-named : (s : Placed) → is_numbered s.form ≡ true → has_name (names_with s) (full_name_of s) ≡ true
+full-named s e =
+    ap (λ b. has_name ((if b then full_name_of s ∷ [] else []) ++ texts (own_permissions s.form)) (full_name_of s)) e ∙ ap (λ b. b || has_name (texts (own_permissions s.form)) (full_name_of s)) (bytes_eq-refl (full_name_of s))
+
+-- and the permissions that it lists
+pub own-named : (s : Placed) (name : List ℕ) → has_name (texts (own_permissions s.form)) name ≡ true → has_name (names_with s) name ≡ true
+own-named s name has =
+    list_any-append (bytes_eq name) (if is_numbered s.form then full_name_of s ∷ [] else []) (texts (own_permissions s.form))
+    ∙ ap (λ b. has_name (if is_numbered s.form then full_name_of s ∷ [] else []) name || b) has ∙ or-true (has_name (if is_numbered s.form then full_name_of s ∷ [] else []) name)
+
+-- the names of a policy have those of its permissions
+pub has-words : (names : List (List ℕ)) (words : List Word) → ((name : List ℕ) → has_name (texts words) name ≡ true → has_name names name ≡ true) → AllByRecursion (λ w. has_name names w.text ≡ true) words
+has-words names [] each = tt
+has-words names (w ∷ words) each =
+    (each w.text (ap (λ b. b || has_name (texts words) w.text) (bytes_eq-refl w.text)), has-words names words (λ name has. each name (ap (λ b. bytes_eq name w.text || b) has ∙ or-true (bytes_eq name w.text))))
+
+-- a word more
+has-last : (before : List (List ℕ)) (list : List Word) (i : ℕ) (w : Word) (name : List ℕ) → slice_get list i ≡ Some w
+    → has_name (before ++ texts (take (i + 1) list)) name ≡ (has_name (before ++ texts (take i list)) name || bytes_eq name w.text)
+has-last before list i w name at =
+    ap (λ l. has_name (before ++ l) name) (map-one (λ v. v.text) list i w at) ∙ ap (λ l. has_name l name) (sym (append_assoc before (texts (take i list)) (w.text ∷ [])))
+    ∙ list_any-append (bytes_eq name) (before ++ texts (take i list)) (w.text ∷ []) ∙ ap (λ b. has_name (before ++ texts (take i list)) name || b) (or-false (bytes_eq name w.text))
+
+-- the number of one more permission is noted
+pub note-next : (all names before : List (List ℕ)) (list : List Word) (i : ℕ) (w : Word) (m v : ℕ) (old : List ℕ) → IsDistinct bytes_eq all → length old ≡ length all → slice_get list i ≡ Some w → slice_get all m ≡ Some w.text
+    → number_in names w.text ≡ Some v → HavePermissionsOf all names (before ++ texts (take i list)) old → HavePermissionsOf all names (before ++ texts (take (i + 1) list)) (set old m v)
+note-next all names before list i w m v old unique long at here is so_far n name there has = by (cases_order n m)
+  where
+    low : m < length old
+    low = let l = slice_get_within all m w.text here in omega (arith, l, long)
+
+    same : n ≡ m → number_in names name ≡ Some (get_or (set old m v) n 0)
+    same e =
+        ap (number_in names) (same_Some name w.text (sym there ∙ ap (slice_get all) e ∙ here)) ∙ is
+        ∙ ap Some (sym (ap (λ k. get_or (set old m v) k 0) e ∙ get_or-set_same old m v 0 low))
+
+    other : ((n ≡ m) → ⊥) → number_in names name ≡ Some (get_or (set old m v) n 0)
+    other apart = before-it (bytes_eq name w.text) refl (sym (has-last before list i w name at) ∙ has)
+      where
+        before-it : (b : Bool) → bytes_eq name w.text ≡ b → (has_name (before ++ texts (take i list)) name || bytes_eq name w.text) ≡ true → number_in names name ≡ Some (get_or (set old m v) n 0)
+        before-it true e any =
+            absurd (apart (distinct-place all n m unique (slice_get_within all n name there) (slice_get_within all m w.text here)
+            (get_or_from_slice_get all n name [] there ∙ same_bytes name w.text e ∙ sym (get_or_from_slice_get all m w.text [] here))))
+        before-it false e any =
+            so_far n name there (sym (or-false (has_name (before ++ texts (take i list)) name)) ∙ ap (λ b. has_name (before ++ texts (take i list)) name || b) (sym e) ∙ any)
+            ∙ ap Some (sym (get_or-set_other old m n v 0 apart))
+
+    by : (n ≡ m) ⊎ ((n < m) ⊎ (m < n)) → number_in names name ≡ Some (get_or (set old m v) n 0)
+    by (inl e) = same e
+    by (inr (inl less)) = other (λ e. omega (arith, less, e))
+    by (inr (inr more)) = other (λ e. omega (arith, more, e))
+
+-- the numbers of full names, for the first places
+abbrev pub HavePlacesBelow : List (List ℕ) → List Placed → ℕ → List ℕ → Type 0
+HavePlacesBelow names policy i places = (k : ℕ) (s : Placed) → k < i → slice_get policy k ≡ Some s → is_numbered s.form ≡ true → number_in names (full_name_of s) ≡ Some (get_or places k 0)
+
+-- that of one more
+pub place-next : (names : List (List ℕ)) (policy : List Placed) (i v : ℕ) (s : Placed) (old : List ℕ) → length old ≡ i → slice_get policy i ≡ Some s
+    → (is_numbered s.form ≡ true → number_in names (full_name_of s) ≡ Some v) → HavePlacesBelow names policy i old → HavePlacesBelow names policy (i + 1) (old ++ v ∷ [])
+place-next names policy i v s old long at is so_far k t low there numbered = by (cases_order k i)
+  where
+    by : (k ≡ i) ⊎ ((k < i) ⊎ (i < k)) → number_in names (full_name_of t) ≡ Some (get_or (old ++ v ∷ []) k 0)
+    by (inl e) =
+        let one : t ≡ s = same_Some t s (sym there ∙ ap (slice_get policy) e ∙ at) in
+        ap (λ u. number_in names (full_name_of u)) one ∙ is (ap (λ u. is_numbered u.form) (sym one) ∙ numbered) ∙ ap Some (sym (ap (λ n. get_or (old ++ v ∷ []) n 0) e ∙ get_or_push old v 0 i long))
+    by (inr (inl less)) = so_far k t less there numbered ∙ ap Some (sym (get_or_append_left old (v ∷ []) 0 k (omega (arith, less, long))))
+    by (inr (inr more)) = absurd (omega (arith, more, low))

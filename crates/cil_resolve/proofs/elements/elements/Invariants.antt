@@ -1,0 +1,13 @@
+use Rattle.std.proofs.Common.{◌≡◌, ◌<◌, ℕ, List, length, slice_get, Some, get_or, IsTrue}
+use Rattle.cil_specs.specs.Joined.{Placed}
+use Rattle.cil_check.specs.Checker.{IsNoted}
+use Rattle.cil_check.specs.Ordered.{IsFaultless}
+use Rattle.cil_resolve.specs.Numbering.{HavePlaces}
+use Rattle.cil_resolve.proofs.ElementLemmas.{HaveElementsBelow}
+use Rattle.cil_resolve.proofs.elements.elements.Given as goal
+
+abbrev pub invariant-loop-i : goal.invariant-loop-i
+invariant-loop-i g l = record {
+  long : length l.elements.items ≡ l.i;
+  made : (names : List (List ℕ)) (policy : List Placed) → IsNoted l.checker policy → IsFaultless policy → HavePlaces names policy l.places → HaveElementsBelow names policy l.i l.elements.items;
+}

@@ -1,0 +1,11 @@
+use Rattle.std.proofs.Common.{◌≡◌, ◌≤◌, length, get_or, None, Option, ℕ, sym, ap, subst, arith}
+use Rattle.std.proofs.lemmas.Option.{slice_get_within}
+use Rattle.cil_specs.specs.Lookup.{leads}
+use Rattle.cil_bind.specs.Lookup.{IsLead}
+use Rattle.cil_check.proofs.SeenLemmas.{seen-lead}
+use Rattle.cil_resolve.proofs.elements.lead_at.Goals as goal
+
+pub returns : goal.returns
+returns g c policy s table word is at refers =
+    subst (λ o. IsLead table policy o (leads policy table s.namespace word.text)) (sym c.lead.ensures)
+    (seen-lead c.seen.result policy s c.args.k table word (c.seen.ensures.seen policy s is at) refers)

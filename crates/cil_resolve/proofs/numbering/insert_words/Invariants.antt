@@ -1,0 +1,9 @@
+use Rattle.std.proofs.Common.{◌≡◌, List, fold, map, take, Some}
+use Rattle.cil_specs.specs.Names.{Word}
+use Rattle.cil_specs.specs.Lookup.{with_name, texts}
+use Rattle.cil_parse.specs.Builder.{read}
+use Rattle.cil_parse.specs.Parsed.{texts_of}
+use Rattle.cil_resolve.proofs.numbering.insert_words.Given as goal
+
+abbrev pub invariant-loop-word : goal.invariant-loop-word
+invariant-loop-word g l = (list : List Word) → map (read (texts_of l.seen.«module».now)) l.words ≡ map Some list → l.names ≡ fold with_name l.fn.names (texts (take l.word-index list))

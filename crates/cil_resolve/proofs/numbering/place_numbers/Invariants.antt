@@ -1,0 +1,13 @@
+use Rattle.std.proofs.Common.{◌≡◌, ◌<◌, ℕ, List, length, map, take, slice_get, Some, IsTrue, get_or}
+use Rattle.cil_specs.specs.Joined.{Placed}
+use Rattle.cil_check.specs.Bound.{IsOf}
+use Rattle.cil_resolve.specs.FullNames.{is_numbered, full_name_of}
+use Rattle.cil_resolve.specs.Numbering.{number_in}
+use Rattle.cil_resolve.proofs.numbering.place_numbers.Given as goal
+
+abbrev pub invariant-loop-i : goal.invariant-loop-i
+invariant-loop-i g l = record {
+  long : length l.places.items ≡ l.i;
+  placed : (policy : List Placed) → IsOf l.bound policy → l.full_names.0 ≡ map full_name_of policy → (k : ℕ) (s : Placed) → k < l.i → slice_get policy k ≡ Some s → IsTrue (is_numbered s.form)
+      → number_in l.names (full_name_of s) ≡ Some (get_or l.places.items k 0);
+}

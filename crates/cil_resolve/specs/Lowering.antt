@@ -1,0 +1,114 @@
+-- What a policy without faults means, by numbers.
+use Rattle.std.specs.Prelude.{◌≡◌, ℕ, Bool, not, ◌&&◌, List, [], ◌∷◌, map, flat_map, length, slice_get, slice_index_or, is_some, Option, Some, None, Contains, IsTrue, if◌then◌else◌}
+use Rattle.cil_specs.specs.Joined.{Placed}
+use Rattle.std.specs.List.{list_all, find}
+use Rattle.std.specs.Option.{option_and_then}
+use Rattle.cil_specs.specs.Names.{Word}
+use Rattle.cil_specs.specs.Statements.{Form, class_common}
+use Rattle.cil_specs.specs.Lookup.{Table, types, commons, leads, gives_common, actual_statement, is_alias, is_type, is_attribute}
+use Rattle.cil_specs.specs.Next.{is_plain_form}
+use Rattle.cil_specs.specs.Rule as spec
+use Rattle.cil_specs.specs.Rule.{element_at, declared_as, class_as, is_class, set_statement_of, rule_of}
+use Rattle.cil_bind.specs.Lookup.{IsFirstOf}
+use Rattle.cil_bind.specs.declared.joined.Joined.{Joined}
+use Rattle.cil_parse.specs.Lexicon.{AreNumbersOf}
+use Rattle.cil_parse.specs.Parsed.{names_of}
+use Rattle.cil_check.specs.Bound.{IsSeen}
+use Rattle.cil_check.specs.Checker.{IsNoted}
+use Rattle.cil_check.specs.Ordered.{IsFaultless}
+use Rattle.cil_resolve.specs.Below.{is_element_below, is_name_below, is_class_below, is_rule_below}
+use Rattle.cil_resolve.specs.Numbering.{HavePlaces, HavePermissions}
+use Rattle.cil_resolve.specs.Resolved.{element_of, declared_of, class_of}
+use Rattle.cil_resolve.specs.Resolved as numbered
+use Rattle.cil_check.specs.declared.bound.Seen.{Seen}
+use Rattle.cil_resolve.specs.declared.numbered.Element.{Element}
+use Rattle.cil_resolve.specs.declared.numbered.Element.TheVariants.{«Type»}
+use Rattle.cil_resolve.specs.declared.numbered.NumberedName.{NumberedName}
+use Rattle.cil_resolve.specs.declared.numbered.NumberedClass.{NumberedClass}
+use Rattle.cil_resolve.specs.declared.numbered.NumberedRule.{NumberedRule}
+use Rattle.cil_resolve.specs.declared.lowering.Lowering.{Lowering}
+use Rattle.cil_resolve.specs.declared.lowering.Parts.{Parts}
+
+-- the names of the modules of a joined policy
+abbrev pub modules_of : {A : Type 0} → Joined A → List (List ℕ)
+modules_of joined = map (λ m. m.name.now) joined.modules.items
+
+-- the element stands for this one, by names
+pub record IsElement (names : List (List ℕ)) (element : Element) (is : spec.Element) : Type 0 where
+  pub named : element_of names element ≡ is
+  pub below : IsTrue (is_element_below (length names) element)
+
+-- whether a statement declares no alias, or one that is given an actual type
+abbrev pub is_set : List Placed → Placed → Bool
+is_set policy s = not (is_alias s.form && not (is_some (actual_statement policy s)))
+
+-- For each declaration in the table of types what a name that leads there stands for, but for aliases without an actual type.
+abbrev pub HaveElements : List (List ℕ) → List Placed → List Element → Type 0
+HaveElements names policy elements = (i : ℕ) (s : Placed) → slice_get policy i ≡ Some s → IsFirstOf types policy i → IsTrue (is_set policy s)
+    → IsElement names (slice_index_or elements i («Type» 0)) (element_at policy s s.form)
+
+-- the types that a statement declares, and likewise the attributes, the classes and the rules
+abbrev pub type_if : Placed → List spec.Declared
+type_if s = if is_type s.form then declared_as types s ∷ [] else []
+
+abbrev pub attribute_if : Placed → List spec.Declared
+attribute_if s = if is_attribute s.form then declared_as types s ∷ [] else []
+
+abbrev pub class_if : List Placed → Placed → List spec.ClassOf
+class_if policy s = if is_class s.form then class_as policy s ∷ [] else []
+
+abbrev pub rule_if : List Placed → Placed → List spec.Rule
+rule_if policy s = rule_of policy s s.form
+
+-- The policy has no faults, and the numbers are those of its names.
+pub record IsLowering {A : Type 0} (l : Lowering A) (policy : List Placed) : Type 0 where
+  pub noted : IsNoted l.checker.now policy
+  pub faultless : IsFaultless policy
+  pub places : HavePlaces l.numbering.now.names.items policy l.numbering.now.places.items
+  pub permissions : HavePermissions l.checker.now.bound.policy.now.names l.numbering.now.names.items policy l.numbering.now.permissions.items
+  pub elements : HaveElements l.numbering.now.names.items policy l.elements.now
+
+-- what is seen of one of its statements
+pub record IsIn {A : Type 0} (l : Lowering A) (seen : Seen A) (policy : List Placed) (s : Placed) : Type 0 where
+  pub lowering : IsLowering l policy
+  pub there : Contains policy s
+  pub seen_is : IsSeen seen policy s
+  pub worded : AreNumbersOf l.checker.now.bound.policy.now.names seen.words.now (names_of seen.«module».now)
+
+-- where the common of a statement leads
+abbrev pub common_in : List Placed → List (List ℕ) → Form → Option Placed
+common_in policy namespace (class_common the_class the_common) = leads policy commons namespace the_common.text
+common_in policy namespace _ = None
+
+-- the common that the first statement gives to a class that gives it one
+abbrev pub common_of : List Placed → Placed → Option Placed
+common_of policy s = option_and_then (λ t. common_in policy t.namespace t.form) (find (λ t. gives_common policy s t.namespace t.form) policy)
+
+-- a type or an attribute by numbers
+pub record IsDeclared (modules names : List (List ℕ)) (d : NumberedName) (s : Placed) : Type 0 where
+  pub is : declared_of modules names d ≡ declared_as types s
+  pub below : IsTrue (is_name_below (length names) d)
+
+-- a class
+pub record IsClass {A : Type 0} (modules names : List (List ℕ)) (c : NumberedClass A) (policy : List Placed) (s : Placed) : Type 0 where
+  pub is : class_of modules names c ≡ class_as policy s
+  pub below : IsTrue (is_class_below (length names) c)
+
+-- rules
+pub record AreRules {A : Type 0} (modules names : List (List ℕ)) (rules : List (NumberedRule A)) (are : List spec.Rule) : Type 0 where
+  pub is : map (numbered.rule_of modules names) rules ≡ are
+  pub below : IsTrue (list_all (is_rule_below (length names)) rules)
+
+-- The types, attributes, classes and rules that some statements of a policy are.
+pub record ArePartsOf {A : Type 0} (modules names : List (List ℕ)) (policy statements : List Placed) (parts : Parts A) : Type 0 where
+  pub types_are : map (declared_of modules names) parts.types.items ≡ flat_map type_if statements
+  pub types_below : IsTrue (list_all (is_name_below (length names)) parts.types.items)
+  pub attributes_are : map (declared_of modules names) parts.attributes.items ≡ flat_map attribute_if statements
+  pub attributes_below : IsTrue (list_all (is_name_below (length names)) parts.attributes.items)
+  pub classes_are : map (class_of modules names) parts.classes.items ≡ flat_map (class_if policy) statements
+  pub classes_below : IsTrue (list_all (is_class_below (length names)) parts.classes.items)
+  pub rules_are : AreRules modules names parts.rules.items (flat_map (rule_if policy) statements)
+
+-- there are no attribute sets
+abbrev pub HasNoSets : List Placed → Type 0
+HasNoSets policy = (s : Placed) → Contains policy s → IsTrue (is_plain_form s.form)

@@ -1,0 +1,73 @@
+//! The optionals that drop.
+
+ghost use Rattle.std.specs.Prelude.{◌≡◌, ◌<◌, List, [], Some, map, length, slice_get, IfOk, IsTrue};
+ghost use Rattle.cil_specs.specs.Joined.{Placed};
+ghost use Rattle.cil_specs.specs.Kept.{Optionals, dropped_of};
+ghost use Rattle.cil_specs.specs.Lookup.{scopes};
+ghost use Rattle.cil_specs.specs.Rule.{declared_as};
+ghost use Rattle.cil_specs.specs.Statements.{is_optional};
+ghost use Rattle.cil_bind.specs.Lookup.{named};
+ghost use Rattle.cil_bind.specs.Policy.{IsBoundTo};
+ghost use Rattle.cil_resolve.specs.Dropped.{mark_of, HaveMarks};
+ghost use Rattle.cil_resolve.specs.FullNames.{space_text};
+ghost use Rattle.cil_resolve.specs.Lowering.{modules_of};
+ghost use Rattle.cil_resolve.specs.Resolved.{dropped_with};
+
+use crate::full_names::{full_name, space_names};
+use crate::numbered::DroppedOptional;
+use crate::text::Text;
+use cil_bind::{Joined, Policy};
+use std::alloc::{AllocError, Allocator};
+
+/// The optional of a place by its full name; the names of the namespaces are given.
+fn dropped_optional<A: Allocator + Copy>(
+    alloc: A,
+    joined: &Joined<'_, A>,
+    policy: &Policy<'_, A>,
+    spaces: &[Text<A>],
+    i: usize,
+) -> Result<DroppedOptional<A>, AllocError>
+    requires is { (statements : List Placed) × ((s : Placed) × IsBoundTo policy.now joined.now.modules.items statements × (slice_get statements i ≡ Some s) × IsTrue (is_optional s.form)) }
+    requires spaces { spaces.now ≡ map (λ space. space_text (named policy.now.names space)) policy.now.lookup.namespaces }
+    ensures { IfOk result (λ dropped. (statements : List Placed) (s : Placed) → IsBoundTo policy.now joined.now.modules.items statements → slice_get statements i ≡ Some s → IsTrue (is_optional s.form)
+        → dropped_with (modules_of joined.now) dropped ≡ declared_as scopes s) }
+{
+    let row = policy.rows[i];
+    let module = joined.modules[row.module as usize].module;
+    let view = module.statement(row.index as usize);
+    let id = view.words[0];
+    Ok(DroppedOptional {
+        module: row.module as usize,
+        at: view.at,
+        name: full_name(alloc, spaces, row.namespace, module.text(id.text as usize))?,
+    })
+}
+
+/// The optionals of a policy that aren't marked as kept, in the order of their statements. The mark of an optional is that of its number, its
+/// place and 1 more.
+pub fn dropped_optionals<A: Allocator + Copy>(
+    alloc: A,
+    joined: &Joined<'_, A>,
+    policy: &Policy<'_, A>,
+    kept: &[bool],
+) -> Result<Vec<DroppedOptional<A>, A>, AllocError>
+    requires { (statements : List Placed) × IsBoundTo policy.now joined.now.modules.items statements }
+    ensures { IfOk result (λ dropped. (statements : List Placed) (set : Optionals) → IsBoundTo policy.now joined.now.modules.items statements → HaveMarks set kept.now statements
+        → map (dropped_with (modules_of joined.now)) dropped.items ≡ dropped_of set statements) }
+{
+    let spaces = space_names(alloc, policy)?;
+    let mut dropped = Vec::new(alloc);
+    for i in 0..policy.rows.len() {
+        if policy.rows[i].is_optional && !is_marked(kept, i) {
+            dropped.push(dropped_optional(alloc, joined, policy, &spaces, i)?)?;
+        }
+    }
+    Ok(dropped)
+}
+
+/// Whether the optional of a place is kept.
+fn is_marked(kept: &[bool], i: usize) -> bool
+    ensures { result ≡ mark_of kept.now i }
+{
+    kept.get(i.saturating_add(1)).copied().unwrap_or(false)
+}

@@ -1,0 +1,63 @@
+//! What a policy without faults resolves to.
+
+ghost use Rattle.std.specs.Prelude.{◌≡◌, List, map, slice_index_or, IfOk};
+ghost use Rattle.cil_specs.specs.Joined.{Placed};
+ghost use Rattle.cil_specs.specs.Meaning.{meaning_of};
+ghost use Rattle.cil_check.specs.Checker.{IsNoted};
+ghost use Rattle.cil_check.specs.Ordered.{IsFaultless};
+ghost use Rattle.cil_resolve.specs.Lowering.{modules_of, HasNoSets};
+ghost use Rattle.cil_resolve.specs.Resolved.{meaning_in, dropped_with};
+
+use crate::elements::elements;
+use crate::lowering::Lowering;
+use crate::numbered::DroppedOptional;
+use crate::numbering::Numbering;
+use crate::resolved::Resolved;
+use crate::text::Text;
+use cil_bind::Joined;
+use cil_check::Checker;
+use std::alloc::{AllocError, Allocator};
+
+/// Copies of the names of modules, in their order.
+fn module_names<A: Allocator + Copy>(
+    alloc: A,
+    joined: &Joined<'_, A>,
+) -> Result<Vec<Text<A>, A>, AllocError>
+    ensures { IfOk result (λ names. names.items ≡ modules_of joined.now) }
+{
+    let mut names = Vec::with_capacity(alloc, joined.modules.len())?;
+    for i in 0..joined.modules.len() {
+        names.push(Text::of(alloc, joined.modules[i].name)?)?;
+    }
+    Ok(names)
+}
+
+/// A policy without faults by full names, with the optionals that drop.
+pub fn lowered<A: Allocator + Copy>(
+    alloc: A,
+    checker: &Checker<'_, '_, A>,
+    dropped: Vec<DroppedOptional<A>, A>,
+) -> Result<Resolved<A>, AllocError>
+    requires { (policy : List Placed) × IsNoted checker.now policy × IsFaultless policy }
+    ensures { IfOk result (λ r. (policy : List Placed) → IsNoted checker.now policy → IsFaultless policy → HasNoSets policy
+        → meaning_in r ≡ meaning_of policy (map (dropped_with (modules_of checker.now.bound.joined.now)) dropped.items)) }
+{
+    let numbering = Numbering::of(alloc, &checker.bound)?;
+    let elements = elements(alloc, checker, &numbering.places)?;
+    let lowering = Lowering {
+        alloc,
+        checker,
+        numbering: &numbering,
+        elements: &elements,
+    };
+    let parts = lowering.parts()?;
+    Ok(Resolved {
+        modules: module_names(alloc, checker.bound.joined)?,
+        names: numbering.names,
+        types: parts.types,
+        attributes: parts.attributes,
+        classes: parts.classes,
+        rules: parts.rules,
+        dropped,
+    })
+}

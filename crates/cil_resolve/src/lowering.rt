@@ -1,0 +1,254 @@
+//! A policy without faults by the numbers of its names.
+
+ghost use Rattle.std.specs.Prelude.{◌≡◌, ◌<◌, ◌++◌, ◌∷◌, ℕ, List, [], Some, fold, length, slice_get, slice_index_or, Contains, IsTrue, IfOk, OnOk};
+ghost use Rattle.std.specs.List.{list_all};
+ghost use Rattle.std.specs.Option.{option_to_list};
+ghost use Rattle.cil_specs.specs.Names.{Word};
+ghost use Rattle.cil_specs.specs.Joined.{Placed};
+ghost use Rattle.cil_specs.specs.Lookup.{types, classes, commons, references, texts, has_name, with_name, own_permissions, distinct, permissions_of};
+ghost use Rattle.cil_specs.specs.PolicyFault.{element_words};
+ghost use Rattle.cil_specs.specs.Rule.{element_of as element_led, class_name, is_class};
+ghost use Rattle.cil_parse.specs.Builder.{read};
+ghost use Rattle.cil_parse.specs.Forms.{kind_of, permissions_in};
+ghost use Rattle.cil_parse.specs.Parsed.{texts_of};
+ghost use Rattle.cil_bind.specs.Lookup.{IsLead};
+ghost use Rattle.cil_check.specs.Bound.{IsOneName};
+ghost use Rattle.cil_check.specs.Permissions.{lists_own};
+ghost use Rattle.cil_resolve.specs.FullNames.{is_numbered};
+ghost use Rattle.cil_resolve.specs.Lowering.{IsElement, IsLowering, IsIn, IsDeclared, IsClass, AreRules, ArePartsOf, common_of, modules_of, rule_if};
+ghost use Rattle.cil_resolve.specs.Numbering.{AreNumbersIn, listed_names, number_in};
+
+use crate::elements::lead_at;
+use crate::numbered::{Aim, Element, NumberedClass, NumberedName, NumberedRule};
+use crate::numbering::Numbering;
+use crate::words::number_at;
+use cil_check::{Checker, Seen};
+use cil_parse::{NumberedWord, StatementKind};
+use std::alloc::{AllocError, Allocator, Global};
+
+/// The types, attributes, classes and rules of a policy, in the order of their statements.
+#[derive(Drop)]
+pub struct Parts<A: Allocator = Global> {
+    pub types: Vec<NumberedName, A>,
+    pub attributes: Vec<NumberedName, A>,
+    pub classes: Vec<NumberedClass<A>, A>,
+    pub rules: Vec<NumberedRule<A>, A>,
+}
+
+/// What makes a policy's numbers: its statements, the numbers of its names, and for each statement what a name that leads there stands for.
+#[derive(Drop)]
+pub struct Lowering<'l, 'p, 'm, A: Allocator = Global> {
+    pub alloc: A,
+    pub checker: &'l Checker<'p, 'm, A>,
+    pub numbering: &'l Numbering<A>,
+    pub elements: &'l [Element],
+}
+
+impl<'l, 'p, 'm, A: Allocator + Copy> Lowering<'l, 'p, 'm, A> {
+    /// The number of the module of the statement of a place.
+    fn module(&self, i: usize) -> usize
+        requires { (policy : List Placed) × IsLowering self.now policy × (i < length policy) }
+        ensures { (policy : List Placed) (s : Placed) → IsLowering self.now policy → slice_get policy i ≡ Some s → slice_index_or (modules_of self.now.checker.now.bound.joined.now) result [] ≡ s.module_name }
+    {
+        let bound = &self.checker.bound;
+        let policy = bound.policy;
+        policy.rows[i].module as usize
+    }
+
+    /// What a reference of a statement stands for, an alias for its actual type.
+    fn element(&self, seen: &Seen<'p, 'm, A>, k: usize) -> Element
+        ensures { (policy : List Placed) (s : Placed) (word : Word) → IsIn self.now seen.now policy s → slice_get (references s.form) k ≡ Some (types, word) → Contains (element_words s.form) word
+            → IsElement self.now.numbering.now.names.items result (element_led policy s.namespace word) }
+    {
+        let place = seen.lead(k).unwrap_or(0);
+        match self.elements.get(place as usize) {
+            Some(element) => *element,
+            None => Element::Type(0),
+        }
+    }
+
+    /// The number of the class that a reference of a statement leads to.
+    fn class(&self, seen: &Seen<'p, 'm, A>, k: usize) -> usize
+        ensures { (policy : List Placed) (s : Placed) (word : Word) → IsIn self.now seen.now policy s → slice_get (references s.form) k ≡ Some (classes, word)
+            → number_in self.now.numbering.now.names.items (class_name policy s.namespace word) ≡ Some result }
+    {
+        let place = seen.lead(k).unwrap_or(0);
+        number_at(&self.numbering.places, place as usize)
+    }
+
+    /// The number of a permission.
+    fn permission(&self, seen: &Seen<'p, 'm, A>, word: NumberedWord) -> usize
+        requires { (w : Word) × (read (texts_of seen.now.«module».now) word ≡ Some w) }
+        ensures { (policy : List Placed) (s : Placed) (w : Word) → IsIn self.now seen.now policy s → read (texts_of seen.now.«module».now) word ≡ Some w → IsOneName w
+            → IsTrue (has_name (listed_names policy) w.text) → number_in self.now.numbering.now.names.items w.text ≡ Some result }
+    {
+        number_at(&self.numbering.permissions, seen.number(word) as usize)
+    }
+
+    /// The numbers of the permissions that a rule names.
+    fn permissions(&self, seen: &Seen<'p, 'm, A>) -> Result<Vec<usize, A>, AllocError>
+        requires { (policy : List Placed) × ((s : Placed) × IsIn self.now seen.now policy s) }
+        ensures { IfOk result (λ numbers. (policy : List Placed) (s : Placed) → IsIn self.now seen.now policy s → IsTrue (list_all (has_name (listed_names policy)) (texts (permissions_in s.form)))
+            → AreNumbersIn self.now.numbering.now.names.items (texts (permissions_in s.form)) numbers.items) }
+    {
+        let words = seen.view.permissions();
+        let mut permissions = Vec::with_capacity(self.alloc, words.len())?;
+        for word in words {
+            permissions.push(self.permission(seen, *word))?;
+        }
+        Ok(permissions)
+    }
+
+    /// Puts in the numbers of the permissions that the class or the common of a place lists, each once.
+    fn add_listed(
+        &self,
+        permissions: &mut Vec<usize, A>,
+        place: u32,
+    ) -> Result<(), AllocError>
+        requires { (policy : List Placed) × IsLowering self.now policy }
+        ensures { OnOk result ((policy : List Placed) (s : Placed) (before : List (List ℕ)) → IsLowering self.now policy → slice_get policy place ≡ Some s → IsTrue (lists_own (kind_of s.form))
+            → AreNumbersIn self.now.numbering.now.names.items before permissions.old.items
+            → AreNumbersIn self.now.numbering.now.names.items (fold with_name before (texts (own_permissions s.form))) permissions.new.items) }
+    {
+        let bound = &self.checker.bound;
+        if place as usize >= bound.len() {
+            return Ok(());
+        }
+        let seen = bound.seen(place as usize);
+        for word in seen.view.permissions() {
+            let number = self.permission(&seen, *word);
+            if !permissions.contains(&number) {
+                permissions.push(number)?;
+            }
+        }
+        Ok(())
+    }
+
+    /// The place of the common that a statement gives to the class of a place.
+    fn common(&self, class: u32) -> Option<u32>
+        requires { (policy : List Placed) × IsLowering self.now policy }
+        ensures { (policy : List Placed) (s : Placed) → IsLowering self.now policy → slice_get policy class ≡ Some s → IsTrue (is_class s.form)
+            → IsLead commons policy result (common_of policy s) }
+    {
+        let first = self.checker.commons.get(class)?;
+        lead_at(&self.checker.bound, first, 1)
+    }
+
+    /// The numbers of the permissions of the class of a place, its common's included, each once.
+    fn class_permissions(&self, class: u32) -> Result<Vec<usize, A>, AllocError>
+        requires { (policy : List Placed) × IsLowering self.now policy }
+        ensures { IfOk result (λ numbers. (policy : List Placed) (s : Placed) → IsLowering self.now policy → slice_get policy class ≡ Some s → IsTrue (is_class s.form)
+            → AreNumbersIn self.now.numbering.now.names.items (distinct (permissions_of policy s)) numbers.items) }
+    {
+        let mut permissions = Vec::new(self.alloc);
+        self.add_listed(&mut permissions, class)?;
+        if let Some(common) = self.common(class) {
+            self.add_listed(&mut permissions, common)?;
+        }
+        Ok(permissions)
+    }
+
+    /// The type or the attribute that the statement of a place declares.
+    fn declared(&self, seen: &Seen<'p, 'm, A>, i: usize) -> NumberedName
+        requires { (policy : List Placed) × IsLowering self.now policy × (i < length policy) }
+        ensures { (policy : List Placed) (s : Placed) → IsIn self.now seen.now policy s → slice_get policy i ≡ Some s → IsTrue (is_numbered s.form)
+            → IsDeclared (modules_of self.now.checker.now.bound.joined.now) self.now.numbering.now.names.items result s }
+    {
+        NumberedName {
+            module: self.module(i),
+            at: seen.view.at,
+            name: number_at(&self.numbering.places, i),
+        }
+    }
+
+    /// The class that the statement of a place declares.
+    fn class_at(
+        &self,
+        seen: &Seen<'p, 'm, A>,
+        i: u32,
+    ) -> Result<NumberedClass<A>, AllocError>
+        requires { (policy : List Placed) × IsLowering self.now policy × (i < length policy) }
+        ensures { IfOk result (λ class. (policy : List Placed) (s : Placed) → IsIn self.now seen.now policy s → slice_get policy i ≡ Some s → IsTrue (is_class s.form)
+            → IsClass (modules_of self.now.checker.now.bound.joined.now) self.now.numbering.now.names.items class policy s) }
+    {
+        let declared = self.declared(seen, i as usize);
+        Ok(NumberedClass {
+            module: declared.module,
+            at: declared.at,
+            name: declared.name,
+            permissions: self.class_permissions(i)?,
+        })
+    }
+
+    /// The rule that the statement of a place is, if it is one.
+    fn rule(
+        &self,
+        seen: &Seen<'p, 'm, A>,
+        i: usize,
+    ) -> Result<Option<NumberedRule<A>>, AllocError>
+        requires { (policy : List Placed) × ((s : Placed) × IsIn self.now seen.now policy s × (slice_get policy i ≡ Some s)) }
+        ensures { IfOk result (λ rule. (policy : List Placed) (s : Placed) → IsIn self.now seen.now policy s → slice_get policy i ≡ Some s
+            → AreRules (modules_of self.now.checker.now.bound.joined.now) self.now.numbering.now.names.items (option_to_list rule) (rule_if policy s)) }
+    {
+        let (kind, target, class) = match seen.view.kind {
+            StatementKind::Rule(kind) => (kind, Aim::Element(self.element(seen, 1)), 2),
+            StatementKind::RuleToSelf(kind) => (kind, Aim::Itself, 1),
+            _ => return Ok(None),
+        };
+        Ok(Some(NumberedRule {
+            module: self.module(i),
+            at: seen.view.at,
+            kind,
+            source: self.element(seen, 0),
+            target,
+            class: self.class(seen, class),
+            permissions: self.permissions(seen)?,
+        }))
+    }
+
+    /// Takes up what the statement of a place declares or says.
+    fn add(&self, parts: &mut Parts<A>, i: u32) -> Result<(), AllocError>
+        requires { (policy : List Placed) × IsLowering self.now policy × (i < length policy) }
+        ensures { OnOk result ((policy statements : List Placed) (s : Placed) → IsLowering self.now policy → slice_get policy i ≡ Some s
+            → ArePartsOf (modules_of self.now.checker.now.bound.joined.now) self.now.numbering.now.names.items policy statements parts.old
+            → ArePartsOf (modules_of self.now.checker.now.bound.joined.now) self.now.numbering.now.names.items policy (statements ++ s ∷ []) parts.new) }
+    {
+        let seen = self.checker.bound.seen(i as usize);
+        match seen.view.kind {
+            StatementKind::TypeName => parts.types.push(self.declared(&seen, i as usize))?,
+            StatementKind::TypeAttribute => {
+                parts.attributes.push(self.declared(&seen, i as usize))?;
+            }
+            StatementKind::Class => parts.classes.push(self.class_at(&seen, i)?)?,
+            _ => {
+                if let Some(rule) = self.rule(&seen, i as usize)? {
+                    parts.rules.push(rule)?;
+                }
+            }
+        }
+        Ok(())
+    }
+
+    /// The types, attributes, classes and rules of the policy, in the order of their statements. A policy of more than 4294967295
+    /// statements is answered as out of memory.
+    pub fn parts(&self) -> Result<Parts<A>, AllocError>
+        requires { (policy : List Placed) × IsLowering self.now policy }
+        ensures { IfOk result (λ parts. (policy : List Placed) → IsLowering self.now policy
+            → ArePartsOf (modules_of self.now.checker.now.bound.joined.now) self.now.numbering.now.names.items policy policy parts) }
+    {
+        let count = self.checker.bound.len();
+        if count > 0xFFFF_FFFF {
+            return Err(AllocError);
+        }
+        let mut parts = Parts {
+            types: Vec::new(self.alloc),
+            attributes: Vec::new(self.alloc),
+            classes: Vec::new(self.alloc),
+            rules: Vec::new(self.alloc),
+        };
+        for i in 0..count {
+            self.add(&mut parts, i as u32)?;
+        }
+        Ok(parts)
+    }
+}

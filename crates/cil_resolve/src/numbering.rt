@@ -1,0 +1,161 @@
+//! The names of a policy, and their numbers.
+
+ghost use Rattle.std.specs.Prelude.{◌≡◌, ◌<◌, ◌++◌, ℕ, List, [], fold, map, length, slice_get, slice_index_or, bytes_eq, IsTrue, Some, IfOk, OnOk};
+ghost use Rattle.std.specs.List.{AllByRecursion, IsDistinct};
+ghost use Rattle.cil_specs.specs.Names.{Word};
+ghost use Rattle.cil_specs.specs.Joined.{Placed};
+ghost use Rattle.cil_specs.specs.Lookup.{has_name, with_name, texts};
+ghost use Rattle.cil_specs.specs.Report.{names_rise};
+ghost use Rattle.cil_parse.specs.Builder.{read};
+ghost use Rattle.cil_parse.specs.Lexicon.{AreNumbersOf};
+ghost use Rattle.cil_parse.specs.Parsed.{texts_of, names_of as module_names};
+ghost use Rattle.cil_check.specs.Bound.{IsOf, IsSeen, IsOneName};
+ghost use Rattle.cil_resolve.specs.FullNames.{full_name_of};
+ghost use Rattle.cil_resolve.specs.Numbering.{names_with, AreNamesOf, HavePlaces, HavePermissions, HavePermissionsOf};
+
+use crate::full_names::{full_names, is_numbered};
+use crate::name_set::NameSet;
+use crate::text::Text;
+use crate::words::{lists_own, text_of};
+use cil_check::{BoundPolicy, Seen};
+use cil_parse::{Lists, NumberedWord};
+use std::alloc::{AllocError, Allocator, Global};
+
+/// The names of types, attributes, classes and permissions in the order of their bytes. For each statement that declares a type, an
+/// attribute or a class, the number of its full name stands at its place; and for each permission that statements list, its number
+/// stands at the number of its word.
+#[derive(Drop)]
+pub struct Numbering<A: Allocator = Global> {
+    pub names: Vec<Text<A>, A>,
+    pub places: Vec<usize, A>,
+    pub permissions: Vec<usize, A>,
+    pub ghost ordered: { IsTrue (names_rise names.items) },
+}
+
+impl<A: Allocator + Copy> Numbering<A> {
+    /// The names of a policy.
+    pub fn of(alloc: A, bound: &BoundPolicy<'_, '_, A>) -> Result<Self, AllocError>
+        requires { (policy : List Placed) × IsOf bound.now policy }
+        ensures places { IfOk result (λ n. (policy : List Placed) → IsOf bound.now policy → HavePlaces n.names.items policy n.places.items) }
+        ensures permissions { IfOk result (λ n. (policy : List Placed) → IsOf bound.now policy → HavePermissions bound.now.policy.now.names n.names.items policy n.permissions.items) }
+    {
+        let full_names = full_names(alloc, bound)?;
+        let names = sorted_names(alloc, bound, &full_names)?;
+        Ok(Numbering {
+            names: names.to_texts(alloc)?,
+            places: place_numbers(alloc, bound, &full_names, &names)?,
+            permissions: permission_numbers(alloc, bound, &names)?,
+        })
+    }
+}
+
+/// Puts in the names of words of a statement.
+fn insert_words<'t, 'm: 't, A: Allocator + Copy>(
+    names: &mut NameSet<'t, A>,
+    seen: &Seen<'_, 'm, A>,
+    words: &[NumberedWord],
+) -> Result<(), AllocError>
+    requires { (list : List Word) × (map (read (texts_of seen.now.«module».now)) words.now ≡ map Some list) }
+    ensures { OnOk result ((list : List Word) → map (read (texts_of seen.now.«module».now)) words.now ≡ map Some list → names.new ≡ fold with_name names.old (texts list)) }
+{
+    for word in words {
+        names.insert(text_of(seen, *word))?;
+    }
+    Ok(())
+}
+
+/// Puts in the names that a statement brings: its full name, if it declares a type, an attribute or a class, and permissions.
+fn insert_names<'t, 'm: 't, A: Allocator + Copy>(
+    names: &mut NameSet<'t, A>,
+    seen: &Seen<'_, 'm, A>,
+    full_name: &'t [u8],
+) -> Result<(), AllocError>
+    requires { (policy : List Placed) × ((s : Placed) × IsSeen seen.now policy s) }
+    ensures { OnOk result ((policy : List Placed) (s : Placed) → IsSeen seen.now policy s → full_name.now ≡ full_name_of s → names.new ≡ fold with_name names.old (names_with s)) }
+{
+    if is_numbered(seen.view.kind) {
+        names.insert(full_name)?;
+    }
+    if lists_own(seen.view.kind) {
+        insert_words(names, seen, seen.view.permissions())?;
+    }
+    Ok(())
+}
+
+/// The full names of types, attributes and classes and the names of permissions, in the order of their bytes.
+fn sorted_names<'t, 'm: 't, A: Allocator + Copy>(
+    alloc: A,
+    bound: &BoundPolicy<'_, 'm, A>,
+    full_names: &'t Lists<u8, A>,
+) -> Result<NameSet<'t, A>, AllocError>
+    requires is { (policy : List Placed) × IsOf bound.now policy × (full_names.now.0 ≡ map full_name_of policy) }
+    ensures ordered { IfOk result (λ names. IsTrue (names_rise names)) }
+    ensures names { IfOk result (λ names. (policy : List Placed) → IsOf bound.now policy → full_names.now.0 ≡ map full_name_of policy → AreNamesOf policy names) }
+{
+    let mut names = NameSet::new(alloc);
+    for i in 0..bound.len() {
+        let seen = bound.seen(i);
+        insert_names(&mut names, &seen, full_names.get(i))?;
+    }
+    names.sort()?;
+    Ok(names)
+}
+
+/// For each statement that declares a type, an attribute or a class, the number of its full name; 0 for others.
+fn place_numbers<A: Allocator + Copy>(
+    alloc: A,
+    bound: &BoundPolicy<'_, '_, A>,
+    full_names: &Lists<u8, A>,
+    names: &NameSet<'_, A>,
+) -> Result<Vec<usize, A>, AllocError>
+    requires is { (policy : List Placed) × IsOf bound.now policy × (full_names.now.0 ≡ map full_name_of policy) × AreNamesOf policy names.now }
+    ensures { IfOk result (λ places. (policy : List Placed) → IsOf bound.now policy → full_names.now.0 ≡ map full_name_of policy → HavePlaces names.now policy places.items) }
+{
+    let mut places = Vec::with_capacity(alloc, bound.len())?;
+    for i in 0..bound.len() {
+        if is_numbered(bound.seen(i).view.kind) {
+            places.push(names.number(full_names.get(i)))?;
+        } else {
+            places.push(0)?;
+        }
+    }
+    Ok(places)
+}
+
+/// Notes the numbers of permissions at those of their words.
+fn note_words<A: Allocator>(
+    permissions: &mut Vec<usize, A>,
+    names: &NameSet<'_, A>,
+    seen: &Seen<'_, '_, A>,
+    words: &[NumberedWord],
+)
+    requires is { (all : List (List ℕ)) × (list : List Word) × AreNumbersOf all seen.now.words.now (module_names seen.now.«module».now) × (map (read (texts_of seen.now.«module».now)) words.now ≡ map Some list)
+        × AllByRecursion IsOneName list × AllByRecursion (λ w. IsTrue (has_name names.now w.text)) list × (length permissions.old.items ≡ length all) }
+    ensures long { length permissions.new.items ≡ length permissions.old.items }
+    ensures noted { (all before : List (List ℕ)) (list : List Word) → AreNumbersOf all seen.now.words.now (module_names seen.now.«module».now) → map (read (texts_of seen.now.«module».now)) words.now ≡ map Some list
+        → IsDistinct bytes_eq all → AllByRecursion IsOneName list → length permissions.old.items ≡ length all → HavePermissionsOf all names.now before permissions.old.items → HavePermissionsOf all names.now (before ++ texts list) permissions.new.items }
+{
+    for word in words {
+        let at = seen.number(*word) as usize;
+        permissions[at] = names.number(text_of(seen, *word));
+    }
+}
+
+/// For each word of the policy's numbering its number as a permission, if statements list it as one; 0 for others.
+fn permission_numbers<A: Allocator + Copy>(
+    alloc: A,
+    bound: &BoundPolicy<'_, '_, A>,
+    names: &NameSet<'_, A>,
+) -> Result<Vec<usize, A>, AllocError>
+    requires is { (policy : List Placed) × IsOf bound.now policy × AreNamesOf policy names.now }
+    ensures { IfOk result (λ permissions. (policy : List Placed) → IsOf bound.now policy → HavePermissions bound.now.policy.now.names names.now policy permissions.items) }
+{
+    let mut permissions = vec![in alloc; 0; bound.policy.names.len()]?;
+    for i in 0..bound.len() {
+        let seen = bound.seen(i);
+        if lists_own(seen.view.kind) {
+            note_words(&mut permissions, names, &seen, seen.view.permissions());
+        }
+    }
+    Ok(permissions)
+}
