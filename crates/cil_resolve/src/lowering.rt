@@ -12,7 +12,7 @@ ghost use Rattle.cil_parse.specs.Builder.{read};
 ghost use Rattle.cil_parse.specs.Forms.{kind_of, permissions_in};
 ghost use Rattle.cil_parse.specs.Parsed.{texts_of};
 ghost use Rattle.cil_bind.specs.Lookup.{IsLead};
-ghost use Rattle.cil_check.specs.Bound.{IsOneName};
+ghost use Rattle.cil_bind.specs.Written.{IsOneName};
 ghost use Rattle.cil_check.specs.Permissions.{lists_own};
 ghost use Rattle.cil_resolve.specs.FullNames.{is_numbered};
 ghost use Rattle.cil_resolve.specs.Lowering.{IsElement, IsLowering, IsIn, IsDeclared, IsClass, AreRules, ArePartsOf, common_of, modules_of, rule_if};

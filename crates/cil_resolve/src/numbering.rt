@@ -9,7 +9,8 @@ ghost use Rattle.cil_specs.specs.Report.{names_rise};
 ghost use Rattle.cil_parse.specs.Builder.{read};
 ghost use Rattle.cil_parse.specs.Lexicon.{AreNumbersOf};
 ghost use Rattle.cil_parse.specs.Parsed.{texts_of, names_of as module_names};
-ghost use Rattle.cil_check.specs.Bound.{IsOf, IsSeen, IsOneName};
+ghost use Rattle.cil_check.specs.Bound.{IsOf, IsSeen};
+ghost use Rattle.cil_bind.specs.Written.{IsOneName};
 ghost use Rattle.cil_resolve.specs.FullNames.{full_name_of};
 ghost use Rattle.cil_resolve.specs.Numbering.{names_with, AreNamesOf, HavePlaces, HavePermissions, HavePermissionsOf};
 

@@ -5,7 +5,7 @@ use Rattle.cil_specs.specs.Lookup.{texts}
 use Rattle.cil_parse.specs.Builder.{read}
 use Rattle.cil_parse.specs.Lexicon.{AreNumbersOf}
 use Rattle.cil_parse.specs.Parsed.{texts_of, names_of}
-use Rattle.cil_check.specs.Bound.{IsOneName}
+use Rattle.cil_bind.specs.Written.{IsOneName}
 use Rattle.cil_resolve.specs.Numbering.{HavePermissionsOf}
 use Rattle.cil_resolve.proofs.numbering.note_words.Given as goal
 

@@ -4,7 +4,7 @@ use Rattle.std.proofs.lemmas.List.{take_all}
 use Rattle.cil_specs.specs.Lookup.{has_name, texts, own_permissions}
 use Rattle.cil_parse.specs.Forms.{permissions_in, kind_of}
 use Rattle.cil_parse.specs.Parsed.{texts_of}
-use Rattle.cil_check.specs.Bound.{IsOneName}
+use Rattle.cil_bind.specs.Written.{IsOneName}
 use Rattle.cil_check.specs.Permissions.{lists_own}
 use Rattle.cil_check.proofs.PermissionLemmas.{own-listed, none-listed}
 use Rattle.cil_check.proofs.SeenLemmas.{there-at, seen-kind}
