@@ -1,8 +1,7 @@
 -- What is listed and given the other way round.
-use Rattle.std.proofs.Common.{◌≡◌, ℕ, zero, suc, ◌+◌, ◌<◌, ◌==◌, ◌&&◌, ◌||◌, nat_eq, Bool, true, false, List, [], ◌∷◌, ◌++◌, length, set, position, get_or, slice_get, Option, Some, None, is_some, Vec, Bor, Result, Ok, Err, OnOk, OnErr, bytes_eq, refl, sym, ap, ◌∙◌, subst, true≢false, arith, inl, inr, if◌then◌else◌}
+use Rattle.std.proofs.Common.{◌≡◌, ℕ, zero, suc, ◌<◌, ◌==◌, ◌&&◌, ◌||◌, Bool, true, false, List, [], ◌∷◌, ◌++◌, length, set, position, get_or, slice_get, Option, Some, None, is_some, Vec, Bor, Result, Ok, Err, OnOk, OnErr, bytes_eq, refl, sym, ap, ◌∙◌, true≢false, arith, inl, inr, if◌then◌else◌}
 use Rattle.std.specs.List.{list_any}
 use Rattle.std.specs.Option.{option_or, option_and_then}
-use Rattle.std.proofs.lemmas.Option.{none-some, same_Some, slice_get_within}
 use Rattle.std.proofs.lemmas.Bool.{eqb-true, eq-eqb, ne_eqb, cases_eq}
 use Rattle.std.proofs.lemmas.List.Folds.{list_any-append}
 use Rattle.std.proofs.lemmas.List.Quantifiers.{position-Some}
@@ -11,7 +10,7 @@ use Rattle.std.proofs.lemmas.Slice.Eq.{bytes_eq-Decides}
 use Rattle.indexmap.specs.IndexSet.{insert_key}
 use Rattle.cil_specs.proofs.Runs.{first_true, second_true}
 use Rattle.cil_bind.proofs.PositionLemmas.{at_if, position-append, any-position}
-use Rattle.cil_optionals.specs.Given.{lists, places_in, commons_at, listers_at, has_gift, given_at, permissions_in, IsInverse, AreAnswers}
+use Rattle.cil_optionals.specs.Given.{lists, places_in, commons_at, listers_at, has_gift, given_at, IsInverse, AreAnswers}
 use Rattle.cil_optionals.specs.declared.listed.Gift.{Gift}
 use Rattle.cil_optionals.specs.declared.listed.Listed.{Listed}
 use Rattle.cil_optionals.specs.declared.listed.Permission.{Permission}

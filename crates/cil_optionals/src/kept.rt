@@ -1,6 +1,6 @@
 //! The optionals that a policy keeps.
 
-ghost use Rattle.std.specs.Prelude.{◌≡◌, ◌+◌, ℕ, List, length, IfOk};
+ghost use Rattle.std.specs.Prelude.{◌≡◌, ◌+◌, ℕ, List, true, false, length, slice_index_or, IfOk};
 ghost use Rattle.cil_specs.specs.Joined.{Placed};
 ghost use Rattle.cil_specs.specs.Kept.{AreApart};
 ghost use Rattle.cil_bind.specs.Policy.{IsBoundTo};
@@ -23,6 +23,7 @@ pub fn kept_optionals<'m, A: Allocator + Copy>(
 ) -> Result<Vec<bool, A>, AllocError>
     requires { (all : List Placed) × IsBoundTo policy.now joined.now.modules.items all × AreNested policy.now.rows.items all × AreApart all }
     ensures len { IfOk result (λ kept. length kept.items ≡ length policy.now.rows.items + 1) }
+    ensures none { IfOk result (λ kept. slice_index_or kept.items 0 false ≡ true) }
     ensures kept { IfOk result (λ kept. (all : List Placed) → IsBoundTo policy.now joined.now.modules.items all → AreNested policy.now.rows.items all → AreApart all
         → ShowsKept all policy.now.rows.items kept.items) }
 {

@@ -1,5 +1,6 @@
 use Rattle.std.proofs.Common.{◌≡◌, ◌<◌, ◌+◌, ◌++◌, false, length, get_or, sym, ap, ◌∙◌, subst, arith}
 use Rattle.std.specs.List.{list_all}
+use Rattle.std.proofs.lemmas.List.{get_or-take}
 use Rattle.indexmap.proofs.CallerLemmas.{Drains-YieldsInOrder}
 use Rattle.cil_bind.proofs.DeclareLemmas.{rows-length}
 use Rattle.cil_optionals.specs.Needs.{are_met, is_need_below}
@@ -35,6 +36,10 @@ greatest-requires g c =
       below = (λ k. list_all (is_need_below (sym size k)) (is k))
           ∙ all-below all p.rows.items c.in_ok-needs.needs.items c.in_ok-more.more.items (c.in_ok-needs.ensures parsed all ready) (c.in_ok-more.ensures all ready (c.in_ok-permissions.ensures all ready));
     }
+
+pub returns-clause-none : goal.returns-clause-none
+returns-clause-none g c =
+    ap (λ l. get_or l 0 false) c.truncate.ensures.items ∙ get_or-take (c.len-count.result + 1) c.in_ok-kept.kept.items 0 false (omega arith) ∙ c.in_ok-kept.ensures.outside
 
 pub returns-clause-kept : goal.returns-clause-kept
 returns-clause-kept g c = λ all bound nested apart.
