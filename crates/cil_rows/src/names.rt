@@ -29,7 +29,9 @@ fn joined<'m>(
     m: &'m ParsedModule,
     n: &'m ParsedModule,
 ) -> Result<Joined<'m>, AllocError>
-    ensures { IfOk result (λ joined. (first second : List ℕ) → IsParsedOf first m.now → IsParsedOf second n.now → (modules : List Module) × AreKeptOf joined.modules.items modules) }
+    requires first { (text : List ℕ) × IsParsedOf text m.now }
+    requires second { (text : List ℕ) × IsParsedOf text n.now }
+    ensures { IfOk result (λ joined. (modules : List Module) × AreKeptOf joined.modules.items modules) }
 {
     let modules = Vec::from_array(
         alloc,

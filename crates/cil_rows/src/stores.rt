@@ -69,8 +69,10 @@ fn the_entries_beside_one(rt: HostRuntime) {
 }
 
 // Names and texts of the entries b and c, whether they are named b, and whether they come before c.
-const BEHIND: &[(&str, &str, bool, bool)] =
-    &[("b", "(type t)", true, true), ("c", "", false, false)];
+const BEHIND: &[(&str, &str, bool, bool)] = &[
+    ("b", "(type t)", true, true),
+    ("c", "", false, false),
+];
 
 #[test]
 fn what_is_asked_of_an_entry(rt: HostRuntime) {

@@ -1,5 +1,5 @@
 -- The entries of a store whose modules all have one priority.
-use Rattle.std.proofs.Common.{◌≡◌, ◌==◌, ℕ, zero, suc, ◌+◌, ◌-◌, ◌≤◌, Bool, true, false, cond, nat_le, one-add, List, [], ◌∷◌, ◌++◌, map, filter, length, take, drop, slice_set, refl, ap, sym, ◌∙◌, subst, true≢false, length-drop, arith}
+use Rattle.std.proofs.Common.{◌≡◌, ◌==◌, ℕ, zero, suc, ◌+◌, ◌-◌, Bool, true, false, cond, one-add, List, [], ◌∷◌, ◌++◌, map, filter, length, take, drop, slice_set, refl, ap, sym, ◌∙◌, subst, true≢false, length-drop, arith}
 use Rattle.std.specs.List.{insert, list_all, prefix_len, AllByRecursion}
 use Rattle.std.specs.List.Sorted.{IsStrictlySortedBy}
 use Rattle.std.specs.Ordering.{nat_cmp, ordering_then, is_lt}
@@ -10,7 +10,6 @@ use Rattle.std.proofs.lemmas.Bool.{eqb-true}
 use Rattle.std.proofs.lemmas.List.{take_all, map-append}
 use Rattle.std.proofs.lemmas.Cmp.{nat_list_cmp_total, tied_itself}
 use Rattle.std.proofs.lemmas.Map.Lookups.{exact_bytes}
-use Rattle.std.proofs.Common.{le-leb}
 use Rattle.cil_specs.specs.Report.{name_cmp}
 use Rattle.cil_specs.specs.Store.{Entry, entry_cmp, put}
 use Rattle.cil_specs.proofs.Runs.{both_true, first_true, second_true}

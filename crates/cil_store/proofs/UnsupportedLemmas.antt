@@ -1,9 +1,9 @@
 -- Statements that are not compiled yet.
-use Rattle.std.proofs.Common.{◌≡◌, ℕ, ◌+◌, ◌-◌, ◌<◌, ◌≤◌, ◌||◌, ◌&&◌, ◌⊎◌, inl, inr, Bool, true, false, if◌then◌else◌, List, [], ◌∷◌, length, get_or, take, drop, Option, Some, None, IfSome, IfNone, Vec, IsTrue, codes, bytes_eq, ap, sym, subst, ◌∙◌, refl, arith}
+use Rattle.std.proofs.Common.{◌≡◌, ℕ, ◌+◌, ◌-◌, ◌<◌, ◌≤◌, ◌||◌, ◌&&◌, ◌⊎◌, inl, inr, Bool, true, false, if◌then◌else◌, List, length, Option, Some, None, IfSome, IfNone, IsTrue, codes, bytes_eq, ap, sym, subst, ◌∙◌, refl, arith}
 use Rattle.std.specs.Option.{option_or}
 use Rattle.std.specs.Cmp.Lexicographic.{bytes_decides}
 use Rattle.std.proofs.Math.Bool.{or-false}
-use Rattle.std.proofs.lemmas.Bool.{true≢false, or_cases, or_right, and_from, true_from_ne_false}
+use Rattle.std.proofs.lemmas.Bool.{true≢false, or_cases, and_from, true_from_ne_false}
 use Rattle.cil_specs.specs.Place as spec_place
 use Rattle.cil_specs.specs.Names as spec_names
 use Rattle.cil_specs.specs.TextFault.{TextFault, IsNoLater}

@@ -1,4 +1,4 @@
-use Rattle.std.proofs.Common.{◌≡◌, ◌∙◌, ◌++◌, ◌∷◌, [], ap, append_assoc}
+use Rattle.std.proofs.Common.{◌∙◌, ◌++◌, ◌∷◌, [], ap, append_assoc}
 use Rattle.cil_bind.specs.declared.joined.NamedModule.{NamedModule}
 use Rattle.cil_store.proofs.JoinLemmas.{parsed-more}
 use Rattle.cil_store.proofs.join.push_modules.Goals as goal

@@ -1,4 +1,4 @@
-use Rattle.std.proofs.Common.{◌≡◌, ◌∙◌, ◌≤◌, ℕ, List, slice_set, ap, sym, subst, true≢false, length, arith}
+use Rattle.std.proofs.Common.{◌≡◌, ◌∙◌, ℕ, List, slice_set, ap, sym, subst, true≢false, length, arith}
 use Rattle.std.specs.List.{insert, prefix_len}
 use Rattle.cil_specs.specs.Store.{Entry, Store, put}
 use Rattle.cil_store.specs.Stored.{AreStored, IsNamedAt, entry_of}

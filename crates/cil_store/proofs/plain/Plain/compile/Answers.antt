@@ -1,6 +1,5 @@
-use Rattle.std.proofs.Common.{List, ℕ, subst}
-use Rattle.cil_specs.specs.Joined.{Module}
-use Rattle.cil_specs.specs.Next.{install, changed, AreModules}
+use Rattle.std.proofs.Common.{subst}
+use Rattle.cil_specs.specs.Next.{install, changed}
 use Rattle.cil_specs.specs.Store.{Store, put}
 use Rattle.cil_store.specs.Edits.{refusal_of}
 use Rattle.cil_store.specs.Plain.{IsCompiledTo, IsRefusedPolicy}

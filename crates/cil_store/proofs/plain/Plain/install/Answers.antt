@@ -5,7 +5,7 @@ use Rattle.cil_specs.specs.Run.{Step, an_edit, changed_by}
 use Rattle.cil_specs.specs.Store.{Store}
 use Rattle.cil_store.specs.Edits.{refusal_of, store_refusal_of}
 use Rattle.cil_store.specs.Plain.{IsKept}
-use Rattle.cil_store.proofs.PlainLemmas.{line-step, text-step, policy-step, accepted-step, kept-changed, taken-priority, taken-short}
+use Rattle.cil_store.proofs.PlainLemmas.{line-step, text-step, policy-step, accepted-step, kept-changed, taken-priority}
 use Rattle.cil_store.proofs.plain.Plain.install.Goals as goal
 
 pub returns-in-Err : goal.returns-in-Err
