@@ -71,7 +71,7 @@ position-within k keys m e = (position-Some (λ key. k == key) keys m 0 e).0
 pub inserted-last : (keys new : List ℕ) (owner : ℕ) → position (λ k. owner == k) keys ≡ None → new ≡ (if list_any (λ k. owner == k) keys then keys else keys ++ owner ∷ []) → new ≡ keys ++ owner ∷ []
 inserted-last keys new owner none is = is ∙ ap (λ b. if b then keys else keys ++ owner ∷ []) (any-position (λ k. owner == k) keys ∙ ap is_some none)
 
--- and for one that isn't
+-- one more for a class that is not noted yet
 pub noted-new : (keys : List ℕ) (lists : List (List ℕ)) (owner place : ℕ) → length keys ≡ length lists → position (λ k. owner == k) keys ≡ None
     → (k : ℕ) → commons_at (keys ++ owner ∷ [], lists ++ (place ∷ []) ∷ []) k ≡ with_one (k == owner) (commons_at (keys, lists) k) place
 noted-new keys lists owner place same none k = ap (λ o. places_in (option_and_then (slice_get more) o)) (position-append (λ key. k == key) keys owner) ∙ by (k == owner) refl
