@@ -15,7 +15,7 @@ use Rattle.std.proofs.lemmas.Grind.{flat_map-append}
 use Rattle.cil_specs.specs.Names.{Word}
 use Rattle.cil_specs.specs.Joined.{Placed}
 use Rattle.cil_specs.specs.Lookup.{has_name, with_name, distinct, texts, own_permissions}
-use Rattle.cil_specs.proofs.Runs.{both_true}
+use Rattle.cil_specs.proofs.Runs.{both_true, first_true, second_true}
 use Rattle.cil_specs.proofs.NamesLemmas.{around}
 use Rattle.cil_check.proofs.FirstsLemmas.{same_bytes}
 use Rattle.cil_check.proofs.WordLemmas.{has-distinct}
@@ -66,7 +66,7 @@ number-among names (y ∷ some) (k ∷ numbers) x n are is =
     by false true e f here = absurd (true≢false (sym (eq-eqb n k (same_Some n k (sym is ∙ ap (number_in names) (same_bytes x y f) ∙ here))) ∙ e))
 
 -- with one more
-numbers-push : (names some : List (List ℕ)) (numbers : List ℕ) (x : List ℕ) (n : ℕ) → AreNumbersIn names some numbers → number_in names x ≡ Some n → AreNumbersIn names (some ++ x ∷ []) (numbers ++ n ∷ [])
+pub numbers-push : (names some : List (List ℕ)) (numbers : List ℕ) (x : List ℕ) (n : ℕ) → AreNumbersIn names some numbers → number_in names x ≡ Some n → AreNumbersIn names (some ++ x ∷ []) (numbers ++ n ∷ [])
 numbers-push names some numbers x n are is = map-last (λ m. Some m) numbers n ∙ (λ j. are j ++ sym is j ∷ []) ∙ sym (map-last (number_in names) some x)
   where
     map-last : {X Y : Type 0} (f : X → Y) (xs : List X) (z : X) → map f (xs ++ z ∷ []) ≡ map f xs ++ f z ∷ []
@@ -174,3 +174,9 @@ place-next names policy i v s old long at is so_far k t low there numbered = by 
         ap (λ u. number_in names (full_name_of u)) one ∙ is (ap (λ u. is_numbered u.form) (sym one) ∙ numbered) ∙ ap Some (sym (ap (λ n. get_or (old ++ v ∷ []) n 0) e ∙ get_or_push old v 0 i long))
     by (inr (inl less)) = so_far k t less there numbered ∙ ap Some (sym (get_or_append_left old (v ∷ []) 0 k (omega (arith, less, long))))
     by (inr (inr more)) = absurd (omega (arith, more, low))
+
+-- the text of one of the words passes
+pub text-passes : (p : List ℕ → Bool) (list : List Word) (i : ℕ) (w : Word) → list_all p (texts list) ≡ true → slice_get list i ≡ Some w → p w.text ≡ true
+text-passes p [] i w all at = absurd (none-some w at)
+text-passes p (v ∷ list) zero w all at = ap (λ u. p u.text) (sym (same_Some v w at)) ∙ first_true (p v.text) (list_all p (texts list)) all
+text-passes p (v ∷ list) (suc i) w all at = text-passes p list i w (second_true (p v.text) (list_all p (texts list)) all) at
