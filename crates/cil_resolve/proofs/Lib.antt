@@ -5,3 +5,4 @@ pub mod NumberLemmas
 pub mod FaultlessLemmas
 pub mod ElementLemmas
 pub mod LoweringLemmas
+pub mod PartLemmas
