@@ -5,6 +5,7 @@ pub mod NumberLemmas
 pub mod FaultlessLemmas
 pub mod ElementLemmas
 pub mod LoweringLemmas
+pub mod PartLemmas
 pub mod FaultLemmas
 pub mod JudgedLemmas
 pub mod PlainLemmas

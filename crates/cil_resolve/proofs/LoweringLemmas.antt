@@ -51,16 +51,16 @@ module _ (policy : List Placed) (faultless : IsFaultless policy) (s : Placed) (t
       → IsLead types policy found (leads policy types s.namespace word.text) → IsElement names (get_or made (unwrap_or found 0) (elements.«Type» 0)) (element_of policy s.namespace word)
   element-led names made word found have refers names_it lead =
       let a = found-at types policy found (leads policy types s.namespace word.text) lead (word-found policy faultless s there types word refers) in
-      let set : is_set policy a.t ≡ true = by (is_alias a.t.form) refl (alias-set policy faultless s there word names_it a.t a.lead_is) in
+      let set : is_set policy a.t ≡ true = by a.t (is_alias a.t.form) refl (alias-set policy faultless s there word names_it a.t a.lead_is) in
       subst (λ o. IsElement names (get_or made (unwrap_or found 0) (elements.«Type» 0)) (element_or_none policy o)) (sym a.lead_is) (have (unwrap_or found 0) a.t a.at a.first set)
     where
-      by : {t : Placed} (b : Bool) → is_alias t.form ≡ b → (is_alias t.form ≡ true → is_some (actual_statement policy t) ≡ true) → is_set policy t ≡ true
-      by {t} true e some = ap (λ b. not (is_alias t.form && not b)) (some e) ∙ never (is_alias t.form)
+      by : (t : Placed) (b : Bool) → is_alias t.form ≡ b → (is_alias t.form ≡ true → is_some (actual_statement policy t) ≡ true) → is_set policy t ≡ true
+      by t true e some = ap (λ b. not (is_alias t.form && not b)) (some e) ∙ never (is_alias t.form)
         where
           never : (b : Bool) → not (b && false) ≡ true
           never true = refl
           never false = refl
-      by {t} false e some = ap (λ b. not (b && not (is_some (actual_statement policy t)))) e
+      by t false e some = ap (λ b. not (b && not (is_some (actual_statement policy t)))) e
 
   -- a class has the number that stands where its name leads
   pub class-led : (names : List (List ℕ)) (places : List ℕ) (word : Word) (found : Option ℕ) → HavePlaces names policy places → Contains (references s.form) (classes, word)

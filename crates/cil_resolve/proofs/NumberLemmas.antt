@@ -15,7 +15,7 @@ use Rattle.std.proofs.lemmas.Grind.{flat_map-append}
 use Rattle.cil_specs.specs.Names.{Word}
 use Rattle.cil_specs.specs.Joined.{Placed}
 use Rattle.cil_specs.specs.Lookup.{has_name, with_name, distinct, texts, own_permissions}
-use Rattle.cil_specs.proofs.Runs.{both_true}
+use Rattle.cil_specs.proofs.Runs.{both_true, first_true, second_true}
 use Rattle.cil_specs.proofs.NamesLemmas.{around}
 use Rattle.cil_check.proofs.FirstsLemmas.{same_bytes}
 use Rattle.cil_check.proofs.WordLemmas.{has-distinct}
@@ -49,24 +49,24 @@ numbers-below names (x ∷ some) (n ∷ numbers) are =
     both_true (nat_lt n (length names)) (list_all (λ m. nat_lt m (length names)) numbers) (lt-ltb n (length names) (number-is names x n (sym first)).0) (numbers-below names some numbers rest)
 
 -- a number is among others if its name is among theirs
-pub number-among : (names some : List (List ℕ)) (numbers : List ℕ) (x : List ℕ) (n : ℕ) → AreNumbersIn names some numbers → number_in names x ≡ Some n → list_any (λ k. n == k) numbers ≡ has_name some x
+pub number-among : (names some : List (List ℕ)) (numbers : List ℕ) (x : List ℕ) (n : ℕ) → AreNumbersIn names some numbers → number_in names x ≡ Some n → list_any (λ k. k == n) numbers ≡ has_name some x
 number-among names [] [] x n are is = refl
 number-among names [] (k ∷ numbers) x n are is = cc
 number-among names (y ∷ some) [] x n are is = cc
 number-among names (y ∷ some) (k ∷ numbers) x n are is =
     let first : Some k ≡ number_in names y = cc in
     let rest : map {B = Option ℕ} Some numbers ≡ map (number_in names) some = cc in
-    ap (λ b. b || list_any (λ m. n == m) numbers) (by (n == k) (bytes_eq x y) refl refl (sym first)) ∙ ap (λ b. bytes_eq x y || b) (number-among names some numbers x n rest is)
+    ap (λ b. b || list_any (λ m. m == n) numbers) (by (k == n) (bytes_eq x y) refl refl (sym first)) ∙ ap (λ b. bytes_eq x y || b) (number-among names some numbers x n rest is)
   where
-    by : (b d : Bool) → (n == k) ≡ b → bytes_eq x y ≡ d → number_in names y ≡ Some k → (n == k) ≡ bytes_eq x y
+    by : (b d : Bool) → (k == n) ≡ b → bytes_eq x y ≡ d → number_in names y ≡ Some k → (k == n) ≡ bytes_eq x y
     by true true e f here = e ∙ sym f
     by false false e f here = e ∙ sym f
     by true false e f here =
-        absurd (true≢false (sym ((bytes_eq-Decides x y).1 (sym (number-is names x n is).1 ∙ ap (λ m. get_or names m []) (eqb-true n k e) ∙ (number-is names y k here).1)) ∙ f))
-    by false true e f here = absurd (true≢false (sym (eq-eqb n k (same_Some n k (sym is ∙ ap (number_in names) (same_bytes x y f) ∙ here))) ∙ e))
+        absurd (true≢false (sym ((bytes_eq-Decides x y).1 (sym (number-is names x n is).1 ∙ ap (λ m. get_or names m []) (sym (eqb-true k n e)) ∙ (number-is names y k here).1)) ∙ f))
+    by false true e f here = absurd (true≢false (sym (eq-eqb k n (sym (same_Some n k (sym is ∙ ap (number_in names) (same_bytes x y f) ∙ here)))) ∙ e))
 
 -- with one more
-numbers-push : (names some : List (List ℕ)) (numbers : List ℕ) (x : List ℕ) (n : ℕ) → AreNumbersIn names some numbers → number_in names x ≡ Some n → AreNumbersIn names (some ++ x ∷ []) (numbers ++ n ∷ [])
+pub numbers-push : (names some : List (List ℕ)) (numbers : List ℕ) (x : List ℕ) (n : ℕ) → AreNumbersIn names some numbers → number_in names x ≡ Some n → AreNumbersIn names (some ++ x ∷ []) (numbers ++ n ∷ [])
 numbers-push names some numbers x n are is = map-last (λ m. Some m) numbers n ∙ (λ j. are j ++ sym is j ∷ []) ∙ sym (map-last (number_in names) some x)
   where
     map-last : {X Y : Type 0} (f : X → Y) (xs : List X) (z : X) → map f (xs ++ z ∷ []) ≡ map f xs ++ f z ∷ []
@@ -75,8 +75,8 @@ numbers-push names some numbers x n are is = map-last (λ m. Some m) numbers n �
 
 -- with one more, if it is new
 pub numbers-with : (names some : List (List ℕ)) (numbers : List ℕ) (x : List ℕ) (n : ℕ) → AreNumbersIn names some numbers → number_in names x ≡ Some n
-    → AreNumbersIn names (with_name some x) (if list_any (λ k. n == k) numbers then numbers else numbers ++ n ∷ [])
-numbers-with names some numbers x n are is = by (list_any (λ k. n == k) numbers) (number-among names some numbers x n are is)
+    → AreNumbersIn names (with_name some x) (if list_any (λ k. k == n) numbers then numbers else numbers ++ n ∷ [])
+numbers-with names some numbers x n are is = by (list_any (λ k. k == n) numbers) (number-among names some numbers x n are is)
   where
     by : (b : Bool) → b ≡ has_name some x → AreNumbersIn names (with_name some x) (if b then numbers else numbers ++ n ∷ [])
     by true e = subst (λ b. AreNumbersIn names (if b then some else some ++ x ∷ []) numbers) e are
@@ -174,3 +174,18 @@ place-next names policy i v s old long at is so_far k t low there numbered = by 
         ap (λ u. number_in names (full_name_of u)) one ∙ is (ap (λ u. is_numbered u.form) (sym one) ∙ numbered) ∙ ap Some (sym (ap (λ n. get_or (old ++ v ∷ []) n 0) e ∙ get_or_push old v 0 i long))
     by (inr (inl less)) = so_far k t less there numbered ∙ ap Some (sym (get_or_append_left old (v ∷ []) 0 k (omega (arith, less, long))))
     by (inr (inr more)) = absurd (omega (arith, more, low))
+
+-- the text of one of the words passes
+pub text-passes : (p : List ℕ → Bool) (list : List Word) (i : ℕ) (w : Word) → list_all p (texts list) ≡ true → slice_get list i ≡ Some w → p w.text ≡ true
+text-passes p [] i w all at = absurd (none-some w at)
+text-passes p (v ∷ list) zero w all at = ap (λ u. p u.text) (sym (same_Some v w at)) ∙ first_true (p v.text) (list_all p (texts list)) all
+text-passes p (v ∷ list) (suc i) w all at = text-passes p list i w (second_true (p v.text) (list_all p (texts list)) all) at
+
+-- a permission that a statement lists is one of the policy
+pub word-listed : (policy : List Placed) (s : Placed) (i : ℕ) (w : Word) → Contains policy s → slice_get (own_permissions s.form) i ≡ Some w → has_name (listed_names policy) w.text ≡ true
+word-listed policy s i w there at = named-in (λ t. texts (own_permissions t.form)) policy s w.text there (among (own_permissions s.form) i at)
+  where
+    among : (list : List Word) (i : ℕ) → slice_get list i ≡ Some w → has_name (texts list) w.text ≡ true
+    among [] i at = absurd (none-some w at)
+    among (v ∷ list) zero at = ap (λ b. b || has_name (texts list) w.text) (ap (λ u. bytes_eq w.text u.text) (same_Some v w at) ∙ bytes_eq-refl w.text)
+    among (v ∷ list) (suc i) at = ap (λ b. bytes_eq w.text v.text || b) (among list i at) ∙ or-true (bytes_eq w.text v.text)

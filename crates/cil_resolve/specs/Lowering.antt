@@ -17,7 +17,9 @@ use Rattle.cil_check.specs.Bound.{IsSeen}
 use Rattle.cil_check.specs.Checker.{IsNoted}
 use Rattle.cil_check.specs.Ordered.{IsFaultless}
 use Rattle.cil_resolve.specs.Below.{is_element_below, is_name_below, is_class_below, is_rule_below}
-use Rattle.cil_resolve.specs.Numbering.{HavePlaces, HavePermissions}
+use Rattle.cil_text.specs.Image.{place_of}
+use Rattle.cil_resolve.specs.FullNames.{full_name_of}
+use Rattle.cil_resolve.specs.Numbering.{number_in, HavePlaces, HavePermissions}
 use Rattle.cil_resolve.specs.Resolved.{element_of, declared_of, class_of}
 use Rattle.cil_resolve.specs.Resolved as numbered
 use Rattle.cil_check.specs.declared.bound.Seen.{Seen}
@@ -84,10 +86,11 @@ common_in policy namespace _ = None
 abbrev pub common_of : List Placed → Placed → Option Placed
 common_of policy s = option_and_then (λ t. common_in policy t.namespace t.form) (find (λ t. gives_common policy s t.namespace t.form) policy)
 
--- a type or an attribute by numbers
+-- the type, the attribute or the class that a statement declares, by numbers
 pub record IsDeclared (modules names : List (List ℕ)) (d : NumberedName) (s : Placed) : Type 0 where
-  pub is : declared_of modules names d ≡ declared_as types s
-  pub below : IsTrue (is_name_below (length names) d)
+  pub named : slice_index_or modules d.«module» [] ≡ s.module_name
+  pub placed : place_of d.at ≡ s.at
+  pub numbered : number_in names (full_name_of s) ≡ Some d.name
 
 -- a class
 pub record IsClass {A : Type 0} (modules names : List (List ℕ)) (c : NumberedClass A) (policy : List Placed) (s : Placed) : Type 0 where

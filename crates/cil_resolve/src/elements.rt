@@ -11,12 +11,23 @@ ghost use Rattle.cil_check.specs.Checker.{IsNoted};
 ghost use Rattle.cil_check.specs.Ordered.{IsFaultless};
 ghost use Rattle.cil_resolve.specs.Lowering.{IsElement, HaveElements, is_set};
 ghost use Rattle.cil_resolve.specs.Numbering.{HavePlaces};
+ghost use Rattle.cil_resolve.specs.declared.numbered.Element.TheVariants.{«Type»};
 
 use crate::numbered::Element;
 use crate::words::number_at;
 use cil_check::{BoundPolicy, Checker};
 use cil_parse::StatementKind;
 use std::alloc::{AllocError, Allocator};
+
+/// The element of a place, and that of the number 0 past the end.
+pub fn element_in(elements: &[Element], place: usize) -> Element
+    ensures { result ≡ slice_index_or elements.now place («Type» 0) }
+{
+    match elements.get(place) {
+        Some(element) => *element,
+        None => Element::Type(0),
+    }
+}
 
 /// The place that a reference of the statement of a place leads to.
 pub fn lead_at<A: Allocator>(bound: &BoundPolicy<'_, '_, A>, place: u32, k: usize) -> Option<u32>

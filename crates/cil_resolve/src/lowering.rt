@@ -18,7 +18,7 @@ ghost use Rattle.cil_resolve.specs.FullNames.{is_numbered};
 ghost use Rattle.cil_resolve.specs.Lowering.{IsElement, IsLowering, IsIn, IsDeclared, IsClass, AreRules, ArePartsOf, common_of, modules_of, rule_if};
 ghost use Rattle.cil_resolve.specs.Numbering.{AreNumbersIn, listed_names, number_in};
 
-use crate::elements::lead_at;
+use crate::elements::{element_in, lead_at};
 use crate::numbered::{Aim, Element, NumberedClass, NumberedName, NumberedRule};
 use crate::numbering::Numbering;
 use crate::words::number_at;
@@ -61,10 +61,7 @@ impl<'l, 'p, 'm, A: Allocator + Copy> Lowering<'l, 'p, 'm, A> {
             → IsElement self.now.numbering.now.names.items result (element_led policy s.namespace word) }
     {
         let place = seen.lead(k).unwrap_or(0);
-        match self.elements.get(place as usize) {
-            Some(element) => *element,
-            None => Element::Type(0),
-        }
+        element_in(self.elements, place as usize)
     }
 
     /// The number of the class that a reference of a statement leads to.

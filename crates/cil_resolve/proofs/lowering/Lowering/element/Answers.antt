@@ -1,13 +1,18 @@
-use Rattle.std.proofs.Common.{◌≡◌, ◌∙◌, Some, None, sym, ap, subst}
-use Rattle.cil_specs.specs.Lookup.{types, leads}
+use Rattle.std.proofs.Common.{◌≡◌, ◌∙◌, get_or, sym, ap, subst}
+use Rattle.cil_specs.specs.Lookup.{types, leads, references}
+use Rattle.cil_specs.specs.Rule.{element_of}
 use Rattle.cil_check.proofs.SeenLemmas.{seen-lead}
+use Rattle.cil_bind.specs.Lookup.{IsLead}
 use Rattle.cil_resolve.specs.Lowering.{IsElement}
+use Rattle.cil_resolve.specs.declared.numbered.Element.TheVariants as elements
 use Rattle.cil_resolve.proofs.LoweringLemmas.{element-led}
+use Rattle.cil_resolve.proofs.StatementLemmas.{contained}
 use Rattle.cil_resolve.proofs.lowering.Lowering.element.Goals as goal
 
-pub returns-in-Some : goal.returns-in-Some
-returns-in-Some g c policy s word is refers names_it =
-    element-led c.args.self.now policy s word is.lowering is.there (slice_index_or c.args.seen.now.bound.now c.args.k None) (seen-lead c.args.seen.now policy s c.args.k types word is.seen_is refers) ? names_it c.in-Some.element.now ?
-
-pub returns-in-None : goal.returns-in-None
-returns-in-None g c policy s word is refers names_it = ?
+pub returns : goal.returns
+returns g c policy s word is refers names_it =
+    let names = c.args.self.now.numbering.now.names.items in
+    let made = c.args.self.now.elements.now in
+    let lead = subst (λ o. IsLead types policy o (leads policy types s.namespace word.text)) (sym c.lead.ensures) (seen-lead c.args.seen.now policy s c.args.k types word is.seen_is refers) in
+    subst (λ e. IsElement names e (element_of policy s.namespace word)) (ap (λ n. get_or made n (elements.«Type» 0)) (sym c.unwrap_or-place.ensures) ∙ sym c.element_in.ensures)
+    (element-led policy is.lowering.faultless s is.there names made word c.lead.result is.lowering.elements (contained (references s.form) c.args.k (types, word) refers) names_it lead)

@@ -1,0 +1,74 @@
+-- The types, attributes, classes and rules of a policy, statement by statement.
+use Rattle.std.proofs.Common.{◌≡◌, ℕ, zero, suc, Bool, true, false, ◌&&◌, nat_lt, List, [], ◌∷◌, ◌++◌, length, get_or, map, flat_map, Option, Some, is_some, refl, sym, ap, ◌∙◌, subst, true≢false, append-nil, IsTrue}
+use Rattle.std.specs.List.{list_all}
+use Rattle.std.proofs.lemmas.Bool.{lt-ltb}
+use Rattle.std.proofs.lemmas.List.{map-append}
+use Rattle.std.proofs.lemmas.List.Folds.{list_all-append}
+use Rattle.std.proofs.lemmas.Grind.{flat_map-append}
+use Rattle.cil_specs.specs.Names.{Word}
+use Rattle.cil_specs.specs.Joined.{Placed}
+use Rattle.cil_specs.specs.Statements.{Form, block, optional, type_name, type_alias, alias_actual, type_attribute, attribute_set, common, class, class_common, class_order, rule}
+use Rattle.cil_specs.specs.Lookup.{types, classes, declared_in, declared_name, distinct, permissions_of}
+use Rattle.cil_specs.specs.Rule as spec
+use Rattle.cil_specs.specs.Rule.{declared_as, class_as, is_class}
+use Rattle.cil_specs.proofs.Runs.{both_true}
+use Rattle.cil_resolve.specs.Below.{is_name_below, is_class_below}
+use Rattle.cil_resolve.specs.FullNames.{numbered_id, full_name_of}
+use Rattle.cil_resolve.specs.Lowering.{IsDeclared, IsClass, ArePartsOf, AreRules, type_if, attribute_if, class_if, rule_if}
+use Rattle.cil_resolve.specs.Numbering.{AreNumbersIn}
+use Rattle.cil_resolve.specs.Resolved.{declared_of}
+use Rattle.cil_resolve.specs.declared.numbered.NumberedName.{NumberedName}
+use Rattle.cil_resolve.specs.declared.numbered.NumberedClass.{NumberedClass}
+use Rattle.cil_resolve.proofs.ElementLemmas.{full-name-in}
+use Rattle.cil_resolve.proofs.NumberLemmas.{number-is, numbers-are, numbers-below}
+
+pub class-form : (form : Form) → is_class form ≡ true → (id : Word) × (permissions : List Word) × (form ≡ class id permissions)
+class-form (class id permissions) e = (id, permissions, refl)
+class-form (block id) e = absurd (true≢false (sym e))
+class-form (optional id) e = absurd (true≢false (sym e))
+class-form (type_name id) e = absurd (true≢false (sym e))
+class-form (type_alias id) e = absurd (true≢false (sym e))
+class-form (alias_actual alias actual) e = absurd (true≢false (sym e))
+class-form (type_attribute id) e = absurd (true≢false (sym e))
+class-form (attribute_set attribute expr) e = absurd (true≢false (sym e))
+class-form (common id permissions) e = absurd (true≢false (sym e))
+class-form (class_common the_class the_common) e = absurd (true≢false (sym e))
+class-form (class_order the_classes) e = absurd (true≢false (sym e))
+class-form (rule kind source target the_class permissions) e = absurd (true≢false (sym e))
+
+-- a type or an attribute, by its parts
+pub declared-made : (modules names : List (List ℕ)) (d : NumberedName) (s : Placed) (id : Word) → IsDeclared modules names d s → numbered_id s.form ≡ Some id → declared_in types s.form ≡ Some id
+    → (declared_of modules names d ≡ declared_as types s) × (is_name_below (length names) d ≡ true)
+declared-made modules names d s id is numbered declared =
+    let (low, named) = number-is names (full_name_of s) d.name is.numbered in
+    let name = named ∙ full-name-in types s id numbered declared in
+    ((λ j. record { module_name = is.named j; at = is.placed j; name = name j }), lt-ltb d.name (length names) low)
+
+-- a class, by its parts
+pub class-made : {A : Type 0} (modules names : List (List ℕ)) (c : NumberedClass A) (policy : List Placed) (s : Placed) → IsDeclared modules names (record { «module» = c.«module»; at = c.at; name = c.name }) s → is_class s.form ≡ true
+    → AreNumbersIn names (distinct (permissions_of policy s)) c.permissions.items → IsClass modules names c policy s
+class-made modules names c policy s is a_class numbers =
+    let (id, permissions, form) = class-form s.form a_class in
+    let (low, named) = number-is names (full_name_of s) c.name is.numbered in
+    let name = named ∙ full-name-in classes s id (ap numbered_id form) (ap (declared_in classes) form) in
+    let all = numbers-are names (distinct (permissions_of policy s)) c.permissions.items numbers in
+    record {
+      is = λ j. record { module_name = is.named j; at = is.placed j; name = name j; permissions = all j };
+      below = both_true (nat_lt c.name (length names)) (list_all (λ n. nat_lt n (length names)) c.permissions.items) (lt-ltb c.name (length names) low) (numbers-below names (distinct (permissions_of policy s)) c.permissions.items numbers);
+    }
+
+-- a list by pieces, with one piece more
+pub grow : {X Y : Type 0} (f : X → Y) (g : Placed → List Y) (old new more : List X) (statements : List Placed) (s : Placed) → map f old ≡ flat_map g statements → new ≡ old ++ more → map f more ≡ g s
+    → map f new ≡ flat_map g (statements ++ s ∷ [])
+grow f g old new more statements s so_far pushed one =
+    ap (map f) pushed ∙ map-append f old more ∙ ap (λ l. l ++ map f more) so_far ∙ ap (λ l. flat_map g statements ++ l) (one ∙ sym (append-nil (g s))) ∙ sym (flat_map-append g statements (s ∷ []))
+
+-- with none more
+pub stay : {X Y : Type 0} (f : X → Y) (g : Placed → List Y) (old new : List X) (statements : List Placed) (s : Placed) → map f old ≡ flat_map g statements → new ≡ old → g s ≡ [] → map f new ≡ flat_map g (statements ++ s ∷ [])
+stay f g old new statements s so_far same none = grow f g old new [] statements s so_far (same ∙ sym (append-nil old)) (sym none)
+
+pub below-more : {X : Type 0} (p : X → Bool) (old new : List X) (x : X) → list_all p old ≡ true → new ≡ old ++ x ∷ [] → p x ≡ true → list_all p new ≡ true
+below-more p old new x all pushed one = ap (list_all p) pushed ∙ list_all-append p old (x ∷ []) ∙ both_true (list_all p old) (p x && true) all (both_true (p x) true one refl)
+
+pub below-stay : {X : Type 0} (p : X → Bool) (old new : List X) → list_all p old ≡ true → new ≡ old → list_all p new ≡ true
+below-stay p old new all same = ap (list_all p) same ∙ all

@@ -1,0 +1,13 @@
+use Rattle.std.proofs.Common.{◌≡◌, ℕ, List, take, fold, slice_get, Some, IsTrue}
+use Rattle.cil_specs.specs.Joined.{Placed}
+use Rattle.cil_specs.specs.Lookup.{with_name, texts, own_permissions}
+use Rattle.cil_parse.specs.Forms.{kind_of}
+use Rattle.cil_check.specs.Permissions.{lists_own}
+use Rattle.cil_resolve.specs.Lowering.{IsLowering}
+use Rattle.cil_resolve.specs.Numbering.{AreNumbersIn}
+use Rattle.cil_resolve.proofs.lowering.Lowering.add_listed.Given as goal
+
+abbrev pub invariant-loop-word : goal.invariant-loop-word
+invariant-loop-word g l = (policy : List Placed) (s : Placed) (before : List (List ℕ)) → IsLowering l.self policy → slice_get policy l.place ≡ Some s → IsTrue (lists_own (kind_of s.form))
+    → AreNumbersIn l.self.numbering.now.names.items before l.fn.permissions.items
+    → AreNumbersIn l.self.numbering.now.names.items (fold with_name before (texts (take l.word-index (own_permissions s.form)))) l.permissions.items

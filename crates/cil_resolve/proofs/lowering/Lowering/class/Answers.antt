@@ -1,0 +1,15 @@
+use Rattle.std.proofs.Common.{◌≡◌, ◌∙◌, Some, None, get_or, sym, ap, subst}
+use Rattle.std.specs.Option.{unwrap_or}
+use Rattle.cil_specs.specs.Lookup.{classes, leads, references}
+use Rattle.cil_check.proofs.SeenLemmas.{seen-lead}
+use Rattle.cil_bind.specs.Lookup.{IsLead}
+use Rattle.cil_resolve.proofs.LoweringLemmas.{class-led}
+use Rattle.cil_resolve.proofs.StatementLemmas.{contained}
+use Rattle.cil_resolve.proofs.lowering.Lowering.class.Goals as goal
+
+pub returns : goal.returns
+returns g c policy s word is refers =
+    let places = c.args.self.now.numbering.now.places.items in
+    let lead = subst (λ o. IsLead classes policy o (leads policy classes s.namespace word.text)) (sym c.lead.ensures) (seen-lead c.args.seen.now policy s c.args.k classes word is.seen_is refers) in
+    class-led policy is.lowering.faultless s is.there c.args.self.now.numbering.now.names.items places word c.lead.result is.lowering.places (contained (references s.form) c.args.k (classes, word) refers) lead
+    ∙ ap Some (ap (λ n. get_or places n 0) (sym c.unwrap_or-place.ensures) ∙ ap (λ l. get_or l c.unwrap_or-place.result 0) (sym c.deref.ensures.value) ∙ sym c.number_at.ensures)

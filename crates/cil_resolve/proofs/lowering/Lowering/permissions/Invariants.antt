@@ -1,0 +1,12 @@
+use Rattle.std.proofs.Common.{List, take, IsTrue}
+use Rattle.std.specs.List.{list_all}
+use Rattle.cil_specs.specs.Joined.{Placed}
+use Rattle.cil_specs.specs.Lookup.{has_name, texts}
+use Rattle.cil_parse.specs.Forms.{permissions_in}
+use Rattle.cil_resolve.specs.Lowering.{IsIn}
+use Rattle.cil_resolve.specs.Numbering.{AreNumbersIn, listed_names}
+use Rattle.cil_resolve.proofs.lowering.Lowering.permissions.Given as goal
+
+abbrev pub invariant-loop-word : goal.invariant-loop-word
+invariant-loop-word g l = (policy : List Placed) (s : Placed) → IsIn l.self l.seen policy s → IsTrue (list_all (has_name (listed_names policy)) (texts (permissions_in s.form)))
+    → AreNumbersIn l.self.numbering.now.names.items (texts (take l.word-index (permissions_in s.form))) l.permissions.items
