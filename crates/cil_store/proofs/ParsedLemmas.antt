@@ -1,12 +1,8 @@
 -- The parsed modules of entries stand for the modules of their texts.
-use Rattle.std.proofs.Common.{List, ℕ, [], ◌∷◌, false, length, refl, arith}
+use Rattle.std.proofs.Common.{List, ℕ, [], ◌∷◌, refl}
 use Rattle.cil_specs.specs.Joined.{Module}
 use Rattle.cil_specs.specs.Next.{IsModuleText, AreModules}
-use Rattle.cil_specs.specs.Statements.{statement_offsets}
 use Rattle.cil_specs.specs.Store.{Entry}
-use Rattle.cil_specs.proofs.Order.{reading-in_order}
-use Rattle.cil_specs.proofs.OrderLemmas.{rise_from_is}
-use Rattle.cil_specs.proofs.ShapeLemmas.{shapes_rise, shapes_apart}
 use Rattle.cil_bind.specs.declared.joined.NamedModule.{NamedModule}
 use Rattle.cil_resolve.specs.Modules.{IsSound, AreKeptOf}
 use Rattle.cil_store.specs.Stored.{AreParsedOf}
@@ -15,11 +11,7 @@ use Rattle.cil_store.proofs.UnsupportedLemmas.{text_plain}
 -- the module of a text is sound
 sound-text : (bytes : List ℕ) (m : Module) → IsModuleText bytes m.statements → IsSound m
 sound-text bytes m text = record {
-  text = bytes;
-  is_text = text;
-  ordered = rise_from_is 0 (statement_offsets m.statements) (length bytes)
-      (shapes_rise m.statements false text.trees 0 (length bytes) text.shapes (reading-in_order bytes text.trees (length bytes) text.reads (omega arith)));
-  apart = shapes_apart m.statements false text.trees text.shapes;
+  written = record { bytes = bytes; trees = text.trees; reads = text.reads; shapes = text.shapes };
   plain = text_plain bytes m.statements text;
 }
 

@@ -6,7 +6,7 @@ use Rattle.cil_parse.specs.Builder.{read}
 use Rattle.cil_parse.specs.Forms.{permissions_in}
 use Rattle.cil_parse.specs.Parsed.{texts_of}
 use Rattle.cil_parse.specs.declared.row.NumberedWord.{NumberedWord}
-use Rattle.cil_check.specs.Bound.{IsOneName}
+use Rattle.cil_bind.specs.Written.{IsOneName}
 use Rattle.std.specs.List.{AllByRecursion}
 use Rattle.cil_check.proofs.PermissionLemmas.{word-read, as-many, one-name-at, own-listed}
 use Rattle.cil_check.proofs.SeenLemmas.{there-at}
