@@ -155,7 +155,7 @@ find-place {X = X} p q same (x ∷ xs) = by (q x) (same x) (find-place p q same 
     by true e more = ap (λ b. cond b (Some x) (find p xs)) e
     by false e more = ap (λ b. cond b (Some x) (find p xs)) e ∙ more ∙ shifted (position q xs)
 
-find-holds : {X : Type 0} (p : X → Bool) (xs : List X) (x : X) → find p xs ≡ Some x → p x ≡ true
+pub find-holds : {X : Type 0} (p : X → Bool) (xs : List X) (x : X) → find p xs ≡ Some x → p x ≡ true
 find-holds p [] x e = absurd (none-some x e)
 find-holds p (y ∷ ys) x e = by (p y) refl e (find-holds p ys x)
   where

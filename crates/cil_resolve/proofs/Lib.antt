@@ -6,3 +6,5 @@ pub mod FaultlessLemmas
 pub mod ElementLemmas
 pub mod LoweringLemmas
 pub mod PartLemmas
+pub mod CommonLemmas
+pub mod RuleLemmas
