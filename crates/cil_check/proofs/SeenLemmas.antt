@@ -148,6 +148,7 @@ seen-there b policy i row d view bound words s is at here there shown bound_is =
   f = t.f;
   shown = shown t.statements t.f t.spells t.is;
   form = t.form ∙ ap (λ u. u.form) one;
+  place = t.place ∙ ap (λ u. u.at) one;
   named = ap (λ m. m.name.now) (there ∙ get_or_from_slice_get b.joined.now.modules.items row.«module» from.2.m d from.2.at) ∙ from.2.named ∙ ap (λ u. u.module_name) one;
   leads_are = subst (AreLeads policy s.namespace (references s.form)) (sym bound_is) (bound-at policy policy b.policy.now.bound.0 i s is.bound.bound at);
 }

@@ -35,6 +35,7 @@ pub record IsSeen {A : Type 0} (seen : Seen A) (policy : List Placed) (s : Place
   pub f : FlatStatement
   pub shown : IsShown (texts_of seen.«module».now) seen.view f
   pub form : f.form ≡ s.form
+  pub place : f.at ≡ s.at
   pub named : seen.name.now ≡ s.module_name
   pub leads_are : AreLeads policy s.namespace (references s.form) seen.bound.now
 

@@ -48,7 +48,7 @@ type-named names name n is = let (low, named) = number-is names name n is in rec
 pub attribute-named : (names : List (List ℕ)) (name : List ℕ) (n : ℕ) → number_in names name ≡ Some n → IsElement names (elements.Attribute n) (an_attribute name)
 attribute-named names name n is = let (low, named) = number-is names name n is in record { named = ap an_attribute named; below = lt-ltb n (length names) low }
 
-type-form : (form : Form) → is_type form ≡ true → (id : Word) × (form ≡ type_name id)
+pub type-form : (form : Form) → is_type form ≡ true → (id : Word) × (form ≡ type_name id)
 type-form (type_name id) e = (id, refl)
 type-form (block id) e = absurd (true≢false (sym e))
 type-form (optional id) e = absurd (true≢false (sym e))
@@ -142,7 +142,7 @@ module _ (names : List (List ℕ)) (policy : List Placed) (places : List ℕ) (h
       by (is_an_attribute id is) = absurd (true≢false (sym (ap is_alias_kind (sym (ap kind_of is) ∙ kind))))
       by (is_an_alias id is) = subst (IsElement names (elements.«Type» (get_or places k 0))) (ap (element_at policy s) (sym is)) (actual (actual_of policy s) found lead types_it place)
 
-find-place : {X : Type 0} (p q : X → Bool) → ((x : X) → p x ≡ q x) → (xs : List X) → find p xs ≡ option_and_then (slice_get xs) (position q xs)
+pub find-place : {X : Type 0} (p q : X → Bool) → ((x : X) → p x ≡ q x) → (xs : List X) → find p xs ≡ option_and_then (slice_get xs) (position q xs)
 find-place p q same [] = refl
 find-place {X = X} p q same (x ∷ xs) = by (q x) (same x) (find-place p q same xs) ∙ ap (option_and_then (slice_get (x ∷ xs))) (sym (position-cons q x xs))
   where
@@ -155,7 +155,7 @@ find-place {X = X} p q same (x ∷ xs) = by (q x) (same x) (find-place p q same 
     by true e more = ap (λ b. cond b (Some x) (find p xs)) e
     by false e more = ap (λ b. cond b (Some x) (find p xs)) e ∙ more ∙ shifted (position q xs)
 
-find-holds : {X : Type 0} (p : X → Bool) (xs : List X) (x : X) → find p xs ≡ Some x → p x ≡ true
+pub find-holds : {X : Type 0} (p : X → Bool) (xs : List X) (x : X) → find p xs ≡ Some x → p x ≡ true
 find-holds p [] x e = absurd (none-some x e)
 find-holds p (y ∷ ys) x e = by (p y) refl e (find-holds p ys x)
   where

@@ -1,5 +1,5 @@
 -- What is judged of the statements in kept optionals holds of the policy by these.
-use Rattle.std.proofs.Common.{◌≡◌, ℕ, inl, inr, Bool, true, false, cond, map, List, [], ◌∷◌, filter, Contains, refl, sym, ap, ◌∙◌, subst, arith}
+use Rattle.std.proofs.Common.{◌≡◌, ℕ, suc, ◌+◌, slice_get, slice_index_or, Some, IsTrue, inl, inr, Bool, true, false, cond, map, List, [], ◌∷◌, filter, Contains, refl, sym, ap, ◌∙◌, subst, arith}
 use Rattle.std.specs.List.{list_all, AllByRecursion}
 use Rattle.cil_specs.specs.Joined.{Placed}
 use Rattle.cil_specs.specs.PolicyFault.{PolicyFaultKind, PolicyFault, twice, missing, wrong_kind, alias_twice, alias_unset, second_common, too_many_permissions, IsFaultOf}
@@ -12,6 +12,7 @@ use Rattle.cil_specs.proofs.Runs.{first_true}
 use Rattle.cil_specs.proofs.OnceLemmas.{once-filtered}
 use Rattle.cil_specs.specs.Joined.{Module, joined}
 use Rattle.cil_specs.specs.Report.{names_rise}
+use Rattle.cil_specs.specs.Statements.{is_optional}
 use Rattle.cil_specs.proofs.FaultWords.{contains-filtered}
 use Rattle.cil_bind.specs.Ordered.{AreOrdered, IsLeast}
 use Rattle.cil_bind.specs.Written.{AreWritten, HaveOneNames}
@@ -25,6 +26,7 @@ use Rattle.cil_bind.specs.declared.redeclaration.Redeclaration.{Redeclaration}
 use Rattle.cil_bind.proofs.NestedLemmas.{nested-rows}
 use Rattle.cil_bind.proofs.TwiceLemmas.{first-fault-again}
 use Rattle.cil_bind.proofs.WrittenLemmas.{written-apart, written-names}
+use Rattle.cil_resolve.specs.Dropped.{HaveMarks}
 use Rattle.cil_resolve.specs.Judged.{IsJudged, IsWhole, IsInOrder}
 use Rattle.cil_resolve.specs.Resolved.{dropped_with}
 use Rattle.cil_resolve.specs.Modules.{IsSound, AreKeptOf, names_of}
@@ -152,3 +154,11 @@ pub kept-means : {A : Type 0} (policy : List Placed) (parsed others : List (Name
 kept-means policy parsed others judged is meaning same faultless means =
     judged-means policy is.kept is.are_kept is.once meaning faultless
     (means ∙ ap (λ parsed. meaning_of (restricted is.kept policy) (map (dropped_with (names_of parsed)) judged.dropped.items)) same ∙ ap (meaning_of (restricted is.kept policy)) is.dropped_are)
+
+-- each optional's mark, at its place and 1 more
+pub marks-of : (set : Optionals) (marks : List Bool) (policy : List Placed)
+    → ((k : ℕ) (s : Placed) → slice_get policy k ≡ Some s → IsTrue (is_optional s.form) → slice_index_or marks (suc k) false ≡ set s.module_name s.at.offset) → HaveMarks set marks policy
+marks-of set marks policy own i s at is = ap (λ n. slice_index_or marks n false) (one-more i) ∙ own i s at is
+  where
+    one-more : (i : ℕ) → i + 1 ≡ suc i
+    one-more i = omega arith

@@ -6,6 +6,8 @@ pub mod FaultlessLemmas
 pub mod ElementLemmas
 pub mod LoweringLemmas
 pub mod PartLemmas
+pub mod CommonLemmas
+pub mod RuleLemmas
 pub mod FaultLemmas
 pub mod JudgedLemmas
 pub mod PlainLemmas

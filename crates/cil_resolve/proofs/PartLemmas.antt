@@ -1,5 +1,5 @@
 -- The types, attributes, classes and rules of a policy, statement by statement.
-use Rattle.std.proofs.Common.{◌≡◌, ℕ, zero, suc, Bool, true, false, ◌&&◌, nat_lt, List, [], ◌∷◌, ◌++◌, length, get_or, map, flat_map, Option, Some, is_some, refl, sym, ap, ◌∙◌, subst, true≢false, append-nil, IsTrue}
+use Rattle.std.proofs.Common.{◌≡◌, ℕ, zero, suc, Bool, true, false, ◌&&◌, nat_lt, List, [], ◌∷◌, ◌++◌, length, get_or, map, flat_map, Option, Some, is_some, refl, sym, ap, ◌∙◌, subst, true≢false, append-nil, IsTrue, if◌then◌else◌}
 use Rattle.std.specs.List.{list_all}
 use Rattle.std.proofs.lemmas.Bool.{lt-ltb}
 use Rattle.std.proofs.lemmas.List.{map-append}
@@ -11,6 +11,14 @@ use Rattle.cil_specs.specs.Statements.{Form, block, optional, type_name, type_al
 use Rattle.cil_specs.specs.Lookup.{types, classes, declared_in, declared_name, distinct, permissions_of}
 use Rattle.cil_specs.specs.Rule as spec
 use Rattle.cil_specs.specs.Rule.{declared_as, class_as, is_class}
+use Rattle.cil_specs.specs.Lookup.{is_type, is_attribute}
+use Rattle.cil_specs.specs.Statements.{itself, the_named}
+use Rattle.cil_parse.specs.Forms.{kind_of}
+use Rattle.cil_parse.specs.declared.row.StatementKind.{StatementKind}
+use Rattle.cil_parse.specs.declared.row.StatementKind.TheVariants as kinds
+use Rattle.cil_check.specs.Kinds.{is_kind}
+use Rattle.cil_check.specs.declared.kinds.Kind.TheVariants.{«Type», Attribute}
+use Rattle.cil_check.proofs.SeenLemmas.{kind-form}
 use Rattle.cil_specs.proofs.Runs.{both_true}
 use Rattle.cil_resolve.specs.Below.{is_name_below, is_class_below}
 use Rattle.cil_resolve.specs.FullNames.{numbered_id, full_name_of}
@@ -72,3 +80,93 @@ below-more p old new x all pushed one = ap (list_all p) pushed ∙ list_all-appe
 
 pub below-stay : {X : Type 0} (p : X → Bool) (old new : List X) → list_all p old ≡ true → new ≡ old → list_all p new ≡ true
 below-stay p old new all same = ap (list_all p) same ∙ all
+
+pub attribute-form : (form : Form) → is_attribute form ≡ true → (id : Word) × (form ≡ type_attribute id)
+attribute-form (type_attribute id) e = (id, refl)
+attribute-form (block id) e = absurd (true≢false (sym e))
+attribute-form (optional id) e = absurd (true≢false (sym e))
+attribute-form (type_name id) e = absurd (true≢false (sym e))
+attribute-form (type_alias id) e = absurd (true≢false (sym e))
+attribute-form (alias_actual alias actual) e = absurd (true≢false (sym e))
+attribute-form (attribute_set attribute expr) e = absurd (true≢false (sym e))
+attribute-form (common id permissions) e = absurd (true≢false (sym e))
+attribute-form (class id permissions) e = absurd (true≢false (sym e))
+attribute-form (class_common the_class the_common) e = absurd (true≢false (sym e))
+attribute-form (class_order the_classes) e = absurd (true≢false (sym e))
+attribute-form (rule kind source target the_class permissions) e = absurd (true≢false (sym e))
+
+abbrev pub is_class_kind : StatementKind → Bool
+is_class_kind kinds.Class = true
+is_class_kind _ = false
+
+abbrev pub is_rule_kind : StatementKind → Bool
+is_rule_kind (kinds.Rule kind) = true
+is_rule_kind (kinds.RuleToSelf kind) = true
+is_rule_kind _ = false
+
+class-kind : (form : Form) → is_class form ≡ is_class_kind (kind_of form)
+class-kind (class id permissions) = refl
+class-kind (block id) = refl
+class-kind (optional id) = refl
+class-kind (type_name id) = refl
+class-kind (type_alias id) = refl
+class-kind (alias_actual alias actual) = refl
+class-kind (type_attribute id) = refl
+class-kind (attribute_set attribute expr) = refl
+class-kind (common id permissions) = refl
+class-kind (class_common the_class the_common) = refl
+class-kind (class_order the_classes) = refl
+class-kind (rule kind source itself the_class permissions) = refl
+class-kind (rule kind source (the_named word) the_class permissions) = refl
+
+no-rule : (policy : List Placed) (s : Placed) (form : Form) → is_rule_kind (kind_of form) ≡ false → spec.rule_of policy s form ≡ []
+no-rule policy s (rule kind source itself the_class permissions) e = absurd (true≢false e)
+no-rule policy s (rule kind source (the_named word) the_class permissions) e = absurd (true≢false e)
+no-rule policy s (class id permissions) e = refl
+no-rule policy s (block id) e = refl
+no-rule policy s (optional id) e = refl
+no-rule policy s (type_name id) e = refl
+no-rule policy s (type_alias id) e = refl
+no-rule policy s (alias_actual alias actual) e = refl
+no-rule policy s (type_attribute id) e = refl
+no-rule policy s (attribute_set attribute expr) e = refl
+no-rule policy s (common id permissions) e = refl
+no-rule policy s (class_common the_class the_common) e = refl
+no-rule policy s (class_order the_classes) e = refl
+
+-- what a statement of a kind is
+pub record IsOfKind (policy : List Placed) (s : Placed) (kind : StatementKind) : Type 0 where
+  pub type : is_type s.form ≡ is_kind «Type» kind
+  pub attribute : is_attribute s.form ≡ is_kind Attribute kind
+  pub a_class : is_class s.form ≡ is_class_kind kind
+  pub no_rule : is_rule_kind kind ≡ false → rule_if policy s ≡ []
+
+pub of-kind : (policy : List Placed) (s : Placed) (kind : StatementKind) → kind_of s.form ≡ kind → IsOfKind policy s kind
+of-kind policy s kind is = record {
+  type = sym (kind-form «Type» s.form) ∙ ap (is_kind «Type») is;
+  attribute = sym (kind-form Attribute s.form) ∙ ap (is_kind Attribute) is;
+  a_class = class-kind s.form ∙ ap is_class_kind is;
+  no_rule = λ none. no-rule policy s s.form (ap is_rule_kind is ∙ none);
+}
+
+pub no-type-kind : (kind : StatementKind) → (kind ≡ kinds.TypeName → ⊥) → is_kind «Type» kind ≡ false
+no-type-kind kinds.TypeName never = absurd (never refl)
+no-type-kind _ never = refl
+
+pub no-attribute-kind : (kind : StatementKind) → (kind ≡ kinds.TypeAttribute → ⊥) → is_kind Attribute kind ≡ false
+no-attribute-kind kinds.TypeAttribute never = absurd (never refl)
+no-attribute-kind _ never = refl
+
+pub no-class-kind : (kind : StatementKind) → (kind ≡ kinds.Class → ⊥) → is_class_kind kind ≡ false
+no-class-kind kinds.Class never = absurd (never refl)
+no-class-kind _ never = refl
+
+-- what a statement is not
+pub no-type : (s : Placed) → is_type s.form ≡ false → type_if s ≡ []
+no-type s e = ap (λ b. if b then declared_as types s ∷ [] else []) e
+
+pub no-attribute : (s : Placed) → is_attribute s.form ≡ false → attribute_if s ≡ []
+no-attribute s e = ap (λ b. if b then declared_as types s ∷ [] else []) e
+
+pub no-class : (policy : List Placed) (s : Placed) → is_class s.form ≡ false → class_if policy s ≡ []
+no-class policy s e = ap (λ b. if b then class_as policy s ∷ [] else []) e

@@ -1,8 +1,7 @@
-use Rattle.std.proofs.Common.{◌≡◌, List, Bool, false, Some, slice_get, slice_index_or, suc, map, IsTrue, sym, subst}
-use Rattle.cil_specs.specs.Joined.{Placed}
-use Rattle.cil_specs.specs.Kept.{dropped_of}
+use Rattle.std.proofs.Common.{sym, subst}
 use Rattle.cil_bind.specs.Policy.{AreMarked}
 use Rattle.cil_resolve.specs.Dropped.{HaveMarks}
+use Rattle.cil_resolve.proofs.JudgedLemmas.{marks-of}
 use Rattle.cil_resolve.proofs.judged.Judged.of_policy.Goals as goal
 
 pub returns : goal.returns
@@ -14,5 +13,5 @@ returns g c = λ all is.
       apart = is.apart;
       once = is.bound.once;
       bound = c.in_ok-policy.ensures all shown.set is.bound is.apart (subst (λ marks. AreMarked shown.set marks c.args.policy.rows.items all) (sym c.deref-2.ensures.value) shown.marked);
-      dropped_are = c.in_ok-dropped.ensures all shown.set is.bound (subst (λ marks. HaveMarks shown.set marks all) (sym c.deref.ensures.value) shown.own);
+      dropped_are = c.in_ok-dropped.ensures all shown.set is.bound (subst (λ marks. HaveMarks shown.set marks all) (sym c.deref.ensures.value) (marks-of shown.set c.in_ok-kept.kept.items all shown.own));
     }

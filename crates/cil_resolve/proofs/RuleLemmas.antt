@@ -1,0 +1,119 @@
+-- Rules by numbers.
+use Rattle.std.proofs.Common.{◌≡◌, ℕ, zero, suc, Bool, true, false, not, ◌&&◌, ◌||◌, nat_lt, List, [], ◌∷◌, ◌++◌, length, get_or, map, flat_map, slice_get, Contains, Option, Some, None, is_some, bytes_eq, refl, sym, ap, ◌∙◌, subst, true≢false, if◌then◌else◌}
+use Rattle.std.specs.List.{list_all}
+use Rattle.std.proofs.lemmas.Bool.{lt-ltb}
+use Rattle.std.proofs.lemmas.Option.{none-some, same_Some, slice_get-get_or}
+use Rattle.cil_specs.specs.Names.{Word}
+use Rattle.cil_specs.specs.Joined.{Placed}
+use Rattle.cil_specs.specs.Statements.{RuleKind, allow, auditallow, dontaudit, neverallow, Target, Form, block, optional, type_name, type_alias, alias_actual, type_attribute, attribute_set, common, class, class_common, class_order, rule}
+use Rattle.std.specs.Option.{unwrap_or}
+use Rattle.std.proofs.lemmas.List.Folds.{list_any-append}
+use Rattle.cil_specs.proofs.NamesLemmas.{contains-first, contains-other, contains-map}
+use Rattle.cil_parse.specs.Forms.{rule_kind}
+use Rattle.cil_bind.specs.Binding.{AreBound}
+use Rattle.cil_bind.specs.Lookup.{IsLead}
+use Rattle.cil_check.specs.Ordered.{IsFaultless}
+use Rattle.cil_check.proofs.SeenLemmas.{lead-of, bound-at}
+use Rattle.cil_resolve.proofs.FaultlessLemmas.{permission-found}
+use Rattle.cil_resolve.proofs.LoweringLemmas.{found-at}
+use Rattle.cil_resolve.proofs.StatementLemmas.{contained}
+use Rattle.cil_specs.specs.Lookup.{Table, commons, classes, has_name, texts, own_permissions, listed_by, leads, references, named_permissions, gives_common, common_permissions, permissions_of}
+use Rattle.cil_specs.specs.Rule as spec
+use Rattle.cil_specs.specs.Rule.{class_name}
+use Rattle.cil_specs.proofs.Runs.{both_true}
+use Rattle.cil_text.specs.Image.{place_of, rule_kind_of}
+use Rattle.cil_resolve.specs.Below.{is_element_below, is_aim_below, is_rule_below}
+use Rattle.cil_resolve.specs.Lowering.{IsElement, AreRules}
+use Rattle.cil_resolve.specs.Numbering.{number_in, AreNumbersIn, listed_names}
+use Rattle.cil_resolve.specs.Resolved.{aim_of}
+use Rattle.cil_resolve.specs.declared.numbered.NumberedRule.{NumberedRule}
+use Rattle.cil_resolve.proofs.NumberLemmas.{named-in, number-is, numbers-are, numbers-below}
+
+-- a rule, by its parts
+pub rule-made : {A : Type 0} (modules names : List (List ℕ)) (policy : List Placed) (s : Placed) (r : NumberedRule A) (kind : RuleKind) (source : Word) (target : Target) (the_class : Word) (permissions : List Word)
+    → get_or modules r.«module» [] ≡ s.module_name → place_of r.at ≡ s.at → rule_kind_of r.kind ≡ kind → IsElement names r.source (spec.element_of policy s.namespace source)
+    → aim_of names r.target ≡ spec.aim_of policy s.namespace target → is_aim_below (length names) r.target ≡ true → number_in names (class_name policy s.namespace the_class) ≡ Some r.class
+    → AreNumbersIn names (texts permissions) r.permissions.items → AreRules modules names (r ∷ []) (spec.rule_of policy s (rule kind source target the_class permissions))
+rule-made modules names policy s r kind source target the_class permissions m a k from aim aim_below cls numbers =
+    let (low, named) = number-is names (class_name policy s.namespace the_class) r.class cls in
+    let all = numbers-are names (texts permissions) r.permissions.items numbers in
+    record {
+      is = λ j. record { module_name = m j; at = a j; kind = k j; source = from.named j; target = aim j; the_class = named j; permissions = all j } ∷ [];
+      below =
+          both_true (is_rule_below (length names) r) true
+          (both_true (is_element_below (length names) r.source) (is_aim_below (length names) r.target && (nat_lt r.class (length names) && list_all (λ p. nat_lt p (length names)) r.permissions.items)) from.below
+          (both_true (is_aim_below (length names) r.target) (nat_lt r.class (length names) && list_all (λ p. nat_lt p (length names)) r.permissions.items) aim_below
+          (both_true (nat_lt r.class (length names)) (list_all (λ p. nat_lt p (length names)) r.permissions.items) (lt-ltb r.class (length names) low)
+          (numbers-below names (texts permissions) r.permissions.items numbers)))) refl;
+    }
+
+pub kind-back : (kind : RuleKind) → rule_kind_of (rule_kind kind) ≡ kind
+kind-back allow = refl
+kind-back auditallow = refl
+kind-back dontaudit = refl
+kind-back neverallow = refl
+
+any-flat : {X : Type 0} (f : X → List (List ℕ)) (xs : List X) (name : List ℕ) (P : Type 0) → ((x : X) → Contains xs x → has_name (f x) name ≡ true → P) → has_name (flat_map f xs) name ≡ true → P
+any-flat f [] name P each has = absurd (true≢false (sym has))
+any-flat f (x ∷ xs) name P each has =
+    by (has_name (f x) name) refl (sym (list_any-append (bytes_eq name) (f x) (flat_map f xs)) ∙ has) (λ more. any-flat f xs name P (λ y there. each y (contains-other x xs y there)) more)
+  where
+    by : (b : Bool) → has_name (f x) name ≡ b → (has_name (f x) name || has_name (flat_map f xs) name) ≡ true → (has_name (flat_map f xs) name ≡ true → P) → P
+    by true e any more = each x (contains-first x xs) e
+    by false e any more = more (ap (λ b. b || has_name (flat_map f xs) name) (sym e) ∙ any)
+
+module _ (policy : List Placed) (bound : List (List (Option ℕ))) (are : AreBound policy policy bound) where
+  listed : (u : Placed) (n : ℕ) (name : List ℕ) → slice_get policy n ≡ Some u → has_name (texts (own_permissions u.form)) name ≡ true → has_name (listed_names policy) name ≡ true
+  listed u n name at has = named-in (λ t. texts (own_permissions t.form)) policy u name (contained policy n u at) has
+
+  listed-lead : (table : Table) (found : Option ℕ) (lead : Option Placed) (name : List ℕ) → IsLead table policy found lead → has_name (listed_by lead) name ≡ true → has_name (listed_names policy) name ≡ true
+  listed-lead table found None name led has = absurd (true≢false (sym has))
+  listed-lead table None (Some u) name led has = absurd (none-some u led.is)
+  listed-lead table (Some n) (Some u) name led has = listed u n name led.is has
+
+  common-listed : (v : Placed) (i : ℕ) (name : List ℕ) → slice_get policy i ≡ Some v → (form : Form) → v.form ≡ form → has_name (common_permissions policy v.namespace form) name ≡ true → has_name (listed_names policy) name ≡ true
+  common-listed v i name at (class_common the_class the_common) form has =
+      listed-lead commons (get_or (get_or bound i []) 1 None) (leads policy commons v.namespace the_common.text) name
+      (lead-of policy v.namespace (references v.form) (get_or bound i []) 1 (commons, the_common) (bound-at policy policy bound i v are at) (ap (λ f. slice_get (references f) 1) form)) has
+  common-listed v i name at (block id) form has = absurd (true≢false (sym has))
+  common-listed v i name at (optional id) form has = absurd (true≢false (sym has))
+  common-listed v i name at (type_name id) form has = absurd (true≢false (sym has))
+  common-listed v i name at (type_alias id) form has = absurd (true≢false (sym has))
+  common-listed v i name at (alias_actual alias actual) form has = absurd (true≢false (sym has))
+  common-listed v i name at (type_attribute id) form has = absurd (true≢false (sym has))
+  common-listed v i name at (attribute_set attribute expr) form has = absurd (true≢false (sym has))
+  common-listed v i name at (common id permissions) form has = absurd (true≢false (sym has))
+  common-listed v i name at (class id permissions) form has = absurd (true≢false (sym has))
+  common-listed v i name at (class_order the_classes) form has = absurd (true≢false (sym has))
+  common-listed v i name at (rule kind source target the_class permissions) form has = absurd (true≢false (sym has))
+
+  -- the permissions of a class are permissions that statements list
+  class-listed : (t : Placed) (n : ℕ) (name : List ℕ) → slice_get policy n ≡ Some t → has_name (permissions_of policy t) name ≡ true → has_name (listed_names policy) name ≡ true
+  class-listed t n name at has = by (has_name (texts (own_permissions t.form)) name) refl (sym (list_any-append (bytes_eq name) (texts (own_permissions t.form)) (flat_map given policy)) ∙ has)
+    where
+      given : Placed → List (List ℕ)
+      given v = if gives_common policy t v.namespace v.form then common_permissions policy v.namespace v.form else []
+
+      one : (v : Placed) → Contains policy v → has_name (given v) name ≡ true → has_name (listed_names policy) name ≡ true
+      one v there e = which (gives_common policy t v.namespace v.form) refl e
+        where
+          which : (b : Bool) → gives_common policy t v.namespace v.form ≡ b → has_name (if b then common_permissions policy v.namespace v.form else []) name ≡ true → has_name (listed_names policy) name ≡ true
+          which true is h = common-listed v there.0 name (slice_get-get_or policy there.0 v there.1 ∙ ap Some there.2) v.form refl h
+          which false is h = absurd (true≢false (sym h))
+
+      by : (b : Bool) → has_name (texts (own_permissions t.form)) name ≡ b → (has_name (texts (own_permissions t.form)) name || has_name (flat_map given policy) name) ≡ true → has_name (listed_names policy) name ≡ true
+      by true e any = listed t n name at e
+      by false e any = any-flat given policy name (has_name (listed_names policy) name ≡ true) one (ap (λ b. b || has_name (flat_map given policy) name) (sym e) ∙ any)
+
+  -- the permissions that a rule names
+  pub rule-listed : IsFaultless policy → (s : Placed) → Contains policy s → (the_class : Word) (permissions : List Word) → named_permissions s.form ≡ map (λ w. (the_class, w)) permissions
+      → (found : Option ℕ) → IsLead classes policy found (leads policy classes s.namespace the_class.text) → is_some (leads policy classes s.namespace the_class.text) ≡ true
+      → list_all (has_name (listed_names policy)) (texts permissions) ≡ true
+  rule-listed faultless s there the_class permissions named found lead some =
+      let a = found-at classes policy found (leads policy classes s.namespace the_class.text) lead some in
+      all permissions λ w contained_it. class-listed a.t (unwrap_or found 0) w.text a.at
+          (permission-found policy faultless s there the_class w (subst (λ l. Contains l (the_class, w)) (sym named) (contains-map (λ v. (the_class, v)) permissions w contained_it)) a.t a.lead_is)
+    where
+      all : (words : List Word) → ((w : Word) → Contains words w → has_name (listed_names policy) w.text ≡ true) → list_all (has_name (listed_names policy)) (texts words) ≡ true
+      all [] each = refl
+      all (w ∷ words) each = both_true (has_name (listed_names policy) w.text) (list_all (has_name (listed_names policy)) (texts words)) (each w (contains-first w words)) (all words (λ v is. each v (contains-other w words v is)))

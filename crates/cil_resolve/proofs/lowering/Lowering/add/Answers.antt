@@ -1,0 +1,124 @@
+use Rattle.std.proofs.Common.{◌≡◌, ◌∙◌, ◌∷◌, ◌++◌, [], length, map, true, false, refl, sym, ap, subst, if◌then◌else◌}
+use Rattle.std.specs.List.{list_all}
+use Rattle.std.specs.Option.{option_to_list}
+use Rattle.std.proofs.lemmas.List.Folds.{list_all-append}
+use Rattle.cil_specs.specs.Lookup.{types, declared_in}
+use Rattle.cil_specs.specs.Rule.{declared_as, class_as}
+use Rattle.cil_specs.proofs.Runs.{first_true}
+use Rattle.cil_parse.specs.declared.row.StatementKind.TheVariants as kinds
+use Rattle.cil_check.proofs.SeenLemmas.{seen-kind, there-at}
+use Rattle.cil_resolve.specs.Below.{is_name_below, is_class_below, is_rule_below}
+use Rattle.cil_resolve.specs.FullNames.{numbered_id, is_numbered}
+use Rattle.cil_resolve.specs.Lowering.{AreRules, IsIn, modules_of, type_if, attribute_if, class_if, rule_if}
+use Rattle.cil_resolve.specs.Resolved.{declared_of, class_of, rule_of}
+use Rattle.cil_resolve.proofs.ElementLemmas.{type-form}
+use Rattle.cil_resolve.proofs.PartLemmas.{attribute-form, declared-made, of-kind, no-type-kind, no-attribute-kind, no-class-kind, no-type, no-attribute, no-class, grow, stay, below-more}
+use Rattle.cil_resolve.proofs.StatementLemmas.{contained}
+use Rattle.cil_resolve.proofs.lowering.Lowering.add.Goals as goal
+
+pub rule-requires : goal.rule-requires
+rule-requires g c =
+    let (policy, is, low) = c.requires in
+    let (s, at) = there-at policy c.args.i low in
+    (policy, (s, record { lowering = is; there = contained policy c.args.i s at; seen_is = c.seen-seen.ensures.seen policy s is.noted.is at; worded = c.seen-seen.ensures.worded policy is.noted.is }, at))
+
+pub returns-in_ok-push-in-TypeName : goal.returns-in_ok-push-in-TypeName
+returns-in_ok-push-in-TypeName g c policy statements s is at so_far =
+    let modules = modules_of c.args.self.now.checker.now.bound.joined.now in
+    let names = c.args.self.now.numbering.now.names.items in
+    let parts = c.args.parts.now in
+    let seen = c.seen-seen.ensures.seen policy s is.noted.is at in
+    let is_in : IsIn c.args.self.now c.seen-seen.result policy s = record { lowering = is; there = contained policy c.args.i s at; seen_is = seen; worded = c.seen-seen.ensures.worded policy is.noted.is } in
+    let kind = of-kind policy s kinds.TypeName (sym (seen-kind c.seen-seen.result policy s seen) ∙ c.in-TypeName.is) in
+    let (id, form) = type-form s.form kind.type in
+    let d = c.declared.result in
+    let made = declared-made modules names d s id (c.declared.ensures policy s is_in at (ap is_numbered form)) (ap numbered_id form) (ap (declared_in types) form) in
+    record {
+      types_are = grow (declared_of modules names) type_if parts.types.items _ (d ∷ []) statements s so_far.types_are c.in_ok-push-in-TypeName.ensures.items (ap (λ x. x ∷ []) made.0 ∙ sym (ap (λ b. if b then declared_as types s ∷ [] else []) kind.type));
+      types_below = below-more (is_name_below (length names)) parts.types.items _ d so_far.types_below c.in_ok-push-in-TypeName.ensures.items made.1;
+      attributes_are = stay (declared_of modules names) attribute_if parts.attributes.items parts.attributes.items statements s so_far.attributes_are refl (no-attribute s (kind.attribute));
+      attributes_below = so_far.attributes_below;
+      classes_are = stay (class_of modules names) (class_if policy) parts.classes.items parts.classes.items statements s so_far.classes_are refl (no-class policy s (kind.a_class));
+      classes_below = so_far.classes_below;
+      rules_are = record { is = stay (rule_of modules names) (rule_if policy) parts.rules.items parts.rules.items statements s so_far.rules_are.is refl (kind.no_rule refl); below = so_far.rules_are.below };
+    }
+
+pub returns-in_ok-push-in-TypeAttribute : goal.returns-in_ok-push-in-TypeAttribute
+returns-in_ok-push-in-TypeAttribute g c policy statements s is at so_far =
+    let modules = modules_of c.args.self.now.checker.now.bound.joined.now in
+    let names = c.args.self.now.numbering.now.names.items in
+    let parts = c.args.parts.now in
+    let seen = c.seen-seen.ensures.seen policy s is.noted.is at in
+    let is_in : IsIn c.args.self.now c.seen-seen.result policy s = record { lowering = is; there = contained policy c.args.i s at; seen_is = seen; worded = c.seen-seen.ensures.worded policy is.noted.is } in
+    let kind = of-kind policy s kinds.TypeAttribute (sym (seen-kind c.seen-seen.result policy s seen) ∙ c.in-TypeAttribute.is) in
+    let (id, form) = attribute-form s.form kind.attribute in
+    let d = c.declared-in-TypeAttribute.result in
+    let made = declared-made modules names d s id (c.declared-in-TypeAttribute.ensures policy s is_in at (ap is_numbered form)) (ap numbered_id form) (ap (declared_in types) form) in
+    record {
+      types_are = stay (declared_of modules names) type_if parts.types.items parts.types.items statements s so_far.types_are refl (no-type s (kind.type));
+      types_below = so_far.types_below;
+      attributes_are = grow (declared_of modules names) attribute_if parts.attributes.items _ (d ∷ []) statements s so_far.attributes_are c.in_ok-push-in-TypeAttribute.ensures.items (ap (λ x. x ∷ []) made.0 ∙ sym (ap (λ b. if b then declared_as types s ∷ [] else []) kind.attribute));
+      attributes_below = below-more (is_name_below (length names)) parts.attributes.items _ d so_far.attributes_below c.in_ok-push-in-TypeAttribute.ensures.items made.1;
+      classes_are = stay (class_of modules names) (class_if policy) parts.classes.items parts.classes.items statements s so_far.classes_are refl (no-class policy s (kind.a_class));
+      classes_below = so_far.classes_below;
+      rules_are = record { is = stay (rule_of modules names) (rule_if policy) parts.rules.items parts.rules.items statements s so_far.rules_are.is refl (kind.no_rule refl); below = so_far.rules_are.below };
+    }
+
+pub returns-in_ok-push-in-Class : goal.returns-in_ok-push-in-Class
+returns-in_ok-push-in-Class g c policy statements s is at so_far =
+    let modules = modules_of c.args.self.now.checker.now.bound.joined.now in
+    let names = c.args.self.now.numbering.now.names.items in
+    let parts = c.args.parts.now in
+    let seen = c.seen-seen.ensures.seen policy s is.noted.is at in
+    let is_in : IsIn c.args.self.now c.seen-seen.result policy s = record { lowering = is; there = contained policy c.args.i s at; seen_is = seen; worded = c.seen-seen.ensures.worded policy is.noted.is } in
+    let kind = of-kind policy s kinds.Class (sym (seen-kind c.seen-seen.result policy s seen) ∙ c.in-Class.is) in
+    let made = c.in_ok-class_at-in-Class.ensures policy s is_in at kind.a_class in
+    let x = c.in_ok-class_at-in-Class.field-0 in
+    record {
+      types_are = stay (declared_of modules names) type_if parts.types.items parts.types.items statements s so_far.types_are refl (no-type s (kind.type));
+      types_below = so_far.types_below;
+      attributes_are = stay (declared_of modules names) attribute_if parts.attributes.items parts.attributes.items statements s so_far.attributes_are refl (no-attribute s (kind.attribute));
+      attributes_below = so_far.attributes_below;
+      classes_are = grow (class_of modules names) (class_if policy) parts.classes.items _ (x ∷ []) statements s so_far.classes_are c.in_ok-push-in-Class.ensures.items (ap (λ y. y ∷ []) made.is ∙ sym (ap (λ b. if b then class_as policy s ∷ [] else []) kind.a_class));
+      classes_below = below-more (is_class_below (length names)) parts.classes.items _ x so_far.classes_below c.in_ok-push-in-Class.ensures.items made.below;
+      rules_are = record { is = stay (rule_of modules names) (rule_if policy) parts.rules.items parts.rules.items statements s so_far.rules_are.is refl (kind.no_rule refl); below = so_far.rules_are.below };
+    }
+
+pub returns-in_ok-push-in_default : goal.returns-in_ok-push-in_default
+returns-in_ok-push-in_default g c policy statements s is at so_far =
+    let modules = modules_of c.args.self.now.checker.now.bound.joined.now in
+    let names = c.args.self.now.numbering.now.names.items in
+    let parts = c.args.parts.now in
+    let seen = c.seen-seen.ensures.seen policy s is.noted.is at in
+    let is_in : IsIn c.args.self.now c.seen-seen.result policy s = record { lowering = is; there = contained policy c.args.i s at; seen_is = seen; worded = c.seen-seen.ensures.worded policy is.noted.is } in
+    let kind = of-kind policy s c.seen-seen.result.view.kind (sym (seen-kind c.seen-seen.result policy s seen)) in
+    let r = c.in-Some.rule in
+    let made : AreRules modules names (r ∷ []) (rule_if policy s) = subst (λ o. AreRules modules names (option_to_list o) (rule_if policy s)) c.in-Some.is (c.in_ok-rule-in_default.ensures policy s is_in at) in
+    record {
+      types_are = stay (declared_of modules names) type_if parts.types.items parts.types.items statements s so_far.types_are refl (no-type s (kind.type ∙ no-type-kind c.seen-seen.result.view.kind c.in_default.not-TypeName));
+      types_below = so_far.types_below;
+      attributes_are = stay (declared_of modules names) attribute_if parts.attributes.items parts.attributes.items statements s so_far.attributes_are refl (no-attribute s (kind.attribute ∙ no-attribute-kind c.seen-seen.result.view.kind c.in_default.not-TypeAttribute));
+      attributes_below = so_far.attributes_below;
+      classes_are = stay (class_of modules names) (class_if policy) parts.classes.items parts.classes.items statements s so_far.classes_are refl (no-class policy s (kind.a_class ∙ no-class-kind c.seen-seen.result.view.kind c.in_default.not-Class));
+      classes_below = so_far.classes_below;
+      rules_are = record { is = grow (rule_of modules names) (rule_if policy) parts.rules.items _ (r ∷ []) statements s so_far.rules_are.is c.in_ok-push-in_default.ensures.items made.is; below = below-more (is_rule_below (length names)) parts.rules.items _ r so_far.rules_are.below c.in_ok-push-in_default.ensures.items (first_true (is_rule_below (length names) r) true made.below) };
+    }
+
+pub returns-in_default-2 : goal.returns-in_default-2
+returns-in_default-2 g c policy statements s is at so_far =
+    let modules = modules_of c.args.self.now.checker.now.bound.joined.now in
+    let names = c.args.self.now.numbering.now.names.items in
+    let parts = c.args.parts.now in
+    let seen = c.seen-seen.ensures.seen policy s is.noted.is at in
+    let is_in : IsIn c.args.self.now c.seen-seen.result policy s = record { lowering = is; there = contained policy c.args.i s at; seen_is = seen; worded = c.seen-seen.ensures.worded policy is.noted.is } in
+    let kind = of-kind policy s c.seen-seen.result.view.kind (sym (seen-kind c.seen-seen.result policy s seen)) in
+    let made : AreRules modules names [] (rule_if policy s) = subst (λ o. AreRules modules names (option_to_list o) (rule_if policy s)) c.in_default-2.is (c.in_ok-rule-in_default.ensures policy s is_in at) in
+    record {
+      types_are = stay (declared_of modules names) type_if parts.types.items parts.types.items statements s so_far.types_are refl (no-type s (kind.type ∙ no-type-kind c.seen-seen.result.view.kind c.in_default.not-TypeName));
+      types_below = so_far.types_below;
+      attributes_are = stay (declared_of modules names) attribute_if parts.attributes.items parts.attributes.items statements s so_far.attributes_are refl (no-attribute s (kind.attribute ∙ no-attribute-kind c.seen-seen.result.view.kind c.in_default.not-TypeAttribute));
+      attributes_below = so_far.attributes_below;
+      classes_are = stay (class_of modules names) (class_if policy) parts.classes.items parts.classes.items statements s so_far.classes_are refl (no-class policy s (kind.a_class ∙ no-class-kind c.seen-seen.result.view.kind c.in_default.not-Class));
+      classes_below = so_far.classes_below;
+      rules_are = record { is = stay (rule_of modules names) (rule_if policy) parts.rules.items parts.rules.items statements s so_far.rules_are.is refl (sym made.is); below = so_far.rules_are.below };
+    }
