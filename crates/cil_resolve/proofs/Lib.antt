@@ -11,3 +11,4 @@ pub mod RuleLemmas
 pub mod FaultLemmas
 pub mod JudgedLemmas
 pub mod PlainLemmas
+pub mod DroppedLemmas

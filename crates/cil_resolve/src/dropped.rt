@@ -1,6 +1,6 @@
 //! The optionals that drop.
 
-ghost use Rattle.std.specs.Prelude.{◌≡◌, ◌<◌, List, [], Some, map, length, slice_get, IfOk, IsTrue};
+ghost use Rattle.std.specs.Prelude.{◌≡◌, ℕ, List, [], Some, map, length, slice_get, IfOk, IsTrue};
 ghost use Rattle.cil_specs.specs.Joined.{Placed};
 ghost use Rattle.cil_specs.specs.Kept.{Optionals, dropped_of};
 ghost use Rattle.cil_specs.specs.Lookup.{scopes};
@@ -16,26 +16,28 @@ ghost use Rattle.cil_resolve.specs.Resolved.{dropped_with};
 use crate::full_names::{full_name, space_names};
 use crate::numbered::DroppedOptional;
 use crate::text::Text;
-use cil_bind::{Joined, Policy};
+use cil_bind::{Joined, Policy, Row};
 use std::alloc::{AllocError, Allocator};
 
-/// The optional of a place by its full name; the names of the namespaces are given.
+/// The optional of a row by its full name; the names of the namespaces are given.
 fn dropped_optional<A: Allocator + Copy>(
     alloc: A,
     joined: &Joined<'_, A>,
     policy: &Policy<'_, A>,
     spaces: &[Text<A>],
-    i: usize,
+    row: &Row,
 ) -> Result<DroppedOptional<A>, AllocError>
-    requires is { (statements : List Placed) × ((s : Placed) × IsBoundTo policy.now joined.now.modules.items statements × (slice_get statements i ≡ Some s) × IsTrue (is_optional s.form)) }
+    requires is { (statements : List Placed) × ((i : ℕ) × (s : Placed) × IsBoundTo policy.now joined.now.modules.items statements × (slice_get policy.now.rows.items i ≡ Some row.now)
+        × (slice_get statements i ≡ Some s) × IsTrue (is_optional s.form)) }
     requires spaces { spaces.now ≡ map (λ space. space_text (named policy.now.names space)) policy.now.lookup.namespaces }
-    ensures { IfOk result (λ dropped. (statements : List Placed) (s : Placed) → IsBoundTo policy.now joined.now.modules.items statements → slice_get statements i ≡ Some s → IsTrue (is_optional s.form)
-        → dropped_with (modules_of joined.now) dropped ≡ declared_as scopes s) }
+    ensures { IfOk result (λ dropped. (statements : List Placed) (i : ℕ) (s : Placed) → IsBoundTo policy.now joined.now.modules.items statements → slice_get policy.now.rows.items i ≡ Some row.now
+        → slice_get statements i ≡ Some s → IsTrue (is_optional s.form) → dropped_with (modules_of joined.now) dropped ≡ declared_as scopes s) }
 {
-    let row = policy.rows[i];
     let module = joined.modules[row.module as usize].module;
     let view = module.statement(row.index as usize);
-    let id = view.words[0];
+    let Some((_, id)) = view.declared() else {
+        unreachable!("an optional declares its name");
+    };
     Ok(DroppedOptional {
         module: row.module as usize,
         at: view.at,

@@ -1,0 +1,48 @@
+-- Optionals of a bound policy.
+use Rattle.std.proofs.Common.{◌≡◌, ℕ, true, ◌<◌, List, [], length, map, get_or, slice_get, Some, refl, sym, ap, ◌∙◌, subst}
+use Rattle.std.proofs.lemmas.Option.{same_Some}
+use Rattle.cil_specs.specs.Names.{Word}
+use Rattle.cil_specs.specs.Statements.{Form, block, optional, type_name, type_alias, alias_actual, type_attribute, attribute_set, common, class, class_common, class_order, rule, is_optional}
+use Rattle.cil_specs.specs.Joined.{Placed}
+use Rattle.cil_specs.specs.Lookup.{full_name}
+use Rattle.cil_bind.specs.Policy.{IsBoundTo}
+use Rattle.cil_bind.specs.Scope.{IsFrom}
+use Rattle.cil_bind.specs.declared.joined.NamedModule.{NamedModule}
+use Rattle.cil_bind.specs.declared.policy.Policy.{Policy}
+use Rattle.cil_bind.specs.declared.rows.Row.{Row}
+use Rattle.cil_bind.proofs.DeclareLemmas.{row-at}
+use Rattle.cil_bind.proofs.FromLemmas.{from-at}
+use Rattle.cil_resolve.specs.FullNames.{name_in}
+use Rattle.cil_resolve.proofs.FullNamesLemmas.{space_name_of, name-here}
+use Rattle.cil_resolve.proofs.StatementLemmas.{mapped-at}
+
+-- an optional has a name
+pub optional-named : (form : Form) → is_optional form ≡ true → (id : Word) × (form ≡ optional id)
+optional-named (block id) is = cc
+optional-named (optional id) is = (id, refl)
+optional-named (type_name id) is = cc
+optional-named (type_alias id) is = cc
+optional-named (alias_actual alias actual) is = cc
+optional-named (type_attribute id) is = cc
+optional-named (attribute_set attribute expr) is = cc
+optional-named (common id permissions) is = cc
+optional-named (class id permissions) is = cc
+optional-named (class_common the_class the_common) is = cc
+optional-named (class_order the_classes) is = cc
+optional-named (rule kind source target the_class permissions) is = cc
+
+-- A statement stands at a place of a bound policy, and this is its row.
+module _ {A : Type 0} (p : Policy A) (parsed : List (NamedModule A)) (policy : List Placed) (i : ℕ) (row : Row) (s : Placed) (bound : IsBoundTo p parsed policy) (here : slice_get p.rows.items i ≡ Some row)
+    (at : slice_get policy i ≡ Some s) where
+  pub row-from : IsFrom parsed row s
+  row-from = let from = from-at parsed p.rows.items policy i row bound.from here in subst (IsFrom parsed row) (same_Some from.0 s (sym from.1 ∙ at)) from.2
+
+  pub row-module : get_or (map (λ m. m.name.now) parsed) row.«module» [] ≡ s.module_name
+  row-module = mapped-at (λ m. m.name.now) parsed row.«module» row-from.m [] row-from.at ∙ row-from.named
+
+  pub row-within : row.namespace < length p.lookup.namespaces
+  row-within = (row-at p.names p.lookup.namespaces p.rows.items policy i row s bound.stands.rows_are here at).within
+
+  pub row-name : (texts : List (List ℕ)) (name : List ℕ) → texts ≡ map (space_name_of p.names) p.lookup.namespaces → name_in texts row.namespace name ≡ full_name s.namespace name
+  row-name texts name is =
+      name-here p.names p.lookup.namespaces bound.stands.numbered bound.stands.global texts row s name is (row-at p.names p.lookup.namespaces p.rows.items policy i row s bound.stands.rows_are here at)
