@@ -10,16 +10,18 @@ use Rattle.cil_resolve.proofs.lowered.lowered.Goals as goal
 
 pub parts-requires : goal.parts-requires
 parts-requires g c =
-    let (policy, noted, faultless) = c.requires in
-    (policy, record {
-      noted = noted;
-      faultless = faultless;
-      places = c.in_ok-numbering.ensures.places policy noted.is;
-      permissions = c.in_ok-numbering.ensures.permissions policy noted.is;
-      elements = subst (HaveElements c.in_ok-numbering.numbering.names.items policy) (sym c.deref-2.ensures.value)
-          (c.in_ok-elements.ensures c.in_ok-numbering.numbering.names.items policy noted faultless
-          (subst (HavePlaces c.in_ok-numbering.numbering.names.items policy) (sym c.deref.ensures.value) (c.in_ok-numbering.ensures.places policy noted.is)));
-    })
+    let (policy, noted, faultless) = c.requires in (
+      policy,
+      record {
+        noted = noted;
+        faultless = faultless;
+        places = c.in_ok-numbering.ensures.places policy noted.is;
+        permissions = c.in_ok-numbering.ensures.permissions policy noted.is;
+        elements = subst (HaveElements c.in_ok-numbering.numbering.names.items policy) (sym c.deref-2.ensures.value)
+            (c.in_ok-elements.ensures c.in_ok-numbering.numbering.names.items policy noted faultless
+            (subst (HavePlaces c.in_ok-numbering.numbering.names.items policy) (sym c.deref.ensures.value) (c.in_ok-numbering.ensures.places policy noted.is)));
+      },
+    )
 
 pub invariant_of-result : goal.invariant_of-result
 invariant_of-result g c =
