@@ -60,7 +60,7 @@ word-text name None e = absurd (true≢false (sym e))
 word-text name (Some w) e = same_bytes w.text name e
 
 -- two that declare one name are told alike
-same-test : (table : Table) (s t : Placed) → is_same table s t ≡ true → (u : Placed) → is_same table s u ≡ is_same table t u
+pub same-test : (table : Table) (s t : Placed) → is_same table s t ≡ true → (u : Placed) → is_same table s u ≡ is_same table t u
 same-test table s t e u =
     let name = word_text (declared_in table s.form) in
     let named = word-text name (declared_in table t.form) (first_true (is_word name (declared_in table t.form)) (same_namespace t.namespace s.namespace) e) in

@@ -1,12 +1,22 @@
 -- The commons of classes.
-use Rattle.std.proofs.Common.{◌≡◌, ℕ, zero, suc, Bool, true, false, ◌&&◌, ◌||◌, List, [], ◌∷◌, ◌++◌, flat_map, slice_get, position, Contains, Option, Some, None, is_some, option_map, refl, sym, ap, ◌∙◌, subst, true≢false, append-nil, if◌then◌else◌, cond}
+use Rattle.std.proofs.Common.{◌≡◌, ℕ, zero, suc, Bool, true, false, ◌&&◌, ◌||◌, List, [], ◌∷◌, ◌++◌, flat_map, filter, append_assoc, slice_get, position, Contains, Option, Some, None, is_some, option_map, refl, sym, ap, ◌∙◌, subst, true≢false, append-nil, if◌then◌else◌, cond}
 use Rattle.std.specs.List.{find, list_any}
 use Rattle.std.specs.Option.{option_and_then}
 use Rattle.std.proofs.lemmas.Option.{none-some, same_Some}
 use Rattle.cil_specs.specs.Names.{Word}
 use Rattle.cil_specs.specs.Statements.{Form, block, optional, type_name, type_alias, alias_actual, type_attribute, attribute_set, common, class, class_common, class_order, rule}
 use Rattle.cil_specs.specs.Joined.{Placed}
-use Rattle.cil_specs.specs.Lookup.{commons, classes, references, leads, gives_common}
+use Rattle.cil_specs.specs.Lookup.{commons, classes, references, leads, gives_common, is_same, holds_of, common_permissions, permissions_of, own_permissions, texts, listed_by, declared_in}
+use Rattle.cil_specs.specs.PolicyFault.{second_common, has_earlier_common, common_words}
+use Rattle.cil_specs.proofs.NamesLemmas.{contains-first}
+use Rattle.std.proofs.Math.Bool.{or-false}
+use Rattle.std.proofs.lemmas.List.Folds.{list_any-append}
+use Rattle.cil_parse.specs.Forms.{kind_of}
+use Rattle.cil_check.specs.Ordered.{IsFaultless}
+use Rattle.cil_check.specs.Permissions.{lists_own}
+use Rattle.cil_check.proofs.FirstsLemmas.{same-test}
+use Rattle.cil_check.proofs.PositionLemmas.{any-same}
+use Rattle.cil_resolve.proofs.FaultlessLemmas.{contains-filter, no-faulty}
 use Rattle.cil_bind.specs.Lookup.{IsFirstOf}
 use Rattle.cil_check.specs.Gifts.{first_at, gives, HasFirsts}
 use Rattle.cil_check.specs.declared.firsts.Gift.TheVariants.{Common}
@@ -66,3 +76,112 @@ module _ (policy : List Placed) (firsts : List (ℕ × ℕ)) (i : ℕ) (s : Plac
             refers = ap (λ f. slice_get (references f) 1) form.2;
             is = ap (common_in policy t.namespace) (sym form.2) ∙ sym (ap (option_and_then (λ u. common_in policy u.namespace u.form)) (here ∙ e));
           }
+
+-- a statement gives alike to two that are told alike
+giving-same : (policy : List Placed) (s u : Placed) → ((t : Placed) → is_same classes s t ≡ is_same classes u t) → (namespace : List (List ℕ)) (form : Form) → gives_common policy s namespace form ≡ gives_common policy u namespace form
+giving-same policy s u same namespace (class_common the_class the_common) = by (leads policy classes namespace the_class.text)
+  where
+    by : (o : Option Placed) → holds_of (is_same classes s) o ≡ holds_of (is_same classes u) o
+    by None = refl
+    by (Some t) = same t
+giving-same policy s u same namespace (block id) = refl
+giving-same policy s u same namespace (optional id) = refl
+giving-same policy s u same namespace (type_name id) = refl
+giving-same policy s u same namespace (type_alias id) = refl
+giving-same policy s u same namespace (alias_actual alias actual) = refl
+giving-same policy s u same namespace (type_attribute id) = refl
+giving-same policy s u same namespace (attribute_set attribute expr) = refl
+giving-same policy s u same namespace (common id permissions) = refl
+giving-same policy s u same namespace (class id permissions) = refl
+giving-same policy s u same namespace (class_order the_classes) = refl
+giving-same policy s u same namespace (rule kind source target the_class permissions) = refl
+
+module _ (policy : List Placed) (faultless : IsFaultless policy) (s : Placed) where
+  -- no two statements give a common to a class
+  no-two : (before : List Placed) (t : Placed) (after : List Placed) → policy ≡ before ++ t ∷ after → giving policy s t ≡ true → list_any (giving policy s) before ≡ true → ⊥
+  no-two before t after split gives_it earlier =
+      let form = common-form policy s t.namespace t.form gives_it in
+      by form.0 form.1 form.2 (leads policy classes t.namespace form.0.text) refl (sym (ap (gives_common policy s t.namespace) form.2) ∙ gives_it)
+    where
+      by : (the_class the_common : Word) → t.form ≡ class_common the_class the_common → (o : Option Placed) → leads policy classes t.namespace the_class.text ≡ o
+          → holds_of (is_same classes s) (leads policy classes t.namespace the_class.text) ≡ true → ⊥
+      by the_class the_common form None led same = true≢false (sym same ∙ ap (holds_of (is_same classes s)) led)
+      by the_class the_common form (Some u) led same =
+          let alike = same-test classes s u (ap (holds_of (is_same classes s)) (sym led) ∙ same) in
+          let again : has_earlier_common policy before t.namespace the_class ≡ true =
+          ap (holds_of (λ v. list_any (giving policy v) before)) led ∙ any-same (giving policy u) (giving policy s) (λ v. sym (giving-same policy s u alike v.namespace v.form)) before ∙ earlier in
+          no-faulty policy faultless second_common before t after split the_class
+          (subst (λ f. Contains (filter (has_earlier_common policy before t.namespace) (common_words f)) the_class) (sym form)
+          (contains-filter (has_earlier_common policy before t.namespace) (the_class ∷ []) the_class (contains-first the_class []) again))
+
+  -- what statements give to a class by commons
+  abbrev given : Placed → List (List ℕ)
+  given t = if giving policy s t then common_permissions policy t.namespace t.form else []
+
+  given-none : (before rest : List Placed) → policy ≡ before ++ rest → list_any (giving policy s) before ≡ true → flat_map given rest ≡ []
+  given-none before [] split earlier = refl
+  given-none before (t ∷ rest) split earlier =
+      by (giving policy s t) refl (given-none (before ++ t ∷ []) rest (split ∙ sym (append_assoc before (t ∷ []) rest)) (list_any-append (giving policy s) before (t ∷ []) ∙ ap (λ b. b || (giving policy s t || false)) earlier))
+    where
+      by : (b : Bool) → giving policy s t ≡ b → flat_map given rest ≡ [] → (if giving policy s t then common_permissions policy t.namespace t.form else []) ++ flat_map given rest ≡ []
+      by true e more = absurd (no-two before t rest split e earlier)
+      by false e more = (λ j. (if e j then common_permissions policy t.namespace t.form else []) ++ more j)
+
+  abbrev permissions_in_common : Option Placed → List (List ℕ)
+  permissions_in_common None = []
+  permissions_in_common (Some t) = common_permissions policy t.namespace t.form
+
+  given-one : (before rest : List Placed) → policy ≡ before ++ rest → list_any (giving policy s) before ≡ false → flat_map given rest ≡ permissions_in_common (find (giving policy s) rest)
+  given-one before [] split none = refl
+  given-one before (t ∷ rest) split none = by (giving policy s t) refl (λ e. given-one (before ++ t ∷ []) rest next (any ∙ e))
+    where
+      next : policy ≡ (before ++ t ∷ []) ++ rest
+      next = split ∙ sym (append_assoc before (t ∷ []) rest)
+
+      any : list_any (giving policy s) (before ++ t ∷ []) ≡ giving policy s t
+      any = list_any-append (giving policy s) before (t ∷ []) ∙ ap (λ b. b || (giving policy s t || false)) none ∙ or-false (giving policy s t)
+
+      own : List (List ℕ)
+      own = common_permissions policy t.namespace t.form
+
+      by : (b : Bool) → giving policy s t ≡ b → (giving policy s t ≡ false → flat_map given rest ≡ permissions_in_common (find (giving policy s) rest)) → flat_map given (t ∷ rest) ≡ permissions_in_common (find (giving policy s) (t ∷ rest))
+      by true e more =
+          (λ j. (if e j then own else []) ++ given-none (before ++ t ∷ []) rest next (any ∙ e) j) ∙ append-nil own ∙ ap permissions_in_common (sym (ap (λ b. cond b (Some t) (find (giving policy s) rest)) e))
+      by false e more = (λ j. (if e j then own else []) ++ more e j) ∙ ap permissions_in_common (sym (ap (λ b. cond b (Some t) (find (giving policy s) rest)) e))
+
+  common-listed : (namespace : List (List ℕ)) (form : Form) → common_permissions policy namespace form ≡ listed_by (common_in policy namespace form)
+  common-listed namespace (class_common the_class the_common) = refl
+  common-listed namespace (block id) = refl
+  common-listed namespace (optional id) = refl
+  common-listed namespace (type_name id) = refl
+  common-listed namespace (type_alias id) = refl
+  common-listed namespace (alias_actual alias actual) = refl
+  common-listed namespace (type_attribute id) = refl
+  common-listed namespace (attribute_set attribute expr) = refl
+  common-listed namespace (common id permissions) = refl
+  common-listed namespace (class id permissions) = refl
+  common-listed namespace (class_order the_classes) = refl
+  common-listed namespace (rule kind source target the_class permissions) = refl
+
+  -- the permissions of a class are its own and those of its common
+  pub class-permissions : permissions_of policy s ≡ texts (own_permissions s.form) ++ listed_by (common_of policy s)
+  class-permissions = ap (λ l. texts (own_permissions s.form) ++ l) (given-one [] policy refl refl ∙ by (find (giving policy s) policy))
+    where
+      by : (o : Option Placed) → permissions_in_common o ≡ listed_by (option_and_then (λ t. common_in policy t.namespace t.form) o)
+      by None = refl
+      by (Some t) = common-listed t.namespace t.form
+
+-- a common lists permissions
+pub common-lists : (form : Form) → is_some (declared_in commons form) ≡ true → lists_own (kind_of form) ≡ true
+common-lists (common id permissions) e = refl
+common-lists (block id) e = absurd (true≢false (sym e))
+common-lists (optional id) e = absurd (true≢false (sym e))
+common-lists (type_name id) e = absurd (true≢false (sym e))
+common-lists (type_alias id) e = absurd (true≢false (sym e))
+common-lists (alias_actual alias actual) e = absurd (true≢false (sym e))
+common-lists (type_attribute id) e = absurd (true≢false (sym e))
+common-lists (attribute_set attribute expr) e = absurd (true≢false (sym e))
+common-lists (class id permissions) e = absurd (true≢false (sym e))
+common-lists (class_common the_class the_common) e = absurd (true≢false (sym e))
+common-lists (class_order the_classes) e = absurd (true≢false (sym e))
+common-lists (rule kind source target the_class permissions) e = absurd (true≢false (sym e))

@@ -13,7 +13,7 @@ use Rattle.cil_specs.specs.Rule.{is_class}
 use Rattle.cil_specs.proofs.NamesLemmas.{contains-first, contains-other, contains-cases, contains-map, around}
 use Rattle.cil_check.specs.Ordered.{IsFaultless}
 
-contains-filter : {X : Type 0} (p : X → Bool) (xs : List X) (x : X) → Contains xs x → p x ≡ true → Contains (filter p xs) x
+pub contains-filter : {X : Type 0} (p : X → Bool) (xs : List X) (x : X) → Contains xs x → p x ≡ true → Contains (filter p xs) x
 contains-filter p [] x c e = absurd (omega (arith, c.1))
 contains-filter {X = X} p (y ∷ ys) x c e = elim (contains-cases y ys x c) [
   | inl same ↦ first (p y) (ap p same ∙ e) same
@@ -34,7 +34,7 @@ not-false true never = refl
 not-false false never = absurd (never refl)
 
 module _ (policy : List Placed) (faultless : IsFaultless policy) where
-  no-faulty : (kind : PolicyFaultKind) (before : List Placed) (s : Placed) (after : List Placed) → policy ≡ before ++ s ∷ after → (word : Word) → Contains (faulty_words kind policy before s) word → ⊥
+  pub no-faulty : (kind : PolicyFaultKind) (before : List Placed) (s : Placed) (after : List Placed) → policy ≡ before ++ s ∷ after → (word : Word) → Contains (faulty_words kind policy before s) word → ⊥
   no-faulty kind before s after split word is =
       faultless.none (record { kind = kind; module_name = s.module_name; at = word.at; word = word.text })
       (record { before = before; s = s; after = after; word = word; split = split; is_faulty = is; is_at = refl })

@@ -39,11 +39,13 @@ name_in-spaces names spaces texts (suc n) name root inner within low each =
 pub each-name : (names spaces texts : List (List ℕ)) (n : ℕ) → n ≤ length spaces → texts ≡ map (space_name_of names) (take n spaces)
     → (length texts ≡ n) × ((m : ℕ) → m < length texts → get_or texts m [] ≡ space_name_of names (get_or spaces m []))
 each-name names spaces texts n few is =
-    let long : length texts ≡ n = ap length is ∙ length-map (take n spaces) (space_name_of names) ∙ length-take-le n spaces few in
-    (long, λ m low.
-        let below : m < n = omega (arith, low, long) in
-        let taken = length-take-le n spaces few in
-        ap (λ l. get_or l m []) is ∙ get_or-map (space_name_of names) (take n spaces) m [] [] (omega (arith, below, taken)) ∙ ap (space_name_of names) (get_or-take n spaces m [] below))
+    let long : length texts ≡ n = ap length is ∙ length-map (take n spaces) (space_name_of names) ∙ length-take-le n spaces few in (
+      long,
+      λ m low.
+          let below : m < n = omega (arith, low, long) in
+          let taken = length-take-le n spaces few in
+          ap (λ l. get_or l m []) is ∙ get_or-map (space_name_of names) (take n spaces) m [] [] (omega (arith, below, taken)) ∙ ap (space_name_of names) (get_or-take n spaces m [] below),
+    )
 
 module _ (names spaces : List (List ℕ)) (numbered : AreNumbered names spaces) (root : get_or spaces 0 [] ≡ []) where
   -- no other namespace is the global one

@@ -9,6 +9,7 @@ use Rattle.cil_specs.specs.PolicyFault.{element_words}
 use Rattle.cil_specs.specs.Rule.{element_of, element_or_none, class_name, name_or_none}
 use Rattle.cil_specs.specs.Statements.{Form, block, optional, type_name, type_alias, alias_actual, type_attribute, attribute_set, common, class, class_common, class_order, rule}
 use Rattle.cil_check.specs.Ordered.{IsFaultless}
+use Rattle.cil_check.proofs.WordLemmas.{none-there}
 use Rattle.cil_bind.specs.Lookup.{IsLead, IsFirstOf}
 use Rattle.cil_resolve.specs.FullNames.{numbered_id, is_numbered, full_name_of}
 use Rattle.cil_resolve.specs.Lowering.{IsElement, HaveElements, is_set}
@@ -69,3 +70,26 @@ module _ (policy : List Placed) (faultless : IsFaultless policy) (s : Placed) (t
       let a = found-at classes policy found (leads policy classes s.namespace word.text) lead (word-found policy faultless s there classes word refers) in
       let (id, declared, numbered) = class-declares a.t.form (first-declares classes policy (unwrap_or found 0) a.t a.at a.first) in
       ap (λ o. number_in names (name_or_none classes o)) a.lead_is ∙ ap (number_in names) (sym (full-name-in classes a.t id numbered declared)) ∙ have (unwrap_or found 0) a.t a.at (ap is_some numbered)
+
+-- the same of a place that was found
+pub record IsFoundAt (table : Table) (policy : List Placed) (i : ℕ) (lead : Option Placed) : Type 0 where
+  pub t : Placed
+  pub lead_is : lead ≡ Some t
+  pub at : slice_get policy i ≡ Some t
+  pub first : IsFirstOf table policy i
+
+pub found-some : (table : Table) (policy : List Placed) (found : Option ℕ) (lead : Option Placed) → IsLead table policy found lead → (i : ℕ) → found ≡ Some i → IsFoundAt table policy i lead
+found-some table policy None lead leads i is = absurd (none-some i is)
+found-some table policy (Some n) lead leads i is = by (slice_get policy n) refl
+  where
+    same : n ≡ i
+    same = same_Some n i is
+
+    by : (o : Option Placed) → slice_get policy n ≡ o → IsFoundAt table policy i lead
+    by None e = absurd (none-there policy n e leads.within)
+    by (Some t) e = record { t = t; lead_is = sym leads.is ∙ e; at = ap (slice_get policy) (sym same) ∙ e; first = subst (IsFirstOf table policy) same leads.first }
+
+-- nothing is found where a look-up leads nowhere
+pub no-found : (table : Table) (policy : List Placed) (found : Option ℕ) (lead : Option Placed) → IsLead table policy found lead → found ≡ None → None ≡ lead
+no-found table policy None lead leads is = leads.is
+no-found table policy (Some n) lead leads is = absurd (none-some n (sym is))

@@ -9,6 +9,9 @@ use Rattle.cil_specs.specs.Names.{Word}
 use Rattle.cil_specs.specs.Joined.{Placed}
 use Rattle.cil_specs.specs.Statements.{Form, block, optional, type_name, type_alias, alias_actual, type_attribute, attribute_set, common, class, class_common, class_order, rule}
 use Rattle.cil_specs.specs.Lookup.{types, classes, declared_in, declared_name, distinct, permissions_of}
+use Rattle.std.specs.List.{Contains}
+use Rattle.cil_specs.specs.Next.{is_plain_form}
+use Rattle.cil_specs.proofs.NamesLemmas.{contains-first, contains-other}
 use Rattle.cil_specs.specs.Rule as spec
 use Rattle.cil_specs.specs.Rule.{declared_as, class_as, is_class}
 use Rattle.cil_specs.specs.Lookup.{is_type, is_attribute}
@@ -170,3 +173,15 @@ no-attribute s e = ap (λ b. if b then declared_as types s ∷ [] else []) e
 
 pub no-class : (policy : List Placed) (s : Placed) → is_class s.form ≡ false → class_if policy s ≡ []
 no-class policy s e = ap (λ b. if b then class_as policy s ∷ [] else []) e
+
+-- plain statements are no set statements
+no-set : (all : List Placed) (s : Placed) (form : Form) → is_plain_form form ≡ true → spec.set_statement_of all s form ≡ []
+no-set all s (attribute_set attribute expr) plain = absurd (true≢false (sym plain))
+no-set all s _ plain = refl
+
+pub no-sets : (all statements : List Placed) → ((s : Placed) → Contains statements s → is_plain_form s.form ≡ true) → flat_map (λ s. spec.set_statement_of all s s.form) statements ≡ []
+no-sets all [] plain = refl
+no-sets all (s ∷ statements) plain =
+    let first = no-set all s s.form (plain s (contains-first s statements)) in
+    let more = no-sets all statements (λ t there. plain t (contains-other s statements t there)) in
+    λ j. first j ++ more j

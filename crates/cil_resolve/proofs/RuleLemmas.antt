@@ -112,7 +112,7 @@ module _ (policy : List Placed) (bound : List (List (Option ℕ))) (are : AreBou
   rule-listed faultless s there the_class permissions named found lead some =
       let a = found-at classes policy found (leads policy classes s.namespace the_class.text) lead some in
       all permissions λ w contained_it. class-listed a.t (unwrap_or found 0) w.text a.at
-          (permission-found policy faultless s there the_class w (subst (λ l. Contains l (the_class, w)) (sym named) (contains-map (λ v. (the_class, v)) permissions w contained_it)) a.t a.lead_is)
+      (permission-found policy faultless s there the_class w (subst (λ l. Contains l (the_class, w)) (sym named) (contains-map (λ v. (the_class, v)) permissions w contained_it)) a.t a.lead_is)
     where
       all : (words : List Word) → ((w : Word) → Contains words w → has_name (listed_names policy) w.text ≡ true) → list_all (has_name (listed_names policy)) (texts words) ≡ true
       all [] each = refl

@@ -97,11 +97,7 @@ impl<'l, 'p, 'm, A: Allocator + Copy> Lowering<'l, 'p, 'm, A> {
     }
 
     /// Puts in the numbers of the permissions that the class or the common of a place lists, each once.
-    fn add_listed(
-        &self,
-        permissions: &mut Vec<usize, A>,
-        place: u32,
-    ) -> Result<(), AllocError>
+    fn add_listed(&self, permissions: &mut Vec<usize, A>, place: u32) -> Result<(), AllocError>
         requires { (policy : List Placed) × IsLowering self.now policy }
         ensures { OnOk result ((policy : List Placed) (s : Placed) (before : List (List ℕ)) → IsLowering self.now policy → slice_get policy place ≡ Some s → IsTrue (lists_own (kind_of s.form))
             → AreNumbersIn self.now.numbering.now.names.items before permissions.old.items
@@ -159,11 +155,7 @@ impl<'l, 'p, 'm, A: Allocator + Copy> Lowering<'l, 'p, 'm, A> {
     }
 
     /// The class that the statement of a place declares.
-    fn class_at(
-        &self,
-        seen: &Seen<'p, 'm, A>,
-        i: u32,
-    ) -> Result<NumberedClass<A>, AllocError>
+    fn class_at(&self, seen: &Seen<'p, 'm, A>, i: u32) -> Result<NumberedClass<A>, AllocError>
         requires { (policy : List Placed) × IsLowering self.now policy × (i < length policy) }
         ensures { IfOk result (λ class. (policy : List Placed) (s : Placed) → IsIn self.now seen.now policy s → slice_get policy i ≡ Some s → IsTrue (is_class s.form)
             → IsClass (modules_of self.now.checker.now.bound.joined.now) self.now.numbering.now.names.items class policy s) }
@@ -178,11 +170,7 @@ impl<'l, 'p, 'm, A: Allocator + Copy> Lowering<'l, 'p, 'm, A> {
     }
 
     /// The rule that the statement of a place is, if it is one.
-    fn rule(
-        &self,
-        seen: &Seen<'p, 'm, A>,
-        i: usize,
-    ) -> Result<Option<NumberedRule<A>>, AllocError>
+    fn rule(&self, seen: &Seen<'p, 'm, A>, i: usize) -> Result<Option<NumberedRule<A>>, AllocError>
         requires { (policy : List Placed) × ((s : Placed) × IsIn self.now seen.now policy s × (slice_get policy i ≡ Some s)) }
         ensures { IfOk result (λ rule. (policy : List Placed) (s : Placed) → IsIn self.now seen.now policy s → slice_get policy i ≡ Some s
             → AreRules (modules_of self.now.checker.now.bound.joined.now) self.now.numbering.now.names.items (option_to_list rule) (rule_if policy s)) }

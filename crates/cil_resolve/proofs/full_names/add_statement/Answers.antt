@@ -42,7 +42,7 @@ returns g c policy s is at =
       | in-Some+in_ok-add_name w ↦
           let word = reads-word c.seen-seen.result w.in-Some.word (numbered_id s.form) (rw w.in-Some.is at (c.numbered_word.ensures policy s seen)) in
           let full = name-here p.names p.lookup.namespaces is.bound.stands.numbered is.bound.stands.global c.args.spaces.now w.index-row.result.now s w.text_of.result.now c.requires.spaces
-              (row-of c.args.bound.now policy c.args.i w.index-row.result.now s is at w.index-row.ensures) in
+          (row-of c.args.bound.now policy c.args.i w.index-row.result.now s is at w.index-row.ensures) in
           w.names-is ∙ w.in_ok-add_name.ensures ∙ ap (λ l. (old.0, l ++ name_in c.args.spaces.now w.index-row.result.now.namespace w.text_of.result.now)) c.requires.closed ∙ ap (λ l. (old.0, l)) (full ∙ ap (full_name s.namespace) (w.text_of.ensures word.0 word.2) ∙ ap (full_name_or s.namespace) (sym word.1))
       | in_default w ↦
           w.names-is ∙ (λ j. (old.0, c.requires.closed j)) ∙ ap (λ o. (old.0, full_name_or s.namespace o)) (sym (reads-absent c.seen-seen.result (numbered_id s.form) (rw w.in_default.is at (c.numbered_word.ensures policy s seen))))

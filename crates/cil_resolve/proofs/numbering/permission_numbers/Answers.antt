@@ -27,53 +27,53 @@ note_words-requires g c =
     let own : list ≡ own_permissions s.form = ap permissions_in seen.form ∙ own-listed s.form kind in
     record {
       is = (
-          c.args.bound.now.policy.now.names,
-          list,
-          c.seen-seen.ensures.worded policy is,
-          c.permissions.ensures (texts_of c.seen-seen.result.«module».now) seen.f seen.shown,
-          subst (λ f. AllByRecursion IsOneName (permissions_in f)) (sym seen.form) (is.spelt s there),
-          has-words c.args.names.now list (λ name has. are name ∙ named-in names_with policy s name there (own-named s name (ap (λ l. has_name (texts l) name) (sym own) ∙ has))),
-          c.loop-i.invariant.long,
-        );
+        c.args.bound.now.policy.now.names,
+        list,
+        c.seen-seen.ensures.worded policy is,
+        c.permissions.ensures (texts_of c.seen-seen.result.«module».now) seen.f seen.shown,
+        subst (λ f. AllByRecursion IsOneName (permissions_in f)) (sym seen.form) (is.spelt s there),
+        has-words c.args.names.now list (λ name has. are name ∙ named-in names_with policy s name there (own-named s name (ap (λ l. has_name (texts l) name) (sym own) ∙ has))),
+        c.loop-i.invariant.long,
+      );
     }
 
 pub loop-i-preserved : goal.loop-i-preserved
 loop-i-preserved g c = elim c.if-lists_own.branch [
   | then-lists_own w ↦ record {
-      long = ap (λ v. length v.items) w.permissions-is ∙ w.note_words.ensures.long ∙ c.loop-i.invariant.long;
-      noted = λ policy is.
-          let names = c.args.bound.now.policy.now.names in
-          let i = c.loop-i.i in
-          let count = c.len-i-end.ensures policy is in
-          let (s, at) = there-at policy i (omega (arith, count)) in
-          let seen = c.seen-seen.ensures.seen policy s is at in
-          let there = (at-place policy i s at).1 in
-          let kind = sym (c.lists_own.ensures ∙ ap lists_own (seen-kind c.seen-seen.result policy s seen)) ∙ w.if-lists_own.true in
-          let list = permissions_in seen.f.form in
-          let own : list ≡ own_permissions s.form = ap permissions_in seen.form ∙ own-listed s.form kind in
-          let all : listed_names (take i policy) ++ texts list ≡ listed_names (take (i + 1) policy) =
-          ap (λ l. listed_names (take i policy) ++ texts l) own ∙ sym (flat-one (λ t. texts (own_permissions t.form)) policy i s at) in
-          subst (λ some. HavePermissionsOf names c.args.names.now some c.if-lists_own.permissions.items) all
-          (subst (HavePermissionsOf names c.args.names.now (listed_names (take i policy) ++ texts list)) (sym (ap (λ v. v.items) w.permissions-is))
-          (w.note_words.ensures.noted names (listed_names (take i policy)) list (c.seen-seen.ensures.worded policy is) (w.permissions.ensures (texts_of c.seen-seen.result.«module».now) seen.f seen.shown)
-          is.bound.stands.numbered.names_distinct (subst (λ f. AllByRecursion IsOneName (permissions_in f)) (sym seen.form) (is.spelt s there))
-          c.loop-i.invariant.long (c.loop-i.invariant.noted policy is)));
-    }
+    long = ap (λ v. length v.items) w.permissions-is ∙ w.note_words.ensures.long ∙ c.loop-i.invariant.long;
+    noted = λ policy is.
+        let names = c.args.bound.now.policy.now.names in
+        let i = c.loop-i.i in
+        let count = c.len-i-end.ensures policy is in
+        let (s, at) = there-at policy i (omega (arith, count)) in
+        let seen = c.seen-seen.ensures.seen policy s is at in
+        let there = (at-place policy i s at).1 in
+        let kind = sym (c.lists_own.ensures ∙ ap lists_own (seen-kind c.seen-seen.result policy s seen)) ∙ w.if-lists_own.true in
+        let list = permissions_in seen.f.form in
+        let own : list ≡ own_permissions s.form = ap permissions_in seen.form ∙ own-listed s.form kind in
+        let all : listed_names (take i policy) ++ texts list ≡ listed_names (take (i + 1) policy) =
+        ap (λ l. listed_names (take i policy) ++ texts l) own ∙ sym (flat-one (λ t. texts (own_permissions t.form)) policy i s at) in
+        subst (λ some. HavePermissionsOf names c.args.names.now some c.if-lists_own.permissions.items) all
+        (subst (HavePermissionsOf names c.args.names.now (listed_names (take i policy) ++ texts list)) (sym (ap (λ v. v.items) w.permissions-is))
+        (w.note_words.ensures.noted names (listed_names (take i policy)) list (c.seen-seen.ensures.worded policy is) (w.permissions.ensures (texts_of c.seen-seen.result.«module».now) seen.f seen.shown)
+        is.bound.stands.numbered.names_distinct (subst (λ f. AllByRecursion IsOneName (permissions_in f)) (sym seen.form) (is.spelt s there))
+        c.loop-i.invariant.long (c.loop-i.invariant.noted policy is)));
+  }
   | else-lists_own w ↦ record {
-      long = ap (λ v. length v.items) w.permissions-is ∙ c.loop-i.invariant.long;
-      noted = λ policy is.
-          let names = c.args.bound.now.policy.now.names in
-          let i = c.loop-i.i in
-          let count = c.len-i-end.ensures policy is in
-          let (s, at) = there-at policy i (omega (arith, count)) in
-          let seen = c.seen-seen.ensures.seen policy s is at in
-          let kind = sym (c.lists_own.ensures ∙ ap lists_own (seen-kind c.seen-seen.result policy s seen)) ∙ w.if-lists_own.false in
-          let all : listed_names (take i policy) ≡ listed_names (take (i + 1) policy) =
-          sym (append-nil (listed_names (take i policy))) ∙ ap (λ l. listed_names (take i policy) ++ texts l) (sym (none-listed s.form kind))
-          ∙ sym (flat-one (λ t. texts (own_permissions t.form)) policy i s at) in
-          subst (λ v. HavePermissionsOf names c.args.names.now (listed_names (take (i + 1) policy)) v.items) (sym w.permissions-is)
-          (subst (λ some. HavePermissionsOf names c.args.names.now some c.loop-i.permissions.items) all (c.loop-i.invariant.noted policy is));
-    }
+    long = ap (λ v. length v.items) w.permissions-is ∙ c.loop-i.invariant.long;
+    noted = λ policy is.
+        let names = c.args.bound.now.policy.now.names in
+        let i = c.loop-i.i in
+        let count = c.len-i-end.ensures policy is in
+        let (s, at) = there-at policy i (omega (arith, count)) in
+        let seen = c.seen-seen.ensures.seen policy s is at in
+        let kind = sym (c.lists_own.ensures ∙ ap lists_own (seen-kind c.seen-seen.result policy s seen)) ∙ w.if-lists_own.false in
+        let all : listed_names (take i policy) ≡ listed_names (take (i + 1) policy) =
+        sym (append-nil (listed_names (take i policy))) ∙ ap (λ l. listed_names (take i policy) ++ texts l) (sym (none-listed s.form kind))
+        ∙ sym (flat-one (λ t. texts (own_permissions t.form)) policy i s at) in
+        subst (λ v. HavePermissionsOf names c.args.names.now (listed_names (take (i + 1) policy)) v.items) (sym w.permissions-is)
+        (subst (λ some. HavePermissionsOf names c.args.names.now some c.loop-i.permissions.items) all (c.loop-i.invariant.noted policy is));
+  }
 ]
 
 pub returns : goal.returns

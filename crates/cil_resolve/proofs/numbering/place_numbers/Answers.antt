@@ -24,26 +24,26 @@ number-requires g c =
 pub loop-i-preserved : goal.loop-i-preserved
 loop-i-preserved g c = elim c.if-is_numbered.branch [
   | then-is_numbered+in_ok-push w ↦ record {
-      long = ap (λ v. length v.items) w.places-is ∙ ap length w.in_ok-push.ensures.items ∙ length_push c.loop-i.places.items w.number.result ∙ ap (λ n. n + 1) c.loop-i.invariant.long;
-      placed = λ policy is full.
-          let i = c.loop-i.i in
-          let count = c.len-i-end.ensures policy is in
-          let (s, at) = there-at policy i (omega (arith, count)) in
-          subst (HavePlacesBelow c.args.names.now policy (i + 1)) (sym (ap (λ v. v.items) w.places-is ∙ w.in_ok-push.ensures.items))
-          (place-next c.args.names.now policy i w.number.result s c.loop-i.places.items c.loop-i.invariant.long at
-          (λ numbered. ap (number_in c.args.names.now) (sym (w.get.ensures ∙ ap (λ l. get_or l i []) full ∙ mapped-at full_name_of policy i s [] at)) ∙ w.number.ensures)
-          (c.loop-i.invariant.placed policy is full));
-    }
+    long = ap (λ v. length v.items) w.places-is ∙ ap length w.in_ok-push.ensures.items ∙ length_push c.loop-i.places.items w.number.result ∙ ap (λ n. n + 1) c.loop-i.invariant.long;
+    placed = λ policy is full.
+        let i = c.loop-i.i in
+        let count = c.len-i-end.ensures policy is in
+        let (s, at) = there-at policy i (omega (arith, count)) in
+        subst (HavePlacesBelow c.args.names.now policy (i + 1)) (sym (ap (λ v. v.items) w.places-is ∙ w.in_ok-push.ensures.items))
+        (place-next c.args.names.now policy i w.number.result s c.loop-i.places.items c.loop-i.invariant.long at
+        (λ numbered. ap (number_in c.args.names.now) (sym (w.get.ensures ∙ ap (λ l. get_or l i []) full ∙ mapped-at full_name_of policy i s [] at)) ∙ w.number.ensures)
+        (c.loop-i.invariant.placed policy is full));
+  }
   | else-is_numbered+in_ok-push-2 w ↦ record {
-      long = ap (λ v. length v.items) w.places-is ∙ ap length w.in_ok-push-2.ensures.items ∙ length_push c.loop-i.places.items 0 ∙ ap (λ n. n + 1) c.loop-i.invariant.long;
-      placed = λ policy is full.
-          let i = c.loop-i.i in
-          let count = c.len-i-end.ensures policy is in
-          let (s, at) = there-at policy i (omega (arith, count)) in
-          let kind = sym (c.is_numbered.ensures ∙ ap is_numbered_kind (seen-kind c.seen.result policy s (c.seen.ensures.seen policy s is at)) ∙ kind-numbered s.form) ∙ w.if-is_numbered.false in
-          subst (HavePlacesBelow c.args.names.now policy (i + 1)) (sym (ap (λ v. v.items) w.places-is ∙ w.in_ok-push-2.ensures.items))
-          (place-next c.args.names.now policy i 0 s c.loop-i.places.items c.loop-i.invariant.long at (λ numbered. absurd (true≢false (sym numbered ∙ kind))) (c.loop-i.invariant.placed policy is full));
-    }
+    long = ap (λ v. length v.items) w.places-is ∙ ap length w.in_ok-push-2.ensures.items ∙ length_push c.loop-i.places.items 0 ∙ ap (λ n. n + 1) c.loop-i.invariant.long;
+    placed = λ policy is full.
+        let i = c.loop-i.i in
+        let count = c.len-i-end.ensures policy is in
+        let (s, at) = there-at policy i (omega (arith, count)) in
+        let kind = sym (c.is_numbered.ensures ∙ ap is_numbered_kind (seen-kind c.seen.result policy s (c.seen.ensures.seen policy s is at)) ∙ kind-numbered s.form) ∙ w.if-is_numbered.false in
+        subst (HavePlacesBelow c.args.names.now policy (i + 1)) (sym (ap (λ v. v.items) w.places-is ∙ w.in_ok-push-2.ensures.items))
+        (place-next c.args.names.now policy i 0 s c.loop-i.places.items c.loop-i.invariant.long at (λ numbered. absurd (true≢false (sym numbered ∙ kind))) (c.loop-i.invariant.placed policy is full));
+  }
 ]
 
 pub returns : goal.returns

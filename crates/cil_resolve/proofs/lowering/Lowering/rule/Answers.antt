@@ -35,38 +35,37 @@ returns g c policy s is at =
       permissions = c.in_ok-permissions.field-0;
     } in
     elim c.match-seen.branch [
-  | in-Rule w ↦
-      let kind = sym (seen-kind c.args.seen.now policy s is.seen_is) ∙ w.in-Rule.is in
-      let (k, source, word, the_class, permissions, form) = form-rule s.form w.in-Rule.kind kind in
-      let code : rule_kind k ≡ w.in-Rule.kind = (let e = sym (ap kind_of form) ∙ kind in cc) in
-      let cls = c.class.ensures policy s the_class is (ap (λ t. slice_get (references s.form) t.2) w.kind-is ∙ ap (λ f. slice_get (references f) 2) form) in
-      let refers : slice_get (references s.form) 2 ≡ Some (classes, the_class) = ap (λ f. slice_get (references f) 2) form in
-      let lead = seen-lead c.args.seen.now policy s 2 classes the_class is.seen_is refers in
-      let some = word-found policy is.lowering.faultless s is.there classes the_class (contained (references s.form) 2 (classes, the_class) refers) in
-      let named = rule-listed policy c.args.self.now.checker.now.bound.policy.now.bound.0 is.lowering.noted.is.bound.bound is.lowering.faultless s is.there the_class permissions (ap named_permissions form) _ lead some in
-      let numbers = subst (λ f. AreNumbersIn names (texts (permissions_in f)) c.in_ok-permissions.field-0.items) form
+      | in-Rule w ↦
+          let kind = sym (seen-kind c.args.seen.now policy s is.seen_is) ∙ w.in-Rule.is in
+          let (k, source, word, the_class, permissions, form) = form-rule s.form w.in-Rule.kind kind in
+          let code : rule_kind k ≡ w.in-Rule.kind = (let e = sym (ap kind_of form) ∙ kind in cc) in
+          let cls = c.class.ensures policy s the_class is (ap (λ t. slice_get (references s.form) t.2) w.kind-is ∙ ap (λ f. slice_get (references f) 2) form) in
+          let refers : slice_get (references s.form) 2 ≡ Some (classes, the_class) = ap (λ f. slice_get (references f) 2) form in
+          let lead = seen-lead c.args.seen.now policy s 2 classes the_class is.seen_is refers in
+          let some = word-found policy is.lowering.faultless s is.there classes the_class (contained (references s.form) 2 (classes, the_class) refers) in
+          let named = rule-listed policy c.args.self.now.checker.now.bound.policy.now.bound.0 is.lowering.noted.is.bound.bound is.lowering.faultless s is.there the_class permissions (ap named_permissions form) _ lead some in
+          let numbers = subst (λ f. AreNumbersIn names (texts (permissions_in f)) c.in_ok-permissions.field-0.items) form
           (c.in_ok-permissions.ensures policy s is (subst (λ f. list_all (has_name (listed_names policy)) (texts (permissions_in f)) ≡ true) (sym form) named)) in
-      let from = c.element-2.ensures policy s source is (ap (λ f. slice_get (references f) 0) form) (subst (λ f. Contains (element_words f) source) (sym form) (contains-first source (word ∷ []))) in
-      let to = w.element.ensures policy s word is (ap (λ f. slice_get (references f) 1) form) (subst (λ f. Contains (element_words f) word) (sym form) (contains-other source (word ∷ []) word (contains-first word []))) in
-      subst (λ f. AreRules modules names (r ∷ []) (spec.rule_of policy s f)) (sym form)
-      (rule-made modules names policy s r k source (the_named word) the_class permissions (c.module.ensures policy s is.lowering at) (is.seen_is.shown.at ∙ is.seen_is.place)
-      (ap (λ t. rule_kind_of t.0) w.kind-is ∙ ap rule_kind_of (sym code) ∙ kind-back k) from
-      (ap (λ t. aim_of names t.1) w.kind-is ∙ ap at_element to.named) (ap (λ t. is_aim_below (length names) t.1) w.kind-is ∙ to.below) cls numbers)
-  | in-RuleToSelf w ↦
-      let kind = sym (seen-kind c.args.seen.now policy s is.seen_is) ∙ w.in-RuleToSelf.is in
-      let (k, source, the_class, permissions, form) = form-to-self s.form w.in-RuleToSelf.kind kind in
-      let code : rule_kind k ≡ w.in-RuleToSelf.kind = (let e = sym (ap kind_of form) ∙ kind in cc) in
-      let cls = c.class.ensures policy s the_class is (ap (λ t. slice_get (references s.form) t.2) w.kind-is ∙ ap (λ f. slice_get (references f) 1) form) in
-      let refers : slice_get (references s.form) 1 ≡ Some (classes, the_class) = ap (λ f. slice_get (references f) 1) form in
-      let lead = seen-lead c.args.seen.now policy s 1 classes the_class is.seen_is refers in
-      let some = word-found policy is.lowering.faultless s is.there classes the_class (contained (references s.form) 1 (classes, the_class) refers) in
-      let named = rule-listed policy c.args.self.now.checker.now.bound.policy.now.bound.0 is.lowering.noted.is.bound.bound is.lowering.faultless s is.there the_class permissions (ap named_permissions form) _ lead some in
-      let numbers = subst (λ f. AreNumbersIn names (texts (permissions_in f)) c.in_ok-permissions.field-0.items) form
+          let from = c.element-2.ensures policy s source is (ap (λ f. slice_get (references f) 0) form) (subst (λ f. Contains (element_words f) source) (sym form) (contains-first source (word ∷ []))) in
+          let to = w.element.ensures policy s word is (ap (λ f. slice_get (references f) 1) form) (subst (λ f. Contains (element_words f) word) (sym form) (contains-other source (word ∷ []) word (contains-first word []))) in
+          subst (λ f. AreRules modules names (r ∷ []) (spec.rule_of policy s f)) (sym form)
+          (rule-made modules names policy s r k source (the_named word) the_class permissions (c.module.ensures policy s is.lowering at) (is.seen_is.shown.at ∙ is.seen_is.place)
+          (ap (λ t. rule_kind_of t.0) w.kind-is ∙ ap rule_kind_of (sym code) ∙ kind-back k) from
+          (ap (λ t. aim_of names t.1) w.kind-is ∙ ap at_element to.named) (ap (λ t. is_aim_below (length names) t.1) w.kind-is ∙ to.below) cls numbers)
+      | in-RuleToSelf w ↦
+          let kind = sym (seen-kind c.args.seen.now policy s is.seen_is) ∙ w.in-RuleToSelf.is in
+          let (k, source, the_class, permissions, form) = form-to-self s.form w.in-RuleToSelf.kind kind in
+          let code : rule_kind k ≡ w.in-RuleToSelf.kind = (let e = sym (ap kind_of form) ∙ kind in cc) in
+          let cls = c.class.ensures policy s the_class is (ap (λ t. slice_get (references s.form) t.2) w.kind-is ∙ ap (λ f. slice_get (references f) 1) form) in
+          let refers : slice_get (references s.form) 1 ≡ Some (classes, the_class) = ap (λ f. slice_get (references f) 1) form in
+          let lead = seen-lead c.args.seen.now policy s 1 classes the_class is.seen_is refers in
+          let some = word-found policy is.lowering.faultless s is.there classes the_class (contained (references s.form) 1 (classes, the_class) refers) in
+          let named = rule-listed policy c.args.self.now.checker.now.bound.policy.now.bound.0 is.lowering.noted.is.bound.bound is.lowering.faultless s is.there the_class permissions (ap named_permissions form) _ lead some in
+          let numbers = subst (λ f. AreNumbersIn names (texts (permissions_in f)) c.in_ok-permissions.field-0.items) form
           (c.in_ok-permissions.ensures policy s is (subst (λ f. list_all (has_name (listed_names policy)) (texts (permissions_in f)) ≡ true) (sym form) named)) in
-      let from = c.element-2.ensures policy s source is (ap (λ f. slice_get (references f) 0) form) (subst (λ f. Contains (element_words f) source) (sym form) (contains-first source [])) in
-
-      subst (λ f. AreRules modules names (r ∷ []) (spec.rule_of policy s f)) (sym form)
-      (rule-made modules names policy s r k source itself the_class permissions (c.module.ensures policy s is.lowering at) (is.seen_is.shown.at ∙ is.seen_is.place)
-      (ap (λ t. rule_kind_of t.0) w.kind-is ∙ ap rule_kind_of (sym code) ∙ kind-back k) from
-      (ap (λ t. aim_of names t.1) w.kind-is) (ap (λ t. is_aim_below (length names) t.1) w.kind-is) cls numbers)
+          let from = c.element-2.ensures policy s source is (ap (λ f. slice_get (references f) 0) form) (subst (λ f. Contains (element_words f) source) (sym form) (contains-first source [])) in
+          subst (λ f. AreRules modules names (r ∷ []) (spec.rule_of policy s f)) (sym form)
+          (rule-made modules names policy s r k source itself the_class permissions (c.module.ensures policy s is.lowering at) (is.seen_is.shown.at ∙ is.seen_is.place)
+          (ap (λ t. rule_kind_of t.0) w.kind-is ∙ ap rule_kind_of (sym code) ∙ kind-back k) from
+          (ap (λ t. aim_of names t.1) w.kind-is) (ap (λ t. is_aim_below (length names) t.1) w.kind-is) cls numbers)
     ]

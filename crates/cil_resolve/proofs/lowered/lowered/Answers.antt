@@ -1,0 +1,64 @@
+use Rattle.std.proofs.Common.{◌≡◌, ◌∙◌, List, ℕ, map, sym, ap, subst}
+use Rattle.cil_specs.specs.Joined.{Placed}
+use Rattle.cil_check.specs.Checker.{IsNoted}
+use Rattle.cil_check.specs.Ordered.{IsFaultless}
+use Rattle.cil_resolve.specs.Lowering.{HaveElements, modules_of}
+use Rattle.cil_resolve.specs.Numbering.{HavePlaces}
+use Rattle.cil_resolve.specs.Resolved.{declared_of, class_of, rule_of, dropped_with}
+use Rattle.cil_resolve.proofs.PartLemmas.{no-sets}
+use Rattle.cil_resolve.proofs.lowered.lowered.Goals as goal
+
+pub parts-requires : goal.parts-requires
+parts-requires g c =
+    let (policy, noted, faultless) = c.requires in (
+      policy,
+      record {
+        noted = noted;
+        faultless = faultless;
+        places = c.in_ok-numbering.ensures.places policy noted.is;
+        permissions = c.in_ok-numbering.ensures.permissions policy noted.is;
+        elements = subst (HaveElements c.in_ok-numbering.numbering.names.items policy) (sym c.deref-2.ensures.value)
+            (c.in_ok-elements.ensures c.in_ok-numbering.numbering.names.items policy noted faultless
+            (subst (HavePlaces c.in_ok-numbering.numbering.names.items policy) (sym c.deref.ensures.value) (c.in_ok-numbering.ensures.places policy noted.is)));
+      },
+    )
+
+pub invariant_of-result : goal.invariant_of-result
+invariant_of-result g c =
+    let (policy, noted, faultless) = c.requires in
+    let parts = c.in_ok-parts.ensures policy (record {
+      noted = noted;
+      faultless = faultless;
+      places = c.in_ok-numbering.ensures.places policy noted.is;
+      permissions = c.in_ok-numbering.ensures.permissions policy noted.is;
+      elements = subst (HaveElements c.in_ok-numbering.numbering.names.items policy) (sym c.deref-2.ensures.value)
+          (c.in_ok-elements.ensures c.in_ok-numbering.numbering.names.items policy noted faultless
+          (subst (HavePlaces c.in_ok-numbering.numbering.names.items policy) (sym c.deref.ensures.value) (c.in_ok-numbering.ensures.places policy noted.is)));
+    }) in
+    record {
+      ordered = c.in_ok-numbering.numbering.ordered;
+      types_within = parts.types_below;
+      attributes_within = parts.attributes_below;
+      classes_within = parts.classes_below;
+      rules_within = parts.rules_are.below;
+    }
+
+pub returns : goal.returns
+returns g c policy noted faultless plain =
+    let parts = c.in_ok-parts.ensures policy (record {
+      noted = noted;
+      faultless = faultless;
+      places = c.in_ok-numbering.ensures.places policy noted.is;
+      permissions = c.in_ok-numbering.ensures.permissions policy noted.is;
+      elements = subst (HaveElements c.in_ok-numbering.numbering.names.items policy) (sym c.deref-2.ensures.value)
+          (c.in_ok-elements.ensures c.in_ok-numbering.numbering.names.items policy noted faultless
+          (subst (HavePlaces c.in_ok-numbering.numbering.names.items policy) (sym c.deref.ensures.value) (c.in_ok-numbering.ensures.places policy noted.is)));
+    }) in
+    let names = c.in_ok-numbering.numbering.names.items in
+    let modules = c.in_ok-module_names.ensures in
+    let types = (λ k. map (declared_of (modules k) names) c.in_ok-parts.parts.types.items) ∙ parts.types_are in
+    let attributes = (λ k. map (declared_of (modules k) names) c.in_ok-parts.parts.attributes.items) ∙ parts.attributes_are in
+    let classes = (λ k. map (class_of (modules k) names) c.in_ok-parts.parts.classes.items) ∙ parts.classes_are in
+    let rules = (λ k. map (rule_of (modules k) names) c.in_ok-parts.parts.rules.items) ∙ parts.rules_are.is in
+    let sets = no-sets policy policy plain in
+    λ i. record { types = types i; attributes = attributes i; classes = classes i; sets = sym sets i; rules = rules i; dropped = map (dropped_with (modules i)) c.args.dropped.items }
