@@ -12,3 +12,4 @@ pub mod FaultLemmas
 pub mod JudgedLemmas
 pub mod PlainLemmas
 pub mod DroppedLemmas
+pub mod FormLemmas

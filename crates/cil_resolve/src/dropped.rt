@@ -1,6 +1,6 @@
 //! The optionals that drop.
 
-ghost use Rattle.std.specs.Prelude.{◌≡◌, ℕ, List, [], Some, map, length, slice_get, IfOk, IsTrue};
+ghost use Rattle.std.specs.Prelude.{◌≡◌, ◌<◌, ◌++◌, ℕ, List, [], Some, map, length, slice_get, IfOk, OnOk, IsTrue};
 ghost use Rattle.cil_specs.specs.Joined.{Placed};
 ghost use Rattle.cil_specs.specs.Kept.{Optionals, dropped_of};
 ghost use Rattle.cil_specs.specs.Lookup.{scopes};
@@ -8,7 +8,7 @@ ghost use Rattle.cil_specs.specs.Rule.{declared_as};
 ghost use Rattle.cil_specs.specs.Statements.{is_optional};
 ghost use Rattle.cil_bind.specs.Lookup.{named};
 ghost use Rattle.cil_bind.specs.Policy.{IsBoundTo};
-ghost use Rattle.cil_resolve.specs.Dropped.{mark_of, HaveMarks};
+ghost use Rattle.cil_resolve.specs.Dropped.{mark_of, dropped_if, HaveMarks};
 ghost use Rattle.cil_resolve.specs.FullNames.{space_text};
 ghost use Rattle.cil_resolve.specs.Lowering.{modules_of};
 ghost use Rattle.cil_resolve.specs.Resolved.{dropped_with};
@@ -45,6 +45,30 @@ fn dropped_optional<A: Allocator + Copy>(
     })
 }
 
+/// Puts the optional of a place behind others, if it drops.
+fn add_dropped<A: Allocator + Copy>(
+    alloc: A,
+    joined: &Joined<'_, A>,
+    policy: &Policy<'_, A>,
+    spaces: &[Text<A>],
+    kept: &[bool],
+    i: usize,
+    dropped: &mut Vec<DroppedOptional<A>, A>,
+) -> Result<(), AllocError>
+    requires is { (statements : List Placed) × IsBoundTo policy.now joined.now.modules.items statements }
+    requires within { i < length policy.now.rows.items }
+    requires spaces { spaces.now ≡ map (λ space. space_text (named policy.now.names space)) policy.now.lookup.namespaces }
+    ensures { OnOk result ((statements : List Placed) (set : Optionals) (s : Placed) → IsBoundTo policy.now joined.now.modules.items statements → HaveMarks set kept.now statements → slice_get statements i ≡ Some s
+        → map (dropped_with (modules_of joined.now)) dropped.new.items ≡ map (dropped_with (modules_of joined.now)) dropped.old.items ++ dropped_if set s) }
+{
+    let row = &policy.rows[i];
+    if row.is_optional && !is_marked(kept, i) {
+        let optional = dropped_optional(alloc, joined, policy, spaces, row)?;
+        dropped.push(optional)?;
+    }
+    Ok(())
+}
+
 /// The optionals of a policy that aren't marked as kept, in the order of their statements. The mark of an optional is that of its number, its
 /// place and 1 more.
 pub fn dropped_optionals<A: Allocator + Copy>(
@@ -60,9 +84,7 @@ pub fn dropped_optionals<A: Allocator + Copy>(
     let spaces = space_names(alloc, policy)?;
     let mut dropped = Vec::new(alloc);
     for i in 0..policy.rows.len() {
-        if policy.rows[i].is_optional && !is_marked(kept, i) {
-            dropped.push(dropped_optional(alloc, joined, policy, &spaces, i)?)?;
-        }
+        add_dropped(alloc, joined, policy, &spaces, kept, i, &mut dropped)?;
     }
     Ok(dropped)
 }

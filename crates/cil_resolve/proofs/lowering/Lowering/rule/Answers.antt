@@ -8,7 +8,6 @@ use Rattle.cil_specs.specs.Statements.{itself, the_named}
 use Rattle.cil_specs.proofs.NamesLemmas.{contains-first, contains-other}
 use Rattle.cil_text.specs.Image.{rule_kind_of}
 use Rattle.cil_parse.specs.Forms.{kind_of, rule_kind, permissions_in}
-use Rattle.cil_check.proofs.AskedLemmas.{form-rule, form-to-self}
 use Rattle.cil_check.proofs.SeenLemmas.{seen-kind, seen-lead}
 use Rattle.cil_resolve.specs.Below.{is_aim_below}
 use Rattle.cil_resolve.specs.Lowering.{AreRules, modules_of}
@@ -16,6 +15,7 @@ use Rattle.cil_resolve.specs.Numbering.{AreNumbersIn, listed_names}
 use Rattle.cil_resolve.specs.Resolved.{aim_of}
 use Rattle.cil_resolve.specs.declared.numbered.NumberedRule.{NumberedRule}
 use Rattle.cil_resolve.proofs.FaultlessLemmas.{word-found}
+use Rattle.cil_resolve.proofs.FormLemmas.{form-rule, form-to-self}
 use Rattle.cil_resolve.proofs.RuleLemmas.{rule-made, rule-listed, kind-back}
 use Rattle.cil_resolve.proofs.StatementLemmas.{contained}
 use Rattle.cil_resolve.proofs.lowering.Lowering.rule.Goals as goal

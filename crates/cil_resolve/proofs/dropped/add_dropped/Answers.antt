@@ -1,0 +1,48 @@
+use Rattle.std.proofs.Common.{◌≡◌, ◌++◌, [], ◌∷◌, map, sym, ap, ◌∙◌, arith, append-nil}
+use Rattle.std.proofs.lemmas.List.{map-append}
+use Rattle.cil_bind.proofs.DeclareLemmas.{rows-length}
+use Rattle.cil_check.proofs.SeenLemmas.{there-at}
+use Rattle.cil_resolve.specs.Dropped.{dropped_if}
+use Rattle.cil_resolve.specs.Lowering.{modules_of}
+use Rattle.cil_resolve.specs.Resolved.{dropped_with}
+use Rattle.cil_resolve.proofs.DroppedLemmas.{row-here, row-optional, one-dropped, kept-none, other-none}
+use Rattle.cil_resolve.proofs.dropped.add_dropped.Goals as goal
+use Rattle.cil_resolve.proofs.dropped.add_dropped.Goals.{else-row-via-then-row+else-not-is_marked, else-row-via-else-row}
+
+pub dropped_optional-requires-clause-is : goal.dropped_optional-requires-clause-is
+dropped_optional-requires-clause-is g c =
+    let (policy, bound) = c.requires.is in
+    let p = c.args.policy.now in
+    let row = c.index-row.result.now in
+    let long = rows-length p.names p.lookup.namespaces p.rows.items policy bound.stands.rows_are in
+    let low = c.requires.within in
+    let (s, at) = there-at policy c.args.i (omega (arith, long, low)) in
+    let here = row-here p.rows.items c.args.i row low c.index-row.ensures in
+    (policy, (c.args.i, s, bound, here, at, sym (row-optional p c.args.joined.now.modules.items policy c.args.i row s bound here at) ∙ c.if-row.true))
+
+pub returns-in_ok-push : goal.returns-in_ok-push
+returns-in_ok-push g c = λ policy set s bound marks at.
+    let p = c.args.policy.now in
+    let row = c.index-row.result.now in
+    let here = row-here p.rows.items c.args.i row c.requires.within c.index-row.ensures in
+    let is = sym (row-optional p c.args.joined.now.modules.items policy c.args.i row s bound here at) ∙ c.if-row.true in
+    let not_in = sym (marks c.args.i s at is) ∙ sym c.is_marked.ensures ∙ c.if-not-is_marked.true in
+    let seen = dropped_with (modules_of c.args.joined.now) in
+    ap (map seen) c.in_ok-push.ensures.items ∙ map-append seen c.args.dropped.now.items _
+    ∙ ap (λ d. map seen c.args.dropped.now.items ++ d) (ap (λ d. d ∷ []) (c.in_ok-optional.ensures policy c.args.i s bound here at is) ∙ sym (one-dropped set s is not_in))
+
+pub returns-else-row : goal.returns-else-row
+returns-else-row g c = λ policy set s bound marks at.
+    let p = c.args.policy.now in
+    let row = c.index-row.result.now in
+    let here = row-here p.rows.items c.args.i row c.requires.within c.index-row.ensures in
+    let same = row-optional p c.args.joined.now.modules.items policy c.args.i row s bound here at in
+    let old = map (dropped_with (modules_of c.args.joined.now)) c.args.dropped.now.items in
+    let none : dropped_if set s ≡ [] =
+    elim c.else-row.branch [
+      | else-row-via-then-row+else-not-is_marked w ↦
+          let is = sym same ∙ w.if-row.true in
+          kept-none set s is (sym (marks c.args.i s at is) ∙ sym w.is_marked.ensures ∙ w.if-not-is_marked.false)
+      | else-row-via-else-row w ↦ other-none set s (sym same ∙ w.if-row.false)
+    ] in
+    sym (append-nil old) ∙ ap (λ d. old ++ d) (sym none)

@@ -1,0 +1,13 @@
+use Rattle.std.proofs.Common.{◌≡◌, List, map, take, flat_map}
+use Rattle.cil_specs.specs.Joined.{Placed}
+use Rattle.cil_specs.specs.Kept.{Optionals}
+use Rattle.cil_bind.specs.Policy.{IsBoundTo}
+use Rattle.cil_resolve.specs.Dropped.{dropped_if, HaveMarks}
+use Rattle.cil_resolve.specs.Lowering.{modules_of}
+use Rattle.cil_resolve.specs.Resolved.{dropped_with}
+use Rattle.cil_resolve.proofs.dropped.dropped_optionals.Given as goal
+
+abbrev pub invariant-loop-i : goal.invariant-loop-i
+invariant-loop-i g l =
+    (statements : List Placed) (set : Optionals) → IsBoundTo l.policy l.joined.modules.items statements → HaveMarks set l.kept statements
+    → map (dropped_with (modules_of l.joined)) l.dropped.items ≡ flat_map (dropped_if set) (take l.i statements)
