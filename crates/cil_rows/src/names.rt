@@ -1,13 +1,16 @@
 //! Small policies by calls of `cil_resolve`: one that compiles, and some with a fault.
 
-ghost use Rattle.std.specs.Prelude.{ℕ, List, IfOk};
+ghost use Rattle.std.specs.Prelude.{◌≡◌, List, IsTrue, IfOk};
 ghost use Rattle.cil_specs.specs.Joined.{Module};
+ghost use Rattle.cil_specs.specs.Next.{is_plain as is_plain_module};
+ghost use Rattle.cil_specs.specs.Statements.{Statements};
+ghost use Rattle.cil_parse.specs.Parsed.{Spells};
 ghost use Rattle.cil_resolve.specs.Modules.{AreKeptOf};
-ghost use Rattle.cil_store.specs.Stored.{IsParsedOf};
+ghost use Rattle.cil_rows.specs.Sound.{is_set_kind, IsSoundModule};
 
-use crate::answers::{assert_same, module_of, shown};
+use crate::answers::{assert_same, shown};
 use crate::tables::assert_changes;
-use cil_parse::ParsedModule;
+use cil_parse::{ParsedModule, StatementKind, parse};
 use cil_resolve::{
     AimView, ClassView, Element, ElementView, Joined, NameView, NamedModule, PolicyFault, Resolved,
     RuleView, join, resolve, resolve_types,
@@ -23,14 +26,43 @@ const CLASS_AND_TYPE: &[u8] = b"(class p (use))(type a)";
 
 const RULE: &[u8] = b"(allow a a (p (use)))";
 
+// Whether statements of a kind are attribute sets.
+fn is_set(kind: StatementKind) -> bool
+    ensures { result ≡ is_set_kind kind }
+{
+    matches!(kind, StatementKind::TypeAttributeSet)
+}
+
+// Whether a module has no attribute set.
+fn is_plain(module: &ParsedModule) -> bool
+    ensures { IsTrue result → (statements : Statements) → Spells «module».now statements → IsTrue (is_plain_module statements) }
+{
+    for i in 0..module.len() {
+        if is_set(module.statement(i).kind) {
+            return false;
+        }
+    }
+    true
+}
+
+// The parsed module of a text, also of rules that no store takes yet.
+fn module_of(rt: &impl Abort, alloc: Global, text: &[u8]) -> ParsedModule
+    ensures { IsSoundModule result }
+{
+    assert!(rt; text.len() <= 16_777_216, "too long a text");
+    let module = parse(alloc, text).expect(rt, "a module");
+    assert!(rt; is_plain(&module), "an attribute set");
+    module
+}
+
 // The modules m and n.
 fn joined<'m>(
     alloc: Global,
     m: &'m ParsedModule,
     n: &'m ParsedModule,
 ) -> Result<Joined<'m>, AllocError>
-    requires first { (text : List ℕ) × IsParsedOf text m.now }
-    requires second { (text : List ℕ) × IsParsedOf text n.now }
+    requires first { IsSoundModule m.now }
+    requires second { IsSoundModule n.now }
     ensures { IfOk result (λ joined. (modules : List Module) × AreKeptOf joined.modules.items modules) }
 {
     let modules = Vec::from_array(
@@ -108,6 +140,11 @@ const RULES: &[(&[u8], Fault<'static>)] = &[
     (b"(allow a c (p (use)))", Some((42, "n", 9, "c"))),
     (b"(allow a a (p (read)))", Some((42, "n", 15, "read"))),
     (RULE, None),
+    (
+        b"(neverallow a self (p (read)))",
+        Some((42, "n", 23, "read")),
+    ),
+    (b"(dontaudit a self (p (use)))", None),
 ];
 
 #[test]
@@ -124,9 +161,9 @@ fn finds_the_least_code(rt: HostRuntime) {
 }
 
 // The accesses of a rule beside a class and a type.
-fn table(rt: &impl Abort, alloc: Global) -> Table {
+fn table(rt: &impl Abort, alloc: Global, rule: &[u8]) -> Table {
     let m = module_of(rt, alloc, CLASS_AND_TYPE);
-    let n = module_of(rt, alloc, RULE);
+    let n = module_of(rt, alloc, rule);
     let joined = joined(alloc, &m, &n).expect(rt, "memory");
     let policy = resolve_types(alloc, &joined).expect(rt, "a policy");
     Table::of(alloc, policy).expect(rt, "memory")
@@ -236,8 +273,19 @@ const ACCESS: Atom<'static> = Atom {
 };
 
 #[test]
+fn the_table_of_a_rule_to_self(rt: HostRuntime) {
+    let table = table(&rt, rt.alloc(), b"(auditallow a self (p (use)))");
+    let kind = RuleKind::AuditAllow;
+    assert_same(
+        &rt,
+        (table.get(0), table.get(1)),
+        (Some(Atom { kind, ..ACCESS }), None),
+    );
+}
+
+#[test]
 fn the_table_of_a_policy(rt: HostRuntime) {
-    let table = table(&rt, rt.alloc());
+    let table = table(&rt, rt.alloc(), RULE);
     assert_same(&rt, (table.len(), table.is_empty()), (1, false));
     assert_same(&rt, (table.get(0), table.get(1)), (Some(ACCESS), None));
     assert_same(&rt, table.rows(rt.alloc()).expect(&rt, "memory").len(), 1);
@@ -254,7 +302,7 @@ fn the_table_of_a_policy(rt: HostRuntime) {
 fn changes_between_tables(rt: HostRuntime) {
     let none = Table::empty(rt.alloc());
     assert_same(&rt, (none.len(), none.is_empty()), (0, true));
-    let one = table(&rt, rt.alloc());
+    let one = table(&rt, rt.alloc(), RULE);
     let came = Changes::between(rt.alloc(), &none, &one).expect(&rt, "memory");
     assert_changes(&rt, &came, &[("a", "a", "use")], &[]);
     let went = Changes::between(rt.alloc(), &one, &none).expect(&rt, "memory");

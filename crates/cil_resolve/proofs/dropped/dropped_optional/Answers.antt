@@ -61,5 +61,5 @@ returns g c = λ policy i s bound here at is.
     let (id, form) = optional-named s.form is in
     let same = declares-one (table_of c.in-Some.field-0-0) scopes s.form it.0 id (ap (declared_in (table_of c.in-Some.field-0-0)) (sym there.form) ∙ it.1) (ap (declared_in scopes) form) in
     let name = c.in_ok-full_name.ensures ∙ row-name p parsed policy i row s bound here at c.args.spaces.now c.text.result.now c.requires.spaces
-        ∙ ap (full_name s.namespace) (c.text.ensures ∙ sym (read-text texts c.in-Some.id it.0 it.2) ∙ ap (λ w. w.text) same) ∙ ap (λ f. full_name s.namespace (word_text (declared_in scopes f))) (sym form) in
+    ∙ ap (full_name s.namespace) (c.text.ensures ∙ sym (read-text texts c.in-Some.id it.0 it.2) ∙ ap (λ w. w.text) same) ∙ ap (λ f. full_name s.namespace (word_text (declared_in scopes f))) (sym form) in
     (λ j. record { module_name = row-module p parsed policy i row s bound here at j; at = (shown.at ∙ there.place) j; name = name j })

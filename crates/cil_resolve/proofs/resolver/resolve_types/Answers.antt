@@ -67,10 +67,9 @@ returns-clause-meaning g c = λ modules are.
     let kept = restricted is.kept (joined modules) in
     let parsed = c.args.joined.now.modules.items in
     let order = judged-in-order parsed modules are c.args.joined.now.ordered c.in_ok-policy.field-0 is in
-    let faultless = c.in_ok-checker.ensures.faultless kept order in
-    (
+    let faultless = c.in_ok-checker.ensures.faultless kept order in (
       is.kept,
       kept-means (joined modules) parsed c.in_ok-checker.checker.bound.joined.now.modules.items c.in_ok-policy.field-0 is (meaning_in c.in_ok-lowered.field-0) (ap (λ j. j.modules.items) c.in_ok-checker.ensures.joined) faultless
-      (c.in_ok-lowered.ensures kept (c.in_ok-checker.ensures.noted kept order) faultless (kept-plain is.kept modules are.sound)),
+          (c.in_ok-lowered.ensures kept (c.in_ok-checker.ensures.noted kept order) faultless (kept-plain is.kept modules are.sound)),
       c.in_ok-check_attributes.ensures.ok kept (c.in_ok-checker.ensures.noted kept order).is,
     )

@@ -15,8 +15,7 @@ returns-in-Twice-clause-err g c = λ modules are.
 pub of_policy-requires : goal.of_policy-requires
 of_policy-requires g c =
     let modules = c.requires.0 in
-    let are = c.requires.1 in
-    (
+    let are = c.requires.1 in (
       joined modules,
       once-whole c.args.joined.now.modules.items modules are c.args.joined.now.ordered c.in_ok-policy.field-0 c.in-Once.policy (c.in_ok-policy.ensures.made modules are.spelt) (c.in_ok-policy.ensures.around modules are.spelt) c.in-Once.is,
     )
