@@ -31,3 +31,10 @@ pub mod FaultWords
 pub mod OneFault
 pub mod OneStore
 pub mod StoreOrder
+pub mod SetLemmas
+pub mod MemberLemmas
+pub mod MeansLemmas
+pub mod DependsLemmas
+pub mod DependenceLemmas
+pub mod FirstLemmas
+pub mod CircularLemmas

@@ -144,7 +144,7 @@ entry-same (x ∷ xs) e f sorted a b names priorities = by (contains-cases x xs 
     by (inr c) (inl q) next = absurd (not-less x e (ap (λ k. k.name) q ∙ sym names) (ap (λ k. k.priority) q ∙ sym priorities) (all-contained (λ y. entry_cmp x y ≡ Less) xs e sorted.0 c))
     by (inr c) (inr d) next = next c d
 
-passed : {X : Type 0} (p : X → Bool) (xs : List X) → AllByRecursion (λ x. p x ≡ true) (filter p xs)
+pub passed : {X : Type 0} (p : X → Bool) (xs : List X) → AllByRecursion (λ x. p x ≡ true) (filter p xs)
 passed p [] = tt
 passed p (x ∷ xs) = by (p x) refl (passed p xs)
   where

@@ -12,8 +12,12 @@ pub mod Joined
 pub mod Lookup
 pub mod PolicyFault
 pub mod Rule
+pub mod Sets
+pub mod Dependence
+pub mod Circular
 pub mod Kept
 pub mod Meaning
+pub mod Members
 pub mod Report
 pub mod Store
 pub mod Next
