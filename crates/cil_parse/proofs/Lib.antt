@@ -5,6 +5,7 @@ pub mod AddsLemmas
 pub mod BuilderLemmas
 pub mod FlatLemmas
 pub mod PlaceLemmas
+pub mod TreeLemmas
 pub mod ParsedLemmas
 pub mod ViewLemmas
 pub mod AroundLemmas

@@ -8,3 +8,4 @@ pub mod Kinds
 pub mod View
 pub mod Parsed
 pub mod Texts
+pub mod FromTrees

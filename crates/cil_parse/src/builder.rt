@@ -1,20 +1,26 @@
 //! Going over the statements of a module.
 
-ghost use Rattle.std.specs.Prelude.{◌≡◌, ◌∷◌, ◌++◌, [], List, map, IfOk, OnOk};
+ghost use Rattle.std.specs.Prelude.{◌≡◌, ◌∷◌, ◌++◌, [], List, map, false, IsTrue, IfOk, IfErr, OnOk};
 ghost use Rattle.cil_specs.specs.Expr.{leaves};
 ghost use Rattle.cil_specs.specs.Names.{Word as SpecWord};
 ghost use Rattle.cil_specs.specs.Statements.{target_words, rule};
-ghost use Rattle.cil_text.specs.Image.{place_of, word_of, target_of, rule_kind_of, expr_of, statements_of};
+ghost use Rattle.cil_specs.specs.Trees.{are_lists};
+ghost use Rattle.cil_specs.specs.Shape.{IsFirstShapeFault};
+ghost use Rattle.cil_text.specs.Image.{place_of, word_of, target_of, rule_kind_of, expr_of, statements_of, trees_of, FaultIs};
 ghost use Rattle.cil_text.specs.Form.{form_of, at_of};
 ghost use Rattle.cil_text.specs.Expr.{exprs_of};
+ghost use Rattle.cil_text.specs.Forest.{forest_of};
+ghost use Rattle.cil_text.specs.Walk.{IsFirstAmong};
 ghost use Rattle.cil_parse.specs.Forms.{expr_nodes, kind_of};
 ghost use Rattle.cil_parse.specs.Builder.{IsAt, Adds, AddsExpr, AddsForm, Closes, Puts, Places, top};
+ghost use Rattle.cil_parse.specs.FromTrees.{PlacesTrees, IsAtTrees};
 
-use crate::counts::Counts;
 use crate::lexicon::{Lexicon, number};
 use crate::lists::Lists;
 use crate::row::{Around, NumberedWord, Row, SetNode, StatementKind};
-use cil_text::{Expr, Place, RuleKind, Statement, Target, Word};
+use cil_text::{
+    Expr, Forest, Place, RuleKind, Statement, Target, TextFault, TreeSlice, Word, next_statement,
+};
 use std::alloc::{AllocError, Allocator, Global};
 
 /// What was gone over so far: the words, for each statement its words and the nodes of its set expression, and the statements.
@@ -27,15 +33,15 @@ pub struct Builder<'a, A: Allocator = Global> {
 }
 
 impl<'a, A: Allocator + Copy> Builder<'a, A> {
-    /// Nothing was gone over. There is room for so many statements and words.
-    pub fn with_room(alloc: A, counts: Counts) -> Result<Self, AllocError>
+    /// Nothing was gone over.
+    fn new(alloc: A) -> Result<Self, AllocError>
         ensures { IfOk result (λ b. IsAt b [] [] []) }
     {
         Ok(Builder {
             lexicon: Lexicon::new(alloc)?,
-            words: Lists::with_capacity(alloc, counts.rows, counts.words)?,
-            nodes: Lists::with_capacity(alloc, counts.rows, 0)?,
-            rows: Vec::with_capacity(alloc, counts.rows)?,
+            words: Lists::with_capacity(alloc, 0, 0)?,
+            nodes: Lists::with_capacity(alloc, 0, 0)?,
+            rows: Vec::new(alloc),
         })
     }
 
@@ -239,11 +245,7 @@ impl<'a, A: Allocator + Copy> Builder<'a, A> {
     }
 
     /// Statements, and those inside blocks and optionals.
-    pub fn place(
-        &mut self,
-        around: Around,
-        statements: &[Statement<'a, A>],
-    ) -> Result<(), AllocError>
+    fn place(&mut self, around: Around, statements: &[Statement<'a, A>]) -> Result<(), AllocError>
         ensures { OnOk result (Places self.old self.new around (statements_of statements.now)) }
     {
         for statement in statements {
@@ -261,6 +263,42 @@ impl<'a, A: Allocator + Copy> Builder<'a, A> {
             }
         }
         Ok(())
+    }
+
+    /// The statements that lists spell, or the first fault of their shape. Each statement is let go once its words are kept.
+    fn take(
+        &mut self,
+        alloc: A,
+        around: Around,
+        trees: TreeSlice<'_, 'a>,
+    ) -> Result<(), TextFault<'a>>
+        requires { IsTrue (are_lists (trees_of trees)) }
+        ensures ok { OnOk result (PlacesTrees self.old self.new around (trees_of trees.entry)) }
+        ensures err { IfErr result (λ fault. FaultIs fault (IsFirstAmong false (trees_of trees.entry))) }
+    {
+        let mut rest = trees;
+        let mut one = Vec::with_capacity(alloc, 1)?;
+        while let Some((statement, behind)) = next_statement(alloc, rest)? {
+            one.clear();
+            one.push(statement)?;
+            self.place(around, &one)?;
+            rest = behind;
+        }
+        Ok(())
+    }
+
+    /// Goes over the statements that the trees of a text spell. The trees are let go then.
+    pub fn of(alloc: A, forest: Forest<'a, A>) -> Result<Self, TextFault<'a>>
+        ensures ok { IfOk result (IsAtTrees (forest_of forest.entry)) }
+        ensures err { IfErr result (λ fault. FaultIs fault (IsFirstShapeFault (forest_of forest.entry))) }
+    {
+        let mut builder = Builder::new(alloc)?;
+        let around = Around {
+            block: 0,
+            optional: 0,
+        };
+        builder.take(alloc, around, forest.trees())?;
+        Ok(builder)
     }
 }
 

@@ -6,7 +6,7 @@ ghost use Rattle.cil_parse.specs.Parsed.{IsParsed};
 ghost use Rattle.cil_parse.specs.Texts.{IsTextFault};
 
 use crate::parsed::ParsedModule;
-use cil_text::{TextFault, read, shape};
+use cil_text::{TextFault, read};
 use std::alloc::Allocator;
 
 /// The parsed module of a text, or its fault: that of reading it, or else the first of its shape. What is not compiled yet is no fault
@@ -20,7 +20,6 @@ pub fn parse<'a, A: Allocator + Copy>(
     ensures err { IfErr result (λ fault. FaultIs fault (IsTextFault text.now)) }
 {
     let forest = read(alloc, text)?;
-    let shaped = shape(alloc, forest)?;
-    let parsed = ParsedModule::of(alloc, &shaped)?;
+    let parsed = ParsedModule::of(alloc, forest)?;
     Ok(parsed)
 }

@@ -2,7 +2,6 @@
 #![tactic(auto)]
 
 mod builder;
-mod counts;
 mod from_text;
 mod laws;
 mod lexicon;

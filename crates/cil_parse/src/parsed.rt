@@ -1,18 +1,19 @@
 //! Modules that borrow nothing.
 
-ghost use Rattle.std.specs.Prelude.{◌≡◌, ◌<◌, [], List, length, map, slice_get, slice_index_or, Some, IfOk};
+ghost use Rattle.std.specs.Prelude.{◌≡◌, ◌<◌, [], List, length, map, slice_get, slice_index_or, Some, IfOk, IfErr};
 ghost use Rattle.cil_specs.specs.Names.{components as components_of};
+ghost use Rattle.cil_specs.specs.Shape.{IsFirstShapeFault};
 ghost use Rattle.cil_specs.specs.Statements.{Statements};
-ghost use Rattle.cil_text.specs.Image.{statements_of};
+ghost use Rattle.cil_text.specs.Image.{FaultIs};
+ghost use Rattle.cil_text.specs.Forest.{forest_of};
 ghost use Rattle.cil_parse.specs.Lexicon.{seen, AreNumbersOf, AreSplit};
 ghost use Rattle.cil_parse.specs.Flat.{FlatStatement, flat, count};
 
 use crate::builder::Builder;
-use crate::counts::Counts;
 use crate::lists::Lists;
-use crate::row::{Around, NumberedWord, Row, SetNode};
+use crate::row::{NumberedWord, Row, SetNode};
 use crate::view::StatementView;
-use cil_text::Module;
+use cil_text::{Forest, TextFault};
 use std::alloc::{AllocError, Allocator, Global};
 
 /// The statements of a module, one behind the other. It is a function of the module alone, borrows nothing and knows no other module.
@@ -53,20 +54,15 @@ fn copies<A: Allocator + Copy>(alloc: A, names: &[&[u8]]) -> Result<Lists<u8, A>
 }
 
 impl<A: Allocator + Copy> ParsedModule<A> {
-    ghost use Rattle.cil_parse.specs.Parsed.{Spells, IsWhole, IsOwned};
+    ghost use Rattle.cil_parse.specs.FromTrees.{SpellsTrees};
+    ghost use Rattle.cil_parse.specs.Parsed.{IsWhole, IsOwned};
 
-    /// The parsed form of a module.
-    pub fn of(alloc: A, module: &Module<'_, A>) -> Result<Self, AllocError>
-        ensures { IfOk result (λ p. Spells p (statements_of «module».now.statements.items)) }
+    /// The parsed form of the statements that the trees of a text spell, or the first fault of their shape.
+    pub fn of<'a>(alloc: A, forest: Forest<'a, A>) -> Result<Self, TextFault<'a>>
+        ensures ok { IfOk result (SpellsTrees (forest_of forest.entry)) }
+        ensures err { IfErr result (λ fault. FaultIs fault (IsFirstShapeFault (forest_of forest.entry))) }
     {
-        let mut counts = Counts { rows: 0, words: 0 };
-        counts.add(&module.statements);
-        let mut builder = Builder::with_room(alloc, counts)?;
-        let around = Around {
-            block: 0,
-            optional: 0,
-        };
-        builder.place(around, &module.statements)?;
+        let builder = Builder::of(alloc, forest)?;
         let parsed = ParsedModule::owned(alloc, builder)?;
         Ok(parsed)
     }

@@ -2,7 +2,7 @@
 
 use crate::answers::{assert_same, shown};
 use cil_parse::{NumberedWord, ParsedModule, SetNode, StatementKind, StatementView, Table, parse};
-use cil_text::{RuleKind, read, shape};
+use cil_text::{RuleKind, read};
 use std::process::Abort;
 
 const TEXT: &[u8] = b"(class f (read))(block b (type t))
@@ -137,8 +137,7 @@ const NODES: &[SetNode] = &[
 fn a_set_expression_is_a_list_of_nodes(rt: HostRuntime) {
     let text = b"(typeattributeset s ((and a (not b)) all))";
     let forest = read(rt.alloc(), text).expect(&rt, "trees");
-    let module = shape(rt.alloc(), forest).expect(&rt, "statements");
-    let parsed = ParsedModule::of(rt.alloc(), &module).expect(&rt, "memory");
+    let parsed = ParsedModule::of(rt.alloc(), forest).expect(&rt, "statements");
     assert!(rt; parsed.len() == 1);
     let view = parsed.statement(0);
     assert_same(&rt, view.nodes, NODES);

@@ -21,15 +21,14 @@ pub fn parse<'a, A: Allocator + Copy>(
     ensures err { IfErr result (λ fault. FaultIs fault (IsTextFault text.now)) }
 {
     let forest = cil_text::read(alloc, text)?;
-    let unsupported = first_unsupported(&forest);
-    let shaped = cil_text::shape(alloc, forest)?;
-    if let Some(word) = unsupported {
+    if let Some(word) = first_unsupported(&forest) {
+        cil_text::shape(alloc, forest)?;
         return Err(TextFault::Found {
             kind: TextFaultKind::Unsupported,
             at: word.at,
             word: ShownWord::Text(word.text),
         });
     }
-    let parsed = ParsedModule::of(alloc, &shaped)?;
+    let parsed = ParsedModule::of(alloc, forest)?;
     Ok(parsed)
 }

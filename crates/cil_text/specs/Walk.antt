@@ -1,19 +1,20 @@
 -- What the walk over trees finds.
-use Rattle.std.specs.Prelude.{◌≡◌, ℕ, ◌⊎◌, Bool, ◌||◌, List, [], ◌∷◌, IsTrue, MatchOption, Result, MatchResult}
+use Rattle.std.specs.Prelude.{◌≡◌, ℕ, ◌⊎◌, Bool, false, ◌||◌, List, [], ◌∷◌, IsTrue, Option, MatchOption, Result, MatchResult}
 use Rattle.std.specs.List.{AllByRecursion}
 use Rattle.cil_specs.specs.Place.{Place}
 use Rattle.cil_specs.specs.TextFault as spec
 use Rattle.cil_specs.specs.TextFault.{IsNoLater}
 use Rattle.cil_specs.specs.Names.{Word, Role, name_fault}
-use Rattle.cil_specs.specs.Trees.{Trees, in_order}
+use Rattle.cil_specs.specs.Trees.{Trees, none, a_list, in_order}
 use Rattle.cil_specs.specs.Statements as spec_statements
 use Rattle.cil_specs.specs.Statements.{Form, words_of, is_optional, Statements}
 use Rattle.cil_specs.specs.Shape.{Fits, IsAllowed, Shapes, IsAtWord, IsGoodWord, IsListFault, IsInnerFault, IsShapeFault}
-use Rattle.cil_text.specs.Image.{place_of, kind_of, shown, statement_then}
+use Rattle.cil_text.specs.Image.{place_of, kind_of, shown, trees_of, statement_then}
 use Rattle.cil_text.specs.Form.{form_of, at_of}
 use Rattle.cil_text.specs.declared.fault.TextFault.{TextFault}
 use Rattle.cil_text.specs.declared.fault.TextFault.TheVariants.{Memory, Found}
 use Rattle.cil_text.specs.declared.statement.Statement.{Statement}
+use Rattle.cil_text.specs.declared.tree.TreeSlice.{TreeSlice}
 
 -- each word is spelt and free as its place asks
 abbrev pub AreGood : List (Role × Word) → Type 0
@@ -65,3 +66,15 @@ pub record IsFirstOf (inside : Bool) (at : Place) (parts : Trees) (fault : spec.
 pub record IsFirstAmong (inside : Bool) (trees : Trees) (fault : spec.TextFault) : Type 0 where
   pub is : IsShapeFault inside trees fault
   pub first : (low high : ℕ) → IsTrue (in_order low trees high) → (other : spec.TextFault) → IsShapeFault inside trees other → IsNoLater fault other
+
+-- the first of the trees is a list that spells the statement, outside optionals, and these stand behind it
+pub record IsInFront {A : Type 0} (trees : Trees) (s : Statement A) (behind : Trees) : Type 0 where
+  pub at : Place
+  pub end : ℕ
+  pub parts : Trees
+  pub is : trees ≡ a_list at end parts behind
+  pub spelt : IsStatement false at parts s
+
+-- no trees, or the statement that the first of them spells, with those behind it
+abbrev pub IsNext : {A : Type 0} → Trees → Option (Statement A × TreeSlice) → Type 0
+IsNext trees next = MatchOption next (trees ≡ none) (λ found. IsInFront trees found.0 (trees_of found.1))

@@ -36,5 +36,5 @@ pub use place::Place;
 pub use reader::read;
 pub use statement::{Expr, RuleKind, Statement, Target};
 pub use tree::{Tree, TreeSlice};
-pub use walk::shape;
+pub use walk::{next_statement, shape};
 pub use word::Word;

@@ -8,7 +8,7 @@ ghost use Rattle.cil_text.specs.Image.{place_of, trees_of, statements_of, FaultI
 ghost use Rattle.cil_text.specs.Forest.{forest_of};
 ghost use Rattle.cil_text.specs.Keyword.{spelling};
 ghost use Rattle.cil_text.specs.Form.{form_of, has_body, inner_of, HasBody};
-ghost use Rattle.cil_text.specs.Walk.{IsHeading, IsStatement, IsFirstOf, IsFirstAmong};
+ghost use Rattle.cil_text.specs.Walk.{IsHeading, IsStatement, IsNext, IsFirstOf, IsFirstAmong};
 
 use crate::check::{check_statement, fault_at};
 use crate::fault::{ShownWord, TextFault, TextFaultKind};
@@ -156,6 +156,26 @@ fn statements<'a, A: Allocator + Copy>(
         rest = behind;
     }
     Ok(found)
+}
+
+/// The statement that the first of some lists spells, and the lists behind it; none where no list is left. It is for one who needs no
+/// statement any longer once the next one is there.
+pub fn next_statement<'t, 'a, A: Allocator + Copy>(
+    alloc: A,
+    trees: TreeSlice<'t, 'a>,
+) -> Result<Option<(Statement<'a, A>, TreeSlice<'t, 'a>)>, TextFault<'a>>
+    requires lists { IsTrue (are_lists (trees_of trees)) }
+    ensures ok { IfOk result (IsNext (trees_of trees.entry)) }
+    ensures err { IfErr result (λ fault. FaultIs fault (IsFirstAmong false (trees_of trees.entry))) }
+{
+    let Some((tree, behind)) = trees.split_first() else {
+        return Ok(None);
+    };
+    let Tree::List { at, items, .. } = tree else {
+        unreachable!("a tree that is no list");
+    };
+    let statement = statement(alloc, false, at, items)?;
+    Ok(Some((statement, behind)))
 }
 
 /// The statements that the trees spell, or the first shape fault.

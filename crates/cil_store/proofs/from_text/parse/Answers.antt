@@ -5,14 +5,32 @@ use Rattle.cil_text.specs.Forest.{forest_of}
 use Rattle.cil_text.proofs.FirstBad.{handed_on, fault_weaker}
 use Rattle.cil_store.proofs.from_text.parse.Goals as goal
 
-pub returns-in_err-shaped-clause-err : goal.returns-in_err-shaped-clause-err
-returns-in_err-shaped-clause-err g c =
+pub returns-in_err-shape-clause-err : goal.returns-in_err-shape-clause-err
+returns-in_err-shape-clause-err g c =
     let bytes = c.args.text.now in
     let trees = forest_of c.in_ok-forest.forest in
-    let fault = c.in_err-shaped.field-0.0 in
-    handed_on (IsTextFault bytes) c.from_residual-in_err-shaped.result fault c.from_residual-in_err-shaped.ensures.1
-    (fault_weaker (IsFirstShapeFault trees) (IsTextFault bytes) fault (λ f h. in_shape trees c.in_ok-forest.ensures.ok h) c.in_err-shaped.ensures.err)
+    let fault = c.in_err-shape.field-0.0 in
+    handed_on (IsTextFault bytes) c.from_residual-in_err-shape.result fault c.from_residual-in_err-shape.ensures.1
+    (fault_weaker (IsFirstShapeFault trees) (IsTextFault bytes) fault (λ f h. in_shape trees c.in_ok-forest.ensures.ok h) c.in_err-shape.ensures.err)
 
 pub returns-in-Some-clause-err : goal.returns-in-Some-clause-err
 returns-in-Some-clause-err g c =
-    not_compiled (forest_of c.in_ok-forest.forest) (statements_of c.in_ok-shaped.shaped.statements.items) c.in_ok-forest.ensures.ok c.in_ok-shaped.ensures.ok c.in-Some.ensures.some
+    not_compiled (forest_of c.in_ok-forest.forest) (statements_of c.in_ok-shape.field-0.statements.items) c.in_ok-forest.ensures.ok c.in_ok-shape.ensures.ok c.in-Some.ensures.some
+
+pub returns-in_err-parsed-clause-err : goal.returns-in_err-parsed-clause-err
+returns-in_err-parsed-clause-err g c =
+    let bytes = c.args.text.now in
+    let trees = forest_of c.in_ok-forest.forest in
+    let fault = c.in_err-parsed.field-0.0 in
+    handed_on (IsTextFault bytes) c.from_residual-in_err-parsed.result fault c.from_residual-in_err-parsed.ensures.1
+    (fault_weaker (IsFirstShapeFault trees) (IsTextFault bytes) fault (λ f h. in_shape trees c.in_ok-forest.ensures.ok h) c.in_err-parsed.ensures.err)
+
+pub returns-clause-ok : goal.returns-clause-ok
+returns-clause-ok g c =
+    let trees = forest_of c.in_ok-forest.forest in
+    let made = c.in_ok-parsed.ensures.ok in
+    record {
+      statements = made.statements;
+      is_text = record { trees = trees; reads = c.in_ok-forest.ensures.ok; shapes = made.shapes; compiled = c.in_default.ensures.none };
+      spells = made.spells;
+    }

@@ -1,15 +1,18 @@
-use Rattle.std.proofs.Common.{[], subst}
-use Rattle.cil_text.specs.Image.{statements_of}
+use Rattle.cil_specs.specs.Shape.{IsFirstShapeFault}
+use Rattle.cil_text.specs.Forest.{forest_of}
+use Rattle.cil_text.proofs.FirstBad.{handed_on}
 use Rattle.cil_parse.specs.Flat.{flat}
-use Rattle.cil_parse.specs.Builder.{IsAt}
 use Rattle.cil_parse.proofs.ParsedLemmas.{owned-spells}
 use Rattle.cil_parse.proofs.parsed.ParsedModule.of.Goals as goal
 
 pub owned-requires : goal.owned-requires
-owned-requires g c = (flat 0 0 0 (statements_of c.deref-2.result.now), c.in_ok-place.ensures.goes [] c.in_ok-builder.ensures)
+owned-requires g c = (flat 0 0 0 c.in_ok-builder.ensures.ok.statements, c.in_ok-builder.ensures.ok.at)
 
-pub returns : goal.returns
-returns g c =
-    let statements = c.args.«module».now.statements.items in
-    owned-spells c.place.new.self c.in_ok-parsed.parsed (statements_of statements)
-    (subst (λ l. IsAt c.place.new.self (flat 0 0 0 (statements_of l)) [] []) c.deref-2.ensures.value (c.in_ok-place.ensures.goes [] c.in_ok-builder.ensures)) c.in_ok-parsed.ensures
+pub returns-in_err-builder-clause-err : goal.returns-in_err-builder-clause-err
+returns-in_err-builder-clause-err g c =
+    handed_on (IsFirstShapeFault (forest_of c.args.forest)) c.from_residual.result c.in_err-builder.field-0.0 c.from_residual.ensures.1 c.in_err-builder.ensures.err
+
+pub returns-clause-ok : goal.returns-clause-ok
+returns-clause-ok g c =
+    let over = c.in_ok-builder.ensures.ok in
+    record { statements = over.statements; shapes = over.shapes; spells = owned-spells c.in_ok-builder.builder c.in_ok-parsed.parsed over.statements over.at c.in_ok-parsed.ensures }
