@@ -1,5 +1,5 @@
--- The changes between two tables, by numbers that both share.
-use Rattle.std.proofs.Common.{◌≡◌, ℕ, ◌<◌, ◌&&◌, List, [], ◌∷◌, length, get_or, map, Bool, false, not, refl, sym, ap, ◌∙◌, subst, arith}
+-- The changes between two tables, by the ranks of their names.
+use Rattle.std.proofs.Common.{◌≡◌, ℕ, ◌<◌, ◌&&◌, List, [], ◌∷◌, length, get_or, map, Bool, true, false, cond, not, refl, sym, ap, ◌∙◌, subst, arith}
 use Rattle.std.specs.Bool.{IsTrue}
 use Rattle.std.specs.List.{All, AllByRecursion, Contains, filter, list_any}
 use Rattle.std.specs.List.Sorted.{IsStrictlySortedBy}
@@ -16,10 +16,28 @@ use Rattle.cil_specs.proofs.ReportLemmas.{atom_total}
 use Rattle.cil_specs.proofs.ReportLemmasMembers.{AnyByRecursion, any_to, any_from, contains_to, contains_from, any_weaker, any-map, any_from_map, any-filter, any_from_filter, any_from_test, test_from_any}
 use Rattle.cil_rules.specs.declared.numbers.AtomNumbers.{AtomNumbers}
 use Rattle.cil_rules.specs.Atoms.{name_at, atom_at, IsWithin, numbers_cmp, AreNumbered}
-use Rattle.cil_rules.specs.Merge.{ArePlaces, IsMerged}
+use Rattle.cil_rules.specs.Ranks.{ArePlaces, IsMerged}
 use Rattle.cil_rules.specs.Difference.{renumbered, is_absent}
 use Rattle.cil_rules.proofs.AtomLemmas.{atom_cmp-atom_at, atoms-ordered, numbers-ordered}
 use Rattle.cil_rules.proofs.DerivedOrder.{numbers_total, numbers_exact}
+
+-- what passes a test of the images, and the images that pass
+map-filter : {X Y : Type 0} (f : X → Y) (test : Y → Bool) (xs : List X) → map f (filter (λ x. test (f x)) xs) ≡ filter test (map f xs)
+map-filter f test [] = refl
+map-filter f test (x ∷ xs) = by (test (f x)) (map-filter f test xs)
+  where
+    by : (b : Bool) → map f (filter (λ y. test (f y)) xs) ≡ filter test (map f xs)
+        → map f (cond b (x ∷ filter (λ y. test (f y)) xs) (filter (λ y. test (f y)) xs)) ≡ cond b (f x ∷ filter test (map f xs)) (filter test (map f xs))
+    by true rest = ap (λ l. f x ∷ l) rest
+    by false rest = rest
+
+-- some of numbered accesses
+pub filtered-are : (names : List (List ℕ)) (test : AtomNumbers → Bool) (atoms : List AtomNumbers) → AreNumbered names atoms → AreNumbered names (filter test atoms)
+filtered-are names test atoms are = record {
+  names_ordered = are.names_ordered;
+  ordered = IsStrictlySortedBy-filter numbers_cmp test atoms are.ordered;
+  within = All-filter test (IsWithin (length names)) atoms are.within;
+}
 
 module _ (names some : List (List ℕ)) (numbers : List ℕ) (places : ArePlaces names numbers some) where
   pub places-length : length numbers ≡ length some
@@ -71,23 +89,26 @@ module _ (names some : List (List ℕ)) (numbers : List ℕ) (places : ArePlaces
         within = within;
       }
 
+  -- there is a number for each name
+  pub ranked-within : (atoms : List AtomNumbers) → AreNumbered some atoms → All (IsWithin (length numbers)) atoms
+  ranked-within atoms are = subst (λ n. All (IsWithin n) atoms) (sym places-length) are.within
+
+  -- those that pass a test of their renumbered accesses
+  pub same-filtered : (test : AtomNumbers → Bool) (atoms : List AtomNumbers) → AreNumbered some atoms
+      → map (atom_at names) (filter test (map (renumbered numbers) atoms)) ≡ map (atom_at some) (filter (λ a. test (renumbered numbers a)) atoms)
+  same-filtered test atoms are =
+      ap (map (atom_at names)) (sym (map-filter (renumbered numbers) test atoms)) ∙ same-renumbered (filter (λ a. test (renumbered numbers a)) atoms) (filtered-are some (λ a. test (renumbered numbers a)) atoms are)
+
 -- accesses of one name are one
 pub same-numbers : (names : List (List ℕ)) (a b : AtomNumbers) → IsTrue (names_rise names) → IsWithin (length names) a → IsWithin (length names) b → atom_at names a ≡ atom_at names b → a ≡ b
 same-numbers names a b rise a_within b_within same =
     numbers_exact a b (sym (atom_cmp-atom_at names a b rise a_within b_within) ∙ ap (λ x. atom_cmp (atom_at names a) x) (sym same) ∙ tied_itself atom_total (atom_at names a))
 
 module _ (names : List (List ℕ)) (os ns : List AtomNumbers) (os_are : AreNumbered names os) (ns_are : AreNumbered names ns) where
-  pub missing-are : AreNumbered names (filter (is_absent os) ns)
-  missing-are = record {
-    names_ordered = ns_are.names_ordered;
-    ordered = IsStrictlySortedBy-filter numbers_cmp (is_absent os) ns ns_are.ordered;
-    within = All-filter (is_absent os) (IsWithin (length names)) ns ns_are.within;
-  }
-
   -- what is missing are the accesses that pass the one test and not the other
   pub missing-atoms : (p q : spec.Atom → Bool) → AreAtoms p (map (atom_at names) os) → AreAtoms q (map (atom_at names) ns) → AreAtoms (λ a. q a && not (p a)) (map (atom_at names) (filter (is_absent os) ns))
   missing-atoms p q olds news = record {
-    ordered = atoms-ordered names (filter (is_absent os) ns) missing-are;
+    ordered = atoms-ordered names (filter (is_absent os) ns) (filtered-are names (is_absent os) ns ns_are);
     exact = λ a. (
       λ h.
           let here = any_from_filter (is_absent os) (λ n. atom_at names n ≡ a) ns (any_from_map (atom_at names) (λ b. b ≡ a) (filter (is_absent os) ns) (contains_to (map (atom_at names) (filter (is_absent os) ns)) a h)) in
@@ -126,24 +147,28 @@ module _ (names : List (List ℕ)) (os ns : List AtomNumbers) (os_are : AreNumbe
           contains_from (map (atom_at names) (filter (is_absent os) ns)) a
           (any-map (atom_at names) (λ b. b ≡ a) (filter (is_absent os) ns) (any-filter (is_absent os) (λ n. atom_at names n ≡ a) ns kept))
 
--- the changes from old accesses to new ones, each with names of its own that are merged
-module _ (names old_names new_names : List (List ℕ)) (old_numbers new_numbers : List ℕ) (olds news : List AtomNumbers) (merged : IsMerged names old_numbers new_numbers old_names new_names)
+-- the changes from old accesses to new ones, each with names of its own, whose ranks are their places among those of both
+module _ (names old_names new_names : List (List ℕ)) (old_ranks new_ranks : List ℕ) (olds news : List AtomNumbers) (merged : IsMerged names old_ranks new_ranks old_names new_names)
     (olds_are : AreNumbered old_names olds) (news_are : AreNumbered new_names news) where
-  pub old-are : AreNumbered names (map (renumbered old_numbers) olds)
-  old-are = renumbered-are names old_names old_numbers merged.first_places olds merged.ordered olds_are
+  pub old-are : AreNumbered names (map (renumbered old_ranks) olds)
+  old-are = renumbered-are names old_names old_ranks merged.first_places olds merged.ordered olds_are
 
-  pub new-are : AreNumbered names (map (renumbered new_numbers) news)
-  new-are = renumbered-are names new_names new_numbers merged.second_places news merged.ordered news_are
+  pub new-are : AreNumbered names (map (renumbered new_ranks) news)
+  new-are = renumbered-are names new_names new_ranks merged.second_places news merged.ordered news_are
 
-  pub changes-are : (added removed : List AtomNumbers) → added ≡ filter (is_absent (map (renumbered old_numbers) olds)) (map (renumbered new_numbers) news)
-      → removed ≡ filter (is_absent (map (renumbered new_numbers) news)) (map (renumbered old_numbers) olds) → (p q : spec.Atom → Bool) → AreAtoms p (map (atom_at old_names) olds) → AreAtoms q (map (atom_at new_names) news)
-      → AreChanges p q (record { added = map (atom_at names) added; removed = map (atom_at names) removed })
+  pub changes-are : (added removed : List AtomNumbers) → added ≡ filter (λ a. is_absent (map (renumbered old_ranks) olds) (renumbered new_ranks a)) news
+      → removed ≡ filter (λ a. is_absent (map (renumbered new_ranks) news) (renumbered old_ranks a)) olds → (p q : spec.Atom → Bool) → AreAtoms p (map (atom_at old_names) olds) → AreAtoms q (map (atom_at new_names) news)
+      → AreChanges p q (record { added = map (atom_at new_names) added; removed = map (atom_at old_names) removed })
   changes-are added removed added_is removed_is p q p_are q_are =
-      let os = map (renumbered old_numbers) olds in
-      let ns = map (renumbered new_numbers) news in
-      let p_same : AreAtoms p (map (atom_at names) os) = subst (AreAtoms p) (sym (same-renumbered names old_names old_numbers merged.first_places olds olds_are)) p_are in
-      let q_same : AreAtoms q (map (atom_at names) ns) = subst (AreAtoms q) (sym (same-renumbered names new_names new_numbers merged.second_places news news_are)) q_are in
+      let os : List AtomNumbers = map (renumbered old_ranks) olds in
+      let ns : List AtomNumbers = map (renumbered new_ranks) news in
+      let p_same : AreAtoms p (map (atom_at names) os) = subst (AreAtoms p) (sym (same-renumbered names old_names old_ranks merged.first_places olds olds_are)) p_are in
+      let q_same : AreAtoms q (map (atom_at names) ns) = subst (AreAtoms q) (sym (same-renumbered names new_names new_ranks merged.second_places news news_are)) q_are in
       record {
-        added = subst (λ l. AreAtoms (λ a. q a && not (p a)) (map (atom_at names) l)) (sym added_is) (missing-atoms names os ns old-are new-are p q p_same q_same);
-        removed = subst (λ l. AreAtoms (λ a. p a && not (q a)) (map (atom_at names) l)) (sym removed_is) (missing-atoms names ns os new-are old-are q p q_same p_same);
+        added =
+            subst (AreAtoms (λ a. q a && not (p a))) (same-filtered names new_names new_ranks merged.second_places (is_absent os) news news_are ∙ ap (map (atom_at new_names)) (sym added_is))
+            (missing-atoms names os ns old-are new-are p q p_same q_same);
+        removed =
+            subst (AreAtoms (λ a. p a && not (q a))) (same-filtered names old_names old_ranks merged.first_places (is_absent ns) olds olds_are ∙ ap (map (atom_at old_names)) (sym removed_is))
+            (missing-atoms names ns os new-are old-are q p q_same p_same);
       }

@@ -3,8 +3,8 @@ pub mod ChangesLemmas
 pub mod DerivedOrder
 pub mod DifferenceLemmas
 pub mod GivenLemmas
-pub mod MergeLemmas
-pub mod RowLemmas
-pub mod ListingLemmas
 pub mod GroupLemmas
+pub mod ListingLemmas
 pub mod NumberedRowLemmas
+pub mod RankLemmas
+pub mod RowLemmas

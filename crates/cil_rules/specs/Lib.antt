@@ -1,5 +1,6 @@
 pub mod Atoms
 pub mod Difference
-pub mod Merge
+pub mod NameList
 pub mod NumberedRows
+pub mod Ranks
 pub mod Rows

@@ -6,19 +6,20 @@ ghost use Rattle.cil_specs.specs.Report.{AreAtoms, AreChanges};
 ghost use Rattle.cil_rules.specs.Atoms.{atom_of};
 
 use crate::atom::Atom;
-use crate::difference::{missing, renumber};
-use crate::merge::merge;
+use crate::difference::{Ranked, compare};
+use crate::name_list::NameList;
 use crate::numbers::AtomNumbers;
+use crate::ranks::rank;
 use crate::table::Table;
-use cil_resolve::Text;
 use std::alloc::{AllocError, Allocator, Global};
 use std::marker::Model;
 
-/// What is in a new table and not in an old one, and what is in the old and not in the new, each in order. Contracts see both
-/// lists.
+/// What is in a new table and not in an old one, and what is in the old and not in the new, each in order, by the numbers of the
+/// table that has it. Contracts see both lists.
 #[derive(Debug, Drop)]
 pub struct Changes<A: Allocator = Global> {
-    names: Vec<Text<A>, A>,
+    old_names: NameList<A>,
+    new_names: NameList<A>,
     added: Vec<AtomNumbers, A>,
     removed: Vec<AtomNumbers, A>,
 }
@@ -31,9 +32,9 @@ impl<A: Allocator> Model for Changes<A> {
 
     ghost use Rattle.cil_rules.specs.Atoms.{atom_at, AreNumbered};
 
-    ghost view = { λ c. record { added = map (atom_at c.names.items) c.added.items; removed = map (atom_at c.names.items) c.removed.items } };
+    ghost view = { λ c. record { added = map (atom_at c.new_names) c.added.items; removed = map (atom_at c.old_names) c.removed.items } };
 
-    ghost invariant = { λ c. AreNumbered c.names.items c.added.items × AreNumbered c.names.items c.removed.items };
+    ghost invariant = { λ c. AreNumbered c.new_names c.added.items × AreNumbered c.old_names c.removed.items };
 }
 
 impl<A: Allocator + Copy> Changes<A> {
@@ -41,15 +42,21 @@ impl<A: Allocator + Copy> Changes<A> {
     pub fn between(alloc: A, old: &Table<A>, new: &Table<A>) -> Result<Self, AllocError>
         ensures { IfOk result (λ changes. (p q : spec.Atom → Bool) → AreAtoms p old.now → AreAtoms q new.now → AreChanges p q changes) }
     {
-        let merged = merge(alloc, &old.names, &new.names)?;
-        let old_atoms = renumber(alloc, &old.atoms, &merged.first)?;
-        let new_atoms = renumber(alloc, &new.atoms, &merged.second)?;
-        let added = missing(alloc, &new_atoms, &old_atoms)?;
-        let removed = missing(alloc, &old_atoms, &new_atoms)?;
+        let ranks = rank(alloc, old.names.as_slice(), new.names.as_slice())?;
+        let old_ranked = Ranked {
+            atoms: &old.atoms,
+            ranks: &ranks.first,
+        };
+        let new_ranked = Ranked {
+            atoms: &new.atoms,
+            ranks: &ranks.second,
+        };
+        let difference = compare(alloc, old_ranked, new_ranked)?;
         Ok(Changes {
-            names: merged.names,
-            added,
-            removed,
+            old_names: old.names.shared()?,
+            new_names: new.names.shared()?,
+            added: difference.added,
+            removed: difference.removed,
         })
     }
 }
@@ -72,7 +79,7 @@ impl<A: Allocator> Changes<A> {
         ensures { option_map atom_of result ≡ slice_get self.now.added i }
     {
         if i < self.added.len() {
-            Some(self.added[i].named(&self.names))
+            Some(self.added[i].named(self.new_names.as_slice()))
         } else {
             None
         }
@@ -83,7 +90,7 @@ impl<A: Allocator> Changes<A> {
         ensures { option_map atom_of result ≡ slice_get self.now.removed i }
     {
         if i < self.removed.len() {
-            Some(self.removed[i].named(&self.names))
+            Some(self.removed[i].named(self.old_names.as_slice()))
         } else {
             None
         }

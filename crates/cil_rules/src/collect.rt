@@ -5,7 +5,7 @@ ghost use Rattle.std.specs.List.{flat_map};
 ghost use Rattle.std.specs.List.Sorted.{IsStrictlySortedBy};
 ghost use Rattle.cil_rules.specs.Atoms.{numbers_cmp, target_for, given};
 
-use crate::numbers::AtomNumbers;
+use crate::numbers::{AtomNumbers, number};
 use cil_resolve::{Aim, Element, NumberedRule};
 use std::alloc::{AllocError, Allocator};
 
@@ -33,13 +33,14 @@ fn push_given<A: Allocator + Copy>(
     let Some(target) = target_for(source, rule.target) else {
         return Ok(());
     };
+    let (from, to, class) = (number(source)?, number(target)?, number(rule.class)?);
     for permission in &rule.permissions {
         atoms.push(AtomNumbers {
             kind: rule.kind,
-            source,
-            target,
-            class: rule.class,
-            permission: *permission,
+            source: from,
+            target: to,
+            class,
+            permission: number(*permission)?,
         })?;
     }
     Ok(())

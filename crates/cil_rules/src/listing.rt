@@ -72,7 +72,7 @@ fn write_permissions<W: Sink, A: Allocator>(
     ensures counted { W.failures sink.old ≤ W.failures sink.new }
 {
     for atom in atoms {
-        write_permission(sink, names[atom.permission].as_slice())?;
+        write_permission(sink, names[atom.permission as usize].as_slice())?;
     }
     Ok(())
 }
@@ -126,7 +126,7 @@ pub fn write_rows<W: Sink, A: Allocator>(
 fn write_names<W: Sink, A: Allocator>(
     sink: &mut W,
     names: &[Text<A>],
-    numbers: &[usize],
+    numbers: &[u32],
 ) -> Result<(), SinkFault>
     requires { All (λ n. n < length names.now) numbers.now }
     ensures ok { OnOk result (Gains (W.taken sink.old) (W.taken sink.new) (flat_map (name_text names.now) numbers.now)) }
@@ -135,7 +135,7 @@ fn write_names<W: Sink, A: Allocator>(
     ensures counted { W.failures sink.old ≤ W.failures sink.new }
 {
     for number in numbers {
-        write_permission(sink, names[*number].as_slice())?;
+        write_permission(sink, names[*number as usize].as_slice())?;
     }
     Ok(())
 }

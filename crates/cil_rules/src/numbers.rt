@@ -1,6 +1,6 @@
 //! Accesses by numbers.
 
-ghost use Rattle.std.specs.Prelude.{◌≡◌, length};
+ghost use Rattle.std.specs.Prelude.{◌≡◌, length, IfOk};
 ghost use Rattle.cil_specs.specs.Report.{is_listed};
 ghost use Rattle.cil_text.specs.Image.{rule_kind_of};
 ghost use Rattle.cil_rules.specs.Atoms.{atom_of, atom_at, IsWithin};
@@ -10,16 +10,26 @@ ghost use Rattle.cil_rules.specs.Rows.{is_in_row_of};
 use crate::atom::Atom;
 use cil_resolve::Text;
 use cil_text::RuleKind;
-use std::alloc::Allocator;
+use std::alloc::{AllocError, Allocator};
+
+/// A place in a list of names in 32 bits. More names than these can number don't fit in memory.
+pub fn number(n: usize) -> Result<u32, AllocError>
+    ensures { IfOk result (λ k. k ≡ n) }
+{
+    match u32::try_from(n) {
+        Ok(k) => Ok(k),
+        Err(_) => Err(AllocError),
+    }
+}
 
 /// An access whose names are places in a list of names. Where the names ascend, the order of these is that of the accesses.
 #[derive(Clone, Copy, Debug, PartialEq, Eq, PartialOrd, Ord)]
 pub struct AtomNumbers {
     pub kind: RuleKind,
-    pub source: usize,
-    pub target: usize,
-    pub class: usize,
-    pub permission: usize,
+    pub source: u32,
+    pub target: u32,
+    pub class: u32,
+    pub permission: u32,
 }
 
 impl AtomNumbers {
@@ -30,24 +40,24 @@ impl AtomNumbers {
     {
         Atom {
             kind: self.kind,
-            source: names[self.source].as_slice(),
-            target: names[self.target].as_slice(),
-            class: names[self.class].as_slice(),
-            permission: names[self.permission].as_slice(),
+            source: names[self.source as usize].as_slice(),
+            target: names[self.target as usize].as_slice(),
+            class: names[self.class as usize].as_slice(),
+            permission: names[self.permission as usize].as_slice(),
         }
     }
 
     /// With the numbers at the places of its own.
-    pub fn renumbered(&self, numbers: &[usize]) -> AtomNumbers
+    pub fn renumbered(&self, numbers: &[u32]) -> AtomNumbers
         requires { IsWithin (length numbers.now) self.now }
         ensures { result ≡ renumbered numbers.now self.now }
     {
         AtomNumbers {
             kind: self.kind,
-            source: numbers[self.source],
-            target: numbers[self.target],
-            class: numbers[self.class],
-            permission: numbers[self.permission],
+            source: numbers[self.source as usize],
+            target: numbers[self.target as usize],
+            class: numbers[self.class as usize],
+            permission: numbers[self.permission as usize],
         }
     }
 

@@ -11,7 +11,7 @@ use std::marker::Model;
 #[derive(Debug, Drop)]
 pub struct Names<'t, A: Allocator = Global> {
     pub(super) names: &'t [Text<A>],
-    pub(super) numbers: &'t [usize],
+    pub(super) numbers: &'t [u32],
 }
 
 impl<'t, A: Allocator> Model for Names<'t, A> {
@@ -44,7 +44,7 @@ impl<'t, A: Allocator> Names<'t, A> {
         ensures { option_map (λ name. name.now) result ≡ slice_get self.now i }
     {
         if i < self.numbers.len() {
-            Some(self.names[self.numbers[i]].as_slice())
+            Some(self.names[self.numbers[i] as usize].as_slice())
         } else {
             None
         }

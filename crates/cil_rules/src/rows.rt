@@ -10,6 +10,7 @@ ghost use Rattle.cil_rules.specs.NumberedRows.{row_of, row_by, numbered_row, lin
 
 use crate::first_row::split_row;
 use crate::listing::write_row_line;
+use crate::name_list::NameList;
 use crate::numbers::AtomNumbers;
 use crate::row::{Names, Row};
 use cil_resolve::Text;
@@ -21,25 +22,25 @@ use std::marker::Model;
 #[derive(Clone, Copy, Debug)]
 pub struct RowNumbers {
     pub kind: RuleKind,
-    pub source: usize,
-    pub target: usize,
-    pub class: usize,
+    pub source: u32,
+    pub target: u32,
+    pub class: u32,
     pub start: usize,
     pub end: usize,
 }
 
 impl RowNumbers {
     /// The row by its names.
-    fn named<'t, A: Allocator>(&self, names: &'t [Text<A>], permissions: &'t [usize]) -> Row<'t, A>
+    fn named<'t, A: Allocator>(&self, names: &'t [Text<A>], permissions: &'t [u32]) -> Row<'t, A>
         requires row { IsNumberedRow (length names.now) (length permissions.now) self.now }
         requires within { All (λ n. n < length names.now) permissions.now }
         ensures { row_of result ≡ row_by names.now permissions.now self.now }
     {
         Row {
             kind: self.kind,
-            source: names[self.source].as_slice(),
-            target: names[self.target].as_slice(),
-            class: names[self.class].as_slice(),
+            source: names[self.source as usize].as_slice(),
+            target: names[self.target as usize].as_slice(),
+            class: names[self.class as usize].as_slice(),
             permissions: Names {
                 names,
                 numbers: &permissions[self.start..self.end],
@@ -48,12 +49,12 @@ impl RowNumbers {
     }
 }
 
-/// The rows of the listing of a table, with names of their own. Contracts see them as their list.
+/// The rows of the listing of a table, whose names they share. Contracts see them as their list.
 #[derive(Debug, Drop)]
 pub struct Rows<A: Allocator = Global> {
-    names: Vec<Text<A>, A>,
+    names: NameList<A>,
     rows: Vec<RowNumbers, A>,
-    permissions: Vec<usize, A>,
+    permissions: Vec<u32, A>,
 }
 
 impl<A: Allocator> Model for Rows<A> {
@@ -65,29 +66,15 @@ impl<A: Allocator> Model for Rows<A> {
 
     ghost use Rattle.cil_rules.specs.NumberedRows.{row_by, AreNumberedRows};
 
-    ghost view = { λ r. map (row_by r.names.items r.permissions.items) r.rows.items };
+    ghost view = { λ r. map (row_by r.names r.permissions.items) r.rows.items };
 
-    ghost invariant = { λ r. AreNumberedRows r.names.items r.permissions.items r.rows.items };
-}
-
-/// Copies of names.
-pub fn copied<A: Allocator + Copy>(
-    alloc: A,
-    names: &[Text<A>],
-) -> Result<Vec<Text<A>, A>, AllocError>
-    ensures { IfOk result (λ v. v.items ≡ names.now) }
-{
-    let mut copies = Vec::with_capacity(alloc, names.len())?;
-    for name in names {
-        copies.push(Text::of(alloc, name.as_slice())?)?;
-    }
-    Ok(copies)
+    ghost invariant = { λ r. AreNumberedRows r.names r.permissions.items r.rows.items };
 }
 
 /// Appends a row and its permissions.
 fn push_row<A: Allocator>(
     rows: &mut Vec<RowNumbers, A>,
-    permissions: &mut Vec<usize, A>,
+    permissions: &mut Vec<u32, A>,
     first: &AtomNumbers,
     row: &[AtomNumbers],
 ) -> Result<(), AllocError>
@@ -113,7 +100,7 @@ fn push_row<A: Allocator>(
 fn write_numbered<W: Sink, A: Allocator>(
     sink: &mut W,
     names: &[Text<A>],
-    permissions: &[usize],
+    permissions: &[u32],
     rows: &[RowNumbers],
 ) -> Result<(), SinkFault>
     requires { AreNumberedRows names.now permissions.now rows.now }
@@ -132,11 +119,11 @@ impl<A: Allocator + Copy> Rows<A> {
     /// The rows of accesses that stand in order.
     pub(super) fn of(
         alloc: A,
-        names: Vec<Text<A>, A>,
+        names: NameList<A>,
         atoms: &[AtomNumbers],
     ) -> Result<Self, AllocError>
-        requires { AreNumbered names.items atoms.now }
-        ensures { IfOk result (λ rows. rows ≡ rows_of (map (atom_at names.items) atoms.now)) }
+        requires { AreNumbered names atoms.now }
+        ensures { IfOk result (λ rows. rows ≡ rows_of (map (atom_at names) atoms.now)) }
     {
         let mut rows = Vec::new(alloc);
         let mut permissions = Vec::new(alloc);
@@ -173,7 +160,7 @@ impl<A: Allocator> Rows<A> {
         ensures { option_map row_of result ≡ slice_get self.now i }
     {
         if i < self.rows.len() {
-            Some(self.rows[i].named(&self.names, &self.permissions))
+            Some(self.rows[i].named(self.names.as_slice(), &self.permissions))
         } else {
             None
         }
@@ -187,7 +174,7 @@ impl<A: Allocator> Rows<A> {
         ensures failed { OnErr result (HasFailed (W.failures sink.old) (W.failures sink.new)) }
         ensures counted { W.failures sink.old ≤ W.failures sink.new }
     {
-        write_numbered(sink, &self.names, &self.permissions, &self.rows)?;
+        write_numbered(sink, self.names.as_slice(), &self.permissions, &self.rows)?;
         Ok(self.rows.len())
     }
 }

@@ -12,9 +12,10 @@ ghost use Rattle.cil_rules.specs.Atoms.{atom_of};
 use crate::atom::Atom;
 use crate::collect::{collect, sort_distinct};
 use crate::listing::write_rows;
+use crate::name_list::NameList;
 use crate::numbers::AtomNumbers;
-use crate::rows::{Rows, copied};
-use cil_resolve::{Resolved, Text};
+use crate::rows::Rows;
+use cil_resolve::Resolved;
 use cil_text::{Sink, SinkFault};
 use std::alloc::{AllocError, Allocator, Global};
 use std::marker::Model;
@@ -22,7 +23,7 @@ use std::marker::Model;
 /// The accesses that the rules of a policy give, each once, in order. Contracts see it as their list.
 #[derive(Debug, Drop)]
 pub struct Table<A: Allocator = Global> {
-    pub(super) names: Vec<Text<A>, A>,
+    pub(super) names: NameList<A>,
     pub(super) atoms: Vec<AtomNumbers, A>,
 }
 
@@ -34,9 +35,9 @@ impl<A: Allocator> Model for Table<A> {
 
     ghost use Rattle.cil_rules.specs.Atoms.{atom_at, AreNumbered};
 
-    ghost view = { λ t. map (atom_at t.names.items) t.atoms.items };
+    ghost view = { λ t. map (atom_at t.names) t.atoms.items };
 
-    ghost invariant = { λ t. AreNumbered t.names.items t.atoms.items };
+    ghost invariant = { λ t. AreNumbered t.names t.atoms.items };
 }
 
 impl<A: Allocator + Copy> Table<A> {
@@ -45,7 +46,7 @@ impl<A: Allocator + Copy> Table<A> {
         ensures { result ≡ [] }
     {
         Table {
-            names: Vec::new(alloc),
+            names: NameList::empty(),
             atoms: Vec::new(alloc),
         }
     }
@@ -57,7 +58,7 @@ impl<A: Allocator + Copy> Table<A> {
         let mut atoms = collect(alloc, resolved.rules())?;
         sort_distinct(&mut atoms);
         Ok(Table {
-            names: resolved.into_names(),
+            names: NameList::of(resolved.into_names())?,
             atoms,
         })
     }
@@ -66,8 +67,7 @@ impl<A: Allocator + Copy> Table<A> {
     pub fn rows(&self, alloc: A) -> Result<Rows<A>, AllocError>
         ensures { IfOk result (λ rows. (p : spec.Atom → Bool) → AreAtoms p self.now → AreRows p rows) }
     {
-        let names = copied(alloc, &self.names)?;
-        Rows::of(alloc, names, &self.atoms)
+        Rows::of(alloc, self.names.shared()?, &self.atoms)
     }
 }
 
@@ -89,7 +89,7 @@ impl<A: Allocator> Table<A> {
         ensures { option_map atom_of result ≡ slice_get self.now i }
     {
         if i < self.atoms.len() {
-            Some(self.atoms[i].named(&self.names))
+            Some(self.atoms[i].named(self.names.as_slice()))
         } else {
             None
         }
@@ -104,6 +104,6 @@ impl<A: Allocator> Table<A> {
         ensures failed { OnErr result (HasFailed (W.failures sink.old) (W.failures sink.new)) }
         ensures counted { W.failures sink.old ≤ W.failures sink.new }
     {
-        write_rows(sink, &self.names, &self.atoms)
+        write_rows(sink, self.names.as_slice(), &self.atoms)
     }
 }

@@ -1,7 +1,8 @@
 use Rattle.std.proofs.Common.{◌∙◌, ◌≡◌, true, get_or, sym, below_more, arith}
 use Rattle.std.proofs.lemmas.List.Sums.{prefix_len_is}
 use Rattle.cil_rules.specs.Rows.{is_in_row_of}
-use Rattle.cil_rules.proofs.DifferenceLemmas.{nowhere, holds_at}
+use Rattle.cil_rules.specs.Difference.{nowhere}
+use Rattle.cil_rules.proofs.DifferenceLemmas.{holds_at}
 use Rattle.cil_rules.proofs.first_row.row_len.Goals as goal
 
 pub loop-len-preserved : goal.loop-len-preserved

@@ -3,7 +3,7 @@ use Rattle.std.proofs.lemmas.List.{get_or_read}
 use Rattle.cil_text.specs.Device.{GainsFront}
 use Rattle.cil_text.proofs.Gaining.{on_err, gains-pieces_front}
 use Rattle.cil_rules.specs.Rows.{permission_text}
-use Rattle.cil_rules.proofs.DifferenceLemmas.{nowhere}
+use Rattle.cil_rules.specs.Difference.{nowhere}
 use Rattle.cil_rules.proofs.listing.write_permissions.Goals as goal
 
 pub returns-in_err-write_permission-clause-err : goal.returns-in_err-write_permission-clause-err

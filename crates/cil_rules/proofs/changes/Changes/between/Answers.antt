@@ -1,51 +1,46 @@
-use Rattle.std.proofs.Common.{◌∙◌, map}
-use Rattle.std.specs.List.{filter}
-use Rattle.cil_rules.specs.Difference.{renumbered, is_absent}
-use Rattle.cil_rules.proofs.ChangesLemmas.{old-are, new-are, missing-are, changes-are}
+use Rattle.cil_rules.proofs.ChangesLemmas.{ranked-within, filtered-are, old-are, new-are, changes-are}
 use Rattle.cil_rules.proofs.changes.Changes.between.Goals as goal
 
-pub missing-requires-clause-ordered : goal.missing-requires-clause-ordered
-missing-requires-clause-ordered g c =
-    let m = rw (c.deref.ensures.value, c.deref-2.ensures.value) at c.in_ok-merged.ensures in
-    let news = c.in_ok-new_atoms.ensures ∙ (λ i. map (renumbered (c.deref-6.ensures.value i)) (c.deref-5.ensures.value i)) in
-    rw (c.deref-7.ensures.value, news) ((new-are c.in_ok-merged.merged.names.items c.old.inside.names.items c.new.inside.names.items c.in_ok-merged.merged.first.items c.in_ok-merged.merged.second.items c.old.inside.atoms.items c.new.inside.atoms.items m c.old.invariant c.new.invariant).ordered)
+pub rank-requires-clause-first_ordered : goal.rank-requires-clause-first_ordered
+rank-requires-clause-first_ordered g c = rw c.as_slice.ensures c.old.invariant.names_ordered
 
-pub missing-requires-clause-others_ordered : goal.missing-requires-clause-others_ordered
-missing-requires-clause-others_ordered g c =
-    let m = rw (c.deref.ensures.value, c.deref-2.ensures.value) at c.in_ok-merged.ensures in
-    let olds = c.in_ok-old_atoms.ensures ∙ (λ i. map (renumbered (c.deref-4.ensures.value i)) (c.deref-3.ensures.value i)) in
-    rw (c.deref-8.ensures.value, olds) ((old-are c.in_ok-merged.merged.names.items c.old.inside.names.items c.new.inside.names.items c.in_ok-merged.merged.first.items c.in_ok-merged.merged.second.items c.old.inside.atoms.items c.new.inside.atoms.items m c.old.invariant c.new.invariant).ordered)
+pub rank-requires-clause-second_ordered : goal.rank-requires-clause-second_ordered
+rank-requires-clause-second_ordered g c = rw c.as_slice-2.ensures c.new.invariant.names_ordered
 
-pub missing-requires-2-clause-ordered : goal.missing-requires-2-clause-ordered
-missing-requires-2-clause-ordered g c =
-    let m = rw (c.deref.ensures.value, c.deref-2.ensures.value) at c.in_ok-merged.ensures in
-    let olds = c.in_ok-old_atoms.ensures ∙ (λ i. map (renumbered (c.deref-4.ensures.value i)) (c.deref-3.ensures.value i)) in
-    rw (c.deref-9.ensures.value, olds) ((old-are c.in_ok-merged.merged.names.items c.old.inside.names.items c.new.inside.names.items c.in_ok-merged.merged.first.items c.in_ok-merged.merged.second.items c.old.inside.atoms.items c.new.inside.atoms.items m c.old.invariant c.new.invariant).ordered)
+pub compare-requires-clause-old_ordered : goal.compare-requires-clause-old_ordered
+compare-requires-clause-old_ordered g c =
+    let (names, merged) = rw (c.as_slice.ensures, c.as_slice-2.ensures) at c.in_ok-ranks.ensures in
+    let firsts = c.in_ok-ranks.ranks.first.items in
+    let seconds = c.in_ok-ranks.ranks.second.items in
+    rw (c.deref.ensures.value, c.deref-2.ensures.value) (record {
+      within = ranked-within names c.old.inside.names firsts merged.first_places c.old.inside.atoms.items c.old.invariant;
+      ordered = (old-are names c.old.inside.names c.new.inside.names firsts seconds c.old.inside.atoms.items c.new.inside.atoms.items merged c.old.invariant c.new.invariant).ordered;
+    })
 
-pub missing-requires-2-clause-others_ordered : goal.missing-requires-2-clause-others_ordered
-missing-requires-2-clause-others_ordered g c =
-    let m = rw (c.deref.ensures.value, c.deref-2.ensures.value) at c.in_ok-merged.ensures in
-    let news = c.in_ok-new_atoms.ensures ∙ (λ i. map (renumbered (c.deref-6.ensures.value i)) (c.deref-5.ensures.value i)) in
-    rw (c.deref-10.ensures.value, news) ((new-are c.in_ok-merged.merged.names.items c.old.inside.names.items c.new.inside.names.items c.in_ok-merged.merged.first.items c.in_ok-merged.merged.second.items c.old.inside.atoms.items c.new.inside.atoms.items m c.old.invariant c.new.invariant).ordered)
+pub compare-requires-clause-new_ordered : goal.compare-requires-clause-new_ordered
+compare-requires-clause-new_ordered g c =
+    let (names, merged) = rw (c.as_slice.ensures, c.as_slice-2.ensures) at c.in_ok-ranks.ensures in
+    let firsts = c.in_ok-ranks.ranks.first.items in
+    let seconds = c.in_ok-ranks.ranks.second.items in
+    rw (c.deref-3.ensures.value, c.deref-4.ensures.value) (record {
+      within = ranked-within names c.new.inside.names seconds merged.second_places c.new.inside.atoms.items c.new.invariant;
+      ordered = (new-are names c.old.inside.names c.new.inside.names firsts seconds c.old.inside.atoms.items c.new.inside.atoms.items merged c.old.invariant c.new.invariant).ordered;
+    })
 
 pub invariant_of-result : goal.invariant_of-result
 invariant_of-result g c =
-    let m = rw (c.deref.ensures.value, c.deref-2.ensures.value) at c.in_ok-merged.ensures in
-    let olds = c.in_ok-old_atoms.ensures ∙ (λ i. map (renumbered (c.deref-4.ensures.value i)) (c.deref-3.ensures.value i)) in
-    let news = c.in_ok-new_atoms.ensures ∙ (λ i. map (renumbered (c.deref-6.ensures.value i)) (c.deref-5.ensures.value i)) in
-    let added = c.in_ok-added.ensures ∙ (λ i. filter (is_absent ((c.deref-8.ensures.value ∙ olds) i)) ((c.deref-7.ensures.value ∙ news) i)) in
-    let removed = c.in_ok-removed.ensures ∙ (λ i. filter (is_absent ((c.deref-10.ensures.value ∙ news) i)) ((c.deref-9.ensures.value ∙ olds) i)) in
-    let old_numbered = old-are c.in_ok-merged.merged.names.items c.old.inside.names.items c.new.inside.names.items c.in_ok-merged.merged.first.items c.in_ok-merged.merged.second.items c.old.inside.atoms.items c.new.inside.atoms.items m c.old.invariant c.new.invariant in
-    let new_numbered = new-are c.in_ok-merged.merged.names.items c.old.inside.names.items c.new.inside.names.items c.in_ok-merged.merged.first.items c.in_ok-merged.merged.second.items c.old.inside.atoms.items c.new.inside.atoms.items m c.old.invariant c.new.invariant in
-    (rw added (missing-are c.in_ok-merged.merged.names.items _ _ old_numbered new_numbered), rw removed (missing-are c.in_ok-merged.merged.names.items _ _ new_numbered old_numbered))
+    let added = rw (c.deref.ensures.value, c.deref-2.ensures.value, c.deref-3.ensures.value, c.deref-4.ensures.value) at c.in_ok-difference.ensures.added in
+    let removed = rw (c.deref.ensures.value, c.deref-2.ensures.value, c.deref-3.ensures.value, c.deref-4.ensures.value) at c.in_ok-difference.ensures.removed in (
+      rw (c.in_ok-shared-2.ensures, added) (filtered-are c.new.inside.names _ c.new.inside.atoms.items c.new.invariant),
+      rw (c.in_ok-shared.ensures, removed) (filtered-are c.old.inside.names _ c.old.inside.atoms.items c.old.invariant),
+    )
 
 pub returns : goal.returns
 returns g c =
-    let m = rw (c.deref.ensures.value, c.deref-2.ensures.value) at c.in_ok-merged.ensures in
-    let olds = c.in_ok-old_atoms.ensures ∙ (λ i. map (renumbered (c.deref-4.ensures.value i)) (c.deref-3.ensures.value i)) in
-    let news = c.in_ok-new_atoms.ensures ∙ (λ i. map (renumbered (c.deref-6.ensures.value i)) (c.deref-5.ensures.value i)) in
-    let added = c.in_ok-added.ensures ∙ (λ i. filter (is_absent ((c.deref-8.ensures.value ∙ olds) i)) ((c.deref-7.ensures.value ∙ news) i)) in
-    let removed = c.in_ok-removed.ensures ∙ (λ i. filter (is_absent ((c.deref-10.ensures.value ∙ news) i)) ((c.deref-9.ensures.value ∙ olds) i)) in
+    let (names, merged) = rw (c.as_slice.ensures, c.as_slice-2.ensures) at c.in_ok-ranks.ensures in
+    let added = rw (c.deref.ensures.value, c.deref-2.ensures.value, c.deref-3.ensures.value, c.deref-4.ensures.value) at c.in_ok-difference.ensures.added in
+    let removed = rw (c.deref.ensures.value, c.deref-2.ensures.value, c.deref-3.ensures.value, c.deref-4.ensures.value) at c.in_ok-difference.ensures.removed in
     λ p q old_are new_are.
-    changes-are c.in_ok-merged.merged.names.items c.old.inside.names.items c.new.inside.names.items c.in_ok-merged.merged.first.items c.in_ok-merged.merged.second.items c.old.inside.atoms.items c.new.inside.atoms.items m c.old.invariant c.new.invariant
-    c.in_ok-added.added.items c.in_ok-removed.removed.items added removed p q (rw (← c.old.view_is) at old_are) (rw (← c.new.view_is) at new_are)
+    rw (c.in_ok-shared.ensures, c.in_ok-shared-2.ensures)
+    (changes-are names c.old.inside.names c.new.inside.names c.in_ok-ranks.ranks.first.items c.in_ok-ranks.ranks.second.items c.old.inside.atoms.items c.new.inside.atoms.items merged c.old.invariant c.new.invariant
+    c.in_ok-difference.difference.added.items c.in_ok-difference.difference.removed.items added removed p q (rw (← c.old.view_is) at old_are) (rw (← c.new.view_is) at new_are))

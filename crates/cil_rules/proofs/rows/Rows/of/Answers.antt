@@ -10,7 +10,7 @@ use Rattle.cil_rules.proofs.rows.Rows.of.Goals as goal
 
 pub loop-first-preserved-in_ok-push_row : goal.loop-first-preserved-in_ok-push_row
 loop-first-preserved-in_ok-push_row g c =
-    let names = c.args.names.items in
+    let names = c.args.names in
     let m = c.loop-first.invariant in
     let first = c.in-Some.first.now in
     let row = c.in-Some.row.now in
@@ -36,7 +36,7 @@ loop-first-preserved-in_ok-push_row g c =
 
 pub loop-first-preserved : goal.loop-first-preserved
 loop-first-preserved g c =
-    let names = c.args.names.items in
+    let names = c.args.names in
     let m = c.loop-first.invariant in
     let later = rows_of (map (atom_at names) c.in-Some.later.now) in
     let unlisted : is_listed (rule_kind_of c.in-Some.first.now.kind) ≡ _ = sym c.is_listed.ensures ∙ c.if-is_listed.false in

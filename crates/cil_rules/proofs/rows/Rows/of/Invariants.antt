@@ -7,9 +7,9 @@ use Rattle.cil_rules.proofs.rows.Rows.of.Given as goal
 
 abbrev pub invariant-loop-first : goal.invariant-loop-first
 invariant-loop-first g l = record {
-  within : All (IsWithin (length l.names.items)) l.rest;
-  are : AreNumberedRows l.names.items l.permissions.items l.rows.items;
-  so_far : map (row_by l.names.items l.permissions.items) l.rows.items ++ rows_of (map (atom_at l.names.items) l.rest) ≡ rows_of (map (atom_at l.names.items) l.atoms);
+  within : All (IsWithin (length l.fn.names)) l.rest;
+  are : AreNumberedRows l.fn.names l.permissions.items l.rows.items;
+  so_far : map (row_by l.fn.names l.permissions.items) l.rows.items ++ rows_of (map (atom_at l.fn.names) l.rest) ≡ rows_of (map (atom_at l.fn.names) l.atoms);
 }
 
 abbrev pub decreases-loop-first : goal.decreases-loop-first

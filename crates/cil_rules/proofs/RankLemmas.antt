@@ -14,7 +14,7 @@ use Rattle.std.proofs.lemmas.List.Elements.{All-push, All-weaker, recursion_from
 use Rattle.cil_specs.specs.Report.{name_cmp, names_rise}
 use Rattle.cil_specs.proofs.ReportLemmas.{name_total, sorted_from_names_rise, names_rise-from_sorted}
 use Rattle.cil_rules.specs.Atoms.{name_at}
-use Rattle.cil_rules.specs.Merge.{ArePlaces, IsMerged, IsNext}
+use Rattle.cil_rules.specs.Ranks.{ArePlaces, IsMerged, IsNext}
 
 -- which name comes first, by what comparing the two answers
 pub next-from_cmp : (first : List (List ℕ)) (i : ℕ) (second : List (List ℕ)) (j : ℕ) (x y : List ℕ) (next : Ordering) → i < length first → j < length second → x ≡ name_at first i → y ≡ name_at second j → next ≡ name_cmp x y → IsNext first i second j next

@@ -1,4 +1,4 @@
--- Two lists of names as one.
+-- The common order of two lists of names.
 use Rattle.std.specs.Prelude.{◌≡◌, ℕ, ◌<◌, List, length, map, IsTrue}
 use Rattle.std.specs.List.{All}
 use Rattle.std.specs.Ordering.{MatchOrdering}
@@ -17,6 +17,10 @@ pub record IsMerged (names : List (List ℕ)) (first_numbers second_numbers : Li
   pub ordered : IsTrue (names_rise names)
   pub first_places : ArePlaces names first_numbers first
   pub second_places : ArePlaces names second_numbers second
+
+-- the numbers are the places of both lists in one order of all their names
+abbrev pub AreRanks : List ℕ → List ℕ → List (List ℕ) → List (List ℕ) → Type 0
+AreRanks first_numbers second_numbers first second = (names : List (List ℕ)) × IsMerged names first_numbers second_numbers first second
 
 -- which of the names at two places comes first, where past the end of a list there is none
 abbrev pub IsNext : List (List ℕ) → ℕ → List (List ℕ) → ℕ → Ordering → Type 0

@@ -1,7 +1,7 @@
 use Rattle.std.proofs.Common.{◌∙◌, [], arith}
 use Rattle.std.proofs.lemmas.List.{get_or_read}
-use Rattle.cil_rules.proofs.MergeLemmas.{next-from_cmp}
-use Rattle.cil_rules.proofs.merge.next_of.Goals as goal
+use Rattle.cil_rules.proofs.RankLemmas.{next-from_cmp}
+use Rattle.cil_rules.proofs.ranks.next_of.Goals as goal
 
 pub returns-else-j-second : goal.returns-else-j-second
 returns-else-j-second g c =
