@@ -1,6 +1,6 @@
 //! The command line: what its words ask for, and the exit status.
 
-ghost use Rattle.std.specs.Prelude.{◌≡◌, ◌↔◌, Result, map, IsTrue, IfOk};
+ghost use Rattle.std.specs.Prelude.{◌≡◌, ◌≢◌, ◌↔◌, Result, map, IsTrue, IfOk};
 ghost use Rattle.cil_text.specs.Device.{GainsFront};
 ghost use Rattle.cil_program.specs.CommandLine.{AsksSession, exit_status_of, usage};
 ghost use Rattle.cil_program.specs.Session.{Leaves};
@@ -45,6 +45,7 @@ pub fn answer_command_line<
     ensures session { AsksSession (map T.text words.now) → (end : Result Status SessionFault) × (result ≡ exit_status_of end)
         × IfOk end (λ status. Leaves (S.account source.old) (S.account source.new)
         (record { store = C.store engine.old; taken = W.taken sink.old }) (record { store = C.store engine.new; taken = W.taken sink.new }) status) }
+    ensures flushed { AsksSession (map T.text words.now) → result ≢ 3 → W.flushed sink.new ≡ W.taken sink.new }
     ensures usage { (AsksSession (map T.text words.now) → ⊥) → (result ≡ 2) × GainsFront (E.taken errors.old) (E.taken errors.new) usage }
     ensures usage_alone { (AsksSession (map T.text words.now) → ⊥) → (source.new ≡ source.old) × (sink.new ≡ sink.old) × (engine.new ≡ engine.old) }
 {

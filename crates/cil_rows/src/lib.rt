@@ -12,6 +12,8 @@ mod cuts;
 #[cfg(test)]
 mod devices;
 #[cfg(test)]
+mod dialogues;
+#[cfg(test)]
 mod engines;
 #[cfg(test)]
 mod faults;

@@ -54,10 +54,11 @@ fn a_sink_over_memory(rt: HostRuntime) {
     );
     let pieces = write_pieces(&mut sink, &[b"", b"e", b"f"]);
     let put = sink.put(b"f");
+    let flushed = sink.flush();
     assert_same(
         &rt,
-        (pieces, put, shown(sink.bytes())),
-        (Err(SinkFault), Err(SinkFault), "abcde"),
+        (pieces, put, flushed, shown(sink.bytes())),
+        (Err(SinkFault), Err(SinkFault), Ok(()), "abcde"),
     );
 }
 

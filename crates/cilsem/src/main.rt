@@ -4,14 +4,14 @@
 use cil_program::command_line::answer_command_line;
 use cil_store::Plain;
 use cil_text::{ReaderSource, WriterSink};
-use std::io::LineWriter;
+use std::io::BufWriter;
 use std::process::ExitCode;
 use std::{env, io};
 
 fn main(rt: HostRuntime) -> io::Result<ExitCode> {
     let words: Vec<String> = env::args(&rt)?.collect(rt.alloc())?;
     let mut source = ReaderSource::new(rt.reader());
-    let mut sink = WriterSink::new(LineWriter::new(rt.alloc(), io::writer(&rt))?);
+    let mut sink = WriterSink::new(BufWriter::new(rt.alloc(), io::writer(&rt))?);
     let mut errors = WriterSink::new(rt.stderr());
     let mut engine = Plain::new(rt.alloc());
     let status = answer_command_line(

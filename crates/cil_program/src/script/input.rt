@@ -123,8 +123,8 @@ impl Input {
 }
 
 impl Input {
-    ghost use Rattle.std.specs.Prelude.{◌≡◌, ◌≢◌, ◌+◌, ◌≤◌, ◌∷◌, ◌++◌, [], false, ℕ, List, length, take, drop, count_by, IsTrue, IfOk, IfSome, IfNone, OnErr, vec_len, vec_capacity};
-    ghost use Rattle.std.specs.List.{list_all};
+    ghost use Rattle.std.specs.Prelude.{◌≡◌, ◌≢◌, ◌↔◌, ◌+◌, ◌<◌, ◌≤◌, ◌∷◌, ◌++◌, [], false, ℕ, List, length, take, drop, count_by, IsTrue, IfOk, IfSome, IfNone, OnErr, vec_len, vec_capacity};
+    ghost use Rattle.std.specs.List.{list_all, list_any};
     ghost use Rattle.cil_text.specs.Device.{HasFailed, HasEnded, has_ended};
     ghost use Rattle.cil_specs.specs.Place.{is_line_feed};
     ghost use Rattle.cil_program.specs.Input.{Fits, HasRead, EndsLine, IsText, IsOther, IsWholeText, stays};
@@ -194,6 +194,20 @@ impl Input {
         ensures { result.now ≡ self.now.bytes }
     {
         &self.bytes[self.start..self.end]
+    }
+
+    /// Whether a line feed is held back, so that a line is read without a byte of the source.
+    pub fn holds_line(&self) -> bool
+        ensures { result ≡ list_any is_line_feed self.now.bytes }
+    {
+        self.held().contains(&b'\n')
+    }
+
+    /// Whether a text and the byte behind it are held back.
+    pub fn holds_text(&self, len: usize) -> bool
+        ensures { IsTrue result ↔ (len < length self.now.bytes) }
+    {
+        self.held().len() > len
     }
 
     /// Goes over some of the bytes that are held back.

@@ -1,6 +1,6 @@
 //! Scripts that stand in memory as a whole.
 
-ghost use Rattle.std.specs.Prelude.{◌≡◌, ◌≤◌, List, ℕ, true, IfOk, IsErrOf};
+ghost use Rattle.std.specs.Prelude.{◌≡◌, ◌≤◌, List, ℕ, true, IfOk, OnOk, IsErrOf};
 ghost use Rattle.cil_specs.specs.Session.{IsSession};
 ghost use Rattle.cil_text.specs.Device.{HasFailed, Gains};
 ghost use Rattle.cil_program.specs.Session.{status_of};
@@ -23,6 +23,7 @@ pub fn answer_script<W: Sink, A: Allocator + Copy, C: Compiled<A>>(
 ) -> Result<Status, SessionFault>
     ensures ok { IfOk result (λ status. (written : List ℕ) × Gains (W.taken sink.old) (W.taken sink.new) written
         × IsSession script.now true (C.store engine.old) (C.store engine.new) written (status_of status)) }
+    ensures flushed { OnOk result (W.flushed sink.new ≡ W.taken sink.new) }
     ensures write { IsErrOf result SessionFault.Write → HasFailed (W.failures sink.old) (W.failures sink.new) }
 {
     let mut source = MemorySource::new(script);

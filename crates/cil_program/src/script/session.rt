@@ -161,6 +161,19 @@ fn write_store_fault<W: Sink>(
     }
 }
 
+/// Flushes the sink, unless what is read next is held back already. So a source is asked for bytes only when all answers are
+/// out, and whoever waits for one before the next command gets it.
+fn flush_unless<W: Sink>(sink: &mut W, held: bool) -> Result<(), SinkFault>
+    ensures same { W.taken sink.new ≡ W.taken sink.old }
+    ensures failed { OnErr result (HasFailed (W.failures sink.old) (W.failures sink.new)) }
+    ensures counted { W.failures sink.old ≤ W.failures sink.new }
+{
+    if held {
+        return Ok(());
+    }
+    sink.flush()
+}
+
 /// Reads the text of an install and makes the install. An install that the store refuses by its line, or for whose text there
 /// is no memory, has its text left aside.
 fn answer_install<S: Source, W: Sink, A: Allocator + Copy, C: Compiled<A>>(
@@ -246,27 +259,15 @@ fn answer_line<S: Source, W: Sink, A: Allocator + Copy, C: Compiled<A>>(
             if end.is_last() {
                 return Ok(Outcome::NoCommand);
             }
-            answer_install(
-                alloc,
-                input,
-                source,
-                sink,
-                engine,
-                name,
-                priority,
-                len as usize,
-            )
+            let len = len as usize;
+            flush_unless(sink, input.holds_text(len))?;
+            answer_install(alloc, input, source, sink, engine, name, priority, len)
         }
     }
 }
 
-/// Answers a script from its source to a sink, with an engine. Each answer is written before the next command is read, and
-/// nothing is read behind a line that is no command.
-///
-/// # Errors
-///
-/// `Read` or `Write` where the source or the sink failed. The engine keeps what it accepted before.
-pub fn session<S: Source, W: Sink, A: Allocator + Copy, C: Compiled<A>>(
+/// Answers the commands of a script, up to its end or to a line that is no command.
+fn answer_commands<S: Source, W: Sink, A: Allocator + Copy, C: Compiled<A>>(
     alloc: A,
     source: &mut S,
     sink: &mut W,
@@ -277,12 +278,14 @@ pub fn session<S: Source, W: Sink, A: Allocator + Copy, C: Compiled<A>>(
     ensures ended { IfOk result (λ status. status ≢ Script → HasEnded (S.account source.old) (S.account source.new)) }
     ensures read { IsErrOf result SessionFault.Read → HasFailed (S.account source.old).failures (S.account source.new).failures }
     ensures write { IsErrOf result SessionFault.Write → HasFailed (W.failures sink.old) (W.failures sink.new) }
+    ensures counted { W.failures sink.old ≤ W.failures sink.new }
 {
     let mut input = Input::new();
     let mut line = Line::new();
     let mut status = Status::Clean;
     loop {
         let before = input.line_feeds();
+        flush_unless(sink, input.holds_line())?;
         let end = input.read_line(source, &mut line)?;
         let bytes = line.as_slice();
         if end.is_last() && bytes.is_empty() {
@@ -300,4 +303,28 @@ pub fn session<S: Source, W: Sink, A: Allocator + Copy, C: Compiled<A>>(
             return Ok(status);
         }
     }
+}
+
+/// Answers a script from its source to a sink, with an engine. Each answer is flushed before the source is asked for more than
+/// it gave, and nothing is read behind a line that is no command.
+///
+/// # Errors
+///
+/// `Read` or `Write` where the source or the sink failed. The engine keeps what it accepted before.
+pub fn session<S: Source, W: Sink, A: Allocator + Copy, C: Compiled<A>>(
+    alloc: A,
+    source: &mut S,
+    sink: &mut W,
+    engine: &mut C,
+) -> Result<Status, SessionFault>
+    ensures ok { IfOk result (λ status. Leaves (S.account source.old) (S.account source.new)
+        (record { store = C.store engine.old; taken = W.taken sink.old }) (record { store = C.store engine.new; taken = W.taken sink.new }) status) }
+    ensures ended { IfOk result (λ status. status ≢ Script → HasEnded (S.account source.old) (S.account source.new)) }
+    ensures read { IsErrOf result SessionFault.Read → HasFailed (S.account source.old).failures (S.account source.new).failures }
+    ensures write { IsErrOf result SessionFault.Write → HasFailed (W.failures sink.old) (W.failures sink.new) }
+    ensures flushed { OnOk result (W.flushed sink.new ≡ W.taken sink.new) }
+{
+    let status = answer_commands(alloc, source, sink, engine)?;
+    sink.flush()?;
+    Ok(status)
 }

@@ -1,6 +1,6 @@
 //! A sink over memory.
 
-ghost use Rattle.std.specs.Prelude.{◌≡◌, ◌+◌, ◌-◌, ◌^◌, ◌<◌, ◌≤◌, Some, length, take, min, OnErr, IfOk};
+ghost use Rattle.std.specs.Prelude.{◌≡◌, ◌+◌, ◌-◌, ◌^◌, ◌<◌, ◌≤◌, Some, length, take, min, OnOk, OnErr, IfOk, IsOk};
 ghost use Rattle.cil_text.specs.Device.{HasFailed, Gains, HasTaken};
 
 use crate::devices::sink::{Sink, SinkFault};
@@ -69,6 +69,8 @@ impl<A: Allocator> MemorySink<A> {
 impl<A: Allocator> Sink for MemorySink<A> {
     ghost taken = { λ s. Some s.bytes };
 
+    ghost flushed = { λ s. Some s.bytes };
+
     ghost failures = { λ s. s.failures };
 
     // The first two clauses say exactly what a call does, and the others are those of every sink.
@@ -91,5 +93,16 @@ impl<A: Allocator> Sink for MemorySink<A> {
             Ok(()) => Ok(n),
             Err(_) => Err(self.fail()),
         }
+    }
+
+    // It holds nothing back.
+    fn flush(&mut self) -> Result<(), SinkFault>
+        ensures exact { IsOk result × (self.new ≡ self.old) }
+        ensures same { Some self.new.bytes ≡ Some self.old.bytes }
+        ensures ok { OnOk result (Some self.new.bytes ≡ Some self.new.bytes) }
+        ensures failed { OnErr result (HasFailed self.old.failures self.new.failures) }
+        ensures counted { self.old.failures ≤ self.new.failures }
+    {
+        Ok(())
     }
 }

@@ -16,6 +16,9 @@ pub trait Sink {
     /// The bytes taken so far, where it can tell them.
     ghost taken: { Self → Option (List ℕ) };
 
+    /// Those of them that were flushed, where it can tell them.
+    ghost flushed: { Self → Option (List ℕ) };
+
     /// How often it failed so far.
     ghost failures: { Self → ℕ };
 
@@ -25,6 +28,13 @@ pub trait Sink {
         ensures some { IfOk result (λ n. 0 < length piece.now → 0 < n) }
         ensures ok { IfOk result (λ n. Gains (taken self.old) (taken self.new) (take n piece.now)) }
         ensures err { OnErr result (taken self.new ≡ taken self.old) }
+        ensures failed { OnErr result (HasFailed (failures self.old) (failures self.new)) }
+        ensures counted { failures self.old ≤ failures self.new };
+
+    /// Sends on what it holds back of the bytes that it took.
+    fn flush(&mut self) -> Result<(), SinkFault>
+        ensures same { taken self.new ≡ taken self.old }
+        ensures ok { OnOk result (flushed self.new ≡ taken self.new) }
         ensures failed { OnErr result (HasFailed (failures self.old) (failures self.new)) }
         ensures counted { failures self.old ≤ failures self.new };
 }
@@ -86,12 +96,21 @@ impl<W: Write + Drop> WriterSink<W> {
 impl<W: Write + Drop> Sink for WriterSink<W> {
     ghost taken = { λ _. None };
 
+    ghost flushed = { λ _. None };
+
     ghost failures = { λ s. s.failures };
 
     fn put(&mut self, piece: &[u8]) -> Result<usize, SinkFault> {
         match self.writer.write(piece) {
             Ok(n) if n > 0 || piece.is_empty() => Ok(n),
             _ => Err(self.fail()),
+        }
+    }
+
+    fn flush(&mut self) -> Result<(), SinkFault> {
+        match self.writer.flush() {
+            Ok(()) => Ok(()),
+            Err(_) => Err(self.fail()),
         }
     }
 }
