@@ -67,12 +67,12 @@ pub full-name-in : (table : Table) (s : Placed) (id : Word) → numbered_id s.fo
 full-name-in table s id numbered declared = ap (full_name_or s.namespace) numbered ∙ ap (λ o. full_name s.namespace (word_text o)) (sym declared)
 
 -- types, aliases and attributes
-data IsTypeKind (form : Form) : Type 0 where
+pub data IsTypeKind (form : Form) : Type 0 where
   is_a_type : (id : Word) → form ≡ type_name id → IsTypeKind form
   is_an_alias : (id : Word) → form ≡ type_alias id → IsTypeKind form
   is_an_attribute : (id : Word) → form ≡ type_attribute id → IsTypeKind form
 
-type-kind : (form : Form) → is_some (declared_in types form) ≡ true → IsTypeKind form
+pub type-kind : (form : Form) → is_some (declared_in types form) ≡ true → IsTypeKind form
 type-kind (type_name id) d = is_a_type id refl
 type-kind (type_alias id) d = is_an_alias id refl
 type-kind (type_attribute id) d = is_an_attribute id refl
@@ -163,7 +163,7 @@ find-holds p (y ∷ ys) x e = by (p y) refl e (find-holds p ys x)
     by true here e more = ap p (sym (same_Some y x e)) ∙ here
     by false here e more = more e
 
-gives-form : (policy : List Placed) (s : Placed) (namespace : List (List ℕ)) (form : Form) → gives_actual policy s namespace form ≡ true
+pub gives-form : (policy : List Placed) (s : Placed) (namespace : List (List ℕ)) (form : Form) → gives_actual policy s namespace form ≡ true
     → (alias : Word) × (actual : Word) × (form ≡ alias_actual alias actual)
 gives-form policy s namespace (alias_actual alias actual) e = (alias, actual, refl)
 gives-form policy s namespace (block id) e = absurd (true≢false (sym e))

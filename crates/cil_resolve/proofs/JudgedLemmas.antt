@@ -28,8 +28,8 @@ use Rattle.cil_bind.proofs.TwiceLemmas.{first-fault-again}
 use Rattle.cil_bind.proofs.WrittenLemmas.{written-apart, written-names}
 use Rattle.cil_resolve.specs.Dropped.{HaveMarks}
 use Rattle.cil_resolve.specs.Judged.{IsJudged, IsWhole, IsInOrder}
-use Rattle.cil_resolve.specs.Resolved.{dropped_with}
-use Rattle.cil_resolve.specs.Modules.{IsSound, AreKeptOf, names_of}
+use Rattle.cil_resolve.specs.Numbers.{dropped_with}
+use Rattle.cil_resolve.specs.Modules.{IsSound, AreParsedFrom, names_of}
 use Rattle.cil_resolve.specs.declared.judged.Judged.{Judged}
 use Rattle.cil_check.specs.Ordered.{IsFaultIn, IsFaultless}
 use Rattle.cil_check.specs.Bound.{AreFoundInside}
@@ -78,7 +78,7 @@ module _ (kept : Optionals) (policy : List Placed) (once : (fault : PolicyFault)
       by second_common e f = f
       by too_many_permissions e f = f
 
-  fault-of-within : (fault : PolicyFault) → IsFaultIn (restricted kept policy) fault → IsPolicyFault kept policy fault
+  pub fault-of-within : (fault : PolicyFault) → IsFaultIn (restricted kept policy) fault → IsPolicyFault kept policy fault
   fault-of-within fault f = by fault.kind f
     where
       by : (kind : PolicyFaultKind) → IsFaultOf kind (restricted kept policy) fault → IsFaultOf kind (judged kind kept policy) fault
@@ -117,7 +117,7 @@ sound-written [] sound = tt
 sound-written (m ∷ modules) (sound, others) = (sound.written, sound-written modules others)
 
 -- The modules of texts have these names, in order, and this joined policy.
-module _ {A : Type 0} (parsed : List (NamedModule A)) (modules : List Module) (are : AreKeptOf parsed modules) (rise : names_rise (names_of parsed) ≡ true) where
+module _ {A : Type 0} (parsed : List (NamedModule A)) (modules : List Module) (are : AreParsedFrom parsed modules) (rise : names_rise (names_of parsed) ≡ true) where
   abbrev policy : List Placed
   policy = joined modules
 

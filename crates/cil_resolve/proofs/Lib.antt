@@ -1,9 +1,14 @@
 pub mod NameSets
 pub mod FullNamesLemmas
 pub mod StatementLemmas
+pub mod ListLemmas
 pub mod NumberLemmas
 pub mod FaultlessLemmas
 pub mod ElementLemmas
+pub mod LedLemmas
+pub mod ConsistentLemmas
+pub mod MeansLemmas
+pub mod PlacedLemmas
 pub mod LoweringLemmas
 pub mod PartLemmas
 pub mod CommonLemmas

@@ -1,7 +1,7 @@
 -- Names, and their numbers.
 use Rattle.std.proofs.Common.{◌≡◌, ◌⊎◌, inl, inr, set, append_assoc, ℕ, ◌+◌, ◌<◌, ◌==◌, zero, suc, Bool, true, false, ◌&&◌, ◌||◌, nat_lt, List, [], ◌∷◌, ◌++◌, length, get_or, take, map, flat_map, fold, slice_get, Contains, Option, Some, None, bytes_eq, refl, sym, ap, ◌∙◌, subst, true≢false, arith, eqb-true, eq-eqb, if◌then◌else◌}
 use Rattle.std.specs.List.{list_all, list_any, AllByRecursion, IsDistinct}
-use Rattle.std.proofs.Math.Bool.{or-false}
+use Rattle.std.proofs.Math.Bool.{or-false, or-true}
 use Rattle.std.proofs.lemmas.Bool.{cases_order}
 use Rattle.std.proofs.lemmas.List.{get_or_append_left, get_or_push, get_or-set_same, get_or-set_other}
 use Rattle.cil_bind.proofs.NamespaceLemmas.{distinct-place}
@@ -21,6 +21,7 @@ use Rattle.cil_check.proofs.FirstsLemmas.{same_bytes}
 use Rattle.cil_check.proofs.WordLemmas.{has-distinct}
 use Rattle.cil_resolve.specs.FullNames.{is_numbered, full_name_of}
 use Rattle.cil_resolve.specs.Numbering.{names_with, names_of, AreNamesOf, listed_names, number_in, AreNumbersIn, HavePermissionsOf}
+use Rattle.cil_resolve.proofs.ListLemmas.{any-of-flat}
 use Rattle.cil_resolve.proofs.StatementLemmas.{map-one}
 
 -- the name of a number
@@ -90,18 +91,9 @@ words-fold old list i w at = ap (fold with_name old) (map-one (λ v. v.text) lis
 pub names-sorted : (policy : List Placed) (names sorted : List (List ℕ)) → names ≡ distinct (names_of policy) → ((name : List ℕ) → has_name sorted name ≡ has_name names name) → AreNamesOf policy sorted
 names-sorted policy names sorted is same name = same name ∙ ap (λ l. has_name l name) is ∙ has-distinct (names_of policy) name
 
-or-true : (b : Bool) → (b || true) ≡ true
-or-true true = refl
-or-true false = refl
-
 -- a name of one of the statements
 pub named-in : (f : Placed → List (List ℕ)) (policy : List Placed) (s : Placed) (name : List ℕ) → Contains policy s → has_name (f s) name ≡ true → has_name (flat_map f policy) name ≡ true
-named-in f policy s name there has =
-    let a = around policy s there in
-    ap (λ l. has_name (flat_map f l) name) a.whole ∙ ap (λ l. has_name l name) (flat_map-append f a.before (s ∷ a.after))
-    ∙ list_any-append (bytes_eq name) (flat_map f a.before) (f s ++ flat_map f a.after)
-    ∙ ap (λ b. has_name (flat_map f a.before) name || b) (list_any-append (bytes_eq name) (f s) (flat_map f a.after) ∙ ap (λ b. b || has_name (flat_map f a.after) name) has)
-    ∙ or-true (has_name (flat_map f a.before) name)
+named-in f policy s name there has = any-of-flat (bytes_eq name) f policy s there has
 
 bytes_eq-refl : (xs : List ℕ) → bytes_eq xs xs ≡ true
 bytes_eq-refl xs = (bytes_eq-Decides xs xs).1 refl

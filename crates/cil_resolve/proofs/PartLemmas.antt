@@ -27,7 +27,7 @@ use Rattle.cil_resolve.specs.Below.{is_name_below, is_class_below}
 use Rattle.cil_resolve.specs.FullNames.{numbered_id, full_name_of}
 use Rattle.cil_resolve.specs.Lowering.{IsDeclared, IsClass, ArePartsOf, AreRules, type_if, attribute_if, class_if, rule_if}
 use Rattle.cil_resolve.specs.Numbering.{AreNumbersIn}
-use Rattle.cil_resolve.specs.Resolved.{declared_of}
+use Rattle.cil_resolve.specs.Numbers.{declared_of}
 use Rattle.cil_resolve.specs.declared.numbered.NumberedName.{NumberedName}
 use Rattle.cil_resolve.specs.declared.numbered.NumberedClass.{NumberedClass}
 use Rattle.cil_resolve.proofs.ElementLemmas.{full-name-in}

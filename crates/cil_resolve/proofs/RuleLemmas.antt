@@ -25,7 +25,7 @@ use Rattle.cil_text.specs.Image.{place_of, rule_kind_of}
 use Rattle.cil_resolve.specs.Below.{is_element_below, is_aim_below, is_rule_below}
 use Rattle.cil_resolve.specs.Lowering.{IsElement, AreRules}
 use Rattle.cil_resolve.specs.Numbering.{number_in, AreNumbersIn, listed_names}
-use Rattle.cil_resolve.specs.Resolved.{aim_of}
+use Rattle.cil_resolve.specs.Numbers.{aim_of}
 use Rattle.cil_resolve.specs.declared.numbered.NumberedRule.{NumberedRule}
 use Rattle.cil_resolve.proofs.NumberLemmas.{named-in, number-is, numbers-are, numbers-below}
 

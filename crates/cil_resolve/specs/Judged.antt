@@ -10,8 +10,8 @@ use Rattle.cil_bind.specs.Written.{HaveOneNames}
 use Rattle.cil_check.specs.Bound.{AreFoundInside}
 use Rattle.cil_bind.specs.declared.joined.NamedModule.{NamedModule}
 use Rattle.cil_bind.specs.declared.policy.Policy.{Policy}
-use Rattle.cil_resolve.specs.Modules.{AreKeptOf, names_of}
-use Rattle.cil_resolve.specs.Resolved.{dropped_with}
+use Rattle.cil_resolve.specs.Modules.{AreParsedFrom, names_of}
+use Rattle.cil_resolve.specs.Numbers.{dropped_with}
 use Rattle.cil_resolve.specs.declared.judged.Judged.{Judged}
 
 -- Of a policy that declares no name twice, the statements in kept optionals alone, or in none, are bound, and the others drop.
@@ -25,7 +25,7 @@ pub record IsJudged {A : Type 0} (policy : List Placed) (parsed : List (NamedMod
 
 -- so it is of the joined policy of the modules
 abbrev pub AreJudged : {A : Type 0} → List (NamedModule A) → Judged A → Type 0
-AreJudged parsed judged = (modules : List Module) → AreKeptOf parsed modules → IsJudged (joined modules) parsed judged
+AreJudged parsed judged = (modules : List Module) → AreParsedFrom parsed modules → IsJudged (joined modules) parsed judged
 
 -- The whole policy is bound, its rows tell the optionals around them, and blocks, classes and commons stand in no optional.
 pub record IsWhole {A : Type 0} (p : Policy A) (parsed : List (NamedModule A)) (policy : List Placed) : Type 0 where

@@ -1,4 +1,6 @@
 pub mod Below
+pub mod Consistent
+pub mod Numbers
 pub mod Resolved
 pub mod Views
 pub mod Modules

@@ -20,8 +20,8 @@ use Rattle.cil_resolve.specs.Below.{is_element_below, is_name_below, is_class_be
 use Rattle.cil_text.specs.Image.{place_of}
 use Rattle.cil_resolve.specs.FullNames.{full_name_of}
 use Rattle.cil_resolve.specs.Numbering.{number_in, HavePlaces, HavePermissions}
-use Rattle.cil_resolve.specs.Resolved.{element_of, declared_of, class_of}
-use Rattle.cil_resolve.specs.Resolved as numbered
+use Rattle.cil_resolve.specs.Numbers.{element_of, declared_of, class_of}
+use Rattle.cil_resolve.specs.Numbers as numbered
 use Rattle.cil_check.specs.declared.bound.Seen.{Seen}
 use Rattle.cil_resolve.specs.declared.numbered.Element.{Element}
 use Rattle.cil_resolve.specs.declared.numbered.Element.TheVariants.{«Type»}

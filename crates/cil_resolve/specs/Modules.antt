@@ -13,7 +13,7 @@ pub record IsSound (m : Module) : Type 0 where
   pub plain : IsTrue (is_plain m.statements)
 
 -- these parsed modules have the statements of these modules, each of which is sound
-pub record AreKeptOf {A : Type 0} (parsed : List (NamedModule A)) (modules : List Module) : Type 0 where
+pub record AreParsedFrom {A : Type 0} (parsed : List (NamedModule A)) (modules : List Module) : Type 0 where
   pub spelt : AreSpelt parsed modules
   pub sound : AllByRecursion IsSound modules
 

@@ -11,7 +11,7 @@ ghost use Rattle.cil_bind.specs.Policy.{IsBoundTo};
 ghost use Rattle.cil_resolve.specs.Dropped.{mark_of, dropped_if, HaveMarks};
 ghost use Rattle.cil_resolve.specs.FullNames.{space_text};
 ghost use Rattle.cil_resolve.specs.Lowering.{modules_of};
-ghost use Rattle.cil_resolve.specs.Resolved.{dropped_with};
+ghost use Rattle.cil_resolve.specs.Numbers.{dropped_with};
 
 use crate::full_names::{full_name, space_names};
 use crate::numbered::DroppedOptional;

@@ -6,7 +6,7 @@ ghost use Rattle.cil_specs.specs.Kept.{IsFirstFault};
 ghost use Rattle.cil_check.specs.Image.{PolicyFaultIs, IsFoundFault};
 ghost use Rattle.cil_bind.specs.Policy.{fault_of};
 ghost use Rattle.cil_resolve.specs.Judged.{AreJudged, IsJudged, IsWhole};
-ghost use Rattle.cil_resolve.specs.Modules.{AreKeptOf};
+ghost use Rattle.cil_resolve.specs.Modules.{AreParsedFrom};
 
 use crate::dropped::dropped_optionals;
 use crate::numbered::DroppedOptional;
@@ -38,9 +38,9 @@ impl<'m, A: Allocator + Copy> Judged<'m, A> {
     /// What the joined policy of modules keeps. A fault is out of memory, or a name that is declared twice, also one in an optional that
     /// drops.
     pub fn of(alloc: A, joined: &Joined<'m, A>) -> Result<Self, PolicyFault<'m>>
-        requires { (modules : List Module) × AreKeptOf joined.now.modules.items modules }
+        requires { (modules : List Module) × AreParsedFrom joined.now.modules.items modules }
         ensures judged { IfOk result (AreJudged joined.now.modules.items) }
-        ensures err { IfErr result (λ fault. (modules : List Module) → AreKeptOf joined.now.modules.items modules → PolicyFaultIs fault (IsFirstFault (joined_policy modules))) }
+        ensures err { IfErr result (λ fault. (modules : List Module) → AreParsedFrom joined.now.modules.items modules → PolicyFaultIs fault (IsFirstFault (joined_policy modules))) }
     {
         let policy = match Policy::of(alloc, joined)? {
             Joining::Once(policy) => policy,

@@ -5,7 +5,13 @@ ghost use Rattle.cil_specs.specs.Joined.{Placed};
 ghost use Rattle.cil_specs.specs.Lookup.{Table, leads};
 ghost use Rattle.cil_specs.specs.Store.{Store};
 ghost use Rattle.cil_specs.specs.Kept.{Optionals, restricted, IsWithin, IsGood, AreKept, AreApart};
+ghost use Rattle.cil_specs.specs.Meaning.{Meaning, Means};
 ghost use Rattle.cil_specs.specs.Next.{IsPolicyOf};
+ghost use Rattle.cil_resolve.specs.Consistent.{is_consistent};
+ghost use Rattle.cil_resolve.specs.Resolved.{meaning_in};
+
+use crate::resolved::Resolved;
+use std::alloc::Allocator;
 
 /// With more optionals a name that leads somewhere still does. It may lead elsewhere: a nearer declaration hides one further out.
 pub fn found_grows()
@@ -32,4 +38,16 @@ pub fn kept_is_one()
 /// The policy of a store is one in which these stand in no optional.
 pub fn policies_are_apart()
     ensures { (store : Store) (policy : List Placed) → IsPolicyOf store policy → AreApart policy }
+{}
+
+/// In what a policy means the rules name what is declared: their sources and targets are among the types, or among the attributes,
+/// as they say, and their classes among the classes, with these permissions.
+pub fn meanings_are_consistent()
+    ensures { (policy : List Placed) (kept : Optionals) (meaning : Meaning) → AreApart policy
+        → Means policy kept meaning → IsTrue (is_consistent meaning) }
+{}
+
+/// So do those of what a joined policy resolves to.
+pub fn resolved_is_consistent<A: Allocator>(resolved: &Resolved<A>)
+    ensures { IsTrue (is_consistent (meaning_in resolved.now)) }
 {}

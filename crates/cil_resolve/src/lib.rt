@@ -19,7 +19,10 @@ mod words;
 
 pub use cil_bind::{Joined, NamedModule, join};
 pub use cil_check::{PolicyFault, PolicyFaultKind};
-pub use laws::{found_grows, kept_exists, kept_is_good, kept_is_one, policies_are_apart};
+pub use laws::{
+    found_grows, kept_exists, kept_is_good, kept_is_one, meanings_are_consistent,
+    policies_are_apart, resolved_is_consistent,
+};
 pub use numbered::{Aim, DroppedOptional, Element, NumberedClass, NumberedName, NumberedRule};
 pub use resolved::Resolved;
 pub use resolver::{resolve, resolve_types};

@@ -6,7 +6,8 @@ ghost use Rattle.cil_specs.specs.Meaning.{meaning_of};
 ghost use Rattle.cil_check.specs.Checker.{IsNoted};
 ghost use Rattle.cil_check.specs.Ordered.{IsFaultless};
 ghost use Rattle.cil_resolve.specs.Lowering.{modules_of, HasNoSets};
-ghost use Rattle.cil_resolve.specs.Resolved.{meaning_in, dropped_with};
+ghost use Rattle.cil_resolve.specs.Numbers.{dropped_with};
+ghost use Rattle.cil_resolve.specs.Resolved.{meaning_in};
 
 use crate::elements::elements;
 use crate::lowering::Lowering;

@@ -4,13 +4,15 @@ ghost use Rattle.std.specs.Prelude.{IsTrue, length};
 ghost use Rattle.std.specs.List.{list_all};
 ghost use Rattle.cil_specs.specs.Report.{names_rise};
 ghost use Rattle.cil_resolve.specs.Below.{is_rule_below, is_name_below, is_class_below};
+ghost use Rattle.cil_resolve.specs.Numbers.{AreConsistent};
 
 use crate::numbered::{DroppedOptional, NumberedClass, NumberedName, NumberedRule};
 use crate::text::Text;
 use std::alloc::{Allocator, Global};
 
 /// A policy that compiles, by full names, which it owns. The names of types, attributes, classes and permissions are numbered in
-/// the order of their bytes, so that the order of the numbers is that of the names.
+/// the order of their bytes, so that the order of the numbers is that of the names. Its rules name what it declares: types,
+/// attributes, and classes with their permissions.
 #[derive(Debug, Drop)]
 pub struct Resolved<A: Allocator = Global> {
     pub(crate) modules: Vec<Text<A>, A>,
@@ -25,4 +27,5 @@ pub struct Resolved<A: Allocator = Global> {
     pub(crate) ghost attributes_within: { IsTrue (list_all (is_name_below (length names.items)) attributes.items) },
     pub(crate) ghost classes_within: { IsTrue (list_all (is_class_below (length names.items)) classes.items) },
     pub(crate) ghost rules_within: { IsTrue (list_all (is_rule_below (length names.items)) rules.items) },
+    pub(crate) ghost consistent: { AreConsistent modules.items names.items types.items attributes.items classes.items rules.items },
 }

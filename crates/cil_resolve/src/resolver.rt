@@ -10,7 +10,7 @@ ghost use Rattle.cil_check.specs.Checker.{IsNoted};
 ghost use Rattle.cil_check.specs.Image.{PolicyFaultIs};
 ghost use Rattle.cil_check.specs.Ordered.{IsFaultIn, IsFaultless};
 ghost use Rattle.cil_resolve.specs.Judged.{IsInOrder};
-ghost use Rattle.cil_resolve.specs.Modules.{AreKeptOf};
+ghost use Rattle.cil_resolve.specs.Modules.{AreParsedFrom};
 ghost use Rattle.cil_resolve.specs.Resolved.{meaning_in};
 
 use crate::judged::Judged;
@@ -44,9 +44,9 @@ pub fn resolve<'m, A: Allocator + Copy>(
     alloc: A,
     joined: &Joined<'m, A>,
 ) -> Result<Resolved<A>, PolicyFault<'m>>
-    requires { (modules : List Module) × AreKeptOf joined.now.modules.items modules }
-    ensures meaning { IfOk result (λ r. (modules : List Module) → AreKeptOf joined.now.modules.items modules → (kept : Optionals) × Means (joined_policy modules) kept (meaning_in r)) }
-    ensures err { IfErr result (λ fault. (modules : List Module) → AreKeptOf joined.now.modules.items modules → PolicyFaultIs fault (IsFirstFault (joined_policy modules))) }
+    requires { (modules : List Module) × AreParsedFrom joined.now.modules.items modules }
+    ensures meaning { IfOk result (λ r. (modules : List Module) → AreParsedFrom joined.now.modules.items modules → (kept : Optionals) × Means (joined_policy modules) kept (meaning_in r)) }
+    ensures err { IfErr result (λ fault. (modules : List Module) → AreParsedFrom joined.now.modules.items modules → PolicyFaultIs fault (IsFirstFault (joined_policy modules))) }
 {
     let Judged { policy, dropped } = Judged::of(alloc, joined)?;
     let checker = checked(alloc, joined, &policy)?;
@@ -59,10 +59,10 @@ pub fn resolve_types<'m, A: Allocator + Copy>(
     alloc: A,
     joined: &Joined<'m, A>,
 ) -> Result<Resolved<A>, PolicyFault<'m>>
-    requires { (modules : List Module) × AreKeptOf joined.now.modules.items modules }
-    ensures meaning { IfOk result (λ r. (modules : List Module) → AreKeptOf joined.now.modules.items modules
+    requires { (modules : List Module) × AreParsedFrom joined.now.modules.items modules }
+    ensures meaning { IfOk result (λ r. (modules : List Module) → AreParsedFrom joined.now.modules.items modules
         → (kept : Optionals) × Means (joined_policy modules) kept (meaning_in r) × HasTypesAlone (restricted kept (joined_policy modules))) }
-    ensures err { IfErr result (λ fault. (modules : List Module) → AreKeptOf joined.now.modules.items modules → PolicyFaultIs fault (IsPolicyFaultOf (joined_policy modules))) }
+    ensures err { IfErr result (λ fault. (modules : List Module) → AreParsedFrom joined.now.modules.items modules → PolicyFaultIs fault (IsPolicyFaultOf (joined_policy modules))) }
 {
     let Judged { policy, dropped } = Judged::of(alloc, joined)?;
     let checker = checked(alloc, joined, &policy)?;

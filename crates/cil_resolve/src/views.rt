@@ -5,7 +5,8 @@ ghost use Rattle.std.specs.List.{list_all};
 ghost use Rattle.std.specs.Option.{option_and_then};
 ghost use Rattle.cil_specs.specs.Report.{names_rise};
 ghost use Rattle.cil_resolve.specs.Below.{is_rule_below};
-ghost use Rattle.cil_resolve.specs.Resolved.{element_of, aim_of, meaning_in};
+ghost use Rattle.cil_resolve.specs.Numbers.{element_of, aim_of};
+ghost use Rattle.cil_resolve.specs.Resolved.{meaning_in};
 ghost use Rattle.cil_resolve.specs.Views.{declared_seen, class_seen, class_head, element_seen, aim_seen, rule_seen, rule_head};
 
 use crate::numbered::{Aim, Element, NumberedRule};

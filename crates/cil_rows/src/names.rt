@@ -5,7 +5,7 @@ ghost use Rattle.cil_specs.specs.Joined.{Module};
 ghost use Rattle.cil_specs.specs.Next.{is_plain as is_plain_module};
 ghost use Rattle.cil_specs.specs.Statements.{Statements};
 ghost use Rattle.cil_parse.specs.Parsed.{Spells};
-ghost use Rattle.cil_resolve.specs.Modules.{AreKeptOf};
+ghost use Rattle.cil_resolve.specs.Modules.{AreParsedFrom};
 ghost use Rattle.cil_rows.specs.Sound.{is_set_kind, IsSoundModule};
 
 use crate::answers::{assert_same, shown};
@@ -63,7 +63,7 @@ fn joined<'m>(
 ) -> Result<Joined<'m>, AllocError>
     requires first { IsSoundModule m.now }
     requires second { IsSoundModule n.now }
-    ensures { IfOk result (λ joined. (modules : List Module) × AreKeptOf joined.modules.items modules) }
+    ensures { IfOk result (λ joined. (modules : List Module) × AreParsedFrom joined.modules.items modules) }
 {
     let modules = Vec::from_array(
         alloc,

@@ -16,7 +16,7 @@ use Rattle.cil_specs.proofs.ReportLemmasMembers.{AnyByRecursion, any_to, any_fro
 use Rattle.cil_text.specs.Image.{rule_kind_of}
 use Rattle.cil_resolve.specs.declared.numbered.NumberedRule.{NumberedRule}
 use Rattle.cil_rules.specs.declared.numbers.AtomNumbers.{AtomNumbers}
-use Rattle.cil_resolve.specs.Resolved.{rule_of, element_of, aim_of}
+use Rattle.cil_resolve.specs.Numbers.{rule_of, element_of, aim_of}
 use Rattle.cil_resolve.specs.declared.numbered.Element.{Element}
 use Rattle.cil_resolve.specs.declared.numbered.Element.TheVariants.{«Type», Attribute}
 use Rattle.cil_resolve.specs.declared.numbered.Aim.{Aim}

@@ -4,7 +4,7 @@ use Rattle.cil_specs.specs.Joined.{Module}
 use Rattle.cil_specs.specs.Next.{IsModuleText, AreModules}
 use Rattle.cil_specs.specs.Store.{Entry}
 use Rattle.cil_bind.specs.declared.joined.NamedModule.{NamedModule}
-use Rattle.cil_resolve.specs.Modules.{IsSound, AreKeptOf}
+use Rattle.cil_resolve.specs.Modules.{IsSound, AreParsedFrom}
 use Rattle.cil_store.specs.Stored.{AreParsedOf}
 use Rattle.cil_store.proofs.UnsupportedLemmas.{text_plain}
 
@@ -15,7 +15,7 @@ sound-text bytes m text = record {
   plain = text_plain bytes m.statements text;
 }
 
-pub kept-modules : {A : Type 0} (entries : List Entry) (parsed : List (NamedModule A)) → AreParsedOf entries parsed → (modules : List Module) × AreKeptOf parsed modules × AreModules entries modules
+pub kept-modules : {A : Type 0} (entries : List Entry) (parsed : List (NamedModule A)) → AreParsedOf entries parsed → (modules : List Module) × AreParsedFrom parsed modules × AreModules entries modules
 kept-modules [] [] are = ([], record { spelt = tt; sound = tt }, tt)
 kept-modules [] (n ∷ parsed) are = absurd are
 kept-modules (e ∷ entries) [] are = absurd are

@@ -4,7 +4,7 @@ use Rattle.cil_specs.specs.Kept.{Optionals}
 use Rattle.cil_bind.specs.Policy.{IsBoundTo}
 use Rattle.cil_resolve.specs.Dropped.{dropped_if, HaveMarks}
 use Rattle.cil_resolve.specs.Lowering.{modules_of}
-use Rattle.cil_resolve.specs.Resolved.{dropped_with}
+use Rattle.cil_resolve.specs.Numbers.{dropped_with}
 use Rattle.cil_resolve.proofs.dropped.dropped_optionals.Given as goal
 
 abbrev pub invariant-loop-i : goal.invariant-loop-i

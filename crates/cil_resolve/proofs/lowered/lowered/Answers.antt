@@ -2,10 +2,13 @@ use Rattle.std.proofs.Common.{◌≡◌, ◌∙◌, List, ℕ, map, sym, ap, sub
 use Rattle.cil_specs.specs.Joined.{Placed}
 use Rattle.cil_check.specs.Checker.{IsNoted}
 use Rattle.cil_check.specs.Ordered.{IsFaultless}
+use Rattle.cil_resolve.specs.Consistent.{are_rules_of, are_placed_in}
 use Rattle.cil_resolve.specs.Lowering.{HaveElements, modules_of}
 use Rattle.cil_resolve.specs.Numbering.{HavePlaces}
-use Rattle.cil_resolve.specs.Resolved.{declared_of, class_of, rule_of, dropped_with}
+use Rattle.cil_resolve.specs.Numbers.{declared_of, class_of, rule_of, dropped_with}
+use Rattle.cil_resolve.proofs.ConsistentLemmas.{rules-declared}
 use Rattle.cil_resolve.proofs.PartLemmas.{no-sets}
+use Rattle.cil_resolve.proofs.PlacedLemmas.{from-named, all-placed}
 use Rattle.cil_resolve.proofs.lowered.lowered.Goals as goal
 
 pub parts-requires : goal.parts-requires
@@ -35,7 +38,22 @@ invariant_of-result g c =
           (c.in_ok-elements.ensures c.in_ok-numbering.numbering.names.items policy noted faultless
           (subst (HavePlaces c.in_ok-numbering.numbering.names.items policy) (sym c.deref.ensures.value) (c.in_ok-numbering.ensures.places policy noted.is)));
     }) in
+    let names = c.in_ok-numbering.numbering.names.items in
+    let modules = c.in_ok-module_names.ensures in
+    let bound = noted.is.bound in
+    let parsed = c.args.checker.now.bound.joined.now.modules.items in
+    let rows = c.args.checker.now.bound.policy.now.rows.items in
+    let types = (λ k. map (declared_of (modules k) names) c.in_ok-parts.parts.types.items) ∙ parts.types_are in
+    let attributes = (λ k. map (declared_of (modules k) names) c.in_ok-parts.parts.attributes.items) ∙ parts.attributes_are in
+    let classes = (λ k. map (class_of (modules k) names) c.in_ok-parts.parts.classes.items) ∙ parts.classes_are in
+    let rules = (λ k. map (rule_of (modules k) names) c.in_ok-parts.parts.rules.items) ∙ parts.rules_are.is in
     record {
+      consistent = record {
+        declared = (λ i. are_rules_of (types i) (attributes i) (classes i) (rules i)) ∙ rules-declared policy faultless;
+        placed =
+            (λ i. are_placed_in (modules i) (types i) (attributes i) (classes i) (rules i))
+            ∙ all-placed (modules_of c.args.checker.now.bound.joined.now) policy (λ s there. from-named parsed rows policy s bound.from there);
+      };
       ordered = c.in_ok-numbering.numbering.ordered;
       types_within = parts.types_below;
       attributes_within = parts.attributes_below;

@@ -10,7 +10,7 @@ use Rattle.cil_check.proofs.SeenLemmas.{seen-kind, there-at}
 use Rattle.cil_resolve.specs.Below.{is_name_below, is_class_below, is_rule_below}
 use Rattle.cil_resolve.specs.FullNames.{numbered_id, is_numbered}
 use Rattle.cil_resolve.specs.Lowering.{AreRules, IsIn, modules_of, type_if, attribute_if, class_if, rule_if}
-use Rattle.cil_resolve.specs.Resolved.{declared_of, class_of, rule_of}
+use Rattle.cil_resolve.specs.Numbers.{declared_of, class_of, rule_of}
 use Rattle.cil_resolve.proofs.ElementLemmas.{type-form}
 use Rattle.cil_resolve.proofs.PartLemmas.{attribute-form, declared-made, of-kind, no-type-kind, no-attribute-kind, no-class-kind, no-type, no-attribute, no-class, grow, stay, below-more}
 use Rattle.cil_resolve.proofs.StatementLemmas.{contained}

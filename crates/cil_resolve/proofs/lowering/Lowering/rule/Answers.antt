@@ -12,7 +12,7 @@ use Rattle.cil_check.proofs.SeenLemmas.{seen-kind, seen-lead}
 use Rattle.cil_resolve.specs.Below.{is_aim_below}
 use Rattle.cil_resolve.specs.Lowering.{AreRules, modules_of}
 use Rattle.cil_resolve.specs.Numbering.{AreNumbersIn, listed_names}
-use Rattle.cil_resolve.specs.Resolved.{aim_of}
+use Rattle.cil_resolve.specs.Numbers.{aim_of}
 use Rattle.cil_resolve.specs.declared.numbered.NumberedRule.{NumberedRule}
 use Rattle.cil_resolve.proofs.FaultlessLemmas.{word-found}
 use Rattle.cil_resolve.proofs.FormLemmas.{form-rule, form-to-self}

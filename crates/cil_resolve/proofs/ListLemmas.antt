@@ -1,0 +1,34 @@
+-- Tests of the elements of lists.
+use Rattle.std.proofs.Common.{◌≡◌, ◌∙◌, Bool, true, false, ◌||◌, List, [], ◌∷◌, ◌++◌, flat_map, Contains, Option, Some, cond, refl, ap, subst}
+use Rattle.std.specs.List.{list_all, list_any, find}
+use Rattle.std.proofs.Math.Bool.{or-true}
+use Rattle.std.proofs.lemmas.Grind.{flat_map-append}
+use Rattle.std.proofs.lemmas.List.Folds.{list_any-append, list_all-append}
+use Rattle.std.proofs.lemmas.Option.{none-some, same_Some}
+use Rattle.cil_specs.proofs.NamesLemmas.{around, contains-first, contains-other}
+use Rattle.cil_specs.proofs.Runs.{both_true}
+
+-- what passes a test in the list of one element passes it in the list of all
+pub any-of-flat : {X Y : Type 0} (p : Y → Bool) (f : X → List Y) (xs : List X) (x : X) → Contains xs x → list_any p (f x) ≡ true → list_any p (flat_map f xs) ≡ true
+any-of-flat p f xs x there any =
+    let a = around xs x there in
+    ap (λ l. list_any p (flat_map f l)) a.whole ∙ ap (list_any p) (flat_map-append f a.before (x ∷ a.after))
+    ∙ list_any-append p (flat_map f a.before) (f x ++ flat_map f a.after)
+    ∙ ap (λ b. list_any p (flat_map f a.before) || b) (list_any-append p (f x) (flat_map f a.after) ∙ ap (λ b. b || list_any p (flat_map f a.after)) any)
+    ∙ or-true (list_any p (flat_map f a.before))
+
+-- all pass it if those of each element do
+pub all-of-flat : {X Y : Type 0} (p : Y → Bool) (f : X → List Y) (xs : List X) → ((x : X) → Contains xs x → list_all p (f x) ≡ true) → list_all p (flat_map f xs) ≡ true
+all-of-flat p f [] each = refl
+all-of-flat p f (x ∷ xs) each =
+    list_all-append p (f x) (flat_map f xs)
+    ∙ both_true (list_all p (f x)) (list_all p (flat_map f xs)) (each x (contains-first x xs)) (all-of-flat p f xs (λ y there. each y (contains-other x xs y there)))
+
+-- what is found is there
+pub find-there : {X : Type 0} (p : X → Bool) (xs : List X) (x : X) → find p xs ≡ Some x → Contains xs x
+find-there p [] x e = absurd (none-some x e)
+find-there {X = X} p (y ∷ ys) x e = by (p y) e (find-there p ys x)
+  where
+    by : (b : Bool) → cond b (Some y) (find p ys) ≡ Some x → (find p ys ≡ Some x → Contains ys x) → Contains (y ∷ ys) x
+    by true e more = subst (Contains (y ∷ ys)) (same_Some y x e) (contains-first y ys)
+    by false e more = contains-other y ys x (more e)

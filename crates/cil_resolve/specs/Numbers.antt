@@ -1,0 +1,66 @@
+-- What the numbers of a resolved policy stand for.
+use Rattle.std.specs.Prelude.{ℕ, List, [], map, slice_index_or, IsTrue}
+use Rattle.cil_specs.specs.Meaning.{Meaning}
+use Rattle.cil_specs.specs.Rule as spec
+use Rattle.cil_specs.specs.Rule.{a_type, an_attribute, at_itself, at_element}
+use Rattle.cil_text.specs.Image.{place_of, rule_kind_of}
+use Rattle.cil_resolve.specs.Consistent.{are_rules_of, are_placed_in}
+use Rattle.cil_resolve.specs.declared.numbered.Element.{Element}
+use Rattle.cil_resolve.specs.declared.numbered.Element.TheVariants.{«Type», Attribute}
+use Rattle.cil_resolve.specs.declared.numbered.Aim.{Aim}
+use Rattle.cil_resolve.specs.declared.numbered.Aim.TheVariants as aims
+use Rattle.cil_resolve.specs.declared.numbered.NumberedName.{NumberedName}
+use Rattle.cil_resolve.specs.declared.numbered.NumberedClass.{NumberedClass}
+use Rattle.cil_resolve.specs.declared.numbered.NumberedRule.{NumberedRule}
+use Rattle.cil_resolve.specs.declared.numbered.DroppedOptional.{DroppedOptional}
+
+abbrev pub element_of : List (List ℕ) → Element → spec.Element
+element_of names («Type» i) = a_type (slice_index_or names i [])
+element_of names (Attribute i) = an_attribute (slice_index_or names i [])
+
+abbrev pub aim_of : List (List ℕ) → Aim → spec.Aim
+aim_of names aims.Itself = at_itself
+aim_of names (aims.Element e) = at_element (element_of names e)
+
+abbrev pub declared_of : List (List ℕ) → List (List ℕ) → NumberedName → spec.Declared
+declared_of modules names d = record { module_name = slice_index_or modules d.module []; at = place_of d.at; name = slice_index_or names d.name [] }
+
+abbrev pub class_of : {A : Type 0} → List (List ℕ) → List (List ℕ) → NumberedClass A → spec.ClassOf
+class_of modules names c = record {
+  module_name = slice_index_or modules c.module [];
+  at = place_of c.at;
+  name = slice_index_or names c.name [];
+  permissions = map (λ p. slice_index_or names p []) c.permissions.items;
+}
+
+-- a rule, by the names at its numbers
+abbrev pub rule_of : {A : Type 0} → List (List ℕ) → List (List ℕ) → NumberedRule A → spec.Rule
+rule_of modules names r = record {
+  module_name = slice_index_or modules r.module [];
+  at = place_of r.at;
+  kind = rule_kind_of r.kind;
+  source = element_of names r.source;
+  target = aim_of names r.target;
+  the_class = slice_index_or names r.class [];
+  permissions = map (λ p. slice_index_or names p []) r.permissions.items;
+}
+
+-- an optional that drops, by the name of its module
+abbrev pub dropped_with : {A : Type 0} → List (List ℕ) → DroppedOptional A → spec.Declared
+dropped_with modules d = record { module_name = slice_index_or modules d.module []; at = place_of d.at; name = d.name }
+
+-- what these names, declarations and rules mean, where there are no set statements yet
+abbrev pub meaning_by : {A : Type 0} → List (List ℕ) → List (List ℕ) → List NumberedName → List NumberedName → List (NumberedClass A) → List (NumberedRule A) → List (DroppedOptional A) → Meaning
+meaning_by modules names types attributes classes rules dropped = record {
+  types = map (declared_of modules names) types;
+  attributes = map (declared_of modules names) attributes;
+  classes = map (class_of modules names) classes;
+  sets = [];
+  rules = map (rule_of modules names) rules;
+  dropped = map (dropped_with modules) dropped;
+}
+
+-- The rules name types and attributes, as they are tagged, and classes with permissions, that are declared; and all stand in these modules.
+pub record AreConsistent {A : Type 0} (modules names : List (List ℕ)) (types attributes : List NumberedName) (classes : List (NumberedClass A)) (rules : List (NumberedRule A)) : Type 0 where
+  pub declared : IsTrue (are_rules_of (map (declared_of modules names) types) (map (declared_of modules names) attributes) (map (class_of modules names) classes) (map (rule_of modules names) rules))
+  pub placed : IsTrue (are_placed_in modules (map (declared_of modules names) types) (map (declared_of modules names) attributes) (map (class_of modules names) classes) (map (rule_of modules names) rules))
