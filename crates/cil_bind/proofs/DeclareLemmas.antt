@@ -130,21 +130,10 @@ again-first policy front f back s table w once split none first = by (is_optiona
 
 pub same-table : (t u : code.Table) → (table_index t == table_index u) ≡ true → table_of t ≡ table_of u
 same-table Types Types e = refl
-same-table Types Classes e = absurd (true≢false (sym e))
-same-table Types Commons e = absurd (true≢false (sym e))
-same-table Types Scopes e = absurd (true≢false (sym e))
-same-table Classes Types e = absurd (true≢false (sym e))
 same-table Classes Classes e = refl
-same-table Classes Commons e = absurd (true≢false (sym e))
-same-table Classes Scopes e = absurd (true≢false (sym e))
-same-table Commons Types e = absurd (true≢false (sym e))
-same-table Commons Classes e = absurd (true≢false (sym e))
 same-table Commons Commons e = refl
-same-table Commons Scopes e = absurd (true≢false (sym e))
-same-table Scopes Types e = absurd (true≢false (sym e))
-same-table Scopes Classes e = absurd (true≢false (sym e))
-same-table Scopes Commons e = absurd (true≢false (sym e))
 same-table Scopes Scopes e = refl
+same-table _ _ e = absurd (true≢false (sym e))
 
 index : Table → ℕ
 index types = 0
@@ -155,21 +144,10 @@ index scopes = 3
 table-same : (t u : code.Table) → table_of t ≡ table_of u → (table_index t == table_index u) ≡ true
 unfolding index
 table-same Types Types e = refl
-table-same Types Classes e = absurd (omega (arith, ap index e))
-table-same Types Commons e = absurd (omega (arith, ap index e))
-table-same Types Scopes e = absurd (omega (arith, ap index e))
-table-same Classes Types e = absurd (omega (arith, ap index e))
 table-same Classes Classes e = refl
-table-same Classes Commons e = absurd (omega (arith, ap index e))
-table-same Classes Scopes e = absurd (omega (arith, ap index e))
-table-same Commons Types e = absurd (omega (arith, ap index e))
-table-same Commons Classes e = absurd (omega (arith, ap index e))
 table-same Commons Commons e = refl
-table-same Commons Scopes e = absurd (omega (arith, ap index e))
-table-same Scopes Types e = absurd (omega (arith, ap index e))
-table-same Scopes Classes e = absurd (omega (arith, ap index e))
-table-same Scopes Commons e = absurd (omega (arith, ap index e))
 table-same Scopes Scopes e = refl
+table-same _ _ e = absurd (omega (arith, ap index e))
 
 -- a statement that declares a name declares it in one table and one namespace
 record IsNamed (s : Placed) (table u : Table) (namespace : List (List ℕ)) (name : List ℕ) (w : Word) : Type 0 where

@@ -16,3 +16,4 @@ pub mod OrderedLemmas
 pub mod NestedLemmas
 pub mod WrittenLemmas
 pub mod TwiceLemmas
+pub mod PermissionLemmas

@@ -2,6 +2,7 @@
 use Rattle.std.proofs.Common.{◌≡◌, ◌⊎◌, inl, inr, ℕ, zero, suc, ◌+◌, ◌<◌, ◌≤◌, ◌==◌, Bool, true, false, ◌&&◌, cond, List, [], ◌∷◌, length, get_or, drop, slice_get, Option, Some, None, IfSome, IfNone, is_some, All, position, nat_eq, nat_lt, Contains, refl, sym, ap, ◌∙◌, subst, arith, true≢false, add-one, drop-cons, if◌then◌else◌}
 use Rattle.std.specs.List.{find, position_or_len}
 use Rattle.std.specs.Option.{option_or, option_and_then}
+use Rattle.std.proofs.Math.ListN.{drop_of_length-le}
 use Rattle.std.proofs.lemmas.Bool.{cases_lt, eqb-true}
 use Rattle.std.proofs.lemmas.Bool.Decides.{Decides-ltb}
 use Rattle.std.proofs.lemmas.List.Elements.{Contains-get_or}
@@ -146,23 +147,12 @@ pub inside-stop : (table : Table) (policy : List Placed) (namespace : List (List
 inside-stop table policy namespace name next more e = ap (λ b. if b then inside policy table (name ∷ namespace) (next ∷ more) else None) e
 
 -- the derived == of tables and of keys
-derived-table : (t u : code.Table) → (table_eq.eq-value).it t u ≡ (table_index t == table_index u)
+pub derived-table : (t u : code.Table) → (table_eq.eq-value).it t u ≡ (table_index t == table_index u)
 derived-table Types Types = refl
-derived-table Types Classes = refl
-derived-table Types Commons = refl
-derived-table Types Scopes = refl
-derived-table Classes Types = refl
 derived-table Classes Classes = refl
-derived-table Classes Commons = refl
-derived-table Classes Scopes = refl
-derived-table Commons Types = refl
-derived-table Commons Classes = refl
 derived-table Commons Commons = refl
-derived-table Commons Scopes = refl
-derived-table Scopes Types = refl
-derived-table Scopes Classes = refl
-derived-table Scopes Commons = refl
 derived-table Scopes Scopes = refl
+derived-table _ _ = refl
 
 pub derived-key : (key : Key) → (key_eq.eq-value).it key ≡ is_key key.table key.namespace key.word
 derived-key key = λ i other. derived-table key.table other.table i && (nat_eq key.namespace other.namespace && nat_eq key.word other.word)
@@ -207,23 +197,11 @@ inside-none table policy names spaces words path n i opened all low more here ab
 pub inside-last : (table : Table) (policy : List Placed) (names : List (List ℕ)) (namespace : List (List ℕ)) (words path : List ℕ) (i : ℕ) → i < length path → length path ≤ i + 1
     → inside policy table namespace (path_of names words (drop i path)) ≡ declaration policy table namespace (word_at names (get_or words (get_or path i 0) 0))
 inside-last table policy names namespace words path i low last =
-    ap (inside policy table namespace) (path-from names words path i low ∙ ap (λ l. word_at names (get_or words (get_or path i 0) 0) ∷ path_of names words l) (past path (i + 1) last))
-  where
-    past : (xs : List ℕ) (n : ℕ) → length xs ≤ n → drop n xs ≡ []
-    past [] zero le = refl
-    past [] (suc n) le = refl
-    past (x ∷ xs) zero le = absurd (omega arith)
-    past (x ∷ xs) (suc n) le = past xs n (omega arith)
+    ap (inside policy table namespace) (path-from names words path i low ∙ ap (λ l. word_at names (get_or words (get_or path i 0) 0) ∷ path_of names words l) (drop_of_length-le path last))
 
 pub inside-end : (table : Table) (policy : List Placed) (names : List (List ℕ)) (namespace : List (List ℕ)) (words path : List ℕ) (i : ℕ) → length path ≤ i
     → inside policy table namespace (path_of names words (drop i path)) ≡ None
-inside-end table policy names namespace words path i le = ap (λ l. inside policy table namespace (path_of names words l)) (past path i le)
-  where
-    past : (xs : List ℕ) (n : ℕ) → length xs ≤ n → drop n xs ≡ []
-    past [] zero le = refl
-    past [] (suc n) le = refl
-    past (x ∷ xs) zero le = absurd (omega arith)
-    past (x ∷ xs) (suc n) le = past xs n (omega arith)
+inside-end table policy names namespace words path i le = ap (λ l. inside policy table namespace (path_of names words l)) (drop_of_length-le path le)
 
 -- a path of one name, and one of more
 pub from-one : (table : Table) (policy : List Placed) (names namespace : List (List ℕ)) (words path : List ℕ) (k : ℕ) (rest : List ℕ) → path ≡ k ∷ rest → (length rest == 0) ≡ true

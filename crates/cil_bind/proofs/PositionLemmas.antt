@@ -1,8 +1,10 @@
 -- The first place in a list at which a test passes.
-use Rattle.std.proofs.Common.{◌≡◌, ℕ, ◌+◌, ◌<◌, ◌≤◌, zero, suc, Bool, true, false, not, ◌||◌, nat_lt, List, [], ◌∷◌, ◌++◌, length, take, drop, cond, Option, Some, None, is_some, option_map, position, refl, sym, ap, ◌∙◌, arith}
+use Rattle.std.proofs.Common.{◌≡◌, ℕ, ◌+◌, ◌<◌, ◌≤◌, zero, suc, Bool, true, false, not, ◌||◌, nat_lt, List, [], ◌∷◌, ◌++◌, length, take, drop, cond, Option, Some, None, is_some, option_map, position, refl, sym, ap, ◌∙◌, add-one, arith}
 use Rattle.std.specs.List.{list_any, slice_get, position_or_len}
 use Rattle.std.specs.Option.{option_or}
 use Rattle.std.proofs.lemmas.Option.{none-some, same_Some}
+use Rattle.std.proofs.Math.Bool.{or-false}
+use Rattle.std.proofs.lemmas.List.Folds.{list_any-append}
 use Rattle.std.proofs.lemmas.Bool.{ltb-true, ltb-false, lt-ltb, le-ltb}
 
 -- the place at which a test passes, if a condition holds
@@ -80,6 +82,12 @@ pub take-length : {X : Type 0} (xs : List X) (i : ℕ) (x : X) → slice_get xs 
 take-length [] i x is = absurd (none-some x is)
 take-length (y ∷ xs) zero x is = refl
 take-length (y ∷ xs) (suc i) x is = ap suc (take-length xs i x is)
+
+pub take-last : {X : Type 0} (xs : List X) (i : ℕ) (x : X) → slice_get xs i ≡ Some x → take (i + 1) xs ≡ take i xs ++ x ∷ []
+take-last xs i x at = ap (λ k. take k xs) (add-one i) ∙ take-next xs i x at
+
+pub any-last : {X : Type 0} (p : X → Bool) (xs : List X) (x : X) → list_any p (xs ++ x ∷ []) ≡ (list_any p xs || p x)
+any-last p xs x = list_any-append p xs (x ∷ []) ∙ ap (λ b. list_any p xs || b) (or-false (p x))
 
 -- an element passes where there is a first
 pub any-position : {X : Type 0} (p : X → Bool) (xs : List X) → list_any p xs ≡ is_some (position p xs)

@@ -5,7 +5,7 @@ use Rattle.std.specs.Option.{option_map}
 use Rattle.std.proofs.lemmas.List.{get_or_append_left}
 use Rattle.std.proofs.lemmas.Option.{none-some, same_Some}
 use Rattle.cil_specs.specs.Names.{Word}
-use Rattle.cil_specs.specs.Statements.{Form, block, optional, type_name, type_alias, alias_actual, type_attribute, attribute_set, common, class, class_common, class_order, rule, itself, the_named, is_optional}
+use Rattle.cil_specs.specs.Statements.{Form, block, optional, rule, itself, the_named, is_optional}
 use Rattle.cil_specs.specs.Joined.{Placed}
 use Rattle.cil_specs.specs.Lookup.{Table, types, classes, commons, scopes, declared_in}
 use Rattle.cil_text.specs.Image.{place_of}
@@ -141,50 +141,20 @@ all-more names more (w ∷ space) all = (let long = length-append names more in 
 -- the kinds of forms
 kind-block : (form : Form) → kind_of form ≡ kinds.Block → (id : Word) × (form ≡ block id)
 kind-block (block id) e = (id, refl)
-kind-block (optional id) e = cc
-kind-block (type_name id) e = cc
-kind-block (type_alias id) e = cc
-kind-block (alias_actual alias actual) e = cc
-kind-block (type_attribute id) e = cc
-kind-block (attribute_set attribute expr) e = cc
-kind-block (common id permissions) e = cc
-kind-block (class id permissions) e = cc
-kind-block (class_common the_class the_common) e = cc
-kind-block (class_order the_classes) e = cc
 kind-block (rule kind source itself the_class permissions) e = cc
 kind-block (rule kind source (the_named target) the_class permissions) e = cc
+kind-block _ e = cc
 
 pub kind-optional : (form : Form) → is_optional_kind (kind_of form) ≡ is_optional form
-kind-optional (block id) = refl
-kind-optional (optional id) = refl
-kind-optional (type_name id) = refl
-kind-optional (type_alias id) = refl
-kind-optional (alias_actual alias actual) = refl
-kind-optional (type_attribute id) = refl
-kind-optional (attribute_set attribute expr) = refl
-kind-optional (common id permissions) = refl
-kind-optional (class id permissions) = refl
-kind-optional (class_common the_class the_common) = refl
-kind-optional (class_order the_classes) = refl
 kind-optional (rule kind source itself the_class permissions) = refl
 kind-optional (rule kind source (the_named target) the_class permissions) = refl
+kind-optional _ = refl
 
 -- the word of a block
 word-block : (kind : StatementKind) (found : Option (code.Table × ℕ)) (w : ℕ) → block_word kind found ≡ Some w → (kind ≡ kinds.Block) × ((table : code.Table) × (found ≡ Some (table, w)))
 word-block kinds.Block None w e = absurd (none-some w e)
 word-block kinds.Block (Some (table, v)) w e = (refl, (table, ap (λ x. Some (table, x)) (same_Some v w e)))
-word-block kinds.Optional found w e = absurd (none-some w e)
-word-block kinds.TypeName found w e = absurd (none-some w e)
-word-block kinds.TypeAlias found w e = absurd (none-some w e)
-word-block kinds.TypeAliasActual found w e = absurd (none-some w e)
-word-block kinds.TypeAttribute found w e = absurd (none-some w e)
-word-block kinds.TypeAttributeSet found w e = absurd (none-some w e)
-word-block kinds.Common found w e = absurd (none-some w e)
-word-block kinds.Class found w e = absurd (none-some w e)
-word-block kinds.ClassCommon found w e = absurd (none-some w e)
-word-block kinds.ClassOrder found w e = absurd (none-some w e)
-word-block (kinds.Rule kind) found w e = absurd (none-some w e)
-word-block (kinds.RuleToSelf kind) found w e = absurd (none-some w e)
+word-block _ found w e = absurd (none-some w e)
 
 -- what a block declares is its word
 block-declares : (names : List (List ℕ)) (found : Option (code.Table × ℕ)) (form : Form) (id : Word) → form ≡ block id → IsDeclared names found form → (w : ℕ) × (table : code.Table) × (found ≡ Some (table, w)) × (w < length names) × (id.text ≡ word_at names w)

@@ -8,3 +8,4 @@ pub mod Policy
 pub mod Ordered
 pub mod Nested
 pub mod Written
+pub mod Listing

@@ -1,13 +1,14 @@
 -- The words of modules in one numbering.
-use Rattle.std.specs.Prelude.{◌≡◌, ℕ, List, [], ◌∷◌, Vec, Option, Some, slice_index_or}
-use Rattle.std.specs.Map.{lookup}
+use Rattle.std.specs.Prelude.{◌≡◌, ℕ, List, [], ◌∷◌, Vec, Option, Some, slice_get, slice_index_or}
 use Rattle.cil_specs.specs.Joined.{Placed}
 use Rattle.cil_specs.specs.Lookup.{leads}
 use Rattle.cil_parse.specs.Lexicon.{AreNumbersOf}
 use Rattle.cil_parse.specs.Parsed.{names_of}
 use Rattle.cil_parse.specs.declared.table.Table as code
-use Rattle.cil_bind.specs.Lookup.{namespace_at, table_of, is_key, IsLead}
-use Rattle.cil_bind.specs.declared.lookup.Key.{Key}
+use Rattle.cil_bind.specs.Lookup.{namespace_at, table_of, Knows, IsLead}
+use Rattle.cil_parse.specs.declared.parsed.ParsedModule.{ParsedModule}
+use Rattle.cil_bind.specs.declared.lookup.Lookup.{Lookup}
+use Rattle.cil_bind.specs.declared.memo.Remembered.{Remembered}
 use Rattle.cil_bind.specs.declared.joined.NamedModule.{NamedModule}
 
 -- each module's names have these numbers
@@ -17,7 +18,17 @@ AreWorded names [] (m ∷ modules) = ⊥
 AreWorded names (w ∷ words) [] = ⊥
 AreWorded names (w ∷ words) (m ∷ modules) = AreNumbersOf names w.items (names_of m.module.now) × AreWorded names words modules
 
--- What is remembered is what the texts of a module lead to from namespaces.
-abbrev pub Remembers : List (List ℕ) → List (List ℕ) → List (List ℕ) → List Placed → List (Key × Option ℕ) → Type 0
-Remembers names spaces texts policy memory = (table : code.Table) (n t : ℕ) (found : Option ℕ) → lookup (is_key table n t) memory ≡ Some found
-    → IsLead (table_of table) policy found (leads policy (table_of table) (namespace_at names spaces n) (slice_index_or texts t []))
+-- where a text of a module leads to from a namespace
+abbrev pub LeadsTo : List (List ℕ) → List (List ℕ) → List (List ℕ) → List Placed → code.Table → ℕ → ℕ → Option ℕ → Type 0
+LeadsTo names spaces texts policy table n t found = IsLead (table_of table) policy found (leads policy (table_of table) (namespace_at names spaces n) (slice_index_or texts t []))
+
+-- What is remembered of the texts of a module is what they lead to.
+abbrev pub Remembers : List (List ℕ) → List (List ℕ) → List (List ℕ) → List Placed → List (Option Remembered) → Type 0
+Remembers names spaces texts policy memory = (t : ℕ) (it : Remembered) → slice_get memory t ≡ Some (Some it) → LeadsTo names spaces texts policy it.table it.namespace t it.found
+
+abbrev pub RemembersNothing : List (Option Remembered) → Type 0
+RemembersNothing memory = (t : ℕ) (it : Remembered) → slice_get memory t ≡ Some (Some it) → ⊥
+
+-- what holds by the names and the policy that a look-up knows, where these are the numbers of the names of a module
+abbrev pub AsKnown : {A : Type 0} → Lookup A → ParsedModule A → List ℕ → (List (List ℕ) → List Placed → Type 0) → Type 0
+AsKnown lookup m words P = (names : List (List ℕ)) (policy : List Placed) → Knows lookup.namespaces lookup.declared.entries names policy → AreNumbersOf names words (names_of m) → P names policy

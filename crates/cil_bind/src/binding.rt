@@ -10,7 +10,7 @@ ghost use Rattle.cil_bind.specs.Lookup.{namespace_at as namespace_of, Knows};
 ghost use Rattle.cil_bind.specs.Binding.{Binds, AreBound};
 ghost use Rattle.cil_bind.specs.Rows.{AreRows};
 ghost use Rattle.cil_bind.specs.Scope.{AreFrom};
-ghost use Rattle.cil_bind.specs.Words.{AreWorded, Remembers};
+ghost use Rattle.cil_bind.specs.Words.{AreWorded, AsKnown, Remembers};
 
 use crate::joined::Joined;
 use crate::lookup::Lookup;
@@ -36,17 +36,18 @@ fn bind_statement<A: Allocator + Copy>(
     requires closed { bound.old.1 ≡ [] }
     ensures closed { OnOk result (bound.new.1 ≡ []) }
     ensures binds { OnOk result ((names : List (List ℕ)) (policy : List Placed) (f : FlatStatement) → Knows lookup.now.namespaces lookup.now.declared.entries names policy
-        → AreNumbersOf names words.now (names_of «module».now) → Remembers names lookup.now.namespaces (texts_of «module».now) policy memo.old.found.entries → IsShown (texts_of «module».now) view.now f
+        → AreNumbersOf names words.now (names_of «module».now) → Remembers names lookup.now.namespaces (texts_of «module».now) policy memo.old.last.items → IsShown (texts_of «module».now) view.now f
         → Binds policy (namespace_of names lookup.now.namespaces namespace) f.form bound.old bound.new) }
-    ensures remembers { OnOk result ((names : List (List ℕ)) (policy : List Placed) → Knows lookup.now.namespaces lookup.now.declared.entries names policy → AreNumbersOf names words.now (names_of «module».now)
-        → Remembers names lookup.now.namespaces (texts_of «module».now) policy memo.old.found.entries → Remembers names lookup.now.namespaces (texts_of «module».now) policy memo.new.found.entries) }
+    ensures remembers { OnOk result (AsKnown lookup.now «module».now words.now (λ names policy.
+        Remembers names lookup.now.namespaces (texts_of «module».now) policy memo.old.last.items
+        → Remembers names lookup.now.namespaces (texts_of «module».now) policy memo.new.last.items)) }
     ensures same { memo.new.«module» ≡ memo.old.«module» }
 {
     for k in 0..view.words.len() {
         let Some((table, word)) = view.reference(k) else {
             continue;
         };
-        let found = memo.lead(lookup, module, words, table, namespace, word.text)?;
+        let found = memo.lead(lookup, module, words, table, namespace, word.text);
         bound.push(found)?;
     }
     bound.close()?;
@@ -88,7 +89,7 @@ pub fn bind<A: Allocator + Copy>(
         let module = joined.modules[number].module;
         let view = module.statement(row.index as usize);
         let namespace = known(lookup, row.namespace);
-        memo.turn_to(row.module);
+        memo.turn_to(alloc, row.module, module.text_count())?;
         bind_statement(
             lookup,
             module,

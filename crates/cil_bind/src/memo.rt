@@ -1,46 +1,78 @@
-//! What texts lead to, once for each.
+//! What texts led to when they were last looked up.
 
-ghost use Rattle.std.specs.Prelude.{◌≡◌, ◌<◌, ◌⊎◌, ℕ, List, [], length, slice_index_or, IfOk, OnOk};
+ghost use Rattle.std.specs.Prelude.{◌≡◌, ◌<◌, ◌⊎◌, ℕ, List, [], None, Some, length, IfSome, OnOk};
 ghost use Rattle.cil_specs.specs.Joined.{Placed};
-ghost use Rattle.cil_specs.specs.Lookup.{leads as looked};
-ghost use Rattle.cil_parse.specs.Lexicon.{AreNumbersOf};
 ghost use Rattle.cil_parse.specs.Parsed.{names_of, texts_of};
-ghost use Rattle.cil_bind.specs.Lookup.{namespace_at, table_of, Knows, IsLead};
-ghost use Rattle.cil_bind.specs.Words.{Remembers};
+ghost use Rattle.cil_bind.specs.Words.{AsKnown, LeadsTo, Remembers, RemembersNothing};
 
-use crate::lookup::{Key, Lookup};
+use crate::lookup::Lookup;
 use crate::words::lead;
 use cil_parse::{ParsedModule, Table};
-use indexmap::IndexMap;
 use std::alloc::{AllocError, Allocator, Global};
-use std::hash::{BuildHasherDefault, FoldHasher};
 
-/// What the texts of one module lead to from namespaces, for those that were looked up. The word of a key is the number of a text.
+/// What a text led to from a namespace, in a table.
+#[derive(Clone, Copy, Debug)]
+pub struct Remembered {
+    pub table: Table,
+    pub namespace: u32,
+    pub found: Option<u32>,
+}
+
+/// What the texts of one module led to when they were last looked up, by their numbers. Most texts are looked up in one table and from
+/// one namespace again and again.
 #[derive(Drop)]
 pub struct Memo<A: Allocator = Global> {
-    pub module: u32,
-    pub found: IndexMap<Key, Option<u32>, BuildHasherDefault<FoldHasher>, A>,
+    pub module: Option<u32>,
+    pub last: Vec<Option<Remembered>, A>,
 }
 
 impl<A: Allocator + Copy> Memo<A> {
-    /// Nothing of the first module. It takes no memory.
+    /// Nothing, of no module. It takes no memory.
     pub fn new(alloc: A) -> Self
-        ensures { result.found.entries ≡ [] }
+        ensures { result.«module» ≡ None }
     {
         Memo {
-            module: 0,
-            found: IndexMap::new(alloc),
+            module: None,
+            last: Vec::new(alloc),
         }
     }
 
-    /// Turns to the texts of a module, and forgets those of another.
-    pub fn turn_to(&mut self, module: u32)
-        ensures turned { self.new.«module» ≡ «module» }
-        ensures found { (self.new.found.entries ≡ []) ⊎ ((self.old.«module» ≡ «module») × (self.new.found.entries ≡ self.old.found.entries)) }
+    /// Turns to a module of so many texts, and forgets those of another.
+    pub fn turn_to(&mut self, alloc: A, module: u32, texts: usize) -> Result<(), AllocError>
+        ensures turned { OnOk result (self.new.«module» ≡ Some «module») }
+        ensures last { OnOk result (RemembersNothing self.new.last.items
+            ⊎ ((self.old.«module» ≡ Some «module») × (self.new.last.items ≡ self.old.last.items))) }
     {
-        if self.module != module {
-            self.found.clear();
-            self.module = module;
+        if self.module != Some(module) {
+            self.last = vec![in alloc; None; texts]?;
+            self.module = Some(module);
+        }
+        Ok(())
+    }
+
+    /// What a text led to, if it was last looked up in this table and from this namespace.
+    fn recall(&self, table: Table, namespace: u32, text: u32) -> Option<Option<u32>>
+        ensures { IfSome result (λ found. (names spaces texts : List (List ℕ)) (policy : List Placed)
+            → Remembers names spaces texts policy self.now.last.items
+            → LeadsTo names spaces texts policy table namespace text found) }
+    {
+        let remembered = (*self.last.get(text as usize)?)?;
+        if remembered.table == table && remembered.namespace == namespace {
+            return Some(remembered.found);
+        }
+        None
+    }
+
+    /// Puts what a text led to in the place of what it led to before.
+    fn note(&mut self, text: u32, remembered: Remembered)
+        ensures remembers { (names spaces texts : List (List ℕ)) (policy : List Placed)
+            → LeadsTo names spaces texts policy remembered.table remembered.namespace text remembered.found
+            → Remembers names spaces texts policy self.old.last.items
+            → Remembers names spaces texts policy self.new.last.items }
+        ensures same { self.new.«module» ≡ self.old.«module» }
+    {
+        if let Some(last) = self.last.get_mut(text as usize) {
+            *last = Some(remembered);
         }
     }
 
@@ -53,27 +85,30 @@ impl<A: Allocator + Copy> Memo<A> {
         table: Table,
         namespace: u32,
         text: u32,
-    ) -> Result<Option<u32>, AllocError>
+    ) -> Option<u32>
         requires within { namespace < length lookup.now.namespaces }
         requires words { length words.now ≡ length (names_of «module».now) }
         requires text { text < length (texts_of «module».now) }
-        ensures lead { IfOk result (λ found. (names : List (List ℕ)) (policy : List Placed) → Knows lookup.now.namespaces lookup.now.declared.entries names policy → AreNumbersOf names words.now (names_of «module».now)
-            → Remembers names lookup.now.namespaces (texts_of «module».now) policy self.old.found.entries
-            → IsLead (table_of table) policy found (looked policy (table_of table) (namespace_at names lookup.now.namespaces namespace) (slice_index_or (texts_of «module».now) text []))) }
-        ensures remembers { OnOk result ((names : List (List ℕ)) (policy : List Placed) → Knows lookup.now.namespaces lookup.now.declared.entries names policy → AreNumbersOf names words.now (names_of «module».now)
-            → Remembers names lookup.now.namespaces (texts_of «module».now) policy self.old.found.entries → Remembers names lookup.now.namespaces (texts_of «module».now) policy self.new.found.entries) }
+        ensures lead { AsKnown lookup.now «module».now words.now (λ names policy.
+            Remembers names lookup.now.namespaces (texts_of «module».now) policy self.old.last.items
+            → LeadsTo names lookup.now.namespaces (texts_of «module».now) policy table namespace text result) }
+        ensures remembers { AsKnown lookup.now «module».now words.now (λ names policy.
+            Remembers names lookup.now.namespaces (texts_of «module».now) policy self.old.last.items
+            → Remembers names lookup.now.namespaces (texts_of «module».now) policy self.new.last.items) }
         ensures same { self.new.«module» ≡ self.old.«module» }
     {
-        let key = Key {
-            table,
-            namespace,
-            word: text,
-        };
-        if let Some(found) = self.found.get(&key) {
-            return Ok(*found);
+        if let Some(found) = self.recall(table, namespace, text) {
+            return found;
         }
         let found = lead(lookup, module, words, table, namespace, text);
-        self.found.insert(key, found)?;
-        Ok(found)
+        self.note(
+            text,
+            Remembered {
+                table,
+                namespace,
+                found,
+            },
+        );
+        found
     }
 }

@@ -1,13 +1,11 @@
 //! The words of modules in one numbering.
 
-ghost use Rattle.std.specs.Prelude.{◌≡◌, ◌++◌, ◌<◌, ℕ, List, [], bytes_eq, length, slice_index_or, IfOk, Some};
+ghost use Rattle.std.specs.Prelude.{◌≡◌, ◌++◌, ◌<◌, ℕ, List, bytes_eq, length, IfOk, Some};
 ghost use Rattle.std.specs.List.{IsDistinct};
-ghost use Rattle.cil_specs.specs.Joined.{Placed};
-ghost use Rattle.cil_specs.specs.Lookup.{leads as looked, is_global as is_global_text};
+ghost use Rattle.cil_specs.specs.Lookup.{is_global as is_global_text};
 ghost use Rattle.cil_parse.specs.Lexicon.{AreNumbersOf};
 ghost use Rattle.cil_parse.specs.Parsed.{names_of, texts_of};
-ghost use Rattle.cil_bind.specs.Lookup.{namespace_at, table_of, Knows, IsLead};
-ghost use Rattle.cil_bind.specs.Words.{AreWorded};
+ghost use Rattle.cil_bind.specs.Words.{AreWorded, AsKnown, LeadsTo};
 
 use crate::joined::Joined;
 use crate::lookup::Lookup;
@@ -74,8 +72,8 @@ pub fn lead<A: Allocator>(
     requires within { namespace < length lookup.now.namespaces }
     requires words { length words.now ≡ length (names_of «module».now) }
     requires text { text < length (texts_of «module».now) }
-    ensures { (names : List (List ℕ)) (policy : List Placed) → Knows lookup.now.namespaces lookup.now.declared.entries names policy → AreNumbersOf names words.now (names_of «module».now)
-        → IsLead (table_of table) policy result (looked policy (table_of table) (namespace_at names lookup.now.namespaces namespace) (slice_index_or (texts_of «module».now) text [])) }
+    ensures { AsKnown lookup.now «module».now words.now (λ names policy.
+        LeadsTo names lookup.now.namespaces (texts_of «module».now) policy table namespace text result) }
 {
     let path = module.components(text as usize);
     let global = is_global(module.text(text as usize));

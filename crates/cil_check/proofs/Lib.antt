@@ -1,5 +1,4 @@
 pub mod PositionLemmas
-pub mod OrderedLemmas
 pub mod LeastLemmas
 pub mod CheckLemmas
 pub mod FirstsLemmas

@@ -1,74 +1,9 @@
 -- The first place in a list at which a test passes.
-use Rattle.std.proofs.Common.{◌≡◌, ℕ, ◌+◌, ◌<◌, ◌≤◌, zero, suc, Bool, true, false, not, ◌||◌, nat_lt, List, [], ◌∷◌, ◌++◌, length, take, cond, Option, Some, None, is_some, option_map, position, refl, sym, ap, ◌∙◌, subst, add-one, arith}
-use Rattle.std.specs.List.{find, list_any, slice_get, position_or_len, AllByRecursion}
+use Rattle.std.proofs.Common.{◌≡◌, ℕ, ◌+◌, zero, suc, Bool, true, false, ◌||◌, List, [], ◌∷◌, ◌++◌, length, take, cond, Option, Some, None, is_some, option_map, position, refl, sym, ap, ◌∙◌, subst, add-one}
+use Rattle.std.specs.List.{find, list_any, slice_get, AllByRecursion}
 use Rattle.std.specs.Option.{option_or}
 use Rattle.std.proofs.lemmas.Option.{none-some, same_Some}
-use Rattle.std.proofs.lemmas.Bool.{ltb-true, ltb-false, lt-ltb, le-ltb}
-
--- the place at which a test passes, if a condition holds
-abbrev pub at_if : Bool → ℕ → Option ℕ
-at_if b n = cond b (Some n) None
-
-less-suc : (m n : ℕ) → nat_lt (suc m) (suc n) ≡ nat_lt m n
-less-suc m n = by (nat_lt m n) refl
-  where
-    by : (b : Bool) → nat_lt m n ≡ b → nat_lt (suc m) (suc n) ≡ b
-    by true e = let l : m < n = ltb-true m n e in lt-ltb (suc m) (suc n) (omega arith)
-    by false e = let l : n ≤ m = ltb-false m n e in le-ltb (suc m) (suc n) (omega arith)
-
-pub position-cons : {X : Type 0} (p : X → Bool) (x : X) (xs : List X) → position p (x ∷ xs) ≡ cond (p x) (Some 0) (option_map suc (position p xs))
-position-cons p x xs = by (p x)
-  where
-    n : ℕ
-    n = position_or_len p xs
-
-    shifted : (d : Bool) → cond d (Some (suc n)) None ≡ option_map suc (cond d (Some n) None)
-    shifted true = refl
-    shifted false = refl
-
-    one_more : 1 + n ≡ suc n
-    one_more = omega arith
-
-    by : (b : Bool) → cond (nat_lt (cond (not b) (1 + n) 0) (suc (length xs))) (Some (cond (not b) (1 + n) 0)) None ≡ cond b (Some 0) (option_map suc (cond (nat_lt n (length xs)) (Some n) None))
-    by true = ap (λ d. cond d (Some 0) None) (lt-ltb 0 (suc (length xs)) (omega arith))
-    by false = ap (λ m. cond (nat_lt m (suc (length xs))) (Some m) None) one_more ∙ ap (λ d. cond d (Some (suc n)) None) (less-suc n (length xs)) ∙ shifted (nat_lt n (length xs))
-
-pub position-append : {X : Type 0} (p : X → Bool) (xs : List X) (y : X) → position p (xs ++ y ∷ []) ≡ option_or (position p xs) (at_if (p y) (length xs))
-position-append p [] y = position-cons p y []
-position-append p (x ∷ xs) y = position-cons p x (xs ++ y ∷ []) ∙ by (p x) (position-append p xs y) ∙ ap (λ o. option_or o (at_if (p y) (suc (length xs)))) (sym (position-cons p x xs))
-  where
-    shifted : (o : Option ℕ) (b : Bool) → option_map suc (option_or o (at_if b (length xs))) ≡ option_or (option_map suc o) (at_if b (suc (length xs)))
-    shifted (Some n) b = refl
-    shifted None true = refl
-    shifted None false = refl
-
-    by : (b : Bool) → position p (xs ++ y ∷ []) ≡ option_or (position p xs) (at_if (p y) (length xs))
-        → cond b (Some 0) (option_map suc (position p (xs ++ y ∷ []))) ≡ option_or (cond b (Some 0) (option_map suc (position p xs))) (at_if (p y) (suc (length xs)))
-    by true more = refl
-    by false more = ap (option_map suc) more ∙ shifted (position p xs) (p y)
-
--- whether a place is there and in front of this one
-abbrev pub is_before : Option ℕ → ℕ → Bool
-is_before None n = false
-is_before (Some m) n = nat_lt m n
-
--- an element in front of a place passes if the first that passes stands there
-pub any-before : {X : Type 0} (p : X → Bool) (n : ℕ) (xs : List X) → list_any p (take n xs) ≡ is_before (position p xs) n
-any-before p zero xs = sym (none (position p xs))
-  where
-    none : (o : Option ℕ) → is_before o 0 ≡ false
-    none None = refl
-    none (Some m) = le-ltb m 0 (omega arith)
-any-before p (suc n) [] = refl
-any-before p (suc n) (x ∷ xs) = by (p x) (any-before p n xs) ∙ ap (λ o. is_before o (suc n)) (sym (position-cons p x xs))
-  where
-    shifted : (o : Option ℕ) → is_before o n ≡ is_before (option_map suc o) (suc n)
-    shifted None = refl
-    shifted (Some m) = sym (less-suc m n)
-
-    by : (b : Bool) → list_any p (take n xs) ≡ is_before (position p xs) n → (b || list_any p (take n xs)) ≡ is_before (cond b (Some 0) (option_map suc (position p xs))) (suc n)
-    by true e = sym (lt-ltb 0 (suc n) (omega arith))
-    by false e = e ∙ shifted (position p xs)
+pub use Rattle.cil_bind.proofs.PositionLemmas.{at_if, is_before, position-cons, position-append, any-before, take-next, take-length, any-position}
 
 -- tests that pass alike
 pub position-same : {X : Type 0} (p q : X → Bool) → ((x : X) → p x ≡ q x) → (xs : List X) → position p xs ≡ position q xs
@@ -110,35 +45,11 @@ pub get-last : {X : Type 0} (xs : List X) (y : X) → slice_get (xs ++ y ∷ [])
 get-last [] y = refl
 get-last (x ∷ xs) y = get-last xs y
 
--- one more element is taken
-pub take-next : {X : Type 0} (xs : List X) (i : ℕ) (x : X) → slice_get xs i ≡ Some x → take (suc i) xs ≡ take i xs ++ x ∷ []
-take-next [] i x is = absurd (none-some x is)
-take-next (y ∷ xs) zero x is = ap (λ z. z ∷ []) (same_Some y x is)
-take-next (y ∷ xs) (suc i) x is = ap (λ l. y ∷ l) (take-next xs i x is)
-
-pub take-length : {X : Type 0} (xs : List X) (i : ℕ) (x : X) → slice_get xs i ≡ Some x → length (take i xs) ≡ i
-take-length [] i x is = absurd (none-some x is)
-take-length (y ∷ xs) zero x is = refl
-take-length (y ∷ xs) (suc i) x is = ap suc (take-length xs i x is)
-
 -- the first place at which a test passes, among one element more
 pub position-next : {X : Type 0} (p : X → Bool) (xs : List X) (i : ℕ) (x : X) → slice_get xs i ≡ Some x → position p (take (i + 1) xs) ≡ option_or (position p (take i xs)) (at_if (p x) i)
 position-next p xs i x is =
     ap (λ n. position p (take n xs)) (add-one i) ∙ ap (position p) (take-next xs i x is) ∙ position-append p (take i xs) x
     ∙ ap (λ n. option_or (position p (take i xs)) (at_if (p x) n)) (take-length xs i x is)
-
--- an element passes where there is a first
-pub any-position : {X : Type 0} (p : X → Bool) (xs : List X) → list_any p xs ≡ is_some (position p xs)
-any-position p [] = refl
-any-position p (x ∷ xs) = by (p x) (any-position p xs) ∙ ap is_some (sym (position-cons p x xs))
-  where
-    same : (o : Option ℕ) → is_some o ≡ is_some (option_map suc o)
-    same None = refl
-    same (Some m) = refl
-
-    by : (b : Bool) → list_any p xs ≡ is_some (position p xs) → (b || list_any p xs) ≡ is_some (cond b (Some 0) (option_map suc (position p xs)))
-    by true more = refl
-    by false more = more ∙ same (position p xs)
 
 -- the first place among the first elements is that among all
 pub position-more : {X : Type 0} (p : X → Bool) (xs : List X) (n i : ℕ) → position p (take n xs) ≡ Some i → position p xs ≡ Some i

@@ -22,7 +22,7 @@ use Rattle.cil_check.specs.declared.firsts.Gift.{Gift}
 use Rattle.cil_check.specs.declared.firsts.Gift.TheVariants as gift
 use Rattle.cil_check.proofs.PositionLemmas.{at_if, position-next, any-position, position-more, is_before, any-before, any-same, find-position}
 use Rattle.cil_check.proofs.FirstsLemmas.{same_bytes}
-use Rattle.cil_check.proofs.LeastLemmas.{around-at}
+use Rattle.cil_bind.proofs.PositionLemmas.{around-at}
 
 -- below the length there is an element
 pub none-there : {X : Type 0} (xs : List X) (n : ℕ) → slice_get xs n ≡ None → n < length xs → ⊥

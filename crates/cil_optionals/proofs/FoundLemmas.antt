@@ -4,7 +4,7 @@ use Rattle.std.specs.Option.{option_or, option_and_then}
 use Rattle.std.proofs.lemmas.Option.{none-some, same_Some}
 use Rattle.std.proofs.lemmas.Slice.Eq.{bytes_eq-Decides}
 use Rattle.cil_specs.specs.Names.{Word, components}
-use Rattle.cil_specs.specs.Statements.{Form, block, optional, type_name, type_alias, alias_actual, type_attribute, attribute_set, common, class, class_common, class_order, rule}
+use Rattle.cil_specs.specs.Statements.{Form, block, optional, type_name, type_alias, type_attribute, common, class}
 use Rattle.cil_specs.specs.Joined.{Placed}
 use Rattle.cil_specs.specs.Lookup.{Table, types, classes, commons, scopes, declared_in, is_word, same_namespace, word_text, declares, declaration, has_block, outward, nearest_block, inside, from_namespace, leads, is_global, holds_of}
 use Rattle.cil_specs.specs.PolicyFault.{PolicyFault, twice, IsFaultOf}
@@ -23,47 +23,7 @@ table-of classes (class id permissions) w e = refl
 table-of commons (common id permissions) w e = refl
 table-of scopes (block id) w e = refl
 table-of scopes (optional id) w e = refl
-table-of types (block id) w e = absurd (none-some w e)
-table-of types (optional id) w e = absurd (none-some w e)
-table-of types (alias_actual alias actual) w e = absurd (none-some w e)
-table-of types (attribute_set attribute expr) w e = absurd (none-some w e)
-table-of types (common id permissions) w e = absurd (none-some w e)
-table-of types (class id permissions) w e = absurd (none-some w e)
-table-of types (class_common the_class the_common) w e = absurd (none-some w e)
-table-of types (class_order the_classes) w e = absurd (none-some w e)
-table-of types (rule kind source target the_class permissions) w e = absurd (none-some w e)
-table-of classes (block id) w e = absurd (none-some w e)
-table-of classes (optional id) w e = absurd (none-some w e)
-table-of classes (type_name id) w e = absurd (none-some w e)
-table-of classes (type_alias id) w e = absurd (none-some w e)
-table-of classes (alias_actual alias actual) w e = absurd (none-some w e)
-table-of classes (type_attribute id) w e = absurd (none-some w e)
-table-of classes (attribute_set attribute expr) w e = absurd (none-some w e)
-table-of classes (common id permissions) w e = absurd (none-some w e)
-table-of classes (class_common the_class the_common) w e = absurd (none-some w e)
-table-of classes (class_order the_classes) w e = absurd (none-some w e)
-table-of classes (rule kind source target the_class permissions) w e = absurd (none-some w e)
-table-of commons (block id) w e = absurd (none-some w e)
-table-of commons (optional id) w e = absurd (none-some w e)
-table-of commons (type_name id) w e = absurd (none-some w e)
-table-of commons (type_alias id) w e = absurd (none-some w e)
-table-of commons (alias_actual alias actual) w e = absurd (none-some w e)
-table-of commons (type_attribute id) w e = absurd (none-some w e)
-table-of commons (attribute_set attribute expr) w e = absurd (none-some w e)
-table-of commons (class id permissions) w e = absurd (none-some w e)
-table-of commons (class_common the_class the_common) w e = absurd (none-some w e)
-table-of commons (class_order the_classes) w e = absurd (none-some w e)
-table-of commons (rule kind source target the_class permissions) w e = absurd (none-some w e)
-table-of scopes (type_name id) w e = absurd (none-some w e)
-table-of scopes (type_alias id) w e = absurd (none-some w e)
-table-of scopes (alias_actual alias actual) w e = absurd (none-some w e)
-table-of scopes (type_attribute id) w e = absurd (none-some w e)
-table-of scopes (attribute_set attribute expr) w e = absurd (none-some w e)
-table-of scopes (common id permissions) w e = absurd (none-some w e)
-table-of scopes (class id permissions) w e = absurd (none-some w e)
-table-of scopes (class_common the_class the_common) w e = absurd (none-some w e)
-table-of scopes (class_order the_classes) w e = absurd (none-some w e)
-table-of scopes (rule kind source target the_class permissions) w e = absurd (none-some w e)
+table-of _ _ w e = absurd (none-some w e)
 
 -- what declares a word in another table than that of blocks and optionals
 pub naming-of : (table : Table) (form : Form) (w : Word) → declared_in table form ≡ Some w → (table ≡ scopes → ⊥) → is_naming form ≡ true
@@ -74,14 +34,10 @@ naming-of table form w e other = by form (table-of table form w e) (ap (λ t. de
     by (optional id) is at = absurd (other is)
     by (type_name id) is at = refl
     by (type_alias id) is at = refl
-    by (alias_actual alias actual) is at = absurd (none-some w at)
     by (type_attribute id) is at = refl
-    by (attribute_set attribute expr) is at = absurd (none-some w at)
     by (common id permissions) is at = refl
     by (class id permissions) is at = refl
-    by (class_common the_class the_common) is at = absurd (none-some w at)
-    by (class_order the_classes) is at = absurd (none-some w at)
-    by (rule kind source target the_class permissions) is at = absurd (none-some w at)
+    by _ is at = absurd (none-some w at)
 
 -- what declares a name: its table, its word and its namespace are these
 pub record IsNamed (table : Table) (namespace : List (List ℕ)) (name : List ℕ) (s : Placed) : Type 0 where

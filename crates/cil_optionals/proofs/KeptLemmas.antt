@@ -1,10 +1,10 @@
 -- The marked optionals are those that a policy keeps.
-use Rattle.std.proofs.Common.{◌≡◌, inl, inr, ℕ, zero, suc, ◌+◌, ◌-◌, ◌<◌, ◌≤◌, ◌==◌, Bool, true, false, not, ◌&&◌, ◌||◌, nat_lt, List, [], ◌∷◌, ◌++◌, length, get_or, take, slice_get, position, Option, Some, None, is_some, bytes_eq, Contains, refl, sym, ap, ◌∙◌, subst, arith, true≢false, if◌then◌else◌}
+use Rattle.std.proofs.Common.{◌≡◌, inl, inr, ℕ, zero, suc, ◌+◌, ◌-◌, ◌<◌, ◌≤◌, ◌==◌, Bool, true, false, not, ◌&&◌, ◌||◌, nat_lt, List, [], ◌∷◌, ◌++◌, length, get_or, replicate, take, slice_get, position, Option, Some, None, is_some, bytes_eq, Contains, refl, sym, ap, ◌∙◌, subst, arith, true≢false, if◌then◌else◌}
 use Rattle.std.specs.List.{list_all, list_any}
 use Rattle.std.specs.Option.{option_or}
 use Rattle.std.proofs.lemmas.Bool.{cases_lt, lt-ltb, ltb-true, eqb-true, eq-eqb}
 use Rattle.std.proofs.lemmas.List.Quantifiers.{position-Some}
-use Rattle.std.proofs.lemmas.List.{get_or-take}
+use Rattle.std.proofs.lemmas.List.{get_or-take, get_or-replicate}
 use Rattle.std.proofs.lemmas.List.Folds.{list_all-append}
 use Rattle.std.proofs.lemmas.Option.{none-some, same_Some, slice_get_within, slice_get_cases, slice_get_read, get_or_from_slice_get}
 use Rattle.std.proofs.lemmas.Slice.Eq.{bytes_eq-Decides}
@@ -15,6 +15,8 @@ use Rattle.cil_specs.specs.PolicyFault.{PolicyFault, twice, missing_words, IsFau
 use Rattle.cil_specs.specs.Kept.{Optionals, is_within, is_member, is_directly_in, has_innermost, is_optional_at, restricted, IsGood, AreKept, AreApart}
 use Rattle.cil_specs.proofs.Runs.{first_true, second_true, both_true}
 use Rattle.cil_bind.specs.Policy.{AreMarked}
+use Rattle.cil_bind.specs.Rows.{AreRows}
+use Rattle.cil_bind.proofs.DeclareLemmas.{rows-length}
 use Rattle.cil_bind.specs.declared.rows.Row.{Row}
 use Rattle.cil_bind.proofs.PositionLemmas.{any-position}
 use Rattle.cil_optionals.specs.Needs.{is_met, are_met, is_need_below}
@@ -26,6 +28,14 @@ use Rattle.cil_optionals.specs.Others.{is_need_within, AreFoundWithin, AreOthers
 use Rattle.cil_optionals.specs.declared.greatest.Need.{Need}
 use Rattle.cil_optionals.proofs.FoundLemmas.{IsNamed, declared-named, found-passes}
 use Rattle.cil_optionals.proofs.ProviderLemmas.{provided-by, naming-declaration}
+
+left : (b c : Bool) → b ≡ true → (b || c) ≡ true
+left true c e = refl
+left false c e = absurd (true≢false (sym e))
+
+right : (b c : Bool) → c ≡ true → (b || c) ≡ true
+right true c e = refl
+right false c e = e
 
 -- an element that passes stands at a place
 any-place : {X : Type 0} (p : X → Bool) (xs : List X) (k : ℕ) (x : X) → slice_get xs k ≡ Some x → p x ≡ true → list_any p xs ≡ true
@@ -229,14 +239,6 @@ module _ {A : Type 0} (policy : List Placed) (rows : List Row) (row-there : (i :
       further : Option Placed
       further = further_out policy (declared_table s.form) s.namespace (declared_text s.form)
 
-      left : (b c : Bool) → b ≡ true → (b || c) ≡ true
-      left true c e = refl
-      left false c e = absurd (true≢false (sym e))
-
-      right : (b c : Bool) → c ≡ true → (b || c) ≡ true
-      right true c e = refl
-      right false c e = e
-
   provided-up : (m p : ℕ) (s : Placed) → length s.namespace < m → slice_get policy p ≡ Some s → IsDeclaration s → mark (length policy + 1 + p) ≡ true → is_provided R s ≡ true
   provided-up zero p s low at is there = absurd (omega (arith, low))
   provided-up (suc m) p s low at is there =
@@ -276,14 +278,6 @@ module _ {A : Type 0} (policy : List Placed) (rows : List Row) (row-there : (i :
       by (mark n) refl any
       (any-there ns (second_true (nat_lt n (length policy + length policy + 1)) (list_all (λ m. nat_lt m (length policy + length policy + 1)) ns) low))
     where
-      left : (b c : Bool) → b ≡ true → (b || c) ≡ true
-      left true c e = refl
-      left false c e = absurd (true≢false (sym e))
-
-      right : (b c : Bool) → c ≡ true → (b || c) ≡ true
-      right true c e = refl
-      right false c e = e
-
       by : (b : Bool) → mark n ≡ b → (b || list_any mark ns) ≡ true → (list_any mark ns ≡ true → list_any has_kept ns ≡ true) → (has_kept n || list_any has_kept ns) ≡ true
       by true e a more =
           left (has_kept n) (list_any has_kept ns)
@@ -431,3 +425,47 @@ shows-taken policy rows marks n nested long shows = record {
     by [] (s ∷ statements) low are = are
     by (row ∷ rs) [] low are = are
     by (row ∷ rs) (s ∷ statements) low are = (get_or-take n marks row.optional false (low 0 row s refl refl) ∙ are.0, by rs statements (λ i r t at here. low (suc i) r t at here) are.1)
+
+same-optionals : (names spaces : List (List ℕ)) (rows : List Row) (policy : List Placed) → AreRows names spaces rows policy → list_all (λ row. not row.is_optional) rows ≡ list_all (λ s. not (is_optional s.form)) policy
+same-optionals names spaces [] [] are = refl
+same-optionals names spaces [] (s ∷ policy) are = absurd are
+same-optionals names spaces (row ∷ rows) [] are = absurd are
+same-optionals names spaces (row ∷ rows) (s ∷ policy) are = λ k. not (are.0.optional k) && same-optionals names spaces rows policy are.1 k
+
+all-place : {X : Type 0} (p : X → Bool) (xs : List X) (k : ℕ) (x : X) → list_all p xs ≡ true → slice_get xs k ≡ Some x → p x ≡ true
+all-place p [] k x all at = absurd (none-some x at)
+all-place p (y ∷ xs) zero x all at = ap p (sym (same_Some y x at)) ∙ first_true (p y) (list_all p xs) all
+all-place p (y ∷ xs) (suc k) x all at = all-place p xs k x (second_true (p y) (list_all p xs) all) at
+
+-- where there are no optionals all marks are set
+module _ (names spaces : List (List ℕ)) (rows : List Row) (policy : List Placed) (are : AreRows names spaces rows policy) (nested : AreNested rows policy) (none : list_all (λ row. not row.is_optional) rows ≡ true)
+    (n : ℕ) (some : 0 < n) where
+  abbrev empty : Optionals
+  empty name at = false
+
+  never : (k : ℕ) (s : Placed) → slice_get policy k ≡ Some s → is_optional s.form ≡ true → ⊥
+  never k s at is = true≢false (sym (all-place (λ t. not (is_optional t.form)) policy k s (sym (same-optionals names spaces rows policy are) ∙ none) at) ∙ ap not is)
+
+  nowhere : (name : List ℕ) (at : ℕ) → list_any (is_optional_at name at) policy ≡ true → ⊥
+  nowhere name at any =
+      let (k, s, there, is) = place-any (is_optional_at name at) policy any in
+      never k s there (first_true (is_optional s.form) (bytes_eq name s.module_name && at == s.at.offset) is)
+
+  is-marked : (i m : ℕ) (s : Placed) → IsInnermost policy i m s → get_or (replicate n true) m false ≡ is_within empty s
+  is-marked i zero s outside = get_or-replicate n 0 true false some ∙ ap (list_all (empty s.module_name)) (sym outside)
+  is-marked i (suc k) s inside = absurd (never k inside.0 inside.2 inside.3)
+
+  are-marked : (rs : List Row) (statements : List Placed) → length rs ≡ length statements → ((i : ℕ) (row : Row) (s : Placed) → slice_get rs i ≡ Some row → slice_get statements i ≡ Some s → get_or (replicate n true) row.optional false ≡ is_within empty s)
+      → AreMarked empty (replicate n true) rs statements
+  are-marked [] [] same each = tt
+  are-marked [] (s ∷ statements) same each = absurd (omega (arith, same))
+  are-marked (r ∷ rs) [] same each = absurd (omega (arith, same))
+  are-marked (r ∷ rs) (s ∷ statements) same each = (each 0 r s refl refl, are-marked rs statements (omega (arith, same)) (λ i q t here at. each (suc i) q t here at))
+
+  pub shows-all : ShowsKept policy rows (replicate n true)
+  shows-all = record {
+    set = empty;
+    are_kept = λ name at. (λ has. absurd (true≢false (sym has)), λ other. absurd (nowhere name at (other.1.of_policy name at other.2)));
+    marked = are-marked rows policy (rows-length names spaces rows policy are) (λ i row s here at. is-marked i row.optional s (nested.around i row s here at));
+    own = λ k s at is. absurd (never k s at is);
+  }

@@ -18,7 +18,7 @@ use Rattle.cil_optionals.specs.Asks.{is_need_of, are_found, are_there, AddsNeed,
 use Rattle.cil_optionals.specs.Others.{is_need_within, AreOthersTo, AreOthers}
 use Rattle.cil_optionals.specs.declared.greatest.Need.{Need}
 use Rattle.cil_optionals.proofs.KeptLemmas.{place-of, contains-place}
-use Rattle.cil_optionals.proofs.ProviderLemmas.{row-within, HasRow}
+use Rattle.cil_optionals.proofs.ProviderLemmas.{row-within, HasRow, innermost-low}
 use Rattle.cil_optionals.proofs.AsksLemmas.{asks-same, asks-need}
 use Rattle.cil_optionals.specs.Providers.{IsReady}
 use Rattle.cil_specs.specs.Names.{Word}
@@ -141,11 +141,7 @@ others-around {A} policy rows i row s old new nested at here optional adds are =
     low = slice_get_within policy i s here
 
     around : row.optional < length policy + 1
-    around = by row.optional (nested.around i row s at here)
-      where
-        by : (n : ℕ) → IsInnermost policy i n s → n < length policy + 1
-        by zero outside = omega arith
-        by (suc k) inside = (let before = inside.1 in omega (arith, low, before))
+    around = innermost-low policy i row.optional s low (nested.around i row s at here)
 
     chosen : (b c : Bool) → b ≡ true → (not b || (c || false)) ≡ true → c ≡ true
     chosen true true e f = refl
@@ -208,11 +204,7 @@ others-asks {A} policy rows i row s m old new nested at here inside asks are = s
     low = slice_get_within policy i s here
 
     around : row.optional < length policy + 1
-    around = by row.optional (nested.around i row s at here)
-      where
-        by : (n : ℕ) → IsInnermost policy i n s → n < length policy + 1
-        by zero outside = omega arith
-        by (suc k) is_inside = (let before = is_inside.1 in omega (arith, low, before))
+    around = innermost-low policy i row.optional s low (nested.around i row s at here)
 
     some_around : (n : ℕ) → n ≢ 0 → IsInnermost policy i n s → s.optionals ≡ [] → ⊥
     some_around zero other is = λ e. other refl

@@ -3,14 +3,14 @@ use Rattle.std.proofs.Common.{◌≡◌, ℕ, zero, suc, ◌+◌, ◌<◌, ◌�
 use Rattle.std.specs.List.{list_all, list_any}
 use Rattle.std.proofs.lemmas.Option.{none-some, same_Some, get_or_from_slice_get, slice_get-get_or}
 use Rattle.std.proofs.lemmas.Bool.{eqb-true, eq-eqb, ne_eqb, cases_eq}
-use Rattle.std.proofs.lemmas.List.{take_all, length-map}
+use Rattle.std.proofs.lemmas.List.{take_all}
 use Rattle.std.proofs.lemmas.List.Folds.{list_any-append}
 use Rattle.std.proofs.lemmas.List.Quantifiers.{position-Some}
 use Rattle.std.proofs.Math.Bool.{or-false}
 use Rattle.std.proofs.lemmas.Slice.Eq.{bytes_eq-Decides}
 use Rattle.indexmap.specs.IndexSet.{insert_key}
 use Rattle.cil_specs.specs.Names.{Word}
-use Rattle.cil_specs.specs.Statements.{Form, block, optional, type_name, type_alias, alias_actual, type_attribute, attribute_set, common, class, class_common, class_order, rule, itself, the_named}
+use Rattle.cil_specs.specs.Statements.{Form, class_common, rule, itself, the_named}
 use Rattle.cil_specs.specs.Joined.{Placed}
 use Rattle.cil_specs.specs.Lookup.{Table, classes, commons, declared_in, declares, same_namespace, is_word, is_same, word_text, holds_of, leads, references, named_permissions, texts, own_permissions, has_name, listed_by, gives_common as gives_common_to, common_permissions, permissions_of}
 use Rattle.cil_specs.specs.PolicyFault.{is_lacking}
@@ -18,12 +18,13 @@ use Rattle.cil_specs.proofs.Runs.{first_true, second_true, both_true}
 use Rattle.cil_specs.proofs.DeclaredLemmas.{one-namespace}
 use Rattle.cil_bind.specs.Binding.{AreLeads}
 use Rattle.cil_bind.specs.Lookup.{IsFirstOf, IsLead}
-use Rattle.cil_bind.proofs.PositionLemmas.{take-next, take-length}
-use Rattle.cil_parse.specs.Builder.{read}
+use Rattle.cil_bind.proofs.PermissionLemmas.{names-next, spread, own-listed, none-listed}
+use Rattle.cil_bind.proofs.PositionLemmas.{take-length, take-last, any-last}
+use Rattle.cil_bind.specs.Listing.{lists_own}
 use Rattle.cil_parse.specs.Forms.{kind_of, permissions_in as listed_in}
 use Rattle.cil_parse.specs.declared.row.NumberedWord.{NumberedWord}
 use Rattle.cil_optionals.specs.Asks.{are_there}
-use Rattle.cil_optionals.specs.Given.{lists, commons_at, gift, given_at, last_bound, is_rule, lists_own, gives_common, lists_at, common_passes, gives_passing, permissions_in, IsUpTo}
+use Rattle.cil_optionals.specs.Given.{lists, commons_at, gift, given_at, last_bound, is_rule, gives_common, lists_at, common_passes, gives_passing, permissions_in, IsUpTo}
 use Rattle.cil_optionals.specs.Permissions.{SeenPermissions, HavePermissions}
 use Rattle.cil_optionals.specs.declared.listed.Permission.{Permission}
 use Rattle.cil_optionals.specs.declared.listed.Listed.{Listed}
@@ -35,12 +36,6 @@ derived-permission p = refl
 and-false : (b : Bool) → (b && false) ≡ false
 and-false true = refl
 and-false false = refl
-
-any-last : {X : Type 0} (p : X → Bool) (xs : List X) (x : X) → list_any p (xs ++ x ∷ []) ≡ (list_any p xs || p x)
-any-last p xs x = list_any-append p xs (x ∷ []) ∙ ap (λ b. list_any p xs || b) (or-false (p x))
-
-take-last : {X : Type 0} (xs : List X) (i : ℕ) (x : X) → slice_get xs i ≡ Some x → take (i + 1) xs ≡ take i xs ++ x ∷ []
-take-last xs i x at = ap (λ k. take k xs) (add-one i) ∙ take-next xs i x at
 
 -- one permission more
 pub lists-insert : (keys : List Permission) (p : Permission) (i : ℕ) (name : List ℕ) → lists (insert_key (permission_eq.eq-value).it keys p) i name ≡ (lists keys i name || (i == p.place && bytes_eq name p.name.now))
@@ -61,19 +56,6 @@ lists-insert keys p i name = by (list_any ((permission_eq.eq-value).it p) keys) 
     by true has = same (lists keys i name) (i == p.place && bytes_eq name p.name.now) (there has)
     by false has = any-last (λ q. (i == q.place) && bytes_eq name q.name.now) keys p
 
-texts-last : (words : List Word) (w : Word) → texts (words ++ w ∷ []) ≡ texts words ++ w.text ∷ []
-texts-last [] w = refl
-texts-last (v ∷ words) w = ap (λ l. v.text ∷ l) (texts-last words w)
-
-names-next : (list : List Word) (i : ℕ) (w : Word) (name : List ℕ) → slice_get list i ≡ Some w → has_name (texts (take (i + 1) list)) name ≡ (has_name (texts (take i list)) name || bytes_eq name w.text)
-names-next list i w name at =
-    ap (λ l. has_name (texts l) name) (take-last list i w at) ∙ ap (λ l. has_name l name) (texts-last (take i list) w) ∙ any-last (bytes_eq name) (texts (take i list)) w.text
-
-spread : (a e h b : Bool) → ((a || (e && h)) || (e && b)) ≡ (a || (e && (h || b)))
-spread true e h b = refl
-spread false true h b = refl
-spread false false h b = refl
-
 -- one word more
 pub words-next : (list : List Word) (k : ℕ) (w : Word) (place i : ℕ) (name : List ℕ) (first old new : Bool) → slice_get list k ≡ Some w → old ≡ (first || (i == place && has_name (texts (take k list)) name))
     → new ≡ (old || (i == place && bytes_eq name w.text)) → new ≡ (first || (i == place && has_name (texts (take (k + 1) list)) name))
@@ -87,17 +69,6 @@ words-none list place i name first = sym (ap (λ b. first || b) (and-false (i ==
 -- what is read behind the end of words
 abbrev pub no_word : NumberedWord
 no_word = record { at = record { offset = 0; line = 0; column = 0 }; text = 0 }
-
--- a word that is read
-pub word-read : (texts : List (List ℕ)) (shown : List NumberedWord) (list : List Word) (i : ℕ) (d : NumberedWord) → map (read texts) shown ≡ map Some list → i < length shown
-    → (w : Word) × (slice_get list i ≡ Some w) × (read texts (get_or shown i d) ≡ Some w)
-word-read texts [] list i d is less = absurd (omega (arith, less))
-word-read texts (y ∷ shown) [] i d is less = cc
-word-read texts (y ∷ shown) (w ∷ list) zero d is less = (w, refl, (let head : read texts y ≡ Some w = cc in head))
-word-read texts (y ∷ shown) (w ∷ list) (suc i) d is less = let rest : map (read texts) shown ≡ map {A = Word} Some list = cc in word-read texts shown list i d rest (omega (arith, less))
-
-pub as-many : (texts : List (List ℕ)) (shown : List NumberedWord) (list : List Word) → map (read texts) shown ≡ map Some list → length list ≡ length shown
-as-many texts shown list is = sym (length-map list Some) ∙ ap length (sym is) ∙ length-map shown (read texts)
 
 -- all up to a place pass
 pub all-next : {X : Type 0} (p : X → Bool) (xs : List X) (i : ℕ) (x : X) → slice_get xs i ≡ Some x → p x ≡ true → list_all p (take i xs) ≡ true → list_all p (take (i + 1) xs) ≡ true
@@ -153,67 +124,18 @@ lead-same table policy i k s lead is first led = by (slice_get policy k) refl
     by (Some u) e = sym (first-same table policy i k s u is first e led.first) ∙ ap (holds_of (is_same table s)) (sym e ∙ led.is)
 
 -- what statements give by their kinds
-kind-own : (form : Form) → lists_own (kind_of form) ≡ true → listed_in form ≡ own_permissions form
-kind-own (common id permissions) is = refl
-kind-own (class id permissions) is = refl
-kind-own (block id) is = cc
-kind-own (optional id) is = cc
-kind-own (type_name id) is = cc
-kind-own (type_alias id) is = cc
-kind-own (alias_actual alias actual) is = cc
-kind-own (type_attribute id) is = cc
-kind-own (attribute_set attribute expr) is = cc
-kind-own (class_common the_class the_common) is = cc
-kind-own (class_order the_classes) is = cc
-kind-own (rule kind source itself the_class permissions) is = cc
-kind-own (rule kind source (the_named word) the_class permissions) is = cc
-
-kind-none : (form : Form) → lists_own (kind_of form) ≡ false → own_permissions form ≡ []
-kind-none (common id permissions) is = cc
-kind-none (class id permissions) is = cc
-kind-none (block id) is = refl
-kind-none (optional id) is = refl
-kind-none (type_name id) is = refl
-kind-none (type_alias id) is = refl
-kind-none (alias_actual alias actual) is = refl
-kind-none (type_attribute id) is = refl
-kind-none (attribute_set attribute expr) is = refl
-kind-none (class_common the_class the_common) is = refl
-kind-none (class_order the_classes) is = refl
-kind-none (rule kind source itself the_class permissions) is = refl
-kind-none (rule kind source (the_named word) the_class permissions) is = refl
-
 gives-none : (policy : List Placed) (s t : Placed) (test : Placed → Bool) → gives_common (kind_of t.form) ≡ false → gives_passing policy s test t ≡ false
 gives-none policy s t test = by t.form
   where
     by : (form : Form) → gives_common (kind_of form) ≡ false → (gives_common_to policy s t.namespace form && common_passes policy test t.namespace form) ≡ false
     by (class_common the_class the_common) is = absurd (true≢false is)
-    by (common id permissions) is = refl
-    by (class id permissions) is = refl
-    by (block id) is = refl
-    by (optional id) is = refl
-    by (type_name id) is = refl
-    by (type_alias id) is = refl
-    by (alias_actual alias actual) is = refl
-    by (type_attribute id) is = refl
-    by (attribute_set attribute expr) is = refl
-    by (class_order the_classes) is = refl
-    by (rule kind source target the_class permissions) is = refl
+    by _ is = refl
 
 own-gives : (form : Form) → lists_own (kind_of form) ≡ true → gives_common (kind_of form) ≡ false
-own-gives (common id permissions) is = refl
-own-gives (class id permissions) is = refl
 own-gives (class_common the_class the_common) is = absurd (true≢false (sym is))
-own-gives (block id) is = refl
-own-gives (optional id) is = refl
-own-gives (type_name id) is = refl
-own-gives (type_alias id) is = refl
-own-gives (alias_actual alias actual) is = refl
-own-gives (type_attribute id) is = refl
-own-gives (attribute_set attribute expr) is = refl
-own-gives (class_order the_classes) is = refl
 own-gives (rule kind source itself the_class permissions) is = refl
 own-gives (rule kind source (the_named word) the_class permissions) is = refl
+own-gives _ is = refl
 
 -- what stands at a place of a list with one more
 holds-last : (test : Placed → Bool) (xs : List Placed) (t : Placed) (n j : ℕ) → length xs ≡ n → holds_of test (slice_get (xs ++ t ∷ []) j) ≡ (holds_of test (slice_get xs j) || ((j == n) && test t))
@@ -247,8 +169,8 @@ upto-next policy i t old new at listed given long are = record {
   long = long ∙ are.long;
 }
 
-none-listed : (form : Form) → lists_own (kind_of form) ≡ false → (name : List ℕ) (a e : Bool) → a ≡ (a || (e && has_name (texts (own_permissions form)) name))
-none-listed form is name a e = sym (ap (λ l. a || (e && has_name (texts l) name)) (kind-none form is) ∙ ap (λ b. a || b) (and-false e) ∙ or-false a)
+adds-none : (form : Form) → lists_own (kind_of form) ≡ false → (name : List ℕ) (a e : Bool) → a ≡ (a || (e && has_name (texts (own_permissions form)) name))
+adds-none form is name a e = sym (ap (λ l. a || (e && has_name (texts l) name)) (none-listed form is) ∙ ap (λ b. a || b) (and-false e) ∙ or-false a)
 
 -- it lists permissions
 pub upto-lists : {A : Type 0} (policy : List Placed) (i : ℕ) (t : Placed) (old new : Listed A) → slice_get policy i ≡ Some t → lists_own (kind_of t.form) ≡ true
@@ -256,7 +178,7 @@ pub upto-lists : {A : Type 0} (policy : List Placed) (i : ℕ) (t : Placed) (old
     → new.given.items ≡ old.given.items → IsUpTo policy i old → IsUpTo policy (i + 1) new
 upto-lists policy i t old new at own listed same are =
     upto-next policy i t old new at
-    (λ place name. listed place name ∙ ap (λ l. lists old.listed.keys place name || (place == i && has_name (texts l) name)) (kind-own t.form own))
+    (λ place name. listed place name ∙ ap (λ l. lists old.listed.keys place name || (place == i && has_name (texts l) name)) (own-listed t.form own))
     (λ k s test here first.
     ap (λ l. list_any (λ c. holds_of test (slice_get policy c)) (commons_at l k)) same ∙ sym (or-false (list_any (λ c. holds_of test (slice_get policy c)) (commons_at old.given.items k)))
     ∙ ap (λ b. list_any (λ c. holds_of test (slice_get policy c)) (commons_at old.given.items k) || b) (sym (gives-none policy s t test (own-gives t.form own))))
@@ -267,7 +189,7 @@ pub upto-other : {A : Type 0} (policy : List Placed) (i : ℕ) (t : Placed) (p :
     → IsUpTo policy i p → IsUpTo policy (i + 1) p
 upto-other policy i t p at own gives are =
     upto-next policy i t p p at
-    (λ place name. none-listed t.form own name (lists p.listed.keys place name) (place == i))
+    (λ place name. adds-none t.form own name (lists p.listed.keys place name) (place == i))
     (λ k s test here first.
     sym (or-false (list_any (λ c. holds_of test (slice_get policy c)) (commons_at p.given.items k)))
     ∙ ap (λ b. list_any (λ c. holds_of test (slice_get policy c)) (commons_at p.given.items k) || b) (sym (gives-none policy s t test gives)))
@@ -308,7 +230,7 @@ pub upto-gives : {A : Type 0} (policy : List Placed) (i : ℕ) (t : Placed) (bou
     → length new.given.items ≡ length old.given.items → new.listed.keys ≡ old.listed.keys → IsUpTo policy i old → IsUpTo policy (i + 1) new
 upto-gives policy i t bound old new at gives leads_are given long same are =
     upto-next policy i t old new at
-    (λ place name. ap (λ l. lists l place name) same ∙ none-listed t.form (gives-lists t.form gives) name (lists old.listed.keys place name) (place == i))
+    (λ place name. ap (λ l. lists l place name) same ∙ adds-none t.form (gives-lists t.form gives) name (lists old.listed.keys place name) (place == i))
     (λ k s test here first.
     ap (list_any (λ c. holds_of test (slice_get policy c))) (given k) ∙ list_any-append (λ c. holds_of test (slice_get policy c)) (commons_at old.given.items k) (given_at (gift bound) k)
     ∙ ap (λ b. list_any (λ c. holds_of test (slice_get policy c)) (commons_at old.given.items k) || b) (given-by policy k s test here first t.namespace t.form gives bound leads_are))
@@ -391,32 +313,12 @@ rule-class policy namespace (rule kind source (the_named word) the_class permiss
 rule-class policy namespace (rule kind source (the_named word) the_class permissions) is (a ∷ []) are = absurd are.1
 rule-class policy namespace (rule kind source (the_named word) the_class permissions) is (a ∷ b ∷ []) are = absurd are.1.1
 rule-class policy namespace (rule kind source (the_named word) the_class permissions) is (a ∷ b ∷ c ∷ d ∷ more) are = absurd are.1.1.1
-rule-class policy namespace (block id) is bound are = absurd (true≢false (sym is))
-rule-class policy namespace (optional id) is bound are = absurd (true≢false (sym is))
-rule-class policy namespace (type_name id) is bound are = absurd (true≢false (sym is))
-rule-class policy namespace (type_alias id) is bound are = absurd (true≢false (sym is))
-rule-class policy namespace (alias_actual alias actual) is bound are = absurd (true≢false (sym is))
-rule-class policy namespace (type_attribute id) is bound are = absurd (true≢false (sym is))
-rule-class policy namespace (attribute_set attribute expr) is bound are = absurd (true≢false (sym is))
-rule-class policy namespace (common id permissions) is bound are = absurd (true≢false (sym is))
-rule-class policy namespace (class id permissions) is bound are = absurd (true≢false (sym is))
-rule-class policy namespace (class_common the_class the_common) is bound are = absurd (true≢false (sym is))
-rule-class policy namespace (class_order the_classes) is bound are = absurd (true≢false (sym is))
+rule-class policy namespace _ is bound are = absurd (true≢false (sym is))
 
 pub names-none : (form : Form) → is_rule (kind_of form) ≡ false → named_permissions form ≡ []
 names-none (rule kind source itself the_class permissions) is = absurd (true≢false is)
 names-none (rule kind source (the_named word) the_class permissions) is = absurd (true≢false is)
-names-none (block id) is = refl
-names-none (optional id) is = refl
-names-none (type_name id) is = refl
-names-none (type_alias id) is = refl
-names-none (alias_actual alias actual) is = refl
-names-none (type_attribute id) is = refl
-names-none (attribute_set attribute expr) is = refl
-names-none (common id permissions) is = refl
-names-none (class id permissions) is = refl
-names-none (class_common the_class the_common) is = refl
-names-none (class_order the_classes) is = refl
+names-none _ is = refl
 
 abbrev lacking : Option Placed → List Placed → List ℕ → Bool
 lacking lead policy text = holds_of (λ s. not (list_any (bytes_eq text) (permissions_of policy s))) lead

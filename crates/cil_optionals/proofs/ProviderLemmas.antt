@@ -28,6 +28,11 @@ use Rattle.cil_optionals.specs.Providers.{further_out, alternatives, IsReady, Is
 use Rattle.cil_optionals.specs.declared.greatest.Need.{Need}
 use Rattle.cil_optionals.proofs.FoundLemmas.{either-some, table-of, naming-of, declaration-within, outward-provided}
 
+-- the number of the innermost optional is that of a place of the policy, or 0
+pub innermost-low : (policy : List Placed) (i n : ℕ) (s : Placed) → i < length policy → IsInnermost policy i n s → n < length policy + 1
+innermost-low policy i zero s low outside = omega arith
+innermost-low policy i (suc k) s low inside = (let before = inside.1 in omega (arith, low, before))
+
 -- what a declaration names
 pub declaration-naming : (s : Placed) → IsDeclaration s → is_naming s.form ≡ true
 declaration-naming s is = by (declared_in (declared_table s.form) s.form) refl is.some
@@ -189,11 +194,7 @@ providers-next {A} policy rows i row s next need needs apart once nested at here
     further = further_out policy (declared_table s.form) s.namespace (declared_text s.form)
 
     around : row.optional < length policy + 1
-    around = by row.optional (nested.around i row s at here)
-      where
-        by : (n : ℕ) → IsInnermost policy i n s → n < length policy + 1
-        by zero outside = omega arith
-        by (suc k) inside = (let before = inside.1 in omega (arith, low, before))
+    around = innermost-low policy i row.optional s low (nested.around i row s at here)
 
     alternatives-below : (o : Option ℕ) → IsLead (declared_table s.form) policy o further → list_all (λ m. nat_lt m all) (alternatives (length policy) row.optional o) ≡ true
     alternatives-below None lead = both_true (nat_lt row.optional all) true (lt-ltb row.optional all (omega (arith, around))) refl

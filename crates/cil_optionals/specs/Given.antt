@@ -61,12 +61,6 @@ is_rule (kinds.Rule kind) = true
 is_rule (kinds.RuleToSelf kind) = true
 is_rule _ = false
 
--- whether statements of a kind list permissions of their own
-abbrev pub lists_own : StatementKind → Bool
-lists_own kinds.Class = true
-lists_own kinds.Common = true
-lists_own _ = false
-
 -- whether statements of a kind give a common to a class
 abbrev pub gives_common : StatementKind → Bool
 gives_common kinds.ClassCommon = true

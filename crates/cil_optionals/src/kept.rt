@@ -1,6 +1,7 @@
 //! The optionals that a policy keeps.
 
-ghost use Rattle.std.specs.Prelude.{◌≡◌, ◌+◌, ℕ, List, true, false, length, slice_index_or, IfOk};
+ghost use Rattle.std.specs.Prelude.{◌≡◌, ◌+◌, ℕ, List, true, false, not, length, replicate, slice_index_or, IfOk};
+ghost use Rattle.std.specs.List.{list_all};
 ghost use Rattle.cil_specs.specs.Joined.{Placed};
 ghost use Rattle.cil_specs.specs.Kept.{AreApart};
 ghost use Rattle.cil_bind.specs.Policy.{IsBoundTo};
@@ -11,8 +12,23 @@ use crate::greatest::greatest;
 use crate::others::others;
 use crate::permissions::Permissions;
 use crate::providers::providers;
-use cil_bind::{Joined, Policy};
+use cil_bind::{Joined, Policy, Row};
 use std::alloc::{AllocError, Allocator};
+
+/// Whether no row is an optional.
+fn none_is_optional(rows: &[Row]) -> bool
+    ensures { result ≡ list_all (λ row. not row.is_optional) rows.now }
+{
+    rows.iter().all(|row| !row.is_optional)
+}
+
+/// Marks for so many numbers, all of them marked.
+fn all_marked<A: Allocator + Copy>(alloc: A, count: usize) -> Result<Vec<bool, A>, AllocError>
+    ensures { IfOk result (λ marks. marks.items ≡ replicate count true) }
+{
+    let marks = vec![in alloc; true; count]?;
+    Ok(marks)
+}
 
 /// A mark for each number of an optional, its place and 1 more, whether the policy keeps it. 0, which stands for none, is marked, and the
 /// marks of other statements have no meaning. A policy whose places have more than 32 bits is answered as out of memory.
@@ -30,6 +46,10 @@ pub fn kept_optionals<'m, A: Allocator + Copy>(
     let count = policy.rows.len();
     if count > 0xFFFF_FFFF {
         return Err(AllocError);
+    }
+    if none_is_optional(policy.rows.as_slice()) {
+        let marks = all_marked(alloc, count + 1)?;
+        return Ok(marks);
     }
     let mut permissions = Permissions::of(alloc, joined, policy)?;
     let mut needs = providers(alloc, policy)?;

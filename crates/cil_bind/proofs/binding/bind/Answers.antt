@@ -6,9 +6,9 @@ use Rattle.cil_bind.proofs.DeclareLemmas.{row-here}
 use Rattle.cil_bind.proofs.WordLemmas.{worded-at, worded-long, numbers-long}
 use Rattle.cil_bind.proofs.FromLemmas.{from-at, from-within, is-there}
 use Rattle.cil_bind.proofs.BindingLemmas.{row-bound, rows-all}
-use Rattle.cil_parse.specs.Parsed.{texts_of}
+use Rattle.std.proofs.lemmas.Option.{none-some}
 use Rattle.cil_bind.specs.Binding.{AreBound}
-use Rattle.cil_bind.proofs.MemoLemmas.{remembers-none, turned-remembers, next-remembers}
+use Rattle.cil_bind.proofs.MemoLemmas.{turned-remembers, next-remembers}
 use Rattle.cil_bind.proofs.binding.bind.Goals as goal
 
 -- what is read behind the end of the rows
@@ -85,10 +85,10 @@ loop-i-preserved g c = record {
       (worded-at names c.args.words.now items row.«module» c.index-words-number.result c.index.result.now worded (from-within items row from.0 from.2) c.index-words-number.is c.index.ensures) in
       row-bound names c.args.lookup.now.namespaces rows policy c.loop-i.i row from.0 c.known-namespace.result there.f.form c.loop-i.bound c.bind_statement.new.bound rows_are here from.1 c.known-namespace.ensures.known there.form
       (c.in_ok-bind_statement.ensures.binds names policy there.f knows nums
-      (turned-remembers items c.index.result.now c.loop-i.memo.«module» row.«module» names c.args.lookup.now.namespaces policy c.loop-i.memo.found.entries c.turn_to.new.self.found.entries (c.loop-i.invariant.remembered names policy knows worded) c.turn_to.ensures.found there.at)
+      (turned-remembers items c.index.result.now c.loop-i.memo.«module» row.«module» names c.args.lookup.now.namespaces policy c.loop-i.memo.last.items c.turn_to.new.self.last.items (c.loop-i.invariant.remembered names policy knows worded) c.in_ok-turn_to.ensures.last there.at)
       (c.statement-view.ensures there.statements there.f there.spells there.is))
       (c.loop-i.invariant.bound names policy knows worded rows_are all_from);
-  remembered = λ names policy knows worded m at.
+  remembered = λ names policy knows worded n m is at.
       let rows = c.args.rows.now in
       let items = c.args.joined.now.modules.items in
       let row = get_or rows c.loop-i.i no_row in
@@ -96,17 +96,17 @@ loop-i-preserved g c = record {
       let there = is-there items row c.index.result.now from.0 from.2 c.index.ensures in
       let nums = subst (λ l. AreNumbersOf names l (names_of c.index.result.now.«module».now)) (sym c.as_slice.ensures.value)
       (worded-at names c.args.words.now items row.«module» c.index-words-number.result c.index.result.now worded there.within c.index-words-number.is c.index.ensures) in
-      next-remembers items c.index.result.now m row.«module» c.bind_statement.new.memo.«module» names c.args.lookup.now.namespaces policy c.bind_statement.new.memo.found.entries
-      (c.bind_statement.ensures.same ∙ c.turn_to.ensures.turned) there.at at
+      next-remembers items c.index.result.now m row.«module» n c.bind_statement.new.memo.«module» names c.args.lookup.now.namespaces policy c.bind_statement.new.memo.last.items
+      (c.bind_statement.ensures.same ∙ c.in_ok-turn_to.ensures.turned) there.at is at
       (c.in_ok-bind_statement.ensures.remembers names policy knows nums
-      (turned-remembers items c.index.result.now c.loop-i.memo.«module» row.«module» names c.args.lookup.now.namespaces policy c.loop-i.memo.found.entries c.turn_to.new.self.found.entries (c.loop-i.invariant.remembered names policy knows worded) c.turn_to.ensures.found there.at));
+      (turned-remembers items c.index.result.now c.loop-i.memo.«module» row.«module» names c.args.lookup.now.namespaces policy c.loop-i.memo.last.items c.turn_to.new.self.last.items (c.loop-i.invariant.remembered names policy knows worded) c.in_ok-turn_to.ensures.last there.at));
 }
 
 pub loop-i-init : goal.loop-i-init
 loop-i-init g c = record {
   closed = ap (λ p. p.1) c.in_ok-bound.ensures;
   bound = λ names policy knows worded rows_are from. subst (AreBound policy []) (sym (ap (λ p. p.0) c.in_ok-bound.ensures)) tt;
-  remembered = λ names policy knows worded m at. remembers-none names c.args.lookup.now.namespaces (texts_of m.«module».now) policy _ c.new-memo.ensures;
+  remembered = λ names policy knows worded n m is at. absurd (none-some n (sym c.new-memo.ensures ∙ is));
 }
 
 pub returns : goal.returns

@@ -16,5 +16,5 @@ invariant-loop-i g l = record {
   bound : (names : List (List ℕ)) (policy : List Placed) → Knows l.lookup.namespaces l.lookup.declared.entries names policy → AreWorded names l.words l.joined.modules.items
       → AreRows names l.lookup.namespaces l.rows policy → AreFrom l.joined.modules.items l.rows policy → AreBound policy (take l.i policy) l.bound.0;
   remembered : (names : List (List ℕ)) (policy : List Placed) → Knows l.lookup.namespaces l.lookup.declared.entries names policy → AreWorded names l.words l.joined.modules.items
-      → (m : NamedModule g.row.A.Denot) → slice_get l.joined.modules.items l.memo.«module» ≡ Some m → Remembers names l.lookup.namespaces (texts_of m.«module».now) policy l.memo.found.entries;
+      → (n : ℕ) (m : NamedModule g.row.A.Denot) → l.memo.«module» ≡ Some n → slice_get l.joined.modules.items n ≡ Some m → Remembers names l.lookup.namespaces (texts_of m.«module».now) policy l.memo.last.items;
 }

@@ -15,8 +15,8 @@ abbrev pub invariant-loop-k : goal.invariant-loop-k
 invariant-loop-k g l = record {
   closed : l.bound.0 ≡ l.fn.bound.0;
   leads_are : (names : List (List ℕ)) (policy : List Placed) (f : FlatStatement) → Knows l.lookup.namespaces l.lookup.declared.entries names policy → AreNumbersOf names l.words (names_of l.«module»)
-      → Remembers names l.lookup.namespaces (texts_of l.«module») policy l.fn.memo.found.entries → IsShown (texts_of l.«module») l.view f → AreLeads policy (namespace_at names l.lookup.namespaces l.namespace) (take l.k (references f.form)) l.bound.1;
+      → Remembers names l.lookup.namespaces (texts_of l.«module») policy l.fn.memo.last.items → IsShown (texts_of l.«module») l.view f → AreLeads policy (namespace_at names l.lookup.namespaces l.namespace) (take l.k (references f.form)) l.bound.1;
   remembers : (names : List (List ℕ)) (policy : List Placed) → Knows l.lookup.namespaces l.lookup.declared.entries names policy → AreNumbersOf names l.words (names_of l.«module»)
-      → Remembers names l.lookup.namespaces (texts_of l.«module») policy l.fn.memo.found.entries → Remembers names l.lookup.namespaces (texts_of l.«module») policy l.memo.found.entries;
+      → Remembers names l.lookup.namespaces (texts_of l.«module») policy l.fn.memo.last.items → Remembers names l.lookup.namespaces (texts_of l.«module») policy l.memo.last.items;
   same : l.memo.«module» ≡ l.fn.memo.«module»;
 }

@@ -1,13 +1,30 @@
-use Rattle.std.proofs.Common.{◌≡◌, ◌<◌, ◌+◌, ◌++◌, false, length, get_or, sym, ap, ◌∙◌, subst, arith}
+use Rattle.std.proofs.Common.{◌≡◌, ◌<◌, ◌+◌, ◌++◌, true, false, not, length, get_or, sym, ap, ◌∙◌, subst, arith}
 use Rattle.std.specs.List.{list_all}
-use Rattle.std.proofs.lemmas.List.{get_or-take}
+use Rattle.std.proofs.lemmas.List.{get_or-take, get_or-replicate, length-replicate}
 use Rattle.indexmap.proofs.CallerLemmas.{Drains-YieldsInOrder}
 use Rattle.cil_bind.proofs.DeclareLemmas.{rows-length}
 use Rattle.cil_optionals.specs.Needs.{are_met, is_need_below}
 use Rattle.cil_optionals.specs.Nested.{ShowsKept}
 use Rattle.cil_optionals.specs.Providers.{IsReady}
-use Rattle.cil_optionals.proofs.KeptLemmas.{rows-there, all-below, shows-kept, shows-taken}
+use Rattle.cil_optionals.proofs.KeptLemmas.{rows-there, all-below, shows-kept, shows-taken, shows-all}
 use Rattle.cil_optionals.proofs.kept.kept_optionals.Goals as goal
+
+pub returns-then-none_is_optional-clause-len : goal.returns-then-none_is_optional-clause-len
+returns-then-none_is_optional-clause-len g c =
+    let count = c.len-count.ensures in
+    let made : length c.in_ok-marks.marks.items ≡ c.len-count.result + 1 = ap length c.in_ok-marks.ensures ∙ length-replicate (c.len-count.result + 1) true in
+    omega (arith, made, count)
+
+pub returns-then-none_is_optional-clause-none : goal.returns-then-none_is_optional-clause-none
+returns-then-none_is_optional-clause-none g c = ap (λ l. get_or l 0 false) c.in_ok-marks.ensures ∙ get_or-replicate (c.len-count.result + 1) 0 true false (omega arith)
+
+pub returns-then-none_is_optional-clause-kept : goal.returns-then-none_is_optional-clause-kept
+returns-then-none_is_optional-clause-kept g c = λ all bound nested apart.
+    let p = c.args.policy.now in
+    let none : list_all (λ row. not row.is_optional) p.rows.items ≡ true =
+    ap (list_all (λ row. not row.is_optional)) (sym c.as_slice.ensures.value) ∙ sym c.none_is_optional.ensures ∙ c.if-none_is_optional.true in
+    subst (ShowsKept all p.rows.items) (sym c.in_ok-marks.ensures)
+    (shows-all p.names p.lookup.namespaces p.rows.items all bound.stands.rows_are nested none (c.len-count.result + 1) (omega arith))
 
 pub others-requires : goal.others-requires
 others-requires g c =

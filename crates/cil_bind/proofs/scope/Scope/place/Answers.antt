@@ -1,6 +1,7 @@
-use Rattle.std.proofs.Common.{◌+◌, ◌++◌, ◌∷◌, [], take, bytes_eq, sym, ap, ◌∙◌, subst}
+use Rattle.std.proofs.Common.{ℕ, ◌+◌, Bool, Option, ◌++◌, ◌∷◌, [], take, bytes_eq, sym, ap, ◌∙◌, subst}
 use Rattle.std.specs.List.{IsDistinct}
 use Rattle.cil_specs.specs.Joined.{placed}
+use Rattle.cil_parse.specs.declared.table.Table.{Table}
 use Rattle.cil_bind.specs.Namespaces.{Opens}
 use Rattle.cil_bind.specs.Rows.{IsDeclared}
 use Rattle.cil_bind.specs.Scope.{Stands}
@@ -9,6 +10,18 @@ use Rattle.cil_bind.proofs.PlaceLemmas.{flat-there, placed-next}
 use Rattle.cil_bind.proofs.AroundLemmas.{around-next}
 use Rattle.cil_bind.proofs.FromLemmas.{from-next}
 use Rattle.cil_bind.proofs.scope.Scope.place.Goals as goal
+
+-- the row of a statement
+abbrev row-of : ℕ → ℕ × ℕ → ℕ → ℕ → Option (Table × ℕ) → Bool → Row
+row-of number numbers namespace inside declares is_optional = record {
+  «module» = number;
+  index = numbers.0;
+  namespace = namespace;
+  inside = inside;
+  optional = numbers.1;
+  declares = declares;
+  is_optional = is_optional;
+}
 
 pub declared-requires : goal.declared-requires
 declared-requires g c =
@@ -22,15 +35,7 @@ returns-clause-stands g c = λ before name statements spells long stands.
     let says = c.in_ok-declares.ensures in
     let spaces' = c.inside.new.self in
     let policy = before ++ take (c.args.i + 1) (placed name [] [] statements) in
-    let row : Row = record {
-      «module» = c.args.number;
-      index = c.in-Some.numbers.0;
-      namespace = c.around-namespace.result;
-      inside = c.in_ok-inside.inside;
-      optional = c.in-Some.numbers.1;
-      declares = c.in_ok-declares.declares;
-      is_optional = c.is_optional.result;
-    } in
+    let row = row-of c.args.number c.in-Some.numbers c.around-namespace.result c.in_ok-inside.inside c.in_ok-declares.declares c.is_optional.result in
     let next = placed-next c.args.«module».now statements c.statement-view.result c.args.i self.names self.namespaces says.kept.0 spaces' self.rows.items before name c.args.start row
     spells c.requires.within long stands (λ f at. c.statement-view.ensures statements f spells at)
     (λ d. subst (IsDistinct bytes_eq) says.kept.1 (says.distinct d))
@@ -44,29 +49,13 @@ returns-clause-stands g c = λ before name statements spells long stands.
 
 pub returns-clause-from : goal.returns-clause-from
 returns-clause-from g c = λ parsed before name statements spells have so_far.
-    let row : Row = record {
-      «module» = c.args.number;
-      index = c.in-Some.numbers.0;
-      namespace = c.around-namespace.result;
-      inside = c.in_ok-inside.inside;
-      optional = c.in-Some.numbers.1;
-      declares = c.in_ok-declares.declares;
-      is_optional = c.is_optional.result;
-    } in
+    let row = row-of c.args.number c.in-Some.numbers c.around-namespace.result c.in_ok-inside.inside c.in_ok-declares.declares c.is_optional.result in
     from-next parsed c.args.«module».now statements name c.args.self.now.rows.items c.push.new.self.items before c.args.i row spells have c.in-Some.ensures.0 c.requires.within so_far
     (c.in_ok-push.ensures.items ∙ ap (λ r. r.items ++ row ∷ []) c.in_ok-declares.ensures.rows)
 
 pub returns-clause-around : goal.returns-clause-around
 returns-clause-around g c = λ before behind name statements spells long so_far.
-    let row : Row = record {
-      «module» = c.args.number;
-      index = c.in-Some.numbers.0;
-      namespace = c.around-namespace.result;
-      inside = c.in_ok-inside.inside;
-      optional = c.in-Some.numbers.1;
-      declares = c.in_ok-declares.declares;
-      is_optional = c.is_optional.result;
-    } in
+    let row = row-of c.args.number c.in-Some.numbers c.around-namespace.result c.in_ok-inside.inside c.in_ok-declares.declares c.is_optional.result in
     around-next c.args.«module».now statements c.statement-view.result c.args.i name c.args.self.now.rows.items c.push.new.self.items before behind c.args.start row spells c.requires.within long
     (λ f at. c.statement-view.ensures statements f spells at) c.in-Some.ensures.1 so_far
     (c.in_ok-push.ensures.items ∙ ap (λ r. r.items ++ row ∷ []) c.in_ok-declares.ensures.rows)

@@ -1,7 +1,8 @@
 use Rattle.std.proofs.Common.{◌≡◌, ◌<◌, ◌++◌, true, false, [], map, length, get_or, Some, IfSome, refl, sym, ap, ◌∙◌, subst}
 use Rattle.cil_parse.specs.Forms.{kind_of, permissions_in}
 use Rattle.cil_parse.specs.Parsed.{texts_of}
-use Rattle.cil_optionals.specs.Given.{commons_at, gift, given_at, lists_own, gives_common}
+use Rattle.cil_bind.specs.Listing.{lists_own}
+use Rattle.cil_optionals.specs.Given.{commons_at, gift, given_at, gives_common}
 use Rattle.cil_optionals.proofs.AsksLemmas.{bound-at, seen-of}
 use Rattle.cil_optionals.proofs.PermissionLemmas.{upto-lists, upto-gives, upto-other, gift-within}
 use Rattle.cil_optionals.proofs.listed.Listed.add.Goals as goal

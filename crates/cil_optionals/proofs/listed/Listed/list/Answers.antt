@@ -4,7 +4,8 @@ use Rattle.cil_specs.specs.Lookup.{has_name, texts}
 use Rattle.cil_bind.proofs.ScopeLemmas.{read-text, read-within}
 use Rattle.cil_parse.specs.Parsed.{texts_of}
 use Rattle.cil_optionals.specs.Given.{lists}
-use Rattle.cil_optionals.proofs.PermissionLemmas.{words-next, word-read, as-many, no_word}
+use Rattle.cil_bind.proofs.PermissionLemmas.{word-read, as-many}
+use Rattle.cil_optionals.proofs.PermissionLemmas.{words-next, no_word}
 use Rattle.cil_optionals.proofs.listed.Listed.list.Goals as goal
 
 pub text-requires : goal.text-requires

@@ -4,7 +4,8 @@ use Rattle.std.proofs.lemmas.List.{take_all}
 use Rattle.cil_bind.proofs.ScopeLemmas.{read-text, read-within}
 use Rattle.cil_parse.specs.Parsed.{texts_of}
 use Rattle.cil_optionals.specs.Given.{permissions_in}
-use Rattle.cil_optionals.proofs.PermissionLemmas.{all-next, not-all, word-read, as-many, no_word}
+use Rattle.cil_bind.proofs.PermissionLemmas.{word-read, as-many}
+use Rattle.cil_optionals.proofs.PermissionLemmas.{all-next, not-all, no_word}
 use Rattle.cil_optionals.proofs.permissions.Permissions.has_all.Goals as goal
 
 pub text-requires : goal.text-requires
