@@ -13,6 +13,18 @@ common() {
     }'
 }
 
+# one class that is given many commons, and many rules that name permissions of them: each rule one of another common, and one that the
+# last common lists, and so do as many commons that the class isn't given
+commons() {
+    awk -v k="$1" 'BEGIN {
+        n = 2500 * k
+        print "(type t)(class c ())(common last (q))"
+        for (i = 0; i < n; i++) printf "(common m%d (p%d))(classcommon c m%d)(common o%d (q))\n", i, i, i, i
+        print "(classcommon c last)"
+        for (i = 0; i < n; i++) printf "(allow t t (c (p%d q)))\n", i
+    }'
+}
+
 # a name that each of the nested blocks declares in an optional, and many references to it in the innermost
 blocks() {
     awk -v k="$1" 'BEGIN {
@@ -60,7 +72,7 @@ chain() {
     }'
 }
 
-for shape in common blocks sets brackets dotted chain; do
+for shape in common commons blocks sets brackets dotted chain; do
     for k in 1 4; do
         "$shape" "$k" > "$folder/text"
         script_of_text

@@ -28,7 +28,7 @@ use Rattle.cil_check.specs.declared.firsts.Gift.{Gift}
 use Rattle.cil_check.specs.declared.firsts.Gift.TheVariants.{Actual, Common}
 use Rattle.cil_check.specs.declared.kinds.Kind.{Kind}
 use Rattle.cil_check.proofs.SeenLemmas.{lead-of, seen-word}
-use Rattle.cil_check.proofs.PositionLemmas.{is_before}
+use Rattle.cil_bind.proofs.PositionLemmas.{is_before}
 use Rattle.cil_check.proofs.WordLemmas.{led-at, or-map, words-cons, again_if, again-word, again-noted}
 
 -- no word, and one of two

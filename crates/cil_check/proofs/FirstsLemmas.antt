@@ -4,7 +4,6 @@ use Rattle.std.specs.Option.{option_or, option_and_then}
 use Rattle.std.proofs.lemmas.Option.{none-some, same_Some, get_or_from_slice_get, slice_get-get_or}
 use Rattle.std.proofs.lemmas.Bool.{eqb-true, eq-eqb}
 use Rattle.std.proofs.lemmas.List.Quantifiers.{position-Some}
-use Rattle.std.proofs.lemmas.Slice.Eq.{bytes_eq-Decides}
 use Rattle.cil_specs.specs.Names.{Word}
 use Rattle.cil_specs.specs.Statements.{Form, block, optional, type_name, type_alias, alias_actual, type_attribute, attribute_set, common, class, class_common, class_order, rule}
 use Rattle.cil_specs.specs.Joined.{Placed}
@@ -19,7 +18,9 @@ use Rattle.cil_check.specs.declared.firsts.Gift.TheVariants.{Actual, Common}
 use lib.Dec.{eqb}
 use Rattle.indexmap.specs.IndexMap.{IndexMap, get, insert_entry}
 use Rattle.indexmap.proofs.CallerLemmas.{insert_entry-new}
-use Rattle.cil_check.proofs.PositionLemmas.{at_if, position-same, position-next}
+use Rattle.cil_bind.proofs.NamespaceLemmas.{bytes_eq-true}
+use Rattle.cil_bind.proofs.PositionLemmas.{at_if}
+use Rattle.cil_check.proofs.PositionLemmas.{position-same, position-next}
 
 -- what a statement gives something to is where its word leads
 pub gives-lead : (gift : Gift) (policy : List Placed) (s t : Placed) → gives gift policy s t ≡ holds_of (is_same (gift_table gift) s) (given_lead gift policy t)
@@ -52,12 +53,9 @@ gives-lead gift policy s t = by gift t.form
     by Common (class_order the_classes) = refl
     by Common (rule kind source target the_class permissions) = refl
 
-pub same_bytes : (xs ys : List ℕ) → bytes_eq xs ys ≡ true → xs ≡ ys
-same_bytes xs ys e = (bytes_eq-Decides xs ys).0 e
-
 word-text : (name : List ℕ) (o : Option Word) → is_word name o ≡ true → word_text o ≡ name
 word-text name None e = absurd (true≢false (sym e))
-word-text name (Some w) e = same_bytes w.text name e
+word-text name (Some w) e = bytes_eq-true w.text name e
 
 -- two that declare one name are told alike
 pub same-test : (table : Table) (s t : Placed) → is_same table s t ≡ true → (u : Placed) → is_same table s u ≡ is_same table t u

@@ -14,10 +14,12 @@ use Rattle.cil_specs.proofs.NamesLemmas.{all-append}
 use Rattle.cil_bind.specs.Lookup.{IsFirstOf, IsLead}
 use Rattle.cil_check.specs.Bound.{IsSeen}
 use Rattle.cil_check.specs.Gifts.{given_word, given_lead}
-use Rattle.cil_check.specs.Inherited.{places_in, commons_at, names_listed, given_names, common_word, common_lead, HasInheritedOf}
+use Rattle.cil_check.specs.Groups.{numbers_in, list_at}
+use Rattle.cil_check.specs.Inherited.{names_listed, given_names, common_word, common_lead, HasInheritedOf}
 use Rattle.cil_check.specs.declared.bound.Seen.{Seen}
 use Rattle.cil_check.specs.declared.firsts.Gift.TheVariants.{Common}
-use Rattle.cil_check.proofs.PositionLemmas.{at_if, position-append, any-position, take-next, get-append, get-last}
+use Rattle.cil_bind.proofs.PositionLemmas.{at_if, position-append, any-position, take-next}
+use Rattle.cil_check.proofs.PositionLemmas.{get-append, get-last}
 use Rattle.cil_check.proofs.FirstsLemmas.{gives-lead, lead-same}
 use Rattle.cil_check.proofs.SeenLemmas.{seen-lead}
 use Rattle.cil_check.proofs.WordLemmas.{Led, led-at, none-there}
@@ -45,22 +47,22 @@ with_one same places place = if same then places ++ place ∷ [] else places
 
 -- one more for a class that is noted
 pub noted-more : (keys : List ℕ) (lists : List (List ℕ)) (owner at place : ℕ) (places : List ℕ) → position (λ k. owner == k) keys ≡ Some at → slice_get lists at ≡ Some places
-    → (k : ℕ) → commons_at (keys, set lists at (places ++ place ∷ [])) k ≡ with_one (k == owner) (commons_at (keys, lists) k) place
+    → (k : ℕ) → list_at (keys, set lists at (places ++ place ∷ [])) k ≡ with_one (k == owner) (list_at (keys, lists) k) place
 noted-more keys lists owner at place places found is k = by (k == owner) refl
   where
-    there : k ≡ owner → commons_at (keys, set lists at (places ++ place ∷ [])) k ≡ commons_at (keys, lists) k ++ place ∷ []
+    there : k ≡ owner → list_at (keys, set lists at (places ++ place ∷ [])) k ≡ list_at (keys, lists) k ++ place ∷ []
     there e =
         let at_k : position (λ key. k == key) keys ≡ Some at = ap (λ n. position (λ key. n == key) keys) e ∙ found in
-        ap (λ o. places_in (option_and_then (slice_get (set lists at (places ++ place ∷ []))) o)) at_k ∙ ap places_in (get-set_same lists at places (places ++ place ∷ []) is)
-        ∙ ap (λ o. places_in o ++ place ∷ []) (sym is) ∙ ap (λ o. places_in (option_and_then (slice_get lists) o) ++ place ∷ []) (sym at_k)
+        ap (λ o. numbers_in (option_and_then (slice_get (set lists at (places ++ place ∷ []))) o)) at_k ∙ ap numbers_in (get-set_same lists at places (places ++ place ∷ []) is)
+        ∙ ap (λ o. numbers_in o ++ place ∷ []) (sym is) ∙ ap (λ o. numbers_in (option_and_then (slice_get lists) o) ++ place ∷ []) (sym at_k)
 
     elsewhere : (k ≡ owner → ⊥) → (o : Option ℕ) → position (λ key. k == key) keys ≡ o
-        → places_in (option_and_then (slice_get (set lists at (places ++ place ∷ []))) o) ≡ places_in (option_and_then (slice_get lists) o)
+        → numbers_in (option_and_then (slice_get (set lists at (places ++ place ∷ []))) o) ≡ numbers_in (option_and_then (slice_get lists) o)
     elsewhere other None e = refl
     elsewhere other (Some m) e =
-        ap places_in (get-set_other lists at m (places ++ place ∷ []) (λ one. other (found-same k owner at keys (e ∙ ap Some one) found)))
+        ap numbers_in (get-set_other lists at m (places ++ place ∷ []) (λ one. other (found-same k owner at keys (e ∙ ap Some one) found)))
 
-    by : (b : Bool) → (k == owner) ≡ b → commons_at (keys, set lists at (places ++ place ∷ [])) k ≡ with_one b (commons_at (keys, lists) k) place
+    by : (b : Bool) → (k == owner) ≡ b → list_at (keys, set lists at (places ++ place ∷ [])) k ≡ with_one b (list_at (keys, lists) k) place
     by true e = there (eqb-true k owner e)
     by false e = elsewhere (eqb-false k owner e) (position (λ key. k == key) keys) refl
 
@@ -73,8 +75,8 @@ inserted-last keys new owner none is = is ∙ ap (λ b. if b then keys else keys
 
 -- one more for a class that is not noted yet
 pub noted-new : (keys : List ℕ) (lists : List (List ℕ)) (owner place : ℕ) → length keys ≡ length lists → position (λ k. owner == k) keys ≡ None
-    → (k : ℕ) → commons_at (keys ++ owner ∷ [], lists ++ (place ∷ []) ∷ []) k ≡ with_one (k == owner) (commons_at (keys, lists) k) place
-noted-new keys lists owner place same none k = ap (λ o. places_in (option_and_then (slice_get more) o)) (position-append (λ key. k == key) keys owner) ∙ by (k == owner) refl
+    → (k : ℕ) → list_at (keys ++ owner ∷ [], lists ++ (place ∷ []) ∷ []) k ≡ with_one (k == owner) (list_at (keys, lists) k) place
+noted-new keys lists owner place same none k = ap (λ o. numbers_in (option_and_then (slice_get more) o)) (position-append (λ key. k == key) keys owner) ∙ by (k == owner) refl
   where
     more : List (List ℕ)
     more = lists ++ (place ∷ []) ∷ []
@@ -82,20 +84,20 @@ noted-new keys lists owner place same none k = ap (λ o. places_in (option_and_t
     old : Option ℕ
     old = position (λ key. k == key) keys
 
-    kept : (o : Option ℕ) → old ≡ o → places_in (option_and_then (slice_get more) (option_or o None)) ≡ places_in (option_and_then (slice_get lists) o)
+    kept : (o : Option ℕ) → old ≡ o → numbers_in (option_and_then (slice_get more) (option_or o None)) ≡ numbers_in (option_and_then (slice_get lists) o)
     kept None e = refl
     kept (Some m) e = let less = position-within k keys m e in there (slice_get lists m) refl (omega (arith, less, same))
       where
-        there : (o : Option (List ℕ)) → slice_get lists m ≡ o → m < length lists → places_in (slice_get more m) ≡ places_in (slice_get lists m)
-        there (Some places) is less = ap places_in (get-append lists ((place ∷ []) ∷ []) m places is) ∙ ap places_in (sym is)
+        there : (o : Option (List ℕ)) → slice_get lists m ≡ o → m < length lists → numbers_in (slice_get more m) ≡ numbers_in (slice_get lists m)
+        there (Some places) is less = ap numbers_in (get-append lists ((place ∷ []) ∷ []) m places is) ∙ ap numbers_in (sym is)
         there None is less = absurd (none-there lists m is less)
 
-    by : (b : Bool) → (k == owner) ≡ b → places_in (option_and_then (slice_get more) (option_or old (at_if b (length keys)))) ≡ with_one b (places_in (option_and_then (slice_get lists) old)) place
+    by : (b : Bool) → (k == owner) ≡ b → numbers_in (option_and_then (slice_get more) (option_or old (at_if b (length keys)))) ≡ with_one b (numbers_in (option_and_then (slice_get lists) old)) place
     by true e =
         let absent : old ≡ None = ap (λ n. position (λ key. n == key) keys) (eqb-true k owner e) ∙ none in
-        ap (λ o. places_in (option_and_then (slice_get more) (option_or o (Some (length keys))))) absent
-        ∙ ap (λ n. places_in (slice_get more n)) same ∙ ap places_in (get-last lists (place ∷ []))
-        ∙ ap (λ o. places_in (option_and_then (slice_get lists) o) ++ place ∷ []) (sym absent)
+        ap (λ o. numbers_in (option_and_then (slice_get more) (option_or o (Some (length keys))))) absent
+        ∙ ap (λ n. numbers_in (slice_get more n)) same ∙ ap numbers_in (get-last lists (place ∷ []))
+        ∙ ap (λ o. numbers_in (option_and_then (slice_get lists) o) ++ place ∷ []) (sym absent)
     by false e = kept old refl
 
 -- what a statement gives to a class, where its first word leads to it
@@ -155,11 +157,11 @@ given-more policy n s t is =
 -- a statement that gives a common to a class
 pub inherited-next : (policy : List Placed) (n : ℕ) (t : Placed) (owner place : ℕ) (old new : List ℕ × List (List ℕ)) → slice_get policy n ≡ Some t
     → IsLead classes policy (Some owner) (given_lead Common policy t) → IsLead commons policy (Some place) (common_lead policy t)
-    → ((k : ℕ) → commons_at new k ≡ with_one (k == owner) (commons_at old k) place) → HasInheritedOf policy (take n policy) old → HasInheritedOf policy (take (n + 1) policy) new
+    → ((k : ℕ) → list_at new k ≡ with_one (k == owner) (list_at old k) place) → HasInheritedOf policy (take n policy) old → HasInheritedOf policy (take (n + 1) policy) new
 inherited-next policy n t owner place old new is to from noted so_far = record {
-  within = λ k. subst (AllByRecursion (λ m. m < length policy)) (sym (noted k)) (low (k == owner) (commons_at old k) (so_far.within k));
+  within = λ k. subst (AllByRecursion (λ m. m < length policy)) (sym (noted k)) (low (k == owner) (list_at old k) (so_far.within k));
   listed = λ i s at first.
-      ap (names_listed policy) (noted i) ∙ by (i == owner) (commons_at old i)
+      ap (names_listed policy) (noted i) ∙ by (i == owner) (list_at old i)
       ∙ ap (λ l. l ++ (if i == owner then listed_by (slice_get policy place) else [])) (so_far.listed i s at first)
       ∙ ap (λ l. flat_map (given_names policy s) (take n policy) ++ l) (sym (gives i s at first)) ∙ sym (given-more policy n s t is);
 }
@@ -211,8 +213,8 @@ inherited-first policy noted empty = record {
   listed = λ i s at first. ap (names_listed policy) (none i);
 }
   where
-    none : (k : ℕ) → commons_at noted k ≡ []
-    none k = ap (λ keys. places_in (option_and_then (slice_get noted.1) (position (λ key. k == key) keys))) empty
+    none : (k : ℕ) → list_at noted k ≡ []
+    none k = ap (λ keys. numbers_in (option_and_then (slice_get noted.1) (position (λ key. k == key) keys))) empty
 
 -- what a look-up by an index gives
 pub at-index : {X : Type 0} (r : Option (Bor X)) (xs : List X) (i : ℕ) → is_some r ≡ nat_lt i (length xs) → IfSome r (λ x. x.now ≡ get_or xs i x.now) → option_map (λ x. x.now) r ≡ slice_get xs i
@@ -224,5 +226,5 @@ at-index None xs i there is = none (slice_get xs i) refl
 at-index (Some x) xs i there is = sym (slice_get_read xs (length xs) i x.now refl (ltb-true i (length xs) (sym there)) is)
 
 -- the list of a class that is found
-pub found-list : (lists : List (List ℕ)) (keys : List ℕ) (owner at : ℕ) (o : Option (List ℕ)) → position (λ k. owner == k) keys ≡ Some at → o ≡ slice_get lists at → places_in o ≡ commons_at (keys, lists) owner
-found-list lists keys owner at o found is = ap places_in is ∙ ap (λ p. places_in (option_and_then (slice_get lists) p)) (sym found)
+pub found-list : (lists : List (List ℕ)) (keys : List ℕ) (owner at : ℕ) (o : Option (List ℕ)) → position (λ k. owner == k) keys ≡ Some at → o ≡ slice_get lists at → numbers_in o ≡ list_at (keys, lists) owner
+found-list lists keys owner at o found is = ap numbers_in is ∙ ap (λ p. numbers_in (option_and_then (slice_get lists) p)) (sym found)

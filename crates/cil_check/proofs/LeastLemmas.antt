@@ -1,10 +1,10 @@
 -- The first faulty word that is found is the least fault of its kind.
-use Rattle.std.proofs.Common.{◌≡◌, ◌⊎◌, inl, inr, ℕ, ◌+◌, ◌<◌, ◌≤◌, suc, Bool, true, false, nat_le, cond, if◌then◌else◌, List, [], ◌∷◌, ◌++◌, length, take, drop, map, filter, flat_map, Some, refl, sym, ap, ◌∙◌, subst, Contains, arith, append-nil}
+use Rattle.std.proofs.Common.{◌≡◌, ◌⊎◌, inl, inr, ℕ, ◌+◌, ◌<◌, ◌≤◌, zero, suc, Bool, true, false, nat_le, cond, if◌then◌else◌, List, [], ◌∷◌, ◌++◌, length, take, drop, map, filter, flat_map, Some, refl, sym, ap, ◌∙◌, subst, Contains, arith, append-nil}
 use Rattle.std.specs.List.{AllByRecursion, slice_get, list_any}
 use Rattle.std.specs.Option.{option_to_list}
 use Rattle.std.proofs.Math.Seq.{take-append_seam}
 use Rattle.std.proofs.lemmas.List.{map-append, length-append, length-take-le}
-use Rattle.std.proofs.lemmas.Option.{same_Some, slice_get_within}
+use Rattle.std.proofs.lemmas.Option.{same_Some, none-some, slice_get_within}
 use Rattle.std.proofs.lemmas.Bool.{leb-true, cases_lt}
 use Rattle.cil_specs.specs.Names.{Word}
 use Rattle.cil_specs.specs.Statements.{Form, block, optional, type_name, type_alias, alias_actual, type_attribute, attribute_set, common, class, class_common, class_order, rule, itself, the_named, rise_from, as_declared, as_referred}
@@ -17,8 +17,8 @@ use Rattle.cil_specs.proofs.PartLemmas.{all-middle}
 use Rattle.cil_specs.proofs.NamesLemmas.{all-contained, contains-cases, contains-first, contains-other, contains-map, rises-low, rises-less, stands, same_place, later, earlier}
 use Rattle.cil_bind.specs.Ordered.{offsets_in, offsets_of, IsRising, IsBefore, AreOrdered, IsLeast}
 use Rattle.cil_check.specs.Image.{fault_at}
-use Rattle.cil_bind.proofs.PositionLemmas.{around-at}
 use Rattle.cil_bind.proofs.OrderedLemmas.{IsAmidst, ordered-amidst}
+use Rattle.cil_bind.proofs.PositionLemmas.{around-at}
 
 -- the one list has some of the other's elements, in the same order
 abbrev pub IsSub : List ℕ → List ℕ → Type 0

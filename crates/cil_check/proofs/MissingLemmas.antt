@@ -1,7 +1,8 @@
 -- Permissions that classes have, and those that they lack.
-use Rattle.std.proofs.Common.{◌≡◌, ℕ, ◌+◌, ◌<◌, ◌≤◌, not, ◌||◌, Bool, true, false, List, [], ◌∷◌, ◌++◌, length, map, filter, drop, flat_map, cond, Option, Some, None, Contains, bytes_eq, get_or, slice_get, refl, sym, ap, ◌∙◌}
+use Rattle.std.proofs.Common.{◌≡◌, ℕ, ◌+◌, ◌<◌, ◌≤◌, zero, suc, not, ◌||◌, Bool, true, false, List, [], ◌∷◌, ◌++◌, length, map, filter, drop, flat_map, cond, Option, Some, None, Contains, bytes_eq, get_or, slice_get, refl, sym, ap, ◌∙◌}
 use Rattle.std.specs.Option.{option_and_then}
 use Rattle.std.specs.List.{list_any}
+use Rattle.std.proofs.Math.Bool.{or-true}
 use Rattle.std.proofs.lemmas.Option.{none-some, same_Some, slice_get-get_or, slice_get_within, get_or_from_slice_get}
 use Rattle.std.proofs.lemmas.List.Folds.{list_any-append}
 use Rattle.cil_specs.specs.Names.{Word}
@@ -16,7 +17,8 @@ use Rattle.cil_parse.specs.declared.row.NumberedWord.{NumberedWord}
 use Rattle.cil_bind.specs.Lookup.{word_at, IsFirstOf, IsLead}
 use Rattle.cil_bind.specs.Written.{IsOneName}
 use Rattle.cil_check.specs.Checker.{IsNoted}
-use Rattle.cil_check.specs.Inherited.{commons_at, names_listed, given_names, HasInherited}
+use Rattle.cil_check.specs.Groups.{list_at}
+use Rattle.cil_check.specs.Inherited.{names_listed, given_names, HasInherited}
 use Rattle.cil_check.specs.Missing.{rule_class, class_lead, lacking_words}
 use Rattle.cil_check.specs.Permissions.{is_listed, HaveListed}
 use Rattle.cil_check.specs.declared.bound.Seen.{Seen}
@@ -30,19 +32,36 @@ use Rattle.cil_check.proofs.WordLemmas.{Led, led-at}
 
 -- the permissions of a class are its own, and those that the commons noted for it list
 pub all-permissions : (policy : List Placed) (noted : List ℕ × List (List ℕ)) (i : ℕ) (s : Placed) → HasInherited policy noted → slice_get policy i ≡ Some s → IsFirstOf classes policy i
-    → permissions_of policy s ≡ texts (own_permissions s.form) ++ names_listed policy (commons_at noted i)
+    → permissions_of policy s ≡ texts (own_permissions s.form) ++ names_listed policy (list_at noted i)
 all-permissions policy noted i s has at first = ap (λ l. texts (own_permissions s.form) ++ l) (sym (has.listed i s at first))
 
 -- a class without a permission of its own has it by a common
 pub has-inherited : (policy : List Placed) (noted : List ℕ × List (List ℕ)) (i : ℕ) (s : Placed) (name : List ℕ) → HasInherited policy noted → slice_get policy i ≡ Some s → IsFirstOf classes policy i
-    → has_name (texts (own_permissions s.form)) name ≡ false → has_name (permissions_of policy s) name ≡ has_name (names_listed policy (drop 0 (commons_at noted i))) name
+    → has_name (texts (own_permissions s.form)) name ≡ false → has_name (permissions_of policy s) name ≡ has_name (names_listed policy (drop 0 (list_at noted i))) name
 has-inherited policy noted i s name has at first none =
-    ap (λ l. has_name l name) (all-permissions policy noted i s has at first) ∙ list_any-append (bytes_eq name) (texts (own_permissions s.form)) (names_listed policy (commons_at noted i))
-    ∙ ap (λ b. b || has_name (names_listed policy (commons_at noted i)) name) none
+    ap (λ l. has_name l name) (all-permissions policy noted i s has at first) ∙ list_any-append (bytes_eq name) (texts (own_permissions s.form)) (names_listed policy (list_at noted i))
+    ∙ ap (λ b. b || has_name (names_listed policy (list_at noted i)) name) none
 
 pub has-own : (policy : List Placed) (s : Placed) (name : List ℕ) → has_name (texts (own_permissions s.form)) name ≡ true → has_name (permissions_of policy s) name ≡ true
 has-own policy s name is =
     list_any-append (bytes_eq name) (texts (own_permissions s.form)) (flat_map (given_names policy s) policy) ∙ ap (λ b. b || has_name (flat_map (given_names policy s) policy) name) is
+
+-- a common at some index lists it
+has-at : (policy : List Placed) (places : List ℕ) (i m : ℕ) (name : List ℕ) → slice_get places i ≡ Some m → has_name (listed_by (slice_get policy m)) name ≡ true → has_name (names_listed policy places) name ≡ true
+has-at policy [] i m name at has = absurd (none-some m at)
+has-at policy (p ∷ places) zero m name at has =
+    list_any-append (bytes_eq name) (listed_by (slice_get policy p)) (names_listed policy places)
+    ∙ ap (λ b. b || has_name (names_listed policy places) name) (ap (λ k. has_name (listed_by (slice_get policy k)) name) (same_Some p m at) ∙ has)
+has-at policy (p ∷ places) (suc i) m name at has =
+    list_any-append (bytes_eq name) (listed_by (slice_get policy p)) (names_listed policy places)
+    ∙ ap (λ b. has_name (listed_by (slice_get policy p)) name || b) (has-at policy places i m name at has) ∙ or-true (has_name (listed_by (slice_get policy p)) name)
+
+-- a class has what the common at some index lists
+has-witness : (policy : List Placed) (noted : List ℕ × List (List ℕ)) (i : ℕ) (s : Placed) (at m : ℕ) (name : List ℕ) → HasInherited policy noted → slice_get policy i ≡ Some s → IsFirstOf classes policy i
+    → slice_get (list_at noted i) at ≡ Some m → has_name (listed_by (slice_get policy m)) name ≡ true → has_name (permissions_of policy s) name ≡ true
+has-witness policy noted i s at m name has is first there lists =
+    ap (λ l. has_name l name) (all-permissions policy noted i s has is first) ∙ list_any-append (bytes_eq name) (texts (own_permissions s.form)) (names_listed policy (list_at noted i))
+    ∙ ap (λ b. has_name (texts (own_permissions s.form)) name || b) (has-at policy (list_at noted i) at m name there lists) ∙ or-true (has_name (texts (own_permissions s.form)) name)
 
 -- the common at an index, and those behind
 pub has-listed-at : (policy : List Placed) (places : List ℕ) (i m : ℕ) (name : List ℕ) → slice_get places i ≡ Some m
@@ -59,10 +78,18 @@ common-has names policy keys m n have within less =
     let (u, at) = there-at policy m within in
     have m u at n less ∙ ap (λ o. has_name (listed_by o) (word_at names n)) (sym at)
 
+-- a class has what the common at an index is seen to list
+pub has-seen : (names : List (List ℕ)) (policy : List Placed) (noted : List ℕ × List (List ℕ)) (keys : List Listed) (owner n i m : ℕ) (s : Placed) → HasInherited policy noted → HaveListed names policy keys
+    → slice_get policy owner ≡ Some s → IsFirstOf classes policy owner → n < length names → slice_get (list_at noted owner) i ≡ Some m → list_any (is_listed m n) keys ≡ true
+    → has_name (permissions_of policy s) (word_at names n) ≡ true
+has-seen names policy noted keys owner n i m s has have is first less there told =
+    has-witness policy noted owner s i m (word_at names n) has is first there
+    (sym (common-has names policy keys m n have (all-at (λ k. k < length policy) (list_at noted owner) i m (has.within owner) there) less) ∙ told)
+
 -- one common more that is looked at
 pub has-step : (names : List (List ℕ)) (policy : List Placed) (noted : List ℕ × List (List ℕ)) (keys : List Listed) (items : List ℕ) (owner n i : ℕ) (found : Bool) → HasInherited policy noted → HaveListed names policy keys
-    → items ≡ commons_at noted owner → i < length items → n < length names → found ≡ list_any (is_listed (get_or items i 0) n) keys
-    → has_name (names_listed policy (drop i (commons_at noted owner))) (word_at names n) ≡ (found || has_name (names_listed policy (drop (i + 1) (commons_at noted owner))) (word_at names n))
+    → items ≡ list_at noted owner → i < length items → n < length names → found ≡ list_any (is_listed (get_or items i 0) n) keys
+    → has_name (names_listed policy (drop i (list_at noted owner))) (word_at names n) ≡ (found || has_name (names_listed policy (drop (i + 1) (list_at noted owner))) (word_at names n))
 has-step names policy noted keys items owner n i found has have is within less told =
     ap (λ l. has_name (names_listed policy (drop i l)) name) (sym is) ∙ has-listed-at policy items i m name at
     ∙ ap (λ b. b || has_name (names_listed policy (drop (i + 1) items)) name) (sym (told ∙ common-has names policy keys m n have there less))
@@ -78,7 +105,7 @@ has-step names policy noted keys items owner n i found has have is within less t
     at = slice_get-get_or items i 0 within
 
     there : m < length policy
-    there = all-at (λ k. k < length policy) (commons_at noted owner) i m (has.within owner) (ap (λ l. slice_get l i) (sym is) ∙ at)
+    there = all-at (λ k. k < length policy) (list_at noted owner) i m (has.within owner) (ap (λ l. slice_get l i) (sym is) ∙ at)
 
 -- the permissions that a rule names are all that it lists
 named-of : (form : Form) (word : Word) → rule_class form ≡ Some word → named_permissions form ≡ map (λ w. (word, w)) (permissions_in form)

@@ -3,7 +3,7 @@ use Rattle.std.proofs.Common.{◌≡◌, ℕ, ◌+◌, zero, suc, Bool, true, fa
 use Rattle.std.specs.List.{find, list_any, slice_get, AllByRecursion}
 use Rattle.std.specs.Option.{option_or}
 use Rattle.std.proofs.lemmas.Option.{none-some, same_Some}
-pub use Rattle.cil_bind.proofs.PositionLemmas.{at_if, is_before, position-cons, position-append, any-before, take-next, take-length, any-position}
+use Rattle.cil_bind.proofs.PositionLemmas.{at_if, position-cons, position-append, take-next, take-length}
 
 -- tests that pass alike
 pub position-same : {X : Type 0} (p q : X → Bool) → ((x : X) → p x ≡ q x) → (xs : List X) → position p xs ≡ position q xs

@@ -16,10 +16,12 @@ use Rattle.cil_parse.specs.Lexicon.{AreNumbersOf}
 use Rattle.cil_parse.specs.declared.row.StatementKind.TheVariants as kinds
 use Rattle.cil_bind.specs.Lookup.{IsFirstOf}
 use Rattle.cil_check.specs.Few.{with_number}
-use Rattle.cil_check.specs.Inherited.{commons_at, names_listed, HasInherited}
+use Rattle.cil_check.specs.Groups.{list_at}
+use Rattle.cil_check.specs.Inherited.{names_listed, HasInherited}
 use Rattle.cil_check.specs.Kinds.{word_if}
 use Rattle.cil_check.specs.Permissions.{HaveWords}
-use Rattle.cil_check.proofs.PositionLemmas.{all-at, take-next}
+use Rattle.cil_bind.proofs.PositionLemmas.{take-next}
+use Rattle.cil_check.proofs.PositionLemmas.{all-at}
 use Rattle.cil_check.proofs.SeenLemmas.{there-at}
 use Rattle.cil_check.proofs.PermissionLemmas.{words-at}
 use Rattle.cil_check.proofs.MissingLemmas.{all-permissions}
@@ -34,11 +36,11 @@ count-own names policy lists i s few alone have at is =
     ∙ ap (λ l. map Some (take 33 l)) (fold-distinct [] own)
 
 -- the place of a common that is noted
-pub common-there : (policy : List Placed) (noted : List ℕ × List (List ℕ)) (items : List ℕ) (owner i : ℕ) → HasInherited policy noted → items ≡ commons_at noted owner → i < length items
+pub common-there : (policy : List Placed) (noted : List ℕ × List (List ℕ)) (items : List ℕ) (owner i : ℕ) → HasInherited policy noted → items ≡ list_at noted owner → i < length items
     → (u : Placed) × (slice_get policy (get_or items i 0) ≡ Some u)
 common-there policy noted items owner i has is within =
     there-at policy (get_or items i 0)
-    (all-at (λ k. k < length policy) (commons_at noted owner) i (get_or items i 0) (has.within owner) (ap (λ l. slice_get l i) (sym is) ∙ slice_get-get_or items i 0 within))
+    (all-at (λ k. k < length policy) (list_at noted owner) i (get_or items i 0) (has.within owner) (ap (λ l. slice_get l i) (sym is) ∙ slice_get-get_or items i 0 within))
 
 -- and those of one common more
 pub count-next : (names : List (List ℕ)) (policy : List Placed) (lists : List (List ℕ)) (items : List ℕ) (i : ℕ) (u : Placed) (first : List (List ℕ)) (old new : List ℕ) → IsDistinct bytes_eq names
@@ -64,12 +66,12 @@ count-next names policy lists items i u first old new alone have within at is so
 
 -- all of them are
 pub count-end : (names : List (List ℕ)) (policy : List Placed) (noted : List ℕ × List (List ℕ)) (i k : ℕ) (s : Placed) (few : List ℕ) → HasInherited policy noted → slice_get policy i ≡ Some s → IsFirstOf classes policy i
-    → length (commons_at noted i) ≤ k → AreNumbersOf names few (take 33 (fold with_name (distinct (texts (own_permissions s.form))) (names_listed policy (take k (commons_at noted i)))))
+    → length (list_at noted i) ≤ k → AreNumbersOf names few (take 33 (fold with_name (distinct (texts (own_permissions s.form))) (names_listed policy (take k (list_at noted i)))))
     → nat_lt 32 (length few) ≡ has_too_many policy s
 count-end names policy noted i k s few has at first past counted =
-    over-same names few (fold with_name (distinct own) (names_listed policy (take k (commons_at noted i)))) counted
-    ∙ ap (λ l. nat_lt 32 (length (fold with_name (distinct own) (names_listed policy l)))) (take_all k (commons_at noted i) past)
-    ∙ ap (λ l. nat_lt 32 (length l)) (sym (fold-append with_name [] own (names_listed policy (commons_at noted i))))
+    over-same names few (fold with_name (distinct own) (names_listed policy (take k (list_at noted i)))) counted
+    ∙ ap (λ l. nat_lt 32 (length (fold with_name (distinct own) (names_listed policy l)))) (take_all k (list_at noted i) past)
+    ∙ ap (λ l. nat_lt 32 (length l)) (sym (fold-append with_name [] own (names_listed policy (list_at noted i))))
     ∙ ap (λ l. nat_lt 32 (length (distinct l))) (sym (all-permissions policy noted i s has at first))
   where
     own : List (List ℕ)

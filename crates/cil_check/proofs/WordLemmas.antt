@@ -16,13 +16,13 @@ use Rattle.cil_specs.proofs.Runs.{both_true}
 use Rattle.cil_specs.proofs.NamesLemmas.{contains-first}
 use Rattle.cil_bind.specs.Lookup.{IsFirstOf}
 use Rattle.cil_bind.specs.Lookup.{IsLead}
-use Rattle.cil_check.specs.Gifts.{first_at, gift_table, given_word, given_lead, gives, HasFirsts}
+use Rattle.cil_check.specs.Associations.{first_at, association_table, given_word, given_lead, gives, HasFirsts}
 use Rattle.cil_check.specs.Kinds.{word_if, again_words}
-use Rattle.cil_check.specs.declared.firsts.Gift.{Gift}
-use Rattle.cil_check.specs.declared.firsts.Gift.TheVariants as gift
-use Rattle.cil_check.proofs.PositionLemmas.{at_if, position-next, any-position, position-more, is_before, any-before, any-same, find-position}
-use Rattle.cil_check.proofs.FirstsLemmas.{same_bytes}
-use Rattle.cil_bind.proofs.PositionLemmas.{around-at}
+use Rattle.cil_check.specs.declared.firsts.Association.{Association}
+use Rattle.cil_check.specs.declared.firsts.Association.TheVariants as association
+use Rattle.cil_bind.proofs.NamespaceLemmas.{bytes_eq-true}
+use Rattle.cil_bind.proofs.PositionLemmas.{around-at, at_if, any-position, is_before, any-before}
+use Rattle.cil_check.proofs.PositionLemmas.{position-next, position-more, any-same, find-position}
 
 -- below the length there is an element
 pub none-there : {X : Type 0} (xs : List X) (n : ℕ) → slice_get xs n ≡ None → n < length xs → ⊥
@@ -71,7 +71,7 @@ has-with names name n = by (has_name names n) refl
     last l = list_any-append (bytes_eq name) l (n ∷ []) ∙ ap (λ b. list_any (bytes_eq name) l || b) (or-false (bytes_eq name n))
 
     there : (b : Bool) → bytes_eq name n ≡ b → has_name names n ≡ true → has_name names name ≡ (has_name names name || b)
-    there true e has = let same : name ≡ n = same_bytes name n e in
+    there true e has = let same : name ≡ n = bytes_eq-true name n e in
         let here : has_name names name ≡ true = ap (has_name names) same ∙ has in
         here ∙ ap (λ b. b || true) (sym here)
     there false e has = sym (or-false (has_name names name))
@@ -96,8 +96,8 @@ find-same : {X : Type 0} (p q : X → Bool) → ((x : X) → p x ≡ q x) → (x
 find-same p q same [] = refl
 find-same p q same (x ∷ xs) = ap (λ b. cond b (Some x) (find p xs)) (same x) ∙ ap (λ o. cond (q x) (Some x) o) (find-same p q same xs)
 
-abbrev pub again_if : Gift → List Placed → List Placed → Placed → Word → Option Word
-again_if g policy before t w = word_if (holds_of (λ s. list_any (gives g policy s) before) (leads policy (gift_table g) t.namespace w.text)) w
+abbrev pub again_if : Association → List Placed → List Placed → Placed → Word → Option Word
+again_if g policy before t w = word_if (holds_of (λ s. list_any (gives g policy s) before) (leads policy (association_table g) t.namespace w.text)) w
 
 filter-one : (p : Word → Bool) (w : Word) → slice_get (filter p (w ∷ [])) 0 ≡ word_if (p w) w
 filter-one p w = by (p w)
@@ -106,70 +106,70 @@ filter-one p w = by (p w)
     by true = refl
     by false = refl
 
-pub again-word : (g : Gift) (policy before : List Placed) (t : Placed) → slice_get (again_words g policy before t) 0 ≡ option_and_then (again_if g policy before t) (given_word g t.form)
+pub again-word : (g : Association) (policy before : List Placed) (t : Placed) → slice_get (again_words g policy before t) 0 ≡ option_and_then (again_if g policy before t) (given_word g t.form)
 again-word g policy before t = by g t.form
   where
-    by : (g : Gift) (form : Form) → slice_get (again_words g policy before (record { module_name = t.module_name; at = t.at; form = form; namespace = t.namespace; optionals = t.optionals })) 0
+    by : (g : Association) (form : Form) → slice_get (again_words g policy before (record { module_name = t.module_name; at = t.at; form = form; namespace = t.namespace; optionals = t.optionals })) 0
         ≡ option_and_then (again_if g policy before t) (given_word g form)
-    by gift.Actual (block id) = refl
-    by gift.Actual (optional id) = refl
-    by gift.Actual (type_name id) = refl
-    by gift.Actual (type_alias id) = refl
-    by gift.Actual (alias_actual alias actual) =
+    by association.Actual (block id) = refl
+    by association.Actual (optional id) = refl
+    by association.Actual (type_name id) = refl
+    by association.Actual (type_alias id) = refl
+    by association.Actual (alias_actual alias actual) =
         filter-one (has_earlier_actual policy before t.namespace) alias
-    by gift.Actual (type_attribute id) = refl
-    by gift.Actual (attribute_set attribute expr) = refl
-    by gift.Actual (common id permissions) = refl
-    by gift.Actual (class id permissions) = refl
-    by gift.Actual (class_common the_class the_common) = refl
-    by gift.Actual (class_order the_classes) = refl
-    by gift.Actual (rule kind source target the_class permissions) = refl
-    by gift.Common (block id) = refl
-    by gift.Common (optional id) = refl
-    by gift.Common (type_name id) = refl
-    by gift.Common (type_alias id) = refl
-    by gift.Common (alias_actual alias actual) = refl
-    by gift.Common (type_attribute id) = refl
-    by gift.Common (attribute_set attribute expr) = refl
-    by gift.Common (common id permissions) = refl
-    by gift.Common (class id permissions) = refl
-    by gift.Common (class_common the_class the_common) =
+    by association.Actual (type_attribute id) = refl
+    by association.Actual (attribute_set attribute expr) = refl
+    by association.Actual (common id permissions) = refl
+    by association.Actual (class id permissions) = refl
+    by association.Actual (class_common the_class the_common) = refl
+    by association.Actual (class_order the_classes) = refl
+    by association.Actual (rule kind source target the_class permissions) = refl
+    by association.Common (block id) = refl
+    by association.Common (optional id) = refl
+    by association.Common (type_name id) = refl
+    by association.Common (type_alias id) = refl
+    by association.Common (alias_actual alias actual) = refl
+    by association.Common (type_attribute id) = refl
+    by association.Common (attribute_set attribute expr) = refl
+    by association.Common (common id permissions) = refl
+    by association.Common (class id permissions) = refl
+    by association.Common (class_common the_class the_common) =
         filter-one (has_earlier_common policy before t.namespace) the_class
-    by gift.Common (class_order the_classes) = refl
-    by gift.Common (rule kind source target the_class permissions) = refl
+    by association.Common (class_order the_classes) = refl
+    by association.Common (rule kind source target the_class permissions) = refl
 
 -- the noted place tells whether an earlier statement gives something
-pub again-noted : (g : Gift) (policy : List Placed) (place : ℕ) (t : Placed) (word : Word) (firsts : List (ℕ × ℕ)) (found : Option ℕ) → HasFirsts g policy firsts → Some word ≡ given_word g t.form
-    → IsLead (gift_table g) policy found (given_lead g policy t)
+pub again-noted : (g : Association) (policy : List Placed) (place : ℕ) (t : Placed) (word : Word) (firsts : List (ℕ × ℕ)) (found : Option ℕ) → HasFirsts g policy firsts → Some word ≡ given_word g t.form
+    → IsLead (association_table g) policy found (given_lead g policy t)
     → slice_get (again_words g policy (take place policy) t) 0 ≡ word_if (is_before (option_and_then (first_at firsts) found) place) word
 again-noted g policy place t word firsts found has is led =
     again-word g policy (take place policy) t ∙ ap (option_and_then (again_if g policy (take place policy) t)) (sym is)
-    ∙ ap (λ o. word_if (holds_of given o) word) (ap (option_and_then (λ w. leads policy (gift_table g) t.namespace w.text)) is) ∙ by found led
+    ∙ ap (λ o. word_if (holds_of given o) word) (ap (option_and_then (λ w. leads policy (association_table g) t.namespace w.text)) is) ∙ by found led
   where
     given : Placed → Bool
     given s = list_any (gives g policy s) (take place policy)
 
-    at : (k : ℕ) → Led (gift_table g) policy k (given_lead g policy t) → word_if (holds_of given (given_lead g policy t)) word ≡ word_if (is_before (first_at firsts k) place) word
+    at : (k : ℕ) → Led (association_table g) policy k (given_lead g policy t) → word_if (holds_of given (given_lead g policy t)) word ≡ word_if (is_before (first_at firsts k) place) word
     at k lead =
         ap (λ o. word_if (holds_of given o) word) lead.is ∙ ap (λ b. word_if b word) (any-before (gives g policy lead.s) place policy)
         ∙ ap (λ o. word_if (is_before o place) word) (sym (has k lead.s lead.at lead.first))
 
-    by : (found : Option ℕ) → IsLead (gift_table g) policy found (given_lead g policy t)
+    by : (found : Option ℕ) → IsLead (association_table g) policy found (given_lead g policy t)
         → word_if (holds_of given (given_lead g policy t)) word ≡ word_if (is_before (option_and_then (first_at firsts) found) place) word
     by None led = ap (λ o. word_if (holds_of given o) word) (sym led.is)
-    by (Some k) led = at k (led-at (gift_table g) policy k (given_lead g policy t) led)
+    by (Some k) led = at k (led-at (association_table g) policy k (given_lead g policy t) led)
 
 -- an alias that a word leads to is unset where no place is noted
 pub unset-noted : (policy : List Placed) (namespace : List (List ℕ)) (word : Word) (firsts : List (ℕ × ℕ)) (place : ℕ) (lead : Led types policy place (leads policy types namespace word.text))
-    → HasFirsts gift.Actual policy firsts → is_unset policy namespace word ≡ (is_alias lead.s.form && not (is_some (first_at firsts place)))
+    → HasFirsts association.Actual policy firsts → is_unset policy namespace word ≡ (is_alias lead.s.form && not (is_some (first_at firsts place)))
 unset-noted policy namespace word firsts place lead has =
     ap (holds_of (λ s. is_alias s.form && not (is_some (actual_statement policy s)))) lead.is
     ∙ ap (λ b. is_alias lead.s.form && not b)
-    (ap is_some (find-same (λ t. gives_actual policy lead.s t.namespace t.form) (gives gift.Actual policy lead.s) (λ t. refl) policy)
-    ∙ find-position (gives gift.Actual policy lead.s) policy ∙ ap is_some (sym (has place lead.s lead.at lead.first)))
+    (ap is_some (find-same (λ t. gives_actual policy lead.s t.namespace t.form) (gives association.Actual policy lead.s) (λ t. refl) policy)
+    ∙ find-position (gives association.Actual policy lead.s) policy ∙ ap is_some (sym (has place lead.s lead.at lead.first)))
 
 pub unset-first : (policy : List Placed) (namespace : List (List ℕ)) (word : Word) (firsts : List (ℕ × ℕ)) (place : ℕ) (alias : Bool)
-    → IsLead types policy (Some place) (leads policy types namespace word.text) → HasFirsts gift.Actual policy firsts
+    → IsLead types policy (Some place) (leads policy types namespace word.text) → HasFirsts association.Actual policy firsts
     → ((s : Placed) → slice_get policy place ≡ Some s → alias ≡ is_alias s.form)
     → word_if (is_unset policy namespace word) word ≡ word_if (alias && not (is_some (first_at firsts place))) word
 unset-first policy namespace word firsts place alias led has is =

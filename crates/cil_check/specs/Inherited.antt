@@ -1,21 +1,13 @@
 -- The commons that statements give to classes.
-use Rattle.std.specs.Prelude.{◌≡◌, ℕ, ◌<◌, ◌==◌, List, [], flat_map, length, Option, Some, None, slice_get, if◌then◌else◌}
-use Rattle.std.specs.List.{position, AllByRecursion}
+use Rattle.std.specs.Prelude.{◌≡◌, ℕ, ◌<◌, List, [], flat_map, length, Option, Some, None, slice_get, if◌then◌else◌}
+use Rattle.std.specs.List.{AllByRecursion}
 use Rattle.std.specs.Option.{option_and_then}
 use Rattle.cil_specs.specs.Names.{Word}
 use Rattle.cil_specs.specs.Statements.{Form, class_common}
 use Rattle.cil_specs.specs.Joined.{Placed}
 use Rattle.cil_specs.specs.Lookup.{classes, commons, leads, listed_by, gives_common, common_permissions}
 use Rattle.cil_bind.specs.Lookup.{IsFirstOf}
-
--- a list, if there is one
-abbrev pub places_in : Option (List ℕ) → List ℕ
-places_in None = []
-places_in (Some places) = places
-
--- The places of the commons that are noted for the class of a place: the list of its number, by the places of classes and their lists.
-abbrev pub commons_at : List ℕ × List (List ℕ) → ℕ → List ℕ
-commons_at noted k = places_in (option_and_then (slice_get noted.1) (position (λ key. k == key) noted.0))
+use Rattle.cil_check.specs.Groups.{list_at}
 
 -- the permissions that commons at these places list
 abbrev pub names_listed : List Placed → List ℕ → List (List ℕ)
@@ -27,8 +19,8 @@ given_names policy s t = if gives_common policy s t.namespace t.form then common
 
 -- All that is noted are places of the policy, and for each class they list what some of its statements give it by commons.
 pub record HasInheritedOf (policy statements : List Placed) (noted : List ℕ × List (List ℕ)) : Type 0 where
-  pub within : (k : ℕ) → AllByRecursion (λ m. m < length policy) (commons_at noted k)
-  pub listed : (i : ℕ) (s : Placed) → slice_get policy i ≡ Some s → IsFirstOf classes policy i → names_listed policy (commons_at noted i) ≡ flat_map (given_names policy s) statements
+  pub within : (k : ℕ) → AllByRecursion (λ m. m < length policy) (list_at noted k)
+  pub listed : (i : ℕ) (s : Placed) → slice_get policy i ≡ Some s → IsFirstOf classes policy i → names_listed policy (list_at noted i) ≡ flat_map (given_names policy s) statements
 
 -- the same of all its statements
 abbrev pub HasInherited : List Placed → List ℕ × List (List ℕ) → Type 0

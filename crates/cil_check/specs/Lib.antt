@@ -3,6 +3,7 @@ pub mod Gifts
 pub mod Image
 pub mod Kinds
 pub mod Bound
+pub mod Groups
 pub mod Inherited
 pub mod Few
 pub mod Missing

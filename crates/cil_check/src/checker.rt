@@ -22,9 +22,11 @@ ghost use Rattle.cil_check.specs.Kinds.{test_of, word_if, again_words};
 use crate::bound::{BoundPolicy, Seen};
 use crate::fault::{PolicyFault, PolicyFaultKind};
 use crate::firsts::{Firsts, Gift};
-use crate::inherited::Inherited;
+use crate::groups::Groups;
+use crate::inherited::given_commons;
 use crate::kinds::Kind;
 use crate::permissions::Permissions;
+use crate::witnesses::Witnesses;
 use cil_parse::{NumberedWord, StatementKind};
 use std::alloc::{AllocError, Allocator, Global};
 
@@ -38,15 +40,16 @@ const CHECKED: [PolicyFaultKind; 6] = [
     PolicyFaultKind::TooManyPermissions,
 ];
 
-/// A bound policy, the first statements that give an actual type or a common, the permissions that classes and commons list, and all commons
-/// that classes are given.
+/// A bound policy, the first statements that give an actual type or a common, the permissions that classes and commons list, all commons
+/// that classes are given, and where among these a permission is to be looked for first.
 #[derive(Drop)]
 pub struct Checker<'p, 'm, A: Allocator = Global> {
     pub bound: BoundPolicy<'p, 'm, A>,
     pub actuals: Firsts<A>,
     pub commons: Firsts<A>,
     pub permissions: Permissions<A>,
-    pub inherited: Inherited<A>,
+    pub inherited: Groups<A>,
+    pub witnesses: Witnesses<A>,
 }
 
 impl<'p, 'm, A: Allocator + Copy> Checker<'p, 'm, A> {
@@ -62,13 +65,15 @@ impl<'p, 'm, A: Allocator + Copy> Checker<'p, 'm, A> {
         let actuals = Firsts::of(alloc, &bound, Gift::Actual)?;
         let commons = Firsts::of(alloc, &bound, Gift::Common)?;
         let permissions = Permissions::of(alloc, &bound)?;
-        let inherited = Inherited::of(alloc, &bound)?;
+        let inherited = given_commons(alloc, &bound)?;
+        let witnesses = Witnesses::of(alloc, &bound, &permissions, &inherited)?;
         Ok(Checker {
             bound,
             actuals,
             commons,
             permissions,
             inherited,
+            witnesses,
         })
     }
 }

@@ -1,6 +1,6 @@
 //! Names that lead to nothing, and permissions that their classes lack.
 
-ghost use Rattle.std.specs.Prelude.{◌≡◌, ◌<◌, List, ℕ, Contains, Some, length, slice_get};
+ghost use Rattle.std.specs.Prelude.{◌≡◌, ◌<◌, List, ℕ, true, Contains, Some, length, slice_get};
 ghost use Rattle.cil_specs.specs.Joined.{Placed};
 ghost use Rattle.cil_specs.specs.Lookup.{classes, references, has_name, permissions_of};
 ghost use Rattle.cil_specs.specs.PolicyFault.{missing_words};
@@ -17,7 +17,7 @@ use cil_parse::{NumberedWord, StatementKind};
 use std::alloc::Allocator;
 
 /// The place that the class of a rule leads to.
-fn class_lead<A: Allocator>(seen: &Seen<'_, '_, A>) -> Option<u32>
+pub fn class_lead<A: Allocator>(seen: &Seen<'_, '_, A>) -> Option<u32>
     ensures { (policy : List Placed) (s : Placed) → IsSeen seen.now policy s → IsLead classes policy result (class_lead policy s) }
 {
     match seen.view.kind {
@@ -41,12 +41,30 @@ impl<'p, 'm, A: Allocator> Checker<'p, 'm, A> {
         None
     }
 
-    /// Whether the class of a place has a permission, of its own or by a common that a statement gives it.
+    /// Whether the witness for a permission of the class of a place is a common that lists it.
+    fn is_witnessed(&self, class: u32, word: u32) -> bool
+        ensures { (policy : List Placed) (s : Placed) → IsNoted self.now policy → slice_get policy class ≡ Some s → IsFirstOf classes policy class → word < length self.now.bound.policy.now.names
+            → result ≡ true → has_name (permissions_of policy s) (word_at self.now.bound.policy.now.names word) ≡ true }
+    {
+        let Some(at) = self.witnesses.get(class, word) else {
+            return false;
+        };
+        let Some(common) = self.inherited.item(class, at) else {
+            return false;
+        };
+        self.permissions.has(common, word)
+    }
+
+    /// Whether the class of a place has a permission, of its own or by a common that a statement gives it. All commons are gone over only
+    /// where no witness is found: once in a check, which ends at the first permission that is lacking.
     pub fn has_permission(&self, class: u32, word: u32) -> bool
         ensures { (policy : List Placed) (s : Placed) → IsNoted self.now policy → slice_get policy class ≡ Some s → IsFirstOf classes policy class → word < length self.now.bound.policy.now.names
             → result ≡ has_name (permissions_of policy s) (word_at self.now.bound.policy.now.names word) }
     {
         if self.permissions.has(class, word) {
+            return true;
+        }
+        if self.is_witnessed(class, word) {
             return true;
         }
         for common in self.inherited.get(class) {

@@ -22,7 +22,7 @@ use Rattle.cil_check.specs.Gifts.{first_at, gives, HasFirsts}
 use Rattle.cil_check.specs.Ordered.{IsFaultless}
 use Rattle.cil_check.specs.declared.firsts.Gift.TheVariants.{Actual, Common}
 use Rattle.cil_check.proofs.FirstsLemmas.{first-itself}
-use Rattle.cil_check.proofs.PositionLemmas.{position-cons}
+use Rattle.cil_bind.proofs.PositionLemmas.{position-cons}
 use Rattle.cil_resolve.specs.FullNames.{numbered_id, is_numbered, full_name_or, full_name_of}
 use Rattle.cil_resolve.specs.Lowering.{IsElement, HaveElements, is_set}
 use Rattle.cil_resolve.specs.Numbering.{number_in, HavePlaces}

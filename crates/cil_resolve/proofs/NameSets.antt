@@ -9,7 +9,7 @@ use Rattle.indexmap.specs.IndexSet.{insert_key}
 use Rattle.cil_specs.specs.Report.{names_rise}
 use Rattle.cil_specs.specs.Lookup.{has_name, with_name}
 use Rattle.cil_bind.proofs.JoinLemmas.{names_rise-by}
-use Rattle.cil_check.proofs.PositionLemmas.{position-cons}
+use Rattle.cil_bind.proofs.PositionLemmas.{position-cons}
 use Rattle.cil_resolve.specs.Numbering.{number_in}
 
 abbrev pub Name : Type 0

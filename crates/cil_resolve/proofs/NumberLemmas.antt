@@ -4,7 +4,7 @@ use Rattle.std.specs.List.{list_all, list_any, AllByRecursion, IsDistinct}
 use Rattle.std.proofs.Math.Bool.{or-false, or-true}
 use Rattle.std.proofs.lemmas.Bool.{cases_order}
 use Rattle.std.proofs.lemmas.List.{get_or_append_left, get_or_push, get_or-set_same, get_or-set_other}
-use Rattle.cil_bind.proofs.NamespaceLemmas.{distinct-place}
+use Rattle.cil_bind.proofs.NamespaceLemmas.{bytes_eq-refl, bytes_eq-true, distinct-place}
 use Rattle.std.proofs.lemmas.Bool.{lt-ltb}
 use Rattle.std.proofs.lemmas.Option.{none-some, same_Some, slice_get_within, get_or_from_slice_get}
 use Rattle.std.proofs.lemmas.List.Folds.{list_any-append}
@@ -17,7 +17,6 @@ use Rattle.cil_specs.specs.Joined.{Placed}
 use Rattle.cil_specs.specs.Lookup.{has_name, with_name, distinct, texts, own_permissions}
 use Rattle.cil_specs.proofs.Runs.{both_true, first_true, second_true}
 use Rattle.cil_specs.proofs.NamesLemmas.{around}
-use Rattle.cil_check.proofs.FirstsLemmas.{same_bytes}
 use Rattle.cil_check.proofs.WordLemmas.{has-distinct}
 use Rattle.cil_resolve.specs.FullNames.{is_numbered, full_name_of}
 use Rattle.cil_resolve.specs.Numbering.{names_with, names_of, AreNamesOf, listed_names, number_in, AreNumbersIn, HavePermissionsOf}
@@ -26,7 +25,7 @@ use Rattle.cil_resolve.proofs.StatementLemmas.{map-one}
 
 -- the name of a number
 pub number-is : (names : List (List ℕ)) (name : List ℕ) (n : ℕ) → number_in names name ≡ Some n → (n < length names) × (get_or names n [] ≡ name)
-number-is names name n is = let at = position-Some (bytes_eq name) names n [] is in (at.0, sym (same_bytes name (get_or names n []) at.1))
+number-is names name n is = let at = position-Some (bytes_eq name) names n [] is in (at.0, sym (bytes_eq-true name (get_or names n []) at.1))
 
 -- the names of numbers
 pub numbers-are : (names some : List (List ℕ)) (numbers : List ℕ) → AreNumbersIn names some numbers → map (λ n. get_or names n []) numbers ≡ some
@@ -64,7 +63,7 @@ number-among names (y ∷ some) (k ∷ numbers) x n are is =
     by false false e f here = e ∙ sym f
     by true false e f here =
         absurd (true≢false (sym ((bytes_eq-Decides x y).1 (sym (number-is names x n is).1 ∙ ap (λ m. get_or names m []) (sym (eqb-true k n e)) ∙ (number-is names y k here).1)) ∙ f))
-    by false true e f here = absurd (true≢false (sym (eq-eqb k n (sym (same_Some n k (sym is ∙ ap (number_in names) (same_bytes x y f) ∙ here)))) ∙ e))
+    by false true e f here = absurd (true≢false (sym (eq-eqb k n (sym (same_Some n k (sym is ∙ ap (number_in names) (bytes_eq-true x y f) ∙ here)))) ∙ e))
 
 -- with one more
 pub numbers-push : (names some : List (List ℕ)) (numbers : List ℕ) (x : List ℕ) (n : ℕ) → AreNumbersIn names some numbers → number_in names x ≡ Some n → AreNumbersIn names (some ++ x ∷ []) (numbers ++ n ∷ [])
@@ -94,9 +93,6 @@ names-sorted policy names sorted is same name = same name ∙ ap (λ l. has_name
 -- a name of one of the statements
 pub named-in : (f : Placed → List (List ℕ)) (policy : List Placed) (s : Placed) (name : List ℕ) → Contains policy s → has_name (f s) name ≡ true → has_name (flat_map f policy) name ≡ true
 named-in f policy s name there has = any-of-flat (bytes_eq name) f policy s there has
-
-bytes_eq-refl : (xs : List ℕ) → bytes_eq xs xs ≡ true
-bytes_eq-refl xs = (bytes_eq-Decides xs xs).1 refl
 
 -- the full name that a statement brings
 pub full-named : (s : Placed) → is_numbered s.form ≡ true → has_name (names_with s) (full_name_of s) ≡ true
@@ -141,7 +137,7 @@ note-next all names before list i w m v old unique long at here is so_far n name
         before-it : (b : Bool) → bytes_eq name w.text ≡ b → (has_name (before ++ texts (take i list)) name || bytes_eq name w.text) ≡ true → number_in names name ≡ Some (get_or (set old m v) n 0)
         before-it true e any =
             absurd (apart (distinct-place all n m unique (slice_get_within all n name there) (slice_get_within all m w.text here)
-            (get_or_from_slice_get all n name [] there ∙ same_bytes name w.text e ∙ sym (get_or_from_slice_get all m w.text [] here))))
+            (get_or_from_slice_get all n name [] there ∙ bytes_eq-true name w.text e ∙ sym (get_or_from_slice_get all m w.text [] here))))
         before-it false e any =
             so_far n name there (sym (or-false (has_name (before ++ texts (take i list)) name)) ∙ ap (λ b. has_name (before ++ texts (take i list)) name || b) (sym e) ∙ any)
             ∙ ap Some (sym (get_or-set_other old m n v 0 apart))

@@ -2,14 +2,9 @@ use Rattle.std.proofs.Common.{◌≡◌, ◌∙◌, sym, ap, fold, take, arith}
 use Rattle.std.proofs.lemmas.List.{take_all}
 use Rattle.cil_specs.specs.Lookup.{with_name, texts}
 use Rattle.cil_parse.specs.Parsed.{texts_of}
-use Rattle.cil_parse.specs.declared.row.NumberedWord.{NumberedWord}
-use Rattle.cil_check.proofs.PermissionLemmas.{word-read, as-many}
+use Rattle.cil_check.proofs.PermissionLemmas.{no_word, word-read, as-many}
 use Rattle.cil_resolve.proofs.NumberLemmas.{words-fold}
 use Rattle.cil_resolve.proofs.numbering.insert_words.Goals as goal
-
--- what is read behind the end of the words
-abbrev no_word : NumberedWord
-no_word = record { at = record { offset = 0; line = 0; column = 0 }; text = 0 }
 
 pub text_of-requires : goal.text_of-requires
 text_of-requires g c =

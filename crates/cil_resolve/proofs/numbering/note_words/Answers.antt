@@ -5,15 +5,10 @@ use Rattle.std.proofs.lemmas.Option.{slice_get_within}
 use Rattle.cil_bind.proofs.FromLemmas.{all-get}
 use Rattle.cil_specs.specs.Lookup.{has_name, texts}
 use Rattle.cil_parse.specs.Parsed.{texts_of}
-use Rattle.cil_parse.specs.declared.row.NumberedWord.{NumberedWord}
-use Rattle.cil_check.proofs.PermissionLemmas.{word-read, as-many, one-name-at}
+use Rattle.cil_check.proofs.PermissionLemmas.{no_word, word-read, as-many, one-name-at}
 use Rattle.cil_resolve.specs.Numbering.{number_in, HavePermissionsOf}
 use Rattle.cil_resolve.proofs.NumberLemmas.{note-next}
 use Rattle.cil_resolve.proofs.numbering.note_words.Goals as goal
-
--- what is read behind the end of the words
-abbrev no_word : NumberedWord
-no_word = record { at = record { offset = 0; line = 0; column = 0 }; text = 0 }
 
 pub number-at-requires : goal.number-at-requires
 number-at-requires g c =

@@ -1,7 +1,8 @@
 use Rattle.std.proofs.Common.{◌≤◌, ◌||◌, ◌+◌, length, drop, subst, sym, ap, ◌∙◌}
 use Rattle.cil_specs.specs.Lookup.{has_name}
 use Rattle.cil_bind.specs.Lookup.{word_at}
-use Rattle.cil_check.specs.Inherited.{commons_at, names_listed}
+use Rattle.cil_check.specs.Groups.{list_at}
+use Rattle.cil_check.specs.Inherited.{names_listed}
 use Rattle.cil_check.proofs.MissingLemmas.{has-own, has-inherited, has-step, has-listed-past}
 use Rattle.cil_check.proofs.checker.Checker.has_permission.Goals as goal
 
@@ -19,7 +20,7 @@ returns-then-has-2 g c policy s noted at first less =
     let checker = c.args.self.now in
     let names = checker.bound.policy.now.names in
     let i = c.loop-common.common-index in
-    let rest = names_listed policy (drop (i + 1) (commons_at checker.inherited c.args.class)) in
+    let rest = names_listed policy (drop (i + 1) (list_at checker.inherited c.args.class)) in
     sym (c.loop-common.invariant policy s noted at first less
     ∙ has-step names policy checker.inherited checker.permissions.listed.keys c.get-common-items.result.now c.args.class c.args.word i c.has-in-loop-common.result noted.inherited noted.listed c.get-common-items.ensures
     c.loop-common-test.true less c.has-in-loop-common.ensures
@@ -30,7 +31,7 @@ loop-common-preserved g c = λ policy s noted at first less.
     let checker = c.args.self.now in
     let names = checker.bound.policy.now.names in
     let i = c.loop-common.common-index in
-    let rest = names_listed policy (drop (i + 1) (commons_at checker.inherited c.args.class)) in
+    let rest = names_listed policy (drop (i + 1) (list_at checker.inherited c.args.class)) in
     c.loop-common.invariant policy s noted at first less
     ∙ has-step names policy checker.inherited checker.permissions.listed.keys c.get-common-items.result.now c.args.class c.args.word i c.has-in-loop-common.result noted.inherited noted.listed c.get-common-items.ensures
     c.loop-common-test.true less c.has-in-loop-common.ensures
@@ -40,5 +41,5 @@ pub returns : goal.returns
 returns g c policy s noted at first less =
     let checker = c.args.self.now in
     let i = c.loop-common.common-index in
-    let past : length (commons_at checker.inherited c.args.class) ≤ i = subst (λ l. length l ≤ i) c.get-common-items.ensures c.loop-common-test.false in
-    sym (c.loop-common.invariant policy s noted at first less ∙ has-listed-past policy (commons_at checker.inherited c.args.class) i (word_at checker.bound.policy.now.names c.args.word) past)
+    let past : length (list_at checker.inherited c.args.class) ≤ i = subst (λ l. length l ≤ i) c.get-common-items.ensures c.loop-common-test.false in
+    sym (c.loop-common.invariant policy s noted at first less ∙ has-listed-past policy (list_at checker.inherited c.args.class) i (word_at checker.bound.policy.now.names c.args.word) past)

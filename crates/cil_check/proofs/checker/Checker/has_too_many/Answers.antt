@@ -1,7 +1,7 @@
 use Rattle.std.proofs.Common.{◌<◌, ◌≤◌, [], length, fold, get_or, refl, ap, ◌∙◌, subst}
 use Rattle.cil_specs.specs.Lookup.{texts, distinct, own_permissions}
 use Rattle.cil_check.specs.Few.{with_number}
-use Rattle.cil_check.specs.Inherited.{commons_at}
+use Rattle.cil_check.specs.Groups.{list_at}
 use Rattle.cil_check.proofs.PermissionLemmas.{words-at}
 use Rattle.cil_check.proofs.TooManyLemmas.{count-own, common-there, count-next, count-end}
 use Rattle.cil_check.proofs.checker.Checker.has_too_many.Goals as goal
@@ -22,7 +22,7 @@ pub loop-common-preserved : goal.loop-common-preserved
 loop-common-preserved g c = λ policy s noted at.
     let checker = c.args.self.now in
     let lists = checker.permissions.words.0 in
-    let items = commons_at checker.inherited c.args.class in
+    let items = list_at checker.inherited c.args.class in
     let i = c.loop-common.common-index in
     let within = subst (λ l. i < length l) c.get-common-items.ensures c.loop-common-test.true in
     let (u, there) = common-there policy checker.inherited items c.args.class i noted.inherited refl within in

@@ -3,11 +3,12 @@ use Rattle.cil_specs.specs.Joined.{Placed}
 use Rattle.cil_specs.specs.Lookup.{texts, distinct, with_name, own_permissions}
 use Rattle.cil_parse.specs.Lexicon.{AreNumbersOf}
 use Rattle.cil_check.specs.Checker.{IsNoted}
-use Rattle.cil_check.specs.Inherited.{commons_at, names_listed}
+use Rattle.cil_check.specs.Groups.{list_at}
+use Rattle.cil_check.specs.Inherited.{names_listed}
 use Rattle.cil_check.proofs.checker.Checker.has_too_many.Given as goal
 
 -- the first permissions of the class and of so many commons are counted
 abbrev pub invariant-loop-common : goal.invariant-loop-common
 invariant-loop-common g l = (policy : List Placed) (s : Placed) → IsNoted l.self policy → slice_get policy l.class ≡ Some s
     → AreNumbersOf l.self.bound.policy.now.names l.few
-    (take 33 (fold with_name (distinct (texts (own_permissions s.form))) (names_listed policy (take l.common-index (commons_at l.self.inherited l.class)))))
+    (take 33 (fold with_name (distinct (texts (own_permissions s.form))) (names_listed policy (take l.common-index (list_at l.self.inherited l.class)))))

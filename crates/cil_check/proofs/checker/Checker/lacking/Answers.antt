@@ -3,17 +3,12 @@ use Rattle.std.specs.Option.{option_or, option_map}
 use Rattle.cil_parse.specs.Builder.{read}
 use Rattle.cil_parse.specs.Forms.{permissions_in}
 use Rattle.cil_parse.specs.Parsed.{texts_of}
-use Rattle.cil_parse.specs.declared.row.NumberedWord.{NumberedWord}
 use Rattle.cil_check.specs.Kinds.{word_if}
 use Rattle.cil_check.specs.Missing.{lacking_words}
-use Rattle.cil_check.proofs.PermissionLemmas.{word-read, as-many}
+use Rattle.cil_check.proofs.PermissionLemmas.{no_word, word-read, as-many}
 use Rattle.cil_check.proofs.AskedLemmas.{first_from, from-at, from-past, reads-as}
 use Rattle.cil_check.proofs.MissingLemmas.{asked-at, lacks, lacks-none, lacking-first, class-named}
 use Rattle.cil_check.proofs.checker.Checker.lacking.Goals as goal
-
--- what is read behind the end of the words
-abbrev no_word : NumberedWord
-no_word = record { at = record { offset = 0; line = 0; column = 0 }; text = 0 }
 
 pub returns-in_err-class : goal.returns-in_err-class
 returns-in_err-class g c policy s noted seen numbered contained =

@@ -3,15 +3,10 @@ use Rattle.std.specs.List.{list_any}
 use Rattle.std.proofs.lemmas.List.{take_all}
 use Rattle.cil_specs.specs.Lookup.{has_name, texts, distinct}
 use Rattle.cil_parse.specs.Parsed.{texts_of}
-use Rattle.cil_parse.specs.declared.row.NumberedWord.{NumberedWord}
 use Rattle.cil_bind.specs.Lookup.{word_at}
 use Rattle.cil_check.specs.Permissions.{is_listed}
-use Rattle.cil_check.proofs.PermissionLemmas.{words-next, word-read, as-many, one-name-at, nothing-more, open-first, open-next}
+use Rattle.cil_check.proofs.PermissionLemmas.{no_word, words-next, word-read, as-many, one-name-at, nothing-more, open-first, open-next}
 use Rattle.cil_check.proofs.permissions.Permissions.add_words.Goals as goal
-
--- what is read behind the end of the words
-abbrev no_word : NumberedWord
-no_word = record { at = record { offset = 0; line = 0; column = 0 }; text = 0 }
 
 pub loop-word-init : goal.loop-word-init
 loop-word-init g c = record {

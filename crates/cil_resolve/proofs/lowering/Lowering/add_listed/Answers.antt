@@ -5,20 +5,15 @@ use Rattle.cil_specs.specs.Lookup.{has_name, with_name, texts, own_permissions}
 use Rattle.cil_parse.specs.Builder.{read}
 use Rattle.cil_parse.specs.Forms.{permissions_in}
 use Rattle.cil_parse.specs.Parsed.{texts_of}
-use Rattle.cil_parse.specs.declared.row.NumberedWord.{NumberedWord}
 use Rattle.cil_bind.specs.Written.{IsOneName}
 use Rattle.std.specs.List.{AllByRecursion}
-use Rattle.cil_check.proofs.PermissionLemmas.{word-read, as-many, one-name-at, own-listed}
+use Rattle.cil_check.proofs.PermissionLemmas.{no_word, word-read, as-many, one-name-at, own-listed}
 use Rattle.cil_check.proofs.SeenLemmas.{there-at}
 use Rattle.cil_resolve.specs.Numbering.{AreNumbersIn, number_in}
 use Rattle.cil_resolve.proofs.NumberLemmas.{numbers-with, words-fold, word-listed}
 use Rattle.cil_resolve.proofs.StatementLemmas.{contained}
 use Rattle.cil_resolve.proofs.lowering.Lowering.add_listed.Goals as goal
 use Rattle.cil_resolve.proofs.lowering.Lowering.add_listed.Goals.{then-not-contains+in_ok-push, else-not-contains}
-
--- what is read behind the end of the words
-abbrev no_word : NumberedWord
-no_word = record { at = record { offset = 0; line = 0; column = 0 }; text = 0 }
 
 pub permission-number-requires : goal.permission-number-requires
 permission-number-requires g c =

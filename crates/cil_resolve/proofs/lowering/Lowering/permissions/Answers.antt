@@ -4,16 +4,11 @@ use Rattle.cil_specs.specs.Lookup.{has_name, texts}
 use Rattle.cil_parse.specs.Builder.{read}
 use Rattle.cil_parse.specs.Forms.{permissions_in}
 use Rattle.cil_parse.specs.Parsed.{texts_of}
-use Rattle.cil_parse.specs.declared.row.NumberedWord.{NumberedWord}
-use Rattle.cil_check.proofs.PermissionLemmas.{word-read, as-many, one-name-at}
+use Rattle.cil_check.proofs.PermissionLemmas.{no_word, word-read, as-many, one-name-at}
 use Rattle.cil_resolve.specs.Numbering.{AreNumbersIn, listed_names}
 use Rattle.cil_resolve.proofs.NumberLemmas.{numbers-push, text-passes}
 use Rattle.cil_resolve.proofs.StatementLemmas.{map-one}
 use Rattle.cil_resolve.proofs.lowering.Lowering.permissions.Goals as goal
-
--- what is read behind the end of the words
-abbrev no_word : NumberedWord
-no_word = record { at = record { offset = 0; line = 0; column = 0 }; text = 0 }
 
 pub permission-requires : goal.permission-requires
 permission-requires g c =

@@ -1,4 +1,4 @@
-use Rattle.std.proofs.Common.{◌<◌, length, map, subst, sym, ap, ◌∙◌, arith}
+use Rattle.std.proofs.Common.{◌<◌, length, subst, sym, ap, ◌∙◌, arith}
 use Rattle.std.proofs.lemmas.List.{take_all}
 use Rattle.cil_specs.specs.Lookup.{classes, commons}
 use Rattle.cil_bind.specs.Lookup.{IsLead}
@@ -7,12 +7,12 @@ use Rattle.cil_check.specs.Inherited.{common_lead, HasInheritedOf}
 use Rattle.cil_check.specs.declared.firsts.Gift.TheVariants.{Common}
 use Rattle.cil_check.proofs.SeenLemmas.{there-at}
 use Rattle.cil_check.proofs.InheritedLemmas.{common-led, inherited-first, inherited-next, no-class-stay, no-common-stay}
-use Rattle.cil_check.proofs.inherited.Inherited.of.Goals as goal
+use Rattle.cil_check.proofs.inherited.given_commons.Goals as goal
 
 pub loop-i-init : goal.loop-i-init
 loop-i-init g c = record {
-  same = ap length c.new.ensures.empty ∙ sym (ap (λ l. length (map (λ v. v.items) l)) c.new-2.ensures.items);
-  noted = λ policy is. inherited-first policy (c.new.result.keys, map (λ v. v.items) c.new-2.result.items) c.new.ensures.empty;
+  same = ap (λ v. length v.0) c.new-inherited.ensures ∙ sym (ap (λ v. length v.1) c.new-inherited.ensures);
+  noted = λ policy is. inherited-first policy c.new-inherited.result (ap (λ v. v.0) c.new-inherited.ensures);
 }
 
 pub loop-i-preserved-in_default : goal.loop-i-preserved-in_default
@@ -47,7 +47,7 @@ loop-i-preserved g c = record {
       let (t, at) = there-at policy c.loop-i.i less in
       let seen = c.seen-seen.ensures.seen policy t is at in
       let led = subst (λ found. IsLead commons policy found (common_lead policy t)) (sym c.in-Some-lead.ensures) (common-led c.seen-seen.result policy t c.in-Some.class seen (c.in-Some.ensures policy t seen)) in
-      inherited-next policy c.loop-i.i t c.in-Some.class c.in-Some-lead.common c.loop-i.inherited c.insert.new.self at (c.in-Some.ensures policy t seen) led c.in_ok-insert.ensures.noted
+      inherited-next policy c.loop-i.i t c.in-Some.class c.in-Some-lead.common c.loop-i.inherited c.insert.new.self at (c.in-Some.ensures policy t seen) led c.in_ok-insert.ensures.listed
       (c.loop-i.invariant.noted policy is);
 }
 
