@@ -22,10 +22,10 @@ use Rattle.cil_bind.specs.Lookup.{IsLead}
 use Rattle.cil_check.specs.Checker.{first_unfound}
 use Rattle.cil_check.specs.Bound.{IsSeen, Reads}
 use Rattle.cil_check.specs.Kinds.{word_if, test_of, again_words}
-use Rattle.cil_check.specs.Gifts.{first_at, gift_table, given_word, given_lead, HasFirsts}
+use Rattle.cil_check.specs.Associations.{first_at, association_table, given_word, given_lead, HasFirsts}
 use Rattle.cil_check.specs.declared.bound.Seen.{Seen}
-use Rattle.cil_check.specs.declared.firsts.Gift.{Gift}
-use Rattle.cil_check.specs.declared.firsts.Gift.TheVariants.{Actual, Common}
+use Rattle.cil_check.specs.declared.firsts.Association.{Association}
+use Rattle.cil_check.specs.declared.firsts.Association.TheVariants.{Actual, Common}
 use Rattle.cil_check.specs.declared.kinds.Kind.{Kind}
 use Rattle.cil_check.proofs.SeenLemmas.{lead-of, seen-word}
 use Rattle.cil_bind.proofs.PositionLemmas.{is_before}
@@ -78,7 +78,7 @@ pub nowhere-unset : (policy : List Placed) (namespace : List (List ℕ)) (word :
 nowhere-unset policy namespace word found led is = ap (holds_of (λ s. is_alias s.form && not (is_some (actual_statement policy s)))) (sym led.is ∙ ap (option_and_then (slice_get policy)) is)
 
 -- the word of what a statement gives something to is its first
-given-first : (g : Gift) (form : Form) (word : Word) → given_word g form ≡ Some word → slice_get (words_in form) 0 ≡ Some word
+given-first : (g : Association) (form : Form) (word : Word) → given_word g form ≡ Some word → slice_get (words_in form) 0 ≡ Some word
 given-first Actual (block id) word is = cc
 given-first Actual (optional id) word is = cc
 given-first Actual (type_name id) word is = cc
@@ -109,17 +109,17 @@ abbrev pub first_if : {A : Type 0} → Seen A → Bool → Option NumberedWord
 first_if seen passes = if passes then slice_get seen.view.words.now 0 else None
 
 -- what is given again is told by the first statement that gives it
-pub again-reads : {A : Type 0} (seen : Seen A) (g : Gift) (policy : List Placed) (place : ℕ) (s : Placed) (firsts : List (ℕ × ℕ)) (found : Option ℕ) → HasFirsts g policy firsts → IsSeen seen policy s
-    → IsLead (gift_table g) policy found (given_lead g policy s) → Reads seen (first_if seen (is_before (option_and_then (first_at firsts) found) place)) (slice_get (again_words g policy (take place policy) s) 0)
+pub again-reads : {A : Type 0} (seen : Seen A) (g : Association) (policy : List Placed) (place : ℕ) (s : Placed) (firsts : List (ℕ × ℕ)) (found : Option ℕ) → HasFirsts g policy firsts → IsSeen seen policy s
+    → IsLead (association_table g) policy found (given_lead g policy s) → Reads seen (first_if seen (is_before (option_and_then (first_at firsts) found) place)) (slice_get (again_words g policy (take place policy) s) 0)
 again-reads seen g policy place s firsts found has is led = by (given_word g s.form) refl
   where
     before : Bool
     before = is_before (option_and_then (first_at firsts) found) place
 
-    no-lead : (found : Option ℕ) → IsLead (gift_table g) policy found (given_lead g policy s) → given_lead g policy s ≡ None
+    no-lead : (found : Option ℕ) → IsLead (association_table g) policy found (given_lead g policy s) → given_lead g policy s ≡ None
         → Reads seen (first_if seen (is_before (option_and_then (first_at firsts) found) place)) None
     no-lead None led none = refl
-    no-lead (Some k) led none = let lead = led-at (gift_table g) policy k (given_lead g policy s) led in absurd (none-some lead.s (sym none ∙ lead.is))
+    no-lead (Some k) led none = let lead = led-at (association_table g) policy k (given_lead g policy s) led in absurd (none-some lead.s (sym none ∙ lead.is))
 
     chosen : (b : Bool) (word : Word) → Reads seen (slice_get seen.view.words.now 0) (Some word) → Reads seen (first_if seen b) (word_if b word)
     chosen true word reads = reads
@@ -127,7 +127,7 @@ again-reads seen g policy place s firsts found has is led = by (given_word g s.f
 
     by : (o : Option Word) → given_word g s.form ≡ o → Reads seen (first_if seen before) (slice_get (again_words g policy (take place policy) s) 0)
     by None none = reads-as seen (first_if seen before) None (slice_get (again_words g policy (take place policy) s) 0)
-        (no-lead found led (ap (option_and_then (λ w. leads policy (gift_table g) s.namespace w.text)) none))
+        (no-lead found led (ap (option_and_then (λ w. leads policy (association_table g) s.namespace w.text)) none))
         (again-word g policy (take place policy) s ∙ ap (option_and_then (again_if g policy (take place policy) s)) none)
     by (Some word) some = reads-as seen (first_if seen before) (word_if before word) (slice_get (again_words g policy (take place policy) s) 0)
         (chosen before word (seen-word seen policy s 0 word is (given-first g s.form word some)))

@@ -12,9 +12,9 @@ use Rattle.cil_specs.proofs.Runs.{first_true, second_true}
 use Rattle.cil_specs.proofs.DeclaredLemmas.{one-namespace}
 use Rattle.cil_bind.specs.Lookup.{IsFirstOf}
 use Rattle.cil_bind.specs.Lookup.{IsLead}
-use Rattle.cil_check.specs.Gifts.{first_at, with_first, gift_table, given_word, given_lead, gives, HasFirstsOf}
-use Rattle.cil_check.specs.declared.firsts.Gift.{Gift}
-use Rattle.cil_check.specs.declared.firsts.Gift.TheVariants.{Actual, Common}
+use Rattle.cil_check.specs.Associations.{first_at, with_first, association_table, given_word, given_lead, gives, HasFirstsOf}
+use Rattle.cil_check.specs.declared.firsts.Association.{Association}
+use Rattle.cil_check.specs.declared.firsts.Association.TheVariants.{Actual, Common}
 use lib.Dec.{eqb}
 use Rattle.indexmap.specs.IndexMap.{IndexMap, get, insert_entry}
 use Rattle.indexmap.proofs.CallerLemmas.{insert_entry-new}
@@ -23,11 +23,11 @@ use Rattle.cil_bind.proofs.PositionLemmas.{at_if}
 use Rattle.cil_check.proofs.PositionLemmas.{position-same, position-next}
 
 -- what a statement gives something to is where its word leads
-pub gives-lead : (gift : Gift) (policy : List Placed) (s t : Placed) → gives gift policy s t ≡ holds_of (is_same (gift_table gift) s) (given_lead gift policy t)
-gives-lead gift policy s t = by gift t.form
+pub gives-lead : (association : Association) (policy : List Placed) (s t : Placed) → gives association policy s t ≡ holds_of (is_same (association_table association) s) (given_lead association policy t)
+gives-lead association policy s t = by association t.form
   where
-    by : (gift : Gift) (form : Form) → gives gift policy s (record { module_name = t.module_name; at = t.at; form = form; namespace = t.namespace; optionals = t.optionals })
-        ≡ holds_of (is_same (gift_table gift) s) (option_and_then (λ w. leads policy (gift_table gift) t.namespace w.text) (given_word gift form))
+    by : (association : Association) (form : Form) → gives association policy s (record { module_name = t.module_name; at = t.at; form = form; namespace = t.namespace; optionals = t.optionals })
+        ≡ holds_of (is_same (association_table association) s) (option_and_then (λ w. leads policy (association_table association) t.namespace w.text) (given_word association form))
     by Actual (block id) = refl
     by Actual (optional id) = refl
     by Actual (type_name id) = refl
@@ -126,28 +126,28 @@ lead-same table policy i k s lead is first led = by (slice_get policy k) refl
     by (Some u) e = sym (first-same table policy i k s u is first e led.first) ∙ ap (holds_of (is_same table s)) (sym e ∙ led.is)
 
 -- what is given by one statement more
-pub firsts-next : (gift : Gift) (policy : List Placed) (place : ℕ) (t : Placed) (found : Option ℕ) (old new : List (ℕ × ℕ)) → slice_get policy place ≡ Some t
-    → IsLead (gift_table gift) policy found (given_lead gift policy t) → new ≡ with_found old found place
-    → HasFirstsOf gift policy (take place policy) old → HasFirstsOf gift policy (take (place + 1) policy) new
-firsts-next gift policy place t found old new here led more so_far i s is first =
+pub firsts-next : (association : Association) (policy : List Placed) (place : ℕ) (t : Placed) (found : Option ℕ) (old new : List (ℕ × ℕ)) → slice_get policy place ≡ Some t
+    → IsLead (association_table association) policy found (given_lead association policy t) → new ≡ with_found old found place
+    → HasFirstsOf association policy (take place policy) old → HasFirstsOf association policy (take (place + 1) policy) new
+firsts-next association policy place t found old new here led more so_far i s is first =
     ap (λ l. first_at l i) more ∙ by found led
-    ∙ ap (λ b. option_or (position (gives gift policy s) (take place policy)) (at_if b place)) (sym (gives-lead gift policy s t))
-    ∙ sym (position-next (gives gift policy s) policy place t here)
+    ∙ ap (λ b. option_or (position (gives association policy s) (take place policy)) (at_if b place)) (sym (gives-lead association policy s t))
+    ∙ sym (position-next (gives association policy s) policy place t here)
   where
-    same : first_at old i ≡ position (gives gift policy s) (take place policy)
+    same : first_at old i ≡ position (gives association policy s) (take place policy)
     same = so_far i s is first
 
     none : (o : Option ℕ) → o ≡ option_or o None
     none None = refl
     none (Some n) = refl
 
-    by : (found : Option ℕ) → IsLead (gift_table gift) policy found (given_lead gift policy t)
+    by : (found : Option ℕ) → IsLead (association_table association) policy found (given_lead association policy t)
         → first_at (with_found old found place) i
-        ≡ option_or (position (gives gift policy s) (take place policy)) (at_if (holds_of (is_same (gift_table gift) s) (given_lead gift policy t)) place)
-    by None led = same ∙ none (position (gives gift policy s) (take place policy)) ∙ ap (λ o. option_or (position (gives gift policy s) (take place policy)) (at_if (holds_of (is_same (gift_table gift) s) o) place)) led.is
+        ≡ option_or (position (gives association policy s) (take place policy)) (at_if (holds_of (is_same (association_table association) s) (given_lead association policy t)) place)
+    by None led = same ∙ none (position (gives association policy s) (take place policy)) ∙ ap (λ o. option_or (position (gives association policy s) (take place policy)) (at_if (holds_of (is_same (association_table association) s) o) place)) led.is
     by (Some k) led =
         noted-at old i k place ∙ ap (λ o. option_or o (at_if (i == k) place)) same
-        ∙ ap (λ b. option_or (position (gives gift policy s) (take place policy)) (at_if b place)) (lead-same (gift_table gift) policy i k s (given_lead gift policy t) is first led)
+        ∙ ap (λ b. option_or (position (gives association policy s) (take place policy)) (at_if b place)) (lead-same (association_table association) policy i k s (given_lead association policy t) is first led)
 
 -- what an insertion notes where none is noted
 pub insert-new : {S : Type 0} (m : IndexMap ℕ ℕ S) (to place : ℕ) (old new : List (ℕ × ℕ)) → m.entries ≡ old → is_some (get eqb m to) ≡ false → new ≡ insert_entry eqb m.entries to place

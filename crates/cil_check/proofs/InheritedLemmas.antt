@@ -13,11 +13,11 @@ use Rattle.cil_specs.specs.Lookup.{classes, commons, is_same, holds_of, leads, r
 use Rattle.cil_specs.proofs.NamesLemmas.{all-append}
 use Rattle.cil_bind.specs.Lookup.{IsFirstOf, IsLead}
 use Rattle.cil_check.specs.Bound.{IsSeen}
-use Rattle.cil_check.specs.Gifts.{given_word, given_lead}
+use Rattle.cil_check.specs.Associations.{given_word, given_lead}
 use Rattle.cil_check.specs.Groups.{numbers_in, list_at}
 use Rattle.cil_check.specs.Inherited.{names_listed, given_names, common_word, common_lead, HasInheritedOf}
 use Rattle.cil_check.specs.declared.bound.Seen.{Seen}
-use Rattle.cil_check.specs.declared.firsts.Gift.TheVariants.{Common}
+use Rattle.cil_check.specs.declared.firsts.Association.TheVariants.{Common}
 use Rattle.cil_bind.proofs.PositionLemmas.{at_if, position-append, any-position, take-next}
 use Rattle.cil_check.proofs.PositionLemmas.{get-append, get-last}
 use Rattle.cil_check.proofs.FirstsLemmas.{gives-lead, lead-same}

@@ -5,11 +5,11 @@ use Rattle.cil_specs.specs.Joined.{Placed}
 use Rattle.cil_specs.specs.Lookup.{Table}
 use Rattle.cil_specs.specs.PolicyFault.{is_unfound}
 use Rattle.cil_check.specs.Bound.{IsOf}
-use Rattle.cil_check.specs.Gifts.{HasFirsts}
+use Rattle.cil_check.specs.Associations.{HasFirsts}
 use Rattle.cil_check.specs.Inherited.{HasInherited}
 use Rattle.cil_check.specs.Permissions.{HaveListed, HaveWords}
 use Rattle.cil_check.specs.declared.checker.Checker.{Checker}
-use Rattle.cil_check.specs.declared.firsts.Gift.TheVariants.{Actual, Common}
+use Rattle.cil_check.specs.declared.firsts.Association.TheVariants.{Actual, Common}
 
 -- The policy is the bound one; the first statements that give something are noted, and what classes and commons list and are given.
 pub record IsNoted {A : Type 0} (checker : Checker A) (policy : List Placed) : Type 0 where

@@ -10,8 +10,8 @@ use Rattle.cil_parse.specs.declared.row.StatementKind.{StatementKind}
 use Rattle.cil_parse.specs.declared.row.StatementKind.TheVariants as statements
 use Rattle.cil_check.specs.declared.kinds.Kind.{Kind}
 use Rattle.cil_check.specs.declared.kinds.Kind.TheVariants.{«Type», Alias, Attribute}
-use Rattle.cil_check.specs.declared.firsts.Gift.{Gift}
-use Rattle.cil_check.specs.declared.firsts.Gift.TheVariants.{Actual, Common}
+use Rattle.cil_check.specs.declared.firsts.Association.{Association}
+use Rattle.cil_check.specs.declared.firsts.Association.TheVariants.{Actual, Common}
 
 -- a word, if a test of it passes
 abbrev pub word_if : Bool → Word → Option Word
@@ -31,7 +31,7 @@ is_kind Attribute statements.TypeAttribute = true
 is_kind _ _ = false
 
 -- the words to which a statement gives something again
-abbrev pub again_words : Gift → List Placed → List Placed → Placed → List Word
+abbrev pub again_words : Association → List Placed → List Placed → Placed → List Word
 again_words Actual policy before s = alias_twice_words policy before s
 again_words Common policy before s = second_common_words policy before s
 

@@ -1,5 +1,5 @@
 pub mod Ordered
-pub mod Gifts
+pub mod Associations
 pub mod Image
 pub mod Kinds
 pub mod Bound

@@ -12,7 +12,7 @@ ghost use Rattle.cil_parse.specs.Lexicon.{AreNumbersOf};
 ghost use Rattle.cil_parse.specs.Parsed.{names_of};
 ghost use Rattle.cil_check.specs.Bound.{IsOf, IsSeen, Reads};
 ghost use Rattle.cil_check.specs.Checker.{IsNoted};
-ghost use Rattle.cil_check.specs.Gifts.{HasFirsts};
+ghost use Rattle.cil_check.specs.Associations.{HasFirsts};
 ghost use Rattle.cil_check.specs.Image.{policy_kind_of, IsFoundFault};
 ghost use Rattle.cil_bind.specs.Ordered.{IsLeast};
 ghost use Rattle.cil_check.specs.Ordered.{IsFaultIn, IsFaultless};
@@ -21,7 +21,7 @@ ghost use Rattle.cil_check.specs.Kinds.{test_of, word_if, again_words};
 
 use crate::bound::{BoundPolicy, Seen};
 use crate::fault::{PolicyFault, PolicyFaultKind};
-use crate::firsts::{Firsts, Gift};
+use crate::firsts::{Association, Firsts};
 use crate::groups::Groups;
 use crate::inherited::given_commons;
 use crate::kinds::Kind;
@@ -62,8 +62,8 @@ impl<'p, 'm, A: Allocator + Copy> Checker<'p, 'm, A> {
         if bound.len() > 0xFFFF_FFFF {
             return Err(AllocError);
         }
-        let actuals = Firsts::of(alloc, &bound, Gift::Actual)?;
-        let commons = Firsts::of(alloc, &bound, Gift::Common)?;
+        let actuals = Firsts::of(alloc, &bound, Association::Actual)?;
+        let commons = Firsts::of(alloc, &bound, Association::Common)?;
         let permissions = Permissions::of(alloc, &bound)?;
         let inherited = given_commons(alloc, &bound)?;
         let witnesses = Witnesses::of(alloc, &bound, &permissions, &inherited)?;
@@ -111,14 +111,14 @@ impl<'p, 'm, A: Allocator> Checker<'p, 'm, A> {
     /// The word to which a statement gives something, if one in front of a place gives it already.
     fn given_again(
         &self,
-        gift: Gift,
+        association: Association,
         firsts: &Firsts<A>,
         place: usize,
         seen: &Seen<'p, 'm, A>,
     ) -> Option<NumberedWord>
-        ensures { (policy : List Placed) (s : Placed) → HasFirsts gift policy firsts.now → IsSeen seen.now policy s → Reads seen.now result (slice_get (again_words gift policy (take place policy) s) 0) }
+        ensures { (policy : List Placed) (s : Placed) → HasFirsts association policy firsts.now → IsSeen seen.now policy s → Reads seen.now result (slice_get (again_words association policy (take place policy) s) 0) }
     {
-        let found = gift.lead(seen)?;
+        let found = association.lead(seen)?;
         let first = firsts.get(found)?;
         if (first as usize) < place {
             seen.word(0)
@@ -190,11 +190,11 @@ impl<'p, 'm, A: Allocator> Checker<'p, 'm, A> {
             PolicyFaultKind::Missing => self.missing_word(seen),
             PolicyFaultKind::WrongKind => self.wrong_kind_word(seen),
             PolicyFaultKind::AliasTwice => {
-                self.given_again(Gift::Actual, &self.actuals, place, seen)
+                self.given_again(Association::Actual, &self.actuals, place, seen)
             }
             PolicyFaultKind::AliasUnset => self.unset_word(seen),
             PolicyFaultKind::SecondCommon => {
-                self.given_again(Gift::Common, &self.commons, place, seen)
+                self.given_again(Association::Common, &self.commons, place, seen)
             }
             PolicyFaultKind::TooManyPermissions => self.too_many_word(place, seen),
         }

@@ -4,7 +4,7 @@ ghost use Rattle.std.specs.Prelude.{◌≡◌, List, is_some, IfOk, OnOk, OnErr}
 ghost use Rattle.cil_specs.specs.Joined.{Placed};
 ghost use Rattle.cil_bind.specs.Lookup.{IsLead};
 ghost use Rattle.cil_check.specs.Bound.{IsOf, IsSeen};
-ghost use Rattle.cil_check.specs.Gifts.{gift_table, given_kind, given_lead, first_at, with_first, HasFirsts};
+ghost use Rattle.cil_check.specs.Associations.{association_table, given_kind, given_lead, first_at, with_first, HasFirsts};
 
 use crate::bound::{BoundPolicy, Seen};
 use cil_parse::StatementKind;
@@ -29,26 +29,26 @@ impl<A: Allocator> Model for Firsts<A> {
 
 /// What statements give: an actual type to an alias, or a common to a class.
 #[derive(Clone, Copy, Debug, PartialEq, Eq)]
-pub enum Gift {
+pub enum Association {
     Actual,
     Common,
 }
 
-impl Gift {
+impl Association {
     /// Whether statements of a kind give this, to what their first reference leads to.
     pub fn is_given_by(self, kind: StatementKind) -> bool
         ensures { result ≡ given_kind self kind }
     {
         match (self, kind) {
-            (Gift::Actual, StatementKind::TypeAliasActual) => true,
-            (Gift::Common, StatementKind::ClassCommon) => true,
+            (Association::Actual, StatementKind::TypeAliasActual) => true,
+            (Association::Common, StatementKind::ClassCommon) => true,
             _ => false,
         }
     }
 
     /// What a statement gives this to, by its place.
     pub fn lead<A: Allocator>(self, seen: &Seen<'_, '_, A>) -> Option<u32>
-        ensures { (policy : List Placed) (s : Placed) → IsSeen seen.now policy s → IsLead (gift_table self) policy result (given_lead self policy s) }
+        ensures { (policy : List Placed) (s : Placed) → IsSeen seen.now policy s → IsLead (association_table self) policy result (given_lead self policy s) }
     {
         if self.is_given_by(seen.view.kind) {
             seen.lead(0)
@@ -60,9 +60,13 @@ impl Gift {
 
 impl<A: Allocator + Copy> Firsts<A> {
     /// The first statements of a policy that give this. A policy of more than 4294967295 statements is answered as out of memory.
-    pub fn of(alloc: A, bound: &BoundPolicy<'_, '_, A>, gift: Gift) -> Result<Self, AllocError>
+    pub fn of(
+        alloc: A,
+        bound: &BoundPolicy<'_, '_, A>,
+        association: Association,
+    ) -> Result<Self, AllocError>
         requires { (policy : List Placed) × IsOf bound.now policy }
-        ensures { IfOk result (λ firsts. (policy : List Placed) → IsOf bound.now policy → HasFirsts gift policy firsts) }
+        ensures { IfOk result (λ firsts. (policy : List Placed) → IsOf bound.now policy → HasFirsts association policy firsts) }
     {
         let mut firsts = Firsts {
             places: IndexMap::new(alloc),
@@ -73,7 +77,7 @@ impl<A: Allocator + Copy> Firsts<A> {
         }
         for i in 0..count {
             let seen = bound.seen(i);
-            let Some(to) = gift.lead(&seen) else {
+            let Some(to) = association.lead(&seen) else {
                 continue;
             };
             firsts.insert(to, i as u32)?;

@@ -6,7 +6,7 @@ ghost use Rattle.cil_check.specs.Bound.{IsOf};
 ghost use Rattle.cil_check.specs.Inherited.{HasInherited};
 
 use crate::bound::BoundPolicy;
-use crate::firsts::Gift;
+use crate::firsts::Association;
 use crate::groups::Groups;
 use std::alloc::{AllocError, Allocator};
 
@@ -21,7 +21,7 @@ pub fn given_commons<A: Allocator + Copy>(
     let mut inherited = Groups::new(alloc);
     for i in 0..bound.len() {
         let seen = bound.seen(i);
-        let Some(class) = Gift::Common.lead(&seen) else {
+        let Some(class) = Association::Common.lead(&seen) else {
             continue;
         };
         let Some(common) = seen.lead(1) else {

@@ -18,7 +18,7 @@ mod witnesses;
 pub use bound::{BoundPolicy, Seen};
 pub use checker::Checker;
 pub use fault::{PolicyFault, PolicyFaultKind};
-pub use firsts::{Firsts, Gift};
+pub use firsts::{Association, Firsts};
 pub use groups::Groups;
 pub use kinds::Kind;
 pub use permissions::{Listed, Permissions};

@@ -12,38 +12,38 @@ use Rattle.std.proofs.lemmas.Option.{slice_get-get_or, slice_get_within, slice_g
 use Rattle.cil_specs.proofs.NamesLemmas.{contains-first, contains-other}
 use Rattle.cil_optionals.proofs.ListLemmas.{get-set_same, get-set_other}
 use Rattle.cil_optionals.specs.declared.greatest.Need.{Need}
-use Rattle.cil_optionals.specs.Needs.{is_met, are_met, is_need_below, IsAsking, AreAsking, ArePassed}
+use Rattle.cil_optionals.specs.Needs.{is_met, are_met, is_need_below, IsDependent, AreDependents, ArePassed}
 
 -- the list of one optional
 abbrev Has : {A : Type 0} → ℕ → Option (Vec ℕ A) → Type 0
 Has i found = MatchOption found ⊥ (λ needs. Contains needs.items i)
 
 -- with one more need in the list of an optional, each list has the needs that it had
-pub asking-old : {A : Type 0} (asking : List (Vec ℕ A)) (o need : ℕ) (old new : Vec ℕ A) → slice_get asking o ≡ Some old → new.items ≡ old.items ++ need ∷ []
-    → (p i : ℕ) → IsAsking asking p i → IsAsking (set asking o new) p i
-asking-old asking o need old new at more p i is = elim (cases_eq p o) [
-  | inl same ↦ subst (Has i) (sym (ap (slice_get (set asking o new)) same ∙ get-set_same asking o old new at))
-      (subst (λ items. Contains items i) (sym more) (Contains-append_left old.items (need ∷ []) i (subst (Has i) (ap (slice_get asking) same ∙ at) is)))
-  | inr other ↦ subst (Has i) (sym (get-set_other asking o p new other)) is
+pub dependents-old : {A : Type 0} (dependents : List (Vec ℕ A)) (o need : ℕ) (old new : Vec ℕ A) → slice_get dependents o ≡ Some old → new.items ≡ old.items ++ need ∷ []
+    → (p i : ℕ) → IsDependent dependents p i → IsDependent (set dependents o new) p i
+dependents-old dependents o need old new at more p i is = elim (cases_eq p o) [
+  | inl same ↦ subst (Has i) (sym (ap (slice_get (set dependents o new)) same ∙ get-set_same dependents o old new at))
+      (subst (λ items. Contains items i) (sym more) (Contains-append_left old.items (need ∷ []) i (subst (Has i) (ap (slice_get dependents) same ∙ at) is)))
+  | inr other ↦ subst (Has i) (sym (get-set_other dependents o p new other)) is
 ]
 
 -- and no more than that need
-pub asking-within : {A : Type 0} (asking : List (Vec ℕ A)) (o need : ℕ) (old new : Vec ℕ A) → slice_get asking o ≡ Some old → new.items ≡ old.items ++ need ∷ []
-    → (p i : ℕ) → IsAsking (set asking o new) p i → IsAsking asking p i ⊎ (i ≡ need)
-asking-within asking o need old new at more p i is = elim (cases_eq p o) [
+pub dependents-within : {A : Type 0} (dependents : List (Vec ℕ A)) (o need : ℕ) (old new : Vec ℕ A) → slice_get dependents o ≡ Some old → new.items ≡ old.items ++ need ∷ []
+    → (p i : ℕ) → IsDependent (set dependents o new) p i → IsDependent dependents p i ⊎ (i ≡ need)
+dependents-within dependents o need old new at more p i is = elim (cases_eq p o) [
   | inl same ↦ by same (Contains-push_cases old.items need i
-      (subst (λ items. Contains items i) more (subst (Has i) (ap (slice_get (set asking o new)) same ∙ get-set_same asking o old new at) is)))
-  | inr other ↦ inl (subst (Has i) (get-set_other asking o p new other) is)
+      (subst (λ items. Contains items i) more (subst (Has i) (ap (slice_get (set dependents o new)) same ∙ get-set_same dependents o old new at) is)))
+  | inr other ↦ inl (subst (Has i) (get-set_other dependents o p new other) is)
 ]
   where
-    by : p ≡ o → Contains old.items i ⊎ (need ≡ i) → IsAsking asking p i ⊎ (i ≡ need)
-    by same (inl has) = inl (subst (Has i) (sym (ap (slice_get asking) same ∙ at)) has)
+    by : p ≡ o → Contains old.items i ⊎ (need ≡ i) → IsDependent dependents p i ⊎ (i ≡ need)
+    by same (inl has) = inl (subst (Has i) (sym (ap (slice_get dependents) same ∙ at)) has)
     by same (inr last) = inr (sym last)
 
 -- that list has that need
-pub asking-new : {A : Type 0} (asking : List (Vec ℕ A)) (o need : ℕ) (old new : Vec ℕ A) → slice_get asking o ≡ Some old → new.items ≡ old.items ++ need ∷ [] → IsAsking (set asking o new) o need
-asking-new asking o need old new at more =
-    subst (Has need) (sym (get-set_same asking o old new at)) (subst (λ items. Contains items need) (sym more) (Contains-append_right old.items (need ∷ []) need (contains-first need [])))
+pub dependents-new : {A : Type 0} (dependents : List (Vec ℕ A)) (o need : ℕ) (old new : Vec ℕ A) → slice_get dependents o ≡ Some old → new.items ≡ old.items ++ need ∷ [] → IsDependent (set dependents o new) o need
+dependents-new dependents o need old new at more =
+    subst (Has need) (sym (get-set_same dependents o old new at)) (subst (λ items. Contains items need) (sym more) (Contains-append_right old.items (need ∷ []) need (contains-first need [])))
 
 -- an element of a list with one more at its end
 pub got-push : {X : Type 0} (xs : List X) (y : X) (i : ℕ) (x : X) → slice_get (xs ++ y ∷ []) i ≡ Some x → (slice_get xs i ≡ Some x) ⊎ ((i ≡ length xs) × (y ≡ x))
@@ -53,27 +53,27 @@ got-push (z ∷ xs) y zero x is = inl is
 got-push (z ∷ xs) y (suc i) x is = elim (got-push xs y i x is) [ inl before ↦ inl before | inr last ↦ inr (omega (arith, last.0), last.1) ]
 
 -- one more list without needs
-pub asking-none : {A : Type 0} (asking after : List (Vec ℕ A)) (new : Vec ℕ A) → ((o i : ℕ) → IsAsking asking o i → ⊥) → after ≡ asking ++ new ∷ [] → new.items ≡ [] → (o i : ℕ) → IsAsking after o i → ⊥
-asking-none {A} asking after new none more empty o i is = by (slice_get (asking ++ new ∷ []) o) refl (subst (λ l. IsAsking l o i) more is)
+pub dependents-none : {A : Type 0} (dependents after : List (Vec ℕ A)) (new : Vec ℕ A) → ((o i : ℕ) → IsDependent dependents o i → ⊥) → after ≡ dependents ++ new ∷ [] → new.items ≡ [] → (o i : ℕ) → IsDependent after o i → ⊥
+dependents-none {A} dependents after new none more empty o i is = by (slice_get (dependents ++ new ∷ []) o) refl (subst (λ l. IsDependent l o i) more is)
   where
-    by : (found : Option (Vec ℕ A)) → slice_get (asking ++ new ∷ []) o ≡ found → Has i found → ⊥
+    by : (found : Option (Vec ℕ A)) → slice_get (dependents ++ new ∷ []) o ≡ found → Has i found → ⊥
     by None at has = has
-    by (Some other) at has = elim (got-push asking new o other at) [
+    by (Some other) at has = elim (got-push dependents new o other at) [
       | inl before ↦ none o i (subst (Has i) (sym before) has)
       | inr last ↦ (let in_none : Contains [] i = subst (λ l. Contains l i) (ap (λ v. v.items) (sym last.1) ∙ empty) has in omega (arith, in_none.1))
     ]
 
 -- the lists of all needs up to one more
-pub asking-push : {A : Type 0} (old new : List (Vec ℕ A)) (needs : List (Need A)) (need : Need A) → ((o i : ℕ) → IsAsking old o i → IsAsking new o i)
-    → AreAsking old needs → All (λ o. IsAsking new o (length needs)) need.from.items → AreAsking new (needs ++ need ∷ [])
-asking-push old new needs need grows are last i other at = elim (got-push needs need i other at) [
-  | inl before ↦ All-weaker (λ o. IsAsking old o i) (λ o. IsAsking new o i) (λ o. grows o i) other.from.items (are i other before)
-  | inr same ↦ subst (λ n. All (λ o. IsAsking new o i) n.from.items) same.1 (subst (λ j. All (λ o. IsAsking new o j) need.from.items) (sym same.0) last)
+pub dependents-push : {A : Type 0} (old new : List (Vec ℕ A)) (needs : List (Need A)) (need : Need A) → ((o i : ℕ) → IsDependent old o i → IsDependent new o i)
+    → AreDependents old needs → All (λ o. IsDependent new o (length needs)) need.from.items → AreDependents new (needs ++ need ∷ [])
+dependents-push old new needs need grows are last i other at = elim (got-push needs need i other at) [
+  | inl before ↦ All-weaker (λ o. IsDependent old o i) (λ o. IsDependent new o i) (λ o. grows o i) other.from.items (are i other before)
+  | inr same ↦ subst (λ n. All (λ o. IsDependent new o i) n.from.items) same.1 (subst (λ j. All (λ o. IsDependent new o j) need.from.items) (sym same.0) last)
 ]
 
 -- the needs in the list of an optional are below the number of needs
-pub asked-below : {A : Type 0} (asking : List (Vec ℕ A)) (q : ℕ) (asked : Vec ℕ A) (n : ℕ) → ((o i : ℕ) → IsAsking asking o i → i < n) → slice_get asking q ≡ Some asked → All (λ i. i < n) asked.items
-asked-below asking q asked n within at k d low = within q (get_or asked.items k d) (subst (Has (get_or asked.items k d)) (sym at) (Contains-get_or asked.items k d low))
+pub asked-below : {A : Type 0} (dependents : List (Vec ℕ A)) (q : ℕ) (asked : Vec ℕ A) (n : ℕ) → ((o i : ℕ) → IsDependent dependents o i → i < n) → slice_get dependents q ≡ Some asked → All (λ i. i < n) asked.items
+asked-below dependents q asked n within at k d low = within q (get_or asked.items k d) (subst (Has (get_or asked.items k d)) (sym at) (Contains-get_or asked.items k d low))
 
 -- what holds of all elements holds of the one at a place
 pub all-got : {X : Type 0} (p : X → Bool) (xs : List X) (i : ℕ) (x : X) → list_all p xs ≡ true → slice_get xs i ≡ Some x → p x ≡ true
@@ -178,10 +178,10 @@ settled-met kept needs before waiting i need settled last here met j other at = 
 ]
 
 -- the optional of a need was taken away, and the needs that it met are to be looked at
-pub settled-taken : {A : Type 0} (kept : List Bool) (needs : List (Need A)) (before waiting after : List ℕ) (i : ℕ) (need : Need A) (asking : List (Vec ℕ A)) (asked : Vec ℕ A)
-    → AreSettled kept needs before → before ≡ waiting ++ i ∷ [] → slice_get needs i ≡ Some need → need.optional < length kept → AreAsking asking needs → slice_get asking need.optional ≡ Some asked
+pub settled-taken : {A : Type 0} (kept : List Bool) (needs : List (Need A)) (before waiting after : List ℕ) (i : ℕ) (need : Need A) (dependents : List (Vec ℕ A)) (asked : Vec ℕ A)
+    → AreSettled kept needs before → before ≡ waiting ++ i ∷ [] → slice_get needs i ≡ Some need → need.optional < length kept → AreDependents dependents needs → slice_get dependents need.optional ≡ Some asked
     → after ≡ waiting ++ asked.items → AreSettled (set kept need.optional false) needs after
-settled-taken {A} kept needs before waiting after i need asking asked settled last here within are there more j other at = elim (settled j other at) [
+settled-taken {A} kept needs before waiting after i need dependents asked settled last here within are there more j other at = elim (settled j other at) [
   | inl met ↦ by (or_cases (not (has_kept kept other.optional)) (list_any (has_kept kept) other.from.items) met)
   | inr has ↦ elim (Contains-push_cases waiting i j (subst (λ l. Contains l j) last has)) [
     | inl earlier ↦ inr (subst (λ l. Contains l j) (sym more) (Contains-append_left waiting asked.items j earlier))
@@ -195,7 +195,7 @@ settled-taken {A} kept needs before waiting after i need asking asked settled la
     by (inl out) = inl (or_left _ _ (not-set kept need.optional other.optional within out))
     by (inr any) = elim (any-set kept need.optional other.from.items any) [
       | inl has ↦ inr (subst (λ l. Contains l j) (sym more)
-          (Contains-append_right waiting asked.items j (subst (Has j) there (All-contains (λ o. IsAsking asking o j) other.from.items need.optional (are j other at) has))))
+          (Contains-append_right waiting asked.items j (subst (Has j) there (All-contains (λ o. IsDependent dependents o j) other.from.items need.optional (are j other at) has))))
       | inr still ↦ inl (or_right _ _ still)
     ]
 
@@ -263,12 +263,12 @@ pub fewer-kept : (kept : List Bool) (q : ℕ) → q < length kept → get_or kep
 fewer-kept kept q within is = let less = sum_by-set (λ b. cond b 1 0) kept q false false within in omega (arith, less, ap {B = ℕ} (λ b. cond b 1 0) is)
 
 -- the measure falls where an optional is taken away, however many needs are to be looked at for it
-pub measure-less : {A : Type 0} (kept : List Bool) (q : ℕ) (asking : List (Vec ℕ A)) (asked : Vec ℕ A) (before waiting after : List ℕ) (i : ℕ) → q < length kept → get_or kept q false ≡ true → slice_get asking q ≡ Some asked
+pub measure-less : {A : Type 0} (kept : List Bool) (q : ℕ) (dependents : List (Vec ℕ A)) (asked : Vec ℕ A) (before waiting after : List ℕ) (i : ℕ) → q < length kept → get_or kept q false ≡ true → slice_get dependents q ≡ Some asked
     → before ≡ waiting ++ i ∷ [] → after ≡ waiting ++ asked.items
-    → count_by (λ b. b) (set kept q false) * sum_by (λ needs. length needs.items) asking + length after < count_by (λ b. b) kept * sum_by (λ needs. length needs.items) asking + length before
-measure-less kept q asking asked before waiting after i within is at last more =
-    by (count_by (λ b. b) (set kept q false)) (count_by (λ b. b) kept) (sum_by (λ needs. length needs.items) asking)
-    (subst (λ v. length v.items ≤ sum_by (λ needs. length needs.items) asking) (get_or_from_slice_get asking q asked asked at) (get_or-le-sum_by (λ needs. length needs.items) asking q asked (slice_get_within asking q asked at)))
+    → count_by (λ b. b) (set kept q false) * sum_by (λ needs. length needs.items) dependents + length after < count_by (λ b. b) kept * sum_by (λ needs. length needs.items) dependents + length before
+measure-less kept q dependents asked before waiting after i within is at last more =
+    by (count_by (λ b. b) (set kept q false)) (count_by (λ b. b) kept) (sum_by (λ needs. length needs.items) dependents)
+    (subst (λ v. length v.items ≤ sum_by (λ needs. length needs.items) dependents) (get_or_from_slice_get dependents q asked asked at) (get_or-le-sum_by (λ needs. length needs.items) dependents q asked (slice_get_within dependents q asked at)))
     (fewer-kept kept q within is)
   where
     by : (fewer some total : ℕ) → length asked.items ≤ total → fewer + 1 ≡ some → fewer * total + length after < some * total + length before

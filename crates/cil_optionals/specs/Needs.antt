@@ -15,12 +15,12 @@ abbrev pub is_need_below : {A : Type 0} → ℕ → Need A → Bool
 is_need_below n need = nat_lt 0 need.optional && (nat_lt need.optional n && list_all (λ o. nat_lt o n) need.from.items)
 
 -- the need is in the list of this node
-abbrev pub IsAsking : {A : Type 0} → List (Vec ℕ A) → ℕ → ℕ → Type 0
-IsAsking asking o need = MatchOption (slice_get asking o) ⊥ (λ needs. Contains needs.items need)
+abbrev pub IsDependent : {A : Type 0} → List (Vec ℕ A) → ℕ → ℕ → Type 0
+IsDependent dependents o need = MatchOption (slice_get dependents o) ⊥ (λ needs. Contains needs.items need)
 
 -- each need is in the list of each node that meets it
-abbrev pub AreAsking : {A : Type 0} → List (Vec ℕ A) → List (Need A) → Type 0
-AreAsking {A} asking needs = (i : ℕ) (need : Need A) → slice_get needs i ≡ Some need → All (λ o. IsAsking asking o i) need.from.items
+abbrev pub AreDependents : {A : Type 0} → List (Vec ℕ A) → List (Need A) → Type 0
+AreDependents {A} dependents needs = (i : ℕ) (need : Need A) → slice_get needs i ≡ Some need → All (λ o. IsDependent dependents o i) need.from.items
 
 -- of these nodes the first ones, up to this place, aren't kept
 abbrev pub ArePassed : List Bool → List ℕ → ℕ → Type 0

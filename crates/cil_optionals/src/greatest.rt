@@ -2,7 +2,7 @@
 
 ghost use Rattle.std.specs.Prelude.{◌≡◌, ◌≤◌, ◌<◌, ◌+◌, ℕ, Bool, true, false, List, length, slice_index, slice_index_or, not, IfOk, OnOk, IsTrue, All, ◌⊎◌};
 ghost use Rattle.std.specs.List.{list_all, range_with_len};
-ghost use Rattle.cil_optionals.specs.Needs.{are_met, is_met, is_need_below, AreAsking, ArePassed, IsAsking};
+ghost use Rattle.cil_optionals.specs.Needs.{are_met, is_met, is_need_below, AreDependents, ArePassed, IsDependent};
 
 use std::alloc::{AllocError, Allocator, Global};
 
@@ -26,14 +26,14 @@ pub fn greatest<A: Allocator + Copy>(
     ensures met { IfOk result (λ kept. IsTrue (are_met (λ n. slice_index_or kept.items n false) needs.now)) }
     ensures greatest { IfOk result (λ kept. (has : ℕ → Bool) → IsTrue (are_met has needs.now) → (n : ℕ) → n ≤ count → IsTrue (has n) → slice_index_or kept.items n false ≡ true) }
 {
-    let asking = asking(alloc, count, needs)?;
-    let mut kept = vec![in alloc; true; asking.len()]?;
+    let dependents = dependents(alloc, count, needs)?;
+    let mut kept = vec![in alloc; true; dependents.len()]?;
     let mut open = all_below(alloc, needs.len())?;
     let mut passed = vec![in alloc; 0; needs.len()]?;
     while let Some(i) = open.pop() {
         let need = &needs[i];
         if is_unmet(&kept, need, &mut passed[i]) {
-            open.extend_from_slice(&asking[need.optional])?;
+            open.extend_from_slice(&dependents[need.optional])?;
             kept[need.optional] = false;
         }
     }
@@ -75,21 +75,21 @@ fn first_kept(kept: &[bool], optionals: &[usize], passed: usize) -> usize
 }
 
 /// For each number the needs that it can meet.
-fn asking<A: Allocator + Copy>(
+fn dependents<A: Allocator + Copy>(
     alloc: A,
     count: usize,
     needs: &[Need<A>],
 ) -> Result<Vec<Vec<usize, A>, A>, AllocError>
     requires below { IsTrue (list_all (is_need_below (count + 1)) needs.now) }
-    ensures len { IfOk result (λ asking. length asking.items ≡ count + 1) }
-    ensures within { IfOk result (λ asking. (o i : ℕ) → IsAsking asking.items o i → i < length needs.now) }
-    ensures each { IfOk result (λ asking. AreAsking asking.items needs.now) }
+    ensures len { IfOk result (λ dependents. length dependents.items ≡ count + 1) }
+    ensures within { IfOk result (λ dependents. (o i : ℕ) → IsDependent dependents.items o i → i < length needs.now) }
+    ensures each { IfOk result (λ dependents. AreDependents dependents.items needs.now) }
 {
-    let mut asking = no_needs(alloc, count)?;
+    let mut dependents = no_needs(alloc, count)?;
     for (i, need) in needs.iter().enumerate() {
-        ask(&mut asking, &need.from, i)?;
+        ask(&mut dependents, &need.from, i)?;
     }
-    Ok(asking)
+    Ok(dependents)
 }
 
 /// For each number up to this one an empty list of needs.
@@ -97,30 +97,30 @@ fn no_needs<A: Allocator + Copy>(
     alloc: A,
     count: usize,
 ) -> Result<Vec<Vec<usize, A>, A>, AllocError>
-    ensures len { IfOk result (λ asking. length asking.items ≡ count + 1) }
-    ensures none { IfOk result (λ asking. (o i : ℕ) → IsAsking asking.items o i → ⊥) }
+    ensures len { IfOk result (λ dependents. length dependents.items ≡ count + 1) }
+    ensures none { IfOk result (λ dependents. (o i : ℕ) → IsDependent dependents.items o i → ⊥) }
 {
-    let mut asking = Vec::new(alloc);
+    let mut dependents = Vec::new(alloc);
     for _ in 0..=count {
-        asking.push(Vec::new(alloc))?;
+        dependents.push(Vec::new(alloc))?;
     }
-    Ok(asking)
+    Ok(dependents)
 }
 
 /// Puts a need into the lists of these numbers.
 fn ask<A: Allocator + Copy>(
-    asking: &mut Vec<Vec<usize, A>, A>,
+    dependents: &mut Vec<Vec<usize, A>, A>,
     from: &[usize],
     need: usize,
 ) -> Result<(), AllocError>
-    requires below { All (λ o. o < length asking.old.items) from.now }
-    ensures len { OnOk result (length asking.new.items ≡ length asking.old.items) }
-    ensures old { OnOk result ((o i : ℕ) → IsAsking asking.old.items o i → IsAsking asking.new.items o i) }
-    ensures within { OnOk result ((o i : ℕ) → IsAsking asking.new.items o i → IsAsking asking.old.items o i ⊎ (i ≡ need)) }
-    ensures new { OnOk result (All (λ o. IsAsking asking.new.items o need) from.now) }
+    requires below { All (λ o. o < length dependents.old.items) from.now }
+    ensures len { OnOk result (length dependents.new.items ≡ length dependents.old.items) }
+    ensures old { OnOk result ((o i : ℕ) → IsDependent dependents.old.items o i → IsDependent dependents.new.items o i) }
+    ensures within { OnOk result ((o i : ℕ) → IsDependent dependents.new.items o i → IsDependent dependents.old.items o i ⊎ (i ≡ need)) }
+    ensures new { OnOk result (All (λ o. IsDependent dependents.new.items o need) from.now) }
 {
     for o in from {
-        asking[*o].push(need)?;
+        dependents[*o].push(need)?;
     }
     Ok(())
 }

@@ -25,16 +25,6 @@ pub record Standing : Type 0 where
   pub store : Store
   pub taken : Option (List ℕ)
 
-abbrev pub at_moment : Account → Held → Moment
-at_moment account held = record { account = account; held = held }
-
--- a source of which nothing is held back yet
-abbrev pub first_moment : Account → Moment
-first_moment account = at_moment account (record { bytes = []; line_feeds = 0 })
-
-abbrev pub standing_of : Store → Option (List ℕ) → Standing
-standing_of store taken = record { store = store; taken = taken }
-
 abbrev pub status_of : Status → spec.Status
 status_of statuses.Clean = all_accepted
 status_of statuses.Refused = some_refused

@@ -18,8 +18,8 @@ use Rattle.cil_check.proofs.FirstsLemmas.{same-test}
 use Rattle.cil_check.proofs.PositionLemmas.{any-same}
 use Rattle.cil_resolve.proofs.FaultlessLemmas.{contains-filter, no-faulty}
 use Rattle.cil_bind.specs.Lookup.{IsFirstOf}
-use Rattle.cil_check.specs.Gifts.{first_at, gives, HasFirsts}
-use Rattle.cil_check.specs.declared.firsts.Gift.TheVariants.{Common}
+use Rattle.cil_check.specs.Associations.{first_at, gives, HasFirsts}
+use Rattle.cil_check.specs.declared.firsts.Association.TheVariants.{Common}
 use Rattle.std.proofs.lemmas.List.Quantifiers.{position-Some}
 use Rattle.cil_check.proofs.WordLemmas.{none-there}
 use Rattle.cil_resolve.specs.Lowering.{common_in, common_of}

@@ -7,7 +7,7 @@ use Rattle.cil_specs.specs.Joined.{Placed}
 use Rattle.cil_specs.specs.Statements.{RuleKind, Form, block, optional, type_name, type_alias, alias_actual, type_attribute, attribute_set, common, class, class_common, class_order, rule, Target, itself, the_named, target_words}
 use Rattle.cil_specs.specs.Lookup.{Table, types, classes, declared_in, declared_name, leads, references, named_permissions, has_name, texts, distinct, permissions_of, gives_actual, actual_statement, actual_in, actual_of, is_type, is_alias, is_attribute}
 use Rattle.cil_specs.specs.PolicyFault.{element_words, kinds_asked}
-use Rattle.cil_specs.specs.Rule.{declared_as, class_as, is_class, types_of, attributes_of, classes_of, rules_of, rule_of, element_of, element_or_none, element_at, aim_of, class_name, name_or_none}
+use Rattle.cil_specs.specs.Rule.{declared_as, class_as, is_class, types_of, attributes_of, classes_of, rules_of, rule_of, element_of, element_or_none, element_at, resolved_target_of, class_name, name_or_none}
 use Rattle.cil_specs.proofs.NamesLemmas.{contains-first, contains-other, contains-map, contains-middle}
 use Rattle.cil_specs.proofs.Runs.{both_true}
 use Rattle.cil_bind.proofs.NamespaceLemmas.{bytes_eq-refl}
@@ -117,7 +117,7 @@ module _ (policy : List Placed) (faultless : IsFaultless policy) where
             (λ w is. permission-found policy faultless s there the_class w (subst (λ l. Contains l (the_class, w)) (sym named) (contains-map (λ v. (the_class, v)) permissions w is)) t e)
 
     target-declared : (kind : RuleKind) (source : Word) (target : Target) (the_class : Word) (permissions : List Word) → s.form ≡ rule kind source target the_class permissions
-        → is_aim_of (types_of policy) (attributes_of policy) (aim_of policy s.namespace target) ≡ true
+        → is_aim_of (types_of policy) (attributes_of policy) (resolved_target_of policy s.namespace target) ≡ true
     target-declared kind source itself the_class permissions form = refl
     target-declared kind source (the_named word) the_class permissions form =
         word-declared word
@@ -137,8 +137,8 @@ module _ (policy : List Placed) (faultless : IsFaultless policy) where
         (ap named_permissions form) in
         ap (λ b. b && true)
         (both_true (is_element_of (types_of policy) (attributes_of policy) (element_of policy s.namespace source))
-        (is_aim_of (types_of policy) (attributes_of policy) (aim_of policy s.namespace target) && list_any (is_class_with (class_name policy s.namespace the_class) (texts permissions)) (classes_of policy)) source_is
-        (both_true (is_aim_of (types_of policy) (attributes_of policy) (aim_of policy s.namespace target)) (list_any (is_class_with (class_name policy s.namespace the_class) (texts permissions)) (classes_of policy))
+        (is_aim_of (types_of policy) (attributes_of policy) (resolved_target_of policy s.namespace target) && list_any (is_class_with (class_name policy s.namespace the_class) (texts permissions)) (classes_of policy)) source_is
+        (both_true (is_aim_of (types_of policy) (attributes_of policy) (resolved_target_of policy s.namespace target)) (list_any (is_class_with (class_name policy s.namespace the_class) (texts permissions)) (classes_of policy))
         (target-declared kind source target the_class permissions form) class_is))
     rule-declared _ form = refl
 

@@ -18,9 +18,9 @@ use Rattle.cil_parse.specs.Forms.{kind_of}
 use Rattle.cil_parse.specs.declared.row.StatementKind.{StatementKind}
 use Rattle.cil_parse.specs.declared.row.StatementKind.TheVariants as kinds
 use Rattle.cil_bind.specs.Lookup.{IsLead, IsFirstOf}
-use Rattle.cil_check.specs.Gifts.{first_at, gives, HasFirsts}
+use Rattle.cil_check.specs.Associations.{first_at, gives, HasFirsts}
 use Rattle.cil_check.specs.Ordered.{IsFaultless}
-use Rattle.cil_check.specs.declared.firsts.Gift.TheVariants.{Actual, Common}
+use Rattle.cil_check.specs.declared.firsts.Association.TheVariants.{Actual, Common}
 use Rattle.cil_check.proofs.FirstsLemmas.{first-itself}
 use Rattle.cil_bind.proofs.PositionLemmas.{position-cons}
 use Rattle.cil_resolve.specs.FullNames.{numbered_id, is_numbered, full_name_or, full_name_of}

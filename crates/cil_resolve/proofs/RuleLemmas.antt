@@ -22,17 +22,17 @@ use Rattle.cil_specs.specs.Rule as spec
 use Rattle.cil_specs.specs.Rule.{class_name}
 use Rattle.cil_specs.proofs.Runs.{both_true}
 use Rattle.cil_text.specs.Image.{place_of, rule_kind_of}
-use Rattle.cil_resolve.specs.Below.{is_element_below, is_aim_below, is_rule_below}
+use Rattle.cil_resolve.specs.Below.{is_element_below, is_target_below, is_rule_below}
 use Rattle.cil_resolve.specs.Lowering.{IsElement, AreRules}
 use Rattle.cil_resolve.specs.Numbering.{number_in, AreNumbersIn, listed_names}
-use Rattle.cil_resolve.specs.Numbers.{aim_of}
+use Rattle.cil_resolve.specs.Numbers.{resolved_target_of}
 use Rattle.cil_resolve.specs.declared.numbered.NumberedRule.{NumberedRule}
 use Rattle.cil_resolve.proofs.NumberLemmas.{named-in, number-is, numbers-are, numbers-below}
 
 -- a rule, by its parts
 pub rule-made : {A : Type 0} (modules names : List (List ℕ)) (policy : List Placed) (s : Placed) (r : NumberedRule A) (kind : RuleKind) (source : Word) (target : Target) (the_class : Word) (permissions : List Word)
     → get_or modules r.«module» [] ≡ s.module_name → place_of r.at ≡ s.at → rule_kind_of r.kind ≡ kind → IsElement names r.source (spec.element_of policy s.namespace source)
-    → aim_of names r.target ≡ spec.aim_of policy s.namespace target → is_aim_below (length names) r.target ≡ true → number_in names (class_name policy s.namespace the_class) ≡ Some r.class
+    → resolved_target_of names r.target ≡ spec.resolved_target_of policy s.namespace target → is_target_below (length names) r.target ≡ true → number_in names (class_name policy s.namespace the_class) ≡ Some r.class
     → AreNumbersIn names (texts permissions) r.permissions.items → AreRules modules names (r ∷ []) (spec.rule_of policy s (rule kind source target the_class permissions))
 rule-made modules names policy s r kind source target the_class permissions m a k from aim aim_below cls numbers =
     let (low, named) = number-is names (class_name policy s.namespace the_class) r.class cls in
@@ -41,8 +41,8 @@ rule-made modules names policy s r kind source target the_class permissions m a 
       is = λ j. record { module_name = m j; at = a j; kind = k j; source = from.named j; target = aim j; the_class = named j; permissions = all j } ∷ [];
       below =
           both_true (is_rule_below (length names) r) true
-          (both_true (is_element_below (length names) r.source) (is_aim_below (length names) r.target && (nat_lt r.class (length names) && list_all (λ p. nat_lt p (length names)) r.permissions.items)) from.below
-          (both_true (is_aim_below (length names) r.target) (nat_lt r.class (length names) && list_all (λ p. nat_lt p (length names)) r.permissions.items) aim_below
+          (both_true (is_element_below (length names) r.source) (is_target_below (length names) r.target && (nat_lt r.class (length names) && list_all (λ p. nat_lt p (length names)) r.permissions.items)) from.below
+          (both_true (is_target_below (length names) r.target) (nat_lt r.class (length names) && list_all (λ p. nat_lt p (length names)) r.permissions.items) aim_below
           (both_true (nat_lt r.class (length names)) (list_all (λ p. nat_lt p (length names)) r.permissions.items) (lt-ltb r.class (length names) low)
           (numbers-below names (texts permissions) r.permissions.items numbers)))) refl;
     }

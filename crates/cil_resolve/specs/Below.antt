@@ -3,8 +3,8 @@ use Rattle.std.specs.Prelude.{ℕ, Bool, true, ◌&&◌, nat_lt}
 use Rattle.std.specs.List.{list_all}
 use Rattle.cil_resolve.specs.declared.numbered.Element.{Element}
 use Rattle.cil_resolve.specs.declared.numbered.Element.TheVariants.{«Type», Attribute}
-use Rattle.cil_resolve.specs.declared.numbered.Aim.{Aim}
-use Rattle.cil_resolve.specs.declared.numbered.Aim.TheVariants as aims
+use Rattle.cil_resolve.specs.declared.numbered.ResolvedTarget.{ResolvedTarget}
+use Rattle.cil_resolve.specs.declared.numbered.ResolvedTarget.TheVariants as aims
 use Rattle.cil_resolve.specs.declared.numbered.NumberedName.{NumberedName}
 use Rattle.cil_resolve.specs.declared.numbered.NumberedClass.{NumberedClass}
 use Rattle.cil_resolve.specs.declared.numbered.NumberedRule.{NumberedRule}
@@ -14,12 +14,12 @@ abbrev pub is_element_below : ℕ → Element → Bool
 is_element_below n («Type» i) = nat_lt i n
 is_element_below n (Attribute i) = nat_lt i n
 
-abbrev pub is_aim_below : ℕ → Aim → Bool
-is_aim_below n aims.Itself = true
-is_aim_below n (aims.Element e) = is_element_below n e
+abbrev pub is_target_below : ℕ → ResolvedTarget → Bool
+is_target_below n aims.Itself = true
+is_target_below n (aims.Element e) = is_element_below n e
 
 abbrev pub is_rule_below : {A : Type 0} → ℕ → NumberedRule A → Bool
-is_rule_below n r = is_element_below n r.source && (is_aim_below n r.target && (nat_lt r.class n && list_all (λ p. nat_lt p n) r.permissions.items))
+is_rule_below n r = is_element_below n r.source && (is_target_below n r.target && (nat_lt r.class n && list_all (λ p. nat_lt p n) r.permissions.items))
 
 abbrev pub is_name_below : ℕ → NumberedName → Bool
 is_name_below n d = nat_lt d.name n

@@ -3,7 +3,7 @@ use Rattle.std.specs.Prelude.{ℕ, Bool, true, ◌&&◌, List, bytes_eq}
 use Rattle.std.specs.List.{list_all, list_any}
 use Rattle.cil_specs.specs.Lookup.{has_name}
 use Rattle.cil_specs.specs.Meaning.{Meaning}
-use Rattle.cil_specs.specs.Rule.{Element, a_type, an_attribute, Aim, at_itself, at_element, Rule, Declared, ClassOf}
+use Rattle.cil_specs.specs.Rule.{Element, a_type, an_attribute, ResolvedTarget, at_itself, at_element, Rule, Declared, ClassOf}
 
 -- whether one of these has the name
 abbrev pub is_declared : List Declared → List ℕ → Bool
@@ -14,7 +14,7 @@ abbrev pub is_element_of : List Declared → List Declared → Element → Bool
 is_element_of types attributes (a_type name) = is_declared types name
 is_element_of types attributes (an_attribute name) = is_declared attributes name
 
-abbrev pub is_aim_of : List Declared → List Declared → Aim → Bool
+abbrev pub is_aim_of : List Declared → List Declared → ResolvedTarget → Bool
 is_aim_of types attributes at_itself = true
 is_aim_of types attributes (at_element element) = is_element_of types attributes element
 

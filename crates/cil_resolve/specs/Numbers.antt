@@ -7,8 +7,8 @@ use Rattle.cil_text.specs.Image.{place_of, rule_kind_of}
 use Rattle.cil_resolve.specs.Consistent.{are_rules_of, are_placed_in}
 use Rattle.cil_resolve.specs.declared.numbered.Element.{Element}
 use Rattle.cil_resolve.specs.declared.numbered.Element.TheVariants.{«Type», Attribute}
-use Rattle.cil_resolve.specs.declared.numbered.Aim.{Aim}
-use Rattle.cil_resolve.specs.declared.numbered.Aim.TheVariants as aims
+use Rattle.cil_resolve.specs.declared.numbered.ResolvedTarget.{ResolvedTarget}
+use Rattle.cil_resolve.specs.declared.numbered.ResolvedTarget.TheVariants as aims
 use Rattle.cil_resolve.specs.declared.numbered.NumberedName.{NumberedName}
 use Rattle.cil_resolve.specs.declared.numbered.NumberedClass.{NumberedClass}
 use Rattle.cil_resolve.specs.declared.numbered.NumberedRule.{NumberedRule}
@@ -18,9 +18,9 @@ abbrev pub element_of : List (List ℕ) → Element → spec.Element
 element_of names («Type» i) = a_type (slice_index_or names i [])
 element_of names (Attribute i) = an_attribute (slice_index_or names i [])
 
-abbrev pub aim_of : List (List ℕ) → Aim → spec.Aim
-aim_of names aims.Itself = at_itself
-aim_of names (aims.Element e) = at_element (element_of names e)
+abbrev pub resolved_target_of : List (List ℕ) → ResolvedTarget → spec.ResolvedTarget
+resolved_target_of names aims.Itself = at_itself
+resolved_target_of names (aims.Element e) = at_element (element_of names e)
 
 abbrev pub declared_of : List (List ℕ) → List (List ℕ) → NumberedName → spec.Declared
 declared_of modules names d = record { module_name = slice_index_or modules d.module []; at = place_of d.at; name = slice_index_or names d.name [] }
@@ -40,7 +40,7 @@ rule_of modules names r = record {
   at = place_of r.at;
   kind = rule_kind_of r.kind;
   source = element_of names r.source;
-  target = aim_of names r.target;
+  target = resolved_target_of names r.target;
   the_class = slice_index_or names r.class [];
   permissions = map (λ p. slice_index_or names p []) r.permissions.items;
 }

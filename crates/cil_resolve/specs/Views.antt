@@ -2,14 +2,14 @@
 use Rattle.std.specs.Prelude.{ℕ, List, length}
 use Rattle.cil_specs.specs.Place.{Place}
 use Rattle.cil_specs.specs.Statements.{RuleKind}
-use Rattle.cil_specs.specs.Rule.{Element, a_type, an_attribute, Aim, at_itself, at_element, Declared, ClassOf, Rule}
+use Rattle.cil_specs.specs.Rule.{Element, a_type, an_attribute, ResolvedTarget, at_itself, at_element, Declared, ClassOf, Rule}
 use Rattle.cil_text.specs.Image.{place_of, rule_kind_of}
 use Rattle.cil_resolve.specs.declared.views.NameView.{NameView}
 use Rattle.cil_resolve.specs.declared.views.ClassView.{ClassView}
 use Rattle.cil_resolve.specs.declared.views.ElementView.{ElementView}
 use Rattle.cil_resolve.specs.declared.views.ElementView.TheVariants.{«Type», Attribute}
-use Rattle.cil_resolve.specs.declared.views.AimView.{AimView}
-use Rattle.cil_resolve.specs.declared.views.AimView.TheVariants as aims
+use Rattle.cil_resolve.specs.declared.views.TargetView.{TargetView}
+use Rattle.cil_resolve.specs.declared.views.TargetView.TheVariants as aims
 use Rattle.cil_resolve.specs.declared.views.RuleView.{RuleView}
 
 abbrev pub declared_seen : NameView → Declared
@@ -32,9 +32,9 @@ abbrev pub element_seen : ElementView → Element
 element_seen («Type» name) = a_type name.now
 element_seen (Attribute name) = an_attribute name.now
 
-abbrev pub aim_seen : AimView → Aim
-aim_seen aims.Itself = at_itself
-aim_seen (aims.Element e) = at_element (element_seen e)
+abbrev pub resolved_target_seen : TargetView → ResolvedTarget
+resolved_target_seen aims.Itself = at_itself
+resolved_target_seen (aims.Element e) = at_element (element_seen e)
 
 -- a rule but for its permissions, which are counted
 pub record RuleHead : Type 0 where
@@ -42,7 +42,7 @@ pub record RuleHead : Type 0 where
   pub at : Place
   pub kind : RuleKind
   pub source : Element
-  pub target : Aim
+  pub target : ResolvedTarget
   pub the_class : List ℕ
   pub permissions : ℕ
 
@@ -63,7 +63,7 @@ rule_seen v = record {
   at = place_of v.at;
   kind = rule_kind_of v.kind;
   source = element_seen v.source;
-  target = aim_seen v.target;
+  target = resolved_target_seen v.target;
   the_class = v.class.now;
   permissions = v.permissions;
 }

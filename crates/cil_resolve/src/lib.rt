@@ -23,8 +23,10 @@ pub use laws::{
     found_grows, kept_exists, kept_is_good, kept_is_one, meanings_are_consistent,
     policies_are_apart, resolved_is_consistent,
 };
-pub use numbered::{Aim, DroppedOptional, Element, NumberedClass, NumberedName, NumberedRule};
+pub use numbered::{
+    DroppedOptional, Element, NumberedClass, NumberedName, NumberedRule, ResolvedTarget,
+};
 pub use resolved::Resolved;
 pub use resolver::{resolve, resolve_types};
 pub use text::Text;
-pub use views::{AimView, ClassView, ElementView, NameView, RuleView};
+pub use views::{ClassView, ElementView, NameView, RuleView, TargetView};

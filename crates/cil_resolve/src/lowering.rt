@@ -19,7 +19,7 @@ ghost use Rattle.cil_resolve.specs.Lowering.{IsElement, IsLowering, IsIn, IsDecl
 ghost use Rattle.cil_resolve.specs.Numbering.{AreNumbersIn, listed_names, number_in};
 
 use crate::elements::{element_in, lead_at};
-use crate::numbered::{Aim, Element, NumberedClass, NumberedName, NumberedRule};
+use crate::numbered::{Element, NumberedClass, NumberedName, NumberedRule, ResolvedTarget};
 use crate::numbering::Numbering;
 use crate::words::number_at;
 use cil_check::{Checker, Seen};
@@ -176,8 +176,8 @@ impl<'l, 'p, 'm, A: Allocator + Copy> Lowering<'l, 'p, 'm, A> {
             → AreRules (modules_of self.now.checker.now.bound.joined.now) self.now.numbering.now.names.items (option_to_list rule) (rule_if policy s)) }
     {
         let (kind, target, class) = match seen.view.kind {
-            StatementKind::Rule(kind) => (kind, Aim::Element(self.element(seen, 1)), 2),
-            StatementKind::RuleToSelf(kind) => (kind, Aim::Itself, 1),
+            StatementKind::Rule(kind) => (kind, ResolvedTarget::Element(self.element(seen, 1)), 2),
+            StatementKind::RuleToSelf(kind) => (kind, ResolvedTarget::Itself, 1),
             _ => return Ok(None),
         };
         Ok(Some(NumberedRule {

@@ -13,7 +13,7 @@ pub enum Element {
 
 /// A rule's target: each source itself, or what a name leads to.
 #[derive(Clone, Copy, Debug, PartialEq, Eq)]
-pub enum Aim {
+pub enum ResolvedTarget {
     Itself,
     Element(Element),
 }
@@ -43,7 +43,7 @@ pub struct NumberedRule<A: Allocator = Global> {
     pub at: Place,
     pub kind: RuleKind,
     pub source: Element,
-    pub target: Aim,
+    pub target: ResolvedTarget,
     pub class: usize,
     pub permissions: Vec<usize, A>,
 }

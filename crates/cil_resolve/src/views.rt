@@ -5,11 +5,11 @@ ghost use Rattle.std.specs.List.{list_all};
 ghost use Rattle.std.specs.Option.{option_and_then};
 ghost use Rattle.cil_specs.specs.Report.{names_rise};
 ghost use Rattle.cil_resolve.specs.Below.{is_rule_below};
-ghost use Rattle.cil_resolve.specs.Numbers.{element_of, aim_of};
+ghost use Rattle.cil_resolve.specs.Numbers.{element_of, resolved_target_of};
 ghost use Rattle.cil_resolve.specs.Resolved.{meaning_in};
-ghost use Rattle.cil_resolve.specs.Views.{declared_seen, class_seen, class_head, element_seen, aim_seen, rule_seen, rule_head};
+ghost use Rattle.cil_resolve.specs.Views.{declared_seen, class_seen, class_head, element_seen, resolved_target_seen, rule_seen, rule_head};
 
-use crate::numbered::{Aim, Element, NumberedRule};
+use crate::numbered::{Element, NumberedRule, ResolvedTarget};
 use crate::resolved::Resolved;
 use crate::text::Text;
 use cil_text::{Place, RuleKind};
@@ -41,7 +41,7 @@ pub enum ElementView<'r> {
 
 /// A rule's target: each source itself, or what a name leads to.
 #[derive(Clone, Copy, Debug)]
-pub enum AimView<'r> {
+pub enum TargetView<'r> {
     Itself,
     Element(ElementView<'r>),
 }
@@ -53,7 +53,7 @@ pub struct RuleView<'r> {
     pub at: Place,
     pub kind: RuleKind,
     pub source: ElementView<'r>,
-    pub target: AimView<'r>,
+    pub target: TargetView<'r>,
     pub class: &'r [u8],
     pub permissions: usize,
 }
@@ -88,12 +88,12 @@ impl<A: Allocator> Resolved<A> {
         }
     }
 
-    fn aim(&self, aim: Aim) -> AimView<'_>
-        ensures { aim_seen result ≡ aim_of self.now.names.items aim }
+    fn aim(&self, aim: ResolvedTarget) -> TargetView<'_>
+        ensures { resolved_target_seen result ≡ resolved_target_of self.now.names.items aim }
     {
         match aim {
-            Aim::Itself => AimView::Itself,
-            Aim::Element(element) => AimView::Element(self.element(element)),
+            ResolvedTarget::Itself => TargetView::Itself,
+            ResolvedTarget::Element(element) => TargetView::Element(self.element(element)),
         }
     }
 

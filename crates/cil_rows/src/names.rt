@@ -12,8 +12,8 @@ use crate::answers::{assert_same, shown};
 use crate::tables::assert_changes;
 use cil_parse::{ParsedModule, StatementKind, parse};
 use cil_resolve::{
-    AimView, ClassView, Element, ElementView, Joined, NameView, NamedModule, PolicyFault, Resolved,
-    RuleView, join, resolve, resolve_types,
+    ClassView, Element, ElementView, Joined, NameView, NamedModule, PolicyFault, Resolved,
+    RuleView, TargetView, join, resolve, resolve_types,
 };
 use cil_rules::{Atom, Changes, Table};
 use cil_text::{MemorySink, RuleKind};
@@ -223,10 +223,10 @@ fn is_type_a(element: ElementView<'_>) -> bool {
     }
 }
 
-fn aims_at_a(aim: AimView<'_>) -> bool {
+fn aims_at_a(aim: TargetView<'_>) -> bool {
     match aim {
-        AimView::Element(element) => is_type_a(element),
-        AimView::Itself => false,
+        TargetView::Element(element) => is_type_a(element),
+        TargetView::Itself => false,
     }
 }
 

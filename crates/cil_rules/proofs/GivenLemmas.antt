@@ -16,12 +16,12 @@ use Rattle.cil_specs.proofs.ReportLemmasMembers.{AnyByRecursion, any_to, any_fro
 use Rattle.cil_text.specs.Image.{rule_kind_of}
 use Rattle.cil_resolve.specs.declared.numbered.NumberedRule.{NumberedRule}
 use Rattle.cil_rules.specs.declared.numbers.AtomNumbers.{AtomNumbers}
-use Rattle.cil_resolve.specs.Numbers.{rule_of, element_of, aim_of}
+use Rattle.cil_resolve.specs.Numbers.{rule_of, element_of, resolved_target_of}
 use Rattle.cil_resolve.specs.declared.numbered.Element.{Element}
 use Rattle.cil_resolve.specs.declared.numbered.Element.TheVariants.{«Type», Attribute}
-use Rattle.cil_resolve.specs.declared.numbered.Aim.{Aim}
-use Rattle.cil_resolve.specs.declared.numbered.Aim.TheVariants as targets
-use Rattle.cil_resolve.specs.Below.{is_element_below, is_aim_below, is_rule_below}
+use Rattle.cil_resolve.specs.declared.numbered.ResolvedTarget.{ResolvedTarget}
+use Rattle.cil_resolve.specs.declared.numbered.ResolvedTarget.TheVariants as targets
+use Rattle.cil_resolve.specs.Below.{is_element_below, is_target_below, is_rule_below}
 use Rattle.cil_rules.specs.Atoms.{atom_at, name_at, IsWithin, numbers_cmp, given_for, given_between, given, AreNumbered}
 use Rattle.cil_rules.proofs.AtomLemmas.{atoms-ordered}
 
@@ -38,8 +38,8 @@ permissions-within n r source target ps source_below target_below the_class with
 none-within : (n : ℕ) → All (IsWithin n) []
 none-within n = All-from_recursion (IsWithin n) [] tt
 
-between-within : {A : Type 0} (n : ℕ) (r : NumberedRule A) (source : Element) (target : Aim)
-    → IsTrue (is_element_below n source && (is_aim_below n target && (nat_lt r.class n && list_all (λ p. nat_lt p n) r.permissions.items))) → All (IsWithin n) (given_between r source target)
+between-within : {A : Type 0} (n : ℕ) (r : NumberedRule A) (source : Element) (target : ResolvedTarget)
+    → IsTrue (is_element_below n source && (is_target_below n target && (nat_lt r.class n && list_all (λ p. nat_lt p n) r.permissions.items))) → All (IsWithin n) (given_between r source target)
 between-within n r («Type» source) targets.Itself within =
     let sources = and_parts (nat_lt source n) _ within in
     let classes = and_parts (nat_lt r.class n) _ sources.1 in
@@ -63,13 +63,13 @@ bytes-same : (xs : List ℕ) → IsTrue (bytes_eq xs xs)
 bytes-same xs = (bytes_decides xs xs).1 refl
 
 -- whether a rule gives an access from a source to a target
-abbrev gives_between : {A : Type 0} → Meaning → List (List ℕ) → NumberedRule A → Element → Aim → spec.Atom → Bool
+abbrev gives_between : {A : Type 0} → Meaning → List (List ℕ) → NumberedRule A → Element → ResolvedTarget → spec.Atom → Bool
 gives_between meaning names r source target a =
-    (kind_index (rule_kind_of r.kind) == kind_index a.kind) && (holds meaning (element_of names source) a.source && (aims meaning (aim_of names target) a.source a.target
+    (kind_index (rule_kind_of r.kind) == kind_index a.kind) && (holds meaning (element_of names source) a.source && (aims meaning (resolved_target_of names target) a.source a.target
     && (bytes_eq (name_at names r.class) a.the_class && list_any (bytes_eq a.permission) (map (name_at names) r.permissions.items))))
 
 -- it gives the accesses that its numbers stand for
-gives-types : {A : Type 0} (meaning : Meaning) (names : List (List ℕ)) (r : NumberedRule A) (source : ℕ) (aim : Aim) (target : ℕ) (a : spec.Atom) → IsTrue (aims meaning (aim_of names aim) (name_at names source) (name_at names target))
+gives-types : {A : Type 0} (meaning : Meaning) (names : List (List ℕ)) (r : NumberedRule A) (source : ℕ) (aim : ResolvedTarget) (target : ℕ) (a : spec.Atom) → IsTrue (aims meaning (resolved_target_of names aim) (name_at names source) (name_at names target))
     → AnyByRecursion (λ p. atom_at names (given_for r source target p) ≡ a) r.permissions.items → IsTrue (gives_between meaning names r («Type» source) aim a)
 gives-types meaning names r source aim target a aimed here =
     let (k, p, within, is, same) = any_from (λ p. atom_at names (given_for r source target p) ≡ a) r.permissions.items here in
@@ -82,7 +82,7 @@ gives-types meaning names r source aim target a aimed here =
     (and_from _ _ aimed
     (and_from _ _ (bytes-same (name_at names r.class)) (test_from_any (bytes_eq (name_at names p)) (map (name_at names) r.permissions.items) held)))))
 
-gives-between : {A : Type 0} (meaning : Meaning) (names : List (List ℕ)) (r : NumberedRule A) (source : Element) (target : Aim) (a : spec.Atom) → AnyByRecursion (λ n. atom_at names n ≡ a) (given_between r source target)
+gives-between : {A : Type 0} (meaning : Meaning) (names : List (List ℕ)) (r : NumberedRule A) (source : Element) (target : ResolvedTarget) (a : spec.Atom) → AnyByRecursion (λ n. atom_at names n ≡ a) (given_between r source target)
     → IsTrue (gives_between meaning names r source target a)
 gives-between meaning names r («Type» source) targets.Itself a some =
     gives-types meaning names r source targets.Itself source a (bytes-same (name_at names source)) (any_from_map (given_for r source source) (λ n. atom_at names n ≡ a) r.permissions.items some)
@@ -95,13 +95,13 @@ gives-from_given : {A : Type 0} (meaning : Meaning) (modules names : List (List 
 gives-from_given meaning modules names r a some = gives-between meaning names r r.source r.target a some
 
 -- and no other
-given-types : {A : Type 0} (meaning : Meaning) (names : List (List ℕ)) (r : NumberedRule A) (from : ℕ) (aim : Aim) (to : ℕ) (a : spec.Atom)
-    → (name_at names from ≡ a.source → IsTrue (aims meaning (aim_of names aim) a.source a.target) → name_at names to ≡ a.target) → IsTrue (gives_between meaning names r («Type» from) aim a)
+given-types : {A : Type 0} (meaning : Meaning) (names : List (List ℕ)) (r : NumberedRule A) (from : ℕ) (aim : ResolvedTarget) (to : ℕ) (a : spec.Atom)
+    → (name_at names from ≡ a.source → IsTrue (aims meaning (resolved_target_of names aim) a.source a.target) → name_at names to ≡ a.target) → IsTrue (gives_between meaning names r («Type» from) aim a)
     → AnyByRecursion (λ n. atom_at names n ≡ a) (map (given_for r from to) r.permissions.items)
 given-types meaning names r from aim to a aimed h =
     let kinds = and_parts (kind_index (rule_kind_of r.kind) == kind_index a.kind) _ h in
     let sources = and_parts (bytes_eq (name_at names from) a.source) _ kinds.1 in
-    let others = and_parts (aims meaning (aim_of names aim) a.source a.target) _ sources.1 in
+    let others = and_parts (aims meaning (resolved_target_of names aim) a.source a.target) _ sources.1 in
     let classes = and_parts (bytes_eq (name_at names r.class) a.the_class) _ others.1 in
     let kind : rule_kind_of r.kind ≡ a.kind = same-kind (rule_kind_of r.kind) a.kind (eqb-true _ _ kinds.0) in
     let source : name_at names from ≡ a.source = (bytes_decides (name_at names from) a.source).0 sources.0 in
@@ -114,7 +114,7 @@ given-types meaning names r from aim to a aimed h =
     (λ p e. let permission : name_at names p ≡ a.permission = sym ((bytes_decides a.permission (name_at names p)).0 e) in
     λ i. record { kind = kind i; source = source i; target = target i; the_class = the_class i; permission = permission i }) r.permissions.items held)
 
-given-between : {A : Type 0} (meaning : Meaning) (names : List (List ℕ)) (r : NumberedRule A) (source : Element) (target : Aim) (a : spec.Atom) → IsTrue (gives_between meaning names r source target a)
+given-between : {A : Type 0} (meaning : Meaning) (names : List (List ℕ)) (r : NumberedRule A) (source : Element) (target : ResolvedTarget) (a : spec.Atom) → IsTrue (gives_between meaning names r source target a)
     → AnyByRecursion (λ n. atom_at names n ≡ a) (given_between r source target)
 given-between meaning names r («Type» source) targets.Itself a h = given-types meaning names r source targets.Itself source a (λ is same. is ∙ (bytes_decides a.source a.target).0 same) h
 given-between meaning names r («Type» source) (targets.Element («Type» target)) a h =

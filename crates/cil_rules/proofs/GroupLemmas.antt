@@ -18,7 +18,7 @@ use Rattle.cil_rules.specs.declared.numbers.AtomNumbers.{AtomNumbers}
 use Rattle.cil_rules.specs.Atoms.{name_at, atom_at, IsWithin}
 use Rattle.cil_rules.specs.Rows.{row_with, put_first, groups_of, rows_of, row_numbers_cmp, is_in_row_of, row_at, IsFirstRow}
 use Rattle.cil_rules.proofs.AtomLemmas.{name_cmp-name_at}
-use Rattle.cil_specs.proofs.NamesLemmas.{all-first, all-second}
+use Rattle.cil_rules.proofs.RowLemmas.{all-append_left, all-append_right}
 
 row_numbers_total : IsTotalOrder row_numbers_cmp
 row_numbers_total =
@@ -107,10 +107,10 @@ module _ (atoms : List AtomNumbers) (first : AtomNumbers) (row later : List Atom
       omega (arith, whole, some)
 
   pub row-all : (P : AtomNumbers → Type 0) → All P atoms → All P row
-  row-all P all = All-from_recursion P row (all-first P row later (recursion_from_All P (row ++ later) (subst (All P) parts.whole all)))
+  row-all P all = All-from_recursion P row (all-append_left P row later (recursion_from_All P (row ++ later) (subst (All P) parts.whole all)))
 
   pub later-all : (P : AtomNumbers → Type 0) → All P atoms → All P later
-  later-all P all = All-from_recursion P later (all-second P row later (recursion_from_All P (row ++ later) (subst (All P) parts.whole all)))
+  later-all P all = All-from_recursion P later (all-append_right P row later (recursion_from_All P (row ++ later) (subst (All P) parts.whole all)))
 
   pub first-all : (P : AtomNumbers → Type 0) → All P atoms → P first
   first-all P all = (recursion_from_All P (first ∷ parts.some.0) (subst (All P) parts.some.1 (row-all P all))).0

@@ -13,7 +13,6 @@ use Rattle.std.proofs.lemmas.List.Kept.{IsStrictlySortedBy-filter}
 use Rattle.std.proofs.lemmas.Map.Lookups.{exact_unsigned, exact_bytes}
 use Rattle.cil_specs.specs.Rule.{Atom, kind_index}
 use Rattle.cil_specs.specs.Report.{name_cmp, atom_cmp, AreAtoms, Row, row_cmp, is_listed, IsRow, Has, AreRows}
-use Rattle.cil_specs.proofs.NamesLemmas.{all-first, all-second}
 use Rattle.cil_specs.proofs.ReportLemmas.{name_total, same-kind, then_equal, equal-is}
 use Rattle.cil_specs.proofs.ReportLemmasMembers.{AnyByRecursion, any_to, any_from, contains_to, contains_from, any_weaker, any-map, any_from_map, any-filter, any_from_filter, any-flat_map, any_from_flat_map, all_weaker, sorted_unmap}
 use Rattle.cil_rules.specs.Rows.{row_with, put_first, groups_of, rows_of}
@@ -86,10 +85,18 @@ grouped-groups_of : (atoms : List Atom) → AreGrouped (groups_of atoms)
 grouped-groups_of [] = tt
 grouped-groups_of (a ∷ atoms) = grouped-put_first a (groups_of atoms) (grouped-groups_of atoms)
 
+pub all-append_left : {X : Type 0} (P : X → Type 0) (xs ys : List X) → AllByRecursion P (xs ++ ys) → AllByRecursion P xs
+all-append_left P [] ys all = tt
+all-append_left P (x ∷ xs) ys all = (all.0, all-append_left P xs ys all.1)
+
+pub all-append_right : {X : Type 0} (P : X → Type 0) (xs ys : List X) → AllByRecursion P (xs ++ ys) → AllByRecursion P ys
+all-append_right P [] ys all = all
+all-append_right P (x ∷ xs) ys all = all-append_right P xs ys all.1
+
 sorted-append_left : {X : Type 0} (R : X → X → Ordering) (xs ys : List X) → IsStrictlySortedBy R (xs ++ ys) → IsStrictlySortedBy R xs
 unfolding IsStrictlySortedBy
 sorted-append_left R [] ys sorted = tt
-sorted-append_left R (x ∷ xs) ys sorted = (all-first (λ y. R x y ≡ Less) xs ys sorted.0, sorted-append_left R xs ys sorted.1)
+sorted-append_left R (x ∷ xs) ys sorted = (all-append_left (λ y. R x y ≡ Less) xs ys sorted.0, sorted-append_left R xs ys sorted.1)
 
 sorted-append_right : {X : Type 0} (R : X → X → Ordering) (xs ys : List X) → IsStrictlySortedBy R (xs ++ ys) → IsStrictlySortedBy R ys
 unfolding IsStrictlySortedBy
@@ -133,7 +140,7 @@ rows-ordered (r ∷ s ∷ rows) grouped sorted =
     by (p ∷ ps) [] some some' up = absurd (some' refl)
     by (p ∷ ps) (q ∷ qs) some some' up =
         less-part (row_cmp r s) (name_cmp p q) grouped.1
-        (sym (atom_cmp-atom_with r s p q) ∙ (all-second (λ y. atom_cmp (atom_with r p) y ≡ Less) (map (atom_with r) ps) (map (atom_with s) (q ∷ qs) ++ flat_map atoms_in rows) up.0).0)
+        (sym (atom_cmp-atom_with r s p q) ∙ (all-append_right (λ y. atom_cmp (atom_with r p) y ≡ Less) (map (atom_with r) ps) (map (atom_with s) (q ∷ qs) ++ flat_map atoms_in rows) up.0).0)
 
 all-unit : {X : Type 0} (xs : List X) → AllByRecursion (λ (x : X). Unit {0}) xs
 all-unit [] = tt

@@ -10,8 +10,8 @@ use Rattle.cil_specs.specs.Report.{names_rise}
 use Rattle.cil_text.specs.Image.{rule_kind_of}
 use Rattle.cil_resolve.specs.declared.numbered.Element.{Element}
 use Rattle.cil_resolve.specs.declared.numbered.Element.TheVariants.{«Type», Attribute}
-use Rattle.cil_resolve.specs.declared.numbered.Aim.{Aim}
-use Rattle.cil_resolve.specs.declared.numbered.Aim.TheVariants as aims
+use Rattle.cil_resolve.specs.declared.numbered.ResolvedTarget.{ResolvedTarget}
+use Rattle.cil_resolve.specs.declared.numbered.ResolvedTarget.TheVariants as aims
 use Rattle.cil_resolve.specs.declared.numbered.NumberedRule.{NumberedRule}
 use Rattle.cil_rules.specs.declared.atom.Atom.{Atom}
 use Rattle.cil_rules.specs.declared.numbers.AtomNumbers.{AtomNumbers}
@@ -57,7 +57,7 @@ abbrev pub given_for : {A : Type 0} → NumberedRule A → ℕ → ℕ → ℕ �
 given_for r source target p = record { kind = r.kind; source = source; target = target; class = r.class; permission = p }
 
 -- the type that a target takes in for a source: the source itself, or the type that is its element
-abbrev pub target_for : ℕ → Aim → Option ℕ
+abbrev pub target_for : ℕ → ResolvedTarget → Option ℕ
 target_for source aims.Itself = Some source
 target_for source (aims.Element («Type» target)) = Some target
 target_for source (aims.Element (Attribute target)) = None
@@ -68,7 +68,7 @@ given_to r source (Some target) = map (given_for r source target) r.permissions.
 given_to r source None = []
 
 -- what a rule gives from a source to a target
-abbrev pub given_between : {A : Type 0} → NumberedRule A → Element → Aim → List AtomNumbers
+abbrev pub given_between : {A : Type 0} → NumberedRule A → Element → ResolvedTarget → List AtomNumbers
 given_between r («Type» source) target = given_to r source (target_for source target)
 given_between r (Attribute source) target = []
 

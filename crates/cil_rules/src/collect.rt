@@ -6,17 +6,17 @@ ghost use Rattle.std.specs.List.Sorted.{IsStrictlySortedBy};
 ghost use Rattle.cil_rules.specs.Atoms.{numbers_cmp, target_for, given};
 
 use crate::numbers::{AtomNumbers, number};
-use cil_resolve::{Aim, Element, NumberedRule};
+use cil_resolve::{Element, NumberedRule, ResolvedTarget};
 use std::alloc::{AllocError, Allocator};
 
 /// The type that a rule's target takes in for a source: the source itself, or the type that the target leads to.
-fn target_for(source: usize, aim: Aim) -> Option<usize>
+fn target_for(source: usize, aim: ResolvedTarget) -> Option<usize>
     ensures { result ≡ target_for source aim }
 {
     match aim {
-        Aim::Itself => Some(source),
-        Aim::Element(Element::Type(target)) => Some(target),
-        Aim::Element(Element::Attribute(_)) => None,
+        ResolvedTarget::Itself => Some(source),
+        ResolvedTarget::Element(Element::Type(target)) => Some(target),
+        ResolvedTarget::Element(Element::Attribute(_)) => None,
     }
 }
 

@@ -2,7 +2,7 @@
 use Rattle.std.specs.Prelude.{◌≡◌, ℕ, Bool, false, ◌&&◌, ◌==◌, List, bytes_eq, count_by, nat_lt}
 use Rattle.std.specs.List.{list_any}
 use Rattle.cil_specs.specs.Joined.{Placed}
-use Rattle.cil_specs.specs.Rule.{Element, a_type, an_attribute, Aim, at_itself, at_element, Rule, Atom, kind_index, Declared, ClassOf, SetStatement, types_of, attributes_of, classes_of, sets_of, rules_of}
+use Rattle.cil_specs.specs.Rule.{Element, a_type, an_attribute, ResolvedTarget, at_itself, at_element, Rule, Atom, kind_index, Declared, ClassOf, SetStatement, types_of, attributes_of, classes_of, sets_of, rules_of}
 use Rattle.cil_specs.specs.Kept.{Optionals, AreKept, restricted, Compiles, dropped_of}
 
 -- The types, attributes, classes, set statements and rules of a policy, in the order of their statements, and the optionals that
@@ -38,7 +38,7 @@ holds meaning (a_type name) t = bytes_eq name t
 holds meaning (an_attribute name) t = false
 
 -- whether a rule's target takes in the type t where s is the source
-abbrev pub aims : Meaning → Aim → List ℕ → List ℕ → Bool
+abbrev pub aims : Meaning → ResolvedTarget → List ℕ → List ℕ → Bool
 aims meaning at_itself s t = bytes_eq s t
 aims meaning (at_element element) s t = holds meaning element t
 

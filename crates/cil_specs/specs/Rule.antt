@@ -13,9 +13,9 @@ pub data Element : Type 0 where
   an_attribute : List ℕ → Element
 
 -- a rule's target as resolved: each source itself, or an element
-pub data Aim : Type 0 where
-  at_itself : Aim
-  at_element : Element → Aim
+pub data ResolvedTarget : Type 0 where
+  at_itself : ResolvedTarget
+  at_element : Element → ResolvedTarget
 
 -- a rule with full names in place of its references
 pub record Rule : Type 0 where
@@ -23,7 +23,7 @@ pub record Rule : Type 0 where
   pub at : Place
   pub kind : RuleKind
   pub source : Element
-  pub target : Aim
+  pub target : ResolvedTarget
   pub the_class : List ℕ
   pub permissions : List (List ℕ)
 
@@ -31,7 +31,7 @@ pub record Rule : Type 0 where
 pub record RuleContent : Type 0 where
   pub kind : RuleKind
   pub source : Element
-  pub target : Aim
+  pub target : ResolvedTarget
   pub the_class : List ℕ
   pub permissions : List (List ℕ)
 
@@ -131,9 +131,9 @@ element_or_none policy (Some s) = element_at policy s s.form
 abbrev pub element_of : List Placed → List (List ℕ) → Word → Element
 element_of policy namespace word = element_or_none policy (leads policy types namespace word.text)
 
-abbrev pub aim_of : List Placed → List (List ℕ) → Target → Aim
-aim_of policy namespace itself = at_itself
-aim_of policy namespace (the_named word) = at_element (element_of policy namespace word)
+abbrev pub resolved_target_of : List Placed → List (List ℕ) → Target → ResolvedTarget
+resolved_target_of policy namespace itself = at_itself
+resolved_target_of policy namespace (the_named word) = at_element (element_of policy namespace word)
 
 -- a statement's rule, if it is one
 abbrev pub rule_of : List Placed → Placed → Form → List Rule
@@ -142,7 +142,7 @@ rule_of policy s (rule kind source target the_class permissions) = record {
   at = s.at;
   kind = kind;
   source = element_of policy s.namespace source;
-  target = aim_of policy s.namespace target;
+  target = resolved_target_of policy s.namespace target;
   the_class = class_name policy s.namespace the_class;
   permissions = map (λ w. w.text) permissions;
 } ∷ []

@@ -11,8 +11,8 @@ pub loop-i-init : goal.loop-i-init
 loop-i-init g c =
     let needs = c.args.needs.now in
     let count = c.args.count in
-    let given : length c.in_ok-asking.asking.items ≡ count + 1 = c.in_ok-asking.ensures.len in
-    let len : c.len.result ≡ count + 1 = omega (arith, c.len.ensures, c.in_ok-asking.asking.ok.0, given) in
+    let given : length c.in_ok-dependents.dependents.items ≡ count + 1 = c.in_ok-dependents.ensures.len in
+    let len : c.len.result ≡ count + 1 = omega (arith, c.len.ensures, c.in_ok-dependents.dependents.ok.0, given) in
     let kept : replicate (count + 1) true ≡ c.in_ok-kept.kept.items = sym (subst (λ n. c.in_ok-kept.kept.items ≡ replicate n true) len (c.in_ok-kept.ensures.items_if_clones_equal (λ y e. e))) in
     let all : range_with_len 0 (length needs) ≡ c.in_ok-open.open.items = sym c.in_ok-open.ensures in
     let marks : replicate (length needs) 0 ≡ c.in_ok-passed.passed.items = sym {b = replicate (length needs) 0} (c.in_ok-passed.ensures.items_if_clones_equal (λ y e. e)) in
@@ -54,16 +54,16 @@ pub loop-i-smaller-then-is_unmet : goal.loop-i-smaller-then-is_unmet
 loop-i-smaller-then-is_unmet g c =
     let need = c.index-needs-i.result in
     let kept = c.loop-i.kept.items in
-    let asking = c.in_ok-asking.asking.items in
+    let dependents = c.in_ok-dependents.dependents.items in
     let asked = c.index.result.now in
     let before = c.loop-i.open.items in
     let waiting = c.pop.new.self.items in
     let after = c.extend_from_slice.new.self.items in
     let is = looked c.args.count kept c.args.needs.now before waiting c.in-Some.i need c.requires.below c.loop-i.invariant.len c.loop-i.invariant.within c.in-Some.ensures.items c.index-needs-i.is in
-    let within : need.optional < length asking = (let given = c.in_ok-asking.ensures.len in let len = c.loop-i.invariant.len in omega (arith, is.within, given, len)) in
-    let there : slice_get asking need.optional ≡ Some asked = slice_get_read asking (length asking) need.optional asked refl within c.index.ensures in
+    let within : need.optional < length dependents = (let given = c.in_ok-dependents.ensures.len in let len = c.loop-i.invariant.len in omega (arith, is.within, given, len)) in
+    let there : slice_get dependents need.optional ≡ Some asked = slice_get_read dependents (length dependents) need.optional asked refl within c.index.ensures in
     let unmet : is_met (has_kept kept) need ≡ false = tested-unmet kept c.deref.result.now need c.is_unmet.result c.deref.ensures.value c.is_unmet.ensures.unmet c.if-is_unmet.true in
-    measure-less kept need.optional asking asked before waiting after c.in-Some.i is.within (unmet-kept (has_kept kept) need unmet) there c.in-Some.ensures.items
+    measure-less kept need.optional dependents asked before waiting after c.in-Some.i is.within (unmet-kept (has_kept kept) need unmet) there c.in-Some.ensures.items
     (extended waiting asked.items c.deref-then-is_unmet.result.now after c.in_ok-extend_from_slice.ensures.items c.deref-then-is_unmet.ensures.value)
 
 pub loop-i-preserved-then-is_unmet : goal.loop-i-preserved-then-is_unmet
@@ -71,14 +71,14 @@ loop-i-preserved-then-is_unmet g c =
     let needs = c.args.needs.now in
     let need = c.index-needs-i.result in
     let kept = c.loop-i.kept.items in
-    let asking = c.in_ok-asking.asking.items in
+    let dependents = c.in_ok-dependents.dependents.items in
     let asked = c.index.result.now in
     let before = c.loop-i.open.items in
     let waiting = c.pop.new.self.items in
     let after = c.extend_from_slice.new.self.items in
     let is = looked c.args.count kept needs before waiting c.in-Some.i need c.requires.below c.loop-i.invariant.len c.loop-i.invariant.within c.in-Some.ensures.items c.index-needs-i.is in
-    let within : need.optional < length asking = (let given = c.in_ok-asking.ensures.len in let len = c.loop-i.invariant.len in omega (arith, is.within, given, len)) in
-    let there : slice_get asking need.optional ≡ Some asked = slice_get_read asking (length asking) need.optional asked refl within c.index.ensures in
+    let within : need.optional < length dependents = (let given = c.in_ok-dependents.ensures.len in let len = c.loop-i.invariant.len in omega (arith, is.within, given, len)) in
+    let there : slice_get dependents need.optional ≡ Some asked = slice_get_read dependents (length dependents) need.optional asked refl within c.index.ensures in
     let unmet : is_met (has_kept kept) need ≡ false = tested-unmet kept c.deref.result.now need c.is_unmet.result c.deref.ensures.value c.is_unmet.ensures.unmet c.if-is_unmet.true in
     let more : after ≡ waiting ++ asked.items = extended waiting asked.items c.deref-then-is_unmet.result.now after c.in_ok-extend_from_slice.ensures.items c.deref-then-is_unmet.ensures.value in
     let other : 0 ≢ need.optional = (let low = is.low in omega (arith, low)) in
@@ -87,8 +87,8 @@ loop-i-preserved-then-is_unmet g c =
       outside = ◌∙◌ {b = get_or kept 0 false} (get_or-set_other kept need.optional 0 false false other) c.loop-i.invariant.outside;
       above = above-taken c.args.count kept needs c.in-Some.i need c.requires.below c.loop-i.invariant.above is.at unmet;
       within = All-same (λ j. j < length needs) after (waiting ++ asked.items) more
-          (All-append (λ j. j < length needs) waiting asked.items is.rest (asked-below asking need.optional asked (length needs) c.in_ok-asking.ensures.within there));
-      settled = settled-taken kept needs before waiting after c.in-Some.i need asking asked c.loop-i.invariant.settled c.in-Some.ensures.items is.at is.within c.in_ok-asking.ensures.each there more;
+          (All-append (λ j. j < length needs) waiting asked.items is.rest (asked-below dependents need.optional asked (length needs) c.in_ok-dependents.ensures.within there));
+      settled = settled-taken kept needs before waiting after c.in-Some.i need dependents asked c.loop-i.invariant.settled c.in-Some.ensures.items is.at is.within c.in_ok-dependents.ensures.each there more;
       marks = ◌∙◌ {b = length c.loop-i.passed.items} (length-set c.loop-i.passed.items c.in-Some.i c.is_unmet.new.passed) c.loop-i.invariant.marks;
       passed = passed-taken kept needs (set c.loop-i.passed.items c.in-Some.i c.is_unmet.new.passed) need.optional is.within
           (passed-set kept c.deref.result.now needs c.loop-i.passed.items c.in-Some.i c.is_unmet.new.passed need c.loop-i.invariant.passed c.loop-i.invariant.marks c.deref.ensures.value is.at c.is_unmet.ensures.passed);

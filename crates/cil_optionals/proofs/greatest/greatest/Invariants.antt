@@ -14,4 +14,4 @@ invariant-loop-i g l = record {
 }
 
 abbrev pub decreases-loop-i : goal.decreases-loop-i
-decreases-loop-i g l = count_by (λ b. b) l.kept.items * sum_by (λ needs. length needs.items) l.asking.items + length l.open.items
+decreases-loop-i g l = count_by (λ b. b) l.kept.items * sum_by (λ needs. length needs.items) l.dependents.items + length l.open.items

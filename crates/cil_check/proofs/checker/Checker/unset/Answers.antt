@@ -3,7 +3,7 @@ use Rattle.cil_specs.specs.Lookup.{types, leads}
 use Rattle.cil_specs.specs.PolicyFault.{is_unset}
 use Rattle.cil_bind.specs.Lookup.{IsLead}
 use Rattle.cil_check.specs.Bound.{Reads}
-use Rattle.cil_check.specs.Gifts.{first_at}
+use Rattle.cil_check.specs.Associations.{first_at}
 use Rattle.cil_check.specs.Kinds.{word_if}
 use Rattle.cil_check.proofs.SeenLemmas.{seen-lead, seen-word}
 use Rattle.cil_check.proofs.WordLemmas.{unset-first}

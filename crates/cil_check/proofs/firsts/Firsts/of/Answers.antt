@@ -1,7 +1,7 @@
 use Rattle.std.proofs.Common.{None, Some, ap, refl, subst, arith, length, ◌<◌}
 use Rattle.std.proofs.lemmas.List.{take_all}
 use Rattle.cil_bind.specs.Lookup.{IsLead}
-use Rattle.cil_check.specs.Gifts.{first_at, gift_table, given_lead, HasFirstsOf}
+use Rattle.cil_check.specs.Associations.{first_at, association_table, given_lead, HasFirstsOf}
 use Rattle.cil_check.proofs.FirstsLemmas.{firsts-next}
 use Rattle.cil_check.proofs.SeenLemmas.{there-at}
 use Rattle.cil_check.proofs.firsts.Firsts.of.Goals as goal
@@ -14,17 +14,17 @@ loop-i-preserved-in_default g c = λ policy is.
     let count = c.len-count.ensures policy is in
     let less : c.loop-i.i < length policy = omega (arith, count) in
     let t = there-at policy c.loop-i.i less in
-    let led = subst (λ found. IsLead (gift_table c.args.gift) policy found (given_lead c.args.gift policy t.0)) c.in_default.is (c.lead.ensures policy t.0 (c.seen-seen.ensures.seen policy t.0 is t.1)) in
-    firsts-next c.args.gift policy c.loop-i.i t.0 None c.loop-i.firsts c.loop-i.firsts t.1 led refl (c.loop-i.invariant policy is)
+    let led = subst (λ found. IsLead (association_table c.args.association) policy found (given_lead c.args.association policy t.0)) c.in_default.is (c.lead.ensures policy t.0 (c.seen-seen.ensures.seen policy t.0 is t.1)) in
+    firsts-next c.args.association policy c.loop-i.i t.0 None c.loop-i.firsts c.loop-i.firsts t.1 led refl (c.loop-i.invariant policy is)
 
 pub loop-i-preserved : goal.loop-i-preserved
 loop-i-preserved g c = λ policy is.
     let count = c.len-count.ensures policy is in
     let less : c.loop-i.i < length policy = omega (arith, count) in
     let t = there-at policy c.loop-i.i less in
-    firsts-next c.args.gift policy c.loop-i.i t.0 (Some c.in-Some.to) c.loop-i.firsts c.insert.new.self t.1 (c.in-Some.ensures policy t.0 (c.seen-seen.ensures.seen policy t.0 is t.1)) c.in_ok-insert.ensures.ok (c.loop-i.invariant policy is)
+    firsts-next c.args.association policy c.loop-i.i t.0 (Some c.in-Some.to) c.loop-i.firsts c.insert.new.self t.1 (c.in-Some.ensures policy t.0 (c.seen-seen.ensures.seen policy t.0 is t.1)) c.in_ok-insert.ensures.ok (c.loop-i.invariant policy is)
 
 pub returns : goal.returns
 returns g c = λ policy is.
     let count = c.len-count.ensures policy is in
-    subst (λ l. HasFirstsOf c.args.gift policy l c.loop-i.firsts) (take_all c.loop-i.i policy (omega (arith, count))) (c.loop-i.invariant policy is)
+    subst (λ l. HasFirstsOf c.args.association policy l c.loop-i.firsts) (take_all c.loop-i.i policy (omega (arith, count))) (c.loop-i.invariant policy is)

@@ -1,7 +1,7 @@
 use Rattle.std.proofs.Common.{◌≡◌, ℕ, List, [], true, Some, Result, Ok, Err, IfOk, take, ap}
 use Rattle.cil_specs.specs.Session.{IsSession}
 use Rattle.cil_text.specs.Device.{Account, Reel, IsLeft, Gains, account_of}
-use Rattle.cil_program.specs.Session.{Standing, Leaves, status_of, standing_of}
+use Rattle.cil_program.specs.Session.{Standing, Leaves, status_of}
 use Rattle.cil_program.specs.declared.script.session.SessionFault.{SessionFault}
 use Rattle.cil_program.specs.declared.script.session.Status.{Status}
 use Rattle.cil_program.proofs.script.memory.answer_script.Goals as goal
@@ -17,6 +17,6 @@ over-whole (Ok _) old new before after text left is = (is.written, is.gains, is.
 pub returns-clause-ok : goal.returns-clause-ok
 returns-clause-ok g c =
     over-whole c.session.result (account_of c.new-source.result) (account_of c.session.new.source)
-    (standing_of (g.C.Compiled.store c.args.engine.now) (g.W.Sink.taken c.args.sink.now))
-    (standing_of (g.C.Compiled.store c.session.new.engine) (g.W.Sink.taken c.session.new.sink)) c.args.script.now
+    (record { store = g.C.Compiled.store c.args.engine.now; taken = g.W.Sink.taken c.args.sink.now })
+    (record { store = g.C.Compiled.store c.session.new.engine; taken = g.W.Sink.taken c.session.new.sink }) c.args.script.now
     (left-whole c.new-source.result c.args.script.now c.new-source.ensures.text c.new-source.ensures.at) c.session.ensures.ok

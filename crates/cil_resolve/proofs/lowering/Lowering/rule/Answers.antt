@@ -9,10 +9,10 @@ use Rattle.cil_specs.proofs.NamesLemmas.{contains-first, contains-other}
 use Rattle.cil_text.specs.Image.{rule_kind_of}
 use Rattle.cil_parse.specs.Forms.{kind_of, rule_kind, permissions_in}
 use Rattle.cil_check.proofs.SeenLemmas.{seen-kind, seen-lead}
-use Rattle.cil_resolve.specs.Below.{is_aim_below}
+use Rattle.cil_resolve.specs.Below.{is_target_below}
 use Rattle.cil_resolve.specs.Lowering.{AreRules, modules_of}
 use Rattle.cil_resolve.specs.Numbering.{AreNumbersIn, listed_names}
-use Rattle.cil_resolve.specs.Numbers.{aim_of}
+use Rattle.cil_resolve.specs.Numbers.{resolved_target_of}
 use Rattle.cil_resolve.specs.declared.numbered.NumberedRule.{NumberedRule}
 use Rattle.cil_resolve.proofs.FaultlessLemmas.{word-found}
 use Rattle.cil_resolve.proofs.FormLemmas.{form-rule, form-to-self}
@@ -51,7 +51,7 @@ returns g c policy s is at =
           subst (λ f. AreRules modules names (r ∷ []) (spec.rule_of policy s f)) (sym form)
           (rule-made modules names policy s r k source (the_named word) the_class permissions (c.module.ensures policy s is.lowering at) (is.seen_is.shown.at ∙ is.seen_is.place)
           (ap (λ t. rule_kind_of t.0) w.kind-is ∙ ap rule_kind_of (sym code) ∙ kind-back k) from
-          (ap (λ t. aim_of names t.1) w.kind-is ∙ ap at_element to.named) (ap (λ t. is_aim_below (length names) t.1) w.kind-is ∙ to.below) cls numbers)
+          (ap (λ t. resolved_target_of names t.1) w.kind-is ∙ ap at_element to.named) (ap (λ t. is_target_below (length names) t.1) w.kind-is ∙ to.below) cls numbers)
       | in-RuleToSelf w ↦
           let kind = sym (seen-kind c.args.seen.now policy s is.seen_is) ∙ w.in-RuleToSelf.is in
           let (k, source, the_class, permissions, form) = form-to-self s.form w.in-RuleToSelf.kind kind in
@@ -67,5 +67,5 @@ returns g c policy s is at =
           subst (λ f. AreRules modules names (r ∷ []) (spec.rule_of policy s f)) (sym form)
           (rule-made modules names policy s r k source itself the_class permissions (c.module.ensures policy s is.lowering at) (is.seen_is.shown.at ∙ is.seen_is.place)
           (ap (λ t. rule_kind_of t.0) w.kind-is ∙ ap rule_kind_of (sym code) ∙ kind-back k) from
-          (ap (λ t. aim_of names t.1) w.kind-is) (ap (λ t. is_aim_below (length names) t.1) w.kind-is) cls numbers)
+          (ap (λ t. resolved_target_of names t.1) w.kind-is) (ap (λ t. is_target_below (length names) t.1) w.kind-is) cls numbers)
     ]
