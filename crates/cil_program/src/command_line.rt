@@ -1,7 +1,7 @@
 //! The command line: what its words ask for, and the exit status.
 
-ghost use Rattle.std.specs.Prelude.{◌≡◌, ◌≢◌, ◌↔◌, Result, map, IsTrue, IfOk};
-ghost use Rattle.cil_text.specs.Device.{GainsFront};
+ghost use Rattle.std.specs.Prelude.{◌≡◌, ◌≢◌, ◌↔◌, ◌⊎◌, Result, map, IsTrue, IfOk};
+ghost use Rattle.cil_text.specs.Device.{GainsFront, HasEnded, HasFailed};
 ghost use Rattle.cil_program.specs.CommandLine.{AsksSession, exit_status_of, usage};
 ghost use Rattle.cil_program.specs.Session.{Leaves};
 ghost use Rattle.cil_program.specs.declared.script.session.SessionFault.{SessionFault};
@@ -46,6 +46,10 @@ pub fn answer_command_line<
         × IfOk end (λ status. Leaves (S.account source.old) (S.account source.new)
         (record { store = C.store engine.old; taken = W.taken sink.old }) (record { store = C.store engine.new; taken = W.taken sink.new }) status) }
     ensures flushed { AsksSession (map T.text words.now) → result ≢ 3 → W.flushed sink.new ≡ W.taken sink.new }
+    ensures ended { AsksSession (map T.text words.now) → (result ≡ 0) ⊎ (result ≡ 1) → HasEnded (S.account source.old) (S.account source.new) }
+    ensures failed { AsksSession (map T.text words.now) → result ≡ 3 →
+        HasFailed (S.account source.old).failures (S.account source.new).failures ⊎ HasFailed (W.failures sink.old) (W.failures sink.new) }
+    ensures session_alone { AsksSession (map T.text words.now) → errors.new ≡ errors.old }
     ensures usage { (AsksSession (map T.text words.now) → ⊥) → (result ≡ 2) × GainsFront (E.taken errors.old) (E.taken errors.new) usage }
     ensures usage_alone { (AsksSession (map T.text words.now) → ⊥) → (source.new ≡ source.old) × (sink.new ≡ sink.old) × (engine.new ≡ engine.old) }
 {

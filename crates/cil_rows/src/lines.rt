@@ -1,10 +1,12 @@
 //! Lines of a script and of its answers, by calls.
 
-use crate::answers::{Piece, assert_same, shown, spelled};
+use crate::answers::{FIRST_ANSWER, FIRST_SCRIPT, Piece, assert_same, shown, spelled};
 use cil_program::script::command::{ScriptLine, script_line};
 use cil_program::script::input::{Input, LineEnd};
 use cil_program::script::line::Line;
+use cil_program::script::memory::answer_script;
 use cil_program::script::reply;
+use cil_program::script::session::Status;
 use cil_store::{Compiled, Edit, Plain, Refusal};
 use cil_text::{MemorySink, MemorySource};
 
@@ -140,6 +142,15 @@ fn answers_of_one_line(rt: HostRuntime) {
     let want = "end 17\nscript 1\nscript 18446744073709551616\nrefused 31 7\n\
         refused 60 memory\nrefused 60 memory\n";
     assert_same(&rt, (written, shown(sink.bytes())), ([Ok(()); 6], want));
+}
+
+#[test]
+fn a_script_in_memory(rt: HostRuntime) {
+    let mut sink = MemorySink::new(rt.alloc());
+    let mut engine = Plain::new(rt.alloc());
+    let end = answer_script(rt.alloc(), FIRST_SCRIPT, &mut sink, &mut engine);
+    let seen = (end, shown(sink.bytes()));
+    assert_same(&rt, seen, (Ok(Status::Clean), FIRST_ANSWER));
 }
 
 #[test]

@@ -1,4 +1,4 @@
-use Rattle.std.proofs.Common.{◌≢◌, ◌∙◌, Result, Ok, Err, OnOk, refl}
+use Rattle.std.proofs.Common.{◌≡◌, ◌≢◌, ◌∙◌, ◌⊎◌, inl, inr, Result, Ok, Err, OnOk, IfOk, refl, sym}
 use Rattle.cil_program.specs.CommandLine.{exit_status_of, usage}
 use Rattle.cil_program.specs.declared.script.session.SessionFault.{SessionFault}
 use Rattle.cil_program.specs.declared.script.session.SessionFault.TheVariants.{Read, Write}
@@ -21,3 +21,31 @@ returns-then-not-asks_session-clause-usage g c =
 
 pub returns-clause-flushed : goal.returns-clause-flushed
 returns-clause-flushed g c = λ asks other. no-failure c.session.result _ c.session.ensures.flushed (λ e. other (c.exit_status.ensures ∙ e))
+
+failing : (end : Result Status SessionFault) (P Q : Type 0) → (end ≡ Err Read → P) → (end ≡ Err Write → Q) → exit_status_of end ≡ 3 → P ⊎ Q
+failing (Ok Clean) P Q read write is = absurd (cc)
+failing (Ok Refused) P Q read write is = absurd (cc)
+failing (Ok Script) P Q read write is = absurd (cc)
+failing (Err Read) P Q read write is = inl (read refl)
+failing (Err Write) P Q read write is = inr (write refl)
+
+ending : (end : Result Status SessionFault) (P : Type 0) → IfOk end (λ status. status ≢ Script → P) → (exit_status_of end ≡ 0) ⊎ (exit_status_of end ≡ 1) → P
+ending (Ok Clean) P ended is = ended (λ e. absurd (cc))
+ending (Ok Refused) P ended is = ended (λ e. absurd (cc))
+ending (Ok Script) P ended (inl is) = absurd (cc)
+ending (Ok Script) P ended (inr is) = absurd (cc)
+ending (Err Read) P ended (inl is) = absurd (cc)
+ending (Err Read) P ended (inr is) = absurd (cc)
+ending (Err Write) P ended (inl is) = absurd (cc)
+ending (Err Write) P ended (inr is) = absurd (cc)
+
+pub returns-clause-ended : goal.returns-clause-ended
+returns-clause-ended g c = λ asks is.
+    ending c.session.result _ c.session.ensures.ended (by is)
+  where
+    by : (c.exit_status.result ≡ 0) ⊎ (c.exit_status.result ≡ 1) → (exit_status_of c.session.result ≡ 0) ⊎ (exit_status_of c.session.result ≡ 1)
+    by (inl e) = inl (sym c.exit_status.ensures ∙ e)
+    by (inr e) = inr (sym c.exit_status.ensures ∙ e)
+
+pub returns-clause-failed : goal.returns-clause-failed
+returns-clause-failed g c = λ asks is. failing c.session.result _ _ c.session.ensures.read c.session.ensures.write (sym c.exit_status.ensures ∙ is)
