@@ -54,6 +54,7 @@ impl<'a> Write for Wire<'a> {
 #[derive(Drop)]
 struct Peer<'a> {
     parts: &'a [&'a [u8]],
+    next: usize,
     arrived: &'a Arrived,
     asked: &'a mut Vec<usize>,
 }
@@ -63,12 +64,12 @@ impl<'a> Read for Peer<'a> {
         if self.asked.push(self.arrived.bytes.get()).is_err() {
             return Err(io::Error::from(ErrorKind::OutOfMemory));
         }
-        let Some((part, rest)) = self.parts.split_first() else {
+        let Some(part) = self.parts.get(self.next) else {
             return Ok(0);
         };
         let n = part.len().min(buffer.len());
         buffer[..n].copy_from_slice(&part[..n]);
-        self.parts = rest;
+        self.next = self.next.saturating_add(1);
         Ok(n)
     }
 }
@@ -143,6 +144,7 @@ fn assert_dialogue(rt: &impl Abort, alloc: Global, dialogue: Dialogue<'_>) {
     let mut found = Vec::new(alloc);
     let mut source = ReaderSource::new(Peer {
         parts,
+        next: 0,
         arrived: &arrived,
         asked: &mut found,
     });
