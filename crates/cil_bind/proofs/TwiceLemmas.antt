@@ -6,7 +6,7 @@ use Rattle.cil_specs.specs.Names.{Word}
 use Rattle.cil_specs.specs.Joined.{Placed}
 use Rattle.cil_specs.specs.Lookup.{Table, declared_in}
 use Rattle.cil_specs.specs.Statements.{Form}
-use Rattle.cil_specs.specs.PolicyFault.{PolicyFaultKind, twice, missing, wrong_kind, alias_twice, alias_unset, second_common, too_many_permissions, code_of, PolicyFault, is_again, twice_words, IsFaultOf, IsNoLater}
+use Rattle.cil_specs.specs.PolicyFault.{PolicyFaultKind, twice, missing, wrong_kind, alias_twice, alias_unset, second_common, too_many_permissions, circular, code_of, PolicyFault, is_again, twice_words, IsFaultOf, IsNoLater}
 use Rattle.cil_specs.specs.Kept.{Optionals, AreApart, judged, IsFirst, IsFirstFault}
 use Rattle.cil_specs.proofs.ExistsLemmas.{kept-exists}
 use Rattle.cil_specs.proofs.NamesLemmas.{contains-first, contains-cases, contains-other, contains-map, stands, same_place, later, earlier}
@@ -103,6 +103,7 @@ first-of policy kept fault own least = record {
     by alias_unset is = inr (omega arith)
     by second_common is = inr (omega arith)
     by too_many_permissions is = inr (omega arith)
+    by circular is = inr (omega arith)
 
 pub first-fault-again : (policy : List Placed) (again : Redeclaration) → AreApart policy → AreOrdered policy → IsFirstAgain policy again → IsFirstFault policy (fault_of again)
 first-fault-again policy again apart ordered is =

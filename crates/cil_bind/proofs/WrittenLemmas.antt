@@ -1,6 +1,7 @@
 -- What holds of the statements of modules that are spelt by texts.
 use Rattle.std.proofs.Common.{◌≡◌, ℕ, Bool, true, false, not, ◌&&◌, ◌||◌, ◌==◌, cond, nat_le, List, [], ◌∷◌, length, map, None, Some, if◌then◌else◌, refl, sym, ap, ◌∙◌, true≢false}
 use Rattle.std.specs.List.{AllByRecursion, list_all, list_any, slice_split, onto_first}
+use Rattle.std.specs.Option.{IfSome}
 use Rattle.std.proofs.lemmas.Bool.{eqb-true}
 use Rattle.std.proofs.lemmas.Option.{none-some}
 use Rattle.std.proofs.lemmas.List.Splits.{slice_split-cons_no}
@@ -10,19 +11,20 @@ use Rattle.cil_specs.specs.Shape.{IsGoodWord, Shapes}
 use Rattle.cil_specs.specs.Statements.{Form, block, optional, type_name, type_alias, alias_actual, type_attribute, attribute_set, common, class, class_common, class_order, rule, target_words, words_of, as_declared, as_referred, is_optional, Statements, no_more, statement, are_apart}
 use Rattle.cil_specs.specs.Joined.{Module, Placed, namespace_inside, optionals_inside, placed, joined}
 use Rattle.cil_specs.specs.Kept.{AreApart}
+use Rattle.cil_specs.specs.Lookup.{types, declared_in}
 use Rattle.cil_specs.specs.Trees.{Trees}
 use Rattle.cil_specs.proofs.Runs.{first_true, second_true}
 use Rattle.cil_specs.proofs.NamesLemmas.{all-weaker, all-append, all-second, all-contained}
 use Rattle.cil_specs.proofs.ShapeLemmas.{shapes_apart}
 use Rattle.cil_specs.proofs.ApartLemmas.{joined-apart}
 use Rattle.cil_parse.specs.Forms.{permissions_in}
-use Rattle.cil_bind.specs.Written.{IsWritten, AreWritten, IsOneName, HaveOneNames}
+use Rattle.cil_bind.specs.Written.{IsWritten, AreWritten, IsOneName, IsName, HasOneNames, HaveOneNames}
 
 pub written-apart : (modules : List Module) → AreWritten modules → AreApart (joined modules)
 written-apart modules written = joined-apart modules (all-weaker IsWritten (λ m. are_apart false m.statements ≡ true) (λ m w. shapes_apart m.statements false w.trees w.shapes) modules written)
 
 -- a byte of a name is no dot
-no-dot : (p : ℕ → Bool) → p 46 ≡ false → (b : ℕ) → p b ≡ true → (b == 46) ≡ false
+pub no-dot : (p : ℕ → Bool) → p 46 ≡ false → (b : ℕ) → p b ≡ true → (b == 46) ≡ false
 no-dot p none b is = by (b == 46) refl
   where
     by : (c : Bool) → (b == 46) ≡ c → c ≡ false
@@ -44,12 +46,15 @@ name-one (b ∷ bytes) is =
     ∙ slice_split-cons_no (λ c. c == 46) b bytes first ∙ ap (onto_first b) (whole bytes others)
 
 -- a good word in the place of a name is one
-good-name : (w : Word) → IsGoodWord (declared, w) → IsOneName w
-good-name w good = name-one w.text (by (is_name w.text) refl good)
+good-spelt : (w : Word) → IsGoodWord (declared, w) → IsName w.text
+good-spelt w good = by (is_name w.text) refl good
   where
     by : (b : Bool) → is_name w.text ≡ b → (if not b then Some bad_name else if list_any is_reserved (components w.text) then Some reserved else None) ≡ None → b ≡ true
     by true e good = refl
     by false e good = absurd (none-some bad_name (sym good))
+
+good-name : (w : Word) → IsGoodWord (declared, w) → IsOneName w
+good-name w good = name-one w.text (good-spelt w good)
 
 good-names : (words : List Word) → AllByRecursion IsGoodWord (map as_declared words) → AllByRecursion IsOneName words
 good-names [] good = tt
@@ -70,21 +75,48 @@ good-permissions (class_order classes) good = tt
 good-permissions (rule kind source target the_class permissions) good =
     good-names permissions (all-second IsGoodWord (map as_referred (target_words target)) (as_referred the_class ∷ map as_declared permissions) good.1).1
 
-abbrev ListsNames : Placed → Type 0
-ListsNames s = AllByRecursion IsOneName (permissions_in s.form)
+good-declared : (form : Form) → AllByRecursion IsGoodWord (words_of form) → IfSome (declared_in types form) (λ word. IsName word.text)
+good-declared (block id) good = tt
+good-declared (optional id) good = tt
+good-declared (type_name id) good = good-spelt id good.0
+good-declared (type_alias id) good = good-spelt id good.0
+good-declared (alias_actual alias actual) good = tt
+good-declared (type_attribute id) good = good-spelt id good.0
+good-declared (attribute_set attribute expr) good = tt
+good-declared (common id permissions) good = tt
+good-declared (class id permissions) good = tt
+good-declared (class_common the_class the_common) good = tt
+good-declared (class_order classes) good = tt
+good-declared (rule kind source target the_class permissions) good = tt
 
-placed-names : (name : List ℕ) (namespace : List (List ℕ)) (optionals : List ℕ) (inside : Bool) (trees : Trees) (statements : Statements) → Shapes inside trees statements → AllByRecursion ListsNames (placed name namespace optionals statements)
-placed-names name namespace optionals inside trees no_more shapes = tt
-placed-names name namespace optionals inside trees (statement at form body more) (end, parts, inner, rest, is, fits, allowed, good, within, behind) = (
-  good-permissions form good,
-  all-append ListsNames (placed name (namespace_inside form namespace) (optionals_inside form at optionals) body) (placed name namespace optionals more)
-      (placed-names name (namespace_inside form namespace) (optionals_inside form at optionals) (inside || is_optional form) inner body within) (placed-names name namespace optionals inside rest more behind),
+good-inside : (form : Form) (namespace : List (List ℕ)) → AllByRecursion IsGoodWord (words_of form) → AllByRecursion IsName namespace → AllByRecursion IsName (namespace_inside form namespace)
+good-inside (block id) namespace good blocks = (good-spelt id good.0, blocks)
+good-inside (optional id) namespace good blocks = blocks
+good-inside (type_name id) namespace good blocks = blocks
+good-inside (type_alias id) namespace good blocks = blocks
+good-inside (alias_actual alias actual) namespace good blocks = blocks
+good-inside (type_attribute id) namespace good blocks = blocks
+good-inside (attribute_set attribute expr) namespace good blocks = blocks
+good-inside (common id permissions) namespace good blocks = blocks
+good-inside (class id permissions) namespace good blocks = blocks
+good-inside (class_common the_class the_common) namespace good blocks = blocks
+good-inside (class_order classes) namespace good blocks = blocks
+good-inside (rule kind source target the_class permissions) namespace good blocks = blocks
+
+placed-names : (name : List ℕ) (namespace : List (List ℕ)) (optionals : List ℕ) (inside : Bool) (trees : Trees) (statements : Statements) → AllByRecursion IsName namespace → Shapes inside trees statements
+    → AllByRecursion HasOneNames (placed name namespace optionals statements)
+placed-names name namespace optionals inside trees no_more blocks shapes = tt
+placed-names name namespace optionals inside trees (statement at form body more) blocks (end, parts, inner, rest, is, fits, allowed, good, within, behind) = (
+  record { declared = good-declared form good; blocks = blocks; permissions = good-permissions form good },
+  all-append HasOneNames (placed name (namespace_inside form namespace) (optionals_inside form at optionals) body) (placed name namespace optionals more)
+      (placed-names name (namespace_inside form namespace) (optionals_inside form at optionals) (inside || is_optional form) inner body (good-inside form namespace good blocks) within)
+      (placed-names name namespace optionals inside rest more blocks behind),
 )
 
-joined-names : (modules : List Module) → AreWritten modules → AllByRecursion ListsNames (joined modules)
+joined-names : (modules : List Module) → AreWritten modules → AllByRecursion HasOneNames (joined modules)
 joined-names [] written = tt
 joined-names (m ∷ modules) written =
-    all-append ListsNames (placed m.name [] [] m.statements) (joined modules) (placed-names m.name [] [] false written.0.trees m.statements written.0.shapes) (joined-names modules written.1)
+    all-append HasOneNames (placed m.name [] [] m.statements) (joined modules) (placed-names m.name [] [] false written.0.trees m.statements tt written.0.shapes) (joined-names modules written.1)
 
 pub written-names : (modules : List Module) → AreWritten modules → HaveOneNames (joined modules)
-written-names modules written s there = all-contained ListsNames (joined modules) s (joined-names modules written) there
+written-names modules written s there = all-contained HasOneNames (joined modules) s (joined-names modules written) there

@@ -1,10 +1,11 @@
 -- Modules that are spelt by texts.
-use Rattle.std.specs.Prelude.{◌≡◌, ℕ, false, List, [], ◌∷◌, Contains}
+use Rattle.std.specs.Prelude.{◌≡◌, ℕ, false, List, [], ◌∷◌, IfSome, IsTrue, Contains}
 use Rattle.std.specs.List.{AllByRecursion}
-use Rattle.cil_specs.specs.Names.{Word, components}
+use Rattle.cil_specs.specs.Names.{Word, is_name, components}
 use Rattle.cil_specs.specs.Trees.{Trees, Reads}
 use Rattle.cil_specs.specs.Shape.{Shapes}
 use Rattle.cil_specs.specs.Joined.{Module, Placed}
+use Rattle.cil_specs.specs.Lookup.{types, declared_in}
 use Rattle.cil_parse.specs.Forms.{permissions_in}
 
 -- a text spells the statements of the module
@@ -22,6 +23,17 @@ AreWritten modules = AllByRecursion IsWritten modules
 abbrev pub IsOneName : Word → Type 0
 IsOneName word = components word.text ≡ word.text ∷ []
 
--- the permissions that statements list are names without dots
+-- a text is spelt as a declared name
+abbrev pub IsName : List ℕ → Type 0
+IsName text = IsTrue (is_name text)
+
+-- What a statement declares as a type, an alias or an attribute has a name without dots, and so have the blocks around it and the
+-- permissions that it lists.
+pub record HasOneNames (s : Placed) : Type 0 where
+  pub declared : IfSome (declared_in types s.form) (λ word. IsName word.text)
+  pub blocks : AllByRecursion IsName s.namespace
+  pub permissions : AllByRecursion IsOneName (permissions_in s.form)
+
+-- so it is of each statement
 abbrev pub HaveOneNames : List Placed → Type 0
-HaveOneNames policy = (s : Placed) → Contains policy s → AllByRecursion IsOneName (permissions_in s.form)
+HaveOneNames policy = (s : Placed) → Contains policy s → HasOneNames s

@@ -33,7 +33,7 @@ pub fn policies_are_apart()
     ensures { (modules : List Module) → AreWritten modules → AreApart (joined_policy modules) }
 {}
 
-/// The permissions in texts are names without dots.
+/// What texts declare, the blocks in them and the permissions that they list have names without dots.
 pub fn permissions_are_names()
     ensures { (modules : List Module) → AreWritten modules → HaveOneNames (joined_policy modules) }
 {}
@@ -48,7 +48,7 @@ pub fn kept_is_ordered()
     ensures { (set : Optionals) (policy : List Placed) → AreOrdered policy → AreOrdered (restricted set policy) }
 {}
 
-/// What is kept of statements whose permissions are names without dots has such permissions.
+/// What is kept of statements that have names without dots has such names.
 pub fn kept_permissions_are_names()
     ensures { (set : Optionals) (policy : List Placed) → HaveOneNames policy → HaveOneNames (restricted set policy) }
 {}

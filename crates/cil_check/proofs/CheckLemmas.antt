@@ -1,18 +1,19 @@
 -- The first fault of a policy, kind by kind.
-use Rattle.std.proofs.Common.{◌≡◌, inl, inr, ℕ, ◌+◌, ◌<◌, zero, suc, ◌==◌, List, [], ◌∷◌, get_or, Some, slice_get, Contains, refl, sym, ap, ◌∙◌, subst, arith, if◌then◌else◌}
+use Rattle.std.proofs.Common.{◌≡◌, inl, inr, ℕ, ◌+◌, ◌<◌, ◌≤◌, zero, suc, ◌==◌, List, [], ◌∷◌, get_or, Some, slice_get, Contains, refl, sym, ap, ◌∙◌, subst, arith, if◌then◌else◌}
 use Rattle.std.proofs.lemmas.Option.{none-some, same_Some, slice_get_within, get_or_from_slice_get}
 use Rattle.std.proofs.lemmas.Bool.{cases_order}
 use Rattle.cil_specs.specs.Names.{Word}
 use Rattle.cil_specs.specs.Joined.{Placed}
 use Rattle.cil_specs.specs.PolicyFault as spec
-use Rattle.cil_specs.specs.PolicyFault.{twice, missing, wrong_kind, alias_twice, alias_unset, second_common, too_many_permissions, code_of, IsAtWordOf, IsFaultOf, IsNoLater, missing_words, is_outside, faulty_words}
-use Rattle.cil_check.specs.Image.{policy_kind_of, IsFoundFault}
+use Rattle.cil_specs.specs.PolicyFault.{twice, missing, wrong_kind, alias_twice, alias_unset, second_common, too_many_permissions, circular, code_of, IsAtWordOf, IsFaultOf, IsNoLater, missing_words, is_outside}
+use Rattle.cil_specs.proofs.FirstLemmas.{faulty_words}
+use Rattle.cil_check.specs.Image.{policy_kind_of, IsFoundFault, PolicyFaultIs}
 use Rattle.cil_bind.specs.Ordered.{IsLeast}
 use Rattle.cil_check.specs.Ordered.{IsFaultIn, IsFaultless}
 use Rattle.cil_specs.proofs.NamesLemmas.{contains-first, around}
 use Rattle.cil_check.specs.Bound.{AreFoundInside}
 use Rattle.cil_check.specs.declared.fault.PolicyFaultKind.{PolicyFaultKind}
-use Rattle.cil_check.specs.declared.fault.PolicyFaultKind.TheVariants.{Twice, Missing, WrongKind, AliasTwice, AliasUnset, SecondCommon, TooManyPermissions}
+use Rattle.cil_check.specs.declared.fault.PolicyFaultKind.TheVariants.{Twice, Missing, WrongKind, AliasTwice, AliasUnset, SecondCommon, TooManyPermissions, Circular}
 use Rattle.cil_check.specs.declared.fault.PolicyFault.{PolicyFault}
 use Rattle.cil_check.specs.declared.fault.PolicyFault.TheVariants.{Memory, Found}
 
@@ -25,6 +26,23 @@ pub found-weaker : (fault : PolicyFault) (P Q : spec.PolicyFault → Type 0) →
 found-weaker Memory P Q weaker is = is
 found-weaker (Found kind module_name at word) P Q weaker is = weaker _ is
 
+-- a fault that is found is none but out of memory
+-- a fault that was found isn't out of memory
+pub found-one : (fault : PolicyFault) (P : spec.PolicyFault → Type 0) → IsFoundFault fault P → fault ≡ Memory → ⊥
+found-one fault P found is = subst (λ f. IsFoundFault f P) is found
+
+pub found-fault : (fault : PolicyFault) (P : spec.PolicyFault → Type 0) → IsFoundFault fault P → PolicyFaultIs fault P
+found-fault Memory P is = tt
+found-fault (Found kind module_name at word) P is = is
+
+pub memory-fault : (fault : PolicyFault) (P : spec.PolicyFault → Type 0) → fault ≡ Memory → PolicyFaultIs fault P
+memory-fault fault P is = subst (λ f. PolicyFaultIs f P) (sym is) tt
+
+-- what follows from what holds of a fault
+pub fault-weaker : (fault : PolicyFault) (P Q : spec.PolicyFault → Type 0) → ((f : spec.PolicyFault) → P f → Q f) → PolicyFaultIs fault P → PolicyFaultIs fault Q
+fault-weaker Memory P Q weaker is = tt
+fault-weaker (Found kind module_name at word) P Q weaker is = weaker _ is
+
 pub first-some : (words : List Word) (word : Word) → Some word ≡ slice_get words 0 → (more : List Word) × (words ≡ word ∷ more)
 first-some [] word is = absurd (none-some word (sym is))
 first-some (w ∷ words) word is = (words, ap (λ v. v ∷ words) (sym (same_Some word w is)))
@@ -35,7 +53,7 @@ NoneBelow policy n = (fault : spec.PolicyFault) → IsFaultOf fault.kind policy 
 
 -- a kind by its code
 abbrev kind_at : ℕ → spec.PolicyFaultKind
-kind_at n = if n == 41 then twice else if n == 42 then missing else if n == 43 then wrong_kind else if n == 44 then alias_twice else if n == 45 then alias_unset else if n == 46 then second_common else too_many_permissions
+kind_at n = if n == 41 then twice else if n == 42 then missing else if n == 43 then wrong_kind else if n == 44 then alias_twice else if n == 45 then alias_unset else if n == 46 then second_common else if n == 47 then too_many_permissions else circular
 
 at-code : (kind : spec.PolicyFaultKind) → kind_at (code_of kind) ≡ kind
 at-code twice = refl
@@ -45,6 +63,7 @@ at-code alias_twice = refl
 at-code alias_unset = refl
 at-code second_common = refl
 at-code too_many_permissions = refl
+at-code circular = refl
 
 same-code : (a b : spec.PolicyFaultKind) → code_of a ≡ code_of b → a ≡ b
 same-code a b e = sym (at-code a) ∙ ap kind_at e ∙ at-code b
@@ -60,6 +79,7 @@ none-first policy once fault is less = once fault (subst (λ k. IsFaultOf k poli
     below alias_unset less = absurd (omega (arith, less))
     below second_common less = absurd (omega (arith, less))
     below too_many_permissions less = absurd (omega (arith, less))
+    below circular less = absurd (omega (arith, less))
 
 abbrev pub checked : List PolicyFaultKind
 checked = Missing ∷ WrongKind ∷ AliasTwice ∷ AliasUnset ∷ SecondCommon ∷ TooManyPermissions ∷ []
@@ -75,6 +95,9 @@ checked-code (suc (suc (suc (suc (suc (suc n)))))) less = absurd (omega (arith, 
 
 pub checked-once : (n : ℕ) → n < 6 → get_or checked n Twice ≡ Twice → ⊥
 checked-once n less e = let code : 41 ≡ 42 + n = sym (ap (λ k. code_of (policy_kind_of k)) e) ∙ checked-code n less in omega (arith, code)
+
+pub checked-straight : (n : ℕ) → n < 6 → get_or checked n Twice ≡ Circular → ⊥
+checked-straight n less e = let code : 48 ≡ 42 + n = sym (ap (λ k. code_of (policy_kind_of k)) e) ∙ checked-code n less in omega (arith, less, code)
 
 pub none-next : (policy : List Placed) (n : ℕ) (kind : spec.PolicyFaultKind) → code_of kind ≡ 42 + n → ((fault : spec.PolicyFault) → IsFaultOf kind policy fault → ⊥)
     → NoneBelow policy n → NoneBelow policy (n + 1)
@@ -115,13 +138,31 @@ missing-at policy before i s inside at = by s.optionals refl
     by (n ∷ outer) is =
         inside s (i, slice_get_within policy i s at, get_or_from_slice_get policy i s s at) (λ top. cc (sym top ∙ is)) ∙ ap (λ o. if is_outside o then missing_words policy s else []) (sym is)
 
-pub none-all : (policy : List Placed) (n : ℕ) → 5 < n → AreFoundInside policy → NoneBelow policy n → IsFaultless policy
-none-all policy n all inside so_far = record {
+-- there is none of the codes gone over, and of fewer
+pub none-fewer : (policy : List Placed) (n m : ℕ) → m ≤ n → NoneBelow policy n → NoneBelow policy m
+none-fewer policy n m le so_far fault is less = so_far fault is (omega (arith, less, le))
+
+-- a fault that is none of a lesser code is that of a circle
+pub circular-alone : (policy : List Placed) → NoneBelow policy 6 → (fault : spec.PolicyFault) → IsFaultIn policy fault → fault.kind ≡ circular
+circular-alone policy so_far fault is = by fault.kind (so_far fault is)
+  where
+    by : (kind : spec.PolicyFaultKind) → (code_of kind < 42 + 6 → ⊥) → kind ≡ circular
+    by twice none = absurd (none (omega arith))
+    by missing none = absurd (none (omega arith))
+    by wrong_kind none = absurd (none (omega arith))
+    by alias_twice none = absurd (none (omega arith))
+    by alias_unset none = absurd (none (omega arith))
+    by second_common none = absurd (none (omega arith))
+    by too_many_permissions none = absurd (none (omega arith))
+    by circular none = refl
+
+pub none-all : (policy : List Placed) → AreFoundInside policy → NoneBelow policy 6 → ((fault : spec.PolicyFault) → IsFaultOf circular policy fault → ⊥) → IsFaultless policy
+none-all policy inside so_far straight = record {
   none = none;
   found = names-found policy inside (λ fault is. none fault (subst (λ k. IsFaultOf k policy fault) (sym (ap (λ f. f.kind) is.is_at)) is));
 }
   where
-    below : (kind : spec.PolicyFaultKind) → code_of kind < 48
+    below : (kind : spec.PolicyFaultKind) → code_of kind < 42 + 7
     below twice = omega arith
     below missing = omega arith
     below wrong_kind = omega arith
@@ -129,9 +170,10 @@ none-all policy n all inside so_far = record {
     below alias_unset = omega arith
     below second_common = omega arith
     below too_many_permissions = omega arith
+    below circular = omega arith
 
     none : (fault : spec.PolicyFault) → IsFaultIn policy fault → ⊥
-    none fault is = so_far fault is (let le : code_of fault.kind < 48 = below fault.kind in omega (arith, le, all))
+    none fault is = none-next policy 6 circular refl straight so_far fault is (below fault.kind)
 
 -- the least fault of the first kind with one is the first
 pub first-least : (policy : List Placed) (n : ℕ) (kind : spec.PolicyFaultKind) → code_of kind ≡ 42 + n → NoneBelow policy n → (fault : spec.PolicyFault)

@@ -1,5 +1,5 @@
 -- What statements give to declarations, and which gives it first.
-use Rattle.std.proofs.Common.{◌≡◌, ℕ, ◌+◌, get_or, Bool, true, false, ◌==◌, List, [], ◌∷◌, ◌++◌, take, cond, Option, Some, None, is_some, position, slice_get, refl, sym, ap, ◌∙◌, true≢false, bytes_eq, if◌then◌else◌}
+use Rattle.std.proofs.Common.{◌≡◌, ℕ, ◌+◌, get_or, Bool, true, false, ◌==◌, List, [], ◌∷◌, ◌++◌, take, cond, Option, Some, None, is_some, position, slice_get, refl, sym, ap, ◌∙◌, true≢false, if◌then◌else◌}
 use Rattle.std.specs.Option.{option_or, option_and_then}
 use Rattle.std.proofs.lemmas.Option.{none-some, same_Some, get_or_from_slice_get, slice_get-get_or}
 use Rattle.std.proofs.lemmas.Bool.{eqb-true, eq-eqb}

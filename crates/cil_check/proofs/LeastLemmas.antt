@@ -1,18 +1,22 @@
 -- The first faulty word that is found is the least fault of its kind.
-use Rattle.std.proofs.Common.{◌≡◌, ◌⊎◌, inl, inr, ℕ, ◌+◌, ◌<◌, ◌≤◌, zero, suc, Bool, true, false, nat_le, cond, if◌then◌else◌, List, [], ◌∷◌, ◌++◌, length, take, drop, map, filter, flat_map, Some, refl, sym, ap, ◌∙◌, subst, Contains, arith, append-nil}
+use Rattle.std.proofs.Common.{◌≡◌, ◌⊎◌, inl, inr, ℕ, ◌+◌, ◌<◌, ◌≤◌, suc, Bool, true, false, nat_le, cond, if◌then◌else◌, List, [], ◌∷◌, ◌++◌, length, take, drop, map, filter, flat_map, Some, refl, sym, ap, ◌∙◌, subst, Contains, arith, append-nil}
 use Rattle.std.specs.List.{AllByRecursion, slice_get, list_any}
 use Rattle.std.specs.Option.{option_to_list}
 use Rattle.std.proofs.Math.Seq.{take-append_seam}
 use Rattle.std.proofs.lemmas.List.{map-append, length-append, length-take-le}
-use Rattle.std.proofs.lemmas.Option.{same_Some, none-some, slice_get_within}
+use Rattle.std.proofs.lemmas.Option.{same_Some, slice_get_within}
 use Rattle.std.proofs.lemmas.Bool.{leb-true, cases_lt}
 use Rattle.cil_specs.specs.Names.{Word}
 use Rattle.cil_specs.specs.Statements.{Form, block, optional, type_name, type_alias, alias_actual, type_attribute, attribute_set, common, class, class_common, class_order, rule, itself, the_named, rise_from, as_declared, as_referred}
 use Rattle.cil_specs.specs.Expr.{leaves}
 use Rattle.cil_specs.specs.Joined.{Placed}
-use Rattle.cil_specs.specs.Lookup.{Table, types, classes, commons, scopes, references, named_permissions, declared_in}
-use Rattle.cil_specs.specs.PolicyFault.{PolicyFaultKind, twice, missing, wrong_kind, alias_twice, alias_unset, second_common, too_many_permissions, PolicyFault, faulty_words, is_again, missing_words, is_unfound, is_lacking, kinds_asked, is_of_another_kind, wrong_kind_words, alias_words, has_earlier_actual, element_words, is_unset, common_words, has_earlier_common, has_too_many, tables, is_outside, IsFaultOf, IsNoLater}
+use Rattle.cil_specs.specs.Lookup.{Table, types, classes, commons, scopes, references, named_permissions, declared_in, declared_name}
+use Rattle.cil_specs.specs.PolicyFault.{PolicyFaultKind, twice, missing, wrong_kind, alias_twice, alias_unset, second_common, too_many_permissions, circular, PolicyFault, is_again, missing_words, is_unfound, is_lacking, kinds_asked, is_of_another_kind, wrong_kind_words, alias_words, has_earlier_actual, element_words, is_unset, common_words, has_earlier_common, has_too_many, tables, is_outside, IsFaultOf, IsNoLater}
 use Rattle.cil_specs.proofs.Runs.{both_true, first_true, second_true}
+use Rattle.cil_specs.specs.Rule.{sets_of}
+use Rattle.cil_specs.proofs.FirstLemmas.{faulty_words, faulty-listed}
+use Rattle.cil_specs.proofs.CircularLemmas.{attribute_words}
+use Rattle.cil_specs.proofs.DependsLemmas.{depends_on}
 use Rattle.cil_specs.proofs.PartLemmas.{all-middle}
 use Rattle.cil_specs.proofs.NamesLemmas.{all-contained, contains-cases, contains-first, contains-other, contains-map, rises-low, rises-less, stands, same_place, later, earlier}
 use Rattle.cil_bind.specs.Ordered.{offsets_in, offsets_of, IsRising, IsBefore, AreOrdered, IsLeast}
@@ -220,6 +224,10 @@ sub-classes (class_common the_class the_common) = tt
 sub-classes (class_order the_classes) = tt
 sub-classes (rule kind source target the_class permissions) = tt
 
+sub-attributes : (form : Form) → IsSub (map offset (attribute_words form)) (offsets_in form)
+sub-attributes (type_attribute id) = inl (refl, tt)
+sub-attributes _ = tt
+
 -- the words that a form declares, by a test for each table
 abbrev chosen : (Table → Word → Bool) → Form → List Word
 chosen again form = flat_map (λ table. filter (again table) (option_to_list (declared_in table form))) tables
@@ -266,6 +274,8 @@ sub-faulty_words second_common policy before s =
     sub-some s.form (has_earlier_common policy before s.namespace) (common_words s.form) (sub-commons s.form)
 sub-faulty_words too_many_permissions policy before s =
     sub-some s.form (λ id. has_too_many policy s) (option_to_list (declared_in classes s.form)) (sub-classes s.form)
+sub-faulty_words circular policy before s =
+    sub-some s.form (λ id. depends_on (sets_of policy) (declared_name types s) (declared_name types s)) (attribute_words s.form) (sub-attributes s.form)
 
 pub sub-faulty : (kind : PolicyFaultKind) (policy before : List Placed) (s : Placed) → IsSub (map offset (faulty_words kind policy before s)) (offsets_of s)
 sub-faulty kind policy before s = sub-skip (map offset (faulty_words kind policy before s)) s.at.offset (offsets_in s.form) (sub-faulty_words kind policy before s)
@@ -307,7 +317,7 @@ pub none-faulty-end : (kind : PolicyFaultKind) (policy : List Placed) → NoneFa
 none-faulty-end kind policy none fault is =
     let size : length policy ≡ length is.before + suc (length is.after) = ap length is.split ∙ length-append is.before (is.s ∷ is.after) in
     let less : length is.before < length policy = (omega (arith, size)) in
-    contains-none is.word (subst (λ l. Contains l is.word) (none-before kind policy (length policy) is.before is.s is.after none is.split less) is.is_faulty)
+    contains-none is.word (subst (λ l. Contains l is.word) (none-before kind policy (length policy) is.before is.s is.after none is.split less) ((faulty-listed kind policy is.before is.s is.word).1 is.is_faulty))
   where
     contains-none : (w : Word) → Contains [] w → ⊥
     contains-none w c = omega (arith, c.1)
@@ -335,7 +345,7 @@ least-at kind policy i s word more flat at none faulty = record {
     after = drop (i + 1) policy;
     word = word;
     split = split;
-    is_faulty = subst (λ l. Contains l word) (sym faulty) (contains-first word more);
+    is_faulty = (faulty-listed kind policy (take i policy) s word).0 (subst (λ l. Contains l word) (sym faulty) (contains-first word more));
     is_at = refl;
   };
   first = λ other is. subst (IsNoLater (fault_at kind s word)) (sym is.is_at) (no-earlier other is);
@@ -359,16 +369,16 @@ least-at kind policy i s word more flat at none faulty = record {
     no-earlier : (other : PolicyFault) (is : IsFaultOf kind policy other) → IsNoLater (fault_at kind s word) (fault_at kind is.s is.word)
     no-earlier other is = elim (stands (take i policy) s (drop (i + 1) policy) is.before is.s is.after (sym split ∙ is.split)) [
       | same_place same t ↦
-          let contained : Contains (word ∷ more) is.word = subst (λ l. Contains l is.word) (ap (λ b. faulty_words kind policy b is.s) same ∙ ap (faulty_words kind policy (take i policy)) t ∙ faulty) is.is_faulty in
+          let contained : Contains (word ∷ more) is.word = subst (λ l. Contains l is.word) (ap (λ b. faulty_words kind policy b is.s) same ∙ ap (faulty_words kind policy (take i policy)) t ∙ faulty) ((faulty-listed kind policy is.before is.s is.word).1 is.is_faulty) in
           inr (refl, inr (ap (λ p. p.module_name) (sym t), no-less 0 word.at.offset (map offset more) is.word.at.offset rises (contains-map offset (word ∷ more) is.word contained)))
       | later between others front behind ↦
           no-later kind s is.s word is.word (all-middle (IsBefore s) between is.s others (subst (AllByRecursion (IsBefore s)) behind amidst.in_front)) here
           (sub-contains (map offset (faulty_words kind policy is.before is.s)) (offsets_of is.s) is.word.at.offset (sub-faulty kind policy is.before is.s)
-          (contains-map offset (faulty_words kind policy is.before is.s) is.word is.is_faulty))
+          (contains-map offset (faulty_words kind policy is.before is.s) is.word ((faulty-listed kind policy is.before is.s is.word).1 is.is_faulty)))
       | earlier between front ↦
           let size : length (take i policy) ≡ length is.before + suc (length between) = ap length front ∙ length-append is.before (is.s ∷ between) in
           let within : i < length policy = slice_get_within policy i s at in
           let le : length (take i policy) ≡ i = length-take-le i policy (omega (arith, within)) in
-          let c : Contains [] is.word = subst (λ l. Contains l is.word) (none-before kind policy i is.before is.s is.after none is.split (omega (arith, size, le))) is.is_faulty in
+          let c : Contains [] is.word = subst (λ l. Contains l is.word) (none-before kind policy i is.before is.s is.after none is.split (omega (arith, size, le))) ((faulty-listed kind policy is.before is.s is.word).1 is.is_faulty) in
           absurd (omega (arith, c.1))
     ]

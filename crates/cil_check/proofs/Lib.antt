@@ -11,3 +11,11 @@ pub mod FewLemmas
 pub mod MissingLemmas
 pub mod TooManyLemmas
 pub mod AttributeLemmas
+pub mod FullNameLemmas
+pub mod NumberLemmas
+pub mod DeclaredLemmas
+pub mod MentionLemmas
+pub mod CircleLemmas
+pub mod GraphLemmas
+pub mod CircleFaults
+pub mod CleanLemmas

@@ -207,7 +207,7 @@ asked-at checker seen policy s word place shown i d number has noted contained a
     let names = checker.bound.policy.now.names in
     let found = word-read (texts_of seen.«module».now) shown (permissions_in s.form) i d are within in
     let w = found.0 in
-    let at = numbered w found.2 (one-name-at (permissions_in s.form) i w (noted.is.spelt s contained) found.1) in
+    let at = numbered w found.2 (one-name-at (permissions_in s.form) i w (noted.is.spelt s contained).permissions found.1) in
     let lead = led-at classes policy place (class_lead policy s) led in
     record {
       w = w;

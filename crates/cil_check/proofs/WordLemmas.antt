@@ -180,7 +180,7 @@ and-true : (b : Bool) → (b && true) ≡ b
 and-true true = refl
 and-true false = refl
 
-same-itself : (namespace : List (List ℕ)) → same_namespace namespace namespace ≡ true
+pub same-itself : (namespace : List (List ℕ)) → same_namespace namespace namespace ≡ true
 same-itself [] = refl
 same-itself (name ∷ names) = both_true (bytes_eq name name) (same_namespace names names) ((bytes_eq-Decides name name).1 refl) (same-itself names)
 

@@ -1,13 +1,11 @@
 -- Statements of a bound policy.
-use Rattle.std.specs.Prelude.{◌≡◌, List, [], ◌∷◌, Contains, Option, Some}
-use Rattle.std.specs.List.{AllByRecursion}
+use Rattle.std.specs.Prelude.{◌≡◌, List, [], Contains, Option, Some}
 use Rattle.std.specs.Option.{option_map}
-use Rattle.cil_specs.specs.Names.{Word, components}
+use Rattle.cil_specs.specs.Names.{Word}
 use Rattle.cil_specs.specs.Joined.{Placed}
 use Rattle.cil_specs.specs.Lookup.{references}
 use Rattle.cil_specs.specs.PolicyFault.{missing_words}
 use Rattle.cil_parse.specs.Builder.{read}
-use Rattle.cil_parse.specs.Forms.{permissions_in}
 use Rattle.cil_parse.specs.Flat.{FlatStatement}
 use Rattle.cil_parse.specs.Parsed.{texts_of}
 use Rattle.cil_parse.specs.View.{IsShown}
@@ -23,7 +21,7 @@ use Rattle.cil_check.specs.declared.bound.BoundPolicy.{BoundPolicy}
 abbrev pub AreFoundInside : List Placed → Type 0
 AreFoundInside policy = (s : Placed) → Contains policy s → (s.optionals ≡ [] → ⊥) → missing_words policy s ≡ []
 
--- The policy is bound and stands in order, what stands in optionals has its names found, and permissions are names without dots.
+-- The policy is bound and stands in order, what stands in optionals has its names found, and names have no dots.
 pub record IsOf {A : Type 0} (b : BoundPolicy A) (policy : List Placed) : Type 0 where
   pub bound : IsBoundTo b.policy.now b.joined.now.modules.items policy
   pub ordered : AreOrdered policy

@@ -1,11 +1,11 @@
 -- The values of the definitions that faults of the code stand for.
 use Rattle.cil_specs.specs.PolicyFault as spec_faults
-use Rattle.cil_specs.specs.PolicyFault.{twice, missing, wrong_kind, alias_twice, alias_unset, second_common, too_many_permissions}
+use Rattle.cil_specs.specs.PolicyFault.{twice, missing, wrong_kind, alias_twice, alias_unset, second_common, too_many_permissions, circular}
 use Rattle.cil_specs.specs.Names.{Word}
 use Rattle.cil_specs.specs.Joined.{Placed}
 use Rattle.cil_text.specs.Image.{place_of}
 use Rattle.cil_check.specs.declared.fault.PolicyFaultKind.{PolicyFaultKind}
-use Rattle.cil_check.specs.declared.fault.PolicyFaultKind.TheVariants.{Twice, Missing, WrongKind, AliasTwice, AliasUnset, SecondCommon, TooManyPermissions}
+use Rattle.cil_check.specs.declared.fault.PolicyFaultKind.TheVariants.{Twice, Missing, WrongKind, AliasTwice, AliasUnset, SecondCommon, TooManyPermissions, Circular}
 use Rattle.cil_check.specs.declared.fault.PolicyFault.{PolicyFault}
 use Rattle.cil_check.specs.declared.fault.PolicyFault.TheVariants.{Memory, Found}
 
@@ -17,6 +17,7 @@ policy_kind_of AliasTwice = alias_twice
 policy_kind_of AliasUnset = alias_unset
 policy_kind_of SecondCommon = second_common
 policy_kind_of TooManyPermissions = too_many_permissions
+policy_kind_of Circular = circular
 
 -- The fault is none but out of memory, or P holds of it.
 abbrev pub PolicyFaultIs : PolicyFault → (spec_faults.PolicyFault → Type 0) → Type 0

@@ -9,3 +9,4 @@ pub mod Few
 pub mod Missing
 pub mod Checker
 pub mod Permissions
+pub mod AttributeGraph

@@ -1,22 +1,24 @@
 //! The first fault of a policy whose references are bound, but for names that are declared twice.
 
-ghost use Rattle.std.specs.Prelude.{◌≡◌, ◌≢◌, List, Some, None, slice_get, take, filter, IfOk, IfErr, OnOk};
+ghost use Rattle.std.specs.Prelude.{◌≡◌, ◌≢◌, IsTrue, List, Some, None, slice_get, take, filter, IfOk, IfErr, OnOk};
 ghost use Rattle.cil_specs.specs.Names.{Word};
 ghost use Rattle.cil_specs.specs.Expr.{WordExpr, leaves};
 ghost use Rattle.cil_specs.specs.Statements.{attribute_set};
 ghost use Rattle.cil_specs.specs.Joined.{Placed};
 ghost use Rattle.cil_specs.specs.Lookup.{types, references};
-ghost use Rattle.cil_specs.specs.PolicyFault.{is_of_another_kind, wrong_kind_words, is_unset, alias_unset_words, faulty_words, IsFaultOf};
+ghost use Rattle.cil_specs.specs.PolicyFault.{is_of_another_kind, wrong_kind_words, is_unset, alias_unset_words, IsFaultOf, circular};
+ghost use Rattle.cil_specs.proofs.FirstLemmas.{faulty_words};
 ghost use Rattle.cil_parse.specs.Forms.{words_in};
 ghost use Rattle.cil_parse.specs.Lexicon.{AreNumbersOf};
 ghost use Rattle.cil_parse.specs.Parsed.{names_of};
 ghost use Rattle.cil_check.specs.Bound.{IsOf, IsSeen, Reads};
 ghost use Rattle.cil_check.specs.Checker.{IsNoted};
 ghost use Rattle.cil_check.specs.Associations.{HasFirsts};
-ghost use Rattle.cil_check.specs.Image.{policy_kind_of, IsFoundFault};
+ghost use Rattle.cil_check.specs.Image.{policy_kind_of, IsFoundFault, PolicyFaultIs};
 ghost use Rattle.cil_bind.specs.Ordered.{IsLeast};
-ghost use Rattle.cil_check.specs.Ordered.{IsFaultIn, IsFaultless};
-ghost use Rattle.cil_check.specs.declared.fault.PolicyFaultKind.TheVariants.{Twice};
+ghost use Rattle.cil_check.specs.Ordered.{IsFaultIn, IsFaultless, HasNoneBelow, IsCleanAt};
+ghost use Rattle.cil_check.specs.declared.fault.PolicyFault.TheVariants.{Memory};
+ghost use Rattle.cil_check.specs.declared.fault.PolicyFaultKind.TheVariants.{Twice, Circular};
 ghost use Rattle.cil_check.specs.Kinds.{test_of, word_if, again_words};
 
 use crate::bound::{BoundPolicy, Seen};
@@ -30,7 +32,7 @@ use crate::witnesses::Witnesses;
 use cil_parse::{NumberedWord, StatementKind};
 use std::alloc::{AllocError, Allocator, Global};
 
-/// The kinds of faults but for names that are declared twice, in the order of their codes.
+/// The kinds of faults that are seen at one statement, but for names that are declared twice, in the order of their codes.
 const CHECKED: [PolicyFaultKind; 6] = [
     PolicyFaultKind::Missing,
     PolicyFaultKind::WrongKind,
@@ -182,6 +184,7 @@ impl<'p, 'm, A: Allocator> Checker<'p, 'm, A> {
     ) -> Option<NumberedWord>
         requires ready { (policy : List Placed) × (s : Placed) × IsNoted self.now policy × IsSeen seen.now policy s × (slice_get policy place ≡ Some s) }
         requires kind { kind ≢ Twice }
+        requires straight { kind ≢ Circular }
         ensures { (policy : List Placed) (s : Placed) → IsNoted self.now policy → IsSeen seen.now policy s → AreNumbersOf self.now.bound.policy.now.names seen.now.words.now (names_of seen.now.«module».now)
             → slice_get policy place ≡ Some s → Reads seen.now result (slice_get (faulty_words (policy_kind_of kind) policy (take place policy) s) 0) }
     {
@@ -197,13 +200,15 @@ impl<'p, 'm, A: Allocator> Checker<'p, 'm, A> {
                 self.given_again(Association::Common, &self.commons, place, seen)
             }
             PolicyFaultKind::TooManyPermissions => self.too_many_word(place, seen),
+            PolicyFaultKind::Circular => None,
         }
     }
 
-    /// The first fault of a kind.
+    /// The first fault of a kind that is seen at one statement.
     pub fn check_kind(&self, kind: PolicyFaultKind) -> Result<(), PolicyFault<'m>>
         requires ready { (policy : List Placed) × IsNoted self.now policy }
         requires kind { kind ≢ Twice }
+        requires straight { kind ≢ Circular }
         ensures ok { OnOk result ((policy : List Placed) → IsNoted self.now policy → (fault : _) → IsFaultOf (policy_kind_of kind) policy fault → ⊥) }
         ensures err { IfErr result (λ fault. (policy : List Placed) → IsNoted self.now policy → IsFoundFault fault (IsLeast (IsFaultOf (policy_kind_of kind) policy))) }
     {
@@ -216,16 +221,65 @@ impl<'p, 'm, A: Allocator> Checker<'p, 'm, A> {
         Ok(())
     }
 
-    /// The first fault but for names that are declared twice: of the least code, then of the least module name by bytes, then of the
-    /// least offset.
-    pub fn check(&self) -> Result<(), PolicyFault<'m>>
-        requires { (policy : List Placed) × IsNoted self.now policy }
-        ensures ok { OnOk result ((policy : List Placed) → IsNoted self.now policy → IsFaultless policy) }
-        ensures err { IfErr result (λ fault. (policy : List Placed) → IsNoted self.now policy → IsFoundFault fault (IsLeast (IsFaultIn policy))) }
+    /// Whether a statement has no fault of the kinds that are seen at one statement.
+    fn is_clean_at(&self, place: usize, seen: &Seen<'p, 'm, A>) -> bool
+        requires { (policy : List Placed) × (s : Placed) × IsNoted self.now policy × IsSeen seen.now policy s
+            × (slice_get policy place ≡ Some s) }
+        ensures { IsTrue result → (policy : List Placed) (s : Placed) → IsNoted self.now policy → IsSeen seen.now policy s
+            → AreNumbersOf self.now.bound.policy.now.names seen.now.words.now (names_of seen.now.«module».now)
+            → slice_get policy place ≡ Some s → IsCleanAt policy place s }
     {
+        for kind in CHECKED {
+            let None = self.faulty_word(kind, place, seen) else {
+                return false;
+            };
+        }
+        true
+    }
+
+    /// Whether no statement has a fault of these kinds: one pass over the policy for all of them.
+    fn is_clean(&self) -> bool
+        requires { (policy : List Placed) × IsNoted self.now policy }
+        ensures { IsTrue result → (policy : List Placed) → IsNoted self.now policy → HasNoneBelow 48 policy }
+    {
+        for i in 0..self.bound.len() {
+            let seen = self.bound.seen(i);
+            if !self.is_clean_at(i, &seen) {
+                return false;
+            }
+        }
+        true
+    }
+
+    /// The first fault of these kinds. They are gone over one by one only where there is a fault.
+    fn check_statements(&self) -> Result<(), PolicyFault<'m>>
+        requires { (policy : List Placed) × IsNoted self.now policy }
+        ensures ok { OnOk result ((policy : List Placed) → IsNoted self.now policy → HasNoneBelow 48 policy) }
+        ensures err { IfErr result (λ fault. (policy : List Placed) → IsNoted self.now policy
+            → IsFoundFault fault (IsLeast (IsFaultIn policy))) }
+    {
+        if self.is_clean() {
+            return Ok(());
+        }
         for kind in CHECKED {
             self.check_kind(kind)?;
         }
         Ok(())
+    }
+}
+
+impl<'p, 'm, A: Allocator + Copy> Checker<'p, 'm, A> {
+    /// The first fault but for names that are declared twice: of the least code, then of the least module name by bytes, then of the
+    /// least offset. Memory may run out where no fault of a lesser code than 48 stands.
+    pub fn check(&self, alloc: A) -> Result<(), PolicyFault<'m>>
+        requires { (policy : List Placed) × IsNoted self.now policy }
+        ensures ok { OnOk result ((policy : List Placed) → IsNoted self.now policy → IsFaultless policy) }
+        ensures err { IfErr result (λ fault. (policy : List Placed) → IsNoted self.now policy
+            → PolicyFaultIs fault (IsLeast (IsFaultIn policy))) }
+        ensures memory { IfErr result (λ fault. fault ≡ Memory → (policy : List Placed) → IsNoted self.now policy
+            → (other : _) → IsFaultIn policy other → other.kind ≡ circular) }
+    {
+        self.check_statements()?;
+        self.check_circles(alloc)
     }
 }

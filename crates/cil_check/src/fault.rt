@@ -21,6 +21,8 @@ pub enum PolicyFaultKind {
     SecondCommon = 46,
     /// A class of more than 32 permissions, its common's included.
     TooManyPermissions = 47,
+    /// An attribute that depends on itself by its set statements.
+    Circular = 48,
 }
 
 impl PolicyFaultKind {

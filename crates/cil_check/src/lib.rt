@@ -1,9 +1,11 @@
 //! The faults of a policy whose references are bound, but for names that are declared twice.
 #![tactic(auto)]
 
+mod attribute_graph;
 mod attributes;
 mod bound;
 mod checker;
+mod circular;
 mod fault;
 mod few;
 mod firsts;
@@ -15,6 +17,7 @@ mod permissions;
 mod too_many;
 mod witnesses;
 
+pub use attribute_graph::AttributeNumbers;
 pub use bound::{BoundPolicy, Seen};
 pub use checker::Checker;
 pub use fault::{PolicyFault, PolicyFaultKind};

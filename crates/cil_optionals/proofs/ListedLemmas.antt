@@ -60,6 +60,16 @@ get-last : {X : Type 0} (xs : List X) (x : X) → slice_get (xs ++ x ∷ []) (le
 get-last [] x = refl
 get-last (y ∷ xs) x = get-last xs x
 
+-- one more place to which no common is given
+pub commons-none : {A : Type 0} (given after : List (Vec ℕ A)) (new : Vec ℕ A) → ((i : ℕ) → commons_at given i ≡ []) → after ≡ given ++ new ∷ [] → new.items ≡ [] → (i : ℕ) → commons_at after i ≡ []
+commons-none {A} given after new none more empty i = ap (λ l. commons_at l i) more ∙ by given i none
+  where
+    by : (xs : List (Vec ℕ A)) (j : ℕ) → ((k : ℕ) → commons_at xs k ≡ []) → commons_at (xs ++ new ∷ []) j ≡ []
+    by [] zero none_yet = empty
+    by [] (suc j) none_yet = refl
+    by (x ∷ xs) zero none_yet = none_yet 0
+    by (x ∷ xs) (suc j) none_yet = by xs j (λ k. none_yet (suc k))
+
 -- nothing is taken up
 pub inverse-none : {A : Type 0} (p : Listed A) → p.listed.keys ≡ [] → p.gifts.keys ≡ [] → p.names.keys ≡ [] → p.listers.items ≡ [] → ((i : ℕ) → commons_at p.given.items i ≡ []) → IsInverse p
 inverse-none p no_keys no_gifts no_names no_listers empty = record {

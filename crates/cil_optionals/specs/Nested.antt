@@ -1,5 +1,5 @@
 -- Optionals around statements, by numbers. The number of an optional is its place and 1 more; 0 stands for none.
-use Rattle.std.specs.Prelude.{◌≡◌, ◌<◌, ℕ, zero, suc, Bool, false, List, [], ◌∷◌, slice_get, slice_index_or, Option, Some, None, IsTrue}
+use Rattle.std.specs.Prelude.{◌≡◌, ℕ, suc, Bool, false, List, slice_get, slice_index_or, Option, Some, None, IsTrue}
 use Rattle.std.specs.List.{position}
 use Rattle.cil_specs.specs.Statements.{is_optional}
 use Rattle.cil_specs.specs.Joined.{Placed}

@@ -1,5 +1,5 @@
 -- What the statements in optionals need, and the optionals inside others.
-use Rattle.std.specs.Prelude.{◌≡◌, ◌<◌, ◌↔◌, ℕ, suc, Some, ◌+◌, Bool, true, ◌&&◌, nat_lt, List, [], length, slice_get, Contains, IsTrue}
+use Rattle.std.specs.Prelude.{◌≡◌, ◌<◌, ◌↔◌, ℕ, suc, Some, ◌+◌, Bool, true, ◌&&◌, nat_lt, List, [], ◌++◌, length, slice_get, Contains, IsTrue}
 use Rattle.std.specs.List.{list_all}
 use Rattle.cil_specs.specs.Statements.{is_optional}
 use Rattle.cil_specs.specs.Joined.{Placed}
@@ -8,6 +8,7 @@ use Rattle.cil_specs.specs.Kept.{Optionals, is_within, restricted}
 use Rattle.cil_bind.specs.declared.rows.Row.{Row}
 use Rattle.cil_optionals.specs.Needs.{are_met}
 use Rattle.cil_optionals.specs.Nodes.{AreNodesOf}
+use Rattle.cil_optionals.specs.Providers.{AreProviders}
 use Rattle.cil_optionals.specs.declared.greatest.Need.{Need}
 
 -- whether a need is that of an optional of a policy of so many statements, and the nodes are those of the policy
@@ -33,3 +34,11 @@ pub record AreOthersTo {A : Type 0} (policy : List Placed) (rows : List Row) (n 
       → has (suc k) ≡ true → has row.optional ≡ true
   pub found : (set : Optionals) (has : ℕ → Bool) → AreNodesOf policy set has → (are_met has needs ≡ true)
       ↔ ((i : ℕ) (s : Placed) → i < n → slice_get policy i ≡ Some s → (s.optionals ≡ [] → ⊥) → is_within set s ≡ true → missing_words (restricted set policy) s ≡ [])
+
+-- the needs are those of names, and behind them those of statements and optionals
+pub record AreNeeds {A : Type 0} (policy : List Placed) (rows : List Row) (needs : List (Need A)) : Type 0 where
+  pub providers : List (Need A)
+  pub others : List (Need A)
+  pub are : needs ≡ providers ++ others
+  pub providers_are : AreProviders policy rows (length policy) providers
+  pub others_are : AreOthers policy rows others

@@ -7,7 +7,7 @@ ghost use Rattle.cil_optionals.specs.Needs.{are_met, is_met, is_need_below, AreD
 use std::alloc::{AllocError, Allocator, Global};
 
 /// An optional, and those of which it needs one, by their numbers.
-#[derive(Debug, Drop)]
+#[derive(Drop)]
 pub struct Need<A: Allocator = Global> {
     pub optional: usize,
     pub from: Vec<usize, A>,

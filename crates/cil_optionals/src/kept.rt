@@ -7,10 +7,11 @@ ghost use Rattle.cil_specs.specs.Kept.{AreApart};
 ghost use Rattle.cil_bind.specs.Policy.{IsBoundTo};
 ghost use Rattle.cil_bind.specs.Nested.{AreNested};
 ghost use Rattle.cil_optionals.specs.Nested.{ShowsKept};
+ghost use Rattle.cil_optionals.specs.Others.{AreNeeds};
+ghost use Rattle.cil_optionals.specs.Providers.{IsReady};
 
-use crate::greatest::greatest;
+use crate::greatest::{Need, greatest};
 use crate::others::others;
-use crate::permissions::Permissions;
 use crate::providers::providers;
 use cil_bind::{Joined, Policy, Row};
 use std::alloc::{AllocError, Allocator};
@@ -28,6 +29,39 @@ fn all_marked<A: Allocator + Copy>(alloc: A, count: usize) -> Result<Vec<bool, A
 {
     let marks = vec![in alloc; true; count]?;
     Ok(marks)
+}
+
+/// What the names and the statements in a policy's optionals need.
+fn all_needs<'m, A: Allocator + Copy>(
+    alloc: A,
+    joined: &Joined<'m, A>,
+    policy: &Policy<'m, A>,
+) -> Result<Vec<Need<A>, A>, AllocError>
+    requires ready { (all : List Placed) × IsReady policy.now joined.now.modules.items all }
+    ensures { IfOk result (λ needs. (all : List Placed) → IsReady policy.now joined.now.modules.items all → AreNeeds all policy.now.rows.items needs.items) }
+{
+    let mut needs = providers(alloc, policy)?;
+    let more = others(alloc, joined, policy)?;
+    needs.extend(more)?;
+    Ok(needs)
+}
+
+/// A mark for each number of an optional whether the policy keeps it, by what the optionals need.
+fn kept_by_needs<'m, A: Allocator + Copy>(
+    alloc: A,
+    joined: &Joined<'m, A>,
+    policy: &Policy<'m, A>,
+) -> Result<Vec<bool, A>, AllocError>
+    requires ready { (all : List Placed) × IsReady policy.now joined.now.modules.items all }
+    ensures len { IfOk result (λ kept. length kept.items ≡ length policy.now.rows.items + 1) }
+    ensures none { IfOk result (λ kept. slice_index_or kept.items 0 false ≡ true) }
+    ensures kept { IfOk result (λ kept. (all : List Placed) → IsReady policy.now joined.now.modules.items all → ShowsKept all policy.now.rows.items kept.items) }
+{
+    let count = policy.rows.len();
+    let needs = all_needs(alloc, joined, policy)?;
+    let mut kept = greatest(alloc, count + count, &needs)?;
+    kept.truncate(count + 1);
+    Ok(kept)
 }
 
 /// A mark for each number of an optional, its place and 1 more, whether the policy keeps it. 0, which stands for none, is marked, and the
@@ -48,14 +82,7 @@ pub fn kept_optionals<'m, A: Allocator + Copy>(
         return Err(AllocError);
     }
     if none_is_optional(policy.rows.as_slice()) {
-        let marks = all_marked(alloc, count + 1)?;
-        return Ok(marks);
+        return all_marked(alloc, count + 1);
     }
-    let mut permissions = Permissions::of(alloc, joined, policy)?;
-    let mut needs = providers(alloc, policy)?;
-    let more = others(alloc, joined, policy, &mut permissions)?;
-    needs.extend(more)?;
-    let mut kept = greatest(alloc, count + count, &needs)?;
-    kept.truncate(count + 1);
-    Ok(kept)
+    kept_by_needs(alloc, joined, policy)
 }

@@ -21,14 +21,14 @@ use std::alloc::{AllocError, Allocator, Global};
 use std::hash::{BuildHasherDefault, FoldHasher};
 
 /// A permission that the class or the common at a place lists.
-#[derive(Clone, Copy, Debug, PartialEq, Eq, Hash)]
+#[derive(Clone, Copy, PartialEq, Eq, Hash)]
 pub struct Permission<'m> {
     pub place: u32,
     pub name: &'m [u8],
 }
 
 /// A common that is given to a class, by their places.
-#[derive(Clone, Copy, Debug, PartialEq, Eq, Hash)]
+#[derive(Clone, Copy, PartialEq, Eq, Hash)]
 pub struct Gift {
     pub class: u32,
     pub common: u32,
@@ -71,7 +71,7 @@ fn gift_of(bound: &[Option<u32>]) -> Option<(u32, u32)>
 }
 
 /// For each of so many places no commons.
-fn no_commons<A: Allocator + Copy>(
+pub fn no_commons<A: Allocator + Copy>(
     alloc: A,
     count: usize,
 ) -> Result<Vec<Vec<u32, A>, A>, AllocError>
@@ -86,25 +86,40 @@ fn no_commons<A: Allocator + Copy>(
 }
 
 impl<'m, A: Allocator + Copy> Listed<'m, A> {
-    /// What the statements of a policy list and give.
-    pub fn of(alloc: A, joined: &Joined<'m, A>, policy: &Policy<'m, A>) -> Result<Self, AllocError>
-        requires { (all : List Placed) × IsReady policy.now joined.now.modules.items all }
-        ensures have { IfOk result (λ listed. (all : List Placed) → IsReady policy.now joined.now.modules.items all → HavePermissions all (permissions_in listed)) }
-        ensures inverse { IfOk result IsInverse }
+    /// What nothing lists, where at no place a common is given yet.
+    pub fn without(alloc: A, given: Vec<Vec<u32, A>, A>) -> Self
+        requires { (i : ℕ) → commons_at given.items i ≡ [] }
+        ensures up_to { (all : List Placed) → length given.items ≡ length all → IsUpTo all 0 result }
+        ensures inverse { IsInverse result }
     {
-        let mut listed = Listed {
+        Listed {
             listed: IndexSet::new(alloc),
-            given: no_commons(alloc, policy.rows.len())?,
+            given,
             gifts: IndexSet::new(alloc),
             names: IndexSet::new(alloc),
             listers: Vec::new(alloc),
-        };
+        }
+    }
+
+    /// Takes up what the statements of a policy list and give.
+    pub fn add_all(
+        &mut self,
+        alloc: A,
+        joined: &Joined<'m, A>,
+        policy: &Policy<'m, A>,
+    ) -> Result<(), AllocError>
+        requires ready { (all : List Placed) × IsReady policy.now joined.now.modules.items all }
+        requires none { (all : List Placed) → IsReady policy.now joined.now.modules.items all → IsUpTo all 0 self.old }
+        requires inverse { IsInverse self.old }
+        ensures have { OnOk result ((all : List Placed) → IsReady policy.now joined.now.modules.items all → HavePermissions all (permissions_in self.new)) }
+        ensures inverse { OnOk result (IsInverse self.new) }
+    {
         for i in 0..policy.rows.len() {
             let row = policy.rows[i];
             let module = joined.modules[row.module as usize].module;
-            listed.add(alloc, policy, module, i)?;
+            self.add(alloc, policy, module, i)?;
         }
-        Ok(listed)
+        Ok(())
     }
 
     /// Takes up the permissions that the statement at a place lists, or the common that it gives to a class.

@@ -6,12 +6,13 @@ ghost use Rattle.cil_specs.specs.Kept.{restricted};
 ghost use Rattle.cil_specs.specs.Lookup.{references as references_of, named_permissions};
 ghost use Rattle.cil_bind.specs.declared.joined.NamedModule.{NamedModule};
 ghost use Rattle.cil_optionals.specs.Asks.{are_found, are_there, optional_at, Asks};
-ghost use Rattle.cil_optionals.specs.Given.{permissions_in};
+ghost use Rattle.cil_optionals.specs.Given.{permissions_in, IsInverse, IsUpTo};
 ghost use Rattle.cil_optionals.specs.Others.{AreOthers, AreOthersTo};
 ghost use Rattle.cil_optionals.specs.Permissions.{HavePermissions};
 ghost use Rattle.cil_optionals.specs.Providers.{IsReady};
 
 use crate::greatest::Need;
+use crate::listed::{Listed, no_commons};
 use crate::permissions::Permissions;
 use crate::references::{add_need, references};
 use cil_bind::{Joined, Policy};
@@ -40,14 +41,14 @@ fn asked<'m, A: Allocator + Copy>(
     alloc: A,
     joined: &Joined<'m, A>,
     policy: &Policy<'m, A>,
-    permissions: &mut Permissions<'m, A>,
+    permissions: &mut Permissions<'_, 'm, A>,
     i: usize,
     needs: &mut Vec<Need<A>, A>,
 ) -> Result<(), AllocError>
     requires ready { (all : List Placed) × IsReady policy.now joined.now.modules.items all }
     requires within { i < length policy.now.rows.items }
     ensures listed { OnOk result (permissions.new.listed ≡ permissions.old.listed) }
-    ensures asks { OnOk result ((all : List Placed) (s : Placed) → IsReady policy.now joined.now.modules.items all → HavePermissions all (permissions_in permissions.old.listed) → slice_get all i ≡ Some s
+    ensures asks { OnOk result ((all : List Placed) (s : Placed) → IsReady policy.now joined.now.modules.items all → HavePermissions all (permissions_in permissions.old.listed.now) → slice_get all i ≡ Some s
         → Asks all (optional_at policy.now i) (λ set. are_found (restricted set all) s.namespace (references_of s.form) && are_there (restricted set all) s.namespace (named_permissions s.form)) needs.old.items needs.new.items) }
 {
     let row = policy.rows[i];
@@ -64,14 +65,14 @@ fn need_at<'m, A: Allocator + Copy>(
     alloc: A,
     joined: &Joined<'m, A>,
     policy: &Policy<'m, A>,
-    permissions: &mut Permissions<'m, A>,
+    permissions: &mut Permissions<'_, 'm, A>,
     i: usize,
     needs: &mut Vec<Need<A>, A>,
 ) -> Result<(), AllocError>
     requires ready { (all : List Placed) × IsReady policy.now joined.now.modules.items all }
     requires within { i < length policy.now.rows.items }
     ensures listed { OnOk result (permissions.new.listed ≡ permissions.old.listed) }
-    ensures others { OnOk result ((all : List Placed) → IsReady policy.now joined.now.modules.items all → HavePermissions all (permissions_in permissions.old.listed)
+    ensures others { OnOk result ((all : List Placed) → IsReady policy.now joined.now.modules.items all → HavePermissions all (permissions_in permissions.old.listed.now)
         → AreOthersTo all policy.now.rows.items i i needs.old.items → AreOthersTo all policy.now.rows.items (i + 1) (i + 1) needs.new.items) }
 {
     let row = policy.rows[i];
@@ -83,15 +84,15 @@ fn need_at<'m, A: Allocator + Copy>(
     Ok(())
 }
 
-/// What the statements in optionals need, and the optionals inside others.
-pub fn others<'m, A: Allocator + Copy>(
+/// What the statements in optionals need, and the optionals inside others, by the permissions of the policy's classes.
+fn others_by<'m, A: Allocator + Copy>(
     alloc: A,
     joined: &Joined<'m, A>,
     policy: &Policy<'m, A>,
-    permissions: &mut Permissions<'m, A>,
+    permissions: &mut Permissions<'_, 'm, A>,
 ) -> Result<Vec<Need<A>, A>, AllocError>
     requires ready { (all : List Placed) × IsReady policy.now joined.now.modules.items all }
-    ensures { IfOk result (λ needs. (all : List Placed) → IsReady policy.now joined.now.modules.items all → HavePermissions all (permissions_in permissions.old.listed)
+    ensures { IfOk result (λ needs. (all : List Placed) → IsReady policy.now joined.now.modules.items all → HavePermissions all (permissions_in permissions.old.listed.now)
         → AreOthers all policy.now.rows.items needs.items) }
 {
     let mut needs = Vec::new(alloc);
@@ -99,4 +100,50 @@ pub fn others<'m, A: Allocator + Copy>(
         need_at(alloc, joined, policy, permissions, i, &mut needs)?;
     }
     Ok(needs)
+}
+
+/// What the statements in optionals need, and the optionals inside others, by what the policy's statements list and give.
+fn others_by_listed<'m, A: Allocator + Copy>(
+    alloc: A,
+    joined: &Joined<'m, A>,
+    policy: &Policy<'m, A>,
+    listed: &Listed<'m, A>,
+) -> Result<Vec<Need<A>, A>, AllocError>
+    requires ready { (all : List Placed) × IsReady policy.now joined.now.modules.items all }
+    requires inverse { IsInverse listed.now }
+    ensures { IfOk result (λ needs. (all : List Placed) → IsReady policy.now joined.now.modules.items all → HavePermissions all (permissions_in listed.now)
+        → AreOthers all policy.now.rows.items needs.items) }
+{
+    let mut permissions = Permissions::of(alloc, listed);
+    others_by(alloc, joined, policy, &mut permissions)
+}
+
+/// What the statements in optionals need, and the optionals inside others, where nothing is taken up yet.
+fn others_listed<'m, A: Allocator + Copy>(
+    alloc: A,
+    joined: &Joined<'m, A>,
+    policy: &Policy<'m, A>,
+    listed: &mut Listed<'m, A>,
+) -> Result<Vec<Need<A>, A>, AllocError>
+    requires ready { (all : List Placed) × IsReady policy.now joined.now.modules.items all }
+    requires none { (all : List Placed) → IsReady policy.now joined.now.modules.items all → IsUpTo all 0 listed.old }
+    requires inverse { IsInverse listed.old }
+    ensures { IfOk result (λ needs. (all : List Placed) → IsReady policy.now joined.now.modules.items all → AreOthers all policy.now.rows.items needs.items) }
+{
+    listed.add_all(alloc, joined, policy)?;
+    others_by_listed(alloc, joined, policy, listed)
+}
+
+/// What the statements in optionals need, and the optionals inside others.
+pub fn others<'m, A: Allocator + Copy>(
+    alloc: A,
+    joined: &Joined<'m, A>,
+    policy: &Policy<'m, A>,
+) -> Result<Vec<Need<A>, A>, AllocError>
+    requires ready { (all : List Placed) × IsReady policy.now joined.now.modules.items all }
+    ensures { IfOk result (λ needs. (all : List Placed) → IsReady policy.now joined.now.modules.items all → AreOthers all policy.now.rows.items needs.items) }
+{
+    let given = no_commons(alloc, policy.rows.len())?;
+    let mut listed = Listed::without(alloc, given);
+    others_listed(alloc, joined, policy, &mut listed)
 }

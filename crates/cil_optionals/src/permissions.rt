@@ -14,7 +14,7 @@ ghost use Rattle.cil_optionals.specs.Permissions.{HavePermissions};
 ghost use Rattle.cil_optionals.specs.Providers.{IsReady};
 
 use crate::listed::{Listed, Permission};
-use cil_bind::{Joined, Policy};
+use cil_bind::Policy;
 use cil_parse::{NumberedWord, ParsedModule, StatementKind};
 use indexmap::IndexSet;
 use std::alloc::{AllocError, Allocator, Global};
@@ -22,13 +22,13 @@ use std::hash::{BuildHasherDefault, FoldHasher};
 
 /// The permissions of classes, and the questions that were answered: no question is gone over twice.
 #[derive(Drop)]
-pub struct Permissions<'m, A: Allocator = Global> {
-    listed: Listed<'m, A>,
+pub struct Permissions<'l, 'm, A: Allocator = Global> {
+    listed: &'l Listed<'m, A>,
     held: IndexSet<Permission<'m>, BuildHasherDefault<FoldHasher>, A>,
     lacked: IndexSet<Permission<'m>, BuildHasherDefault<FoldHasher>, A>,
-    ghost inverse: { IsInverse listed },
-    ghost held_are: { AreAnswers (permissions_in listed) held.keys true },
-    ghost lacked_are: { AreAnswers (permissions_in listed) lacked.keys false },
+    ghost inverse: { IsInverse listed.now },
+    ghost held_are: { AreAnswers (permissions_in listed.now) held.keys true },
+    ghost lacked_are: { AreAnswers (permissions_in listed.now) lacked.keys false },
 }
 
 /// Whether statements of a kind are rules.
@@ -46,23 +46,22 @@ fn last_bound(bound: &[Option<u32>]) -> Option<u32>
     *found
 }
 
-impl<'m, A: Allocator + Copy> Permissions<'m, A> {
-    /// The permissions of a policy's classes.
-    pub fn of(alloc: A, joined: &Joined<'m, A>, policy: &Policy<'m, A>) -> Result<Self, AllocError>
-        requires { (all : List Placed) × IsReady policy.now joined.now.modules.items all }
-        ensures { IfOk result (λ permissions. (all : List Placed) → IsReady policy.now joined.now.modules.items all → HavePermissions all (permissions_in permissions.listed)) }
+impl<'l, 'm, A: Allocator + Copy> Permissions<'l, 'm, A> {
+    /// The permissions of classes by what statements list and give, where no question was answered yet.
+    pub fn of(alloc: A, listed: &'l Listed<'m, A>) -> Self
+        requires { IsInverse listed.now }
+        ensures { result.listed.now ≡ listed.now }
     {
-        let listed = Listed::of(alloc, joined, policy)?;
-        Ok(Permissions {
+        Permissions {
             listed,
             held: IndexSet::new(alloc),
             lacked: IndexSet::new(alloc),
-        })
+        }
     }
 
     /// Whether the class at a place has a permission.
     fn has(&mut self, class: u32, name: &'m [u8]) -> Result<bool, AllocError>
-        ensures has { IfOk result (λ has. has ≡ permissions_in self.old.listed class name.now) }
+        ensures has { IfOk result (λ has. has ≡ permissions_in self.old.listed.now class name.now) }
         ensures listed { self.new.listed ≡ self.old.listed }
     {
         let question = Permission { place: class, name };
@@ -88,7 +87,7 @@ impl<'m, A: Allocator + Copy> Permissions<'m, A> {
         words: &[NumberedWord],
     ) -> Result<bool, AllocError>
         requires { (list : List Word) × (map (read (texts_of «module».now)) words.now ≡ map Some list) }
-        ensures has { IfOk result (λ has. (list : List Word) → map (read (texts_of «module».now)) words.now ≡ map Some list → has ≡ list_all (λ word. permissions_in self.old.listed class word.text) list) }
+        ensures has { IfOk result (λ has. (list : List Word) → map (read (texts_of «module».now)) words.now ≡ map Some list → has ≡ list_all (λ word. permissions_in self.old.listed.now class word.text) list) }
         ensures listed { self.new.listed ≡ self.old.listed }
     {
         for word in words {
@@ -107,7 +106,7 @@ impl<'m, A: Allocator + Copy> Permissions<'m, A> {
         i: usize,
     ) -> Result<bool, AllocError>
         requires { (parsed : List (NamedModule _)) × (all : List Placed) × (s : Placed) × IsReady policy.now parsed all × slice_get all i ≡ Some s × IsOf policy.now «module».now i s }
-        ensures there { IfOk result (λ there. (parsed : List (NamedModule _)) (all : List Placed) (s : Placed) → IsReady policy.now parsed all → HavePermissions all (permissions_in self.old.listed) → slice_get all i ≡ Some s → IsOf policy.now «module».now i s
+        ensures there { IfOk result (λ there. (parsed : List (NamedModule _)) (all : List Placed) (s : Placed) → IsReady policy.now parsed all → HavePermissions all (permissions_in self.old.listed.now) → slice_get all i ≡ Some s → IsOf policy.now «module».now i s
             → there ≡ all_there all s.namespace (named_permissions s.form)) }
         ensures listed { self.new.listed ≡ self.old.listed }
     {

@@ -7,9 +7,9 @@ use Rattle.std.proofs.lemmas.List.Folds.{list_all-append}
 use Rattle.std.proofs.lemmas.Bool.{eqb-true, le-leb}
 use lib.Seq.{take-nil, drop-nil}
 use Rattle.cil_specs.specs.Place.{is_line_feed}
-use Rattle.cil_text.specs.declared.devices.source.SourceFault.{SourceFault}
-use Rattle.cil_text.specs.Device.{Account, Gives, HasEnded, has_ended}
-use Rattle.cil_text.proofs.Gaining.{gains-both, gains-none}
+use Rattle.cil_stream.specs.declared.source.SourceFault.{SourceFault}
+use Rattle.cil_stream.specs.Device.{Account, Gives, HasEnded, has_ended}
+use Rattle.cil_stream.proofs.Gaining.{gains-both, gains-none}
 use Rattle.cil_specs.proofs.Runs.{both_true}
 use Rattle.cil_program.specs.Input.{Held, Takes, Fits, HasRead, IsOther, IsWholeText, IsShort, stays}
 

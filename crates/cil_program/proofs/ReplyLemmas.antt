@@ -3,12 +3,12 @@ use Rattle.std.proofs.Common.{◌≡◌, ℕ, ◌+◌, ◌<◌, List, ◌++◌, 
 use Rattle.std.specs.List.{slice_get}
 use Rattle.std.proofs.lemmas.List.{take_all}
 use Rattle.std.proofs.lemmas.Option.{slice_get_within, get_or_from_slice_get}
-use Rattle.cil_text.specs.Device.{Gains, GainsFront}
+use Rattle.cil_stream.specs.Device.{Gains, GainsFront}
 use Rattle.cil_specs.specs.Report.{dropped_line}
 use Rattle.cil_specs.specs.Rule.{Declared}
 use Rattle.cil_specs.specs.Run.{dropped_optionals}
 use Rattle.cil_specs.specs.Script.{answer}
-use Rattle.cil_text.proofs.Gaining.{gains-then_front, gains-pieces_more, gains-pieces_front}
+use Rattle.cil_stream.proofs.Gaining.{gains-then_front, gains-pieces_more, gains-pieces_front}
 use Rattle.cil_store.proofs.DroppedLemmas.{past-end}
 use Rattle.cil_program.specs.Replies.{end_line}
 

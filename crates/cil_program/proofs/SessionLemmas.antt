@@ -5,12 +5,12 @@ use Rattle.std.proofs.lemmas.List.Folds.{list_any-append, list_all-append}
 use Rattle.std.proofs.lemmas.Grind.{flat_map-append}
 use Rattle.std.proofs.lemmas.List.{append_cancel_left}
 use Rattle.std.specs.Option.{option_map}
-use Rattle.cil_text.specs.Device.{Account, Gains, Gives, IsSound, IsLeft, has_ended}
+use Rattle.cil_stream.specs.Device.{Account, Gains, Gives, IsSound, IsLeft, has_ended}
 use Rattle.cil_specs.specs.Run.{Call, Reply, changed_by, refused, listed, dropped_optionals, Run}
 use Rattle.cil_specs.specs.Script.{line_of, command, HasGoodWords, IsCommand, MayLackItsEnd, Commands, IsNoCommand, ends, stops, whole, without_end, answer, last_line, is_refusal}
 use Rattle.cil_specs.specs.Session as spec
 use Rattle.cil_specs.specs.Session.{IsSession, all_accepted, some_refused, no_script}
-use Rattle.cil_text.proofs.Gaining.{gains-both, gains-none}
+use Rattle.cil_stream.proofs.Gaining.{gains-both, gains-none}
 use Rattle.cil_specs.proofs.RunLemmas.{run-more}
 use Rattle.cil_specs.proofs.Runs.{both_true}
 use Rattle.cil_program.specs.Input.{Fits, EndsLine, stays}

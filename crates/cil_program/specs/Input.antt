@@ -1,7 +1,7 @@
 -- What was read from a source that gives bytes in pieces.
 use Rattle.std.specs.Prelude.{◌≡◌, ◌≢◌, ℕ, ◌+◌, ◌<◌, ◌≤◌, ◌^◌, Bool, true, false, not, List, [], ◌∷◌, ◌++◌, length, count_by, IsTrue, ◌⊎◌}
 use Rattle.cil_specs.specs.Place.{is_line_feed}
-use Rattle.cil_text.specs.Device.{Account, Gives}
+use Rattle.cil_stream.specs.Device.{Account, Gives}
 use Rattle.cil_program.specs.declared.script.input.LineEnd.{LineEnd}
 use Rattle.cil_program.specs.declared.script.input.LineEnd.TheVariants.{LineFeed, LastByte, TooLong}
 

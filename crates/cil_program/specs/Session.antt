@@ -1,6 +1,6 @@
 -- One line of a script, and what came of it.
 use Rattle.std.specs.Prelude.{◌≡◌, ℕ, true, List, [], ◌∷◌, ◌++◌, length, Option, IsTrue, ◌⊎◌}
-use Rattle.cil_text.specs.Device.{Account, Gains, Gives, IsLeft, has_ended}
+use Rattle.cil_stream.specs.Device.{Account, Gains, Gives, IsLeft, has_ended}
 use Rattle.cil_specs.specs.Store.{Store}
 use Rattle.cil_specs.specs.Next.{install}
 use Rattle.cil_specs.specs.Run.{Call, an_edit, Reply, changed_by, refused, listed, dropped_optionals, Step}

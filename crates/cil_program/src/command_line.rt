@@ -1,7 +1,7 @@
 //! The command line: what its words ask for, and the exit status.
 
 ghost use Rattle.std.specs.Prelude.{◌≡◌, ◌≢◌, ◌↔◌, ◌⊎◌, Result, map, IsTrue, IfOk};
-ghost use Rattle.cil_text.specs.Device.{GainsFront, HasEnded, HasFailed};
+ghost use Rattle.cil_stream.specs.Device.{GainsFront, HasEnded, HasFailed};
 ghost use Rattle.cil_program.specs.CommandLine.{AsksSession, exit_status_of, usage};
 ghost use Rattle.cil_program.specs.Session.{Leaves};
 ghost use Rattle.cil_program.specs.declared.script.session.SessionFault.{SessionFault};
@@ -9,7 +9,7 @@ ghost use Rattle.cil_program.specs.declared.script.session.Status.{Status};
 
 use crate::script::session::{SessionFault, Status, session};
 use cil_store::Compiled;
-use cil_text::{Sink, Source, write_all};
+use cil_stream::{Sink, Source, write_all};
 use std::alloc::Allocator;
 use std::convert::AsStr;
 

@@ -2,7 +2,7 @@
 
 use crate::asked::{Asked, answer, install, state};
 use cil_store::Plain;
-use cil_text::MemorySink;
+use cil_stream::MemorySink;
 use refusing::Refusing;
 
 fn shown(sink: &MemorySink) -> &str {

@@ -3,7 +3,7 @@
 use cil_program::script::reply;
 use cil_program::script::session::session;
 use cil_store::{Call, Compiled, Edit, Plain, Reply, run};
-use cil_text::{MemorySink, MemorySource};
+use cil_stream::{MemorySink, MemorySource};
 use refusing::Refusing;
 use std::alloc::Global;
 use std::process::Abort;

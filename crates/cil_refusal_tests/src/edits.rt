@@ -4,7 +4,7 @@ use crate::asked::Asked;
 use crate::growths::assert_each_growth;
 use cil_store::Edit;
 
-/// A store with blocks, aliases, a common, optionals of which one drops, and accesses.
+/// A store with blocks, aliases, a common, attributes with set statements, optionals of which one drops, and accesses.
 pub const BASE: &[Edit<'static>] = &[
     Edit::Install {
         name: b"base",
@@ -16,6 +16,11 @@ pub const BASE: &[Edit<'static>] = &[
         name: b"more",
         priority: 400,
         text: b"(block k (type t)(allow t .a (file (read))))(optional o (allow a late (file (read))))",
+    },
+    Edit::Install {
+        name: b"sets",
+        priority: 400,
+        text: b"(typeattribute s)(typeattribute n)(typeattributeset s (a l))(typeattributeset n (and (not (s)) (k.t)))",
     },
 ];
 
@@ -60,6 +65,11 @@ const EDITS: &[Edit<'static>] = &[
         name: b"kind",
         priority: 400,
         text: b"(typealias m)(typealiasactual m o)",
+    },
+    Edit::Install {
+        name: b"circle",
+        priority: 400,
+        text: b"(typeattribute v)(typeattribute w)(typeattributeset v (not (w)))(typeattributeset w (v))(typeattributeset w (n))",
     },
     Edit::Install {
         name: b"-bad",

@@ -2,7 +2,7 @@
 
 use crate::asked::{Asked, Engine, Heap, answer, state};
 use cil_store::{Call, Edit, Plain};
-use cil_text::MemorySink;
+use cil_stream::MemorySink;
 use refusing::Refusing;
 use std::alloc::Global;
 use std::process::Abort;

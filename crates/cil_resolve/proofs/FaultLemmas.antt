@@ -4,23 +4,12 @@ use Rattle.cil_specs.specs.PolicyFault as spec
 use Rattle.cil_check.specs.Image.{PolicyFaultIs, IsFoundFault}
 use Rattle.cil_check.specs.declared.fault.PolicyFault.{PolicyFault}
 use Rattle.cil_check.specs.declared.fault.PolicyFault.TheVariants.{Memory, Found}
+pub use Rattle.cil_check.proofs.CheckLemmas.{found-fault, memory-fault, fault-weaker}
 
 -- what holds of a fault holds of the one that is made
 pub fault-is : (fault : PolicyFault) (P : spec.PolicyFault → Type 0) (made : spec.PolicyFault) → IsFoundFault fault (λ f. f ≡ made) → P made → IsFoundFault fault P
 fault-is Memory P made is p = is
 fault-is (Found kind module_name at word) P made is p = subst P (sym is) p
-
-pub found-fault : (fault : PolicyFault) (P : spec.PolicyFault → Type 0) → IsFoundFault fault P → PolicyFaultIs fault P
-found-fault Memory P is = tt
-found-fault (Found kind module_name at word) P is = is
-
-pub memory-fault : (fault : PolicyFault) (P : spec.PolicyFault → Type 0) → fault ≡ Memory → PolicyFaultIs fault P
-memory-fault fault P is = subst (λ f. PolicyFaultIs f P) (sym is) tt
-
--- what follows from what holds of a fault
-pub fault-weaker : (fault : PolicyFault) (P Q : spec.PolicyFault → Type 0) → ((f : spec.PolicyFault) → P f → Q f) → PolicyFaultIs fault P → PolicyFaultIs fault Q
-fault-weaker Memory P Q weaker is = tt
-fault-weaker (Found kind module_name at word) P Q weaker is = weaker _ is
 
 -- what follows from what holds of a fault that is found
 pub found-weaker : (fault : PolicyFault) (P Q : spec.PolicyFault → Type 0) → ((f : spec.PolicyFault) → P f → Q f) → IsFoundFault fault P → PolicyFaultIs fault Q

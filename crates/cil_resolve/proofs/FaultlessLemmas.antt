@@ -8,7 +8,7 @@ use Rattle.cil_specs.specs.Names.{Word}
 use Rattle.cil_specs.specs.Statements.{Form, block, optional, type_name, type_alias, alias_actual, type_attribute, attribute_set, common, class, class_common, class_order, rule, is_optional}
 use Rattle.cil_specs.specs.Joined.{Placed}
 use Rattle.cil_specs.specs.Lookup.{Table, types, classes, word_text, is_word, declared_in, declares, is_same, same_namespace, leads, has_name, holds_of, references, named_permissions, permissions_of, actual_statement, is_alias}
-use Rattle.cil_specs.specs.PolicyFault.{PolicyFaultKind, twice, wrong_kind, alias_unset, faulty_words, tables, twice_words, is_unfound, is_lacking, missing_words, kinds_asked, is_of_another_kind, element_words, is_unset}
+use Rattle.cil_specs.specs.PolicyFault.{PolicyFaultKind, twice, wrong_kind, alias_unset, IsFaulty, tables, twice_words, is_unfound, is_lacking, missing_words, kinds_asked, is_of_another_kind, element_words, is_unset}
 use Rattle.cil_specs.specs.Rule.{is_class}
 use Rattle.cil_specs.proofs.NamesLemmas.{contains-first, contains-other, contains-cases, contains-map, around}
 use Rattle.cil_check.specs.Ordered.{IsFaultless}
@@ -34,7 +34,7 @@ not-false true never = refl
 not-false false never = absurd (never refl)
 
 module _ (policy : List Placed) (faultless : IsFaultless policy) where
-  pub no-faulty : (kind : PolicyFaultKind) (before : List Placed) (s : Placed) (after : List Placed) → policy ≡ before ++ s ∷ after → (word : Word) → Contains (faulty_words kind policy before s) word → ⊥
+  pub no-faulty : (kind : PolicyFaultKind) (before : List Placed) (s : Placed) (after : List Placed) → policy ≡ before ++ s ∷ after → (word : Word) → IsFaulty kind policy before s word → ⊥
   no-faulty kind before s after split word is =
       faultless.none (record { kind = kind; module_name = s.module_name; at = word.at; word = word.text })
       (record { before = before; s = s; after = after; word = word; split = split; is_faulty = is; is_at = refl })

@@ -1,8 +1,8 @@
 -- What is judged of the statements in kept optionals holds of the policy by these.
 use Rattle.std.proofs.Common.{◌≡◌, ℕ, suc, ◌+◌, slice_get, slice_index_or, Some, IsTrue, inl, inr, Bool, true, false, cond, map, List, [], ◌∷◌, filter, Contains, refl, sym, ap, ◌∙◌, subst, arith}
-use Rattle.std.specs.List.{list_all, AllByRecursion}
+use Rattle.std.specs.List.{list_all}
 use Rattle.cil_specs.specs.Joined.{Placed}
-use Rattle.cil_specs.specs.PolicyFault.{PolicyFaultKind, PolicyFault, twice, missing, wrong_kind, alias_twice, alias_unset, second_common, too_many_permissions, IsFaultOf}
+use Rattle.cil_specs.specs.PolicyFault.{PolicyFaultKind, PolicyFault, twice, missing, wrong_kind, alias_twice, alias_unset, second_common, too_many_permissions, circular, IsFaultOf}
 use Rattle.cil_specs.specs.Kept.{Optionals, dropped_of, has_innermost, is_within, restricted, AreKept, AreApart, judged, IsPolicyFault, IsFirst, Compiles, IsFirstFault}
 use Rattle.cil_specs.specs.Meaning.{Meaning, meaning_of, Means}
 use Rattle.cil_specs.specs.Next.{IsFirstAttributeFault, first_fault, first_attribute, IsPolicyFaultOf}
@@ -15,7 +15,7 @@ use Rattle.cil_specs.specs.Report.{names_rise}
 use Rattle.cil_specs.specs.Statements.{is_optional}
 use Rattle.cil_specs.proofs.FaultWords.{contains-filtered}
 use Rattle.cil_bind.specs.Ordered.{AreOrdered, IsLeast}
-use Rattle.cil_bind.specs.Written.{AreWritten, HaveOneNames}
+use Rattle.cil_bind.specs.Written.{HaveOneNames}
 use Rattle.cil_bind.specs.declared.joined.NamedModule.{NamedModule}
 use Rattle.cil_bind.proofs.OrderedLemmas.{spelt-names, joined-ordered, ordered-filtered}
 use Rattle.cil_bind.specs.Policy.{Makes, IsFirstAgain, fault_of, TellsAround}
@@ -29,7 +29,7 @@ use Rattle.cil_bind.proofs.WrittenLemmas.{written-apart, written-names}
 use Rattle.cil_resolve.specs.Dropped.{HaveMarks}
 use Rattle.cil_resolve.specs.Judged.{IsJudged, IsWhole, IsInOrder}
 use Rattle.cil_resolve.specs.Numbers.{dropped_with}
-use Rattle.cil_resolve.specs.Modules.{IsSound, AreParsedFrom, names_of}
+use Rattle.cil_resolve.specs.Modules.{AreParsedFrom, names_of}
 use Rattle.cil_resolve.specs.declared.judged.Judged.{Judged}
 use Rattle.cil_check.specs.Ordered.{IsFaultIn, IsFaultless}
 use Rattle.cil_check.specs.Bound.{AreFoundInside}
@@ -77,6 +77,7 @@ module _ (kept : Optionals) (policy : List Placed) (once : (fault : PolicyFault)
       by alias_unset e f = f
       by second_common e f = f
       by too_many_permissions e f = f
+      by circular e f = f
 
   pub fault-of-within : (fault : PolicyFault) → IsFaultIn (restricted kept policy) fault → IsPolicyFault kept policy fault
   fault-of-within fault f = by fault.kind f
@@ -89,6 +90,7 @@ module _ (kept : Optionals) (policy : List Placed) (once : (fault : PolicyFault)
       by alias_unset f = f
       by second_common f = f
       by too_many_permissions f = f
+      by circular f = f
 
 -- A policy keeps these optionals and declares no name twice.
 module _ (policy : List Placed) (kept : Optionals) (are : AreKept policy kept) (once : (fault : PolicyFault) → IsFaultOf twice policy fault → ⊥) where
@@ -111,21 +113,16 @@ module _ (policy : List Placed) (kept : Optionals) (are : AreKept policy kept) (
   pub judged-attribute : (fault : PolicyFault) → IsFaultless (restricted kept policy) → IsFirstAttributeFault (restricted kept policy) fault → IsPolicyFaultOf policy fault
   judged-attribute fault faultless first = (kept, are, first_attribute (compiles faultless) first)
 
--- modules of texts are written
-pub sound-written : (modules : List Module) → AllByRecursion IsSound modules → AreWritten modules
-sound-written [] sound = tt
-sound-written (m ∷ modules) (sound, others) = (sound.written, sound-written modules others)
-
 -- The modules of texts have these names, in order, and this joined policy.
 module _ {A : Type 0} (parsed : List (NamedModule A)) (modules : List Module) (are : AreParsedFrom parsed modules) (rise : names_rise (names_of parsed) ≡ true) where
   abbrev policy : List Placed
   policy = joined modules
 
   ordered : AreOrdered policy
-  ordered = joined-ordered modules (subst (λ names. names_rise names ≡ true) (spelt-names parsed modules are.spelt) rise) (sound-written modules are.sound)
+  ordered = joined-ordered modules (subst (λ names. names_rise names ≡ true) (spelt-names parsed modules are.spelt) rise) are.written
 
   apart : AreApart policy
-  apart = written-apart modules (sound-written modules are.sound)
+  apart = written-apart modules are.written
 
   -- the whole policy, where each name is declared once
   pub once-whole : (joining : Joining A) (p : Policy A) → Makes parsed policy joining → TellsAround policy joining → joining ≡ Once p → IsWhole p parsed policy
@@ -145,7 +142,7 @@ module _ {A : Type 0} (parsed : List (NamedModule A)) (modules : List Module) (a
     bound = is.bound;
     ordered = ordered-filtered (is_within is.kept) policy ordered;
     inside = kept-inside policy is.kept is.apart is.are_kept;
-    spelt = λ s there. written-names modules (sound-written modules are.sound) s (contains-filtered (is_within is.kept) policy s there);
+    spelt = λ s there. written-names modules are.written s (contains-filtered (is_within is.kept) policy s there);
   }
 
 -- What it means is what its statements in kept optionals mean, and the optionals that drop.

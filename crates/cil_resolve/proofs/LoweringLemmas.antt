@@ -1,11 +1,13 @@
 -- What statements of a policy without faults mean, by numbers.
-use Rattle.std.proofs.Common.{◌≡◌, ℕ, ◌<◌, zero, suc, Bool, true, false, not, ◌&&◌, List, [], ◌∷◌, ◌++◌, length, get_or, slice_get, Contains, Option, Some, None, is_some, refl, sym, ap, ◌∙◌, subst, true≢false}
+use Rattle.std.proofs.Common.{◌≡◌, ℕ, ◌<◌, zero, suc, Bool, true, false, not, ◌&&◌, List, [], ◌∷◌, ◌++◌, length, get_or, map, slice_get, Contains, Option, Some, None, is_some, refl, sym, ap, ◌∙◌, subst, true≢false}
 use Rattle.std.specs.Option.{unwrap_or}
 use Rattle.std.proofs.lemmas.Option.{none-some, same_Some}
 use Rattle.cil_specs.specs.Names.{Word}
 use Rattle.cil_specs.specs.Joined.{Placed}
-use Rattle.cil_specs.specs.Lookup.{Table, types, classes, leads, references, declared_in, declared_name, actual_statement, is_alias}
-use Rattle.cil_specs.specs.PolicyFault.{element_words}
+use Rattle.cil_specs.specs.Lookup.{Table, types, classes, leads, references, declared_in, declared_name, actual_statement, is_alias, is_attribute}
+use Rattle.cil_specs.specs.Expr.{WordExpr, leaves}
+use Rattle.cil_specs.specs.PolicyFault.{element_words, kinds_asked}
+use Rattle.cil_specs.proofs.NamesLemmas.{contains-first}
 use Rattle.cil_specs.specs.Rule.{element_of, element_or_none, class_name, name_or_none}
 use Rattle.cil_specs.specs.Statements.{Form, block, optional, type_name, type_alias, alias_actual, type_attribute, attribute_set, common, class, class_common, class_order, rule}
 use Rattle.cil_check.specs.Ordered.{IsFaultless}
@@ -17,7 +19,8 @@ use Rattle.cil_resolve.specs.Numbering.{number_in, HavePlaces}
 use Rattle.cil_resolve.specs.declared.numbered.Element.{Element}
 use Rattle.cil_resolve.specs.declared.numbered.Element.TheVariants as elements
 use Rattle.cil_resolve.proofs.ElementLemmas.{first-declares, full-name-in}
-use Rattle.cil_resolve.proofs.FaultlessLemmas.{word-found, alias-set}
+use Rattle.cil_resolve.proofs.FaultlessLemmas.{word-found, kind-found, alias-set}
+use Rattle.cil_resolve.proofs.PartLemmas.{attribute-form}
 
 -- where a look-up that leads somewhere was found
 pub record IsFound (table : Table) (policy : List Placed) (found : Option ℕ) (lead : Option Placed) : Type 0 where
@@ -70,6 +73,18 @@ module _ (policy : List Placed) (faultless : IsFaultless policy) (s : Placed) (t
       let a = found-at classes policy found (leads policy classes s.namespace word.text) lead (word-found policy faultless s there classes word refers) in
       let (id, declared, numbered) = class-declares a.t.form (first-declares classes policy (unwrap_or found 0) a.t a.at a.first) in
       ap (λ o. number_in names (name_or_none classes o)) a.lead_is ∙ ap (number_in names) (sym (full-name-in classes a.t id numbered declared)) ∙ have (unwrap_or found 0) a.t a.at (ap is_some numbered)
+
+  -- so has the attribute of a set statement
+  pub attribute-led : (names : List (List ℕ)) (places : List ℕ) (attribute : Word) (expr : WordExpr) (found : Option ℕ) → s.form ≡ attribute_set attribute expr → HavePlaces names policy places
+      → IsLead types policy found (leads policy types s.namespace attribute.text)
+      → number_in names (name_or_none types (leads policy types s.namespace attribute.text)) ≡ Some (get_or places (unwrap_or found 0) 0)
+  attribute-led names places attribute expr found form have lead =
+      let refers : Contains (references s.form) (types, attribute) = subst (λ f. Contains (references f) (types, attribute)) (sym form) (contains-first (types, attribute) (map (λ w. (types, w)) (leaves expr))) in
+      let asked : Contains (kinds_asked s.form) (is_attribute, attribute) = subst (λ f. Contains (kinds_asked f) (is_attribute, attribute)) (sym form) (contains-first (is_attribute, attribute) []) in
+      let a = found-at types policy found (leads policy types s.namespace attribute.text) lead (word-found policy faultless s there types attribute refers) in
+      let (id, is) = attribute-form a.t.form (kind-found policy faultless s there is_attribute attribute asked a.t a.lead_is) in
+      ap (λ o. number_in names (name_or_none types o)) a.lead_is ∙ ap (number_in names) (sym (full-name-in types a.t id (ap numbered_id is) (ap (declared_in types) is)))
+      ∙ have (unwrap_or found 0) a.t a.at (ap (λ f. is_some (numbered_id f)) is)
 
 -- the same of a place that was found
 pub record IsFoundAt (table : Table) (policy : List Placed) (i : ℕ) (lead : Option Placed) : Type 0 where

@@ -1,4 +1,4 @@
--- The types, attributes, classes and rules of a policy, statement by statement.
+-- The types, attributes, classes, set statements and rules of a policy, statement by statement.
 use Rattle.std.proofs.Common.{◌≡◌, ℕ, zero, suc, Bool, true, false, ◌&&◌, nat_lt, List, [], ◌∷◌, ◌++◌, length, get_or, map, flat_map, Option, Some, is_some, refl, sym, ap, ◌∙◌, subst, true≢false, append-nil, IsTrue, if◌then◌else◌}
 use Rattle.std.specs.List.{list_all}
 use Rattle.std.proofs.lemmas.Bool.{lt-ltb}
@@ -9,9 +9,6 @@ use Rattle.cil_specs.specs.Names.{Word}
 use Rattle.cil_specs.specs.Joined.{Placed}
 use Rattle.cil_specs.specs.Statements.{Form, block, optional, type_name, type_alias, alias_actual, type_attribute, attribute_set, common, class, class_common, class_order, rule}
 use Rattle.cil_specs.specs.Lookup.{types, classes, declared_in, declared_name, distinct, permissions_of}
-use Rattle.std.specs.List.{Contains}
-use Rattle.cil_specs.specs.Next.{is_plain_form}
-use Rattle.cil_specs.proofs.NamesLemmas.{contains-first, contains-other}
 use Rattle.cil_specs.specs.Rule as spec
 use Rattle.cil_specs.specs.Rule.{declared_as, class_as, is_class}
 use Rattle.cil_specs.specs.Lookup.{is_type, is_attribute}
@@ -25,7 +22,7 @@ use Rattle.cil_check.proofs.SeenLemmas.{kind-form}
 use Rattle.cil_specs.proofs.Runs.{both_true}
 use Rattle.cil_resolve.specs.Below.{is_name_below, is_class_below}
 use Rattle.cil_resolve.specs.FullNames.{numbered_id, full_name_of}
-use Rattle.cil_resolve.specs.Lowering.{IsDeclared, IsClass, ArePartsOf, AreRules, type_if, attribute_if, class_if, rule_if}
+use Rattle.cil_resolve.specs.Lowering.{IsDeclared, IsClass, ArePartsOf, AreRules, type_if, attribute_if, class_if, set_if, rule_if}
 use Rattle.cil_resolve.specs.Numbering.{AreNumbersIn}
 use Rattle.cil_resolve.specs.Numbers.{declared_of}
 use Rattle.cil_resolve.specs.declared.numbered.NumberedName.{NumberedName}
@@ -137,11 +134,20 @@ no-rule policy s (common id permissions) e = refl
 no-rule policy s (class_common the_class the_common) e = refl
 no-rule policy s (class_order the_classes) e = refl
 
+abbrev pub is_set_kind : StatementKind → Bool
+is_set_kind kinds.TypeAttributeSet = true
+is_set_kind _ = false
+
+no-set : (policy : List Placed) (s : Placed) (form : Form) → is_set_kind (kind_of form) ≡ false → spec.set_statement_of policy s form ≡ []
+no-set policy s (attribute_set attribute expr) e = absurd (true≢false e)
+no-set policy s _ e = refl
+
 -- what a statement of a kind is
 pub record IsOfKind (policy : List Placed) (s : Placed) (kind : StatementKind) : Type 0 where
   pub type : is_type s.form ≡ is_kind «Type» kind
   pub attribute : is_attribute s.form ≡ is_kind Attribute kind
   pub a_class : is_class s.form ≡ is_class_kind kind
+  pub no_set : is_set_kind kind ≡ false → set_if policy s ≡ []
   pub no_rule : is_rule_kind kind ≡ false → rule_if policy s ≡ []
 
 pub of-kind : (policy : List Placed) (s : Placed) (kind : StatementKind) → kind_of s.form ≡ kind → IsOfKind policy s kind
@@ -149,6 +155,7 @@ of-kind policy s kind is = record {
   type = sym (kind-form «Type» s.form) ∙ ap (is_kind «Type») is;
   attribute = sym (kind-form Attribute s.form) ∙ ap (is_kind Attribute) is;
   a_class = class-kind s.form ∙ ap is_class_kind is;
+  no_set = λ none. no-set policy s s.form (ap is_set_kind is ∙ none);
   no_rule = λ none. no-rule policy s s.form (ap is_rule_kind is ∙ none);
 }
 
@@ -164,6 +171,10 @@ pub no-class-kind : (kind : StatementKind) → (kind ≡ kinds.Class → ⊥) �
 no-class-kind kinds.Class never = absurd (never refl)
 no-class-kind _ never = refl
 
+pub no-set-kind : (kind : StatementKind) → (kind ≡ kinds.TypeAttributeSet → ⊥) → is_set_kind kind ≡ false
+no-set-kind kinds.TypeAttributeSet never = absurd (never refl)
+no-set-kind _ never = refl
+
 -- what a statement is not
 pub no-type : (s : Placed) → is_type s.form ≡ false → type_if s ≡ []
 no-type s e = ap (λ b. if b then declared_as types s ∷ [] else []) e
@@ -173,15 +184,3 @@ no-attribute s e = ap (λ b. if b then declared_as types s ∷ [] else []) e
 
 pub no-class : (policy : List Placed) (s : Placed) → is_class s.form ≡ false → class_if policy s ≡ []
 no-class policy s e = ap (λ b. if b then class_as policy s ∷ [] else []) e
-
--- plain statements are no set statements
-no-set : (all : List Placed) (s : Placed) (form : Form) → is_plain_form form ≡ true → spec.set_statement_of all s form ≡ []
-no-set all s (attribute_set attribute expr) plain = absurd (true≢false (sym plain))
-no-set all s _ plain = refl
-
-pub no-sets : (all statements : List Placed) → ((s : Placed) → Contains statements s → is_plain_form s.form ≡ true) → flat_map (λ s. spec.set_statement_of all s s.form) statements ≡ []
-no-sets all [] plain = refl
-no-sets all (s ∷ statements) plain =
-    let first = no-set all s s.form (plain s (contains-first s statements)) in
-    let more = no-sets all statements (λ t there. plain t (contains-other s statements t there)) in
-    λ j. first j ++ more j

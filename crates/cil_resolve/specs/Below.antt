@@ -8,6 +8,7 @@ use Rattle.cil_resolve.specs.declared.numbered.ResolvedTarget.TheVariants as aim
 use Rattle.cil_resolve.specs.declared.numbered.NumberedName.{NumberedName}
 use Rattle.cil_resolve.specs.declared.numbered.NumberedClass.{NumberedClass}
 use Rattle.cil_resolve.specs.declared.numbered.NumberedRule.{NumberedRule}
+use Rattle.cil_resolve.specs.declared.numbered.NumberedSet.{NumberedSet}
 
 -- whether the numbers are below this one
 abbrev pub is_element_below : ℕ → Element → Bool
@@ -20,6 +21,9 @@ is_target_below n (aims.Element e) = is_element_below n e
 
 abbrev pub is_rule_below : {A : Type 0} → ℕ → NumberedRule A → Bool
 is_rule_below n r = is_element_below n r.source && (is_target_below n r.target && (nat_lt r.class n && list_all (λ p. nat_lt p n) r.permissions.items))
+
+abbrev pub is_set_below : {A : Type 0} → ℕ → NumberedSet A → Bool
+is_set_below n s = nat_lt s.attribute n && list_all (is_element_below n) s.elements.items
 
 abbrev pub is_name_below : ℕ → NumberedName → Bool
 is_name_below n d = nat_lt d.name n

@@ -33,7 +33,7 @@ pub record IsWhole {A : Type 0} (p : Policy A) (parsed : List (NamedModule A)) (
   pub nested : AreNested p.rows.items policy
   pub apart : AreApart policy
 
--- The policy is bound and stands in order, what stands in optionals has its names found, and permissions are names without dots.
+-- The policy is bound and stands in order, what stands in optionals has its names found, and names have no dots.
 pub record IsInOrder {A : Type 0} (p : Policy A) (parsed : List (NamedModule A)) (policy : List Placed) : Type 0 where
   pub bound : IsBoundTo p parsed policy
   pub ordered : AreOrdered policy

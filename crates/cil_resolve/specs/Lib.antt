@@ -1,5 +1,7 @@
 pub mod Below
+pub mod Exprs
 pub mod Consistent
+pub mod Types
 pub mod Numbers
 pub mod Resolved
 pub mod Views

@@ -6,7 +6,6 @@ use Rattle.std.specs.Option.{option_and_then}
 use Rattle.cil_specs.specs.Names.{Word}
 use Rattle.cil_specs.specs.Statements.{Form, class_common}
 use Rattle.cil_specs.specs.Lookup.{Table, types, commons, leads, gives_common, actual_statement, is_alias, is_type, is_attribute}
-use Rattle.cil_specs.specs.Next.{is_plain_form}
 use Rattle.cil_specs.specs.Rule as spec
 use Rattle.cil_specs.specs.Rule.{element_at, declared_as, class_as, is_class, set_statement_of, rule_of}
 use Rattle.cil_bind.specs.Lookup.{IsFirstOf}
@@ -16,7 +15,7 @@ use Rattle.cil_parse.specs.Parsed.{names_of}
 use Rattle.cil_check.specs.Bound.{IsSeen}
 use Rattle.cil_check.specs.Checker.{IsNoted}
 use Rattle.cil_check.specs.Ordered.{IsFaultless}
-use Rattle.cil_resolve.specs.Below.{is_element_below, is_name_below, is_class_below, is_rule_below}
+use Rattle.cil_resolve.specs.Below.{is_element_below, is_name_below, is_class_below, is_set_below, is_rule_below}
 use Rattle.cil_text.specs.Image.{place_of}
 use Rattle.cil_resolve.specs.FullNames.{full_name_of}
 use Rattle.cil_resolve.specs.Numbering.{number_in, HavePlaces, HavePermissions}
@@ -27,6 +26,7 @@ use Rattle.cil_resolve.specs.declared.numbered.Element.{Element}
 use Rattle.cil_resolve.specs.declared.numbered.Element.TheVariants.{«Type»}
 use Rattle.cil_resolve.specs.declared.numbered.NumberedName.{NumberedName}
 use Rattle.cil_resolve.specs.declared.numbered.NumberedClass.{NumberedClass}
+use Rattle.cil_resolve.specs.declared.numbered.NumberedSet.{NumberedSet}
 use Rattle.cil_resolve.specs.declared.numbered.NumberedRule.{NumberedRule}
 use Rattle.cil_resolve.specs.declared.lowering.Lowering.{Lowering}
 use Rattle.cil_resolve.specs.declared.lowering.Parts.{Parts}
@@ -49,7 +49,7 @@ abbrev pub HaveElements : List (List ℕ) → List Placed → List Element → T
 HaveElements names policy elements = (i : ℕ) (s : Placed) → slice_get policy i ≡ Some s → IsFirstOf types policy i → IsTrue (is_set policy s)
     → IsElement names (slice_index_or elements i («Type» 0)) (element_at policy s s.form)
 
--- the types that a statement declares, and likewise the attributes, the classes and the rules
+-- the types that a statement declares, and likewise the attributes, the classes, the set statements and the rules
 abbrev pub type_if : Placed → List spec.Declared
 type_if s = if is_type s.form then declared_as types s ∷ [] else []
 
@@ -58,6 +58,9 @@ attribute_if s = if is_attribute s.form then declared_as types s ∷ [] else []
 
 abbrev pub class_if : List Placed → Placed → List spec.ClassOf
 class_if policy s = if is_class s.form then class_as policy s ∷ [] else []
+
+abbrev pub set_if : List Placed → Placed → List spec.SetStatement
+set_if policy s = set_statement_of policy s s.form
 
 abbrev pub rule_if : List Placed → Placed → List spec.Rule
 rule_if policy s = rule_of policy s s.form
@@ -102,7 +105,17 @@ pub record AreRules {A : Type 0} (modules names : List (List ℕ)) (rules : List
   pub is : map (numbered.rule_of modules names) rules ≡ are
   pub below : IsTrue (list_all (is_rule_below (length names)) rules)
 
--- The types, attributes, classes and rules that some statements of a policy are.
+-- what names of an expression lead to
+pub record AreElements (names : List (List ℕ)) (elements : List Element) (are : List spec.Element) : Type 0 where
+  pub is : map (element_of names) elements ≡ are
+  pub below : IsTrue (list_all (is_element_below (length names)) elements)
+
+-- set statements
+pub record AreSets {A : Type 0} (modules names : List (List ℕ)) (sets : List (NumberedSet A)) (are : List spec.SetStatement) : Type 0 where
+  pub is : map (numbered.set_of modules names) sets ≡ are
+  pub below : IsTrue (list_all (is_set_below (length names)) sets)
+
+-- The types, attributes, classes, set statements and rules that some statements of a policy are.
 pub record ArePartsOf {A : Type 0} (modules names : List (List ℕ)) (policy statements : List Placed) (parts : Parts A) : Type 0 where
   pub types_are : map (declared_of modules names) parts.types.items ≡ flat_map type_if statements
   pub types_below : IsTrue (list_all (is_name_below (length names)) parts.types.items)
@@ -110,8 +123,5 @@ pub record ArePartsOf {A : Type 0} (modules names : List (List ℕ)) (policy sta
   pub attributes_below : IsTrue (list_all (is_name_below (length names)) parts.attributes.items)
   pub classes_are : map (class_of modules names) parts.classes.items ≡ flat_map (class_if policy) statements
   pub classes_below : IsTrue (list_all (is_class_below (length names)) parts.classes.items)
+  pub sets_are : AreSets modules names parts.sets.items (flat_map (set_if policy) statements)
   pub rules_are : AreRules modules names parts.rules.items (flat_map (rule_if policy) statements)
-
--- there are no attribute sets
-abbrev pub HasNoSets : List Placed → Type 0
-HasNoSets policy = (s : Placed) → Contains policy s → IsTrue (is_plain_form s.form)

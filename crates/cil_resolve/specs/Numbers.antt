@@ -4,6 +4,7 @@ use Rattle.cil_specs.specs.Meaning.{Meaning}
 use Rattle.cil_specs.specs.Rule as spec
 use Rattle.cil_specs.specs.Rule.{a_type, an_attribute, at_itself, at_element}
 use Rattle.cil_text.specs.Image.{place_of, rule_kind_of}
+use Rattle.cil_resolve.specs.Exprs.{expr_of}
 use Rattle.cil_resolve.specs.Consistent.{are_rules_of, are_placed_in}
 use Rattle.cil_resolve.specs.declared.numbered.Element.{Element}
 use Rattle.cil_resolve.specs.declared.numbered.Element.TheVariants.{«Type», Attribute}
@@ -12,6 +13,7 @@ use Rattle.cil_resolve.specs.declared.numbered.ResolvedTarget.TheVariants as aim
 use Rattle.cil_resolve.specs.declared.numbered.NumberedName.{NumberedName}
 use Rattle.cil_resolve.specs.declared.numbered.NumberedClass.{NumberedClass}
 use Rattle.cil_resolve.specs.declared.numbered.NumberedRule.{NumberedRule}
+use Rattle.cil_resolve.specs.declared.numbered.NumberedSet.{NumberedSet}
 use Rattle.cil_resolve.specs.declared.numbered.DroppedOptional.{DroppedOptional}
 
 abbrev pub element_of : List (List ℕ) → Element → spec.Element
@@ -45,17 +47,26 @@ rule_of modules names r = record {
   permissions = map (λ p. slice_index_or names p []) r.permissions.items;
 }
 
+-- a set statement
+abbrev pub set_of : {A : Type 0} → List (List ℕ) → List (List ℕ) → NumberedSet A → spec.SetStatement
+set_of modules names s = record {
+  module_name = slice_index_or modules s.module [];
+  at = place_of s.at;
+  attribute = slice_index_or names s.attribute [];
+  expr = expr_of s.nodes.items (map (element_of names) s.elements.items);
+}
+
 -- an optional that drops, by the name of its module
 abbrev pub dropped_with : {A : Type 0} → List (List ℕ) → DroppedOptional A → spec.Declared
 dropped_with modules d = record { module_name = slice_index_or modules d.module []; at = place_of d.at; name = d.name }
 
--- what these names, declarations and rules mean, where there are no set statements yet
-abbrev pub meaning_by : {A : Type 0} → List (List ℕ) → List (List ℕ) → List NumberedName → List NumberedName → List (NumberedClass A) → List (NumberedRule A) → List (DroppedOptional A) → Meaning
-meaning_by modules names types attributes classes rules dropped = record {
+-- what these names, declarations, set statements and rules mean
+abbrev pub meaning_by : {A : Type 0} → List (List ℕ) → List (List ℕ) → List NumberedName → List NumberedName → List (NumberedClass A) → List (NumberedSet A) → List (NumberedRule A) → List (DroppedOptional A) → Meaning
+meaning_by modules names types attributes classes sets rules dropped = record {
   types = map (declared_of modules names) types;
   attributes = map (declared_of modules names) attributes;
   classes = map (class_of modules names) classes;
-  sets = [];
+  sets = map (set_of modules names) sets;
   rules = map (rule_of modules names) rules;
   dropped = map (dropped_with modules) dropped;
 }

@@ -3,6 +3,5 @@ use Rattle.cil_specs.specs.Meaning.{Meaning}
 use Rattle.cil_resolve.specs.Numbers.{meaning_by}
 use Rattle.cil_resolve.specs.declared.resolved.Resolved.{Resolved}
 
--- what a resolved policy means, which has no set statements yet
 abbrev pub meaning_in : {A : Type 0} → Resolved A → Meaning
-meaning_in r = meaning_by r.modules.items r.names.items r.types.items r.attributes.items r.classes.items r.rules.items r.dropped.items
+meaning_in r = meaning_by r.modules.items r.names.items r.types.items r.attributes.items r.classes.items r.sets.items r.rules.items r.dropped.items

@@ -1,12 +1,16 @@
 //! Laws of the definitions. They have no code.
 
-ghost use Rattle.std.specs.Prelude.{◌≡◌, ℕ, List, IsTrue, is_some};
+ghost use Rattle.std.specs.Prelude.{◌≡◌, ◌≤◌, ℕ, List, IsTrue, is_some, length};
+ghost use Rattle.cil_specs.specs.Expr.{Expr};
 ghost use Rattle.cil_specs.specs.Joined.{Placed};
 ghost use Rattle.cil_specs.specs.Lookup.{Table, leads};
 ghost use Rattle.cil_specs.specs.Store.{Store};
 ghost use Rattle.cil_specs.specs.Kept.{Optionals, restricted, IsWithin, IsGood, AreKept, AreApart};
-ghost use Rattle.cil_specs.specs.Meaning.{Meaning, Means};
+ghost use Rattle.cil_specs.specs.Meaning.{Meaning, Means, keeps_type, is_in};
+ghost use Rattle.cil_specs.specs.Members.{is_member, HasSoundSets};
 ghost use Rattle.cil_specs.specs.Next.{IsPolicyOf};
+ghost use Rattle.cil_specs.specs.Rule.{Element};
+ghost use Rattle.cil_specs.specs.Sets.{holds_with, mentions};
 ghost use Rattle.cil_resolve.specs.Consistent.{is_consistent};
 ghost use Rattle.cil_resolve.specs.Resolved.{meaning_in};
 
@@ -50,4 +54,23 @@ pub fn meanings_are_consistent()
 /// So do those of what a joined policy resolves to.
 pub fn resolved_is_consistent<A: Allocator>(resolved: &Resolved<A>)
     ensures { IsTrue (is_consistent (meaning_in resolved.now)) }
+{}
+
+/// The set statements of what a policy means are of attributes that it keeps, mention types and attributes that it keeps, and no
+/// attribute depends on itself.
+pub fn sets_are_sound()
+    ensures { (policy : List Placed) (kept : Optionals) (meaning : Meaning) → AreApart policy → Means policy kept meaning → HasSoundSets meaning }
+{}
+
+/// Where the set statements are so and no attribute depends on itself, more fuel than one for each attribute changes nothing.
+pub fn fuel_is_enough()
+    ensures { (meaning : Meaning) → HasSoundSets meaning → (fuel : ℕ) → length meaning.attributes ≤ fuel → (expr : Expr Element) (t : List ℕ)
+        → holds_with meaning.sets fuel expr t ≡ holds_with meaning.sets (length meaning.attributes) expr t }
+{}
+
+/// A type is alike in an expression in two policies that keep it and agree on whether it is a member of the attributes that the expression
+/// mentions.
+pub fn expressions_agree()
+    ensures { (old new : Meaning) (expr : Expr Element) (t : List ℕ) → IsTrue (keeps_type old t) → IsTrue (keeps_type new t)
+        → ((attribute : List ℕ) → IsTrue (mentions attribute expr) → is_member old attribute t ≡ is_member new attribute t) → is_in old expr t ≡ is_in new expr t }
 {}

@@ -12,6 +12,7 @@ mod name_set;
 mod numbered;
 mod numbering;
 mod resolved;
+mod resolved_types;
 mod resolver;
 mod text;
 mod views;
@@ -20,13 +21,15 @@ mod words;
 pub use cil_bind::{Joined, NamedModule, join};
 pub use cil_check::{PolicyFault, PolicyFaultKind};
 pub use laws::{
-    found_grows, kept_exists, kept_is_good, kept_is_one, meanings_are_consistent,
-    policies_are_apart, resolved_is_consistent,
+    expressions_agree, found_grows, fuel_is_enough, kept_exists, kept_is_good, kept_is_one,
+    meanings_are_consistent, policies_are_apart, resolved_is_consistent, sets_are_sound,
 };
 pub use numbered::{
-    DroppedOptional, Element, NumberedClass, NumberedName, NumberedRule, ResolvedTarget,
+    DroppedOptional, Element, NumberedClass, NumberedName, NumberedRule, NumberedSet,
+    ResolvedTarget,
 };
 pub use resolved::Resolved;
+pub use resolved_types::ResolvedTypes;
 pub use resolver::{resolve, resolve_types};
 pub use text::Text;
 pub use views::{ClassView, ElementView, NameView, RuleView, TargetView};

@@ -5,7 +5,7 @@ ghost use Rattle.cil_specs.specs.Joined.{Placed};
 ghost use Rattle.cil_specs.specs.Meaning.{meaning_of};
 ghost use Rattle.cil_check.specs.Checker.{IsNoted};
 ghost use Rattle.cil_check.specs.Ordered.{IsFaultless};
-ghost use Rattle.cil_resolve.specs.Lowering.{modules_of, HasNoSets};
+ghost use Rattle.cil_resolve.specs.Lowering.{modules_of};
 ghost use Rattle.cil_resolve.specs.Numbers.{dropped_with};
 ghost use Rattle.cil_resolve.specs.Resolved.{meaning_in};
 
@@ -40,7 +40,7 @@ pub fn lowered<A: Allocator + Copy>(
     dropped: Vec<DroppedOptional<A>, A>,
 ) -> Result<Resolved<A>, AllocError>
     requires { (policy : List Placed) × IsNoted checker.now policy × IsFaultless policy }
-    ensures { IfOk result (λ r. (policy : List Placed) → IsNoted checker.now policy → IsFaultless policy → HasNoSets policy
+    ensures { IfOk result (λ r. (policy : List Placed) → IsNoted checker.now policy → IsFaultless policy
         → meaning_in r ≡ meaning_of policy (map (dropped_with (modules_of checker.now.bound.joined.now)) dropped.items)) }
 {
     let numbering = Numbering::of(alloc, &checker.bound)?;
@@ -58,6 +58,7 @@ pub fn lowered<A: Allocator + Copy>(
         types: parts.types,
         attributes: parts.attributes,
         classes: parts.classes,
+        sets: parts.sets,
         rules: parts.rules,
         dropped,
     })

@@ -1,13 +1,15 @@
 //! A policy without faults by the numbers of its names.
 
-ghost use Rattle.std.specs.Prelude.{◌≡◌, ◌<◌, ◌++◌, ◌∷◌, ℕ, List, [], Some, fold, length, slice_get, slice_index_or, Contains, IsTrue, IfOk, OnOk};
+ghost use Rattle.std.specs.Prelude.{◌≡◌, ◌<◌, ◌++◌, ◌∷◌, ℕ, List, [], Some, fold, map, length, slice_get, slice_index_or, Contains, IsTrue, IfOk, OnOk};
 ghost use Rattle.std.specs.List.{list_all};
 ghost use Rattle.std.specs.Option.{option_to_list};
 ghost use Rattle.cil_specs.specs.Names.{Word};
+ghost use Rattle.cil_specs.specs.Expr.{WordExpr, leaves};
+ghost use Rattle.cil_specs.specs.Statements.{attribute_set};
 ghost use Rattle.cil_specs.specs.Joined.{Placed};
-ghost use Rattle.cil_specs.specs.Lookup.{types, classes, commons, references, texts, has_name, with_name, own_permissions, distinct, permissions_of};
+ghost use Rattle.cil_specs.specs.Lookup.{types, classes, commons, leads, references, texts, has_name, with_name, own_permissions, distinct, permissions_of};
 ghost use Rattle.cil_specs.specs.PolicyFault.{element_words};
-ghost use Rattle.cil_specs.specs.Rule.{element_of as element_led, class_name, is_class};
+ghost use Rattle.cil_specs.specs.Rule.{element_of as element_led, class_name, is_class, name_or_none};
 ghost use Rattle.cil_parse.specs.Builder.{read};
 ghost use Rattle.cil_parse.specs.Forms.{kind_of, permissions_in};
 ghost use Rattle.cil_parse.specs.Parsed.{texts_of};
@@ -15,23 +17,26 @@ ghost use Rattle.cil_bind.specs.Lookup.{IsLead};
 ghost use Rattle.cil_bind.specs.Written.{IsOneName};
 ghost use Rattle.cil_check.specs.Permissions.{lists_own};
 ghost use Rattle.cil_resolve.specs.FullNames.{is_numbered};
-ghost use Rattle.cil_resolve.specs.Lowering.{IsElement, IsLowering, IsIn, IsDeclared, IsClass, AreRules, ArePartsOf, common_of, modules_of, rule_if};
+ghost use Rattle.cil_resolve.specs.Lowering.{IsElement, IsLowering, IsIn, IsDeclared, IsClass, AreElements, AreSets, AreRules, ArePartsOf, common_of, modules_of, set_if, rule_if};
 ghost use Rattle.cil_resolve.specs.Numbering.{AreNumbersIn, listed_names, number_in};
 
 use crate::elements::{element_in, lead_at};
-use crate::numbered::{Element, NumberedClass, NumberedName, NumberedRule, ResolvedTarget};
+use crate::numbered::{
+    Element, NumberedClass, NumberedName, NumberedRule, NumberedSet, ResolvedTarget,
+};
 use crate::numbering::Numbering;
 use crate::words::number_at;
 use cil_check::{Checker, Seen};
 use cil_parse::{NumberedWord, StatementKind};
 use std::alloc::{AllocError, Allocator, Global};
 
-/// The types, attributes, classes and rules of a policy, in the order of their statements.
+/// The types, attributes, classes, set statements and rules of a policy, in the order of their statements.
 #[derive(Drop)]
 pub struct Parts<A: Allocator = Global> {
     pub types: Vec<NumberedName, A>,
     pub attributes: Vec<NumberedName, A>,
     pub classes: Vec<NumberedClass<A>, A>,
+    pub sets: Vec<NumberedSet<A>, A>,
     pub rules: Vec<NumberedRule<A>, A>,
 }
 
@@ -169,6 +174,43 @@ impl<'l, 'p, 'm, A: Allocator + Copy> Lowering<'l, 'p, 'm, A> {
         })
     }
 
+    /// The number of the attribute of a set statement.
+    fn attribute(&self, seen: &Seen<'p, 'm, A>) -> usize
+        ensures { (policy : List Placed) (s : Placed) (attribute : Word) (expr : WordExpr) → IsIn self.now seen.now policy s → s.form ≡ attribute_set attribute expr
+            → number_in self.now.numbering.now.names.items (name_or_none types (leads policy types s.namespace attribute.text)) ≡ Some result }
+    {
+        let declared = seen.lead(0).unwrap_or(0);
+        number_at(&self.numbering.places, declared as usize)
+    }
+
+    /// What the names of the expression of a set statement stand for, in their order.
+    fn set_elements(&self, seen: &Seen<'p, 'm, A>) -> Result<Vec<Element, A>, AllocError>
+        ensures { IfOk result (λ elements. (policy : List Placed) (s : Placed) (attribute : Word) (expr : WordExpr) → IsIn self.now seen.now policy s → s.form ≡ attribute_set attribute expr
+            → AreElements self.now.numbering.now.names.items elements.items (map (element_led policy s.namespace) (leaves expr))) }
+    {
+        let count = seen.view.words.len().saturating_sub(1);
+        let mut elements = Vec::with_capacity(self.alloc, count)?;
+        for k in 0..count {
+            elements.push(self.element(seen, k + 1))?;
+        }
+        Ok(elements)
+    }
+
+    /// The set statement of a place.
+    fn set(&self, seen: &Seen<'p, 'm, A>, i: usize) -> Result<NumberedSet<A>, AllocError>
+        requires { (policy : List Placed) × IsLowering self.now policy × (i < length policy) }
+        ensures { IfOk result (λ set. (policy : List Placed) (s : Placed) (attribute : Word) (expr : WordExpr) → IsIn self.now seen.now policy s → slice_get policy i ≡ Some s → s.form ≡ attribute_set attribute expr
+            → AreSets (modules_of self.now.checker.now.bound.joined.now) self.now.numbering.now.names.items (set ∷ []) (set_if policy s)) }
+    {
+        Ok(NumberedSet {
+            module: self.module(i),
+            at: seen.view.at,
+            attribute: self.attribute(seen),
+            nodes: Vec::from_slice(self.alloc, seen.view.nodes)?,
+            elements: self.set_elements(seen)?,
+        })
+    }
+
     /// The rule that the statement of a place is, if it is one.
     fn rule(&self, seen: &Seen<'p, 'm, A>, i: usize) -> Result<Option<NumberedRule<A>>, AllocError>
         requires { (policy : List Placed) × ((s : Placed) × IsIn self.now seen.now policy s × (slice_get policy i ≡ Some s)) }
@@ -205,6 +247,7 @@ impl<'l, 'p, 'm, A: Allocator + Copy> Lowering<'l, 'p, 'm, A> {
                 parts.attributes.push(self.declared(&seen, i as usize))?;
             }
             StatementKind::Class => parts.classes.push(self.class_at(&seen, i)?)?,
+            StatementKind::TypeAttributeSet => parts.sets.push(self.set(&seen, i as usize)?)?,
             _ => {
                 if let Some(rule) = self.rule(&seen, i as usize)? {
                     parts.rules.push(rule)?;
@@ -214,7 +257,7 @@ impl<'l, 'p, 'm, A: Allocator + Copy> Lowering<'l, 'p, 'm, A> {
         Ok(())
     }
 
-    /// The types, attributes, classes and rules of the policy, in the order of their statements. A policy of more than 4294967295
+    /// The types, attributes, classes, set statements and rules of the policy, in the order of their statements. A policy of more than 4294967295
     /// statements is answered as out of memory.
     pub fn parts(&self) -> Result<Parts<A>, AllocError>
         requires { (policy : List Placed) × IsLowering self.now policy }
@@ -229,6 +272,7 @@ impl<'l, 'p, 'm, A: Allocator + Copy> Lowering<'l, 'p, 'm, A> {
             types: Vec::new(self.alloc),
             attributes: Vec::new(self.alloc),
             classes: Vec::new(self.alloc),
+            sets: Vec::new(self.alloc),
             rules: Vec::new(self.alloc),
         };
         for i in 0..count {

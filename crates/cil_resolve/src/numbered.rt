@@ -1,10 +1,11 @@
-//! Types, classes and rules by the numbers of their names.
+//! Types, classes, set statements and rules by the numbers of their names.
 
 use crate::text::Text;
+use cil_parse::SetNode;
 use cil_text::{Place, RuleKind};
 use std::alloc::{Allocator, Global};
 
-/// What a name of a rule leads to, an alias to its type, by the place of its full name in a list of names.
+/// What a name of a rule or of a set expression leads to, an alias to its type, by the place of its full name in a list of names.
 #[derive(Clone, Copy, Debug, PartialEq, Eq)]
 pub enum Element {
     Type(usize),
@@ -34,6 +35,17 @@ pub struct NumberedClass<A: Allocator = Global> {
     pub at: Place,
     pub name: usize,
     pub permissions: Vec<usize, A>,
+}
+
+/// A set statement: its attribute by the place of its full name, the nodes of its expression, each in front of those of its operands,
+/// and what the names of the expression lead to, in their order.
+#[derive(Debug, Drop)]
+pub struct NumberedSet<A: Allocator = Global> {
+    pub module: usize,
+    pub at: Place,
+    pub attribute: usize,
+    pub nodes: Vec<SetNode, A>,
+    pub elements: Vec<Element, A>,
 }
 
 /// A rule whose names are numbers: places in a list of names.

@@ -16,6 +16,7 @@ ghost use Rattle.cil_resolve.specs.Resolved.{meaning_in};
 use crate::judged::Judged;
 use crate::lowered::lowered;
 use crate::resolved::Resolved;
+use crate::resolved_types::ResolvedTypes;
 use cil_bind::{Joined, Policy};
 use cil_check::{BoundPolicy, Checker, PolicyFault};
 use std::alloc::Allocator;
@@ -33,11 +34,11 @@ fn checked<'p, 'm, A: Allocator + Copy>(
     ensures err { IfErr result (λ fault. (others : List Placed) → IsInOrder policy.now joined.now.modules.items others → PolicyFaultIs fault (IsLeast (IsFaultIn others))) }
 {
     let checker = Checker::of(alloc, BoundPolicy { joined, policy })?;
-    checker.check()?;
+    checker.check(alloc)?;
     Ok(checker)
 }
 
-/// The types, attributes, classes and rules of a policy by full names, with the optionals that drop, or its first fault: that of
+/// The types, attributes, classes, set statements and rules of a policy by full names, with the optionals that drop, or its first fault: that of
 /// the least code, then of the least module name by bytes, then of the least offset. What stands in optionals that drop is left
 /// out, but for names that are declared twice.
 pub fn resolve<'m, A: Allocator + Copy>(
@@ -54,18 +55,19 @@ pub fn resolve<'m, A: Allocator + Copy>(
 }
 
 /// What a policy resolves to, of which no kept rule names an attribute: the first such word of a policy that compiles is a fault of the
-/// wrong kind, until attributes have members.
+/// wrong kind, until tables take in the members of attributes.
 pub fn resolve_types<'m, A: Allocator + Copy>(
     alloc: A,
     joined: &Joined<'m, A>,
-) -> Result<Resolved<A>, PolicyFault<'m>>
+) -> Result<ResolvedTypes<A>, PolicyFault<'m>>
     requires { (modules : List Module) × AreParsedFrom joined.now.modules.items modules }
     ensures meaning { IfOk result (λ r. (modules : List Module) → AreParsedFrom joined.now.modules.items modules
-        → (kept : Optionals) × Means (joined_policy modules) kept (meaning_in r) × HasTypesAlone (restricted kept (joined_policy modules))) }
+        → (kept : Optionals) × Means (joined_policy modules) kept (meaning_in r.resolved) × HasTypesAlone (restricted kept (joined_policy modules))) }
     ensures err { IfErr result (λ fault. (modules : List Module) → AreParsedFrom joined.now.modules.items modules → PolicyFaultIs fault (IsPolicyFaultOf (joined_policy modules))) }
 {
     let Judged { policy, dropped } = Judged::of(alloc, joined)?;
     let checker = checked(alloc, joined, &policy)?;
     checker.check_attributes()?;
-    Ok(lowered(alloc, &checker, dropped)?)
+    let resolved = lowered(alloc, &checker, dropped)?;
+    Ok(ResolvedTypes { resolved })
 }

@@ -5,7 +5,7 @@ ghost use Rattle.cil_store.specs.Stored.{IsParsedOf};
 use cil_parse::ParsedModule;
 use cil_program::script::session::{Status, session};
 use cil_store::{Plain, parse};
-use cil_text::{MemorySink, MemorySource};
+use cil_stream::{MemorySink, MemorySource};
 use std::alloc::Global;
 use std::fmt::Debug;
 use std::process::Abort;

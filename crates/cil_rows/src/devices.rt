@@ -3,7 +3,7 @@
 use crate::answers::{FIRST_ANSWER, FIRST_SCRIPT, Piece, assert_same, shown, spelled};
 use cil_program::script::session::{SessionFault, Status, session};
 use cil_store::{Compiled, Plain};
-use cil_text::{MemorySink, MemorySource};
+use cil_stream::{MemorySink, MemorySource};
 use std::alloc::Global;
 use std::process::Abort;
 

@@ -4,7 +4,7 @@ use crate::answers::{FIRST_SCRIPT, assert_same};
 use cil_program::command_line::answer_command_line;
 use cil_program::script::session::{Status, session};
 use cil_store::Plain;
-use cil_text::{MemorySink, MemorySource, ReaderSource, Sink, WriterSink, write_all};
+use cil_stream::{MemorySink, MemorySource, ReaderSource, Sink, WriterSink, write_all};
 use std::alloc::Global;
 use std::cell::Cell;
 use std::io;

@@ -6,7 +6,8 @@ use cil_store::{
     Call, Compiled, Dropped, Edit, FaultKind, Plain, Refusal, Reply, StoreFault, WriteFault,
     check_install, run,
 };
-use cil_text::{MemorySink, Place};
+use cil_stream::MemorySink;
+use cil_text::Place;
 use std::alloc::Global;
 use std::process::Abort;
 

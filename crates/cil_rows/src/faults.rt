@@ -4,7 +4,8 @@ use crate::answers::assert_same;
 use cil_program::script::session::SessionFault;
 use cil_resolve::{PolicyFault, PolicyFaultKind};
 use cil_store::{Refusal, StoreFault, WriteFault};
-use cil_text::{Place, ShownWord, SinkFault, SourceFault, TextFault, TextFaultKind};
+use cil_stream::{SinkFault, SourceFault};
+use cil_text::{Place, ShownWord, TextFault, TextFaultKind};
 use std::alloc::{AllocError, Global};
 use std::fmt::Display;
 use std::process::Abort;
@@ -39,6 +40,7 @@ const STORE_CODES: &[(StoreFault, u8)] = &[
 const POLICY_CODES: &[(PolicyFaultKind, u8)] = &[
     (PolicyFaultKind::Twice, 41),
     (PolicyFaultKind::Missing, 42),
+    (PolicyFaultKind::Circular, 48),
 ];
 
 #[test]

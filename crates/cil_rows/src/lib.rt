@@ -34,6 +34,8 @@ mod reading;
 #[cfg(test)]
 mod refusals;
 #[cfg(test)]
+mod sets;
+#[cfg(test)]
 mod shapes;
 #[cfg(test)]
 mod statuses;

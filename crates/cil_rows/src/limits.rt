@@ -32,6 +32,16 @@ const TAKEN: &[(Pieces, Pieces)] = &[
         ],
         &[Text("ok 0 0\n")],
     ),
+    // 256 lists stand within one another at the most, those of a set expression too.
+    (
+        &[
+            Text("install m 400 548\n(typeattribute a)(typeattributeset a "),
+            Run(b'(', 255),
+            Run(b')', 256),
+            Text("\n"),
+        ],
+        &[Text("ok 0 0\n")],
+    ),
 ];
 
 #[test]
@@ -109,16 +119,7 @@ const REFUSED: &[(Pieces, Pieces)] = &[
         ],
         &[Text("refused 14 m:1:257 (\n")],
     ),
-    // The same behind the two words of a set statement, which isn't compiled yet.
-    (
-        &[
-            Text("install m 400 548\n(typeattribute a)(typeattributeset a "),
-            Run(b'(', 255),
-            Run(b')', 256),
-            Text("\n"),
-        ],
-        &[Text("refused 20 m:1:19 typeattributeset\n")],
-    ),
+    // The same behind the two words of a set statement.
     (
         &[
             Text("install m 400 550\n(typeattribute a)(typeattributeset a "),

@@ -8,7 +8,7 @@ use cil_program::script::memory::answer_script;
 use cil_program::script::reply;
 use cil_program::script::session::Status;
 use cil_store::{Compiled, Edit, Plain, Refusal};
-use cil_text::{MemorySink, MemorySource};
+use cil_stream::{MemorySink, MemorySource};
 
 // Lines, each with its command, and the name, the priority and the length of an install.
 const COMMANDS: &[(&str, &str, &str, u32, u32)] = &[

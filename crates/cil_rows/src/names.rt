@@ -1,22 +1,20 @@
 //! Small policies by calls of `cil_resolve`: one that compiles, and some with a fault.
 
-ghost use Rattle.std.specs.Prelude.{◌≡◌, List, IsTrue, IfOk};
+ghost use Rattle.std.specs.Prelude.{List, IfOk};
 ghost use Rattle.cil_specs.specs.Joined.{Module};
-ghost use Rattle.cil_specs.specs.Next.{is_plain as is_plain_module};
-ghost use Rattle.cil_specs.specs.Statements.{Statements};
-ghost use Rattle.cil_parse.specs.Parsed.{Spells};
 ghost use Rattle.cil_resolve.specs.Modules.{AreParsedFrom};
-ghost use Rattle.cil_rows.specs.Sound.{is_set_kind, IsSoundModule};
+ghost use Rattle.cil_rows.specs.Sound.{IsSoundModule};
 
 use crate::answers::{assert_same, shown};
 use crate::tables::assert_changes;
-use cil_parse::{ParsedModule, StatementKind, parse};
+use cil_parse::{ParsedModule, parse};
 use cil_resolve::{
     ClassView, Element, ElementView, Joined, NameView, NamedModule, PolicyFault, Resolved,
     RuleView, TargetView, join, resolve, resolve_types,
 };
 use cil_rules::{Atom, Changes, Table};
-use cil_text::{MemorySink, RuleKind};
+use cil_stream::MemorySink;
+use cil_text::RuleKind;
 use std::alloc::{AllocError, Global};
 use std::process::Abort;
 
@@ -26,33 +24,12 @@ const CLASS_AND_TYPE: &[u8] = b"(class p (use))(type a)";
 
 const RULE: &[u8] = b"(allow a a (p (use)))";
 
-// Whether statements of a kind are attribute sets.
-fn is_set(kind: StatementKind) -> bool
-    ensures { result ≡ is_set_kind kind }
-{
-    matches!(kind, StatementKind::TypeAttributeSet)
-}
-
-// Whether a module has no attribute set.
-fn is_plain(module: &ParsedModule) -> bool
-    ensures { IsTrue result → (statements : Statements) → Spells «module».now statements → IsTrue (is_plain_module statements) }
-{
-    for i in 0..module.len() {
-        if is_set(module.statement(i).kind) {
-            return false;
-        }
-    }
-    true
-}
-
 // The parsed module of a text, also of rules that no store takes yet.
 fn module_of(rt: &impl Abort, alloc: Global, text: &[u8]) -> ParsedModule
     ensures { IsSoundModule result }
 {
     assert!(rt; text.len() <= 16_777_216, "too long a text");
-    let module = parse(alloc, text).expect(rt, "a module");
-    assert!(rt; is_plain(&module), "an attribute set");
-    module
+    parse(alloc, text).expect(rt, "a module")
 }
 
 // The modules m and n.

@@ -207,7 +207,7 @@ const SEVERAL_MODULES: Dialogue<'static> = &[
     (Rules, "allow a y:p { use };\nallow y a:p { use };\nend 2\n"),
 ];
 
-// Until attributes have members, a rule of one is refused behind all other faults.
+// Until tables take in the members of attributes, a rule of one is refused behind all other faults.
 const OF_ATTRIBUTES: Dialogue<'static> = &[
     (
         Install("m", "(class p (use))(typeattribute s)(type a)"),

@@ -60,10 +60,6 @@ fn names_of_rules(rt: HostRuntime) {
 // Well shaped statements that aren't compiled yet are refused at their first words.
 const NOT_YET: &[(&[u8], &str)] = &[
     (
-        b"(typeattributeset b (c))",
-        "refused 20 m:1:2 typeattributeset\n",
-    ),
-    (
         b"(auditallow a a (p (use)))",
         "refused 20 m:1:2 auditallow\n",
     ),
@@ -78,8 +74,8 @@ const NOT_YET: &[(&[u8], &str)] = &[
     ),
     // Inside a block or an optional too, and the first of several.
     (
-        b"(block b (typeattributeset s (t)))",
-        "refused 20 m:1:11 typeattributeset\n",
+        b"(block b (auditallow a a (p (use))))",
+        "refused 20 m:1:11 auditallow\n",
     ),
     (
         b"(block b (optional o (dontaudit a a (p ()))))(neverallow a a (p ()))",
@@ -87,16 +83,16 @@ const NOT_YET: &[(&[u8], &str)] = &[
     ),
     // They are looked for behind every fault of shape, and before any fault of the policy.
     (
-        b"(typeattributeset s (t))(type 1x)(type \"",
-        "refused 13 m:1:40 \"\n",
+        b"(dontaudit a a (p (u)))(type 1x)(type \"",
+        "refused 13 m:1:39 \"\n",
     ),
     (
-        b"(typeattributeset s (t))(type 1x)",
-        "refused 22 m:1:31 1x\n",
+        b"(dontaudit a a (p (u)))(type 1x)",
+        "refused 22 m:1:30 1x\n",
     ),
     (
-        b"(type a)(type a)(typeattributeset s (t))",
-        "refused 20 m:1:18 typeattributeset\n",
+        b"(type a)(type a)(dontaudit a a (p (u)))",
+        "refused 20 m:1:18 dontaudit\n",
     ),
     (b"(type a)(type a)(type s)", "refused 41 m:1:15 a\n"),
 ];

@@ -4,7 +4,7 @@ use crate::answers::{FIRST_ANSWER, FIRST_SCRIPT, assert_same, shown};
 use cil_program::command_line::{answer_command_line, exit_status};
 use cil_program::script::session::{SessionFault, Status};
 use cil_store::Plain;
-use cil_text::{MemorySink, MemorySource};
+use cil_stream::{MemorySink, MemorySource};
 use std::alloc::Global;
 use std::process::Abort;
 

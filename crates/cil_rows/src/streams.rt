@@ -3,7 +3,7 @@
 use crate::answers::{FIRST_ANSWER, FIRST_SCRIPT, assert_same, shown};
 use cil_program::script::session::{SessionFault, Status, session};
 use cil_store::Plain;
-use cil_text::{
+use cil_stream::{
     MemorySink, MemorySource, ReaderSource, Sink, SinkFault, Source, SourceFault, WriterSink,
     write_all, write_pieces,
 };

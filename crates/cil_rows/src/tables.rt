@@ -3,7 +3,8 @@
 use crate::answers::{assert_same, shown};
 use cil_rules::{Atom, Changes, Row, Rows, write_row_line};
 use cil_store::{Compiled, Edit, Plain};
-use cil_text::{MemorySink, RuleKind, SinkFault};
+use cil_stream::{MemorySink, SinkFault};
+use cil_text::RuleKind;
 use std::alloc::Global;
 use std::process::Abort;
 

@@ -1,5 +1,6 @@
 pub mod AtomLemmas
 pub mod ChangesLemmas
+pub mod CollectLemmas
 pub mod DerivedOrder
 pub mod DifferenceLemmas
 pub mod GivenLemmas

@@ -5,9 +5,9 @@ use Rattle.std.proofs.lemmas.Result.{on_err_weaker}
 use Rattle.std.proofs.lemmas.List.Folds.{flat_map-map}
 use Rattle.cil_specs.specs.Rule as spec
 use Rattle.cil_specs.specs.Report.{AreAtoms, Row, AreRows, row_line}
-use Rattle.cil_text.specs.Device.{Gains, GainsFront}
-use Rattle.cil_text.proofs.Gaining.{gains-both}
-use Rattle.cil_text.proofs.Gaining.{gains-then_front, front-longer}
+use Rattle.cil_stream.specs.Device.{Gains, GainsFront}
+use Rattle.cil_stream.proofs.Gaining.{gains-both}
+use Rattle.cil_stream.proofs.Gaining.{gains-then_front, front-longer}
 use Rattle.cil_text.specs.Image.{rule_kind_of}
 use Rattle.cil_rules.specs.declared.numbers.AtomNumbers.{AtomNumbers}
 use Rattle.cil_rules.specs.Atoms.{name_at}

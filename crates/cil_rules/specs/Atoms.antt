@@ -14,6 +14,8 @@ use Rattle.cil_resolve.specs.declared.numbered.ResolvedTarget.{ResolvedTarget}
 use Rattle.cil_resolve.specs.declared.numbered.ResolvedTarget.TheVariants as aims
 use Rattle.cil_resolve.specs.declared.numbered.NumberedRule.{NumberedRule}
 use Rattle.cil_rules.specs.declared.atom.Atom.{Atom}
+use Rattle.cil_rules.specs.declared.heads.HeadedRule.{HeadedRule}
+use Rattle.cil_rules.specs.declared.heads.RuleHead.{RuleHead}
 use Rattle.cil_rules.specs.declared.numbers.AtomNumbers.{AtomNumbers}
 
 -- the access that an access of the code stands for
@@ -75,3 +77,11 @@ given_between r (Attribute source) target = []
 -- the accesses that a rule gives
 abbrev pub given : {A : Type 0} → NumberedRule A → List AtomNumbers
 given r = given_between r r.source r.target
+
+-- the access with a head for a permission
+abbrev pub access_of : RuleHead → ℕ → AtomNumbers
+access_of h p = record { kind = h.kind; source = h.source; target = h.target; class = h.class; permission = p }
+
+-- the accesses that a rule gives, by its head
+abbrev pub given_by : HeadedRule → List AtomNumbers
+given_by r = map (access_of r.head) r.permissions.now

@@ -4,7 +4,7 @@ ghost use Rattle.std.specs.Prelude.{◌≡◌, ◌<◌, ◌≤◌, ◌++◌, len
 ghost use Rattle.std.specs.List.{All, flat_map};
 ghost use Rattle.cil_specs.specs.Statements.{rule_word};
 ghost use Rattle.cil_specs.specs.Report.{row_line};
-ghost use Rattle.cil_text.specs.Device.{HasFailed, Gains, GainsFront};
+ghost use Rattle.cil_stream.specs.Device.{HasFailed, Gains, GainsFront};
 ghost use Rattle.cil_text.specs.Image.{rule_kind_of};
 ghost use Rattle.cil_rules.specs.Atoms.{atom_at, IsWithin, AreNumbered};
 ghost use Rattle.cil_rules.specs.Rows.{rows_of, row_head, name_text, permission_text, row_at};
@@ -14,7 +14,8 @@ use crate::first_row::split_row;
 use crate::numbers::AtomNumbers;
 use crate::row::Row;
 use cil_resolve::Text;
-use cil_text::{RuleKind, Sink, SinkFault, write_all, write_pieces};
+use cil_stream::{Sink, SinkFault, write_all, write_pieces};
+use cil_text::RuleKind;
 use std::alloc::Allocator;
 
 /// The word that a rule of this kind begins with.

@@ -3,7 +3,7 @@
 ghost use Rattle.std.specs.Prelude.{◌≡◌, ◌<◌, ◌≤◌, ◌==◌, [], ◌∷◌, ◌++◌, length, map, slice_get, option_map, IfOk, OnOk, OnErr};
 ghost use Rattle.std.specs.List.{All, flat_map};
 ghost use Rattle.cil_specs.specs.Report.{row_line};
-ghost use Rattle.cil_text.specs.Device.{HasFailed, Gains, GainsFront};
+ghost use Rattle.cil_stream.specs.Device.{HasFailed, Gains, GainsFront};
 ghost use Rattle.cil_rules.specs.Atoms.{atom_at, AreNumbered};
 ghost use Rattle.cil_rules.specs.Rows.{rows_of};
 ghost use Rattle.cil_rules.specs.NumberedRows.{row_of, row_by, numbered_row, line_by, IsNumberedRow, AreNumberedRows};
@@ -14,7 +14,8 @@ use crate::name_list::NameList;
 use crate::numbers::AtomNumbers;
 use crate::row::{Names, Row};
 use cil_resolve::Text;
-use cil_text::{RuleKind, Sink, SinkFault};
+use cil_stream::{Sink, SinkFault};
+use cil_text::RuleKind;
 use std::alloc::{AllocError, Allocator, Global};
 use std::marker::Model;
 

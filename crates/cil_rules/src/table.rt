@@ -6,7 +6,7 @@ ghost use Rattle.cil_specs.specs.Rule as spec;
 ghost use Rattle.cil_specs.specs.Meaning.{is_in_table};
 ghost use Rattle.cil_specs.specs.Report.{AreAtoms, Row, AreRows, row_line};
 ghost use Rattle.cil_resolve.specs.Resolved.{meaning_in};
-ghost use Rattle.cil_text.specs.Device.{HasFailed, Gains, GainsFront};
+ghost use Rattle.cil_stream.specs.Device.{HasFailed, Gains, GainsFront};
 ghost use Rattle.cil_rules.specs.Atoms.{atom_of};
 
 use crate::atom::Atom;
@@ -15,8 +15,8 @@ use crate::listing::write_rows;
 use crate::name_list::NameList;
 use crate::numbers::AtomNumbers;
 use crate::rows::Rows;
-use cil_resolve::Resolved;
-use cil_text::{Sink, SinkFault};
+use cil_resolve::ResolvedTypes;
+use cil_stream::{Sink, SinkFault};
 use std::alloc::{AllocError, Allocator, Global};
 use std::marker::Model;
 
@@ -52,9 +52,10 @@ impl<A: Allocator + Copy> Table<A> {
     }
 
     /// The table of the rules of a policy, whose names it keeps.
-    pub fn of(alloc: A, resolved: Resolved<A>) -> Result<Self, AllocError>
-        ensures { IfOk result (λ table. AreAtoms (is_in_table (meaning_in resolved)) table) }
+    pub fn of(alloc: A, policy: ResolvedTypes<A>) -> Result<Self, AllocError>
+        ensures { IfOk result (λ table. AreAtoms (is_in_table (meaning_in policy.resolved)) table) }
     {
+        let resolved = policy.resolved;
         let mut atoms = collect(alloc, resolved.rules())?;
         sort_distinct(&mut atoms);
         Ok(Table {

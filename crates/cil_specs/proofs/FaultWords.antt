@@ -7,7 +7,7 @@ use Rattle.cil_specs.specs.Expr.{leaves}
 use Rattle.cil_specs.specs.Statements.{Form, block, optional, type_name, type_alias, alias_actual, type_attribute, attribute_set, common, class, class_common, class_order, rule, Target, itself, the_named, target_words, words_of}
 use Rattle.cil_specs.specs.Joined.{Placed}
 use Rattle.cil_specs.specs.Lookup.{Table, types, classes, commons, scopes, declared_in, references, named_permissions}
-use Rattle.cil_specs.specs.PolicyFault.{PolicyFaultKind, twice, missing, wrong_kind, alias_twice, alias_unset, second_common, too_many_permissions, is_again, tables, is_unfound, is_lacking, missing_words, kinds_asked, is_of_another_kind, alias_words, has_earlier_actual, element_words, is_unset, common_words, has_earlier_common, has_too_many, is_outside, faulty_words}
+use Rattle.cil_specs.specs.PolicyFault.{PolicyFaultKind, twice, missing, wrong_kind, alias_twice, alias_unset, second_common, too_many_permissions, circular, is_again, tables, is_unfound, is_lacking, missing_words, kinds_asked, is_of_another_kind, alias_words, has_earlier_actual, element_words, is_unset, common_words, has_earlier_common, has_too_many, is_outside, IsFaulty}
 use Rattle.cil_specs.specs.Next.{rule_elements}
 use Rattle.cil_specs.proofs.OrderLemmas.{offset_of, role_offset, declared_offsets, referred_offsets}
 use Rattle.cil_specs.proofs.NamesLemmas.{all-weaker, all-contained, contains-first, contains-other, contains-cases, contains-mapped}
@@ -176,7 +176,7 @@ missing-word policy s w c =
       | inr there ↦ left-second s.form (is_lacking policy s.namespace) (named_permissions s.form) w (permission-words s.form) there
     ]
 
-pub faulty-word : (kind : PolicyFaultKind) (policy before : List Placed) (s : Placed) (w : Word) → Contains (faulty_words kind policy before s) w → Contains (words_in s.form) w
+pub faulty-word : (kind : PolicyFaultKind) (policy before : List Placed) (s : Placed) (w : Word) → IsFaulty kind policy before s w → Contains (words_in s.form) w
 faulty-word twice policy before s w c = twice-word before s tables w c
 faulty-word missing policy before s w c = outside (is_outside s.optionals) c
   where
@@ -188,3 +188,4 @@ faulty-word alias_twice policy before s w c = left-word s.form (has_earlier_actu
 faulty-word alias_unset policy before s w c = left-word s.form (is_unset policy s.namespace) (element_words s.form) w (element-word s.form) c
 faulty-word second_common policy before s w c = left-word s.form (has_earlier_common policy before s.namespace) (common_words s.form) w (common-word s.form) c
 faulty-word too_many_permissions policy before s w c = left-word s.form (λ id. has_too_many policy s) (option_to_list (declared_in classes s.form)) w (declared-words classes s.form) c
+faulty-word circular policy before s w is = subst (λ form. Contains (words_in form) w) (sym is.declares) (contains-first w [])

@@ -11,13 +11,12 @@ use Rattle.cil_specs.specs.Expr.{Expr, every, named, opposite, both, either, one
 use Rattle.cil_specs.specs.Statements.{Form, type_name, type_alias, alias_actual, type_attribute, attribute_set}
 use Rattle.cil_specs.specs.Joined.{Placed}
 use Rattle.cil_specs.specs.Lookup.{Table, types, declared_in, declared_name, declares, declaration, has_block, outward, nearest_block, inside, from_namespace, is_global, leads, references, named_permissions, gives_actual, actual_statement, actual_in, actual_of, holds_of, is_type, is_alias, is_attribute}
-use Rattle.cil_specs.specs.PolicyFault.{PolicyFaultKind, missing, wrong_kind, alias_unset, is_outside, is_unfound, is_lacking, missing_words, kinds_asked, is_of_another_kind, wrong_kind_words, element_words, is_unset, alias_unset_words, faulty_words, IsFaultOf}
+use Rattle.cil_specs.specs.PolicyFault.{PolicyFaultKind, missing, wrong_kind, alias_unset, circular, is_outside, is_unfound, is_lacking, missing_words, kinds_asked, is_of_another_kind, wrong_kind_words, element_words, is_unset, alias_unset_words, IsFaulty, IsCircular, IsFaultOf}
 use Rattle.cil_specs.specs.Kept.{Optionals, is_within, has_innermost, restricted, AreKept, AreApart, Compiles, dropped_of}
 use Rattle.cil_specs.specs.Rule.{Element, Declared, SetStatement, declared_as, attributes_of, name_or_none, element_at, element_or_none, element_of, set_statement_of, sets_of}
 use Rattle.cil_specs.specs.Sets.{DependsOn}
-use Rattle.cil_specs.specs.Circular.{IsCircular}
-use Rattle.cil_specs.specs.Meaning.{Meaning, meaning_of, Means}
-use Rattle.cil_specs.specs.Members.{keeps_type, keeps_attribute, keeps_element, HasOwnSets, HasSoundSets}
+use Rattle.cil_specs.specs.Meaning.{Meaning, meaning_of, Means, keeps_type}
+use Rattle.cil_specs.specs.Members.{keeps_attribute, keeps_element, HasOwnSets, HasSoundSets}
 use Rattle.cil_specs.proofs.Runs.{first_true}
 use Rattle.cil_specs.proofs.NamesLemmas.{all-contained, around, contains-first, contains-other, contains-cases, contains-map, contains-mapped, contains-middle}
 use Rattle.cil_specs.proofs.RestrictedLemmas.{declares-some}
@@ -94,7 +93,7 @@ module _ (policy : List Placed) (table : Table) where
   declared-led namespace text t e = subst (λ o. IfSome o (IsDeclared policy table)) e (leads-led namespace text)
 
 -- a list that has no element
-no-elements : {X : Type 0} (xs : List X) → ((x : X) → Contains xs x → ⊥) → xs ≡ []
+pub no-elements : {X : Type 0} (xs : List X) → ((x : X) → Contains xs x → ⊥) → xs ≡ []
 no-elements [] none = refl
 no-elements (x ∷ xs) none = absurd (none x (contains-first x xs))
 
@@ -112,13 +111,13 @@ is-not-false true e = refl
 is-not-false false e = absurd (true≢false e)
 
 -- each element that one of the elements gives
-contains-flat : {X Y : Type 0} (f : X → List Y) (xs : List X) (x : X) (y : Y) → Contains xs x → Contains (f x) y → Contains (flat_map f xs) y
+pub contains-flat : {X Y : Type 0} (f : X → List Y) (xs : List X) (x : X) (y : Y) → Contains xs x → Contains (f x) y → Contains (flat_map f xs) y
 contains-flat f xs x y c d =
     let a = around xs x c in
     subst (λ l. Contains l y) (sym (ap (flat_map f) a.whole ∙ flat_map-append f a.before (x ∷ a.after)))
     (contains-right (flat_map f a.before) (f x ++ flat_map f a.after) y (contains-left (f x) (flat_map f a.after) y d))
 
-flat-contains : {X Y : Type 0} (f : X → List Y) (xs : List X) (y : Y) → Contains (flat_map f xs) y → (x : X) × Contains xs x × Contains (f x) y
+pub flat-contains : {X Y : Type 0} (f : X → List Y) (xs : List X) (y : Y) → Contains (flat_map f xs) y → (x : X) × Contains xs x × Contains (f x) y
 flat-contains f [] y c = absurd (omega (arith, c.1))
 flat-contains f (x ∷ xs) y c = elim (contains-append_cases (f x) (flat_map f xs) y c) [
   | inl here ↦ (x, contains-first x xs, here)
@@ -129,7 +128,7 @@ leaves-append : {leaf other : Type 0} (f : leaf → other) (xs ys : List leaf) �
 leaves-append f [] ys = refl
 leaves-append f (x ∷ xs) ys = ap (λ l. f x ∷ l) (leaves-append f xs ys)
 
-leaves-mapped : {leaf other : Type 0} (f : leaf → other) (e : Expr leaf) → leaves (map_leaves f e) ≡ map f (leaves e)
+pub leaves-mapped : {leaf other : Type 0} (f : leaf → other) (e : Expr leaf) → leaves (map_leaves f e) ≡ map f (leaves e)
 leaves-mapped f every = refl
 leaves-mapped f (named l) = refl
 leaves-mapped f (opposite x) = leaves-mapped f x
@@ -266,17 +265,21 @@ module _ (policy : List Placed) (dropped : List Declared) (each : (s : Placed) �
 -- The statements that a policy keeps, where it compiles.
 module _ (policy : List Placed) (kept : Optionals) (apart : AreApart policy) (are : AreKept policy kept) (compiles : Compiles kept policy) where
   -- none has a word at which there is a fault of a kind
-  no-words : (kind : PolicyFaultKind) → ((name : List ℕ) (at : Place) (word : List ℕ) → IsFaultOf kind (restricted kept policy) (record { kind = kind; module_name = name; at = at; word = word }) → ⊥)
-      → (s : Placed) → Contains (restricted kept policy) s → (words : List Word) → ((before : List Placed) → faulty_words kind (restricted kept policy) before s ≡ words) → words ≡ []
-  no-words kind none s there words is = no-elements words λ word c.
+  none-faulty : (kind : PolicyFaultKind) → ((name : List ℕ) (at : Place) (word : List ℕ) → IsFaultOf kind (restricted kept policy) (record { kind = kind; module_name = name; at = at; word = word }) → ⊥)
+      → (s : Placed) → Contains (restricted kept policy) s → (word : Word) → ((before : List Placed) → IsFaulty kind (restricted kept policy) before s word) → ⊥
+  none-faulty kind none s there word is =
       let a = around (restricted kept policy) s there in
       none s.module_name word.at word.text
-      (record { before = a.before; s = s; after = a.after; word = word; split = a.whole; is_faulty = subst (λ l. Contains l word) (sym (is a.before)) c; is_at = refl })
+      (record { before = a.before; s = s; after = a.after; word = word; split = a.whole; is_faulty = is a.before; is_at = refl })
+
+  pub none-circular : (s : Placed) → Contains (restricted kept policy) s → (word : Word) → IsCircular (restricted kept policy) s word → ⊥
+  none-circular s there word is = none-faulty circular (λ name at text. compiles (record { kind = circular; module_name = name; at = at; word = text })) s there word (λ before. is)
 
   all-found : (s : Placed) → Contains (restricted kept policy) s → (optionals : List ℕ) → s.optionals ≡ optionals → missing_words (restricted kept policy) s ≡ []
   all-found s there [] outside =
-      no-words missing (λ name at word. compiles (record { kind = missing; module_name = name; at = at; word = word })) s there (missing_words (restricted kept policy) s)
-      (λ before. ap (λ o. if is_outside o then missing_words (restricted kept policy) s else []) outside)
+      no-elements (missing_words (restricted kept policy) s) λ word c.
+      none-faulty missing (λ name at text. compiles (record { kind = missing; module_name = name; at = at; word = text })) s there word
+      (λ before. subst (λ o. Contains (if is_outside o then missing_words (restricted kept policy) s else []) word) (sym outside) c)
   all-found s there (at ∷ outer) inside =
       let within : list_all (kept s.module_name) s.optionals ≡ true = all-contained (λ x. is_within kept x ≡ true) (restricted kept policy) s (passed (is_within kept) policy) there in
       (kept-good policy kept apart are).found s (contains-filtered (is_within kept) policy s there)
@@ -286,8 +289,10 @@ module _ (policy : List Placed) (kept : Optionals) (apart : AreApart policy) (ar
   all-named : (s : Placed) → Contains (restricted kept policy) s → IsNamed (restricted kept policy) s
   all-named s there = record {
     found = all-found s there s.optionals refl;
-    kinds = no-words wrong_kind (λ name at word. compiles (record { kind = wrong_kind; module_name = name; at = at; word = word })) s there (wrong_kind_words (restricted kept policy) s) (λ before. refl);
-    set = no-words alias_unset (λ name at word. compiles (record { kind = alias_unset; module_name = name; at = at; word = word })) s there (alias_unset_words (restricted kept policy) s) (λ before. refl);
+    kinds = no-elements (wrong_kind_words (restricted kept policy) s) λ word c.
+        none-faulty wrong_kind (λ name at text. compiles (record { kind = wrong_kind; module_name = name; at = at; word = text })) s there word (λ before. c);
+    set = no-elements (alias_unset_words (restricted kept policy) s) λ word c.
+        none-faulty alias_unset (λ name at text. compiles (record { kind = alias_unset; module_name = name; at = at; word = text })) s there word (λ before. c);
   }
 
 -- The set statements of what a policy means are of its attributes, and mention its types and attributes.
@@ -315,10 +320,9 @@ attribute-declared policy dropped name e =
     ]
     by s there false is d c same = absurd (omega (arith, c.1))
 
--- No attribute depends on itself, where no statement declares such a one.
-pub means-sound : (policy : List Placed) (kept : Optionals) (meaning : Meaning) → AreApart policy → Means policy kept meaning
-    → ((s : Placed) (word : Word) → IsCircular (restricted kept policy) s word → ⊥) → HasSoundSets meaning
-means-sound policy kept meaning apart means none = record { own = own; straight = straight }
+-- and no attribute depends on itself
+pub means-sound : (policy : List Placed) (kept : Optionals) (meaning : Meaning) → AreApart policy → Means policy kept meaning → HasSoundSets meaning
+means-sound policy kept meaning apart means = record { own = own; straight = straight }
   where
     own : HasOwnSets meaning
     own = means-own policy kept meaning apart means
@@ -330,9 +334,5 @@ means-sound policy kept meaning apart means none = record { own = own; straight 
         let declared = attribute-declared (restricted kept policy) (dropped_of kept policy) attribute (subst (λ m. keeps_attribute m attribute ≡ true) means.is has) in
         let word = attribute-word declared.s.form declared.is in
         let itself : DependsOn (sets_of (restricted kept policy)) attribute attribute = subst (λ m. DependsOn m.sets attribute attribute) means.is depends in
-        none declared.s word.0
-        (record {
-          is_in = declared.there;
-          declares = word.1;
-          depends = subst (λ a. DependsOn (sets_of (restricted kept policy)) a a) (sym declared.named_so) itself;
-        })
+        none-circular policy kept apart means.are_kept means.compiles declared.s declared.there word.0
+        (record { declares = word.1; depends = subst (λ a. DependsOn (sets_of (restricted kept policy)) a a) (sym declared.named_so) itself })

@@ -7,8 +7,8 @@ use Rattle.cil_specs.specs.Expr.{Expr, named}
 use Rattle.cil_specs.specs.Lookup.{has_name}
 use Rattle.cil_specs.specs.Rule.{Element, an_attribute, SetStatement, Declared}
 use Rattle.cil_specs.specs.Sets.{expr_holds, attribute_holds, holds_with, mentions}
-use Rattle.cil_specs.specs.Meaning.{Meaning}
-use Rattle.cil_specs.specs.Members.{keeps_type, is_in, is_member, HasSoundSets}
+use Rattle.cil_specs.specs.Meaning.{Meaning, keeps_type, is_in}
+use Rattle.cil_specs.specs.Members.{is_member, HasSoundSets}
 use Rattle.cil_specs.proofs.SetLemmas.{holds-agree, more-fuel}
 
 -- What is in an expression at a kept type follows from the members of the attributes that it mentions.

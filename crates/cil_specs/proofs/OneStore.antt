@@ -9,7 +9,7 @@ use Rattle.cil_specs.specs.TextFault.{TextFault}
 use Rattle.cil_specs.specs.TextFault as text_fault
 use Rattle.cil_specs.specs.Names.{Word}
 use Rattle.cil_specs.specs.Joined.{Module, Placed, joined}
-use Rattle.cil_specs.specs.PolicyFault.{PolicyFaultKind, twice, missing, wrong_kind, alias_twice, alias_unset, second_common, too_many_permissions, code_of, PolicyFault, IsAtWordOf, IsNoLater}
+use Rattle.cil_specs.specs.PolicyFault.{PolicyFaultKind, twice, missing, wrong_kind, alias_twice, alias_unset, second_common, too_many_permissions, circular, code_of, PolicyFault, IsAtWordOf, IsNoLater}
 use Rattle.cil_specs.specs.Kept.{Optionals, AreKept, is_within, restricted, judged, IsPolicyFault, dropped_of}
 use Rattle.cil_specs.specs.Meaning.{Meaning, meaning_of}
 use Rattle.cil_specs.specs.Store.{Entry, Store, IsStore, active}
@@ -73,6 +73,7 @@ judged-in alias_twice kept policy s c = contains-filtered (is_within kept) polic
 judged-in alias_unset kept policy s c = contains-filtered (is_within kept) policy s c
 judged-in second_common kept policy s c = contains-filtered (is_within kept) policy s c
 judged-in too_many_permissions kept policy s c = contains-filtered (is_within kept) policy s c
+judged-in circular kept policy s c = contains-filtered (is_within kept) policy s c
 
 at-some : (kept : Optionals) (policy : List Placed) (fault : PolicyFault) → IsPolicyFault kept policy fault → IsAtSome policy fault
 at-some kept policy fault h = record {
@@ -96,7 +97,7 @@ at-rule kept policy fault h = record {
 
 -- the kind that has a code
 abbrev kind_of_code : ℕ → PolicyFaultKind
-kind_of_code n = if n == 41 then twice else if n == 42 then missing else if n == 43 then wrong_kind else if n == 44 then alias_twice else if n == 45 then alias_unset else if n == 46 then second_common else too_many_permissions
+kind_of_code n = if n == 41 then twice else if n == 42 then missing else if n == 43 then wrong_kind else if n == 44 then alias_twice else if n == 45 then alias_unset else if n == 46 then second_common else if n == 47 then too_many_permissions else circular
 
 kind-of-code : (kind : PolicyFaultKind) → kind_of_code (code_of kind) ≡ kind
 kind-of-code twice = refl
@@ -106,6 +107,7 @@ kind-of-code alias_twice = refl
 kind-of-code alias_unset = refl
 kind-of-code second_common = refl
 kind-of-code too_many_permissions = refl
+kind-of-code circular = refl
 
 not-both-less : (a b : List ℕ) → slice_cmp nat_cmp a b ≡ Less → slice_cmp nat_cmp b a ≡ Less → ⊥
 not-both-less a b less more = let e : slice_cmp nat_cmp b a ≡ Greater = nat_list_cmp_total.antisymm b a ∙ ap ordering_reverse less in cc (sym more ∙ e)

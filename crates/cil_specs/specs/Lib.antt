@@ -14,7 +14,6 @@ pub mod PolicyFault
 pub mod Rule
 pub mod Sets
 pub mod Dependence
-pub mod Circular
 pub mod Kept
 pub mod Meaning
 pub mod Members

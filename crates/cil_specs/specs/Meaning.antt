@@ -1,8 +1,10 @@
 -- What a policy means: one record, from which the accesses that its rules give and the access table are said.
-use Rattle.std.specs.Prelude.{◌≡◌, ℕ, Bool, false, ◌&&◌, ◌==◌, List, bytes_eq, count_by, nat_lt}
+use Rattle.std.specs.Prelude.{◌≡◌, ℕ, Bool, ◌&&◌, ◌==◌, List, length, bytes_eq, count_by, nat_lt}
 use Rattle.std.specs.List.{list_any}
+use Rattle.cil_specs.specs.Expr.{Expr, named}
 use Rattle.cil_specs.specs.Joined.{Placed}
-use Rattle.cil_specs.specs.Rule.{Element, a_type, an_attribute, ResolvedTarget, at_itself, at_element, Rule, Atom, kind_index, Declared, ClassOf, SetStatement, types_of, attributes_of, classes_of, sets_of, rules_of}
+use Rattle.cil_specs.specs.Rule.{Element, ResolvedTarget, at_itself, at_element, Rule, Atom, kind_index, Declared, ClassOf, SetStatement, types_of, attributes_of, classes_of, sets_of, rules_of}
+use Rattle.cil_specs.specs.Sets.{holds_with}
 use Rattle.cil_specs.specs.Kept.{Optionals, AreKept, restricted, Compiles, dropped_of}
 
 -- The types, attributes, classes, set statements and rules of a policy, in the order of their statements, and the optionals that
@@ -32,10 +34,17 @@ pub record Means (policy : List Placed) (kept : Optionals) (meaning : Meaning) :
   pub compiles : Compiles kept policy
   pub is : meaning ≡ meaning_of (restricted kept policy) (dropped_of kept policy)
 
--- whether an element holds a type; no attribute has members until set statements are compiled
+-- whether a policy keeps a type of this full name
+abbrev pub keeps_type : Meaning → List ℕ → Bool
+keeps_type meaning t = list_any (λ d. bytes_eq t d.name) meaning.types
+
+-- Whether a type is in an expression: it is a kept one, and the expression holds it with fuel for all attributes.
+abbrev pub is_in : Meaning → Expr Element → List ℕ → Bool
+is_in meaning e t = keeps_type meaning t && holds_with meaning.sets (length meaning.attributes) e t
+
+-- whether a type is in what a name of a rule leads to: it is that type, or a member of that attribute
 abbrev pub holds : Meaning → Element → List ℕ → Bool
-holds meaning (a_type name) t = bytes_eq name t
-holds meaning (an_attribute name) t = false
+holds meaning element t = is_in meaning (named element) t
 
 -- whether a rule's target takes in the type t where s is the source
 abbrev pub aims : Meaning → ResolvedTarget → List ℕ → List ℕ → Bool

@@ -1,5 +1,5 @@
 -- What an edit of the store leads to.
-use Rattle.std.specs.Prelude.{◌≡◌, ◌⊎◌, ℕ, Bool, true, false, not, ◌&&◌, ◌||◌, ◌==◌, nat_le, nat_lt, List, [], ◌∷◌, length, codes, bytes_eq, decimal, Option, Some, None, Contains, IsTrue, if◌then◌else◌}
+use Rattle.std.specs.Prelude.{◌≡◌, ◌⊎◌, ℕ, Bool, false, not, ◌&&◌, ◌||◌, ◌==◌, nat_le, nat_lt, List, [], ◌∷◌, length, codes, bytes_eq, decimal, Option, Some, None, Contains, IsTrue, if◌then◌else◌}
 use Rattle.std.specs.List.{list_all, list_any}
 use Rattle.cil_specs.specs.Place.{Place}
 use Rattle.cil_specs.specs.TextFault.{TextFault, unsupported, IsNoLater}
@@ -7,7 +7,7 @@ use Rattle.cil_specs.specs.TextFault as text_fault
 use Rattle.cil_specs.specs.Trees.{Trees, none, a_word, a_string, a_list, Reads}
 use Rattle.cil_specs.specs.Reading.{IsReadingFault}
 use Rattle.cil_specs.specs.Names.{Word, is_letter, is_digit}
-use Rattle.cil_specs.specs.Statements.{Form, attribute_set, rule, target_words, Statements, no_more, statement}
+use Rattle.cil_specs.specs.Statements.{Form, rule, target_words, Statements}
 use Rattle.cil_specs.specs.Shape.{Shapes, IsFirstShapeFault, holds_others}
 use Rattle.cil_specs.specs.Joined.{Module, Placed, joined}
 use Rattle.cil_specs.specs.Lookup.{types, leads, holds_of, is_attribute}
@@ -19,7 +19,7 @@ use Rattle.cil_specs.specs.Store.{Entry, Store, put, active}
 
 -- the words of the statements that are compiled so far
 abbrev pub compiled_words : List (List ℕ)
-compiled_words = codes "block" ∷ codes "optional" ∷ codes "type" ∷ codes "typealias" ∷ codes "typealiasactual" ∷ codes "typeattribute" ∷ codes "common" ∷ codes "class" ∷ codes "classcommon"
+compiled_words = codes "block" ∷ codes "optional" ∷ codes "type" ∷ codes "typealias" ∷ codes "typealiasactual" ∷ codes "typeattribute" ∷ codes "typeattributeset" ∷ codes "common" ∷ codes "class" ∷ codes "classcommon"
     ∷ codes "classorder" ∷ codes "allow" ∷ []
 
 -- whether one of the words is self
@@ -49,16 +49,6 @@ IsUnsupportedFault (a_list at end (a_list place last items more) rest) fault = I
 pub record IsFirstUnsupportedFault (trees : Trees) (fault : TextFault) : Type 0 where
   pub is : IsUnsupportedFault trees fault
   pub first : (other : TextFault) → IsUnsupportedFault trees other → IsNoLater fault other
-
--- whether a statement is plain: no attribute set
-abbrev pub is_plain_form : Form → Bool
-is_plain_form (attribute_set attribute expr) = false
-is_plain_form _ = true
-
--- whether all statements are, those inside blocks and optionals too
-abbrev pub is_plain : Statements → Bool
-is_plain no_more = true
-is_plain (statement at form body more) = is_plain_form form && (is_plain body && is_plain more)
 
 -- the text spells the statements, all of which are compiled
 pub record IsModuleText (bytes : List ℕ) (statements : Statements) : Type 0 where

@@ -8,9 +8,11 @@ use Rattle.std.specs.Cmp.Lexicographic.{slice_cmp}
 use Rattle.cil_specs.specs.Place.{Place}
 use Rattle.cil_specs.specs.Names.{Word}
 use Rattle.cil_specs.specs.Expr.{leaves}
-use Rattle.cil_specs.specs.Statements.{Form, alias_actual, attribute_set, class_common, rule, target_words, is_optional}
+use Rattle.cil_specs.specs.Statements.{Form, alias_actual, type_attribute, attribute_set, class_common, rule, target_words, is_optional}
 use Rattle.cil_specs.specs.Joined.{Placed}
-use Rattle.cil_specs.specs.Lookup.{Table, types, classes, commons, scopes, declared_in, declares, leads, holds_of, references, named_permissions, permissions_of, distinct, gives_common, gives_actual, actual_statement, is_type, is_alias, is_attribute}
+use Rattle.cil_specs.specs.Lookup.{Table, types, classes, commons, scopes, declared_in, declared_name, declares, leads, holds_of, references, named_permissions, permissions_of, distinct, gives_common, gives_actual, actual_statement, is_type, is_alias, is_attribute}
+use Rattle.cil_specs.specs.Rule.{sets_of}
+use Rattle.cil_specs.specs.Sets.{DependsOn}
 
 pub data PolicyFaultKind : Type 0 where
   twice : PolicyFaultKind
@@ -20,6 +22,7 @@ pub data PolicyFaultKind : Type 0 where
   alias_unset : PolicyFaultKind
   second_common : PolicyFaultKind
   too_many_permissions : PolicyFaultKind
+  circular : PolicyFaultKind
 
 -- the code in a reply
 abbrev pub code_of : PolicyFaultKind → ℕ
@@ -30,6 +33,7 @@ code_of alias_twice = 44
 code_of alias_unset = 45
 code_of second_common = 46
 code_of too_many_permissions = 47
+code_of circular = 48
 
 -- what is wrong, in which module, where, and the word that a reply shows
 pub record PolicyFault : Type 0 where
@@ -126,16 +130,23 @@ abbrev pub is_outside : List ℕ → Bool
 is_outside [] = true
 is_outside (at ∷ optionals) = false
 
--- The words of a statement at which it has a fault of a kind, in the order of the text; before are the statements in front of it
--- in the policy. A name is missing outside optionals alone.
-abbrev pub faulty_words : PolicyFaultKind → List Placed → List Placed → Placed → List Word
-faulty_words twice policy before s = twice_words before s
-faulty_words missing policy before s = if is_outside s.optionals then missing_words policy s else []
-faulty_words wrong_kind policy before s = wrong_kind_words policy s
-faulty_words alias_twice policy before s = alias_twice_words policy before s
-faulty_words alias_unset policy before s = alias_unset_words policy s
-faulty_words second_common policy before s = second_common_words policy before s
-faulty_words too_many_permissions policy before s = too_many_words policy s
+-- A typeattribute statement declares an attribute that depends on itself. The fault stands at the word that it declares, not at the
+-- typeattributeset statements that make the circle.
+pub record IsCircular (policy : List Placed) (s : Placed) (word : Word) : Type 0 where
+  pub declares : s.form ≡ type_attribute word
+  pub depends : DependsOn (sets_of policy) (declared_name types s) (declared_name types s)
+
+-- A statement has a fault of a kind at a word; before are the statements in front of it in the policy. A name is missing outside
+-- optionals alone.
+abbrev pub IsFaulty : PolicyFaultKind → List Placed → List Placed → Placed → Word → Type 0
+IsFaulty twice policy before s word = Contains (twice_words before s) word
+IsFaulty missing policy before s word = Contains (if is_outside s.optionals then missing_words policy s else []) word
+IsFaulty wrong_kind policy before s word = Contains (wrong_kind_words policy s) word
+IsFaulty alias_twice policy before s word = Contains (alias_twice_words policy before s) word
+IsFaulty alias_unset policy before s word = Contains (alias_unset_words policy s) word
+IsFaulty second_common policy before s word = Contains (second_common_words policy before s) word
+IsFaulty too_many_permissions policy before s word = Contains (too_many_words policy s) word
+IsFaulty circular policy before s word = IsCircular policy s word
 
 -- a fault of this kind at a word of a statement
 abbrev pub IsAtWordOf : PolicyFault → PolicyFaultKind → Placed → Word → Type 0
@@ -148,7 +159,7 @@ pub record IsFaultOf (kind : PolicyFaultKind) (policy : List Placed) (fault : Po
   pub after : List Placed
   pub word : Word
   pub split : policy ≡ before ++ s ∷ after
-  pub is_faulty : Contains (faulty_words kind policy before s) word
+  pub is_faulty : IsFaulty kind policy before s word
   pub is_at : IsAtWordOf fault kind s word
 
 -- the one has the lesser code; or the same and the lesser module name; or the same and no greater offset

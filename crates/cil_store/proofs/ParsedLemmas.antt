@@ -3,23 +3,20 @@ use Rattle.std.proofs.Common.{List, ℕ, [], ◌∷◌, refl}
 use Rattle.cil_specs.specs.Joined.{Module}
 use Rattle.cil_specs.specs.Next.{IsModuleText, AreModules}
 use Rattle.cil_specs.specs.Store.{Entry}
+use Rattle.cil_bind.specs.Written.{IsWritten}
 use Rattle.cil_bind.specs.declared.joined.NamedModule.{NamedModule}
-use Rattle.cil_resolve.specs.Modules.{IsSound, AreParsedFrom}
+use Rattle.cil_resolve.specs.Modules.{AreParsedFrom}
 use Rattle.cil_store.specs.Stored.{AreParsedOf}
-use Rattle.cil_store.proofs.UnsupportedLemmas.{text_plain}
 
--- the module of a text is sound
-sound-text : (bytes : List ℕ) (m : Module) → IsModuleText bytes m.statements → IsSound m
-sound-text bytes m text = record {
-  written = record { bytes = bytes; trees = text.trees; reads = text.reads; shapes = text.shapes };
-  plain = text_plain bytes m.statements text;
-}
+-- the module of a text is written
+text-written : (bytes : List ℕ) (m : Module) → IsModuleText bytes m.statements → IsWritten m
+text-written bytes m text = record { bytes = bytes; trees = text.trees; reads = text.reads; shapes = text.shapes }
 
 pub kept-modules : {A : Type 0} (entries : List Entry) (parsed : List (NamedModule A)) → AreParsedOf entries parsed → (modules : List Module) × AreParsedFrom parsed modules × AreModules entries modules
-kept-modules [] [] are = ([], record { spelt = tt; sound = tt }, tt)
+kept-modules [] [] are = ([], record { spelt = tt; written = tt }, tt)
 kept-modules [] (n ∷ parsed) are = absurd are
 kept-modules (e ∷ entries) [] are = absurd are
 kept-modules (e ∷ entries) (n ∷ parsed) are =
     let others = kept-modules entries parsed are.2 in
     let m : Module = record { name = n.name.now; statements = are.1.statements } in
-    (m ∷ others.0, record { spelt = (refl, are.1.spells, others.1.spelt); sound = (sound-text e.text m are.1.is_text, others.1.sound) }, (are.0, are.1.is_text, others.2))
+    (m ∷ others.0, record { spelt = (refl, are.1.spells, others.1.spelt); written = (text-written e.text m are.1.is_text, others.1.written) }, (are.0, are.1.is_text, others.2))

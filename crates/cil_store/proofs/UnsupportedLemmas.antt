@@ -1,17 +1,16 @@
 -- Statements that are not compiled yet.
-use Rattle.std.proofs.Common.{◌≡◌, ℕ, ◌+◌, ◌-◌, ◌<◌, ◌≤◌, ◌||◌, ◌&&◌, ◌⊎◌, inl, inr, Bool, true, false, if◌then◌else◌, List, length, Option, Some, None, IfSome, IfNone, IsTrue, codes, bytes_eq, ap, sym, subst, ◌∙◌, refl, arith}
+use Rattle.std.proofs.Common.{◌≡◌, ℕ, ◌+◌, ◌-◌, ◌<◌, ◌≤◌, ◌||◌, ◌⊎◌, inl, inr, Bool, true, false, if◌then◌else◌, List, length, Option, Some, None, IfSome, IfNone, IsTrue, codes, bytes_eq, ap, sym, subst, ◌∙◌, refl, arith}
 use Rattle.std.specs.Option.{option_or}
 use Rattle.std.specs.Cmp.Lexicographic.{bytes_decides}
 use Rattle.std.proofs.Math.Bool.{or-false}
-use Rattle.std.proofs.lemmas.Bool.{true≢false, or_cases, and_from, true_from_ne_false}
+use Rattle.std.proofs.lemmas.Bool.{true≢false, or_cases}
 use Rattle.cil_specs.specs.Place as spec_place
 use Rattle.cil_specs.specs.Names as spec_names
 use Rattle.cil_specs.specs.TextFault.{TextFault, IsNoLater}
 use Rattle.cil_specs.specs.Trees.{Trees, none, a_word, a_string, a_list, in_order}
-use Rattle.cil_specs.specs.Statements.{Form, block, optional, attribute_set, is_optional, Statements, no_more, statement}
-use Rattle.cil_specs.specs.Shape.{Shapes, holds_others}
-use Rattle.cil_specs.specs.Next.{has_self, is_unsupported, is_plain_form, is_plain, IsModuleText, IsUnsupportedFault, IsFirstUnsupportedFault}
-use Rattle.cil_specs.proofs.FormLemmas.{first_word, OperandsFit, fits_begin}
+use Rattle.cil_specs.specs.Statements.{block, optional, Statements, statement}
+use Rattle.cil_specs.specs.Shape.{holds_others}
+use Rattle.cil_specs.specs.Next.{has_self, is_unsupported, IsUnsupportedFault, IsFirstUnsupportedFault}
 use Rattle.cil_specs.proofs.OrderLemmas.{order_word, order_list, order_le}
 use Rattle.cil_specs.proofs.UnsupportedOrder.{unsupported_between}
 use Rattle.cil_text.specs.Image.{place_of, word_of, tree_then, trees_of}
@@ -198,31 +197,3 @@ some_first trees high (Some w) order h =
 pub none_unsupported : (trees : Trees) (found : Option Word) → word_option found ≡ unsupported_word trees → IfNone found ((fault : TextFault) → IsUnsupportedFault trees fault → ⊥)
 none_unsupported trees None h = unsupported_none trees (sym h)
 none_unsupported trees (Some w) h = tt
-
--- a statement that is not plain has a first word that isn't compiled yet
-unsupported_form : (form : Form) (operands : Trees) → is_plain_form form ≡ false → is_unsupported (first_word form) operands ≡ true
-unsupported_form (attribute_set attribute expr) operands h = refl
-unsupported_form _ operands h = absurd (true≢false h)
-
--- the statements inside another have no unsupported fault, where those of a block or an optional have none
-inner_never : (form : Form) (operands inner : Trees) → OperandsFit operands form inner → ((fault : TextFault) → IsTrue (holds_others (first_word form)) → IsUnsupportedFault operands fault → ⊥)
-    → (fault : TextFault) → IsUnsupportedFault inner fault → ⊥
-inner_never (block id) operands inner fits never fault bad = never fault refl (subst (λ trees. IsUnsupportedFault trees fault) (sym fits.0) bad)
-inner_never (optional id) operands inner fits never fault bad = never fault refl (subst (λ trees. IsUnsupportedFault trees fault) (sym fits.0) bad)
-inner_never _ operands inner fits never fault bad = subst (λ trees. IsUnsupportedFault trees fault) fits.1 bad
-
--- the statements of trees without an unsupported fault are plain
-plain_statements : (inside : Bool) (trees : Trees) (statements : Statements) → Shapes inside trees statements → ((fault : TextFault) → IsUnsupportedFault trees fault → ⊥) → is_plain statements ≡ true
-plain_statements inside trees no_more shapes never = refl
-plain_statements inside trees (statement at form body more) shapes never =
-    let b = fits_begin shapes.1 form shapes.2 shapes.5 in
-    let path : trees ≡ a_list at shapes.0 (a_word b.0 (first_word form) b.1) shapes.3 = shapes.4 ∙ ap (λ parts. a_list at shapes.0 parts shapes.3) b.2 in
-    let never' : (fault : TextFault) → IsUnsupportedFault (a_list at shapes.0 (a_word b.0 (first_word form) b.1) shapes.3) fault → ⊥ = λ fault bad. never fault (subst (λ trees. IsUnsupportedFault trees fault) (sym path) bad) in
-    let here : is_plain_form form ≡ true = true_from_ne_false (is_plain_form form) (λ h. never' (fault_at (record { at = b.0; text = first_word form })) (inl (unsupported_form form b.1 h, refl))) in
-    let within : is_plain body ≡ true = plain_statements (inside || is_optional form) shapes.2 body shapes.8 (inner_never form b.1 shapes.2 b.3 (λ fault holds bad. never' fault (inr (inl (holds, bad))))) in
-    let rest : is_plain more ≡ true = plain_statements inside shapes.3 more shapes.9 (λ fault bad. never' fault (inr (inr bad))) in
-    and_from (is_plain_form form) (is_plain body && is_plain more) here (and_from (is_plain body) (is_plain more) within rest)
-
--- so are those of the text of a module
-pub text_plain : (bytes : List ℕ) (statements : Statements) → IsModuleText bytes statements → is_plain statements ≡ true
-text_plain bytes statements text = plain_statements false text.trees statements text.shapes text.compiled

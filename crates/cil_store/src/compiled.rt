@@ -1,7 +1,7 @@
 //! Engines that keep a store compiled.
 
 ghost use Rattle.std.specs.Prelude.{◌≡◌, ◌≤◌, List, IfOk, OnErr, IsErrOf, length, flat_map};
-ghost use Rattle.cil_text.specs.Device.{HasFailed, Gains, GainsFront};
+ghost use Rattle.cil_stream.specs.Device.{HasFailed, Gains, GainsFront};
 ghost use Rattle.cil_specs.specs.Report.{Row, row_line};
 ghost use Rattle.cil_specs.specs.Run.{an_edit, AreRowsOf, AreDroppedOf, Step};
 ghost use Rattle.cil_specs.specs.Store.{Store};
@@ -12,7 +12,7 @@ use crate::dropped::Dropped;
 use crate::edit::Edit;
 use crate::refusal::Refusal;
 use cil_rules::{Changes, Rows};
-use cil_text::Sink;
+use cil_stream::Sink;
 use std::alloc::{AllocError, Allocator};
 use thiserror::Error;
 

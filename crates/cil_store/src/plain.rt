@@ -1,9 +1,13 @@
 //! The plain engine, which compiles its store anew at each edit.
 
-ghost use Rattle.std.specs.Prelude.{◌≡◌, ℕ, List, IfOk, IfErr};
-ghost use Rattle.cil_specs.specs.Next.{install, changed};
-ghost use Rattle.cil_specs.specs.Run.{Step, an_edit};
+ghost use Rattle.std.specs.Prelude.{◌≡◌, ℕ, Bool, List, None, length, IfOk, IfErr, OnOk, OnErr};
+ghost use Rattle.cil_specs.specs.Next.{install, changed, install_refusal};
+ghost use Rattle.cil_specs.specs.Run.{Step, an_edit, changed_by, refused};
+ghost use Rattle.cil_specs.specs.Rule.{Atom};
+ghost use Rattle.cil_specs.specs.Meaning.{is_in_table};
+ghost use Rattle.cil_specs.specs.Report.{AreAtoms, AreChanges};
 ghost use Rattle.cil_specs.specs.Store.{empty};
+ghost use Rattle.cil_resolve.specs.Resolved.{meaning_in};
 ghost use Rattle.cil_store.specs.Calls.{edit_reply};
 ghost use Rattle.cil_store.specs.Edits.{refusal_of};
 ghost use Rattle.cil_store.specs.Plain.{IsCompiledTo, IsRefusedPolicy};
@@ -19,11 +23,39 @@ use crate::modules::Store;
 use crate::refusal::{Refusal, check_install};
 use crate::refusing::{refuse_install, refuse_policy, refuse_text};
 use cil_parse::ParsedModule;
-use cil_resolve::resolve_types;
+use cil_resolve::{ResolvedTypes, resolve_types};
 use cil_rules::{Changes, Rows, Table};
-use cil_text::Sink;
+use cil_stream::Sink;
 use std::alloc::{AllocError, Allocator, Global};
 use std::marker::Model;
+
+/// What a store with one more module compiles to, and how its table differs from the one before.
+#[derive(Drop)]
+struct Made<A: Allocator> {
+    table: Table<A>,
+    dropped: Dropped<A>,
+    changes: Changes<A>,
+}
+
+/// The table of a policy and the optionals that drop, and how it differs from another table.
+fn tabulate<A: Allocator + Copy>(
+    alloc: A,
+    old: &Table<A>,
+    policy: ResolvedTypes<A>,
+) -> Result<Made<A>, AllocError>
+    ensures table { IfOk result (λ made. AreAtoms (is_in_table (meaning_in policy.resolved)) made.table) }
+    ensures dropped { IfOk result (λ made. made.dropped ≡ (meaning_in policy.resolved).dropped) }
+    ensures changes { IfOk result (λ made. (p q : Atom → Bool) → AreAtoms p old.now → AreAtoms q made.table → AreChanges p q made.changes) }
+{
+    let dropped = Dropped::of(alloc, &policy.resolved)?;
+    let table = Table::of(alloc, policy)?;
+    let changes = Changes::between(alloc, old, &table)?;
+    Ok(Made {
+        table,
+        dropped,
+        changes,
+    })
+}
 
 /// A store, the table of its accesses and the optionals that drop. At an edit the text that it brings is parsed, the changed store is
 /// compiled anew from its parsed modules, and what it compiles to put in place of the old where nothing is against it.
@@ -59,49 +91,69 @@ impl<A: Allocator + Copy> Plain<A> {
         }
     }
 
-    /// The table of the store with one more module, and the optionals that drop.
-    fn compile(
-        &self,
-        name: &[u8],
-        module: &ParsedModule<A>,
-    ) -> Result<(Table<A>, Dropped<A>), Refusal<A>>
+    /// The module of a text that the store may take in.
+    fn admit(&self, name: &[u8], priority: u32, text: &[u8]) -> Result<ParsedModule<A>, Refusal<A>>
+        ensures taken { OnOk result (install_refusal name.now priority (length text.now) ≡ None) }
+        ensures ok { IfOk result (IsParsedOf text.now) }
+        ensures err { IfErr result (λ refusal. Step self.now (an_edit (install name.now priority text.now)) (refused (refusal_of refusal)) self.now) }
+    {
+        if let Err(fault) = check_install(name, priority, text.len()) {
+            return Err(refuse_install(self.alloc, fault, name, priority));
+        }
+        match parse(self.alloc, text) {
+            Ok(module) => Ok(module),
+            Err(fault) => Err(refuse_text(self.alloc, name, fault)),
+        }
+    }
+
+    /// What the store with one more module compiles to.
+    fn compile(&self, name: &[u8], module: &ParsedModule<A>) -> Result<Made<A>, Refusal<A>>
         requires { (text : List ℕ) × IsParsedOf text «module».now }
-        ensures ok { IfOk result (λ made. (text : List ℕ) → IsParsedOf text «module».now → IsCompiledTo (changed self.now (install name.now 400 text)) made.0 made.1) }
+        ensures ok { IfOk result (λ made. (text : List ℕ) → IsParsedOf text «module».now → IsCompiledTo (changed self.now (install name.now 400 text)) made.table made.dropped) }
+        ensures changes { IfOk result (λ made. (text : List ℕ) → IsParsedOf text «module».now → install_refusal name.now 400 (length text) ≡ None
+            → Step self.now (an_edit (install name.now 400 text)) (changed_by made.changes) (changed self.now (install name.now 400 text))) }
         ensures err { IfErr result (λ refusal. (text : List ℕ) → IsParsedOf text «module».now → IsRefusedPolicy self.now name.now text (refusal_of refusal)) }
     {
         let joined = join(self.alloc, &self.store, name, module)?;
-        let resolved = match resolve_types(self.alloc, &joined) {
-            Ok(resolved) => resolved,
+        let policy = match resolve_types(self.alloc, &joined) {
+            Ok(policy) => policy,
             Err(fault) => return Err(refuse_policy(self.alloc, fault)),
         };
-        let dropped = Dropped::of(self.alloc, &resolved)?;
-        let table = Table::of(self.alloc, resolved)?;
-        Ok((table, dropped))
+        let made = tabulate(self.alloc, &self.table, policy)?;
+        Ok(made)
+    }
+
+    /// Puts a module and what its store compiles to in place.
+    fn replace(
+        &mut self,
+        entry: Entry<'_>,
+        module: ParsedModule<A>,
+        made: Made<A>,
+    ) -> Result<Changes<A>, AllocError>
+        requires priority { entry.priority ≡ 400 }
+        requires parsed { IsParsedOf entry.text.now «module» }
+        requires made { IsCompiledTo (changed self.old (install entry.name.now 400 entry.text.now)) made.table made.dropped }
+        ensures ok { OnOk result (self.new ≡ changed self.old (install entry.entry.name.now 400 entry.entry.text.now)) }
+        ensures changes { IfOk result (λ changes. changes ≡ made.changes) }
+        ensures err { OnErr result (self.new ≡ self.old) }
+    {
+        self.store.put(self.alloc, entry, module)?;
+        self.table = made.table;
+        self.dropped = made.dropped;
+        Ok(made.changes)
     }
 
     fn install(&mut self, name: &[u8], priority: u32, text: &[u8]) -> Result<Changes<A>, Refusal<A>>
         ensures { Step self.old (an_edit (install name.now priority text.now)) (edit_reply result) self.new }
     {
-        if let Err(fault) = check_install(name, priority, text.len()) {
-            return Err(refuse_install(self.alloc, fault, name, priority));
-        }
-        let module = match parse(self.alloc, text) {
-            Ok(module) => module,
-            Err(fault) => return Err(refuse_text(self.alloc, name, fault)),
+        let module = self.admit(name, priority, text)?;
+        let made = self.compile(name, &module)?;
+        let entry = Entry {
+            name,
+            priority,
+            text,
         };
-        let (table, dropped) = self.compile(name, &module)?;
-        let changes = Changes::between(self.alloc, &self.table, &table)?;
-        self.store.put(
-            self.alloc,
-            Entry {
-                name,
-                priority,
-                text,
-            },
-            module,
-        )?;
-        self.table = table;
-        self.dropped = dropped;
+        let changes = self.replace(entry, module, made)?;
         Ok(changes)
     }
 }

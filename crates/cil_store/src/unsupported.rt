@@ -22,6 +22,7 @@ fn is_compiled_word(text: &[u8]) -> bool
         || text == b"typealias".as_slice()
         || text == b"typealiasactual".as_slice()
         || text == b"typeattribute".as_slice()
+        || text == b"typeattributeset".as_slice()
         || text == b"common".as_slice()
         || text == b"class".as_slice()
         || text == b"classcommon".as_slice()
@@ -106,8 +107,8 @@ fn first_unsupported_word<'a>(trees: TreeSlice<'_, 'a>) -> Option<Word<'a>>
 }
 
 /// The first word of the first statement that isn't compiled yet, in a block or an optional too. Compiled are blocks, optionals,
-/// types, aliases, attributes, commons, classes, and allow rules between two names; a list that is no statement is left to
-/// `cil_text::shape`.
+/// types, aliases, attributes, their set statements, commons, classes, and allow rules between two names; a list that is no statement
+/// is left to `cil_text::shape`.
 pub fn first_unsupported<'a, A: Allocator>(forest: &Forest<'a, A>) -> Option<Word<'a>>
     ensures some { IfSome result (λ w. IsFirstUnsupportedFault (forest_of forest.now) (record { kind = unsupported; at = place_of w.at; word = w.text.now })) }
     ensures none { IfNone result ((fault : TextFault) → IsUnsupportedFault (forest_of forest.now) fault → ⊥) }

@@ -1,11 +1,9 @@
-pub mod Gaining
 pub mod Nodes
 pub mod Marks
 pub mod ByteClasses
 pub mod Reading
 pub mod Going
 pub mod Ends
-pub mod Pieces
 pub mod NameLemmas
 pub mod Tables
 pub mod Rows

@@ -1,4 +1,3 @@
-pub mod Device
 pub mod Image
 pub mod Tree
 pub mod Forest

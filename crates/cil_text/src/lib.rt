@@ -2,7 +2,6 @@
 #![tactic(auto)]
 
 mod check;
-mod devices;
 mod expr;
 mod fault;
 mod forest;
@@ -21,10 +20,6 @@ mod walk;
 mod word;
 mod words;
 
-pub use devices::memory_sink::MemorySink;
-pub use devices::memory_source::MemorySource;
-pub use devices::sink::{Sink, SinkFault, WriterSink, write_all, write_pieces};
-pub use devices::source::{ReaderSource, Source, SourceFault};
 pub use fault::{ShownWord, TextFault, TextFaultKind};
 pub use forest::Forest;
 pub use laws::{

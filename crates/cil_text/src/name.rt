@@ -7,13 +7,21 @@ ghost use Rattle.cil_specs.specs.Names.{begins_name, is_name_byte, is_name, is_r
 ghost use Rattle.cil_text.specs.Name.{without_dot, role_of, kind_option};
 
 use crate::fault::TextFaultKind;
+use crate::reader::has_one;
 
 /// The most bytes of a name.
 const NAME_MAX: usize = 2048;
 
-/// The words that stand for no declared thing.
-const RESERVED_WORDS: [&[u8]; 8] = [
-    b"self", b"notself", b"other", b"all", b"and", b"or", b"xor", b"not",
+/// For each byte 1 where it may stand in a name: a letter, a digit, `_` or `-`.
+const NAME_BYTES: [u8; 256] = [
+    0, 0, 0, 0, 0, 0, 0, 0, 0, 0, 0, 0, 0, 0, 0, 0, 0, 0, 0, 0, 0, 0, 0, 0, 0, 0, 0, 0, 0, 0, 0, 0,
+    0, 0, 0, 0, 0, 0, 0, 0, 0, 0, 0, 0, 0, 1, 0, 0, 1, 1, 1, 1, 1, 1, 1, 1, 1, 1, 0, 0, 0, 0, 0, 0,
+    0, 1, 1, 1, 1, 1, 1, 1, 1, 1, 1, 1, 1, 1, 1, 1, 1, 1, 1, 1, 1, 1, 1, 1, 1, 1, 1, 0, 0, 0, 0, 1,
+    0, 1, 1, 1, 1, 1, 1, 1, 1, 1, 1, 1, 1, 1, 1, 1, 1, 1, 1, 1, 1, 1, 1, 1, 1, 1, 1, 0, 0, 0, 0, 0,
+    0, 0, 0, 0, 0, 0, 0, 0, 0, 0, 0, 0, 0, 0, 0, 0, 0, 0, 0, 0, 0, 0, 0, 0, 0, 0, 0, 0, 0, 0, 0, 0,
+    0, 0, 0, 0, 0, 0, 0, 0, 0, 0, 0, 0, 0, 0, 0, 0, 0, 0, 0, 0, 0, 0, 0, 0, 0, 0, 0, 0, 0, 0, 0, 0,
+    0, 0, 0, 0, 0, 0, 0, 0, 0, 0, 0, 0, 0, 0, 0, 0, 0, 0, 0, 0, 0, 0, 0, 0, 0, 0, 0, 0, 0, 0, 0, 0,
+    0, 0, 0, 0, 0, 0, 0, 0, 0, 0, 0, 0, 0, 0, 0, 0, 0, 0, 0, 0, 0, 0, 0, 0, 0, 0, 0, 0, 0, 0, 0, 0,
 ];
 
 /// What stands in the place of a word.
@@ -34,7 +42,7 @@ fn begins_name(b: u8) -> bool
 fn is_name_byte(b: u8) -> bool
     ensures { result ≡ is_name_byte b }
 {
-    begins_name(b) || b.is_ascii_digit() || b == b'-'
+    has_one(&NAME_BYTES, b)
 }
 
 fn are_name_bytes(bytes: &[u8]) -> bool
@@ -54,10 +62,21 @@ fn is_name(text: &[u8]) -> bool
     }
 }
 
+/// Whether it is one of the words that stand for no declared thing.
 fn is_reserved(name: &[u8]) -> bool
     ensures { result ≡ is_reserved name.now }
 {
-    RESERVED_WORDS.iter().any(|word| name == *word)
+    match name.len() {
+        2 => name == b"or".as_slice(),
+        3 => name == b"all".as_slice()
+            || name == b"and".as_slice()
+            || name == b"xor".as_slice()
+            || name == b"not".as_slice(),
+        4 => name == b"self".as_slice(),
+        5 => name == b"other".as_slice(),
+        7 => name == b"notself".as_slice(),
+        _ => false,
+    }
 }
 
 /// The text behind a leading dot, if it has one.

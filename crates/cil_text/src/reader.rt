@@ -33,7 +33,7 @@ const WORD_BYTES: [u8; 256] = [
 ];
 
 /// Whether a table has 1 for a byte.
-fn has_one(table: &[u8], b: u8) -> bool
+pub fn has_one(table: &[u8], b: u8) -> bool
     requires { b < length table.now }
     ensures { HasOne table.now b result }
 {

@@ -3,7 +3,7 @@
 
 use cil_program::command_line::answer_command_line;
 use cil_store::Plain;
-use cil_text::{ReaderSource, WriterSink};
+use cil_stream::{ReaderSource, WriterSink};
 use std::io::BufWriter;
 use std::process::ExitCode;
 use std::{env, io};

@@ -3,10 +3,10 @@
 ghost use Rattle.std.specs.Prelude.{◌≡◌, ◌≢◌, ◌↔◌, ◌+◌, ◌<◌, ◌≤◌, ◌^◌, ◌∷◌, [], false, ℕ, List, length, count_by, IsTrue, IfOk, IfSome, IfNone, OnErr};
 ghost use Rattle.std.specs.List.{list_all};
 ghost use Rattle.cil_specs.specs.Place.{is_line_feed};
-ghost use Rattle.cil_text.specs.Device.{HasFailed, HasEnded, Gives};
+ghost use Rattle.cil_stream.specs.Device.{HasFailed, HasEnded, Gives};
 
 use crate::script::line::Line;
-use cil_text::{Source, SourceFault};
+use cil_stream::{Source, SourceFault};
 use std::alloc::Allocator;
 use std::marker::Model;
 
@@ -125,7 +125,7 @@ impl Input {
 impl Input {
     ghost use Rattle.std.specs.Prelude.{◌≡◌, ◌≢◌, ◌↔◌, ◌+◌, ◌<◌, ◌≤◌, ◌∷◌, ◌++◌, [], false, ℕ, List, length, take, drop, count_by, IsTrue, IfOk, IfSome, IfNone, OnErr, vec_len, vec_capacity};
     ghost use Rattle.std.specs.List.{list_all, list_any};
-    ghost use Rattle.cil_text.specs.Device.{HasFailed, HasEnded, has_ended};
+    ghost use Rattle.cil_stream.specs.Device.{HasFailed, HasEnded, has_ended};
     ghost use Rattle.cil_specs.specs.Place.{is_line_feed};
     ghost use Rattle.cil_program.specs.Input.{Fits, HasRead, EndsLine, IsText, IsOther, IsWholeText, stays};
     ghost use Rattle.cil_program.specs.declared.script.input.LineEnd.TheVariants.{LastByte};

@@ -2,12 +2,12 @@
 
 ghost use Rattle.std.specs.Prelude.{◌≡◌, ◌≤◌, List, ℕ, true, IfOk, OnOk, IsErrOf};
 ghost use Rattle.cil_specs.specs.Session.{IsSession};
-ghost use Rattle.cil_text.specs.Device.{HasFailed, Gains};
+ghost use Rattle.cil_stream.specs.Device.{HasFailed, Gains};
 ghost use Rattle.cil_program.specs.Session.{status_of};
 
 use crate::script::session::{SessionFault, Status, session};
 use cil_store::Compiled;
-use cil_text::{MemorySource, Sink};
+use cil_stream::{MemorySource, Sink};
 use std::alloc::Allocator;
 
 /// Answers a script to a sink, with an engine.

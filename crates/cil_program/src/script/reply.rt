@@ -1,7 +1,7 @@
 //! The lines that answer a script (a form of this project's own).
 
 ghost use Rattle.std.specs.Prelude.{◌≡◌, ◌+◌, ◌≤◌, flat_map, OnOk, OnErr};
-ghost use Rattle.cil_text.specs.Device.{HasFailed, Gains, GainsFront};
+ghost use Rattle.cil_stream.specs.Device.{HasFailed, Gains, GainsFront};
 ghost use Rattle.cil_specs.specs.Next.{by_store, at_place, for_memory};
 ghost use Rattle.cil_specs.specs.Report.{dropped_line};
 ghost use Rattle.cil_specs.specs.Script.{refusal_line, answer, last_line, stops};
@@ -14,7 +14,8 @@ ghost use Rattle.cil_program.specs.Replies.{end_line};
 use cil_resolve::NameView;
 use cil_rules::Changes;
 use cil_store::{Dropped, Refusal};
-use cil_text::{Place, Sink, SinkFault, write_all, write_pieces};
+use cil_stream::{Sink, SinkFault, write_all, write_pieces};
+use cil_text::Place;
 use itoa::Buffer;
 use std::alloc::Allocator;
 

@@ -1,7 +1,7 @@
 //! A session: it answers a script, command by command.
 
 ghost use Rattle.std.specs.Prelude.{◌≡◌, ◌≢◌, ◌≤◌, [], List, ℕ, IfOk, OnOk, OnErr, IsErrOf, IsTrue};
-ghost use Rattle.cil_text.specs.Device.{HasFailed, HasEnded, Gains, has_ended};
+ghost use Rattle.cil_stream.specs.Device.{HasFailed, HasEnded, Gains, has_ended};
 ghost use Rattle.cil_specs.specs.Run.{an_edit, ask_rows, ask_dropped};
 ghost use Rattle.cil_specs.specs.Script.{refusal_line};
 ghost use Rattle.cil_store.specs.Edits.{edit_of, store_refusal_of};
@@ -15,7 +15,7 @@ use crate::script::input::{Input, LineEnd};
 use crate::script::line::Line;
 use crate::script::reply;
 use cil_store::{Compiled, Edit, StoreFault, WriteFault, check_install};
-use cil_text::{Sink, SinkFault, Source, SourceFault};
+use cil_stream::{Sink, SinkFault, Source, SourceFault};
 use itoa::Buffer;
 use std::alloc::Allocator;
 use thiserror::Error;

@@ -1,4 +1,4 @@
-use Rattle.std.proofs.Common.{◌≡◌, ◌≢◌, ◌<◌, ◌+◌, true, false, ◌++◌, length, Some, slice_get, get_or, set, replicate, sym, ◌∙◌, subst, arith, refl, All}
+use Rattle.std.proofs.Common.{◌≡◌, ◌≢◌, ◌<◌, ◌+◌, true, false, ◌++◌, [], ◌∷◌, length, length-append, ap, Some, slice_get, get_or, set, replicate, sym, ◌∙◌, subst, arith, refl, All}
 use Rattle.std.proofs.lemmas.List.{get_or-set_other, get_or-replicate, length-replicate, length-set, nil_from_length}
 use Rattle.std.proofs.lemmas.List.Elements.{All-append, All-pop, All-same}
 use Rattle.std.proofs.lemmas.Option.{slice_get_read}
@@ -49,6 +49,18 @@ pub is_unmet-requires-clause-passed : goal.is_unmet-requires-clause-passed
 is_unmet-requires-clause-passed g c =
     let is = looked c.args.count c.loop-i.kept.items c.args.needs.now c.loop-i.open.items c.pop.new.self.items c.in-Some.i c.index-needs-i.result c.requires.below c.loop-i.invariant.len c.loop-i.invariant.within c.in-Some.ensures.items c.index-needs-i.is in
     passed-at c.loop-i.kept.items c.deref.result.now c.args.needs.now c.loop-i.passed.items c.in-Some.i c.index_mut.result.now c.index-needs-i.result c.loop-i.invariant.passed c.loop-i.invariant.marks c.deref.ensures.value is.at c.index_mut.ensures.value
+
+pub index-requires : goal.index-requires
+index-requires g c =
+    let is = looked c.args.count c.loop-i.kept.items c.args.needs.now c.loop-i.open.items c.pop.new.self.items c.in-Some.i c.index-needs-i.result c.requires.below c.loop-i.invariant.len c.loop-i.invariant.within c.in-Some.ensures.items c.index-needs-i.is in
+    let size : c.in_ok-dependents.dependents.len ≡ length c.in_ok-dependents.dependents.items = c.in_ok-dependents.dependents.ok.0 in
+    omega (arith, is.within, c.loop-i.invariant.len, c.in_ok-dependents.ensures.len, size)
+
+pub index_mut-requires-then-is_unmet : goal.index_mut-requires-then-is_unmet
+index_mut-requires-then-is_unmet g c =
+    let is = looked c.args.count c.loop-i.kept.items c.args.needs.now c.loop-i.open.items c.pop.new.self.items c.in-Some.i c.index-needs-i.result c.requires.below c.loop-i.invariant.len c.loop-i.invariant.within c.in-Some.ensures.items c.index-needs-i.is in
+    let size : c.loop-i.kept.len ≡ length c.loop-i.kept.items = c.loop-i.kept.ok.0 in
+    omega (arith, is.within, size)
 
 pub loop-i-smaller-then-is_unmet : goal.loop-i-smaller-then-is_unmet
 loop-i-smaller-then-is_unmet g c =
@@ -118,3 +130,14 @@ returns-clause-met g c =
     let length-is : c.loop-i.open.len ≡ length c.loop-i.open.items = c.loop-i.open.ok.0 in
     let none : length c.loop-i.open.items ≡ 0 = omega (arith, length-is, c.in_default.ensures.cases.0) in
     settled-none c.loop-i.kept.items c.args.needs.now (subst (AreSettled c.loop-i.kept.items c.args.needs.now) (nil_from_length c.loop-i.open.items none) c.loop-i.invariant.settled)
+
+pub loop-i-smaller : goal.loop-i-smaller
+loop-i-smaller g c =
+    let last : length c.loop-i.open.items ≡ length c.pop.new.self.items + 1 = ap length c.in-Some.ensures.items ∙ length-append c.pop.new.self.items (c.in-Some.i ∷ []) in
+    omega (arith, last)
+
+pub returns-clause-len : goal.returns-clause-len
+returns-clause-len g c = c.loop-i.invariant.len
+
+pub returns-clause-outside : goal.returns-clause-outside
+returns-clause-outside g c = c.loop-i.invariant.outside

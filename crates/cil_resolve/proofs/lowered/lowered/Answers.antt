@@ -5,9 +5,8 @@ use Rattle.cil_check.specs.Ordered.{IsFaultless}
 use Rattle.cil_resolve.specs.Consistent.{are_rules_of, are_placed_in}
 use Rattle.cil_resolve.specs.Lowering.{HaveElements, modules_of}
 use Rattle.cil_resolve.specs.Numbering.{HavePlaces}
-use Rattle.cil_resolve.specs.Numbers.{declared_of, class_of, rule_of, dropped_with}
+use Rattle.cil_resolve.specs.Numbers.{declared_of, class_of, set_of, rule_of, dropped_with}
 use Rattle.cil_resolve.proofs.ConsistentLemmas.{rules-declared}
-use Rattle.cil_resolve.proofs.PartLemmas.{no-sets}
 use Rattle.cil_resolve.proofs.PlacedLemmas.{from-named, all-placed}
 use Rattle.cil_resolve.proofs.lowered.lowered.Goals as goal
 
@@ -58,11 +57,12 @@ invariant_of-result g c =
       types_within = parts.types_below;
       attributes_within = parts.attributes_below;
       classes_within = parts.classes_below;
+      sets_within = parts.sets_are.below;
       rules_within = parts.rules_are.below;
     }
 
 pub returns : goal.returns
-returns g c policy noted faultless plain =
+returns g c policy noted faultless =
     let parts = c.in_ok-parts.ensures policy (record {
       noted = noted;
       faultless = faultless;
@@ -77,6 +77,6 @@ returns g c policy noted faultless plain =
     let types = (λ k. map (declared_of (modules k) names) c.in_ok-parts.parts.types.items) ∙ parts.types_are in
     let attributes = (λ k. map (declared_of (modules k) names) c.in_ok-parts.parts.attributes.items) ∙ parts.attributes_are in
     let classes = (λ k. map (class_of (modules k) names) c.in_ok-parts.parts.classes.items) ∙ parts.classes_are in
+    let sets = (λ k. map (set_of (modules k) names) c.in_ok-parts.parts.sets.items) ∙ parts.sets_are.is in
     let rules = (λ k. map (rule_of (modules k) names) c.in_ok-parts.parts.rules.items) ∙ parts.rules_are.is in
-    let sets = no-sets policy policy plain in
-    λ i. record { types = types i; attributes = attributes i; classes = classes i; sets = sym sets i; rules = rules i; dropped = map (dropped_with (modules i)) c.args.dropped.items }
+    λ i. record { types = types i; attributes = attributes i; classes = classes i; sets = sets i; rules = rules i; dropped = map (dropped_with (modules i)) c.args.dropped.items }

@@ -31,7 +31,7 @@ note_words-requires g c =
         list,
         c.seen-seen.ensures.worded policy is,
         c.permissions.ensures (texts_of c.seen-seen.result.«module».now) seen.f seen.shown,
-        subst (λ f. AllByRecursion IsOneName (permissions_in f)) (sym seen.form) (is.spelt s there),
+        subst (λ f. AllByRecursion IsOneName (permissions_in f)) (sym seen.form) (is.spelt s there).permissions,
         has-words c.args.names.now list (λ name has. are name ∙ named-in names_with policy s name there (own-named s name (ap (λ l. has_name (texts l) name) (sym own) ∙ has))),
         c.loop-i.invariant.long,
       );
@@ -56,7 +56,7 @@ loop-i-preserved g c = elim c.if-lists_own.branch [
         subst (λ some. HavePermissionsOf names c.args.names.now some c.if-lists_own.permissions.items) all
         (subst (HavePermissionsOf names c.args.names.now (listed_names (take i policy) ++ texts list)) (sym (ap (λ v. v.items) w.permissions-is))
         (w.note_words.ensures.noted names (listed_names (take i policy)) list (c.seen-seen.ensures.worded policy is) (w.permissions.ensures (texts_of c.seen-seen.result.«module».now) seen.f seen.shown)
-        is.bound.stands.numbered.names_distinct (subst (λ f. AllByRecursion IsOneName (permissions_in f)) (sym seen.form) (is.spelt s there))
+        is.bound.stands.numbered.names_distinct (subst (λ f. AllByRecursion IsOneName (permissions_in f)) (sym seen.form) (is.spelt s there).permissions)
         c.loop-i.invariant.long (c.loop-i.invariant.noted policy is)));
   }
   | else-lists_own w ↦ record {

@@ -1,7 +1,4 @@
 use Rattle.std.proofs.lemmas.Result.{err_from_is_err_and}
-use Rattle.cil_bind.specs.Ordered.{IsLeast}
-use Rattle.cil_check.specs.Ordered.{IsFaultIn}
-use Rattle.cil_resolve.proofs.FaultLemmas.{found-fault}
 use Rattle.cil_resolve.proofs.resolver.checked.Goals as goal
 
 pub check-requires : goal.check-requires
@@ -13,8 +10,7 @@ pub returns-in_err-check-clause-err : goal.returns-in_err-check-clause-err
 returns-in_err-check-clause-err g c =
     let made = err_from_is_err_and c.from_residual-in_err-check.result c.from_residual-in_err-check.ensures.1 in
     rw (made.1, made.2) (λ others order.
-    found-fault c.in_err-check.field-0.0 (IsLeast (IsFaultIn others))
-    (c.in_err-check.ensures.err others (c.in_ok-checker.ensures.noted others (record { bound = order.bound; ordered = order.ordered; inside = order.inside; spelt = order.spelt }))))
+    c.in_err-check.ensures.err others (c.in_ok-checker.ensures.noted others (record { bound = order.bound; ordered = order.ordered; inside = order.inside; spelt = order.spelt })))
 
 pub returns-clause-noted : goal.returns-clause-noted
 returns-clause-noted g c = λ others order. c.in_ok-checker.ensures.noted others (record { bound = order.bound; ordered = order.ordered; inside = order.inside; spelt = order.spelt })

@@ -7,7 +7,6 @@ use Rattle.cil_check.specs.Ordered.{IsFaultIn}
 use Rattle.cil_resolve.specs.Resolved.{meaning_in}
 use Rattle.cil_resolve.proofs.FaultLemmas.{fault-weaker}
 use Rattle.cil_resolve.proofs.JudgedLemmas.{judged-in-order, judged-first, kept-means}
-use Rattle.cil_resolve.proofs.PlainLemmas.{kept-plain}
 use Rattle.cil_resolve.proofs.resolver.resolve.Goals as goal
 
 pub checked-requires : goal.checked-requires
@@ -47,5 +46,5 @@ returns-clause-meaning g c = λ modules are.
     let faultless = c.in_ok-checker.ensures.faultless kept order in (
       is.kept,
       kept-means (joined modules) parsed c.in_ok-checker.checker.bound.joined.now.modules.items c.in_ok-policy.field-0 is (meaning_in c.in_ok-lowered.field-0) (ap (λ j. j.modules.items) c.in_ok-checker.ensures.joined) faultless
-          (c.in_ok-lowered.ensures kept (c.in_ok-checker.ensures.noted kept order) faultless (kept-plain is.kept modules are.sound)),
+          (c.in_ok-lowered.ensures kept (c.in_ok-checker.ensures.noted kept order) faultless),
     )

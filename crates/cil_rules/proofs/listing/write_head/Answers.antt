@@ -1,6 +1,6 @@
 use Rattle.std.proofs.Common.{◌≡◌, ◌++◌, ◌∙◌, codes, List, ℕ, ap, subst, append_assoc}
 use Rattle.std.specs.Result.{OnErr}
-use Rattle.cil_text.specs.Device.{GainsFront}
+use Rattle.cil_stream.specs.Device.{GainsFront}
 use Rattle.cil_rules.proofs.listing.write_head.Goals as goal
 
 head-is : (word source target the_class : List ℕ)

@@ -1,7 +1,7 @@
 use Rattle.std.proofs.Common.{◌≡◌, ◌∙◌, ◌++◌, [], codes, get_or, ap, subst}
 use Rattle.std.proofs.lemmas.List.{get_or_read}
-use Rattle.cil_text.specs.Device.{GainsFront}
-use Rattle.cil_text.proofs.Gaining.{on_err, gains-pieces_front}
+use Rattle.cil_stream.specs.Device.{GainsFront}
+use Rattle.cil_stream.proofs.Gaining.{on_err, gains-pieces_front}
 use Rattle.cil_rules.specs.Rows.{name_text}
 use Rattle.cil_rules.proofs.listing.write_names.Goals as goal
 

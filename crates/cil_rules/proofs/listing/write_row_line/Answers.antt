@@ -1,8 +1,8 @@
 use Rattle.std.proofs.Common.{◌++◌, codes, subst}
 use Rattle.std.specs.List.{flat_map}
 use Rattle.std.proofs.lemmas.Result.{on_ok_weaker, on_err_weaker}
-use Rattle.cil_text.specs.Device.{Gains, GainsFront}
-use Rattle.cil_text.proofs.Gaining.{on_err}
+use Rattle.cil_stream.specs.Device.{Gains, GainsFront}
+use Rattle.cil_stream.proofs.Gaining.{on_err}
 use Rattle.cil_rules.specs.Atoms.{name_at}
 use Rattle.cil_rules.specs.Rows.{row_head}
 use Rattle.cil_rules.specs.NumberedRows.{row_of}

@@ -1,8 +1,8 @@
 use Rattle.std.proofs.Common.{◌≡◌, ◌∙◌, ◌++◌, ◌∷◌, map, length, cond, ap, sym, arith, rules}
 use Rattle.std.specs.List.{flat_map}
 use Rattle.cil_specs.specs.Report.{row_line, is_listed}
-use Rattle.cil_text.proofs.Gaining.{gains-both}
-use Rattle.cil_text.proofs.Gaining.{on_err}
+use Rattle.cil_stream.proofs.Gaining.{gains-both}
+use Rattle.cil_stream.proofs.Gaining.{on_err}
 use Rattle.cil_text.specs.Image.{rule_kind_of}
 use Rattle.cil_rules.specs.Atoms.{atom_at, IsWithin}
 use Rattle.cil_rules.specs.Rows.{rows_of, row_at}

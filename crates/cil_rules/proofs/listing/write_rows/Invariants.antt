@@ -1,7 +1,7 @@
 use Rattle.std.proofs.Common.{◌≡◌, ◌≤◌, ◌+◌, ◌++◌, ℕ, List, length, map}
 use Rattle.std.specs.List.{All, flat_map}
 use Rattle.cil_specs.specs.Report.{row_line}
-use Rattle.cil_text.specs.Device.{Gains}
+use Rattle.cil_stream.specs.Device.{Gains}
 use Rattle.cil_rules.specs.Atoms.{atom_at, IsWithin}
 use Rattle.cil_rules.specs.Rows.{rows_of}
 use Rattle.cil_rules.proofs.listing.write_rows.Given as goal

@@ -1,6 +1,6 @@
 use Rattle.std.proofs.Common.{◌≤◌, take}
 use Rattle.std.specs.List.{flat_map}
-use Rattle.cil_text.specs.Device.{Gains}
+use Rattle.cil_stream.specs.Device.{Gains}
 use Rattle.cil_rules.specs.NumberedRows.{line_by}
 use Rattle.cil_rules.proofs.rows.write_numbered.Given as goal
 

@@ -1,35 +1,27 @@
-use Rattle.std.proofs.Common.{get_or}
-use Rattle.std.proofs.lemmas.Result.{err_from_is_err_and}
-use Rattle.cil_specs.specs.PolicyFault.{IsFaultOf}
-use Rattle.cil_check.specs.Image.{policy_kind_of}
+use Rattle.std.proofs.Common.{refl}
+use Rattle.std.proofs.lemmas.Result.{err_from_is_err_and, IfErr-weaker}
+use Rattle.cil_specs.specs.PolicyFault.{circular, IsFaultOf}
+use Rattle.indexmap.proofs.MapLemmas.{OnOk-map}
 use Rattle.cil_bind.specs.Ordered.{IsLeast}
 use Rattle.cil_check.specs.Ordered.{IsFaultIn}
-use Rattle.cil_check.specs.declared.fault.PolicyFaultKind.TheVariants.{Twice}
-use Rattle.cil_check.proofs.CheckLemmas.{checked, checked-code, checked-once, none-first, none-next, none-all, first-least, found-weaker}
+use Rattle.cil_check.proofs.CheckLemmas.{none-all, first-least, found-one, circular-alone, found-fault, fault-weaker}
 use Rattle.cil_check.proofs.checker.Checker.check.Goals as goal
 
-pub loop-kind-init : goal.loop-kind-init
-loop-kind-init g c = λ policy noted. none-first policy noted.is.bound.once
-
-pub check_kind-requires : goal.check_kind-requires
-check_kind-requires g c = record { ready = c.requires; kind = checked-once c.loop-kind.kind-index c.loop-kind-test.true }
-
-pub loop-kind-preserved : goal.loop-kind-preserved
-loop-kind-preserved g c = λ policy noted.
-    let n = c.loop-kind.kind-index in
-    none-next policy n (policy_kind_of (get_or checked n Twice)) (checked-code n c.loop-kind-test.true) (c.in_ok-check_kind.ensures.ok policy noted) (c.loop-kind.invariant policy noted)
-
-pub returns-in_err-check_kind : goal.returns-in_err-check_kind
-returns-in_err-check_kind g c =
-    let n = c.loop-kind.kind-index in
-    let kind = policy_kind_of (get_or checked n Twice) in
+pub returns-in_err-check_statements : goal.returns-in_err-check_statements
+returns-in_err-check_statements g c =
     let made = err_from_is_err_and c.from_residual.result c.from_residual.ensures.1 in
+    let fault = c.in_err-check_statements.field-0.0 in
     rw (made.1, made.2) (record {
       ok = tt;
-      err = λ policy noted.
-          found-weaker c.in_err-check_kind.field-0.0 (IsLeast (IsFaultOf kind policy)) (IsLeast (IsFaultIn policy))
-          (first-least policy n kind (checked-code n c.loop-kind-test.true) (c.loop-kind.invariant policy noted)) (c.in_err-check_kind.ensures.err policy noted);
+      err = λ policy noted. found-fault fault (IsLeast (IsFaultIn policy)) (c.in_err-check_statements.ensures.err policy noted);
+      memory = λ is policy noted. absurd (found-one fault (IsLeast (IsFaultIn policy)) (c.in_err-check_statements.ensures.err policy noted) is);
     })
 
 pub returns : goal.returns
-returns g c = record { ok = λ policy noted. none-all policy c.loop-kind.kind-index c.loop-kind-test.false noted.is.inside (c.loop-kind.invariant policy noted); err = tt }
+returns g c = record {
+  ok = OnOk-map c.check_circles.result _ _ (λ straight policy noted. none-all policy noted.is.inside (c.in_ok-check_statements.ensures.ok policy noted) (straight policy noted)) c.check_circles.ensures.ok;
+  err = IfErr-weaker c.check_circles.result _ _
+      (λ fault first policy noted.
+      fault-weaker fault (IsLeast (IsFaultOf circular policy)) (IsLeast (IsFaultIn policy)) (first-least policy 6 circular refl (c.in_ok-check_statements.ensures.ok policy noted)) (first policy noted)) c.check_circles.ensures.err;
+  memory = IfErr-weaker c.check_circles.result _ _ (λ fault first is policy noted. circular-alone policy (c.in_ok-check_statements.ensures.ok policy noted)) c.check_circles.ensures.err;
+}

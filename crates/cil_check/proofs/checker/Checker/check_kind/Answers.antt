@@ -1,5 +1,6 @@
 use Rattle.std.proofs.Common.{◌≤◌, ◌<◌, length, slice_get, take, arith, sym}
-use Rattle.cil_specs.specs.PolicyFault.{IsFaultOf, faulty_words}
+use Rattle.cil_specs.specs.PolicyFault.{IsFaultOf}
+use Rattle.cil_specs.proofs.FirstLemmas.{faulty_words}
 use Rattle.cil_bind.specs.Ordered.{IsLeast}
 use Rattle.cil_check.specs.Image.{policy_kind_of, fault_at}
 use Rattle.cil_check.proofs.CheckLemmas.{first-some, found-is}
@@ -22,7 +23,7 @@ faulty_word-requires g c =
     let count = c.len-i-end.ensures policy noted.is in
     let less : c.loop-i.i < length policy = omega (arith, count) in
     let (s, at) = there-at policy c.loop-i.i less in
-    record { ready = (policy, s, noted, c.seen-seen.ensures.seen policy s noted.is at, at); kind = c.requires.kind }
+    record { ready = (policy, s, noted, c.seen-seen.ensures.seen policy s noted.is at, at); kind = c.requires.kind; straight = c.requires.straight }
 
 pub fault-requires : goal.fault-requires
 fault-requires g c =

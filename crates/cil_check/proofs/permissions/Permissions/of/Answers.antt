@@ -73,7 +73,7 @@ loop-i-preserved g c = record {
     single : (policy : List Placed) (is : IsOf c.args.bound.now policy) (t : Placed) (at : slice_get policy i ≡ Some t)
         → AllByRecursion IsOneName (permissions_in (c.seen-seen.ensures.seen policy t is at).f.form)
     single policy is t at =
-        subst (λ f. AllByRecursion IsOneName (permissions_in f)) (sym (c.seen-seen.ensures.seen policy t is at).form) (is.spelt t (i, less policy is, get_or_from_slice_get policy i t t at))
+        subst (λ f. AllByRecursion IsOneName (permissions_in f)) (sym (c.seen-seen.ensures.seen policy t is at).form) (is.spelt t (i, less policy is, get_or_from_slice_get policy i t t at)).permissions
 
     closed : c.if-lists_own.permissions.words.0 ≡ c.loop-i.permissions.words.0
     closed = elim c.if-lists_own.branch [

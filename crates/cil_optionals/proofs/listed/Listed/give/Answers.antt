@@ -1,8 +1,17 @@
-use Rattle.std.proofs.Common.{◌≡◌, ◌<◌, length, slice_get, Some, IfSome, refl, subst}
+use Rattle.std.proofs.Common.{◌≡◌, ◌<◌, ◌++◌, length, slice_get, Some, IfSome, refl, sym, ap, ◌∙◌, subst}
 use Rattle.std.proofs.lemmas.Option.{slice_get_read}
+use Rattle.cil_optionals.specs.Given.{commons_at, given_at}
 use Rattle.cil_optionals.specs.declared.listed.Gift.{Gift}
 use Rattle.cil_optionals.proofs.ListedLemmas.{given-push, gifts-next}
 use Rattle.cil_optionals.proofs.listed.Listed.give.Goals as goal
+
+pub returns-clause-given : goal.returns-clause-given
+returns-clause-given g c = λ i.
+    let given = c.args.self.now.given.items in
+    let v = c.index_mut.result.now in
+    let within : c.in-Some.class < length given = subst (λ o. IfSome o (λ a. a.0 < length given)) c.in-Some.is c.requires.within in
+    let at : slice_get given c.in-Some.class ≡ Some v = slice_get_read given (length given) c.in-Some.class v refl within c.index_mut.ensures.value in
+    given-push given c.in-Some.class c.in-Some.common v c.push.new.self at c.in_ok-push.ensures.items i ∙ ap (λ o. commons_at given i ++ given_at o i) (sym c.in-Some.is)
 
 pub returns-clause-inverse : goal.returns-clause-inverse
 returns-clause-inverse g c =

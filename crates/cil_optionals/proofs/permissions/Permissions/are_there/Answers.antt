@@ -39,7 +39,7 @@ returns-clause-there g c = λ parsed all s ready have at of.
     let rule = rule-class all s.namespace s.form is c.get-bound.result.now seen.leads_are in
     let led = subst (λ o. IsLead classes all o (leads all classes s.namespace rule.the_class.text)) (sym c.last_bound.ensures ∙ c.in-Some.is) rule.lead in
     c.in_ok-there.ensures.has (listed_in s.form) (c.permissions.ensures (texts_of m) seen.f seen.shown ∙ ap (λ form. map Some (listed_in form)) seen.form)
-    ∙ there-some all (permissions_in c.args.self.now.listed) s.namespace rule.the_class (listed_in s.form) c.in-Some.class have led ∙ ap (are_there all s.namespace) (sym rule.named)
+    ∙ there-some all (permissions_in c.args.self.now.listed.now) s.namespace rule.the_class (listed_in s.form) c.in-Some.class have led ∙ ap (are_there all s.namespace) (sym rule.named)
 
 pub returns-in_default-clause-there : goal.returns-in_default-clause-there
 returns-in_default-clause-there g c = λ parsed all s ready have at of.

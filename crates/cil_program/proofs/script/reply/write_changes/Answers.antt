@@ -1,5 +1,5 @@
 use Rattle.std.proofs.Common.{◌≡◌, ◌∙◌, ◌++◌, ℕ, List, decimal, codes, length, ap, sym, subst, append_assoc, OnErr}
-use Rattle.cil_text.specs.Device.{GainsFront}
+use Rattle.cil_stream.specs.Device.{GainsFront}
 use Rattle.cil_program.proofs.script.reply.write_changes.Goals as goal
 
 line : (first second : List ℕ) (a b : ℕ) → first ≡ decimal a → second ≡ decimal b → codes "ok " ++ (first ++ (codes " " ++ (second ++ codes "\n"))) ≡ codes "ok " ++ decimal a ++ codes " " ++ decimal b ++ codes "\n"

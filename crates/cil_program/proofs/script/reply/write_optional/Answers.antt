@@ -1,5 +1,5 @@
 use Rattle.std.proofs.Common.{◌≡◌, ◌∙◌, ◌++◌, ℕ, List, decimal, codes, sym, append_assoc, subst, OnErr}
-use Rattle.cil_text.specs.Device.{GainsFront}
+use Rattle.cil_stream.specs.Device.{GainsFront}
 use Rattle.cil_program.proofs.script.reply.write_optional.Goals as goal
 
 line : (module-name line-digits column-digits name : List ℕ) (at column : ℕ) → line-digits ≡ decimal at → column-digits ≡ decimal column

@@ -1,7 +1,7 @@
 use Rattle.std.proofs.Common.{◌≤◌, ◌<◌, ◌+◌, length, take, flat_map, sym, subst, arith}
-use Rattle.cil_text.specs.Device.{Gains}
+use Rattle.cil_stream.specs.Device.{Gains}
 use Rattle.cil_specs.specs.Report.{dropped_line}
-use Rattle.cil_text.proofs.Gaining.{on_err}
+use Rattle.cil_stream.proofs.Gaining.{on_err}
 use Rattle.cil_resolve.specs.Views.{declared_seen}
 use Rattle.cil_program.proofs.ReplyLemmas.{optional-more, optional-front, some-optional}
 use Rattle.cil_program.proofs.script.reply.write_optionals.Goals as goal

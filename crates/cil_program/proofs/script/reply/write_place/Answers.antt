@@ -1,5 +1,5 @@
 use Rattle.std.proofs.Common.{◌≡◌, ◌∙◌, ◌++◌, ℕ, List, decimal, codes, sym, append_assoc, subst, OnOk, OnErr}
-use Rattle.cil_text.specs.Device.{Gains, GainsFront}
+use Rattle.cil_stream.specs.Device.{Gains, GainsFront}
 use Rattle.cil_program.proofs.script.reply.write_place.Goals as goal
 
 line : (code-digits line-digits column-digits module-name word : List ℕ) (code at column : ℕ) → code-digits ≡ decimal code → line-digits ≡ decimal at → column-digits ≡ decimal column

@@ -1,10 +1,10 @@
 use Rattle.std.proofs.Common.{Err, ◌≡◌, ◌∙◌, ◌++◌, List, ℕ, Option, length, flat_map, refl, ap, subst}
-use Rattle.cil_text.specs.Device.{Gains}
+use Rattle.cil_stream.specs.Device.{Gains}
 use Rattle.cil_specs.specs.Report.{Row, row_line}
 use Rattle.cil_specs.specs.Next.{for_memory}
 use Rattle.cil_specs.specs.Run.{refused, listed, lists, out_of_memory}
 use Rattle.cil_specs.specs.Script.{answer, refusal_line}
-use Rattle.cil_text.proofs.Gaining.{gains-both}
+use Rattle.cil_stream.proofs.Gaining.{gains-both}
 use Rattle.cil_program.specs.Replies.{end_line}
 use Rattle.cil_program.proofs.ReplyLemmas.{with-end}
 use Rattle.cil_program.proofs.script.session.answer_rows.Goals as goal

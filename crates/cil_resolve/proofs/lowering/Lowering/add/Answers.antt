@@ -7,12 +7,13 @@ use Rattle.cil_specs.specs.Rule.{declared_as, class_as}
 use Rattle.cil_specs.proofs.Runs.{first_true}
 use Rattle.cil_parse.specs.declared.row.StatementKind.TheVariants as kinds
 use Rattle.cil_check.proofs.SeenLemmas.{seen-kind, there-at}
-use Rattle.cil_resolve.specs.Below.{is_name_below, is_class_below, is_rule_below}
+use Rattle.cil_check.proofs.AskedLemmas.{form-set}
+use Rattle.cil_resolve.specs.Below.{is_name_below, is_class_below, is_set_below, is_rule_below}
 use Rattle.cil_resolve.specs.FullNames.{numbered_id, is_numbered}
-use Rattle.cil_resolve.specs.Lowering.{AreRules, IsIn, modules_of, type_if, attribute_if, class_if, rule_if}
-use Rattle.cil_resolve.specs.Numbers.{declared_of, class_of, rule_of}
+use Rattle.cil_resolve.specs.Lowering.{AreRules, IsIn, modules_of, type_if, attribute_if, class_if, set_if, rule_if}
+use Rattle.cil_resolve.specs.Numbers.{declared_of, class_of, set_of, rule_of}
 use Rattle.cil_resolve.proofs.ElementLemmas.{type-form}
-use Rattle.cil_resolve.proofs.PartLemmas.{attribute-form, declared-made, of-kind, no-type-kind, no-attribute-kind, no-class-kind, no-type, no-attribute, no-class, grow, stay, below-more}
+use Rattle.cil_resolve.proofs.PartLemmas.{attribute-form, declared-made, of-kind, no-type-kind, no-attribute-kind, no-class-kind, no-set-kind, no-type, no-attribute, no-class, grow, stay, below-more}
 use Rattle.cil_resolve.proofs.StatementLemmas.{contained}
 use Rattle.cil_resolve.proofs.lowering.Lowering.add.Goals as goal
 
@@ -40,6 +41,7 @@ returns-in_ok-push-in-TypeName g c policy statements s is at so_far =
       attributes_below = so_far.attributes_below;
       classes_are = stay (class_of modules names) (class_if policy) parts.classes.items parts.classes.items statements s so_far.classes_are refl (no-class policy s (kind.a_class));
       classes_below = so_far.classes_below;
+      sets_are = record { is = stay (set_of modules names) (set_if policy) parts.sets.items parts.sets.items statements s so_far.sets_are.is refl (kind.no_set refl); below = so_far.sets_are.below };
       rules_are = record { is = stay (rule_of modules names) (rule_if policy) parts.rules.items parts.rules.items statements s so_far.rules_are.is refl (kind.no_rule refl); below = so_far.rules_are.below };
     }
 
@@ -61,6 +63,7 @@ returns-in_ok-push-in-TypeAttribute g c policy statements s is at so_far =
       attributes_below = below-more (is_name_below (length names)) parts.attributes.items _ d so_far.attributes_below c.in_ok-push-in-TypeAttribute.ensures.items made.1;
       classes_are = stay (class_of modules names) (class_if policy) parts.classes.items parts.classes.items statements s so_far.classes_are refl (no-class policy s (kind.a_class));
       classes_below = so_far.classes_below;
+      sets_are = record { is = stay (set_of modules names) (set_if policy) parts.sets.items parts.sets.items statements s so_far.sets_are.is refl (kind.no_set refl); below = so_far.sets_are.below };
       rules_are = record { is = stay (rule_of modules names) (rule_if policy) parts.rules.items parts.rules.items statements s so_far.rules_are.is refl (kind.no_rule refl); below = so_far.rules_are.below };
     }
 
@@ -81,6 +84,30 @@ returns-in_ok-push-in-Class g c policy statements s is at so_far =
       attributes_below = so_far.attributes_below;
       classes_are = grow (class_of modules names) (class_if policy) parts.classes.items _ (x ∷ []) statements s so_far.classes_are c.in_ok-push-in-Class.ensures.items (ap (λ y. y ∷ []) made.is ∙ sym (ap (λ b. if b then class_as policy s ∷ [] else []) kind.a_class));
       classes_below = below-more (is_class_below (length names)) parts.classes.items _ x so_far.classes_below c.in_ok-push-in-Class.ensures.items made.below;
+      sets_are = record { is = stay (set_of modules names) (set_if policy) parts.sets.items parts.sets.items statements s so_far.sets_are.is refl (kind.no_set refl); below = so_far.sets_are.below };
+      rules_are = record { is = stay (rule_of modules names) (rule_if policy) parts.rules.items parts.rules.items statements s so_far.rules_are.is refl (kind.no_rule refl); below = so_far.rules_are.below };
+    }
+
+pub returns-in_ok-push-in-TypeAttributeSet : goal.returns-in_ok-push-in-TypeAttributeSet
+returns-in_ok-push-in-TypeAttributeSet g c policy statements s is at so_far =
+    let modules = modules_of c.args.self.now.checker.now.bound.joined.now in
+    let names = c.args.self.now.numbering.now.names.items in
+    let parts = c.args.parts.now in
+    let seen = c.seen-seen.ensures.seen policy s is.noted.is at in
+    let is_in : IsIn c.args.self.now c.seen-seen.result policy s = record { lowering = is; there = contained policy c.args.i s at; seen_is = seen; worded = c.seen-seen.ensures.worded policy is.noted.is } in
+    let is_kind = sym (seen-kind c.seen-seen.result policy s seen) ∙ c.in-TypeAttributeSet.is in
+    let kind = of-kind policy s kinds.TypeAttributeSet is_kind in
+    let (attribute, expr, form) = form-set s.form is_kind in
+    let x = c.in_ok-set-in-TypeAttributeSet.field-0 in
+    let made = c.in_ok-set-in-TypeAttributeSet.ensures policy s attribute expr is_in at form in
+    record {
+      types_are = stay (declared_of modules names) type_if parts.types.items parts.types.items statements s so_far.types_are refl (no-type s (kind.type));
+      types_below = so_far.types_below;
+      attributes_are = stay (declared_of modules names) attribute_if parts.attributes.items parts.attributes.items statements s so_far.attributes_are refl (no-attribute s (kind.attribute));
+      attributes_below = so_far.attributes_below;
+      classes_are = stay (class_of modules names) (class_if policy) parts.classes.items parts.classes.items statements s so_far.classes_are refl (no-class policy s (kind.a_class));
+      classes_below = so_far.classes_below;
+      sets_are = record { is = grow (set_of modules names) (set_if policy) parts.sets.items _ (x ∷ []) statements s so_far.sets_are.is c.in_ok-push-in-TypeAttributeSet.ensures.items made.is; below = below-more (is_set_below (length names)) parts.sets.items _ x so_far.sets_are.below c.in_ok-push-in-TypeAttributeSet.ensures.items (first_true (is_set_below (length names) x) true made.below) };
       rules_are = record { is = stay (rule_of modules names) (rule_if policy) parts.rules.items parts.rules.items statements s so_far.rules_are.is refl (kind.no_rule refl); below = so_far.rules_are.below };
     }
 
@@ -101,6 +128,7 @@ returns-in_ok-push-in_default g c policy statements s is at so_far =
       attributes_below = so_far.attributes_below;
       classes_are = stay (class_of modules names) (class_if policy) parts.classes.items parts.classes.items statements s so_far.classes_are refl (no-class policy s (kind.a_class ∙ no-class-kind c.seen-seen.result.view.kind c.in_default.not-Class));
       classes_below = so_far.classes_below;
+      sets_are = record { is = stay (set_of modules names) (set_if policy) parts.sets.items parts.sets.items statements s so_far.sets_are.is refl (kind.no_set (no-set-kind c.seen-seen.result.view.kind c.in_default.not-TypeAttributeSet)); below = so_far.sets_are.below };
       rules_are = record { is = grow (rule_of modules names) (rule_if policy) parts.rules.items _ (r ∷ []) statements s so_far.rules_are.is c.in_ok-push-in_default.ensures.items made.is; below = below-more (is_rule_below (length names)) parts.rules.items _ r so_far.rules_are.below c.in_ok-push-in_default.ensures.items (first_true (is_rule_below (length names) r) true made.below) };
     }
 
@@ -120,5 +148,6 @@ returns-in_default-2 g c policy statements s is at so_far =
       attributes_below = so_far.attributes_below;
       classes_are = stay (class_of modules names) (class_if policy) parts.classes.items parts.classes.items statements s so_far.classes_are refl (no-class policy s (kind.a_class ∙ no-class-kind c.seen-seen.result.view.kind c.in_default.not-Class));
       classes_below = so_far.classes_below;
+      sets_are = record { is = stay (set_of modules names) (set_if policy) parts.sets.items parts.sets.items statements s so_far.sets_are.is refl (kind.no_set (no-set-kind c.seen-seen.result.view.kind c.in_default.not-TypeAttributeSet)); below = so_far.sets_are.below };
       rules_are = record { is = stay (rule_of modules names) (rule_if policy) parts.rules.items parts.rules.items statements s so_far.rules_are.is refl (sym made.is); below = so_far.rules_are.below };
     }

@@ -38,7 +38,7 @@ loop-word-preserved g c policy s before is at lists start =
     let shown : map (read all) c.permissions-word-items.result.now ≡ map Some list =
     c.permissions-word-items.ensures all seen.f seen.shown ∙ ap (λ f. map Some (permissions_in f)) seen.form ∙ ap (map Some) own in
     let (w, here, reads) = word-read all c.permissions-word-items.result.now list i no_word shown c.loop-word-test.true in
-    let single = one-name-at list i w (subst (AllByRecursion IsOneName) own (is.noted.is.spelt s there)) here in
+    let single = one-name-at list i w (subst (AllByRecursion IsOneName) own (is.noted.is.spelt s there).permissions) here in
     let number : number_in names w.text ≡ Some c.permission-number.result =
     c.permission-number.ensures policy s w (record { lowering = is; there = there; seen_is = seen; worded = c.seen-seen.ensures.worded policy is.noted.is }) reads single (word-listed policy s i w there here) in
     let old = c.loop-word.permissions.items in

@@ -5,6 +5,12 @@ use Rattle.cil_resolve.specs.Lowering.{ArePartsOf, modules_of}
 use Rattle.cil_resolve.proofs.StatementLemmas.{take-one}
 use Rattle.cil_resolve.proofs.lowering.Lowering.parts.Goals as goal
 
+pub add-requires : goal.add-requires
+add-requires g c =
+    let (policy, is) = c.requires in
+    let count = c.len-count.ensures policy is.noted.is in
+    (policy, is, omega (arith, count))
+
 pub loop-i-preserved : goal.loop-i-preserved
 loop-i-preserved g c policy is =
     let i = c.loop-i.i in

@@ -26,7 +26,7 @@ loop-word-preserved g c policy s is have =
     let all = texts_of c.args.seen.now.«module».now in
     let shown : map (read all) c.permissions-words.result.now ≡ map Some list = c.permissions-words.ensures all is.seen_is.f is.seen_is.shown ∙ ap (λ f. map Some (permissions_in f)) is.seen_is.form in
     let (w, at, reads) = word-read all c.permissions-words.result.now list i no_word shown c.loop-word-test.true in
-    let single = one-name-at list i w (is.lowering.noted.is.spelt s is.there) at in
+    let single = one-name-at list i w (is.lowering.noted.is.spelt s is.there).permissions at in
     let number = c.permission.ensures policy s w is reads single (text-passes (has_name (listed_names policy)) list i w have at) in
     subst (AreNumbersIn names (texts (take (i + 1) list))) (sym c.in_ok-push.ensures.items)
     (subst (λ some. AreNumbersIn names some (c.loop-word.permissions.items ++ c.permission.result ∷ [])) (sym (map-one (λ v. v.text) list i w at))

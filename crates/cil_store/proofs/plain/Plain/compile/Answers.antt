@@ -1,11 +1,12 @@
 use Rattle.std.proofs.Common.{subst}
 use Rattle.cil_specs.specs.Next.{install, changed}
+use Rattle.cil_specs.specs.Run.{Step, an_edit, changed_by}
 use Rattle.cil_specs.specs.Store.{Store, put}
 use Rattle.cil_store.specs.Edits.{refusal_of}
 use Rattle.cil_store.specs.Plain.{IsCompiledTo, IsRefusedPolicy}
 use Rattle.cil_store.specs.Stored.{entry_for}
 use Rattle.cil_store.proofs.ParsedLemmas.{kept-modules}
-use Rattle.cil_store.proofs.PlainLemmas.{policy-refused, compiled-to}
+use Rattle.cil_store.proofs.PlainLemmas.{policy-refused, compiled-to, accepted-step}
 use Rattle.cil_store.proofs.plain.Plain.compile.Goals as goal
 
 pub resolve_types-requires : goal.resolve_types-requires
@@ -22,6 +23,15 @@ returns-in-Err-clause-err g c text is =
 pub returns-clause-ok : goal.returns-clause-ok
 returns-clause-ok g c text is =
     let kept = kept-modules (put (entry_for c.args.name.now text) c.self.inside.store.entries) c.in_ok-joined.joined.modules.items (c.in_ok-joined.ensures text is) in
-    subst (λ (s : Store). IsCompiledTo (changed s (install c.args.name.now 400 text)) c.in_ok-table.table c.in_ok-dropped.dropped) c.self.view_is
-    (compiled-to c.self.inside.store c.self.inside.table c.in_ok-table.table c.self.inside.dropped c.in_ok-dropped.dropped c.args.name.now text kept.0 c.in-Ok.resolved c.self.invariant kept.2 (c.in-Ok.ensures.meaning kept.0 kept.1)
-    c.in_ok-table.ensures c.in_ok-dropped.ensures)
+    subst (λ (s : Store). IsCompiledTo (changed s (install c.args.name.now 400 text)) c.in_ok-made.made.table c.in_ok-made.made.dropped) c.self.view_is
+    (compiled-to c.self.inside.store c.self.inside.table c.in_ok-made.made.table c.self.inside.dropped c.in_ok-made.made.dropped c.args.name.now text kept.0 c.in-Ok.policy.resolved c.self.invariant kept.2 (c.in-Ok.ensures.meaning kept.0 kept.1)
+    c.in_ok-made.ensures.table c.in_ok-made.ensures.dropped)
+
+pub returns-clause-changes : goal.returns-clause-changes
+returns-clause-changes g c text is taken =
+    let made = c.in_ok-made.made in
+    let kept = kept-modules (put (entry_for c.args.name.now text) c.self.inside.store.entries) c.in_ok-joined.joined.modules.items (c.in_ok-joined.ensures text is) in
+    let compiled = compiled-to c.self.inside.store c.self.inside.table made.table c.self.inside.dropped made.dropped c.args.name.now text kept.0 c.in-Ok.policy.resolved c.self.invariant kept.2 (c.in-Ok.ensures.meaning kept.0 kept.1)
+    c.in_ok-made.ensures.table c.in_ok-made.ensures.dropped in
+    subst (λ (s : Store). Step s (an_edit (install c.args.name.now 400 text)) (changed_by made.changes) (changed s (install c.args.name.now 400 text))) c.self.view_is
+    (accepted-step c.self.inside.store c.self.inside.table made.table c.self.inside.dropped made.dropped c.args.name.now text 400 made.changes taken (is.statements, is.is_text) c.self.invariant compiled c.in_ok-made.ensures.changes)

@@ -17,6 +17,26 @@ returns-then-is_empty-clause-err g c =
       refl,
     )
 
+pub overflow_cast-len : goal.overflow_cast-len
+overflow_cast-len g c =
+    let found = c.in-Some.ensures.some in
+    omega (arith, found.1, ap length c.rest-inside.ensures, length-drop (c.args.self.now.at.offset + 1) c.args.self.now.text.now, c.requires.placed.small)
+
+pub overflow_add-len : goal.overflow_add-len
+overflow_add-len g c =
+    let found = c.in-Some.ensures.some in
+    omega (arith, found.1, ap length c.rest-inside.ensures, length-drop (c.args.self.now.at.offset + 1) c.args.self.now.text.now, c.requires.placed.small)
+
+pub overflow_add-len-2 : goal.overflow_add-len-2
+overflow_add-len-2 g c =
+    let found = c.in-Some.ensures.some in
+    omega (arith, found.1, ap length c.rest-inside.ensures, length-drop (c.args.self.now.at.offset + 1) c.args.self.now.text.now, c.requires.placed.small)
+
+pub to_right-self-requires-clause-offset : goal.to_right-self-requires-clause-offset
+to_right-self-requires-clause-offset g c =
+    let found = c.in-Some.ensures.some in
+    omega (arith, found.1, ap length c.rest-inside.ensures, length-drop (c.args.self.now.at.offset + 1) c.args.self.now.text.now, c.requires.placed.small)
+
 pub to_right-self-requires-clause-column : goal.to_right-self-requires-clause-column
 to_right-self-requires-clause-column g c =
     let found = c.in-Some.ensures.some in

@@ -1,6 +1,6 @@
 use Rattle.std.proofs.Common.{List, ℕ, Bool, Result, Ok, Err, IfOk}
-use Rattle.cil_text.specs.declared.devices.source.SourceFault.{SourceFault}
-use Rattle.cil_text.specs.Device.{has_ended}
+use Rattle.cil_stream.specs.declared.source.SourceFault.{SourceFault}
+use Rattle.cil_stream.specs.Device.{has_ended}
 use Rattle.cil_program.proofs.InputLemmas.{text-then}
 use Rattle.cil_program.proofs.script.input.Input.skip_text.Goals as goal
 

@@ -1,0 +1,9 @@
+use Rattle.std.proofs.Common.{List}
+use Rattle.cil_specs.specs.Joined.{Placed}
+use Rattle.cil_check.specs.AttributeGraph.{HaveNumbers}
+use Rattle.cil_check.specs.Bound.{IsOf}
+use Rattle.cil_check.proofs.attribute_graph.AttributeNumbers.of.Given as goal
+
+-- the statements gone over have their numbers, and the attributes that they declare their places
+abbrev pub invariant-loop-i : goal.invariant-loop-i
+invariant-loop-i g l = (policy : List Placed) → IsOf l.bound policy → HaveNumbers policy l.i l.numbers.items l.places.items

@@ -1,0 +1,9 @@
+use Rattle.std.proofs.Common.{List}
+use Rattle.cil_specs.specs.Joined.{Placed}
+use Rattle.cil_check.specs.Checker.{IsNoted}
+use Rattle.cil_check.proofs.CleanLemmas.{AreCleanBelow}
+use Rattle.cil_check.proofs.checker.Checker.is_clean.Given as goal
+
+-- the statements gone over are clean
+abbrev pub invariant-loop-i : goal.invariant-loop-i
+invariant-loop-i g l = (policy : List Placed) → IsNoted l.self policy → AreCleanBelow policy l.i

@@ -1,0 +1,13 @@
+use Rattle.std.proofs.Common.{◌≡◌, List, slice_get, Some}
+use Rattle.cil_specs.specs.Joined.{Placed}
+use Rattle.cil_parse.specs.Lexicon.{AreNumbersOf}
+use Rattle.cil_parse.specs.Parsed.{names_of}
+use Rattle.cil_check.specs.Bound.{IsSeen}
+use Rattle.cil_check.specs.Checker.{IsNoted}
+use Rattle.cil_check.proofs.CleanLemmas.{IsCleanOf}
+use Rattle.cil_check.proofs.checker.Checker.is_clean_at.Given as goal
+
+-- the kinds gone over have no faulty word at the statement
+abbrev pub invariant-loop-kind : goal.invariant-loop-kind
+invariant-loop-kind g l = (policy : List Placed) (s : Placed) → IsNoted l.self policy → IsSeen l.seen policy s → AreNumbersOf l.self.bound.policy.now.names l.seen.words.now (names_of l.seen.«module».now) → slice_get policy l.place ≡ Some s
+    → IsCleanOf l.kind-index policy l.place s

@@ -1,0 +1,144 @@
+//! The attributes of a policy by numbers, and which of them set statements mention.
+
+ghost use Rattle.std.specs.Prelude.{◌≡◌, ◌<◌, ◌⊎◌, ◌↔◌, ℕ, List, Some, length, slice_get, IfOk, OnOk};
+ghost use Rattle.cil_specs.specs.Names.{Word};
+ghost use Rattle.cil_specs.specs.Joined.{Placed};
+ghost use Rattle.cil_specs.specs.Lookup.{types, references};
+ghost use Rattle.cil_dependence.specs.Graph.{IsEdge};
+ghost use Rattle.cil_check.specs.Bound.{IsOf, IsSeen};
+ghost use Rattle.cil_check.specs.AttributeGraph.{attribute_count, number_led, AreAttributesOf, Mentions, IsGraphOf};
+
+use crate::bound::{BoundPolicy, Seen};
+use crate::kinds::Kind;
+use cil_parse::StatementKind;
+use std::alloc::{AllocError, Allocator, Global};
+
+/// The attributes of a policy by numbers, in the order of the statements that declare them.
+#[derive(Drop)]
+pub struct AttributeNumbers<A: Allocator = Global> {
+    /// For each statement, how many attributes those in front of it declare.
+    pub numbers: Vec<usize, A>,
+    /// For each attribute, the place of its statement.
+    pub places: Vec<usize, A>,
+}
+
+/// A graph of so many nodes, without edges.
+fn without_edges<A: Allocator + Copy>(
+    alloc: A,
+    count: usize,
+) -> Result<Vec<Vec<usize, A>, A>, AllocError>
+    ensures nodes { IfOk result (λ graph. length graph.items ≡ count) }
+    ensures edges { IfOk result (λ graph. (a b : ℕ) → IsEdge graph.items a b → ⊥) }
+{
+    let mut graph = Vec::with_capacity(alloc, count)?;
+    for _ in 0..count {
+        graph.push(Vec::new(alloc))?;
+    }
+    Ok(graph)
+}
+
+/// Puts in an edge.
+fn add_edge<A: Allocator>(
+    graph: &mut Vec<Vec<usize, A>, A>,
+    from: usize,
+    to: usize,
+) -> Result<(), AllocError>
+    requires { from < length graph.old.items }
+    ensures nodes { OnOk result (length graph.new.items ≡ length graph.old.items) }
+    ensures edges { OnOk result ((a b : ℕ) → IsEdge graph.new.items a b
+        ↔ (IsEdge graph.old.items a b ⊎ ((a ≡ from) × (b ≡ to)))) }
+{
+    graph[from].push(to)?;
+    Ok(())
+}
+
+impl<A: Allocator + Copy> AttributeNumbers<A> {
+    /// The attributes of a policy.
+    pub fn of(alloc: A, bound: &BoundPolicy<'_, '_, A>) -> Result<Self, AllocError>
+        requires { (policy : List Placed) × IsOf bound.now policy }
+        ensures { IfOk result (λ attributes. (policy : List Placed) → IsOf bound.now policy
+            → AreAttributesOf attributes policy) }
+    {
+        let mut numbers = Vec::with_capacity(alloc, bound.len())?;
+        let mut places = Vec::new(alloc);
+        for i in 0..bound.len() {
+            numbers.push(places.len())?;
+            if Kind::Attribute.is(bound.seen(i).view.kind) {
+                places.push(i)?;
+            }
+        }
+        Ok(AttributeNumbers { numbers, places })
+    }
+}
+
+impl<A: Allocator> AttributeNumbers<A> {
+    /// How many attributes are declared in front of a place.
+    fn number_at(&self, place: u32) -> Option<usize>
+        ensures { result ≡ slice_get self.now.numbers.items place }
+    {
+        self.numbers.get(place as usize).copied()
+    }
+
+    /// The number of the attribute that a reference of a statement leads to, if it leads to one.
+    fn led(&self, bound: &BoundPolicy<'_, '_, A>, seen: &Seen<'_, '_, A>, k: usize) -> Option<usize>
+        requires { (policy : List Placed) × IsOf bound.now policy }
+        ensures { (policy : List Placed) (s : Placed) (word : Word) → IsOf bound.now policy
+            → AreAttributesOf self.now policy → IsSeen seen.now policy s
+            → slice_get (references s.form) k ≡ Some (types, word) → result ≡ number_led policy s.namespace word }
+    {
+        let place = seen.lead(k)?;
+        if bound.is(place, Kind::Attribute) {
+            self.number_at(place)
+        } else {
+            None
+        }
+    }
+
+    /// Puts in an edge for each attribute that a statement mentions, if it is a set statement.
+    fn add_set(
+        &self,
+        bound: &BoundPolicy<'_, '_, A>,
+        seen: &Seen<'_, '_, A>,
+        graph: &mut Vec<Vec<usize, A>, A>,
+    ) -> Result<(), AllocError>
+        requires { (policy : List Placed) × (s : Placed) × IsOf bound.now policy × AreAttributesOf self.now policy
+            × IsSeen seen.now policy s × (length graph.old.items ≡ attribute_count policy) }
+        ensures nodes { OnOk result (length graph.new.items ≡ length graph.old.items) }
+        ensures edges { OnOk result ((policy : List Placed) (s : Placed) → IsOf bound.now policy
+            → AreAttributesOf self.now policy → IsSeen seen.now policy s
+            → (a b : ℕ) → IsEdge graph.new.items a b ↔ (IsEdge graph.old.items a b ⊎ Mentions policy s a b)) }
+    {
+        let StatementKind::TypeAttributeSet = seen.view.kind else {
+            return Ok(());
+        };
+        let Some(from) = self.led(bound, seen, 0) else {
+            return Ok(());
+        };
+        for k in 1..seen.view.words.len() {
+            if let Some(to) = self.led(bound, seen, k) {
+                add_edge(graph, from, to)?;
+            }
+        }
+        Ok(())
+    }
+}
+
+impl<A: Allocator + Copy> AttributeNumbers<A> {
+    /// The graph of the attributes: an edge leads from each to those that its set statements mention.
+    pub fn graph(
+        &self,
+        alloc: A,
+        bound: &BoundPolicy<'_, '_, A>,
+    ) -> Result<Vec<Vec<usize, A>, A>, AllocError>
+        requires { (policy : List Placed) × IsOf bound.now policy × AreAttributesOf self.now policy }
+        ensures { IfOk result (λ graph. (policy : List Placed) → IsOf bound.now policy
+            → AreAttributesOf self.now policy → IsGraphOf policy graph.items) }
+    {
+        let mut graph = without_edges(alloc, self.places.len())?;
+        for i in 0..bound.len() {
+            let seen = bound.seen(i);
+            self.add_set(bound, &seen, &mut graph)?;
+        }
+        Ok(graph)
+    }
+}

@@ -1,0 +1,36 @@
+//! Attributes that depend on themselves.
+
+ghost use Rattle.std.specs.Prelude.{List, OnOk, IfErr};
+ghost use Rattle.cil_specs.specs.Joined.{Placed};
+ghost use Rattle.cil_specs.specs.PolicyFault.{circular, IsFaultOf};
+ghost use Rattle.cil_bind.specs.Ordered.{IsLeast};
+ghost use Rattle.cil_check.specs.Checker.{IsNoted};
+ghost use Rattle.cil_check.specs.Image.{PolicyFaultIs};
+
+use crate::attribute_graph::AttributeNumbers;
+use crate::checker::Checker;
+use crate::fault::{PolicyFault, PolicyFaultKind};
+use cil_dependence::first_circle;
+use std::alloc::Allocator;
+
+impl<'p, 'm, A: Allocator + Copy> Checker<'p, 'm, A> {
+    /// The first attribute that depends on itself: by module name, and then by offset.
+    pub fn check_circles(&self, alloc: A) -> Result<(), PolicyFault<'m>>
+        requires { (policy : List Placed) × IsNoted self.now policy }
+        ensures ok { OnOk result ((policy : List Placed) → IsNoted self.now policy
+            → (fault : _) → IsFaultOf circular policy fault → ⊥) }
+        ensures err { IfErr result (λ fault. (policy : List Placed) → IsNoted self.now policy
+            → PolicyFaultIs fault (IsLeast (IsFaultOf circular policy))) }
+    {
+        let attributes = AttributeNumbers::of(alloc, &self.bound)?;
+        let graph = attributes.graph(alloc, &self.bound)?;
+        let Some(number) = first_circle(alloc, &graph)? else {
+            return Ok(());
+        };
+        let seen = self.bound.seen(attributes.places[number]);
+        let Some(word) = seen.word(0) else {
+            unreachable!("an attribute has a name");
+        };
+        Err(seen.fault(PolicyFaultKind::Circular, word))
+    }
+}

@@ -1,0 +1,5 @@
+pub mod LeadsLemmas
+pub mod RanksLemmas
+pub mod SearchLemmas
+pub mod StepLemmas
+pub mod WalkLemmas

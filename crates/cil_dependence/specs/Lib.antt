@@ -1,0 +1,4 @@
+pub mod Dependence
+pub mod Graph
+pub mod Ranks
+pub mod Walk

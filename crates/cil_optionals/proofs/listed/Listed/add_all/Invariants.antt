@@ -1,0 +1,12 @@
+use Rattle.std.proofs.Common.{List}
+use Rattle.cil_specs.specs.Joined.{Placed}
+use Rattle.cil_optionals.specs.Given.{IsUpTo, IsInverse}
+use Rattle.cil_optionals.specs.Providers.{IsReady}
+use Rattle.cil_optionals.proofs.listed.Listed.add_all.Given as goal
+
+-- so many statements are taken up
+abbrev pub invariant-loop-i : goal.invariant-loop-i
+invariant-loop-i g l = record {
+  up_to : (all : List Placed) → IsReady l.policy l.joined.modules.items all → IsUpTo all l.i l.self;
+  inverse : IsInverse l.self;
+}

@@ -1,0 +1,14 @@
+use Rattle.std.proofs.Common.{◌≡◌, List}
+use Rattle.cil_specs.specs.Joined.{Placed}
+use Rattle.cil_optionals.specs.Given.{permissions_in}
+use Rattle.cil_optionals.specs.Others.{AreOthersTo}
+use Rattle.cil_optionals.specs.Permissions.{HavePermissions}
+use Rattle.cil_optionals.specs.Providers.{IsReady}
+use Rattle.cil_optionals.proofs.others.others_by.Given as goal
+
+-- so many rows
+abbrev pub invariant-loop-i : goal.invariant-loop-i
+invariant-loop-i g l = record {
+  others : (all : List Placed) → IsReady l.policy l.joined.modules.items all → HavePermissions all (permissions_in l.fn.permissions.listed.now) → AreOthersTo all l.policy.rows.items l.i l.i l.needs.items;
+  listed : l.permissions.listed ≡ l.fn.permissions.listed;
+}

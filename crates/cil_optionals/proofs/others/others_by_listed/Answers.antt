@@ -1,0 +1,9 @@
+use Rattle.std.proofs.Common.{sym, subst}
+use Rattle.std.proofs.lemmas.Result.{IfOk-weaker}
+use Rattle.cil_optionals.specs.Given.{permissions_in}
+use Rattle.cil_optionals.specs.Permissions.{HavePermissions}
+use Rattle.cil_optionals.proofs.others.others_by_listed.Goals as goal
+
+pub returns : goal.returns
+returns g c =
+    IfOk-weaker c.others_by.result _ _ (λ needs others all ready have. others all ready (subst (λ l. HavePermissions all (permissions_in l)) (sym c.of-permissions.ensures) have)) c.others_by.ensures
