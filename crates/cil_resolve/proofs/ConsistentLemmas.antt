@@ -43,7 +43,7 @@ module _ (policy : List Placed) where
       any-of-flat (λ d. bytes_eq d.name (declared_name types s)) (λ u. if is_type u.form then declared_as types u ∷ [] else []) policy s there
       (ap (λ b. list_any (λ d. bytes_eq d.name (declared_name types s)) (if b then declared_as types s ∷ [] else [])) is ∙ itself-declared s)
 
-  attribute-declared : (s : Placed) → Contains policy s → is_attribute s.form ≡ true → is_declared (attributes_of policy) (declared_name types s) ≡ true
+  pub attribute-declared : (s : Placed) → Contains policy s → is_attribute s.form ≡ true → is_declared (attributes_of policy) (declared_name types s) ≡ true
   attribute-declared s there is =
       any-of-flat (λ d. bytes_eq d.name (declared_name types s)) (λ u. if is_attribute u.form then declared_as types u ∷ [] else []) policy s there
       (ap (λ b. list_any (λ d. bytes_eq d.name (declared_name types s)) (if b then declared_as types s ∷ [] else [])) is ∙ itself-declared s)
@@ -95,7 +95,7 @@ module _ (policy : List Placed) (faultless : IsFaultless policy) where
       by (is_an_attribute id is) = ap (λ f. is_element_of (types_of policy) (attributes_of policy) (element_at policy t f)) is ∙ attribute-declared policy t led.there (ap is_attribute is)
 
   module _ (s : Placed) (there : Contains policy s) where
-    word-declared : (word : Word) → Contains (references s.form) (types, word) → Contains (element_words s.form) word → is_element_of (types_of policy) (attributes_of policy) (element_of policy s.namespace word) ≡ true
+    pub word-declared : (word : Word) → Contains (references s.form) (types, word) → Contains (element_words s.form) word → is_element_of (types_of policy) (attributes_of policy) (element_of policy s.namespace word) ≡ true
     word-declared word refers named = by (leads policy types s.namespace word.text) refl (word-found policy faultless s there types word refers)
       where
         by : (o : Option Placed) → leads policy types s.namespace word.text ≡ o → is_some o ≡ true → is_element_of (types_of policy) (attributes_of policy) (element_of policy s.namespace word) ≡ true

@@ -2,13 +2,13 @@ pub mod NameSets
 pub mod FullNamesLemmas
 pub mod StatementLemmas
 pub mod ListLemmas
-pub mod ExprLemmas
 pub mod NumberLemmas
 pub mod FaultlessLemmas
 pub mod ElementLemmas
 pub mod LedLemmas
 pub mod ConsistentLemmas
 pub mod MeansLemmas
+pub mod SoundLemmas
 pub mod TypesLemmas
 pub mod PlacedLemmas
 pub mod LoweringLemmas

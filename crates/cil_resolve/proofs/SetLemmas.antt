@@ -1,11 +1,11 @@
 -- Set statements by numbers.
-use Rattle.std.proofs.Common.{◌≡◌, ℕ, ◌+◌, suc, true, ◌&&◌, nat_lt, List, [], ◌∷◌, ◌++◌, length, get_or, map, slice_get, Contains, Some, refl, sym, ap, ◌∙◌, subst, arith}
+use Rattle.std.proofs.Common.{◌≡◌, ℕ, ◌+◌, suc, true, ◌&&◌, nat_lt, List, [], ◌∷◌, ◌++◌, length, get_or, map, slice_get, Contains, IsTrue, Some, refl, sym, ap, ◌∙◌, subst, arith}
 use Rattle.std.specs.List.{list_all}
 use Rattle.std.proofs.lemmas.Bool.{lt-ltb}
-use Rattle.std.proofs.lemmas.List.{map-append}
+use Rattle.std.proofs.lemmas.List.{map-append, length-map}
 use Rattle.std.proofs.lemmas.List.Folds.{list_all-append}
 use Rattle.cil_specs.specs.Names.{Word}
-use Rattle.cil_specs.specs.Expr.{WordExpr, leaves}
+use Rattle.cil_specs.specs.Expr.{WordExpr, leaves, map_leaves}
 use Rattle.cil_specs.specs.Joined.{Placed}
 use Rattle.cil_specs.specs.Lookup.{types, leads, references}
 use Rattle.cil_specs.specs.PolicyFault.{element_words}
@@ -14,16 +14,18 @@ use Rattle.cil_specs.specs.Rule as spec
 use Rattle.cil_specs.specs.Rule.{name_or_none}
 use Rattle.cil_specs.proofs.Runs.{both_true}
 use Rattle.cil_text.specs.Image.{place_of}
-use Rattle.cil_parse.specs.Forms.{expr_nodes, words_in}
+use Rattle.cil_parse.specs.Forms.{words_in}
 use Rattle.cil_check.proofs.AskedLemmas.{set-reference}
 use Rattle.cil_resolve.specs.Below.{is_element_below, is_set_below}
-use Rattle.cil_resolve.specs.Exprs.{expr_of}
-use Rattle.cil_resolve.specs.Lowering.{IsElement, AreElements, AreSets}
+use Rattle.cil_expression.specs.Nodes.{expr_of}
+use Rattle.cil_expression.specs.Expression.{expr_in}
+use Rattle.cil_expression.specs.declared.expression.SetExpression.{SetExpression}
+use Rattle.cil_expression.proofs.NodesLemmas.{expr-spelt, IsFilled, filled}
+use Rattle.cil_resolve.specs.Lowering.{IsElement, AreElements, IsExpression, AreSets}
 use Rattle.cil_resolve.specs.Numbering.{number_in}
 use Rattle.cil_resolve.specs.Numbers.{element_of}
-use Rattle.cil_resolve.specs.declared.numbered.Element.{Element}
+use Rattle.cil_expression.specs.declared.element.Element.{Element}
 use Rattle.cil_resolve.specs.declared.numbered.NumberedSet.{NumberedSet}
-use Rattle.cil_resolve.proofs.ExprLemmas.{expr-spelt}
 use Rattle.cil_resolve.proofs.NumberLemmas.{number-is}
 use Rattle.cil_resolve.proofs.StatementLemmas.{contained}
 
@@ -48,16 +50,37 @@ leaf-refers s attribute expr k word form at = (
     one-more : k + 1 ≡ suc k
     one-more = omega arith
 
+-- the names of an expression led on are as many as its own
+names-long : {A B : Type 0} (f : A → B) (names : List A) (xs : List Word) (g : Word → B) → map f names ≡ map g xs → length names ≡ length xs
+names-long f names xs g e = sym (length-map names f) ∙ ap length e ∙ length-map xs g
+
+-- The nodes of a statement's expression and what its names lead to are those of one expression.
+pub expression-spelt : (names : List (List ℕ)) (policy : List Placed) (s : Placed) (expr : WordExpr) (elements : List Element)
+    → AreElements names elements (map (spec.element_of policy s.namespace) (leaves expr)) → IsFilled expr elements
+expression-spelt names policy s expr elements are = filled expr elements (names-long (element_of names) elements (leaves expr) (spec.element_of policy s.namespace) are.is)
+
+-- It stands for the statement's, by names.
+pub expression-made : {A : Type 0} (names : List (List ℕ)) (policy : List Placed) (s : Placed) (expr : WordExpr) (elements : List Element) (e : SetExpression A)
+    → (are : AreElements names elements (map (spec.element_of policy s.namespace) (leaves expr))) → expr_in e ≡ (expression-spelt names policy s expr elements are).expr
+    → IsExpression names e (map_leaves (spec.element_of policy s.namespace) expr)
+expression-made names policy s expr elements e are is =
+    let x = expression-spelt names policy s expr elements are in
+    let f = element_of names in
+    let g = spec.element_of policy s.namespace in
+    record {
+      named = ap (map_leaves f) is ∙ sym (expr-spelt f x.expr) ∙ (λ i. expr_of (sym x.nodes_are i) ((ap (map f) (sym x.names_are) ∙ are.is) i)) ∙ expr-spelt g expr;
+      below = subst (λ l. IsTrue (list_all (is_element_below (length names)) l)) (x.names_are ∙ ap leaves (sym is)) are.below;
+    }
+
 -- a set statement, by its parts
 pub set-made : {A : Type 0} (modules names : List (List ℕ)) (policy : List Placed) (s : Placed) (x : NumberedSet A) (attribute : Word) (expr : WordExpr) → get_or modules x.«module» [] ≡ s.module_name → place_of x.at ≡ s.at
-    → number_in names (name_or_none types (leads policy types s.namespace attribute.text)) ≡ Some x.attribute → x.nodes.items ≡ expr_nodes expr
-    → AreElements names x.elements.items (map (spec.element_of policy s.namespace) (leaves expr)) → AreSets modules names (x ∷ []) (spec.set_statement_of policy s (attribute_set attribute expr))
-set-made modules names policy s x attribute expr m a numbered spelling elements =
+    → number_in names (name_or_none types (leads policy types s.namespace attribute.text)) ≡ Some x.attribute → IsExpression names x.expression (map_leaves (spec.element_of policy s.namespace) expr)
+    → AreSets modules names (x ∷ []) (spec.set_statement_of policy s (attribute_set attribute expr))
+set-made modules names policy s x attribute expr m a numbered e =
     let (low, named) = number-is names (name_or_none types (leads policy types s.namespace attribute.text)) x.attribute numbered in
-    let e = ap (λ n. expr_of n (map (element_of names) x.elements.items)) spelling ∙ ap (expr_of (expr_nodes expr)) elements.is ∙ expr-spelt (spec.element_of policy s.namespace) expr in
     record {
-      is = λ j. record { module_name = m j; at = a j; attribute = named j; expr = e j } ∷ [];
+      is = λ j. record { module_name = m j; at = a j; attribute = named j; expr = e.named j } ∷ [];
       below =
           both_true (is_set_below (length names) x) true
-          (both_true (nat_lt x.attribute (length names)) (list_all (is_element_below (length names)) x.elements.items) (lt-ltb x.attribute (length names) low) elements.below) refl;
+          (both_true (nat_lt x.attribute (length names)) (list_all (is_element_below (length names)) (leaves (expr_in x.expression))) (lt-ltb x.attribute (length names) low) e.below) refl;
     }

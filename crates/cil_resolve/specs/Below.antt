@@ -1,14 +1,16 @@
 -- Numbers of a resolved policy that are below the number of names.
 use Rattle.std.specs.Prelude.{ℕ, Bool, true, ◌&&◌, nat_lt}
 use Rattle.std.specs.List.{list_all}
-use Rattle.cil_resolve.specs.declared.numbered.Element.{Element}
-use Rattle.cil_resolve.specs.declared.numbered.Element.TheVariants.{«Type», Attribute}
+use Rattle.cil_expression.specs.declared.element.Element.{Element}
+use Rattle.cil_expression.specs.declared.element.Element.TheVariants.{«Type», Attribute}
 use Rattle.cil_resolve.specs.declared.numbered.ResolvedTarget.{ResolvedTarget}
 use Rattle.cil_resolve.specs.declared.numbered.ResolvedTarget.TheVariants as aims
 use Rattle.cil_resolve.specs.declared.numbered.NumberedName.{NumberedName}
 use Rattle.cil_resolve.specs.declared.numbered.NumberedClass.{NumberedClass}
 use Rattle.cil_resolve.specs.declared.numbered.NumberedRule.{NumberedRule}
 use Rattle.cil_resolve.specs.declared.numbered.NumberedSet.{NumberedSet}
+use Rattle.cil_specs.specs.Expr.{leaves}
+use Rattle.cil_expression.specs.Expression.{expr_in}
 
 -- whether the numbers are below this one
 abbrev pub is_element_below : ℕ → Element → Bool
@@ -23,7 +25,7 @@ abbrev pub is_rule_below : {A : Type 0} → ℕ → NumberedRule A → Bool
 is_rule_below n r = is_element_below n r.source && (is_target_below n r.target && (nat_lt r.class n && list_all (λ p. nat_lt p n) r.permissions.items))
 
 abbrev pub is_set_below : {A : Type 0} → ℕ → NumberedSet A → Bool
-is_set_below n s = nat_lt s.attribute n && list_all (is_element_below n) s.elements.items
+is_set_below n s = nat_lt s.attribute n && list_all (is_element_below n) (leaves (expr_in s.expression))
 
 abbrev pub is_name_below : ℕ → NumberedName → Bool
 is_name_below n d = nat_lt d.name n

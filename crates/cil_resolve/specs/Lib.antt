@@ -1,5 +1,4 @@
 pub mod Below
-pub mod Exprs
 pub mod Consistent
 pub mod Types
 pub mod Numbers

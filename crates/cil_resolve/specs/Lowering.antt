@@ -4,7 +4,8 @@ use Rattle.cil_specs.specs.Joined.{Placed}
 use Rattle.std.specs.List.{list_all, find}
 use Rattle.std.specs.Option.{option_and_then}
 use Rattle.cil_specs.specs.Names.{Word}
-use Rattle.cil_specs.specs.Statements.{Form, class_common}
+use Rattle.cil_specs.specs.Expr.{Expr, WordExpr, leaves, map_leaves}
+use Rattle.cil_specs.specs.Statements.{Form, class_common, attribute_set}
 use Rattle.cil_specs.specs.Lookup.{Table, types, commons, leads, gives_common, actual_statement, is_alias, is_type, is_attribute}
 use Rattle.cil_specs.specs.Rule as spec
 use Rattle.cil_specs.specs.Rule.{element_at, declared_as, class_as, is_class, set_statement_of, rule_of}
@@ -22,8 +23,10 @@ use Rattle.cil_resolve.specs.Numbering.{number_in, HavePlaces, HavePermissions}
 use Rattle.cil_resolve.specs.Numbers.{element_of, declared_of, class_of}
 use Rattle.cil_resolve.specs.Numbers as numbered
 use Rattle.cil_check.specs.declared.bound.Seen.{Seen}
-use Rattle.cil_resolve.specs.declared.numbered.Element.{Element}
-use Rattle.cil_resolve.specs.declared.numbered.Element.TheVariants.{«Type»}
+use Rattle.cil_expression.specs.declared.element.Element.{Element}
+use Rattle.cil_expression.specs.declared.element.Element.TheVariants.{«Type»}
+use Rattle.cil_expression.specs.Expression.{expr_in}
+use Rattle.cil_expression.specs.declared.expression.SetExpression.{SetExpression}
 use Rattle.cil_resolve.specs.declared.numbered.NumberedName.{NumberedName}
 use Rattle.cil_resolve.specs.declared.numbered.NumberedClass.{NumberedClass}
 use Rattle.cil_resolve.specs.declared.numbered.NumberedSet.{NumberedSet}
@@ -109,6 +112,15 @@ pub record AreRules {A : Type 0} (modules names : List (List ℕ)) (rules : List
 pub record AreElements (names : List (List ℕ)) (elements : List Element) (are : List spec.Element) : Type 0 where
   pub is : map (element_of names) elements ≡ are
   pub below : IsTrue (list_all (is_element_below (length names)) elements)
+
+-- the statement is a set statement
+abbrev pub IsSet : Form → Type 0
+IsSet form = (attribute : Word) × (expr : WordExpr) × (form ≡ attribute_set attribute expr)
+
+-- the expression is this one, by names
+pub record IsExpression {A : Type 0} (names : List (List ℕ)) (e : SetExpression A) (is : Expr spec.Element) : Type 0 where
+  pub named : map_leaves (element_of names) (expr_in e) ≡ is
+  pub below : IsTrue (list_all (is_element_below (length names)) (leaves (expr_in e)))
 
 -- set statements
 pub record AreSets {A : Type 0} (modules names : List (List ℕ)) (sets : List (NumberedSet A)) (are : List spec.SetStatement) : Type 0 where

@@ -4,10 +4,11 @@ use Rattle.cil_specs.specs.Meaning.{Meaning}
 use Rattle.cil_specs.specs.Rule as spec
 use Rattle.cil_specs.specs.Rule.{a_type, an_attribute, at_itself, at_element}
 use Rattle.cil_text.specs.Image.{place_of, rule_kind_of}
-use Rattle.cil_resolve.specs.Exprs.{expr_of}
+use Rattle.cil_specs.specs.Expr.{map_leaves}
+use Rattle.cil_expression.specs.Expression.{expr_in}
 use Rattle.cil_resolve.specs.Consistent.{are_rules_of, are_placed_in}
-use Rattle.cil_resolve.specs.declared.numbered.Element.{Element}
-use Rattle.cil_resolve.specs.declared.numbered.Element.TheVariants.{«Type», Attribute}
+use Rattle.cil_expression.specs.declared.element.Element.{Element}
+use Rattle.cil_expression.specs.declared.element.Element.TheVariants.{«Type», Attribute}
 use Rattle.cil_resolve.specs.declared.numbered.ResolvedTarget.{ResolvedTarget}
 use Rattle.cil_resolve.specs.declared.numbered.ResolvedTarget.TheVariants as aims
 use Rattle.cil_resolve.specs.declared.numbered.NumberedName.{NumberedName}
@@ -53,7 +54,7 @@ set_of modules names s = record {
   module_name = slice_index_or modules s.module [];
   at = place_of s.at;
   attribute = slice_index_or names s.attribute [];
-  expr = expr_of s.nodes.items (map (element_of names) s.elements.items);
+  expr = map_leaves (element_of names) (expr_in s.expression);
 }
 
 -- an optional that drops, by the name of its module

@@ -62,6 +62,11 @@ pub fn sets_are_sound()
     ensures { (policy : List Placed) (kept : Optionals) (meaning : Meaning) → AreApart policy → Means policy kept meaning → HasSoundSets meaning }
 {}
 
+/// So are those of what a joined policy resolves to.
+pub fn resolved_is_sound<A: Allocator>(resolved: &Resolved<A>)
+    ensures { HasSoundSets (meaning_in resolved.now) }
+{}
+
 /// Where the set statements are so and no attribute depends on itself, more fuel than one for each attribute changes nothing.
 pub fn fuel_is_enough()
     ensures { (meaning : Meaning) → HasSoundSets meaning → (fuel : ℕ) → length meaning.attributes ≤ fuel → (expr : Expr Element) (t : List ℕ)

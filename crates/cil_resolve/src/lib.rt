@@ -19,14 +19,15 @@ mod views;
 mod words;
 
 pub use cil_bind::{Joined, NamedModule, join};
+pub use cil_expression::{Element, SetExpression};
 pub use cil_check::{PolicyFault, PolicyFaultKind};
 pub use laws::{
     expressions_agree, found_grows, fuel_is_enough, kept_exists, kept_is_good, kept_is_one,
-    meanings_are_consistent, policies_are_apart, resolved_is_consistent, sets_are_sound,
+    meanings_are_consistent, policies_are_apart, resolved_is_consistent, resolved_is_sound,
+    sets_are_sound,
 };
 pub use numbered::{
-    DroppedOptional, Element, NumberedClass, NumberedName, NumberedRule, NumberedSet,
-    ResolvedTarget,
+    DroppedOptional, NumberedClass, NumberedName, NumberedRule, NumberedSet, ResolvedTarget,
 };
 pub use resolved::Resolved;
 pub use resolved_types::ResolvedTypes;

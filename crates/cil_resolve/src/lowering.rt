@@ -4,7 +4,7 @@ ghost use Rattle.std.specs.Prelude.{◌≡◌, ◌<◌, ◌++◌, ◌∷◌, ℕ
 ghost use Rattle.std.specs.List.{list_all};
 ghost use Rattle.std.specs.Option.{option_to_list};
 ghost use Rattle.cil_specs.specs.Names.{Word};
-ghost use Rattle.cil_specs.specs.Expr.{WordExpr, leaves};
+ghost use Rattle.cil_specs.specs.Expr.{WordExpr, leaves, map_leaves};
 ghost use Rattle.cil_specs.specs.Statements.{attribute_set};
 ghost use Rattle.cil_specs.specs.Joined.{Placed};
 ghost use Rattle.cil_specs.specs.Lookup.{types, classes, commons, leads, references, texts, has_name, with_name, own_permissions, distinct, permissions_of};
@@ -17,16 +17,15 @@ ghost use Rattle.cil_bind.specs.Lookup.{IsLead};
 ghost use Rattle.cil_bind.specs.Written.{IsOneName};
 ghost use Rattle.cil_check.specs.Permissions.{lists_own};
 ghost use Rattle.cil_resolve.specs.FullNames.{is_numbered};
-ghost use Rattle.cil_resolve.specs.Lowering.{IsElement, IsLowering, IsIn, IsDeclared, IsClass, AreElements, AreSets, AreRules, ArePartsOf, common_of, modules_of, set_if, rule_if};
+ghost use Rattle.cil_resolve.specs.Lowering.{IsElement, IsLowering, IsIn, IsDeclared, IsClass, AreElements, IsSet, IsExpression, AreSets, AreRules, ArePartsOf, common_of, modules_of, set_if, rule_if};
 ghost use Rattle.cil_resolve.specs.Numbering.{AreNumbersIn, listed_names, number_in};
 
 use crate::elements::{element_in, lead_at};
-use crate::numbered::{
-    Element, NumberedClass, NumberedName, NumberedRule, NumberedSet, ResolvedTarget,
-};
+use crate::numbered::{NumberedClass, NumberedName, NumberedRule, NumberedSet, ResolvedTarget};
 use crate::numbering::Numbering;
 use crate::words::number_at;
 use cil_check::{Checker, Seen};
+use cil_expression::{Element, SetExpression};
 use cil_parse::{NumberedWord, StatementKind};
 use std::alloc::{AllocError, Allocator, Global};
 
@@ -196,9 +195,20 @@ impl<'l, 'p, 'm, A: Allocator + Copy> Lowering<'l, 'p, 'm, A> {
         Ok(elements)
     }
 
+    /// The expression of a set statement.
+    fn set_expression(&self, seen: &Seen<'p, 'm, A>) -> Result<SetExpression<A>, AllocError>
+        requires { (policy : List Placed) × (s : Placed) × IsIn self.now seen.now policy s × IsSet s.form }
+        ensures { IfOk result (λ e. (policy : List Placed) (s : Placed) (attribute : Word) (expr : WordExpr) → IsIn self.now seen.now policy s → s.form ≡ attribute_set attribute expr
+            → IsExpression self.now.numbering.now.names.items e (map_leaves (element_led policy s.namespace) expr)) }
+    {
+        let nodes = Vec::from_slice(self.alloc, seen.view.nodes)?;
+        let names = self.set_elements(seen)?;
+        Ok(SetExpression::new(nodes, names))
+    }
+
     /// The set statement of a place.
     fn set(&self, seen: &Seen<'p, 'm, A>, i: usize) -> Result<NumberedSet<A>, AllocError>
-        requires { (policy : List Placed) × IsLowering self.now policy × (i < length policy) }
+        requires { (policy : List Placed) × (s : Placed) × IsIn self.now seen.now policy s × IsSet s.form × (i < length policy) }
         ensures { IfOk result (λ set. (policy : List Placed) (s : Placed) (attribute : Word) (expr : WordExpr) → IsIn self.now seen.now policy s → slice_get policy i ≡ Some s → s.form ≡ attribute_set attribute expr
             → AreSets (modules_of self.now.checker.now.bound.joined.now) self.now.numbering.now.names.items (set ∷ []) (set_if policy s)) }
     {
@@ -206,8 +216,7 @@ impl<'l, 'p, 'm, A: Allocator + Copy> Lowering<'l, 'p, 'm, A> {
             module: self.module(i),
             at: seen.view.at,
             attribute: self.attribute(seen),
-            nodes: Vec::from_slice(self.alloc, seen.view.nodes)?,
-            elements: self.set_elements(seen)?,
+            expression: self.set_expression(seen)?,
         })
     }
 

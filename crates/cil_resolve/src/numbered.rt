@@ -1,16 +1,9 @@
 //! Types, classes, set statements and rules by the numbers of their names.
 
 use crate::text::Text;
-use cil_parse::SetNode;
+use cil_expression::{Element, SetExpression};
 use cil_text::{Place, RuleKind};
 use std::alloc::{Allocator, Global};
-
-/// What a name of a rule or of a set expression leads to, an alias to its type, by the place of its full name in a list of names.
-#[derive(Clone, Copy, Debug, PartialEq, Eq)]
-pub enum Element {
-    Type(usize),
-    Attribute(usize),
-}
 
 /// A rule's target: each source itself, or what a name leads to.
 #[derive(Clone, Copy, Debug, PartialEq, Eq)]
@@ -37,15 +30,13 @@ pub struct NumberedClass<A: Allocator = Global> {
     pub permissions: Vec<usize, A>,
 }
 
-/// A set statement: its attribute by the place of its full name, the nodes of its expression, each in front of those of its operands,
-/// and what the names of the expression lead to, in their order.
+/// A set statement: its attribute by the place of its full name, and its expression.
 #[derive(Debug, Drop)]
 pub struct NumberedSet<A: Allocator = Global> {
     pub module: usize,
     pub at: Place,
     pub attribute: usize,
-    pub nodes: Vec<SetNode, A>,
-    pub elements: Vec<Element, A>,
+    pub expression: SetExpression<A>,
 }
 
 /// A rule whose names are numbers: places in a list of names.

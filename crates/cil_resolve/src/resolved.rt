@@ -4,7 +4,8 @@ ghost use Rattle.std.specs.Prelude.{IsTrue, length};
 ghost use Rattle.std.specs.List.{list_all};
 ghost use Rattle.cil_specs.specs.Report.{names_rise};
 ghost use Rattle.cil_resolve.specs.Below.{is_rule_below, is_name_below, is_class_below, is_set_below};
-ghost use Rattle.cil_resolve.specs.Numbers.{AreConsistent};
+ghost use Rattle.cil_specs.specs.Members.{HasSoundSets};
+ghost use Rattle.cil_resolve.specs.Numbers.{AreConsistent, meaning_by};
 
 use crate::numbered::{DroppedOptional, NumberedClass, NumberedName, NumberedRule, NumberedSet};
 use crate::text::Text;
@@ -12,7 +13,7 @@ use std::alloc::{Allocator, Global};
 
 /// A policy that compiles, by full names, which it owns. The names of types, attributes, classes and permissions are numbered in
 /// the order of their bytes, so that the order of the numbers is that of the names. Its rules name what it declares: types,
-/// attributes, and classes with their permissions.
+/// attributes, and classes with their permissions; so do its set statements, and no attribute depends on itself.
 #[derive(Debug, Drop)]
 pub struct Resolved<A: Allocator = Global> {
     pub(crate) modules: Vec<Text<A>, A>,
@@ -29,5 +30,6 @@ pub struct Resolved<A: Allocator = Global> {
     pub(crate) ghost classes_within: { IsTrue (list_all (is_class_below (length names.items)) classes.items) },
     pub(crate) ghost sets_within: { IsTrue (list_all (is_set_below (length names.items)) sets.items) },
     pub(crate) ghost rules_within: { IsTrue (list_all (is_rule_below (length names.items)) rules.items) },
+    pub(crate) ghost sound: { HasSoundSets (meaning_by modules.items names.items types.items attributes.items classes.items sets.items rules.items dropped.items) },
     pub(crate) ghost consistent: { AreConsistent modules.items names.items types.items attributes.items classes.items rules.items },
 }

@@ -9,9 +9,10 @@ ghost use Rattle.cil_resolve.specs.Numbers.{element_of, resolved_target_of};
 ghost use Rattle.cil_resolve.specs.Resolved.{meaning_in};
 ghost use Rattle.cil_resolve.specs.Views.{declared_seen, class_seen, class_head, element_seen, resolved_target_seen, rule_seen, rule_head};
 
-use crate::numbered::{Element, NumberedRule, ResolvedTarget};
+use crate::numbered::{NumberedRule, ResolvedTarget};
 use crate::resolved::Resolved;
 use crate::text::Text;
+use cil_expression::Element;
 use cil_text::{Place, RuleKind};
 use std::alloc::Allocator;
 

@@ -1,5 +1,7 @@
 use Rattle.std.proofs.Common.{◌≡◌, ◌∙◌, List, ℕ, map, sym, ap, subst}
 use Rattle.cil_specs.specs.Joined.{Placed}
+use Rattle.cil_specs.specs.Members.{HasSoundSets}
+use Rattle.cil_specs.specs.Meaning.{Meaning, meaning_of}
 use Rattle.cil_check.specs.Checker.{IsNoted}
 use Rattle.cil_check.specs.Ordered.{IsFaultless}
 use Rattle.cil_resolve.specs.Consistent.{are_rules_of, are_placed_in}
@@ -8,6 +10,7 @@ use Rattle.cil_resolve.specs.Numbering.{HavePlaces}
 use Rattle.cil_resolve.specs.Numbers.{declared_of, class_of, set_of, rule_of, dropped_with}
 use Rattle.cil_resolve.proofs.ConsistentLemmas.{rules-declared}
 use Rattle.cil_resolve.proofs.PlacedLemmas.{from-named, all-placed}
+use Rattle.cil_resolve.proofs.SoundLemmas.{faultless-sound}
 use Rattle.cil_resolve.proofs.lowered.lowered.Goals as goal
 
 pub parts-requires : goal.parts-requires
@@ -45,8 +48,12 @@ invariant_of-result g c =
     let types = (λ k. map (declared_of (modules k) names) c.in_ok-parts.parts.types.items) ∙ parts.types_are in
     let attributes = (λ k. map (declared_of (modules k) names) c.in_ok-parts.parts.attributes.items) ∙ parts.attributes_are in
     let classes = (λ k. map (class_of (modules k) names) c.in_ok-parts.parts.classes.items) ∙ parts.classes_are in
+    let sets = (λ k. map (set_of (modules k) names) c.in_ok-parts.parts.sets.items) ∙ parts.sets_are.is in
     let rules = (λ k. map (rule_of (modules k) names) c.in_ok-parts.parts.rules.items) ∙ parts.rules_are.is in
+    let dropped = map (dropped_with (modules_of c.args.checker.now.bound.joined.now)) c.args.dropped.items in
+    let means : _ ≡ meaning_of policy dropped = λ i. record { types = types i; attributes = attributes i; classes = classes i; sets = sets i; rules = rules i; dropped = map (dropped_with (modules i)) c.args.dropped.items } in
     record {
+      sound = subst HasSoundSets (sym means) (faultless-sound policy faultless dropped);
       consistent = record {
         declared = (λ i. are_rules_of (types i) (attributes i) (classes i) (rules i)) ∙ rules-declared policy faultless;
         placed =

@@ -17,6 +17,19 @@ use Rattle.cil_resolve.proofs.PartLemmas.{attribute-form, declared-made, of-kind
 use Rattle.cil_resolve.proofs.StatementLemmas.{contained}
 use Rattle.cil_resolve.proofs.lowering.Lowering.add.Goals as goal
 
+pub set-requires : goal.set-requires
+set-requires g c =
+    let (policy, is, low) = c.requires in
+    let (s, at) = there-at policy c.args.i low in
+    let seen = c.seen-seen.ensures.seen policy s is.noted.is at in
+    (
+      policy,
+      s,
+      record { lowering = is; there = contained policy c.args.i s at; seen_is = seen; worded = c.seen-seen.ensures.worded policy is.noted.is },
+      form-set s.form (sym (seen-kind c.seen-seen.result policy s seen) ∙ c.in-TypeAttributeSet.is),
+      low,
+    )
+
 pub rule-requires : goal.rule-requires
 rule-requires g c =
     let (policy, is, low) = c.requires in

@@ -1,6 +1,5 @@
-use Rattle.std.proofs.Common.{◌∙◌, ◌∷◌, [], sym, ap, subst}
+use Rattle.std.proofs.Common.{◌∙◌, ◌∷◌, [], sym, subst}
 use Rattle.cil_specs.specs.Rule.{set_statement_of}
-use Rattle.cil_parse.specs.Forms.{nodes_in}
 use Rattle.cil_resolve.specs.Lowering.{AreSets, modules_of}
 use Rattle.cil_resolve.specs.declared.numbered.NumberedSet.{NumberedSet}
 use Rattle.cil_resolve.proofs.SetLemmas.{set-made}
@@ -14,9 +13,11 @@ returns g c policy s attribute expr is at form =
       «module» = c.module.result;
       at = c.args.seen.now.view.at;
       attribute = c.attribute.result;
-      nodes = c.in_ok-from_slice.field-0;
-      elements = c.in_ok-set_elements.field-0;
+      expression = c.in_ok-set_expression.field-0;
     } in
     subst (λ f. AreSets modules names (x ∷ []) (set_statement_of policy s f)) (sym form)
     (set-made modules names policy s x attribute expr (c.module.ensures policy s is.lowering at) (is.seen_is.shown.at ∙ is.seen_is.place) (c.attribute.ensures policy s attribute expr is form)
-    (c.in_ok-from_slice.ensures.items ∙ is.seen_is.shown.nodes ∙ ap nodes_in (is.seen_is.form ∙ form)) (c.in_ok-set_elements.ensures policy s attribute expr is form))
+    (c.in_ok-set_expression.ensures policy s attribute expr is form))
+
+pub set_expression-requires : goal.set_expression-requires
+set_expression-requires g c = let (policy, s, is, set, low) = c.requires in (policy, s, is, set)
