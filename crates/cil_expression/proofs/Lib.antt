@@ -1,1 +1,4 @@
-pub mod NodesLemmas
+pub mod EvaluationLemmas
+pub mod HoldsLemmas
+pub mod SameLemmas
+pub mod SpellingLemmas

@@ -1,2 +1,6 @@
-pub mod Nodes
+pub mod Spelling
+pub mod Holds
 pub mod Expression
+pub mod Evaluation
+pub mod Same
+pub mod Pairs

@@ -1,9 +1,10 @@
-//! Set expressions by numbers.
+//! Set expressions by what their names lead to, kept flat, and what they hold.
 #![tactic(auto)]
 
-mod element;
+mod evaluation;
 mod expression;
-mod views;
+mod laws;
+mod same;
 
-pub use element::Element;
-pub use expression::SetExpression;
+pub use expression::{Element, SetExpression};
+pub use laws::{names_bound, names_decide};

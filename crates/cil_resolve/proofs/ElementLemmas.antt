@@ -26,8 +26,8 @@ use Rattle.cil_bind.proofs.PositionLemmas.{position-cons}
 use Rattle.cil_resolve.specs.FullNames.{numbered_id, is_numbered, full_name_or, full_name_of}
 use Rattle.cil_resolve.specs.Lowering.{IsElement, HaveElements, is_set}
 use Rattle.cil_resolve.specs.Numbering.{number_in, HavePlaces}
-use Rattle.cil_expression.specs.declared.element.Element.{Element}
-use Rattle.cil_expression.specs.declared.element.Element.TheVariants as elements
+use Rattle.cil_expression.specs.declared.expression.Element.{Element}
+use Rattle.cil_expression.specs.declared.expression.Element.TheVariants as elements
 use Rattle.cil_resolve.proofs.FaultlessLemmas.{word-found, kind-found}
 use Rattle.cil_resolve.proofs.NumberLemmas.{number-is}
 use Rattle.cil_resolve.proofs.StatementLemmas.{at-place}

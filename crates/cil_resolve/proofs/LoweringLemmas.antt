@@ -16,8 +16,8 @@ use Rattle.cil_bind.specs.Lookup.{IsLead, IsFirstOf}
 use Rattle.cil_resolve.specs.FullNames.{numbered_id, is_numbered, full_name_of}
 use Rattle.cil_resolve.specs.Lowering.{IsElement, HaveElements, is_set}
 use Rattle.cil_resolve.specs.Numbering.{number_in, HavePlaces}
-use Rattle.cil_expression.specs.declared.element.Element.{Element}
-use Rattle.cil_expression.specs.declared.element.Element.TheVariants as elements
+use Rattle.cil_expression.specs.declared.expression.Element.{Element}
+use Rattle.cil_expression.specs.declared.expression.Element.TheVariants as elements
 use Rattle.cil_resolve.proofs.ElementLemmas.{first-declares, full-name-in}
 use Rattle.cil_resolve.proofs.FaultlessLemmas.{word-found, kind-found, alias-set}
 use Rattle.cil_resolve.proofs.PartLemmas.{attribute-form}

@@ -13,18 +13,19 @@ use Rattle.cil_specs.specs.Statements.{attribute_set}
 use Rattle.cil_specs.specs.Rule as spec
 use Rattle.cil_specs.specs.Rule.{name_or_none}
 use Rattle.cil_specs.proofs.Runs.{both_true}
+use Rattle.cil_specs.proofs.MeansLemmas.{leaves-mapped}
 use Rattle.cil_text.specs.Image.{place_of}
-use Rattle.cil_parse.specs.Forms.{words_in}
+use Rattle.cil_parse.specs.Forms.{expr_nodes, words_in}
 use Rattle.cil_check.proofs.AskedLemmas.{set-reference}
 use Rattle.cil_resolve.specs.Below.{is_element_below, is_set_below}
-use Rattle.cil_expression.specs.Nodes.{expr_of}
+use Rattle.cil_expression.specs.Spelling.{expr_of, IsSpelt}
 use Rattle.cil_expression.specs.Expression.{expr_in}
 use Rattle.cil_expression.specs.declared.expression.SetExpression.{SetExpression}
-use Rattle.cil_expression.proofs.NodesLemmas.{expr-spelt, IsFilled, filled}
+use Rattle.cil_expression.proofs.SpellingLemmas.{expr-is, nodes-mapped, written-spelt, filled}
 use Rattle.cil_resolve.specs.Lowering.{IsElement, AreElements, IsExpression, AreSets}
 use Rattle.cil_resolve.specs.Numbering.{number_in}
 use Rattle.cil_resolve.specs.Numbers.{element_of}
-use Rattle.cil_expression.specs.declared.element.Element.{Element}
+use Rattle.cil_expression.specs.declared.expression.Element.{Element}
 use Rattle.cil_resolve.specs.declared.numbered.NumberedSet.{NumberedSet}
 use Rattle.cil_resolve.proofs.NumberLemmas.{number-is}
 use Rattle.cil_resolve.proofs.StatementLemmas.{contained}
@@ -56,7 +57,7 @@ names-long f names xs g e = sym (length-map names f) ∙ ap length e ∙ length-
 
 -- The nodes of a statement's expression and what its names lead to are those of one expression.
 pub expression-spelt : (names : List (List ℕ)) (policy : List Placed) (s : Placed) (expr : WordExpr) (elements : List Element)
-    → AreElements names elements (map (spec.element_of policy s.namespace) (leaves expr)) → IsFilled expr elements
+    → AreElements names elements (map (spec.element_of policy s.namespace) (leaves expr)) → IsSpelt (expr_nodes expr) elements
 expression-spelt names policy s expr elements are = filled expr elements (names-long (element_of names) elements (leaves expr) (spec.element_of policy s.namespace) are.is)
 
 -- It stands for the statement's, by names.
@@ -68,7 +69,10 @@ expression-made names policy s expr elements e are is =
     let f = element_of names in
     let g = spec.element_of policy s.namespace in
     record {
-      named = ap (map_leaves f) is ∙ sym (expr-spelt f x.expr) ∙ (λ i. expr_of (sym x.nodes_are i) ((ap (map f) (sym x.names_are) ∙ are.is) i)) ∙ expr-spelt g expr;
+      named =
+          ap (map_leaves f) is
+          ∙ sym (expr-is (expr_nodes expr) (map f elements) (map_leaves f x.expr) (x.nodes_are ∙ sym (nodes-mapped f x.expr)) (ap (map f) x.names_are ∙ sym (leaves-mapped f x.expr)))
+          ∙ ap (expr_of (expr_nodes expr)) are.is ∙ written-spelt g expr;
       below = subst (λ l. IsTrue (list_all (is_element_below (length names)) l)) (x.names_are ∙ ap leaves (sym is)) are.below;
     }
 

@@ -23,8 +23,8 @@ use Rattle.cil_resolve.specs.Numbering.{number_in, HavePlaces, HavePermissions}
 use Rattle.cil_resolve.specs.Numbers.{element_of, declared_of, class_of}
 use Rattle.cil_resolve.specs.Numbers as numbered
 use Rattle.cil_check.specs.declared.bound.Seen.{Seen}
-use Rattle.cil_expression.specs.declared.element.Element.{Element}
-use Rattle.cil_expression.specs.declared.element.Element.TheVariants.{«Type»}
+use Rattle.cil_expression.specs.declared.expression.Element.{Element}
+use Rattle.cil_expression.specs.declared.expression.Element.TheVariants.{«Type»}
 use Rattle.cil_expression.specs.Expression.{expr_in}
 use Rattle.cil_expression.specs.declared.expression.SetExpression.{SetExpression}
 use Rattle.cil_resolve.specs.declared.numbered.NumberedName.{NumberedName}

@@ -7,8 +7,8 @@ use Rattle.cil_text.specs.Image.{place_of, rule_kind_of}
 use Rattle.cil_specs.specs.Expr.{map_leaves}
 use Rattle.cil_expression.specs.Expression.{expr_in}
 use Rattle.cil_resolve.specs.Consistent.{are_rules_of, are_placed_in}
-use Rattle.cil_expression.specs.declared.element.Element.{Element}
-use Rattle.cil_expression.specs.declared.element.Element.TheVariants.{«Type», Attribute}
+use Rattle.cil_expression.specs.declared.expression.Element.{Element}
+use Rattle.cil_expression.specs.declared.expression.Element.TheVariants.{«Type», Attribute}
 use Rattle.cil_resolve.specs.declared.numbered.ResolvedTarget.{ResolvedTarget}
 use Rattle.cil_resolve.specs.declared.numbered.ResolvedTarget.TheVariants as aims
 use Rattle.cil_resolve.specs.declared.numbered.NumberedName.{NumberedName}

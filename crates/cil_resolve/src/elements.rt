@@ -11,7 +11,7 @@ ghost use Rattle.cil_check.specs.Checker.{IsNoted};
 ghost use Rattle.cil_check.specs.Ordered.{IsFaultless};
 ghost use Rattle.cil_resolve.specs.Lowering.{IsElement, HaveElements, is_set};
 ghost use Rattle.cil_resolve.specs.Numbering.{HavePlaces};
-ghost use Rattle.cil_expression.specs.declared.element.Element.TheVariants.{«Type»};
+ghost use Rattle.cil_expression.specs.declared.expression.Element.TheVariants.{«Type»};
 
 use crate::words::number_at;
 use cil_check::{BoundPolicy, Checker};

@@ -17,8 +17,8 @@ use Rattle.cil_text.specs.Image.{rule_kind_of}
 use Rattle.cil_resolve.specs.declared.numbered.NumberedRule.{NumberedRule}
 use Rattle.cil_rules.specs.declared.numbers.AtomNumbers.{AtomNumbers}
 use Rattle.cil_resolve.specs.Numbers.{rule_of, element_of, resolved_target_of}
-use Rattle.cil_expression.specs.declared.element.Element.{Element}
-use Rattle.cil_expression.specs.declared.element.Element.TheVariants.{«Type», Attribute}
+use Rattle.cil_expression.specs.declared.expression.Element.{Element}
+use Rattle.cil_expression.specs.declared.expression.Element.TheVariants.{«Type», Attribute}
 use Rattle.cil_resolve.specs.declared.numbered.ResolvedTarget.{ResolvedTarget}
 use Rattle.cil_resolve.specs.declared.numbered.ResolvedTarget.TheVariants as targets
 use Rattle.cil_resolve.specs.Consistent.{is_element_of, is_aim_of, is_rule_of, are_rules_of}

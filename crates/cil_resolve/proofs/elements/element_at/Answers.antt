@@ -3,7 +3,7 @@ use Rattle.cil_specs.specs.Lookup.{types}
 use Rattle.cil_specs.specs.Rule.{element_at}
 use Rattle.cil_check.proofs.SeenLemmas.{seen-kind}
 use Rattle.cil_resolve.specs.Lowering.{IsElement}
-use Rattle.cil_expression.specs.declared.element.Element.TheVariants as elements
+use Rattle.cil_expression.specs.declared.expression.Element.TheVariants as elements
 use Rattle.cil_resolve.proofs.ElementLemmas.{first-declares, element-type, element-attribute, element-alias, actual-here, set-given, alias-kind}
 use Rattle.cil_resolve.proofs.elements.element_at.Goals as goal
 

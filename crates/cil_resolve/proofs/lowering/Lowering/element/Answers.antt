@@ -4,7 +4,7 @@ use Rattle.cil_specs.specs.Rule.{element_of}
 use Rattle.cil_check.proofs.SeenLemmas.{seen-lead}
 use Rattle.cil_bind.specs.Lookup.{IsLead}
 use Rattle.cil_resolve.specs.Lowering.{IsElement}
-use Rattle.cil_expression.specs.declared.element.Element.TheVariants as elements
+use Rattle.cil_expression.specs.declared.expression.Element.TheVariants as elements
 use Rattle.cil_resolve.proofs.LoweringLemmas.{element-led}
 use Rattle.cil_resolve.proofs.StatementLemmas.{contained}
 use Rattle.cil_resolve.proofs.lowering.Lowering.element.Goals as goal

@@ -9,7 +9,7 @@ abbrev pub with_one : {leaf : Type 0} → (Expr leaf → Expr leaf) → List (Ex
 with_one f [] = []
 with_one f (x ∷ others) = f x ∷ others
 
--- the first two
+-- the first two as the operands of another
 abbrev pub with_two : {leaf : Type 0} → (Expr leaf → Expr leaf → Expr leaf) → List (Expr leaf) → List (Expr leaf)
 with_two f [] = []
 with_two f (x ∷ []) = []
@@ -49,5 +49,11 @@ nodes_of (elements x more) = nodes.Element ∷ (nodes_of x ++ nodes_of more)
 
 -- The nodes and the names are those of one expression, and none is left over.
 pub record IsSpelt {leaf : Type 0} (spelling : List SetNode) (names : List leaf) : Type 0 where
+  pub expr : Expr leaf
+  pub nodes_are : spelling ≡ nodes_of expr
+  pub names_are : names ≡ leaves expr
+
+-- The nodes and the names spell an expression that has just these. Which one it is follows from them, so this is a fact of one proof.
+pub record IsWhole {leaf : Type 0} (spelling : List SetNode) (names : List leaf) : Type 0 where
   pub nodes_are : spelling ≡ nodes_of (expr_of spelling names)
   pub names_are : names ≡ leaves (expr_of spelling names)
