@@ -1,0 +1,3 @@
+pub mod EvaluationLemmas
+pub mod HoldsLemmas
+pub mod SpellingLemmas

@@ -1,0 +1,4 @@
+pub mod Spelling
+pub mod Holds
+pub mod Expression
+pub mod Evaluation
