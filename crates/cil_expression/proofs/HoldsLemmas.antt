@@ -51,3 +51,7 @@ holds-agree (elements x more) v w h =
     let a = holds-agree x v w (λ l c. h l (Contains-append_left (leaves x) (leaves more) l c)) in
     let b = holds-agree more v w (λ l c. h l (Contains-append_right (leaves x) (leaves more) l c)) in
     λ i. a i || b i
+
+-- An expression that holds nothing where none of its leaves does holds only what one of its leaves holds.
+pub holds-bound : {leaf : Type 0} (e : Expr leaf) (v : leaf → Bool) → holds_by (λ l. false) e ≡ false → ((l : leaf) → Contains (leaves e) l → v l ≡ false) → holds_by v e ≡ false
+holds-bound e v none at = holds-agree e v (λ l. false) at ∙ none

@@ -1,3 +1,4 @@
 pub mod EvaluationLemmas
 pub mod HoldsLemmas
+pub mod SameLemmas
 pub mod SpellingLemmas

@@ -2,3 +2,5 @@ pub mod Spelling
 pub mod Holds
 pub mod Expression
 pub mod Evaluation
+pub mod Same
+pub mod Pairs

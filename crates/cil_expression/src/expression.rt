@@ -2,6 +2,8 @@
 
 ghost use Rattle.cil_expression.specs.Spelling.{IsWhole};
 
+use crate::evaluation::{Rest, value};
+use crate::same::are_same_names;
 use cil_parse::SetNode;
 use std::alloc::{Allocator, Global};
 
@@ -21,9 +23,12 @@ pub struct SetExpression<A: Allocator = Global> {
 }
 
 impl<A: Allocator> SetExpression<A> {
-    ghost use Rattle.std.specs.Prelude.{◌≡◌};
+    ghost use Rattle.std.specs.Prelude.{◌≡◌, Bool, false, Contains};
     ghost use Rattle.cil_specs.specs.Expr.{Expr, leaves};
     ghost use Rattle.cil_expression.specs.Expression.{expr_in};
+    ghost use Rattle.cil_expression.specs.Holds.{holds_by, Answers};
+    ghost use Rattle.cil_expression.specs.Same.{are_same};
+    ghost use Rattle.cil_expression.specs.Pairs.{AnswersPairs};
     ghost use Rattle.cil_expression.specs.Spelling.{IsSpelt, nodes_of};
 
     /// The expression of these nodes and of what its names lead to.
@@ -39,5 +44,34 @@ impl<A: Allocator> SetExpression<A> {
         ensures { result.now ≡ leaves (expr_in self.now) }
     {
         self.names.as_slice()
+    }
+
+    /// Whether it holds something, where known answers whether each of its names does. It takes no memory.
+    pub fn holds<F: Fn(Element) -> bool>(&self, known: F) -> bool
+        requires callable { F.IsAlwaysCallable known }
+        ensures { (value : Element → Bool) → Answers (F.post known) (λ e. Contains (leaves (expr_in self.now)) e) value
+            → result ≡ holds_by value (expr_in self.now) }
+    {
+        let nodes = self.nodes.as_slice();
+        let names = self.names.as_slice();
+        let (holds, _) = value(Rest { nodes, names }, &known);
+        holds
+    }
+
+    /// Whether it holds what none of its names does. Where it does not, it holds only what one of them holds.
+    pub fn may_hold_any(&self) -> bool
+        ensures { result ≡ holds_by (λ e. false) (expr_in self.now) }
+    {
+        self.holds(|_| false)
+    }
+
+    /// Whether another expression has the same nodes, and names that are the same as its own in pairs, which same answers.
+    pub fn is_same<F: Fn(Element, Element) -> bool>(&self, other: &SetExpression<A>, same: F) -> bool
+        requires callable { F.IsAlwaysCallable same }
+        ensures { (pairs : Element → Element → Bool) → AnswersPairs (F.post same) (leaves (expr_in self.now)) (leaves (expr_in other.now)) pairs
+            → result ≡ are_same pairs (expr_in self.now) (expr_in other.now) }
+    {
+        let nodes = self.nodes.as_slice() == other.nodes.as_slice();
+        nodes && are_same_names(self.names.as_slice(), other.names.as_slice(), &same)
     }
 }

@@ -3,5 +3,8 @@
 
 mod evaluation;
 mod expression;
+mod laws;
+mod same;
 
 pub use expression::{Element, SetExpression};
+pub use laws::{names_bound, names_decide};

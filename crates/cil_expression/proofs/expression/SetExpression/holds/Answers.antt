@@ -1,0 +1,17 @@
+use Rattle.std.proofs.Common.{[], sym, ◌∙◌, append-nil}
+use Rattle.cil_specs.specs.Expr.{leaves}
+use Rattle.cil_expression.specs.Expression.{expr_in}
+use Rattle.cil_expression.specs.Spelling.{nodes_of}
+use Rattle.cil_expression.proofs.expression.SetExpression.holds.Goals as goal
+
+pub returns : goal.returns
+returns g c value answers =
+    let expr = expr_in c.args.self.now in
+    let found =
+        c.value-holds.ensures.value expr [] [] value
+        (record {
+          nodes_are = c.as_slice-nodes.ensures.value ∙ c.args.self.now.spelt.nodes_are ∙ sym (append-nil (nodes_of expr));
+          names_are = c.as_slice-names.ensures.value ∙ c.args.self.now.spelt.names_are ∙ sym (append-nil (leaves expr));
+        })
+        answers in
+    found.value_is

@@ -1,0 +1,5 @@
+use Rattle.cil_expression.proofs.HoldsLemmas.{holds-bound}
+use Rattle.cil_expression.proofs.laws.names_bound.Goals as goal
+
+pub returns : goal.returns
+returns c = holds-bound
