@@ -27,8 +27,7 @@ impl<A: Allocator> SetExpression<A> {
     ghost use Rattle.cil_specs.specs.Expr.{Expr, leaves};
     ghost use Rattle.cil_expression.specs.Expression.{expr_in};
     ghost use Rattle.cil_expression.specs.Holds.{holds_by, Answers};
-    ghost use Rattle.cil_expression.specs.Same.{are_same};
-    ghost use Rattle.cil_expression.specs.Pairs.{AnswersPairs};
+    ghost use Rattle.cil_expression.specs.Same.{are_same, AnswersPairs};
     ghost use Rattle.cil_expression.specs.Spelling.{IsSpelt, nodes_of};
 
     /// The expression of these nodes and of what its names lead to.

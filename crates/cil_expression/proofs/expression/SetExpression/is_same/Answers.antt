@@ -1,8 +1,7 @@
 use Rattle.std.proofs.Common.{◌≡◌, Bool, ◌&&◌, List, Contains, ap, sym, subst, ◌∙◌}
 use Rattle.cil_specs.specs.Expr.{leaves}
 use Rattle.cil_expression.specs.Expression.{expr_in}
-use Rattle.cil_expression.specs.Pairs.{AnswersPairs}
-use Rattle.cil_expression.specs.Same.{all_same, same_node}
+use Rattle.cil_expression.specs.Same.{all_same, same_node, AnswersPairs}
 use Rattle.cil_expression.specs.Spelling.{nodes_of}
 use Rattle.cil_expression.specs.declared.expression.Element.{Element}
 use Rattle.cil_expression.proofs.SameLemmas.{pointwise-nodes}
