@@ -52,7 +52,7 @@ impl<A: Allocator> SetExpression<A> {
             → result ≡ holds_by value (expr_in self.now) }
     {
         let nodes = self.nodes.as_slice();
-        let names = self.names.as_slice();
+        let names = self.names();
         let (holds, _) = value(Rest { nodes, names }, &known);
         holds
     }
@@ -71,6 +71,6 @@ impl<A: Allocator> SetExpression<A> {
             → result ≡ are_same pairs (expr_in self.now) (expr_in other.now) }
     {
         let nodes = self.nodes.as_slice() == other.nodes.as_slice();
-        nodes && are_same_names(self.names.as_slice(), other.names.as_slice(), &same)
+        nodes && are_same_names(self.names(), other.names(), &same)
     }
 }
