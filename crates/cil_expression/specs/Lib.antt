@@ -3,4 +3,3 @@ pub mod Holds
 pub mod Expression
 pub mod Evaluation
 pub mod Same
-pub mod Pairs

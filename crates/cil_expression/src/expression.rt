@@ -27,8 +27,7 @@ impl<A: Allocator> SetExpression<A> {
     ghost use Rattle.cil_specs.specs.Expr.{Expr, leaves};
     ghost use Rattle.cil_expression.specs.Expression.{expr_in};
     ghost use Rattle.cil_expression.specs.Holds.{holds_by, Answers};
-    ghost use Rattle.cil_expression.specs.Same.{are_same};
-    ghost use Rattle.cil_expression.specs.Pairs.{AnswersPairs};
+    ghost use Rattle.cil_expression.specs.Same.{are_same, AnswersPairs};
     ghost use Rattle.cil_expression.specs.Spelling.{IsSpelt, nodes_of};
 
     /// The expression of these nodes and of what its names lead to.
@@ -53,7 +52,7 @@ impl<A: Allocator> SetExpression<A> {
             → result ≡ holds_by value (expr_in self.now) }
     {
         let nodes = self.nodes.as_slice();
-        let names = self.names.as_slice();
+        let names = self.names();
         let (holds, _) = value(Rest { nodes, names }, &known);
         holds
     }
@@ -72,6 +71,6 @@ impl<A: Allocator> SetExpression<A> {
             → result ≡ are_same pairs (expr_in self.now) (expr_in other.now) }
     {
         let nodes = self.nodes.as_slice() == other.nodes.as_slice();
-        nodes && are_same_names(self.names.as_slice(), other.names.as_slice(), &same)
+        nodes && are_same_names(self.names(), other.names(), &same)
     }
 }

@@ -5,6 +5,8 @@ mod evaluation;
 mod expression;
 mod laws;
 mod same;
+#[cfg(test)]
+mod tests;
 
 pub use expression::{Element, SetExpression};
 pub use laws::{names_bound, names_decide};

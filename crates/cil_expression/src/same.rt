@@ -1,8 +1,7 @@
 //! Names that are the same in pairs.
 
 ghost use Rattle.std.specs.Prelude.{◌≡◌, Bool};
-ghost use Rattle.cil_expression.specs.Same.{all_same};
-ghost use Rattle.cil_expression.specs.Pairs.{AnswersPairs};
+ghost use Rattle.cil_expression.specs.Same.{all_same, AnswersPairs};
 ghost use Rattle.cil_expression.specs.declared.expression.Element.{Element};
 
 use crate::expression::Element;

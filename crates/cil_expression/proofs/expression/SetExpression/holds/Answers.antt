@@ -11,7 +11,7 @@ returns g c value answers =
         c.value-holds.ensures.value expr [] [] value
         (record {
           nodes_are = c.as_slice-nodes.ensures.value ∙ c.args.self.now.spelt.nodes_are ∙ sym (append-nil (nodes_of expr));
-          names_are = c.as_slice-names.ensures.value ∙ c.args.self.now.spelt.names_are ∙ sym (append-nil (leaves expr));
+          names_are = c.names-names.ensures ∙ sym (append-nil (leaves expr));
         })
         answers in
     found.value_is

@@ -1,8 +1,7 @@
 use Rattle.std.proofs.Common.{◌≡◌, Bool, ◌&&◌, List, Contains, ap, sym, subst, ◌∙◌}
 use Rattle.cil_specs.specs.Expr.{leaves}
 use Rattle.cil_expression.specs.Expression.{expr_in}
-use Rattle.cil_expression.specs.Pairs.{AnswersPairs}
-use Rattle.cil_expression.specs.Same.{all_same, same_node}
+use Rattle.cil_expression.specs.Same.{all_same, same_node, AnswersPairs}
 use Rattle.cil_expression.specs.Spelling.{nodes_of}
 use Rattle.cil_expression.specs.declared.expression.Element.{Element}
 use Rattle.cil_expression.proofs.SameLemmas.{pointwise-nodes}
@@ -18,8 +17,8 @@ returns g c pairs answers =
     let nodes : c.eq-nodes.result ≡ all_same same_node (nodes_of e) (nodes_of f) =
     c.eq-nodes.ensures ∙ pointwise-nodes c.as_slice.result.now c.as_slice-2.result.now ∙ (λ i. all_same same_node (mine i) (others i)) in
     elim c.if-nodes.branch [
-      | then-nodes w ↦ (let x = w.as_slice-then-nodes.ensures.value ∙ c.args.self.now.spelt.names_are in
-        let y = w.as_slice-then-nodes-2.ensures.value ∙ c.args.other.now.spelt.names_are in
+      | then-nodes w ↦ (let x = w.names.ensures in
+        let y = w.names-then-nodes.ensures in
         w.result-is ∙ w.are_same_names.ensures pairs (λ a b r ca cb. answers a b r (subst (λ l. Contains l a) x ca) (subst (λ l. Contains l b) y cb))
         ∙ (λ i. all_same pairs (x i) (y i)) ∙ ap (λ b. b && all_same pairs (leaves e) (leaves f)) (sym w.if-nodes.true ∙ nodes))
       | else-nodes w ↦ w.result-is ∙ w.if-nodes.false ∙ ap (λ b. b && all_same pairs (leaves e) (leaves f)) (sym w.if-nodes.false ∙ nodes)

@@ -1,0 +1,12 @@
+use Rattle.cil_specs.specs.Expr.{one_of}
+use Rattle.cil_parse.specs.declared.row.SetNode.TheVariants.{Xor}
+use Rattle.cil_expression.proofs.SpellingLemmas.{two-whole}
+use Rattle.cil_expression.proofs.tests.xor.Goals as goal
+use Rattle.std.proofs.Common.{refl}
+
+pub invariant_of-result : goal.invariant_of-result
+invariant_of-result c =
+    record {
+      spelt =
+          two-whole Xor one_of (λ x y. refl) (λ x y. refl) _ _ _ _ _ _ c.args.x.spelt c.args.y.spelt c.in_ok-nodes.ensures.0 c.in_ok-nodes.ensures.1;
+    }
