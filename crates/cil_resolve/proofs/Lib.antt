@@ -9,6 +9,7 @@ pub mod LedLemmas
 pub mod ConsistentLemmas
 pub mod MeansLemmas
 pub mod SoundLemmas
+pub mod EvaluateLemmas
 pub mod TypesLemmas
 pub mod PlacedLemmas
 pub mod LoweringLemmas

@@ -3,6 +3,8 @@ pub mod Consistent
 pub mod Types
 pub mod Numbers
 pub mod Resolved
+pub mod Meter
+pub mod Sets
 pub mod Views
 pub mod Modules
 pub mod FullNames

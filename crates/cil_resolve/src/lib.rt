@@ -3,11 +3,13 @@
 
 mod dropped;
 mod elements;
+mod evaluate;
 mod full_names;
 mod judged;
 mod laws;
 mod lowered;
 mod lowering;
+mod meter;
 mod name_set;
 mod numbered;
 mod numbering;
@@ -26,6 +28,7 @@ pub use laws::{
     meanings_are_consistent, policies_are_apart, resolved_is_consistent, resolved_is_sound,
     sets_are_sound,
 };
+pub use meter::Meter;
 pub use numbered::{
     DroppedOptional, NumberedClass, NumberedName, NumberedRule, NumberedSet, ResolvedTarget,
 };

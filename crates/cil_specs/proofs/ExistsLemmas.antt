@@ -39,7 +39,7 @@ all-of : {X : Type 0} (p : X → Bool) (xs : List X) → ((x : X) → Contains x
 all-of p [] each = refl
 all-of p (x ∷ xs) each = both_true (p x) (list_all p xs) (each x (contains-first x xs)) (all-of p xs (λ y c. each y (contains-other x xs y c)))
 
-of-all : {X : Type 0} (p : X → Bool) (xs : List X) (x : X) → list_all p xs ≡ true → Contains xs x → p x ≡ true
+pub of-all : {X : Type 0} (p : X → Bool) (xs : List X) (x : X) → list_all p xs ≡ true → Contains xs x → p x ≡ true
 of-all p [] x all c = absurd (omega (arith, c.1))
 of-all p (y ∷ ys) x all (zero, within, is) = ap p (sym is) ∙ first_true (p y) (list_all p ys) all
 of-all p (y ∷ ys) x all (suc k, within, is) = of-all p ys x (second_true (p y) (list_all p ys) all) (k, omega (arith, within), is)

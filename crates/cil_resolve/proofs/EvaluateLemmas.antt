@@ -1,0 +1,115 @@
+-- The evaluation of set statements by the numbers of names.
+use Rattle.std.proofs.Common.{◌≡◌, ◌==◌, ℕ, ◌<◌, ◌⊎◌, inl, inr, Bool, true, false, true≢false, nat_lt, List, [], ◌∷◌, map, length, get_or, slice_get, Contains, Option, Some, None, Ordering, Less, Equal, is_lt, option_map,  bytes_eq, IsTrue, refl, sym, ap, subst, ◌∙◌, eq-eqb}
+use Rattle.std.specs.List.{list_all, list_any}
+use Rattle.std.specs.List.Sorted.{IsStrictlySortedBy}
+use Rattle.std.proofs.lemmas.Bool.{cases_order, eqb-true, ltb-true}
+use Rattle.std.proofs.lemmas.Slice.Eq.{bytes_eq-Decides}
+use Rattle.cil_specs.specs.Expr.{leaves, map_leaves}
+use Rattle.cil_specs.specs.Rule as spec
+use Rattle.cil_specs.specs.Rule.{SetStatement}
+use Rattle.cil_specs.specs.Sets.{element_holds, mentions, is_the_attribute}
+use Rattle.cil_specs.specs.Meaning.{keeps_type, is_in}
+use Rattle.cil_specs.specs.Members.{is_member}
+use Rattle.cil_specs.specs.Report.{name_cmp, names_rise}
+use Rattle.std.proofs.lemmas.Cmp.{tied_itself}
+use Rattle.std.proofs.lemmas.Map.Keys.{Less-from_sorted}
+use Rattle.std.proofs.lemmas.Option.{none-some, same_Some, slice_get-map}
+use Rattle.cil_specs.proofs.ExistsLemmas.{of-all}
+use Rattle.cil_specs.proofs.Runs.{first_true, second_true}
+use Rattle.cil_specs.proofs.DependsLemmas.{any-contained}
+use Rattle.cil_specs.proofs.MeansLemmas.{leaves-mapped}
+use Rattle.cil_specs.proofs.MemberLemmas.{in-known}
+use Rattle.cil_specs.proofs.NamesLemmas.{contains-map}
+use Rattle.cil_specs.proofs.ReportLemmas.{name_total, sorted_from_names_rise}
+use Rattle.cil_bind.proofs.DeclareLemmas.{same-bool}
+use Rattle.cil_expression.specs.Expression.{expr_in}
+use Rattle.cil_expression.specs.Holds.{holds_by, Answers}
+use Rattle.cil_expression.specs.declared.expression.Element.{Element}
+use Rattle.cil_expression.specs.declared.expression.Element.TheVariants.{«Type», Attribute}
+use Rattle.cil_expression.proofs.HoldsLemmas.{holds-agree, holds-mapped, expr-holds}
+use Rattle.cil_resolve.specs.Below.{is_element_below, is_set_below}
+use Rattle.cil_resolve.specs.Numbers.{element_of, set_of}
+use Rattle.cil_resolve.specs.Resolved.{meaning_in}
+use Rattle.cil_resolve.specs.Sets.{name_in, sets_in, IsAnswer, TellsMembers}
+use Rattle.cil_resolve.proofs.StatementLemmas.{contained}
+use Rattle.cil_resolve.specs.declared.numbered.NumberedSet.{NumberedSet}
+use Rattle.cil_resolve.specs.declared.resolved.Resolved.{Resolved}
+
+-- Where names rise, two numbers have the same name where they are the same.
+pub same-name : (names : List (List ℕ)) (i j : ℕ) → IsTrue (names_rise names) → i < length names → j < length names → bytes_eq (get_or names i []) (get_or names j []) ≡ (i == j)
+same-name names i j rise i_within j_within = same-bool (bytes_eq (get_or names i []) (get_or names j [])) (i == j) to from
+  where
+    ascending : IsStrictlySortedBy name_cmp names
+    ascending = sorted_from_names_rise names rise
+
+    apart : (k l : ℕ) → k < l → l < length names → get_or names k [] ≡ get_or names l [] → ⊥
+    apart k l below within same =
+        by (sym (Less-from_sorted name_cmp names k l [] ascending below within) ∙ ap (name_cmp (get_or names k [])) (sym same) ∙ tied_itself name_total (get_or names k []))
+      where
+        by : Less ≡ Equal → ⊥
+        by e = true≢false (ap (λ o. is_lt o) e)
+
+    to : bytes_eq (get_or names i []) (get_or names j []) ≡ true → (i == j) ≡ true
+    to e = by (cases_order i j)
+      where
+        by : (i ≡ j) ⊎ ((i < j) ⊎ (j < i)) → (i == j) ≡ true
+        by (inl same) = eq-eqb i j same
+        by (inr (inl below)) = absurd (apart i j below j_within ((bytes_eq-Decides (get_or names i []) (get_or names j [])).0 e))
+        by (inr (inr above)) = absurd (apart j i above i_within (sym ((bytes_eq-Decides (get_or names i []) (get_or names j [])).0 e)))
+
+    from : (i == j) ≡ true → bytes_eq (get_or names i []) (get_or names j []) ≡ true
+    from e = (bytes_eq-Decides (get_or names i []) (get_or names j [])).1 (ap (λ k. get_or names k []) (eqb-true i j e))
+
+module _ {A : Type 0} (r : Resolved A) where
+  -- what a name of an expression holds, at the type of this number
+  abbrev pub value-at : ℕ → Element → Bool
+  value-at t («Type» n) = n == t
+  value-at t (Attribute a) = is_member (meaning_in r) (name_in r a) (name_in r t)
+
+  leaf-value : (t : ℕ) (element : Element) → t < length r.names.items → is_element_below (length r.names.items) element ≡ true
+      → value-at t element ≡ element_holds (λ a. is_member (meaning_in r) a (name_in r t)) (element_of r.names.items element) (name_in r t)
+  leaf-value t («Type» n) within below = sym (same-name r.names.items n t r.ordered (ltb-true n (length r.names.items) below) within)
+  leaf-value t (Attribute a) within below = refl
+
+  -- An expression holds a kept type by what its names hold.
+  pub evaluated : (x : NumberedSet A) (t : ℕ) → t < length r.names.items → keeps_type (meaning_in r) (name_in r t) ≡ true → list_all (is_element_below (length r.names.items)) (leaves (expr_in x.expression)) ≡ true
+      → holds_by (value-at t) (expr_in x.expression) ≡ is_in (meaning_in r) (set_of r.modules.items r.names.items x).expr (name_in r t)
+  evaluated x t within kept below =
+      let e = expr_in x.expression in
+      let known = λ (a : List ℕ). is_member (meaning_in r) a (name_in r t) in
+      let f = element_of r.names.items in
+      holds-agree e (value-at t) (λ l. element_holds known (f l) (name_in r t)) (λ l c. leaf-value t l within (of-all (is_element_below (length r.names.items)) (leaves e) l below c))
+      ∙ sym (holds-mapped f (λ l. element_holds known l (name_in r t)) e) ∙ sym (expr-holds known (map_leaves f e) (name_in r t)) ∙ in-known (meaning_in r) known (map_leaves f e) (name_in r t) kept (λ a m. refl)
+
+  -- Answers for the names of an expression are what they hold.
+  pub answers-told : {post : ℕ → Bool → Type 0} (s : SetStatement) (x : NumberedSet A) (t : ℕ) → TellsMembers r post s t → set_of r.modules.items r.names.items x ≡ s
+      → Answers (IsAnswer post t) (λ l. Contains (leaves (expr_in x.expression)) l) (value-at t)
+  answers-told s x t tells named («Type» n) answer c is = is
+  answers-told s x t tells named (Attribute a) answer c is = tells a answer (ap (λ y. mentions (name_in r a) y.expr) (sym named) ∙ mentioned a c) is
+    where
+      mentioned : (a : ℕ) → Contains (leaves (expr_in x.expression)) (Attribute a) → mentions (name_in r a) (map_leaves (element_of r.names.items) (expr_in x.expression)) ≡ true
+      mentioned a c =
+          ap (list_any (is_the_attribute (name_in r a))) (leaves-mapped (element_of r.names.items) (expr_in x.expression))
+          ∙ any-contained (is_the_attribute (name_in r a)) (map (element_of r.names.items) (leaves (expr_in x.expression))) (spec.an_attribute (name_in r a))
+          (contains-map (element_of r.names.items) (leaves (expr_in x.expression)) (Attribute a) c) ((bytes_eq-Decides (name_in r a) (name_in r a)).1 refl)
+
+  -- the set statement at a place, by names and by numbers
+  pub record IsSetAt (i : ℕ) (s : SetStatement) (x : NumberedSet A) : Type 0 where
+    pub named : set_of r.modules.items r.names.items x ≡ s
+    pub below : list_all (is_element_below (length r.names.items)) (leaves (expr_in x.expression)) ≡ true
+
+  pub names-below : (i : ℕ) (x : NumberedSet A) → slice_get r.sets.items i ≡ Some x → list_all (is_element_below (length r.names.items)) (leaves (expr_in x.expression)) ≡ true
+  names-below i x there =
+      second_true (nat_lt x.attribute (length r.names.items)) (list_all (is_element_below (length r.names.items)) (leaves (expr_in x.expression)))
+      (of-all (is_set_below (length r.names.items)) r.sets.items x r.sets_within (contained r.sets.items i x there))
+
+  pub set-at : (i : ℕ) (s : SetStatement) (found : Option (NumberedSet A)) (x : NumberedSet A) → found ≡ slice_get r.sets.items i → found ≡ Some x → slice_get (sets_in r) i ≡ Some s → IsSetAt i s x
+  set-at i s found x is one at =
+      let there = sym is ∙ one in
+      record {
+        named = same_Some _ _ (sym (slice_get-map (set_of r.modules.items r.names.items) r.sets.items i ∙ ap (option_map (set_of r.modules.items r.names.items)) there) ∙ at);
+        below = names-below i x there;
+      }
+
+  pub no-set-at : (i : ℕ) (s : SetStatement) → slice_get r.sets.items i ≡ None → slice_get (sets_in r) i ≡ Some s → ⊥
+  no-set-at i s none at = none-some s (sym (slice_get-map (set_of r.modules.items r.names.items) r.sets.items i ∙ ap (option_map (set_of r.modules.items r.names.items)) none) ∙ at)

@@ -1,0 +1,90 @@
+//! Evaluation of set statements at types.
+
+ghost use Rattle.std.specs.Prelude.{◌≡◌, ◌<◌, ◌+◌, ◌-◌, ◌^◌, false, min, map, length, slice_get, Some, IsTrue, option_map};
+ghost use Rattle.std.specs.List.{list_all};
+ghost use Rattle.cil_specs.specs.Expr.{leaves};
+ghost use Rattle.cil_specs.specs.Rule.{SetStatement};
+ghost use Rattle.cil_specs.specs.Meaning.{keeps_type, is_in};
+ghost use Rattle.cil_expression.specs.Holds.{holds_by};
+ghost use Rattle.cil_resolve.specs.Below.{is_element_below};
+ghost use Rattle.cil_resolve.specs.Meter.{evaluations_in, adjustments_in};
+ghost use Rattle.cil_resolve.specs.Numbers.{element_of};
+ghost use Rattle.cil_resolve.specs.Resolved.{meaning_in};
+ghost use Rattle.cil_resolve.specs.Sets.{name_in, sets_in, IsAnswer, TellsMembers};
+
+use crate::meter::Meter;
+use crate::numbered::NumberedSet;
+use crate::resolved::Resolved;
+use cil_expression::Element;
+use std::alloc::Allocator;
+
+impl<A: Allocator> Resolved<A> {
+    /// The set statement at a place.
+    fn set(&self, i: usize) -> Option<&NumberedSet<A>>
+        ensures { option_map (λ set. set.now) result ≡ slice_get self.now.sets.items i }
+    {
+        self.sets.get(i)
+    }
+
+    /// How many set statements there are.
+    pub fn sets_len(&self) -> usize
+        ensures { result ≡ length (sets_in self.now) }
+    {
+        self.sets.len()
+    }
+
+    /// What the expression of the set statement at a place names, by the numbers of the names; none where there is no such statement.
+    pub fn set_names(&self, i: usize) -> &[Element]
+        ensures names { (s : SetStatement) → slice_get (sets_in self.now) i ≡ Some s → map (element_of self.now.names.items) result.now ≡ leaves s.expr }
+        ensures below { IsTrue (list_all (is_element_below (length self.now.names.items)) result.now) }
+    {
+        match self.set(i) {
+            Some(set) => set.expression.names(),
+            None => &[],
+        }
+    }
+
+    /// Whether the set statement at a place may hold a type that it doesn't name and that no attribute that it mentions has as a member.
+    /// It is a bound: where the answer is no, no such type is in its expression.
+    pub fn may_hold_any(&self, i: usize) -> bool
+        ensures { (s : SetStatement) → slice_get (sets_in self.now) i ≡ Some s → result ≡ holds_by (λ element. false) s.expr }
+    {
+        match self.set(i) {
+            Some(set) => set.expression.may_hold_any(),
+            None => false,
+        }
+    }
+
+    /// Whether the expression of the set statement at a place holds a kept type, where known answers which attributes that it mentions
+    /// do; all by the numbers of their names. It is counted as one evaluation.
+    pub fn evaluate<F: Fn(usize) -> bool>(
+        &self,
+        i: usize,
+        ty: usize,
+        known: F,
+        meter: &mut Meter,
+    ) -> bool
+        requires callable { F.IsAlwaysCallable known }
+        ensures value { (s : SetStatement) → slice_get (sets_in self.now) i ≡ Some s → ty < length self.now.names.items
+            → IsTrue (keeps_type (meaning_in self.now) (name_in self.now ty)) → TellsMembers self.now (F.post known) s ty
+            → result ≡ is_in (meaning_in self.now) s.expr (name_in self.now ty) }
+        ensures evaluations { evaluations_in meter.new ≡ min (evaluations_in meter.old + 1) (2 ^ 128 - 1) }
+        ensures adjustments { adjustments_in meter.new ≡ adjustments_in meter.old }
+    {
+        meter.evaluated();
+        match self.set(i) {
+            Some(set) => set.expression.holds(
+                |element|
+                    requires { F.IsAlwaysCallable known }
+                    ensures { IsAnswer (F.post known) ty element result }
+                {
+                    match element {
+                        Element::Type(named) => named == ty,
+                        Element::Attribute(attribute) => known(attribute),
+                    }
+                },
+            ),
+            None => false,
+        }
+    }
+}
