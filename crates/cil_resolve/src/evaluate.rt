@@ -1,6 +1,6 @@
 //! Evaluation of set statements at types.
 
-ghost use Rattle.std.specs.Prelude.{◌≡◌, ◌<◌, ◌+◌, ◌-◌, ◌^◌, false, min, map, length, slice_get, Some, IsTrue, option_map};
+ghost use Rattle.std.specs.Prelude.{◌≡◌, ◌<◌, ◌+◌, ◌-◌, ◌^◌, IfSome, false, min, map, length, slice_get, Some, IsTrue, option_map};
 ghost use Rattle.std.specs.List.{list_all};
 ghost use Rattle.cil_specs.specs.Expr.{leaves};
 ghost use Rattle.cil_specs.specs.Rule.{SetStatement};
@@ -31,6 +31,15 @@ impl<A: Allocator> Resolved<A> {
         ensures { result ≡ length (sets_in self.now) }
     {
         self.sets.len()
+    }
+
+    /// The number of the name of the attribute of the set statement at a place.
+    pub fn set_attribute(&self, i: usize) -> Option<usize>
+        ensures name { option_map (name_in self.now) result ≡ option_map (λ s. s.attribute) (slice_get (sets_in self.now) i) }
+        ensures below { IfSome result (λ n. n < length self.now.names.items) }
+    {
+        let set = self.set(i)?;
+        Some(set.attribute)
     }
 
     /// What the expression of the set statement at a place names, by the numbers of the names; none where there is no such statement.

@@ -1,12 +1,13 @@
 //! What is read of a resolved policy. It takes no memory.
 
-ghost use Rattle.std.specs.Prelude.{◌≡◌, IsTrue, [], length, slice_get, slice_index_or, option_map};
+ghost use Rattle.std.specs.Prelude.{◌≡◌, ◌<◌, IfSome, IsTrue, [], length, slice_get, slice_index_or, option_map};
 ghost use Rattle.std.specs.List.{list_all};
 ghost use Rattle.std.specs.Option.{option_and_then};
 ghost use Rattle.cil_specs.specs.Report.{names_rise};
 ghost use Rattle.cil_resolve.specs.Below.{is_rule_below};
 ghost use Rattle.cil_resolve.specs.Numbers.{element_of, resolved_target_of};
 ghost use Rattle.cil_resolve.specs.Resolved.{meaning_in};
+ghost use Rattle.cil_resolve.specs.Sets.{name_in};
 ghost use Rattle.cil_resolve.specs.Views.{declared_seen, class_seen, class_head, element_seen, resolved_target_seen, rule_seen, rule_head};
 
 use crate::numbered::{NumberedRule, ResolvedTarget};
@@ -70,8 +71,15 @@ impl<A: Allocator> Resolved<A> {
         }
     }
 
-    /// A name by its number.
-    fn name(&self, i: usize) -> &[u8]
+    /// How many names there are: of types, attributes, classes and permissions.
+    pub fn names_len(&self) -> usize
+        ensures { result ≡ length self.now.names.items }
+    {
+        self.names.len()
+    }
+
+    /// A name by its number, which is its place in the order of the bytes; empty where there is none.
+    pub fn name(&self, i: usize) -> &[u8]
         ensures { result.now ≡ slice_index_or self.now.names.items i [] }
     {
         match self.names.get(i) {
@@ -117,6 +125,15 @@ impl<A: Allocator> Resolved<A> {
         })
     }
 
+    /// The number of the name of the type at a place.
+    pub fn type_number(&self, i: usize) -> Option<usize>
+        ensures name { option_map (name_in self.now) result ≡ option_map (λ d. d.name) (slice_get (meaning_in self.now).types i) }
+        ensures below { IfSome result (λ n. n < length self.now.names.items) }
+    {
+        let declared = self.types.get(i)?;
+        Some(declared.name)
+    }
+
     /// How many attributes there are.
     pub fn attributes_len(&self) -> usize
         ensures { result ≡ length (meaning_in self.now).attributes }
@@ -134,6 +151,15 @@ impl<A: Allocator> Resolved<A> {
             at: declared.at,
             name: self.name(declared.name),
         })
+    }
+
+    /// The number of the name of the attribute at a place.
+    pub fn attribute_number(&self, i: usize) -> Option<usize>
+        ensures name { option_map (name_in self.now) result ≡ option_map (λ d. d.name) (slice_get (meaning_in self.now).attributes i) }
+        ensures below { IfSome result (λ n. n < length self.now.names.items) }
+    {
+        let declared = self.attributes.get(i)?;
+        Some(declared.name)
     }
 
     /// How many classes there are.
