@@ -1,3 +1,4 @@
+pub mod ItemsLemmas
 pub mod LeadsLemmas
 pub mod RanksLemmas
 pub mod SearchLemmas

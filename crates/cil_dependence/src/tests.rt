@@ -3,7 +3,7 @@
 ghost use Rattle.std.specs.Prelude.{◌<◌, All, IsTrue};
 ghost use Rattle.cil_dependence.specs.Graph.{AreNodes};
 
-use crate::{Dependence, dependence};
+use crate::{Dependence, dependence, items_in_order};
 use std::alloc::Global;
 use std::process::Abort;
 
@@ -58,6 +58,18 @@ fn assert_order(rt: &impl Abort, alloc: Global, lists: &[&[usize]], want: &[usiz
     assert!(rt; is);
 }
 
+// The items of these nodes, in the order of the graph of these lists.
+fn items(rt: &impl Abort, alloc: Global, lists: &[&[usize]], nodes: &[usize]) -> Vec<usize> {
+    let graph = graph(rt, alloc, lists);
+    let dependence = told(rt, alloc, &graph);
+    let Dependence::Order(order) = dependence else {
+        rt.abort()
+    };
+    let have = are_below(nodes, order.len());
+    assert!(rt; have);
+    items_in_order(alloc, &order, nodes).expect(rt, "memory")
+}
+
 #[test]
 fn without_edges_the_nodes_stand_as_they_are(rt: HostRuntime) {
     assert_order(&rt, rt.alloc(), &[], &[]);
@@ -77,6 +89,13 @@ fn a_self_edge_is_a_circle(rt: HostRuntime) {
 #[test]
 fn a_node_that_only_leads_to_a_circle_is_on_none(rt: HostRuntime) {
     assert_circle(&rt, rt.alloc(), &[&[2], &[3], &[3], &[1]], 1);
+}
+
+#[test]
+fn items_stand_as_their_nodes_do(rt: HostRuntime) {
+    let items = items(&rt, rt.alloc(), &[&[2], &[], &[1]], &[0, 2, 0, 1, 2, 1]);
+    let are: bool = items.as_slice() == [3, 5, 1, 4, 0, 2].as_slice();
+    assert!(rt; are);
 }
 
 // The nodes 0 and 1 lead from the circle of 4 and 5 to that of 2 and 3.
