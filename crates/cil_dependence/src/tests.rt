@@ -1,6 +1,7 @@
 //! Small graphs, and a long chain.
 
 ghost use Rattle.std.specs.Prelude.{◌<◌, All, IsTrue};
+ghost use Rattle.cil_dependence.specs.Dependence.{IsDependence};
 ghost use Rattle.cil_dependence.specs.Graph.{AreNodes};
 
 use crate::{Dependence, dependence, items_in_order};
@@ -37,7 +38,9 @@ fn graph(rt: &impl Abort, alloc: Global, lists: &[&[usize]]) -> Vec<Vec<usize>> 
 }
 
 // What the dependence of these nodes comes to.
-fn told(rt: &impl Abort, alloc: Global, graph: &[Vec<usize>]) -> Dependence {
+fn told(rt: &impl Abort, alloc: Global, graph: &[Vec<usize>]) -> Dependence
+    ensures { IsDependence graph.now result }
+{
     let stay = are_nodes(graph);
     assert!(rt; stay);
     dependence(alloc, graph).expect(rt, "memory")
