@@ -1,3 +1,4 @@
+pub mod EdgeLemmas
 pub mod ItemsLemmas
 pub mod LeadsLemmas
 pub mod RanksLemmas

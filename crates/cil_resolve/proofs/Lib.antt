@@ -20,3 +20,4 @@ pub mod FaultLemmas
 pub mod JudgedLemmas
 pub mod DroppedLemmas
 pub mod FormLemmas
+pub mod SetOrderLemmas

@@ -11,3 +11,4 @@ pub mod Numbering
 pub mod Lowering
 pub mod Dropped
 pub mod Judged
+pub mod SetOrder

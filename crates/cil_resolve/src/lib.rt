@@ -14,6 +14,7 @@ mod numbering;
 mod resolved;
 mod resolved_types;
 mod resolver;
+mod set_order;
 mod text;
 mod views;
 mod words;
@@ -31,5 +32,6 @@ pub use numbered::{
 pub use resolved::Resolved;
 pub use resolved_types::ResolvedTypes;
 pub use resolver::{resolve, resolve_types};
+pub use set_order::OrderedSets;
 pub use text::Text;
 pub use views::{ClassView, ElementView, NameView, RuleView, TargetView};
