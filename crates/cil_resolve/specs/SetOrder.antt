@@ -1,6 +1,6 @@
 -- Set statements in the order of their dependence, by numbers.
-use Rattle.std.specs.Prelude.{◌≡◌, ◌<◌, ℕ, List, [], ◌∷◌, map, length, filter_map, slice_get, slice_index, Contains}
-use Rattle.cil_dependence.specs.Items.{AreEachOnce}
+use Rattle.std.specs.Prelude.{◌≡◌, ◌≢◌, ◌<◌, ◌≤◌, ℕ, List, [], ◌∷◌, All, AllPairs, Contains, IsTrue, Some, map, length, filter_map, nat_eq, slice_get, slice_index}
+use Rattle.std.specs.List.{list_any}
 use Rattle.cil_resolve.specs.declared.numbered.Element.{Element}
 use Rattle.cil_resolve.specs.declared.numbered.Element.TheVariants.{Attribute}
 use Rattle.cil_resolve.specs.declared.numbered.NumberedSet.{NumberedSet}
@@ -35,17 +35,15 @@ sets_at sets numbers = filter_map (slice_get sets) numbers
 abbrev pub attributes_in : {A : Type 0} → List (NumberedSet A) → List ℕ
 attributes_in sets = map (λ s. s.attribute) sets
 
--- What a statement mentions has no set statement at its place or behind it.
-abbrev pub AreOrdered : {A : Type 0} → List (NumberedSet A) → Type 0
-AreOrdered {A} [] = Unit {0}
-AreOrdered {A} (s ∷ sets) = ((t : NumberedSet A) → Contains (s ∷ sets) t → Contains (names_in s) (Attribute t.attribute) → ⊥) × AreOrdered sets
-
 -- what stands between two of the same is the same
 abbrev pub StandTogether : List ℕ → Type 0
 StandTogether numbers = (i j k : ℕ) → i < j → j < k → k < length numbers → slice_index numbers i ≡ slice_index numbers k → slice_index numbers j ≡ slice_index numbers i
 
--- The numbers of set statements, each once, in an order in which a statement stands behind those of the attributes that it mentions, and those of one attribute stand together.
+-- The numbers of set statements, each once. What a statement mentions has no statement at its place or behind it, and statements of one attribute stand together.
 pub record IsSetOrder {A : Type 0} (sets : List (NumberedSet A)) (order : List ℕ) : Type 0 where
-  pub once : AreEachOnce (length sets) order
-  pub in_order : AreOrdered (sets_at sets order)
+  pub all : (n : ℕ) → n < length sets → IsTrue (list_any (nat_eq n) order)
+  pub within : All (λ n. n < length sets) order
+  pub once : AllPairs (λ m n. m ≢ n) order
+  pub in_order : (i j : ℕ) (s t : NumberedSet A) → i ≤ j → j < length order → slice_get sets (slice_index order i) ≡ Some s → slice_get sets (slice_index order j) ≡ Some t
+      → Contains (names_in s) (Attribute t.attribute) → ⊥
   pub together : StandTogether (map (slice_index (attributes_in sets)) order)
