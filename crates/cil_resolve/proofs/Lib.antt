@@ -21,3 +21,4 @@ pub mod JudgedLemmas
 pub mod DroppedLemmas
 pub mod FormLemmas
 pub mod SetOrderLemmas
+pub mod SetNameLemmas

@@ -1,6 +1,10 @@
 -- Set statements in the order of their dependence, by numbers.
 use Rattle.std.specs.Prelude.{◌≡◌, ◌≢◌, ◌<◌, ◌≤◌, ℕ, List, [], ◌∷◌, All, AllPairs, Contains, IsTrue, Some, map, length, filter_map, nat_eq, slice_get, slice_index}
-use Rattle.std.specs.List.{list_any}
+use Rattle.std.specs.List.{list_all, list_any}
+use Rattle.cil_specs.specs.Expr.{leaves}
+use Rattle.cil_specs.specs.Report.{names_rise}
+use Rattle.cil_resolve.specs.Below.{is_set_below}
+use Rattle.cil_resolve.specs.Numbers.{element_of, set_of}
 use Rattle.cil_resolve.specs.declared.numbered.Element.{Element}
 use Rattle.cil_resolve.specs.declared.numbered.Element.TheVariants.{Attribute}
 use Rattle.cil_resolve.specs.declared.numbered.NumberedSet.{NumberedSet}
@@ -47,3 +51,13 @@ pub record IsSetOrder {A : Type 0} (sets : List (NumberedSet A)) (order : List �
   pub in_order : (i j : ℕ) (s t : NumberedSet A) → i ≤ j → j < length order → slice_get sets (slice_index order i) ≡ Some s → slice_get sets (slice_index order j) ≡ Some t
       → Contains (names_in s) (Attribute t.attribute) → ⊥
   pub together : StandTogether (map (slice_index (attributes_in sets)) order)
+
+-- what the names of a set statement's expression lead to, by names, is what the statement names
+abbrev pub HasItsNames : {A : Type 0} → List (List ℕ) → List (List ℕ) → NumberedSet A → Type 0
+HasItsNames modules names s = leaves (set_of modules names s).expr ≡ map (element_of names) (names_in s)
+
+-- Set statements with numbers below that of these names, which rise.
+pub record AreNamed {A : Type 0} (modules names : List (List ℕ)) (sets : List (NumberedSet A)) : Type 0 where
+  pub rise : IsTrue (names_rise names)
+  pub below : IsTrue (list_all (is_set_below (length names)) sets)
+  pub its_names : All (HasItsNames modules names) sets

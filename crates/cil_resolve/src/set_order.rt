@@ -1,10 +1,13 @@
 //! Set statements in the order of their dependence.
 
-ghost use Rattle.std.specs.Prelude.{◌≡◌, ◌<◌, ◌⊎◌, ◌↔◌, ℕ, length, IfOk, IsTrue, OnOk};
+ghost use Rattle.std.specs.Prelude.{◌≡◌, ◌<◌, ◌⊎◌, ◌↔◌, ℕ, List, length, map, IfOk, IsTrue, OnOk};
 ghost use Rattle.std.specs.List.{list_all};
+ghost use Rattle.cil_specs.specs.Dependence.{AreInOrder, AreTheSame};
+ghost use Rattle.cil_specs.specs.Sets.{HasNoCircle};
 ghost use Rattle.cil_dependence.specs.Graph.{IsEdge};
 ghost use Rattle.cil_resolve.specs.Below.{is_set_below};
-ghost use Rattle.cil_resolve.specs.SetOrder.{names_in, attributes_in, AreStraight, IsNext, IsSetOrder, Mentions};
+ghost use Rattle.cil_resolve.specs.Numbers.{set_of};
+ghost use Rattle.cil_resolve.specs.SetOrder.{names_in, attributes_in, sets_at, AreNamed, AreStraight, IsNext, IsSetOrder, Mentions};
 
 use crate::numbered::{Element, NumberedSet};
 use cil_dependence::{Dependence, add_edge, dependence, items_in_order, without_edges};
@@ -103,3 +106,17 @@ fn attributes<A: Allocator + Copy>(
 {
     sets.iter().map(|set| set.attribute).collect(alloc)
 }
+
+/// Where no attribute depends on itself by names, none does by numbers.
+pub fn numbers_are_straight<A: Allocator>(sets: &[NumberedSet<A>])
+    ensures { (modules names : List (List ℕ)) → AreNamed modules names sets.now
+        → HasNoCircle (map (set_of modules names) sets.now) → AreStraight sets.now }
+{}
+
+/// By names the statements in their order are the same, and each stands behind those of the attributes that it mentions.
+pub fn ordered_sets_are_in_order<A: Allocator>(ordered: &OrderedSets<A>)
+    ensures in_order { (modules names : List (List ℕ)) → AreNamed modules names ordered.now.sets.items
+        → AreInOrder (map (set_of modules names) (sets_at ordered.now.sets.items ordered.now.order.items)) }
+    ensures the_same { (modules names : List (List ℕ)) → AreTheSame (map (set_of modules names) ordered.now.sets.items)
+        (map (set_of modules names) (sets_at ordered.now.sets.items ordered.now.order.items)) }
+{}
