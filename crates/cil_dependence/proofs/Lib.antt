@@ -1,3 +1,5 @@
+pub mod EdgeLemmas
+pub mod ItemsLemmas
 pub mod LeadsLemmas
 pub mod RanksLemmas
 pub mod SearchLemmas

@@ -3,6 +3,8 @@
 
 mod components;
 mod first;
+mod graph;
+mod items;
 mod order;
 mod search;
 #[cfg(test)]
@@ -12,6 +14,8 @@ ghost use Rattle.std.specs.Prelude.{IfOk, MatchOption};
 ghost use Rattle.cil_dependence.specs.Dependence.{IsDependence, IsFirst, IsStraight};
 ghost use Rattle.cil_dependence.specs.Graph.{AreNodes};
 
+pub use graph::{add_edge, without_edges};
+pub use items::items_in_order;
 pub use order::{Dependence, order_is_straight};
 use std::alloc::{AllocError, Allocator};
 

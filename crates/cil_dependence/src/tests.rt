@@ -1,9 +1,10 @@
 //! Small graphs, and a long chain.
 
 ghost use Rattle.std.specs.Prelude.{◌<◌, All, IsTrue};
+ghost use Rattle.cil_dependence.specs.Dependence.{IsDependence};
 ghost use Rattle.cil_dependence.specs.Graph.{AreNodes};
 
-use crate::{Dependence, dependence};
+use crate::{Dependence, dependence, items_in_order};
 use std::alloc::Global;
 use std::process::Abort;
 
@@ -37,7 +38,9 @@ fn graph(rt: &impl Abort, alloc: Global, lists: &[&[usize]]) -> Vec<Vec<usize>> 
 }
 
 // What the dependence of these nodes comes to.
-fn told(rt: &impl Abort, alloc: Global, graph: &[Vec<usize>]) -> Dependence {
+fn told(rt: &impl Abort, alloc: Global, graph: &[Vec<usize>]) -> Dependence
+    ensures { IsDependence graph.now result }
+{
     let stay = are_nodes(graph);
     assert!(rt; stay);
     dependence(alloc, graph).expect(rt, "memory")
@@ -56,6 +59,18 @@ fn assert_order(rt: &impl Abort, alloc: Global, lists: &[&[usize]], want: &[usiz
     let is =
         matches!(told(rt, alloc, &graph), Dependence::Order(order) if order.as_slice() == want);
     assert!(rt; is);
+}
+
+// The items of these nodes, in the order of the graph of these lists.
+fn items(rt: &impl Abort, alloc: Global, lists: &[&[usize]], nodes: &[usize]) -> Vec<usize> {
+    let graph = graph(rt, alloc, lists);
+    let dependence = told(rt, alloc, &graph);
+    let Dependence::Order(order) = dependence else {
+        rt.abort()
+    };
+    let have = are_below(nodes, order.len());
+    assert!(rt; have);
+    items_in_order(alloc, &order, nodes).expect(rt, "memory")
 }
 
 #[test]
@@ -77,6 +92,13 @@ fn a_self_edge_is_a_circle(rt: HostRuntime) {
 #[test]
 fn a_node_that_only_leads_to_a_circle_is_on_none(rt: HostRuntime) {
     assert_circle(&rt, rt.alloc(), &[&[2], &[3], &[3], &[1]], 1);
+}
+
+#[test]
+fn items_stand_as_their_nodes_do(rt: HostRuntime) {
+    let items = items(&rt, rt.alloc(), &[&[2], &[], &[1]], &[0, 2, 0, 1, 2, 1]);
+    let are: bool = items.as_slice() == [3, 5, 1, 4, 0, 2].as_slice();
+    assert!(rt; are);
 }
 
 // The nodes 0 and 1 lead from the circle of 4 and 5 to that of 2 and 3.

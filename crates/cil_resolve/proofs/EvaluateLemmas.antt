@@ -31,34 +31,12 @@ use Rattle.cil_resolve.specs.Below.{is_element_below, is_set_below}
 use Rattle.cil_resolve.specs.Numbers.{element_of, set_of}
 use Rattle.cil_resolve.specs.Resolved.{meaning_in}
 use Rattle.cil_resolve.specs.Sets.{name_in, sets_in, IsAnswer, TellsMembers}
+use Rattle.cil_resolve.specs.SetOrder.{sets_at}
+use Rattle.cil_resolve.proofs.SetOrderLemmas.{from-order}
+use Rattle.cil_resolve.proofs.RisingNames.{same-name}
 use Rattle.cil_resolve.proofs.StatementLemmas.{contained}
 use Rattle.cil_resolve.specs.declared.numbered.NumberedSet.{NumberedSet}
 use Rattle.cil_resolve.specs.declared.resolved.Resolved.{Resolved}
-
--- Where names rise, two numbers have the same name where they are the same.
-pub same-name : (names : List (List ℕ)) (i j : ℕ) → IsTrue (names_rise names) → i < length names → j < length names → bytes_eq (get_or names i []) (get_or names j []) ≡ (i == j)
-same-name names i j rise i_within j_within = same-bool (bytes_eq (get_or names i []) (get_or names j [])) (i == j) to from
-  where
-    ascending : IsStrictlySortedBy name_cmp names
-    ascending = sorted_from_names_rise names rise
-
-    apart : (k l : ℕ) → k < l → l < length names → get_or names k [] ≡ get_or names l [] → ⊥
-    apart k l below within same =
-        by (sym (Less-from_sorted name_cmp names k l [] ascending below within) ∙ ap (name_cmp (get_or names k [])) (sym same) ∙ tied_itself name_total (get_or names k []))
-      where
-        by : Less ≡ Equal → ⊥
-        by e = true≢false (ap (λ o. is_lt o) e)
-
-    to : bytes_eq (get_or names i []) (get_or names j []) ≡ true → (i == j) ≡ true
-    to e = by (cases_order i j)
-      where
-        by : (i ≡ j) ⊎ ((i < j) ⊎ (j < i)) → (i == j) ≡ true
-        by (inl same) = eq-eqb i j same
-        by (inr (inl below)) = absurd (apart i j below j_within ((bytes_eq-Decides (get_or names i []) (get_or names j [])).0 e))
-        by (inr (inr above)) = absurd (apart j i above i_within (sym ((bytes_eq-Decides (get_or names i []) (get_or names j [])).0 e)))
-
-    from : (i == j) ≡ true → bytes_eq (get_or names i []) (get_or names j []) ≡ true
-    from e = (bytes_eq-Decides (get_or names i []) (get_or names j [])).1 (ap (λ k. get_or names k []) (eqb-true i j e))
 
 module _ {A : Type 0} (r : Resolved A) where
   -- what a name of an expression holds, at the type of this number
@@ -98,18 +76,28 @@ module _ {A : Type 0} (r : Resolved A) where
     pub named : set_of r.modules.items r.names.items x ≡ s
     pub below : list_all (is_element_below (length r.names.items)) (leaves (expr_in x.expression)) ≡ true
 
-  pub names-below : (i : ℕ) (x : NumberedSet A) → slice_get r.sets.items i ≡ Some x → list_all (is_element_below (length r.names.items)) (leaves (expr_in x.expression)) ≡ true
+  at-below : (i : ℕ) (x : NumberedSet A) → slice_get (sets_at r.sets.sets.items r.sets.order.items) i ≡ Some x → is_set_below (length r.names.items) x ≡ true
+  at-below i x there =
+      of-all (is_set_below (length r.names.items)) r.sets.sets.items x r.sets_within
+      (from-order r.sets.sets.items r.sets.order.items x (contained (sets_at r.sets.sets.items r.sets.order.items) i x there))
+
+  pub attribute-low : (i : ℕ) (x : NumberedSet A) → slice_get (sets_at r.sets.sets.items r.sets.order.items) i ≡ Some x → x.attribute < length r.names.items
+  attribute-low i x there =
+      ltb-true x.attribute (length r.names.items)
+      (first_true (nat_lt x.attribute (length r.names.items)) (list_all (is_element_below (length r.names.items)) (leaves (expr_in x.expression))) (at-below i x there))
+
+  pub names-below : (i : ℕ) (x : NumberedSet A) → slice_get (sets_at r.sets.sets.items r.sets.order.items) i ≡ Some x → list_all (is_element_below (length r.names.items)) (leaves (expr_in x.expression)) ≡ true
   names-below i x there =
       second_true (nat_lt x.attribute (length r.names.items)) (list_all (is_element_below (length r.names.items)) (leaves (expr_in x.expression)))
-      (of-all (is_set_below (length r.names.items)) r.sets.items x r.sets_within (contained r.sets.items i x there))
+      (at-below i x there)
 
-  pub set-at : (i : ℕ) (s : SetStatement) (found : Option (NumberedSet A)) (x : NumberedSet A) → found ≡ slice_get r.sets.items i → found ≡ Some x → slice_get (sets_in r) i ≡ Some s → IsSetAt i s x
+  pub set-at : (i : ℕ) (s : SetStatement) (found : Option (NumberedSet A)) (x : NumberedSet A) → found ≡ slice_get (sets_at r.sets.sets.items r.sets.order.items) i → found ≡ Some x → slice_get (sets_in r) i ≡ Some s → IsSetAt i s x
   set-at i s found x is one at =
       let there = sym is ∙ one in
       record {
-        named = same_Some _ _ (sym (slice_get-map (set_of r.modules.items r.names.items) r.sets.items i ∙ ap (option_map (set_of r.modules.items r.names.items)) there) ∙ at);
+        named = same_Some _ _ (sym (slice_get-map (set_of r.modules.items r.names.items) (sets_at r.sets.sets.items r.sets.order.items) i ∙ ap (option_map (set_of r.modules.items r.names.items)) there) ∙ at);
         below = names-below i x there;
       }
 
-  pub no-set-at : (i : ℕ) (s : SetStatement) → slice_get r.sets.items i ≡ None → slice_get (sets_in r) i ≡ Some s → ⊥
-  no-set-at i s none at = none-some s (sym (slice_get-map (set_of r.modules.items r.names.items) r.sets.items i ∙ ap (option_map (set_of r.modules.items r.names.items)) none) ∙ at)
+  pub no-set-at : (i : ℕ) (s : SetStatement) → slice_get (sets_at r.sets.sets.items r.sets.order.items) i ≡ None → slice_get (sets_in r) i ≡ Some s → ⊥
+  no-set-at i s none at = none-some s (sym (slice_get-map (set_of r.modules.items r.names.items) (sets_at r.sets.sets.items r.sets.order.items) i ∙ ap (option_map (set_of r.modules.items r.names.items)) none) ∙ at)

@@ -9,7 +9,7 @@ pub mod LedLemmas
 pub mod ConsistentLemmas
 pub mod MeansLemmas
 pub mod SoundLemmas
-pub mod EvaluateLemmas
+pub mod RisingNames
 pub mod TypesLemmas
 pub mod PlacedLemmas
 pub mod LoweringLemmas
@@ -21,3 +21,6 @@ pub mod FaultLemmas
 pub mod JudgedLemmas
 pub mod DroppedLemmas
 pub mod FormLemmas
+pub mod SetOrderLemmas
+pub mod SetNameLemmas
+pub mod EvaluateLemmas

@@ -4,7 +4,6 @@ pub mod Types
 pub mod Numbers
 pub mod Resolved
 pub mod Meter
-pub mod Sets
 pub mod Views
 pub mod Modules
 pub mod FullNames
@@ -12,3 +11,5 @@ pub mod Numbering
 pub mod Lowering
 pub mod Dropped
 pub mod Judged
+pub mod SetOrder
+pub mod Sets

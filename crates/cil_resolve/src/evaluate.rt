@@ -13,20 +13,13 @@ ghost use Rattle.cil_resolve.specs.Resolved.{meaning_in};
 ghost use Rattle.cil_resolve.specs.Sets.{name_in, sets_in, IsAnswer, TellsMembers};
 
 use crate::meter::Meter;
-use crate::numbered::NumberedSet;
 use crate::resolved::Resolved;
 use cil_expression::Element;
 use std::alloc::Allocator;
 
 impl<A: Allocator> Resolved<A> {
-    /// The set statement at a place.
-    fn set(&self, i: usize) -> Option<&NumberedSet<A>>
-        ensures { option_map (λ set. set.now) result ≡ slice_get self.now.sets.items i }
-    {
-        self.sets.get(i)
-    }
-
-    /// How many set statements there are.
+    /// How many set statements there are. They are listed in the order of their dependence: each stands behind those of the attributes
+    /// that it mentions, and those of one attribute stand together.
     pub fn sets_len(&self) -> usize
         ensures { result ≡ length (sets_in self.now) }
     {
@@ -38,7 +31,7 @@ impl<A: Allocator> Resolved<A> {
         ensures name { option_map (name_in self.now) result ≡ option_map (λ s. s.attribute) (slice_get (sets_in self.now) i) }
         ensures below { IfSome result (λ n. n < length self.now.names.items) }
     {
-        let set = self.set(i)?;
+        let set = self.sets.at(i)?;
         Some(set.attribute)
     }
 
@@ -47,7 +40,7 @@ impl<A: Allocator> Resolved<A> {
         ensures names { (s : SetStatement) → slice_get (sets_in self.now) i ≡ Some s → map (element_of self.now.names.items) result.now ≡ leaves s.expr }
         ensures below { IsTrue (list_all (is_element_below (length self.now.names.items)) result.now) }
     {
-        match self.set(i) {
+        match self.sets.at(i) {
             Some(set) => set.expression.names(),
             None => &[],
         }
@@ -58,7 +51,7 @@ impl<A: Allocator> Resolved<A> {
     pub fn may_hold_any(&self, i: usize) -> bool
         ensures { (s : SetStatement) → slice_get (sets_in self.now) i ≡ Some s → result ≡ holds_by (λ element. false) s.expr }
     {
-        match self.set(i) {
+        match self.sets.at(i) {
             Some(set) => set.expression.may_hold_any(),
             None => false,
         }
@@ -81,7 +74,7 @@ impl<A: Allocator> Resolved<A> {
         ensures adjustments { adjustments_in meter.new ≡ adjustments_in meter.old }
     {
         meter.evaluated();
-        match self.set(i) {
+        match self.sets.at(i) {
             Some(set) => set.expression.holds(
                 |element|
                     requires { F.IsAlwaysCallable known }

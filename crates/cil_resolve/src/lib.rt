@@ -16,6 +16,7 @@ mod numbering;
 mod resolved;
 mod resolved_types;
 mod resolver;
+mod set_order;
 mod text;
 mod views;
 mod words;
@@ -35,5 +36,6 @@ pub use numbered::{
 pub use resolved::Resolved;
 pub use resolved_types::ResolvedTypes;
 pub use resolver::{resolve, resolve_types};
+pub use set_order::{OrderedSets, numbers_are_straight, ordered_sets_are_in_order};
 pub use text::Text;
 pub use views::{ClassView, ElementView, NameView, RuleView, TargetView};

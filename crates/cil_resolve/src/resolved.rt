@@ -7,7 +7,8 @@ ghost use Rattle.cil_resolve.specs.Below.{is_rule_below, is_name_below, is_class
 ghost use Rattle.cil_specs.specs.Members.{HasSoundSets};
 ghost use Rattle.cil_resolve.specs.Numbers.{AreConsistent, meaning_by};
 
-use crate::numbered::{DroppedOptional, NumberedClass, NumberedName, NumberedRule, NumberedSet};
+use crate::numbered::{DroppedOptional, NumberedClass, NumberedName, NumberedRule};
+use crate::set_order::OrderedSets;
 use crate::text::Text;
 use std::alloc::{Allocator, Global};
 
@@ -21,15 +22,15 @@ pub struct Resolved<A: Allocator = Global> {
     pub(crate) types: Vec<NumberedName, A>,
     pub(crate) attributes: Vec<NumberedName, A>,
     pub(crate) classes: Vec<NumberedClass<A>, A>,
-    pub(crate) sets: Vec<NumberedSet<A>, A>,
+    pub(crate) sets: OrderedSets<A>,
     pub(crate) rules: Vec<NumberedRule<A>, A>,
     pub(crate) dropped: Vec<DroppedOptional<A>, A>,
     pub(crate) ghost ordered: { IsTrue (names_rise names.items) },
     pub(crate) ghost types_within: { IsTrue (list_all (is_name_below (length names.items)) types.items) },
     pub(crate) ghost attributes_within: { IsTrue (list_all (is_name_below (length names.items)) attributes.items) },
     pub(crate) ghost classes_within: { IsTrue (list_all (is_class_below (length names.items)) classes.items) },
-    pub(crate) ghost sets_within: { IsTrue (list_all (is_set_below (length names.items)) sets.items) },
+    pub(crate) ghost sets_within: { IsTrue (list_all (is_set_below (length names.items)) sets.sets.items) },
     pub(crate) ghost rules_within: { IsTrue (list_all (is_rule_below (length names.items)) rules.items) },
-    pub(crate) ghost sound: { HasSoundSets (meaning_by modules.items names.items types.items attributes.items classes.items sets.items rules.items dropped.items) },
+    pub(crate) ghost sound: { HasSoundSets (meaning_by modules.items names.items types.items attributes.items classes.items sets.sets.items rules.items dropped.items) },
     pub(crate) ghost consistent: { AreConsistent modules.items names.items types.items attributes.items classes.items rules.items },
 }

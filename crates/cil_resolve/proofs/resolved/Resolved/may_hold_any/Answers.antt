@@ -10,8 +10,8 @@ pub returns-in-Some : goal.returns-in-Some
 returns-in-Some g c s at =
     let r = c.args.self.now in
     let x = c.in-Some.set.now in
-    let one = set-at r c.args.i s _ x c.set.ensures (ap (option_map (λ y. y.now)) c.in-Some.is) at in
+    let one = set-at r c.args.i s _ x c.at.ensures (ap (option_map (λ y. y.now)) c.in-Some.is) at in
     c.may_hold_any.ensures ∙ sym (holds-mapped (element_of r.names.items) (λ e. false) (expr_in x.expression)) ∙ ap (λ y. holds_by (λ e. false) y.expr) one.named
 
 pub returns-in-None : goal.returns-in-None
-returns-in-None g c s at = absurd (no-set-at c.args.self.now c.args.i s (sym c.set.ensures ∙ ap (option_map (λ y. y.now)) c.in-None.is) at)
+returns-in-None g c s at = absurd (no-set-at c.args.self.now c.args.i s (sym c.at.ensures ∙ ap (option_map (λ y. y.now)) c.in-None.is) at)
