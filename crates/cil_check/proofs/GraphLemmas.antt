@@ -1,5 +1,5 @@
 -- The graph of attributes, as it grows statement by statement and word by word.
-use Rattle.std.proofs.Common.{◌≡◌, ◌⊎◌, ◌↔◌, inl, inr, ℕ, zero, suc, ◌+◌, ◌<◌, ◌≤◌, Bool, true, false, List, [], ◌∷◌, ◌++◌, length, take, set, get_or, Option, Some, None, position, slice_get, Vec, Contains, if◌then◌else◌, refl, sym, ap, ◌∙◌, subst, length-append, arith}
+use Rattle.std.proofs.Common.{◌≡◌, ◌⊎◌, ◌↔◌, inl, inr, ℕ, zero, suc, ◌+◌, ◌<◌, ◌≤◌, Bool, true, false, List, [], ◌∷◌, ◌++◌, length, take, get_or, Option, Some, None, position, slice_get, Vec, Contains, if◌then◌else◌, refl, sym, ap, ◌∙◌, subst, length-append, arith}
 use Rattle.std.specs.Option.{option_map, option_and_then}
 use Rattle.std.proofs.lemmas.Bool.{cases_lt}
 use Rattle.std.proofs.lemmas.List.{get_or_append_left, take_all}
@@ -99,42 +99,6 @@ number-within policy n i s is =
     let whole = ap attribute_count (take_all (length policy) policy (omega arith)) in
     let number = is.number in
     omega (arith, rise, whole, number)
-
--- the same of nodes behind a first
-behind-more : {P Q R : Type 0} {a from : ℕ} → P ↔ (Q ⊎ ((a ≡ from) × R)) → P ↔ (Q ⊎ ((suc a ≡ suc from) × R))
-behind-more (there, back) = (
-  λ e. elim (there e) [ inl old ↦ inl old | inr (here, new) ↦ inr (ap suc here, new) ],
-  λ o. elim o [ inl old ↦ back (inl old) | inr (here, new) ↦ back (inr (omega (arith, here), new)) ],
-)
-
--- one edge more
-pub edge-more : {A : Type 0} (graph : List (Vec ℕ A)) (from to : ℕ) (v w : Vec ℕ A) → slice_get graph from ≡ Some v → w.items ≡ v.items ++ to ∷ []
-    → (a b : ℕ) → IsEdge (set graph from w) a b ↔ (IsEdge graph a b ⊎ ((a ≡ from) × (b ≡ to)))
-edge-more [] from to v w at more a b = absurd (none-some v at)
-edge-more {A} (x ∷ graph) zero to v w at more zero b = (there, back)
-  where
-    items : w.items ≡ x.items ++ to ∷ []
-    items = more ∙ ap (λ (y : Vec ℕ A). y.items ++ to ∷ []) (sym (same_Some x v at))
-
-    there : Contains w.items b → Contains x.items b ⊎ ((zero ≡ zero) × (b ≡ to))
-    there c = elim (Contains-push_cases x.items to b (subst (λ l. Contains l b) items c)) [ inl old ↦ inl old | inr new ↦ inr (refl, sym new) ]
-
-    back : Contains x.items b ⊎ ((zero ≡ zero) × (b ≡ to)) → Contains w.items b
-    back (inl old) = subst (λ l. Contains l b) (sym items) (Contains-append_left x.items (to ∷ []) b old)
-    back (inr (here, new)) = subst (λ l. Contains l b) (sym items) (subst (Contains (x.items ++ to ∷ [])) (sym new) (Contains-push x.items to))
-edge-more (x ∷ graph) zero to v w at more (suc a) b = (λ e. inl e, λ o. elim o [ inl e ↦ e | inr new ↦ absurd (omega (arith, new.0)) ])
-edge-more (x ∷ graph) (suc from) to v w at more zero b = (λ e. inl e, λ o. elim o [ inl e ↦ e | inr new ↦ absurd (omega (arith, new.0)) ])
-edge-more (x ∷ graph) (suc from) to v w at more (suc a) b = behind-more (edge-more graph from to v w at more a b)
-
--- one node more, without edges
-pub edges-none : {A : Type 0} (graph new : List (Vec ℕ A)) (w : Vec ℕ A) → new ≡ graph ++ w ∷ [] → w.items ≡ [] → ((a b : ℕ) → IsEdge graph a b → ⊥) → (a b : ℕ) → IsEdge new a b → ⊥
-edges-none {A} graph new w is none without a b e = by graph without a (subst (λ l. IsEdge l a b) is e)
-  where
-    by : (graph : List (Vec ℕ A)) → ((a b : ℕ) → IsEdge graph a b → ⊥) → (a : ℕ) → IsEdge (graph ++ w ∷ []) a b → ⊥
-    by [] without zero e = let c = subst (λ l. Contains l b) none e in absurd (omega (arith, c.1))
-    by [] without (suc a) e = e
-    by (x ∷ graph) without zero e = without zero b e
-    by (x ∷ graph) without (suc a) e = by graph (λ c d f. without (suc c) d f) a e
 
 -- The words of a set statement behind the first, and in front of an index, of which one leads to the attribute of a number.
 pub record IsNamedBelow (policy : List Placed) (s : Placed) (k b : ℕ) : Type 0 where

@@ -1,6 +1,6 @@
 //! The attributes of a policy by numbers, and which of them set statements mention.
 
-ghost use Rattle.std.specs.Prelude.{◌≡◌, ◌<◌, ◌⊎◌, ◌↔◌, ℕ, List, Some, length, slice_get, IfOk, OnOk};
+ghost use Rattle.std.specs.Prelude.{◌≡◌, ◌⊎◌, ◌↔◌, ℕ, List, Some, length, slice_get, IfOk, OnOk};
 ghost use Rattle.cil_specs.specs.Names.{Word};
 ghost use Rattle.cil_specs.specs.Joined.{Placed};
 ghost use Rattle.cil_specs.specs.Lookup.{types, references};
@@ -10,6 +10,7 @@ ghost use Rattle.cil_check.specs.AttributeGraph.{attribute_count, number_led, Ar
 
 use crate::bound::{BoundPolicy, Seen};
 use crate::kinds::Kind;
+use cil_dependence::{add_edge, without_edges};
 use cil_parse::StatementKind;
 use std::alloc::{AllocError, Allocator, Global};
 
@@ -20,36 +21,6 @@ pub struct AttributeNumbers<A: Allocator = Global> {
     pub numbers: Vec<usize, A>,
     /// For each attribute, the place of its statement.
     pub places: Vec<usize, A>,
-}
-
-/// A graph of so many nodes, without edges.
-fn without_edges<A: Allocator + Copy>(
-    alloc: A,
-    count: usize,
-) -> Result<Vec<Vec<usize, A>, A>, AllocError>
-    ensures nodes { IfOk result (λ graph. length graph.items ≡ count) }
-    ensures edges { IfOk result (λ graph. (a b : ℕ) → IsEdge graph.items a b → ⊥) }
-{
-    let mut graph = Vec::with_capacity(alloc, count)?;
-    for _ in 0..count {
-        graph.push(Vec::new(alloc))?;
-    }
-    Ok(graph)
-}
-
-/// Puts in an edge.
-fn add_edge<A: Allocator>(
-    graph: &mut Vec<Vec<usize, A>, A>,
-    from: usize,
-    to: usize,
-) -> Result<(), AllocError>
-    requires { from < length graph.old.items }
-    ensures nodes { OnOk result (length graph.new.items ≡ length graph.old.items) }
-    ensures edges { OnOk result ((a b : ℕ) → IsEdge graph.new.items a b
-        ↔ (IsEdge graph.old.items a b ⊎ ((a ≡ from) × (b ≡ to)))) }
-{
-    graph[from].push(to)?;
-    Ok(())
 }
 
 impl<A: Allocator + Copy> AttributeNumbers<A> {
