@@ -1,6 +1,6 @@
 -- The graph of set statements, and their order.
 use Rattle.std.proofs.Common.{◌≡◌, ◌≢◌, ◌↔◌, ◌⊎◌, ◌∙◌, inl, inr, ℕ, zero, suc, ◌+◌, ◌<◌, ◌≤◌, Bool, true, false, ◌&&◌, List, [], ◌∷◌, ◌++◌, length, take, map, get_or, nat_lt, Option, Some, None, Result, Ok, Err, IfOk, slice_get, Vec, All, AllPairs, Contains, refl, sym, ap, subst, ltb-true, arith}
-use Rattle.std.specs.List.{list_all}
+use Rattle.std.specs.List.{list_all, AllByRecursion}
 use Rattle.std.proofs.lemmas.Bool.{cases_eq, cases_lt}
 use Rattle.std.proofs.lemmas.Cmp.{nat_eq_equiv}
 use Rattle.std.proofs.lemmas.List.{get_or_default, get_or-map, length-map, take_all, take_more}
@@ -10,6 +10,9 @@ use Rattle.std.proofs.lemmas.Option.{get_or_from_slice_get, slice_get_within}
 use Rattle.std.specs.List.{cons_option}
 use Rattle.std.specs.Option.{option_and_then}
 use Rattle.cil_specs.proofs.NamesLemmas.{contains-cases}
+use Rattle.cil_check.proofs.WordLemmas.{none-there}
+use Rattle.cil_specs.specs.Expr.{leaves}
+use Rattle.cil_expression.specs.Expression.{expr_in}
 use Rattle.cil_specs.proofs.Runs.{first_true, second_true}
 use Rattle.cil_dependence.specs.Graph.{IsEdge, AreNodes, LeadsThrough}
 use Rattle.cil_dependence.specs.Dependence.{IsOrder, IsCircular}
@@ -245,21 +248,21 @@ module _ {A B : Type 0} (sets : List (NumberedSet A)) (graph : List (Vec ℕ B))
 -- what stands at numbers is among the statements
 pub from-order : {A : Type 0} (sets : List (NumberedSet A)) (numbers : List ℕ) (x : NumberedSet A) → Contains (sets_at sets numbers) x → Contains sets x
 from-order sets [] x c = absurd (omega (arith, c.1))
-from-order {A} sets (n ∷ numbers) x c = by (slice_get sets n) refl c
+from-order {A} sets (n ∷ numbers) x c = by (slice_get sets n) refl (from-order sets numbers x) c
   where
-    by : (o : Option (NumberedSet A)) → slice_get sets n ≡ o → Contains (cons_option o (sets_at sets numbers)) x → Contains sets x
-    by None at d = from-order sets numbers x d
-    by (Some s) at d = elim (contains-cases s (sets_at sets numbers) x d) [
+    by : (o : Option (NumberedSet A)) → slice_get sets n ≡ o → (Contains (sets_at sets numbers) x → Contains sets x) → Contains (cons_option o (sets_at sets numbers)) x → Contains sets x
+    by None at others d = others d
+    by (Some s) at others d = elim (contains-cases s (sets_at sets numbers) x d) [
       | inl same ↦ (n, slice_get_within sets n x (at ∙ ap Some same), get_or_from_slice_get sets n x x (at ∙ ap Some same))
-      | inr more ↦ from-order sets numbers x more
+      | inr more ↦ others more
     ]
 
 -- The statement at a place of the order is that at its number.
 pub at-place : {A : Type 0} (sets : List (NumberedSet A)) (numbers : List ℕ) (i : ℕ) → AllByRecursion (λ n. n < length sets) numbers → slice_get (sets_at sets numbers) i ≡ option_and_then (slice_get sets) (slice_get numbers i)
 at-place sets [] i within = refl
-at-place {A} sets (n ∷ numbers) i within = by (slice_get sets n) refl i
+at-place {A} sets (n ∷ numbers) i within = by (slice_get sets n) refl (λ k. at-place sets numbers k within.1) i
   where
-    by : (o : Option (NumberedSet A)) → slice_get sets n ≡ o → (k : ℕ) → slice_get (cons_option (slice_get sets n) (sets_at sets numbers)) k ≡ option_and_then (slice_get sets) (slice_get (n ∷ numbers) k)
-    by None at k = absurd (none-some (get_or sets n ?) (sym at ∙ slice_get-get_or sets n ? within.0))
-    by (Some s) at zero = ap (λ o. slice_get (cons_option o (sets_at sets numbers)) zero) at ∙ sym at
-    by (Some s) at (suc k) = ap (λ o. slice_get (cons_option o (sets_at sets numbers)) (suc k)) at ∙ at-place sets numbers k within.1
+    by : (o : Option (NumberedSet A)) → slice_get sets n ≡ o → ((k : ℕ) → slice_get (sets_at sets numbers) k ≡ option_and_then (slice_get sets) (slice_get numbers k)) → (k : ℕ) → slice_get (cons_option (slice_get sets n) (sets_at sets numbers)) k ≡ option_and_then (slice_get sets) (slice_get (n ∷ numbers) k)
+    by None at others k = absurd (none-there sets n at within.0)
+    by (Some s) at others zero = ap (λ o. slice_get (cons_option o (sets_at sets numbers)) zero) at ∙ sym at
+    by (Some s) at others (suc k) = ap (λ o. slice_get (cons_option o (sets_at sets numbers)) (suc k)) at ∙ others k

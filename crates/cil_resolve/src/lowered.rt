@@ -14,6 +14,7 @@ use crate::lowering::Lowering;
 use crate::numbered::DroppedOptional;
 use crate::numbering::Numbering;
 use crate::resolved::Resolved;
+use crate::set_order::OrderedSets;
 use crate::text::Text;
 use cil_bind::Joined;
 use cil_check::Checker;
@@ -52,13 +53,14 @@ pub fn lowered<A: Allocator + Copy>(
         elements: &elements,
     };
     let parts = lowering.parts()?;
+    let sets = OrderedSets::of(alloc, numbering.names.len(), parts.sets)?;
     Ok(Resolved {
         modules: module_names(alloc, checker.bound.joined)?,
         names: numbering.names,
         types: parts.types,
         attributes: parts.attributes,
         classes: parts.classes,
-        sets: parts.sets,
+        sets,
         rules: parts.rules,
         dropped,
     })

@@ -2,6 +2,7 @@
 
 ghost use Rattle.std.specs.Prelude.{◌≡◌, ◌<◌, ◌⊎◌, ◌↔◌, ℕ, List, length, map, slice_get, option_map, IfOk, IsTrue, OnOk};
 ghost use Rattle.std.specs.List.{list_all};
+ghost use Rattle.std.specs.Option.{option_and_then};
 ghost use Rattle.cil_specs.specs.Dependence.{AreInOrder, AreTheSame};
 ghost use Rattle.cil_specs.specs.Sets.{HasNoCircle};
 ghost use Rattle.cil_dependence.specs.Graph.{IsEdge};
@@ -39,12 +40,20 @@ impl<A: Allocator + Copy> OrderedSets<A> {
 }
 
 impl<A: Allocator> OrderedSets<A> {
+    /// The statement whose number stands at a place of the order.
+    fn numbered(&self, i: usize) -> Option<&NumberedSet<A>>
+        ensures { option_map (λ set. set.now) result
+            ≡ option_and_then (slice_get self.now.sets.items) (slice_get self.now.order.items i) }
+    {
+        let number = self.order.get(i)?;
+        self.sets.get(*number)
+    }
+
     /// The statement at a place of the order.
     pub fn at(&self, i: usize) -> Option<&NumberedSet<A>>
         ensures { option_map (λ set. set.now) result ≡ slice_get (sets_at self.now.sets.items self.now.order.items) i }
     {
-        let number = self.order.get(i)?;
-        self.sets.get(*number)
+        self.numbered(i)
     }
 
     /// How many there are.

@@ -1,4 +1,5 @@
-use Rattle.std.proofs.Common.{◌≡◌, ◌∙◌, List, ℕ, map, sym, ap, subst}
+use Rattle.std.proofs.Common.{◌≡◌, ◌∙◌, List, [], ℕ, length, map, IsTrue, sym, ap, subst}
+use Rattle.std.specs.List.{list_all}
 use Rattle.cil_specs.specs.Joined.{Placed}
 use Rattle.cil_specs.specs.Members.{HasSoundSets}
 use Rattle.cil_specs.specs.Meaning.{Meaning, meaning_of}
@@ -10,6 +11,9 @@ use Rattle.cil_resolve.specs.Numbering.{HavePlaces}
 use Rattle.cil_resolve.specs.Numbers.{declared_of, class_of, set_of, rule_of, dropped_with}
 use Rattle.cil_resolve.proofs.ConsistentLemmas.{rules-declared}
 use Rattle.cil_resolve.proofs.PlacedLemmas.{from-named, all-placed}
+use Rattle.cil_specs.specs.Sets.{HasNoCircle}
+use Rattle.cil_resolve.specs.Below.{is_set_below}
+use Rattle.cil_resolve.proofs.SetNameLemmas.{numbers-straight}
 use Rattle.cil_resolve.proofs.SoundLemmas.{faultless-sound}
 use Rattle.cil_resolve.proofs.lowered.lowered.Goals as goal
 
@@ -27,6 +31,27 @@ parts-requires g c =
             (subst (HavePlaces c.in_ok-numbering.numbering.names.items policy) (sym c.deref.ensures.value) (c.in_ok-numbering.ensures.places policy noted.is)));
       },
     )
+
+pub of-requires-2 : goal.of-requires-2
+of-requires-2 g c =
+    let (policy, noted, faultless) = c.requires in
+    let parts = c.in_ok-parts.ensures policy (record {
+      noted = noted;
+      faultless = faultless;
+      places = c.in_ok-numbering.ensures.places policy noted.is;
+      permissions = c.in_ok-numbering.ensures.permissions policy noted.is;
+      elements = subst (HaveElements c.in_ok-numbering.numbering.names.items policy) (sym c.deref-2.ensures.value)
+          (c.in_ok-elements.ensures c.in_ok-numbering.numbering.names.items policy noted faultless
+          (subst (HavePlaces c.in_ok-numbering.numbering.names.items policy) (sym c.deref.ensures.value) (c.in_ok-numbering.ensures.places policy noted.is)));
+    }) in
+    let names = c.in_ok-numbering.numbering.names.items in
+    let modules = modules_of c.args.checker.now.bound.joined.now in
+    record {
+      within = parts.sets_are.below;
+      straight =
+          numbers-straight modules names c.in_ok-parts.parts.sets.items (record { rise = c.in_ok-numbering.numbering.ordered; below = parts.sets_are.below })
+          (subst HasNoCircle (sym parts.sets_are.is) (faultless-sound policy faultless []).straight);
+    }
 
 pub invariant_of-result : goal.invariant_of-result
 invariant_of-result g c =
@@ -48,7 +73,7 @@ invariant_of-result g c =
     let types = (λ k. map (declared_of (modules k) names) c.in_ok-parts.parts.types.items) ∙ parts.types_are in
     let attributes = (λ k. map (declared_of (modules k) names) c.in_ok-parts.parts.attributes.items) ∙ parts.attributes_are in
     let classes = (λ k. map (class_of (modules k) names) c.in_ok-parts.parts.classes.items) ∙ parts.classes_are in
-    let sets = (λ k. map (set_of (modules k) names) c.in_ok-parts.parts.sets.items) ∙ parts.sets_are.is in
+    let sets = (λ k. map (set_of (modules k) names) (c.in_ok-sets.ensures k)) ∙ parts.sets_are.is in
     let rules = (λ k. map (rule_of (modules k) names) c.in_ok-parts.parts.rules.items) ∙ parts.rules_are.is in
     let dropped = map (dropped_with (modules_of c.args.checker.now.bound.joined.now)) c.args.dropped.items in
     let means : _ ≡ meaning_of policy dropped = λ i. record { types = types i; attributes = attributes i; classes = classes i; sets = sets i; rules = rules i; dropped = map (dropped_with (modules i)) c.args.dropped.items } in
@@ -64,7 +89,7 @@ invariant_of-result g c =
       types_within = parts.types_below;
       attributes_within = parts.attributes_below;
       classes_within = parts.classes_below;
-      sets_within = parts.sets_are.below;
+      sets_within = subst (λ l. IsTrue (list_all (is_set_below (length names)) l)) (sym c.in_ok-sets.ensures) parts.sets_are.below;
       rules_within = parts.rules_are.below;
     }
 
@@ -84,6 +109,6 @@ returns g c policy noted faultless =
     let types = (λ k. map (declared_of (modules k) names) c.in_ok-parts.parts.types.items) ∙ parts.types_are in
     let attributes = (λ k. map (declared_of (modules k) names) c.in_ok-parts.parts.attributes.items) ∙ parts.attributes_are in
     let classes = (λ k. map (class_of (modules k) names) c.in_ok-parts.parts.classes.items) ∙ parts.classes_are in
-    let sets = (λ k. map (set_of (modules k) names) c.in_ok-parts.parts.sets.items) ∙ parts.sets_are.is in
+    let sets = (λ k. map (set_of (modules k) names) (c.in_ok-sets.ensures k)) ∙ parts.sets_are.is in
     let rules = (λ k. map (rule_of (modules k) names) c.in_ok-parts.parts.rules.items) ∙ parts.rules_are.is in
     λ i. record { types = types i; attributes = attributes i; classes = classes i; sets = sets i; rules = rules i; dropped = map (dropped_with (modules i)) c.args.dropped.items }
