@@ -24,7 +24,8 @@ fn is_element(node: &SetNode) -> bool
 /// What stands behind the next node, where a list of elements goes on there.
 fn behind_element<'r>(rest: Rest<'r>) -> Option<Rest<'r>>
     ensures { MatchOption result (HasNoElement rest.entry.nodes.now)
-        (λ behind. (rest.entry.nodes.now ≡ nodes.Element ∷ behind.nodes.now) × (behind.names.now ≡ rest.entry.names.now)) }
+        (λ behind. (rest.entry.nodes.now ≡ nodes.Element ∷ behind.nodes.now)
+        × (behind.names.now ≡ rest.entry.names.now)) }
 {
     let (node, nodes) = rest.nodes.split_first()?;
     if is_element(node) {
@@ -37,10 +38,10 @@ fn behind_element<'r>(rest: Rest<'r>) -> Option<Rest<'r>>
     }
 }
 
-/// What a name's element holds.
+/// What known answers of the next name.
 fn name_value<'r, F: Fn(Element) -> bool>(rest: Rest<'r>, known: &F) -> (bool, Rest<'r>)
     requires callable { F.IsAlwaysCallable known.now }
-    ensures shorter { result.1.nodes.now ≡ rest.entry.nodes.now }
+    ensures nodes { result.1.nodes.now ≡ rest.entry.nodes.now }
     ensures value { IsValue (F.post known.now) (nodes.Name ∷ rest.entry.nodes.now) rest.entry.names.now
         result.0 result.1.nodes.now result.1.names.now }
 {
@@ -54,7 +55,8 @@ fn name_value<'r, F: Fn(Element) -> bool>(rest: Rest<'r>, known: &F) -> (bool, R
     }
 }
 
-/// Whether the next expression holds what known tells of its names, and what stands behind it. The elements of a list go one by one.
+/// Whether the next expression holds something, by what known answers of its names, and what stands behind it. A list may
+/// be of any length, so a loop goes over its elements: the calls are as deep as the expression is nested.
 #[cycle(value)]
 pub(crate) fn value<'r, F: Fn(Element) -> bool>(rest: Rest<'r>, known: &F) -> (bool, Rest<'r>)
     requires callable { F.IsAlwaysCallable known.now }
@@ -118,10 +120,7 @@ fn operation<'r, F: Fn(Element) -> bool>(
 
 /// What the next two expressions come to.
 #[cycle(value)]
-fn two_values<'r, F: Fn(Element) -> bool>(
-    rest: Rest<'r>,
-    known: &F,
-) -> (bool, bool, Rest<'r>)
+fn two_values<'r, F: Fn(Element) -> bool>(rest: Rest<'r>, known: &F) -> (bool, bool, Rest<'r>)
     requires callable { F.IsAlwaysCallable known.now }
     ensures shorter { length result.2.nodes.now ≤ length rest.entry.nodes.now }
     ensures values { AreValues (F.post known.now) rest.entry.nodes.now rest.entry.names.now

@@ -1,6 +1,5 @@
 use Rattle.std.proofs.Common.{◌≡◌, ◌∷◌, List, sym, subst, arith, rules}
 use Rattle.cil_parse.specs.declared.row.SetNode.{SetNode}
-use Rattle.cil_parse.specs.declared.row.SetNode.TheVariants as nodes
 use Rattle.cil_expression.specs.Evaluation.{IsValue}
 use Rattle.cil_expression.proofs.EvaluationLemmas.{at-node, all-value, nothing-value, not-value, and-value, or-value, xor-value, two-values, goes-first, goes-next, goes-end, none-left}
 use Rattle.cil_expression.proofs.evaluation.+value.Goals as goal
