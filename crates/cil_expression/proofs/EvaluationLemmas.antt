@@ -85,6 +85,10 @@ pub at-node : (known : Element → Bool → Type 0) (node is : SetNode) (behind 
     → node ≡ is → IsValue known (is ∷ behind) names found left rest → IsValue known (node ∷ behind) names found left rest
 at-node known node is behind names found left rest e v = subst (λ n. IsValue known (n ∷ behind) names found left rest) (sym e) v
 
+pub in-place : (known : Element → Bool → Type 0) (spelling is : List SetNode) (names are : List Element) (found : Bool) (left : List SetNode) (rest : List Element)
+    → spelling ≡ is → are ≡ names → IsValue known is are found left rest → IsValue known spelling names found left rest
+in-place known spelling is names are found left rest s n v = subst (λ l. IsValue known l names found left rest) (sym s) (subst (λ l. IsValue known is l found left rest) n v)
+
 -- one node with no operand
 pub all-value : (known : Element → Bool → Type 0) (behind : List SetNode) (names : List Element) → IsValue known (nodes.All ∷ behind) names true behind names
 unfolding Opens

@@ -2,7 +2,7 @@
 
 ghost use Rattle.cil_expression.specs.Spelling.{IsWhole};
 
-use crate::evaluation::{Rest, value};
+use crate::evaluation::{Rest, next_value};
 use crate::same::are_same_names;
 use cil_parse::SetNode;
 use std::alloc::{Allocator, Global};
@@ -56,7 +56,7 @@ impl<A: Allocator> SetExpression<A> {
     {
         let nodes = self.nodes.as_slice();
         let names = self.names();
-        let (holds, _) = value(Rest { nodes, names }, &known);
+        let (holds, _) = next_value(Rest { nodes, names }, &known);
         holds
     }
 
