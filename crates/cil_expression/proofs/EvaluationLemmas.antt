@@ -1,5 +1,5 @@
 -- Evaluation of the expression in front.
-use Rattle.std.proofs.Common.{◌≡◌, ℕ, ◌+◌, ◌≤◌, length, Bool, true, false, not, ◌&&◌, ◌||◌, List, [], ◌∷◌, ◌++◌, Contains, refl, sym, ap, ◌∙◌, subst, arith, append_assoc}
+use Rattle.std.proofs.Common.{◌≡◌, length, Bool, true, false, not, ◌&&◌, ◌||◌, List, [], ◌∷◌, ◌++◌, Contains, refl, sym, ap, ◌∙◌, subst, arith, append_assoc}
 use Rattle.std.proofs.Math.Bool.{beq}
 use Rattle.std.proofs.lemmas.List.Elements.{Contains-append_left, Contains-append_right}
 use Rattle.cil_specs.specs.Expr.{Expr, every, named, opposite, both, either, one_of, nothing, elements, leaves}
@@ -10,7 +10,7 @@ use Rattle.cil_parse.specs.declared.row.SetNode.TheVariants as nodes
 use Rattle.cil_expression.specs.declared.expression.Element.{Element}
 use Rattle.cil_expression.specs.Spelling.{nodes_of}
 use Rattle.cil_expression.specs.Holds.{holds_by, Answers}
-use Rattle.cil_expression.specs.Evaluation.{is_element, HasNoElement, Begins, IsFound, IsValue, AreFound, AreValues}
+use Rattle.cil_expression.specs.Evaluation.{Begins, IsValue, AreValues}
 
 -- the expression is one of a node with these operands
 record IsOne (op : Expr Element → Expr Element) (e : Expr Element) (behind : List SetNode) (names : List Element) (more : List SetNode) (others : List Element) : Type 0 where
@@ -85,6 +85,10 @@ pub at-node : (known : Element → Bool → Type 0) (node is : SetNode) (behind 
     → node ≡ is → IsValue known (is ∷ behind) names found left rest → IsValue known (node ∷ behind) names found left rest
 at-node known node is behind names found left rest e v = subst (λ n. IsValue known (n ∷ behind) names found left rest) (sym e) v
 
+pub in-place : (known : Element → Bool → Type 0) (spelling is : List SetNode) (names are : List Element) (found : Bool) (left : List SetNode) (rest : List Element)
+    → spelling ≡ is → are ≡ names → IsValue known is are found left rest → IsValue known spelling names found left rest
+in-place known spelling is names are found left rest s n v = subst (λ l. IsValue known l names found left rest) (sym s) (subst (λ l. IsValue known is l found left rest) n v)
+
 -- one node with no operand
 pub all-value : (known : Element → Bool → Type 0) (behind : List SetNode) (names : List Element) → IsValue known (nodes.All ∷ behind) names true behind names
 unfolding Opens
@@ -129,7 +133,7 @@ pub two-values : (known : Element → Bool → Type 0) (spelling : List SetNode)
     → IsValue known spelling names x behind names_behind → IsValue known behind names_behind y left rest → AreValues known spelling names x y left rest
 two-values known spelling names first behind names_behind second left rest fx fy x y more others value n l answers =
     let f = fx x (nodes_of y ++ more) (leaves y ++ others) value (record { nodes_are = n ∙ append_assoc (nodes_of x) (nodes_of y) more; names_are = l ∙ append_assoc (leaves x) (leaves y) others })
-        (λ e r c. answers e r (Contains-append_left (leaves x) (leaves y) e c)) in
+    (λ e r c. answers e r (Contains-append_left (leaves x) (leaves y) e c)) in
     let s = fy y more others value (record { nodes_are = f.nodes_are; names_are = f.names_are }) (λ e r c. answers e r (Contains-append_right (leaves x) (leaves y) e c)) in
     record { first_is = f.value_is; second_is = s.value_is; nodes_are = s.nodes_are; names_are = s.names_are }
 
@@ -191,8 +195,8 @@ goes-next known spelling names holds left rest behind names_behind element left_
     let o = opened nodes.Element behind names_behind g.tail more others (record { nodes_are = sym split ∙ g.begins.nodes_are; names_are = same ∙ g.begins.names_are }) in
     let known_here : Answers known (λ l. Contains (leaves o.x ++ leaves o.y) l) value = subst (λ k. Answers known (λ l. Contains (leaves k) l) value) o.is g.answers in
     let f = found o.x (nodes_of o.y ++ more) (leaves o.y ++ others) value
-        (record { nodes_are = o.nodes_are ∙ append_assoc (nodes_of o.x) (nodes_of o.y) more; names_are = o.names_are ∙ append_assoc (leaves o.x) (leaves o.y) others })
-        (λ e r c. known_here e r (Contains-append_left (leaves o.x) (leaves o.y) e c)) in
+    (record { nodes_are = o.nodes_are ∙ append_assoc (nodes_of o.x) (nodes_of o.y) more; names_are = o.names_are ∙ append_assoc (leaves o.x) (leaves o.y) others })
+    (λ e r c. known_here e r (Contains-append_left (leaves o.x) (leaves o.y) e c)) in
     record {
       tail = o.y;
       begins = record { nodes_are = f.nodes_are; names_are = f.names_are };

@@ -1,4 +1,5 @@
 pub mod EvaluationLemmas
 pub mod HoldsLemmas
+pub mod SameExprLemmas
 pub mod SameLemmas
 pub mod SpellingLemmas

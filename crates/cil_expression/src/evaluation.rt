@@ -1,6 +1,6 @@
 //! What an expression holds, from its nodes and its names in one run.
 
-ghost use Rattle.std.specs.Prelude.{◌≡◌, false, length, ◌≤◌, ◌∷◌, MatchOption};
+ghost use Rattle.std.specs.Prelude.{◌≡◌, false, length, ◌≤◌, ◌∷◌, IfSome, MatchOption};
 ghost use Rattle.cil_expression.specs.Evaluation.{IsValue, AreValues, is_element, HasNoElement};
 ghost use Rattle.cil_parse.specs.declared.row.SetNode.TheVariants as nodes;
 
@@ -24,7 +24,8 @@ fn is_element(node: &SetNode) -> bool
 /// What stands behind the next node, where a list of elements goes on there.
 fn behind_element<'r>(rest: Rest<'r>) -> Option<Rest<'r>>
     ensures { MatchOption result (HasNoElement rest.entry.nodes.now)
-        (λ behind. (rest.entry.nodes.now ≡ nodes.Element ∷ behind.nodes.now) × (behind.names.now ≡ rest.entry.names.now)) }
+        (λ behind. (rest.entry.nodes.now ≡ nodes.Element ∷ behind.nodes.now)
+        × (behind.names.now ≡ rest.entry.names.now)) }
 {
     let (node, nodes) = rest.nodes.split_first()?;
     if is_element(node) {
@@ -37,10 +38,10 @@ fn behind_element<'r>(rest: Rest<'r>) -> Option<Rest<'r>>
     }
 }
 
-/// What a name's element holds.
+/// What known answers of the next name.
 fn name_value<'r, F: Fn(Element) -> bool>(rest: Rest<'r>, known: &F) -> (bool, Rest<'r>)
     requires callable { F.IsAlwaysCallable known.now }
-    ensures shorter { result.1.nodes.now ≡ rest.entry.nodes.now }
+    ensures nodes { result.1.nodes.now ≡ rest.entry.nodes.now }
     ensures value { IsValue (F.post known.now) (nodes.Name ∷ rest.entry.nodes.now) rest.entry.names.now
         result.0 result.1.nodes.now result.1.names.now }
 {
@@ -54,9 +55,39 @@ fn name_value<'r, F: Fn(Element) -> bool>(rest: Rest<'r>, known: &F) -> (bool, R
     }
 }
 
-/// Whether the next expression holds what known tells of its names, and what stands behind it. The elements of a list go one by one.
+/// What stands behind the next node, where that is a name's.
+fn behind_name<'r>(rest: Rest<'r>) -> Option<Rest<'r>>
+    ensures { IfSome result (λ behind. (rest.entry.nodes.now ≡ nodes.Name ∷ behind.nodes.now)
+        × (behind.names.now ≡ rest.entry.names.now)) }
+{
+    match rest.nodes.split_first() {
+        Some((SetNode::Name, nodes)) => Some(Rest {
+            nodes,
+            names: rest.names,
+        }),
+        _ => None,
+    }
+}
+
+/// Whether the next expression holds something, by what known answers of its names, and what stands behind it. Most are one
+/// name, which takes no further call.
 #[cycle(value)]
-pub(crate) fn value<'r, F: Fn(Element) -> bool>(rest: Rest<'r>, known: &F) -> (bool, Rest<'r>)
+pub(crate) fn next_value<'r, F: Fn(Element) -> bool>(rest: Rest<'r>, known: &F) -> (bool, Rest<'r>)
+    requires callable { F.IsAlwaysCallable known.now }
+    ensures shorter { length result.1.nodes.now ≤ length rest.entry.nodes.now }
+    ensures value { IsValue (F.post known.now) rest.entry.nodes.now rest.entry.names.now
+        result.0 result.1.nodes.now result.1.names.now }
+{
+    match behind_name(rest) {
+        Some(behind) => name_value(behind, known),
+        None => value(rest, known),
+    }
+}
+
+/// The same of any expression. A list may be of any length, so a loop goes over its elements: the calls are as deep as the
+/// expression is nested.
+#[cycle(value)]
+fn value<'r, F: Fn(Element) -> bool>(rest: Rest<'r>, known: &F) -> (bool, Rest<'r>)
     requires callable { F.IsAlwaysCallable known.now }
     ensures shorter { length result.1.nodes.now ≤ length rest.entry.nodes.now }
     ensures value { IsValue (F.post known.now) rest.entry.nodes.now rest.entry.names.now
@@ -65,7 +96,7 @@ pub(crate) fn value<'r, F: Fn(Element) -> bool>(rest: Rest<'r>, known: &F) -> (b
     let mut holds = false;
     let mut left = rest;
     while let Some(behind) = behind_element(left) {
-        let (element, more) = value(behind, known);
+        let (element, more) = next_value(behind, known);
         holds = holds | element;
         left = more;
     }
@@ -96,7 +127,7 @@ fn operation<'r, F: Fn(Element) -> bool>(
         SetNode::All => (true, rest),
         SetNode::Name => name_value(rest, known),
         SetNode::Not => {
-            let (x, more) = value(rest, known);
+            let (x, more) = next_value(rest, known);
             (!x, more)
         }
         SetNode::And => {
@@ -118,16 +149,13 @@ fn operation<'r, F: Fn(Element) -> bool>(
 
 /// What the next two expressions come to.
 #[cycle(value)]
-fn two_values<'r, F: Fn(Element) -> bool>(
-    rest: Rest<'r>,
-    known: &F,
-) -> (bool, bool, Rest<'r>)
+fn two_values<'r, F: Fn(Element) -> bool>(rest: Rest<'r>, known: &F) -> (bool, bool, Rest<'r>)
     requires callable { F.IsAlwaysCallable known.now }
     ensures shorter { length result.2.nodes.now ≤ length rest.entry.nodes.now }
     ensures values { AreValues (F.post known.now) rest.entry.nodes.now rest.entry.names.now
         result.0 result.1 result.2.nodes.now result.2.names.now }
 {
-    let (x, behind) = value(rest, known);
-    let (y, more) = value(behind, known);
+    let (x, behind) = next_value(rest, known);
+    let (y, more) = next_value(behind, known);
     (x, y, more)
 }

@@ -2,12 +2,13 @@
 
 ghost use Rattle.cil_expression.specs.Spelling.{IsWhole};
 
-use crate::evaluation::{Rest, value};
+use crate::evaluation::{Rest, next_value};
 use crate::same::are_same_names;
 use cil_parse::SetNode;
 use std::alloc::{Allocator, Global};
 
-/// What a name of a rule or of a set expression leads to, an alias to its type, by the place of its full name in a list of names.
+/// What a name of a rule or of a set expression leads to, an alias to its type, by the place of its full name in a list
+/// of names.
 #[derive(Clone, Copy, Debug, PartialEq, Eq)]
 pub enum Element {
     Type(usize),
@@ -33,7 +34,8 @@ impl<A: Allocator> SetExpression<A> {
     /// The expression of these nodes and of what its names lead to.
     pub fn new(nodes: Vec<SetNode, A>, names: Vec<Element, A>) -> Self
         requires spelt { IsSpelt nodes.items names.items }
-        ensures { (expr : Expr Element) → nodes.items ≡ nodes_of expr → names.items ≡ leaves expr → expr_in result ≡ expr }
+        ensures { (expr : Expr Element) → nodes.items ≡ nodes_of expr → names.items ≡ leaves expr
+            → expr_in result ≡ expr }
     {
         SetExpression { nodes, names }
     }
@@ -48,12 +50,13 @@ impl<A: Allocator> SetExpression<A> {
     /// Whether it holds something, where known answers whether each of its names does. It takes no memory.
     pub fn holds<F: Fn(Element) -> bool>(&self, known: F) -> bool
         requires callable { F.IsAlwaysCallable known }
-        ensures { (value : Element → Bool) → Answers (F.post known) (λ e. Contains (leaves (expr_in self.now)) e) value
+        ensures { (value : Element → Bool)
+            → Answers (F.post known) (λ e. Contains (leaves (expr_in self.now)) e) value
             → result ≡ holds_by value (expr_in self.now) }
     {
         let nodes = self.nodes.as_slice();
         let names = self.names();
-        let (holds, _) = value(Rest { nodes, names }, &known);
+        let (holds, _) = next_value(Rest { nodes, names }, &known);
         holds
     }
 
@@ -64,10 +67,15 @@ impl<A: Allocator> SetExpression<A> {
         self.holds(|_| false)
     }
 
-    /// Whether another expression has the same nodes, and names that are the same as its own in pairs, which same answers.
-    pub fn is_same<F: Fn(Element, Element) -> bool>(&self, other: &SetExpression<A>, same: F) -> bool
+    /// Whether another expression has the same nodes, and names that are the same as its own in pairs, as same answers.
+    pub fn is_same<F: Fn(Element, Element) -> bool>(
+        &self,
+        other: &SetExpression<A>,
+        same: F,
+    ) -> bool
         requires callable { F.IsAlwaysCallable same }
-        ensures { (pairs : Element → Element → Bool) → AnswersPairs (F.post same) (leaves (expr_in self.now)) (leaves (expr_in other.now)) pairs
+        ensures { (pairs : Element → Element → Bool)
+            → AnswersPairs (F.post same) (leaves (expr_in self.now)) (leaves (expr_in other.now)) pairs
             → result ≡ are_same pairs (expr_in self.now) (expr_in other.now) }
     {
         let nodes = self.nodes.as_slice() == other.nodes.as_slice();

@@ -9,4 +9,4 @@ mod same;
 mod tests;
 
 pub use expression::{Element, SetExpression};
-pub use laws::{names_bound, names_decide};
+pub use laws::{names_bound, names_decide, same_hold_the_same};

@@ -9,6 +9,7 @@ use std::alloc::{AllocError, Global};
 use std::test::Fail;
 
 const A: Element = Element::Type(7);
+
 const B: Element = Element::Attribute(7);
 
 // The nodes and the names of one expression.
@@ -105,7 +106,11 @@ fn expression(x: Spelling) -> SetExpression {
 
 // Whether it holds something, by whether A does and whether B does.
 fn held(x: &SetExpression, a: bool, b: bool) -> bool {
-    x.holds(|name| if matches!(name, Element::Type(_)) { a } else { b })
+    x.holds(|name| if matches!(name, Element::Type(_)) {
+        a
+    } else {
+        b
+    })
 }
 
 // That, where neither name does, where A does, where B does, and where both do.
@@ -168,17 +173,12 @@ fn a_list_holds_what_an_element_does(rt: HostRuntime) -> Result<(), Fail> {
 #[test]
 fn operands_may_be_operations(rt: HostRuntime) -> Result<(), Fail> {
     let alloc = rt.alloc();
-    let only_a = and(
-        alloc,
-        union(alloc, &[A, B])?,
-        not(alloc, name(alloc, B)?)?,
-    )?;
-    let only_b = and(
-        alloc,
-        not(alloc, union(alloc, &[A])?)?,
-        name(alloc, B)?,
-    )?;
-    assert_eq!(rt; table(xor(alloc, only_a, only_b)?), [false, true, true, false]);
+    let only_a = and(alloc, union(alloc, &[A, B])?, not(alloc, name(alloc, B)?)?)?;
+    let only_b = and(alloc, not(alloc, union(alloc, &[A])?)?, name(alloc, B)?)?;
+    assert_eq!(rt;
+        table(xor(alloc, only_a, only_b)?),
+        [false, true, true, false]
+    );
     Ok(())
 }
 

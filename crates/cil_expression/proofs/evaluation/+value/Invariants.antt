@@ -3,13 +3,16 @@ use Rattle.cil_expression.proofs.EvaluationLemmas.{GoesOver}
 use Rattle.cil_expression.proofs.evaluation.+value.Given as goal
 
 abbrev pub decreases-value : goal.decreases-value
-decreases-value g l = 3 * length l.rest.nodes.now
+decreases-value g l = 4 * length l.rest.nodes.now
+
+abbrev pub decreases-next_value : goal.decreases-next_value
+decreases-next_value g l = 4 * length l.rest.nodes.now + 1
 
 abbrev pub decreases-two_values : goal.decreases-two_values
-decreases-two_values g l = 3 * length l.rest.nodes.now + 1
+decreases-two_values g l = 4 * length l.rest.nodes.now + 2
 
 abbrev pub decreases-operation : goal.decreases-operation
-decreases-operation g l = 3 * length l.rest.nodes.now + 2
+decreases-operation g l = 4 * length l.rest.nodes.now + 3
 
 abbrev pub invariant-value-loop-behind : goal.invariant-value-loop-behind
 invariant-value-loop-behind g l = record {

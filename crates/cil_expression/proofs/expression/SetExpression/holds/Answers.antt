@@ -8,10 +8,10 @@ pub returns : goal.returns
 returns g c value answers =
     let expr = expr_in c.args.self.now in
     let found =
-        c.value-holds.ensures.value expr [] [] value
-        (record {
-          nodes_are = c.as_slice-nodes.ensures.value ∙ c.args.self.now.spelt.nodes_are ∙ sym (append-nil (nodes_of expr));
-          names_are = c.names-names.ensures ∙ sym (append-nil (leaves expr));
-        })
-        answers in
+    c.next_value-holds.ensures.value expr [] [] value
+    (record {
+      nodes_are = c.as_slice-nodes.ensures.value ∙ c.args.self.now.spelt.nodes_are ∙ sym (append-nil (nodes_of expr));
+      names_are = c.names-names.ensures ∙ sym (append-nil (leaves expr));
+    })
+    answers in
     found.value_is

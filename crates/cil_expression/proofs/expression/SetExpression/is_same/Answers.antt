@@ -1,9 +1,8 @@
-use Rattle.std.proofs.Common.{◌≡◌, Bool, ◌&&◌, List, Contains, ap, sym, subst, ◌∙◌}
+use Rattle.std.proofs.Common.{◌≡◌, ◌&&◌, Contains, ap, sym, subst, ◌∙◌}
 use Rattle.cil_specs.specs.Expr.{leaves}
 use Rattle.cil_expression.specs.Expression.{expr_in}
-use Rattle.cil_expression.specs.Same.{all_same, same_node, AnswersPairs}
+use Rattle.cil_expression.specs.Same.{all_same, same_node}
 use Rattle.cil_expression.specs.Spelling.{nodes_of}
-use Rattle.cil_expression.specs.declared.expression.Element.{Element}
 use Rattle.cil_expression.proofs.SameLemmas.{pointwise-nodes}
 use Rattle.cil_expression.proofs.expression.SetExpression.is_same.Goals as goal
 use Rattle.cil_expression.proofs.expression.SetExpression.is_same.Goals.{then-nodes, else-nodes}
@@ -18,8 +17,8 @@ returns g c pairs answers =
     c.eq-nodes.ensures ∙ pointwise-nodes c.as_slice.result.now c.as_slice-2.result.now ∙ (λ i. all_same same_node (mine i) (others i)) in
     elim c.if-nodes.branch [
       | then-nodes w ↦ (let x = w.names.ensures in
-        let y = w.names-then-nodes.ensures in
-        w.result-is ∙ w.are_same_names.ensures pairs (λ a b r ca cb. answers a b r (subst (λ l. Contains l a) x ca) (subst (λ l. Contains l b) y cb))
-        ∙ (λ i. all_same pairs (x i) (y i)) ∙ ap (λ b. b && all_same pairs (leaves e) (leaves f)) (sym w.if-nodes.true ∙ nodes))
+          let y = w.names-then-nodes.ensures in
+          w.result-is ∙ w.are_same_names.ensures pairs (λ a b r ca cb. answers a b r (subst (λ l. Contains l a) x ca) (subst (λ l. Contains l b) y cb))
+          ∙ (λ i. all_same pairs (x i) (y i)) ∙ ap (λ b. b && all_same pairs (leaves e) (leaves f)) (sym w.if-nodes.true ∙ nodes))
       | else-nodes w ↦ w.result-is ∙ w.if-nodes.false ∙ ap (λ b. b && all_same pairs (leaves e) (leaves f)) (sym w.if-nodes.false ∙ nodes)
     ]
