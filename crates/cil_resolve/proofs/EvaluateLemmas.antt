@@ -60,10 +60,10 @@ module _ {A : Type 0} (r : Resolved A) where
       ∙ sym (holds-mapped f (λ l. element_holds known l (name_in r t)) e) ∙ sym (expr-holds known (map_leaves f e) (name_in r t)) ∙ in-known (meaning_in r) known (map_leaves f e) (name_in r t) kept (λ a m. refl)
 
   -- Answers for the names of an expression are what they hold.
-  pub answers-told : {post : ℕ → Bool → Type 0} (s : SetStatement) (x : NumberedSet A) (t : ℕ) → TellsMembers r post s t → set_of r.modules.items r.names.items x ≡ s
+  pub answers-told : {post : ℕ → Bool → Type 0} (s : SetStatement) (x : NumberedSet A) (t : ℕ) → TellsMembers r post s t → set_of r.modules.items r.names.items x ≡ s → list_all (is_element_below (length r.names.items)) (leaves (expr_in x.expression)) ≡ true
       → Answers (IsAnswer post t) (λ l. Contains (leaves (expr_in x.expression)) l) (value-at t)
-  answers-told s x t tells named («Type» n) answer c is = is
-  answers-told s x t tells named (Attribute a) answer c is = tells a answer (ap (λ y. mentions (name_in r a) y.expr) (sym named) ∙ mentioned a c) is
+  answers-told s x t tells named below («Type» n) answer c is = is
+  answers-told s x t tells named below (Attribute a) answer c is = tells a answer (ltb-true a (length r.names.items) (of-all (is_element_below (length r.names.items)) (leaves (expr_in x.expression)) (Attribute a) below c)) (ap (λ y. mentions (name_in r a) y.expr) (sym named) ∙ mentioned a c) is
     where
       mentioned : (a : ℕ) → Contains (leaves (expr_in x.expression)) (Attribute a) → mentions (name_in r a) (map_leaves (element_of r.names.items) (expr_in x.expression)) ≡ true
       mentioned a c =

@@ -1,5 +1,5 @@
 -- The set statements of a resolved policy, as evaluation sees them.
-use Rattle.std.specs.Prelude.{◌≡◌, ◌==◌, ℕ, Bool, List, [], map, IsTrue, slice_get, slice_index_or, Some}
+use Rattle.std.specs.Prelude.{◌≡◌, ◌==◌, ◌<◌, ℕ, length, Bool, List, [], map, IsTrue, slice_get, slice_index_or, Some}
 use Rattle.std.specs.List.{list_any}
 use Rattle.cil_specs.specs.Rule.{SetStatement}
 use Rattle.cil_specs.specs.Sets.{mentions}
@@ -27,4 +27,4 @@ IsAnswer post t (Attribute a) answer = post a answer
 
 -- Each answer for an attribute that a set statement mentions says whether the type of this number is a member of it.
 abbrev pub TellsMembers : {A : Type 0} → Resolved A → (ℕ → Bool → Type 0) → SetStatement → ℕ → Type 0
-TellsMembers r post s t = (a : ℕ) (answer : Bool) → IsTrue (mentions (name_in r a) s.expr) → post a answer → answer ≡ is_member (meaning_in r) (name_in r a) (name_in r t)
+TellsMembers r post s t = (a : ℕ) (answer : Bool) → a < length r.names.items → IsTrue (mentions (name_in r a) s.expr) → post a answer → answer ≡ is_member (meaning_in r) (name_in r a) (name_in r t)

@@ -1,6 +1,7 @@
 //! Laws of the definitions. They have no code.
 
 ghost use Rattle.std.specs.Prelude.{◌≡◌, ◌≤◌, ℕ, List, IsTrue, is_some, length};
+ghost use Rattle.cil_specs.specs.Dependence.{AreInOrder, AreTheSame};
 ghost use Rattle.cil_specs.specs.Expr.{Expr};
 ghost use Rattle.cil_specs.specs.Joined.{Placed};
 ghost use Rattle.cil_specs.specs.Lookup.{Table, leads};
@@ -13,6 +14,7 @@ ghost use Rattle.cil_specs.specs.Rule.{Element};
 ghost use Rattle.cil_specs.specs.Sets.{holds_with, mentions};
 ghost use Rattle.cil_resolve.specs.Consistent.{is_consistent};
 ghost use Rattle.cil_resolve.specs.Resolved.{meaning_in};
+ghost use Rattle.cil_resolve.specs.Sets.{sets_in};
 
 use crate::resolved::Resolved;
 use std::alloc::Allocator;
@@ -65,6 +67,12 @@ pub fn sets_are_sound()
 /// So are those of what a joined policy resolves to.
 pub fn resolved_is_sound<A: Allocator>(resolved: &Resolved<A>)
     ensures { HasSoundSets (meaning_in resolved.now) }
+{}
+
+/// The set statements as they are listed are those of the meaning, and each stands behind those of the attributes that it mentions.
+pub fn resolved_sets_are_in_order<A: Allocator>(resolved: &Resolved<A>)
+    ensures in_order { AreInOrder (sets_in resolved.now) }
+    ensures the_same { AreTheSame (meaning_in resolved.now).sets (sets_in resolved.now) }
 {}
 
 /// Where the set statements are so and no attribute depends on itself, more fuel than one for each attribute changes nothing.

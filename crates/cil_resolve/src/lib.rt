@@ -27,7 +27,7 @@ pub use cil_check::{PolicyFault, PolicyFaultKind};
 pub use laws::{
     expressions_agree, found_grows, fuel_is_enough, kept_exists, kept_is_good, kept_is_one,
     meanings_are_consistent, policies_are_apart, resolved_is_consistent, resolved_is_sound,
-    sets_are_sound,
+    resolved_sets_are_in_order, sets_are_sound,
 };
 pub use meter::Meter;
 pub use numbered::{
@@ -36,6 +36,5 @@ pub use numbered::{
 pub use resolved::Resolved;
 pub use resolved_types::ResolvedTypes;
 pub use resolver::{resolve, resolve_types};
-pub use set_order::{OrderedSets, numbers_are_straight, ordered_sets_are_in_order};
 pub use text::Text;
 pub use views::{ClassView, ElementView, NameView, RuleView, TargetView};

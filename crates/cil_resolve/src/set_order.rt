@@ -34,7 +34,11 @@ impl<A: Allocator + Copy> OrderedSets<A> {
         requires straight { AreStraight sets.items }
         ensures { IfOk result (λ ordered. ordered.sets.items ≡ sets.items) }
     {
-        let order = order(alloc, names, &sets)?;
+        let order = if sets.is_empty() {
+            Vec::new(alloc)
+        } else {
+            order(alloc, names, &sets)?
+        };
         Ok(OrderedSets { sets, order })
     }
 }
@@ -133,17 +137,3 @@ fn attributes<A: Allocator + Copy>(
 {
     sets.iter().map(|set| set.attribute).collect(alloc)
 }
-
-/// Where no attribute depends on itself by names, none does by numbers.
-pub fn numbers_are_straight<A: Allocator>(sets: &[NumberedSet<A>])
-    ensures { (modules names : List (List ℕ)) → AreNamed modules names sets.now
-        → HasNoCircle (map (set_of modules names) sets.now) → AreStraight sets.now }
-{}
-
-/// By names the statements in their order are the same, and each stands behind those of the attributes that it mentions.
-pub fn ordered_sets_are_in_order<A: Allocator>(ordered: &OrderedSets<A>)
-    ensures in_order { (modules names : List (List ℕ)) → AreNamed modules names ordered.now.sets.items
-        → AreInOrder (map (set_of modules names) (sets_at ordered.now.sets.items ordered.now.order.items)) }
-    ensures the_same { (modules names : List (List ℕ)) → AreTheSame (map (set_of modules names) ordered.now.sets.items)
-        (map (set_of modules names) (sets_at ordered.now.sets.items ordered.now.order.items)) }
-{}

@@ -1,4 +1,4 @@
-use Rattle.std.proofs.Common.{◌≡◌, ◌∙◌, List, [], ℕ, length, map, IsTrue, sym, ap, subst}
+use Rattle.std.proofs.Common.{rules, ◌≡◌, ◌∙◌, List, [], ℕ, length, map, IsTrue, sym, ap, subst}
 use Rattle.std.specs.List.{list_all}
 use Rattle.cil_specs.specs.Joined.{Placed}
 use Rattle.cil_specs.specs.Members.{HasSoundSets}
@@ -45,9 +45,10 @@ of-requires-2 g c =
           (subst (HavePlaces c.in_ok-numbering.numbering.names.items policy) (sym c.deref.ensures.value) (c.in_ok-numbering.ensures.places policy noted.is)));
     }) in
     let names = c.in_ok-numbering.numbering.names.items in
+    let long : c.len.result ≡ length names = search rules in
     let modules = modules_of c.args.checker.now.bound.joined.now in
     record {
-      within = parts.sets_are.below;
+      within = subst (λ n. IsTrue (list_all (is_set_below n) c.in_ok-parts.parts.sets.items)) (sym long) parts.sets_are.below;
       straight =
           numbers-straight modules names c.in_ok-parts.parts.sets.items (record { rise = c.in_ok-numbering.numbering.ordered; below = parts.sets_are.below })
           (subst HasNoCircle (sym parts.sets_are.is) (faultless-sound policy faultless []).straight);

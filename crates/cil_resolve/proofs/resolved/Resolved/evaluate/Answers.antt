@@ -11,7 +11,7 @@ returns-in-Some-clause-value g c s at within kept tells =
     let t = c.args.ty in
     let x = c.in-Some.set.now in
     let one = set-at r c.args.i s _ x c.at.ensures (ap (option_map (λ y. y.now)) c.in-Some.is) at in
-    let told = answers-told r s x t tells one.named in
+    let told = answers-told r s x t tells one.named one.below in
     c.holds.ensures (value-at r t) (λ l answer there post. told l answer there post.1)
     ∙ evaluated r x t within kept one.below ∙ ap (λ y. is_in (meaning_in r) y.expr (name_in r t)) one.named
 
