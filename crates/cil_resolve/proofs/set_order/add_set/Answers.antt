@@ -11,20 +11,20 @@ loop-element-preserved g c = record {
     | in_default w ↦ ap (λ v. length v.items) w.graph-is ∙ c.loop-element.invariant.nodes
   ];
   edges =
-    (let read = c.names_of-element-items.result.now in
-    let names = names_in c.args.set.now in
-    let from = c.args.set.now.attribute in
-    let i = c.loop-element.element-index in
-    elim c.match-element.branch [
-      | in-Attribute+in_ok-add_edge w ↦
-          subst (λ v. HasNamed from (take (i + 1) names) c.args.graph.now.items v.items) (sym w.graph-is)
-          (named-next from w.in-Attribute.to i _ read names c.args.graph.now.items c.loop-element.graph.items w.add_edge.new.graph.items c.names_of-element-items.ensures c.loop-element-test.true w.in-Attribute.is
-          w.in_ok-add_edge.ensures.edges c.loop-element.invariant.edges)
-      | in_default w ↦
-          subst (λ v. HasNamed from (take (i + 1) names) c.args.graph.now.items v.items) (sym w.graph-is)
-          (named-skip from i _ _ read names c.args.graph.now.items c.loop-element.graph.items c.names_of-element-items.ensures c.loop-element-test.true w.in_default.is
-          (type-apart w.in_default.field-0) c.loop-element.invariant.edges)
-    ]);
+      (let read = c.names_of-element-items.result.now in
+      let names = names_in c.args.set.now in
+      let from = c.args.set.now.attribute in
+      let i = c.loop-element.element-index in
+      elim c.match-element.branch [
+        | in-Attribute+in_ok-add_edge w ↦
+            subst (λ v. HasNamed from (take (i + 1) names) c.args.graph.now.items v.items) (sym w.graph-is)
+            (named-next from w.in-Attribute.to i _ read names c.args.graph.now.items c.loop-element.graph.items w.add_edge.new.graph.items c.names_of-element-items.ensures c.loop-element-test.true w.in-Attribute.is
+            w.in_ok-add_edge.ensures.edges c.loop-element.invariant.edges)
+        | in_default w ↦
+            subst (λ v. HasNamed from (take (i + 1) names) c.args.graph.now.items v.items) (sym w.graph-is)
+            (named-skip from i _ _ read names c.args.graph.now.items c.loop-element.graph.items c.names_of-element-items.ensures c.loop-element-test.true w.in_default.is
+            (type-apart w.in_default.field-0) c.loop-element.invariant.edges)
+      ]);
 }
 
 pub returns-clause-edges : goal.returns-clause-edges

@@ -1,4 +1,4 @@
-use Rattle.std.proofs.Common.{◌≡◌, ◌∙◌, ◌↔◌, ◌<◌, ℕ, List, All, AllPairs, IfOk, length, ap, subst, sym, arith}
+use Rattle.std.proofs.Common.{◌∙◌, ◌↔◌, ◌<◌, ℕ, All, AllPairs, length, ap, subst, sym}
 use Rattle.cil_dependence.specs.Dependence.{IsDependence}
 use Rattle.cil_dependence.specs.Graph.{IsEdge}
 use Rattle.cil_dependence.specs.Items.{AreEachOnce, ComesBefore}
