@@ -1,14 +1,14 @@
 -- The evaluation of set statements by the numbers of names.
-use Rattle.std.proofs.Common.{◌≡◌, ◌==◌, ℕ, ◌<◌, ◌⊎◌, inl, inr, Bool, true, false, true≢false, nat_lt, List, [], ◌∷◌, map, length, get_or, slice_get, Contains, Option, Some, None, Ordering, Less, Equal, is_lt, option_map,  bytes_eq, IsTrue, refl, sym, ap, subst, ◌∙◌, eq-eqb}
+use Rattle.std.proofs.Common.{◌≡◌, ◌==◌, ℕ, ◌<◌, ◌⊎◌, inl, inr, Bool, true, false, ◌&&◌, true≢false, nat_lt, List, [], ◌∷◌, map, length, get_or, slice_get, Contains, Option, Some, None, Ordering, Less, Equal, is_lt, option_map,  bytes_eq, IsTrue, refl, sym, ap, subst, ◌∙◌, eq-eqb}
 use Rattle.std.specs.List.{list_all, list_any}
 use Rattle.std.specs.List.Sorted.{IsStrictlySortedBy}
 use Rattle.std.proofs.lemmas.Bool.{cases_order, eqb-true, ltb-true}
 use Rattle.std.proofs.lemmas.Slice.Eq.{bytes_eq-Decides}
-use Rattle.cil_specs.specs.Expr.{leaves, map_leaves}
+use Rattle.cil_specs.specs.Expr.{Expr, leaves, map_leaves}
 use Rattle.cil_specs.specs.Rule as spec
 use Rattle.cil_specs.specs.Rule.{SetStatement}
-use Rattle.cil_specs.specs.Sets.{element_holds, mentions, is_the_attribute}
-use Rattle.cil_specs.specs.Meaning.{keeps_type, is_in}
+use Rattle.cil_specs.specs.Sets.{element_holds, holds_with, mentions, is_the_attribute}
+use Rattle.cil_specs.specs.Meaning.{Meaning, keeps_type, is_in, holds}
 use Rattle.cil_specs.specs.Members.{is_member}
 use Rattle.cil_specs.specs.Report.{name_cmp, names_rise}
 use Rattle.std.proofs.lemmas.Cmp.{tied_itself}
@@ -26,7 +26,7 @@ use Rattle.cil_expression.specs.Expression.{expr_in}
 use Rattle.cil_expression.specs.Holds.{holds_by, Answers}
 use Rattle.cil_expression.specs.declared.expression.Element.{Element}
 use Rattle.cil_expression.specs.declared.expression.Element.TheVariants.{«Type», Attribute}
-use Rattle.cil_expression.proofs.HoldsLemmas.{holds-agree, holds-mapped, expr-holds}
+use Rattle.cil_expression.proofs.HoldsLemmas.{holds-agree, holds-bound, holds-mapped, expr-holds}
 use Rattle.cil_resolve.specs.Below.{is_element_below, is_set_below}
 use Rattle.cil_resolve.specs.Numbers.{element_of, set_of}
 use Rattle.cil_resolve.specs.Resolved.{meaning_in}
@@ -101,3 +101,22 @@ module _ {A : Type 0} (r : Resolved A) where
 
   pub no-set-at : (i : ℕ) (s : SetStatement) → slice_get (sets_at r.sets.sets.items r.sets.order.items) i ≡ None → slice_get (sets_in r) i ≡ Some s → ⊥
   no-set-at i s none at = none-some s (sym (slice_get-map (set_of r.modules.items r.names.items) (sets_at r.sets.sets.items r.sets.order.items) i ∙ ap (option_map (set_of r.modules.items r.names.items)) none) ∙ at)
+
+is-member : (meaning : Meaning) (a t : List ℕ) → is_member meaning a t ≡ holds meaning (spec.an_attribute a) t
+unfolding is_member
+is-member meaning a t = refl
+
+-- An expression that holds nothing where none of its names does holds only what one of them holds.
+pub reach-bound : (meaning : Meaning) (e : Expr spec.Element) (t : List ℕ) → holds_by (λ x. false) e ≡ false → ((x : spec.Element) → Contains (leaves e) x → holds meaning x t ≡ false) → is_in meaning e t ≡ false
+reach-bound meaning e t none each = by (keeps_type meaning t) refl
+  where
+    known : List ℕ → Bool
+    known a = is_member meaning a t
+
+    leaf : keeps_type meaning t ≡ true → (x : spec.Element) → Contains (leaves e) x → element_holds known x t ≡ false
+    leaf kept (spec.a_type name) c = sym (ap (λ b. b && bytes_eq name t) kept) ∙ each (spec.a_type name) c
+    leaf kept (spec.an_attribute name) c = is-member meaning name t ∙ each (spec.an_attribute name) c
+
+    by : (k : Bool) → keeps_type meaning t ≡ k → is_in meaning e t ≡ false
+    by false k = ap (λ b. b && holds_with meaning.sets (length meaning.attributes) e t) k
+    by true k = sym (in-known meaning known e t k (λ a m. refl)) ∙ expr-holds known e t ∙ holds-bound e (λ x. element_holds known x t) none (leaf k)

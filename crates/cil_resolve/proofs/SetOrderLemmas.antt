@@ -266,3 +266,13 @@ at-place {A} sets (n ∷ numbers) i within = by (slice_get sets n) refl (λ k. a
     by None at others k = absurd (none-there sets n at within.0)
     by (Some s) at others zero = ap (λ o. slice_get (cons_option o (sets_at sets numbers)) zero) at ∙ sym at
     by (Some s) at others (suc k) = ap (λ o. slice_get (cons_option o (sets_at sets numbers)) (suc k)) at ∙ others k
+
+-- no statements, in order
+pub none-in-order : {A : Type 0} (sets : List (NumberedSet A)) → length sets ≡ 0 → IsSetOrder sets []
+none-in-order sets none = record {
+  all = λ n low. absurd (omega (arith, low, none));
+  within = λ k d low. absurd (omega (arith, low));
+  once = λ i j d less low same. absurd (omega (arith, low));
+  in_order = λ i j s t le low at then m. absurd (omega (arith, low));
+  together = λ i j k less more low ends. absurd (omega (arith, low));
+}

@@ -2,7 +2,8 @@
 use Rattle.std.specs.Prelude.{ℕ, List, length}
 use Rattle.cil_specs.specs.Place.{Place}
 use Rattle.cil_specs.specs.Statements.{RuleKind}
-use Rattle.cil_specs.specs.Rule.{Element, a_type, an_attribute, ResolvedTarget, at_itself, at_element, Declared, ClassOf, Rule}
+use Rattle.cil_specs.specs.Expr.{leaves}
+use Rattle.cil_specs.specs.Rule.{Element, a_type, an_attribute, ResolvedTarget, at_itself, at_element, Declared, ClassOf, SetStatement, Rule}
 use Rattle.cil_text.specs.Image.{place_of, rule_kind_of}
 use Rattle.cil_resolve.specs.declared.views.NameView.{NameView}
 use Rattle.cil_resolve.specs.declared.views.ClassView.{ClassView}
@@ -11,6 +12,7 @@ use Rattle.cil_resolve.specs.declared.views.ElementView.TheVariants.{«Type», A
 use Rattle.cil_resolve.specs.declared.views.TargetView.{TargetView}
 use Rattle.cil_resolve.specs.declared.views.TargetView.TheVariants as aims
 use Rattle.cil_resolve.specs.declared.views.RuleView.{RuleView}
+use Rattle.cil_resolve.specs.declared.views.SetView.{SetView}
 
 abbrev pub declared_seen : NameView → Declared
 declared_seen v = record { module_name = v.«module».now; at = place_of v.at; name = v.name.now }
@@ -35,6 +37,19 @@ element_seen (Attribute name) = an_attribute name.now
 abbrev pub resolved_target_seen : TargetView → ResolvedTarget
 resolved_target_seen aims.Itself = at_itself
 resolved_target_seen (aims.Element e) = at_element (element_seen e)
+
+-- a set statement but for its expression, of which the names are counted
+pub record SetHead : Type 0 where
+  pub module_name : List ℕ
+  pub at : Place
+  pub attribute : List ℕ
+  pub names : ℕ
+
+abbrev pub set_head : SetStatement → SetHead
+set_head s = record { module_name = s.module_name; at = s.at; attribute = s.attribute; names = length (leaves s.expr) }
+
+abbrev pub set_seen : SetView → SetHead
+set_seen v = record { module_name = v.«module».now; at = place_of v.at; attribute = v.attribute.now; names = v.names }
 
 -- a rule but for its permissions, which are counted
 pub record RuleHead : Type 0 where

@@ -1,17 +1,18 @@
 //! Laws of the definitions. They have no code.
 
-ghost use Rattle.std.specs.Prelude.{◌≡◌, ◌≤◌, ℕ, List, IsTrue, is_some, length};
+ghost use Rattle.std.specs.Prelude.{◌≡◌, ◌≤◌, ℕ, false, List, Contains, IsTrue, is_some, length};
 ghost use Rattle.cil_specs.specs.Dependence.{AreInOrder, AreTheSame};
-ghost use Rattle.cil_specs.specs.Expr.{Expr};
+ghost use Rattle.cil_specs.specs.Expr.{Expr, leaves};
 ghost use Rattle.cil_specs.specs.Joined.{Placed};
 ghost use Rattle.cil_specs.specs.Lookup.{Table, leads};
 ghost use Rattle.cil_specs.specs.Store.{Store};
 ghost use Rattle.cil_specs.specs.Kept.{Optionals, restricted, IsWithin, IsGood, AreKept, AreApart};
-ghost use Rattle.cil_specs.specs.Meaning.{Meaning, Means, keeps_type, is_in};
+ghost use Rattle.cil_specs.specs.Meaning.{Meaning, Means, keeps_type, is_in, holds};
 ghost use Rattle.cil_specs.specs.Members.{is_member, HasSoundSets};
 ghost use Rattle.cil_specs.specs.Next.{IsPolicyOf};
 ghost use Rattle.cil_specs.specs.Rule.{Element};
 ghost use Rattle.cil_specs.specs.Sets.{holds_with, mentions};
+ghost use Rattle.cil_expression.specs.Holds.{holds_by};
 ghost use Rattle.cil_resolve.specs.Consistent.{is_consistent};
 ghost use Rattle.cil_resolve.specs.Resolved.{meaning_in};
 ghost use Rattle.cil_resolve.specs.Sets.{sets_in};
@@ -73,6 +74,13 @@ pub fn resolved_is_sound<A: Allocator>(resolved: &Resolved<A>)
 pub fn resolved_sets_are_in_order<A: Allocator>(resolved: &Resolved<A>)
     ensures in_order { AreInOrder (sets_in resolved.now) }
     ensures the_same { AreTheSame (meaning_in resolved.now).sets (sets_in resolved.now) }
+{}
+
+/// Where an expression holds nothing that none of its names does (may_hold_any answers no), a type that it doesn't name is in it only
+/// where the type is a member of an attribute that it mentions.
+pub fn reach_is_a_bound()
+    ensures { (meaning : Meaning) (expr : Expr Element) (t : List ℕ) → holds_by (λ element. false) expr ≡ false
+        → ((element : Element) → Contains (leaves expr) element → holds meaning element t ≡ false) → is_in meaning expr t ≡ false }
 {}
 
 /// Where the set statements are so and no attribute depends on itself, more fuel than one for each attribute changes nothing.

@@ -26,7 +26,7 @@ pub use cil_expression::{Element, SetExpression};
 pub use cil_check::{PolicyFault, PolicyFaultKind};
 pub use laws::{
     expressions_agree, found_grows, fuel_is_enough, kept_exists, kept_is_good, kept_is_one,
-    meanings_are_consistent, policies_are_apart, resolved_is_consistent, resolved_is_sound,
+    meanings_are_consistent, policies_are_apart, reach_is_a_bound, resolved_is_consistent, resolved_is_sound,
     resolved_sets_are_in_order, sets_are_sound,
 };
 pub use meter::Meter;
@@ -37,4 +37,4 @@ pub use resolved::Resolved;
 pub use resolved_types::ResolvedTypes;
 pub use resolver::{resolve, resolve_types};
 pub use text::Text;
-pub use views::{ClassView, ElementView, NameView, RuleView, TargetView};
+pub use views::{ClassView, ElementView, NameView, RuleView, SetView, TargetView};

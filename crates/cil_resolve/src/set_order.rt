@@ -3,12 +3,9 @@
 ghost use Rattle.std.specs.Prelude.{◌≡◌, ◌<◌, ◌⊎◌, ◌↔◌, ℕ, List, length, map, slice_get, option_map, IfOk, IsTrue, OnOk};
 ghost use Rattle.std.specs.List.{list_all};
 ghost use Rattle.std.specs.Option.{option_and_then};
-ghost use Rattle.cil_specs.specs.Dependence.{AreInOrder, AreTheSame};
-ghost use Rattle.cil_specs.specs.Sets.{HasNoCircle};
 ghost use Rattle.cil_dependence.specs.Graph.{IsEdge};
 ghost use Rattle.cil_resolve.specs.Below.{is_set_below};
-ghost use Rattle.cil_resolve.specs.Numbers.{set_of};
-ghost use Rattle.cil_resolve.specs.SetOrder.{names_in, attributes_in, sets_at, AreNamed, AreStraight, IsNext, IsSetOrder, Mentions};
+ghost use Rattle.cil_resolve.specs.SetOrder.{names_in, attributes_in, sets_at, AreStraight, IsNext, IsSetOrder, Mentions};
 
 use crate::numbered::NumberedSet;
 use cil_expression::Element;
@@ -34,11 +31,7 @@ impl<A: Allocator + Copy> OrderedSets<A> {
         requires straight { AreStraight sets.items }
         ensures { IfOk result (λ ordered. ordered.sets.items ≡ sets.items) }
     {
-        let order = if sets.is_empty() {
-            Vec::new(alloc)
-        } else {
-            order(alloc, names, &sets)?
-        };
+        let order = order(alloc, names, &sets)?;
         Ok(OrderedSets { sets, order })
     }
 }
@@ -70,6 +63,22 @@ impl<A: Allocator> OrderedSets<A> {
 
 /// The numbers of set statements, each behind those of the attributes that it mentions.
 fn order<A: Allocator + Copy>(
+    alloc: A,
+    names: usize,
+    sets: &[NumberedSet<A>],
+) -> Result<Vec<usize, A>, AllocError>
+    requires within { IsTrue (list_all (is_set_below names) sets.now) }
+    requires straight { AreStraight sets.now }
+    ensures { IfOk result (λ order. IsSetOrder sets.now order.items) }
+{
+    if sets.is_empty() {
+        return Ok(Vec::new(alloc));
+    }
+    order_of_some(alloc, names, sets)
+}
+
+/// The same, by a graph that has a node for each name.
+fn order_of_some<A: Allocator + Copy>(
     alloc: A,
     names: usize,
     sets: &[NumberedSet<A>],

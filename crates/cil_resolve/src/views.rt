@@ -7,8 +7,8 @@ ghost use Rattle.cil_specs.specs.Report.{names_rise};
 ghost use Rattle.cil_resolve.specs.Below.{is_rule_below};
 ghost use Rattle.cil_resolve.specs.Numbers.{element_of, resolved_target_of};
 ghost use Rattle.cil_resolve.specs.Resolved.{meaning_in};
-ghost use Rattle.cil_resolve.specs.Sets.{name_in};
-ghost use Rattle.cil_resolve.specs.Views.{declared_seen, class_seen, class_head, element_seen, resolved_target_seen, rule_seen, rule_head};
+ghost use Rattle.cil_resolve.specs.Sets.{name_in, sets_in};
+ghost use Rattle.cil_resolve.specs.Views.{declared_seen, class_seen, class_head, element_seen, resolved_target_seen, rule_seen, rule_head, set_seen, set_head};
 
 use crate::numbered::{NumberedRule, ResolvedTarget};
 use crate::resolved::Resolved;
@@ -58,6 +58,15 @@ pub struct RuleView<'r> {
     pub target: TargetView<'r>,
     pub class: &'r [u8],
     pub permissions: usize,
+}
+
+/// A set statement by full names, and how many names its expression has.
+#[derive(Clone, Copy, Debug)]
+pub struct SetView<'r> {
+    pub module: &'r [u8],
+    pub at: Place,
+    pub attribute: &'r [u8],
+    pub names: usize,
 }
 
 impl<A: Allocator> Resolved<A> {
@@ -189,6 +198,19 @@ impl<A: Allocator> Resolved<A> {
         let class = self.classes.get(i)?;
         let permission = class.permissions.get(k)?;
         Some(self.name(*permission))
+    }
+
+    /// The set statement at a place, in the order of dependence.
+    pub fn set_at(&self, i: usize) -> Option<SetView<'_>>
+        ensures { option_map set_seen result ≡ option_map set_head (slice_get (sets_in self.now) i) }
+    {
+        let set = self.sets.at(i)?;
+        Some(SetView {
+            module: self.module(set.module),
+            at: set.at,
+            attribute: self.name(set.attribute),
+            names: set.expression.names().len(),
+        })
     }
 
     /// How many rules there are.
