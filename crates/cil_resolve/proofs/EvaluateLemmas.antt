@@ -1,5 +1,5 @@
 -- The evaluation of set statements by the numbers of names.
-use Rattle.std.proofs.Common.{◌≡◌, ◌==◌, ℕ, ◌<◌, ◌⊎◌, inl, inr, Bool, true, false, ◌&&◌, true≢false, nat_lt, List, [], ◌∷◌, map, length, get_or, slice_get, Contains, Option, Some, None, Ordering, Less, Equal, is_lt, option_map,  bytes_eq, IsTrue, refl, sym, ap, subst, ◌∙◌, eq-eqb}
+use Rattle.std.proofs.Common.{◌≡◌, ◌==◌, ℕ, ◌<◌, ◌⊎◌, inl, inr, Bool, true, false, ◌&&◌, true≢false, nat_lt, List, [], ◌∷◌, map, length, get_or, slice_get, Contains, Option, Some, None, Ordering, Less, Equal, is_lt, option_map, bytes_eq, IsTrue, refl, sym, ap, subst, ◌∙◌, eq-eqb}
 use Rattle.std.specs.List.{list_all, list_any}
 use Rattle.std.specs.List.Sorted.{IsStrictlySortedBy}
 use Rattle.std.proofs.lemmas.Bool.{cases_order, eqb-true, ltb-true}

@@ -144,9 +144,9 @@ module _ {A : Type 0} (modules names : List (List ℕ)) (sets : List (NumberedSe
       is_in = contains-map (set_of modules names) sets next.s next.is_in;
       of_attribute = ap (λ n. get_or names n []) next.mentions.0;
       mentioned =
-        subst (λ l. list_any (is_the_attribute (get_or names b [])) l ≡ true) (sym (leaves-mapped (element_of names) (expr_in next.s.expression)))
-        (any-contained (is_the_attribute (get_or names b [])) (map (element_of names) (names_in next.s)) (an_attribute (get_or names b []))
-        (contains-map (element_of names) (names_in next.s) (Attribute b) next.mentions.1) ((bytes_eq-Decides (get_or names b []) (get_or names b [])).1 refl));
+          subst (λ l. list_any (is_the_attribute (get_or names b [])) l ≡ true) (sym (leaves-mapped (element_of names) (expr_in next.s.expression)))
+          (any-contained (is_the_attribute (get_or names b [])) (map (element_of names) (names_in next.s)) (an_attribute (get_or names b []))
+          (contains-map (element_of names) (names_in next.s) (Attribute b) next.mentions.1) ((bytes_eq-Decides (get_or names b []) (get_or names b [])).1 refl));
     }
 
     through-named : (between : List ℕ) (a b : ℕ) → DependsThrough sets a between b

@@ -8,8 +8,8 @@ ghost use Rattle.cil_resolve.specs.Below.{is_set_below};
 ghost use Rattle.cil_resolve.specs.SetOrder.{names_in, attributes_in, sets_at, AreStraight, IsNext, IsSetOrder, Mentions};
 
 use crate::numbered::NumberedSet;
-use cil_expression::Element;
 use cil_dependence::{Dependence, add_edge, dependence, items_in_order, without_edges};
+use cil_expression::Element;
 use std::alloc::{AllocError, Allocator, Global};
 
 /// Set statements, and their numbers in the order of dependence.
@@ -22,11 +22,7 @@ pub struct OrderedSets<A: Allocator = Global> {
 
 impl<A: Allocator + Copy> OrderedSets<A> {
     /// Set statements whose numbers are below so many names, and of which no attribute depends on itself.
-    pub fn of(
-        alloc: A,
-        names: usize,
-        sets: Vec<NumberedSet<A>, A>,
-    ) -> Result<Self, AllocError>
+    pub fn of(alloc: A, names: usize, sets: Vec<NumberedSet<A>, A>) -> Result<Self, AllocError>
         requires within { IsTrue (list_all (is_set_below names) sets.items) }
         requires straight { AreStraight sets.items }
         ensures { IfOk result (λ ordered. ordered.sets.items ≡ sets.items) }

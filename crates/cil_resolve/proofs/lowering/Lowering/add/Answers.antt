@@ -21,8 +21,7 @@ pub set-requires : goal.set-requires
 set-requires g c =
     let (policy, is, low) = c.requires in
     let (s, at) = there-at policy c.args.i low in
-    let seen = c.seen-seen.ensures.seen policy s is.noted.is at in
-    (
+    let seen = c.seen-seen.ensures.seen policy s is.noted.is at in (
       policy,
       s,
       record { lowering = is; there = contained policy c.args.i s at; seen_is = seen; worded = c.seen-seen.ensures.worded policy is.noted.is },
