@@ -276,3 +276,11 @@ none-in-order sets none = record {
   in_order = λ i j s t le low at then m. absurd (omega (arith, low));
   together = λ i j k less more low ends. absurd (omega (arith, low));
 }
+
+pub at-length : {A : Type 0} (sets : List (NumberedSet A)) (numbers : List ℕ) → AllByRecursion (λ n. n < length sets) numbers → length (sets_at sets numbers) ≡ length numbers
+at-length sets [] within = refl
+at-length {A} sets (n ∷ numbers) within = by (slice_get sets n) refl (at-length sets numbers within.1)
+  where
+    by : (o : Option (NumberedSet A)) → slice_get sets n ≡ o → length (sets_at sets numbers) ≡ length numbers → length (cons_option o (sets_at sets numbers)) ≡ suc (length numbers)
+    by None at others = absurd (none-there sets n at within.0)
+    by (Some s) at others = ap suc others
