@@ -24,3 +24,4 @@ pub mod FormLemmas
 pub mod SetOrderLemmas
 pub mod SetNameLemmas
 pub mod EvaluateLemmas
+pub mod SameLemmas

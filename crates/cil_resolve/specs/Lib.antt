@@ -13,3 +13,4 @@ pub mod Dropped
 pub mod Judged
 pub mod SetOrder
 pub mod Sets
+pub mod Same

@@ -16,6 +16,7 @@ mod numbering;
 mod resolved;
 mod resolved_types;
 mod resolver;
+mod same;
 mod set_order;
 mod text;
 mod views;

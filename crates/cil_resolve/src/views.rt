@@ -71,7 +71,7 @@ pub struct SetView<'r> {
 
 impl<A: Allocator> Resolved<A> {
     /// The name of a module, by its place.
-    fn module(&self, i: usize) -> &[u8]
+    pub(crate) fn module(&self, i: usize) -> &[u8]
         ensures { result.now ≡ slice_index_or self.now.modules.items i [] }
     {
         match self.modules.get(i) {
@@ -139,8 +139,8 @@ impl<A: Allocator> Resolved<A> {
         ensures name { option_map (name_in self.now) result ≡ option_map (λ d. d.name) (slice_get (meaning_in self.now).types i) }
         ensures below { IfSome result (λ n. n < length self.now.names.items) }
     {
-        let declared = self.types.get(i)?;
-        Some(declared.name)
+        let found = self.types.get(i)?;
+        Some(found.name)
     }
 
     /// How many attributes there are.
@@ -167,8 +167,8 @@ impl<A: Allocator> Resolved<A> {
         ensures name { option_map (name_in self.now) result ≡ option_map (λ d. d.name) (slice_get (meaning_in self.now).attributes i) }
         ensures below { IfSome result (λ n. n < length self.now.names.items) }
     {
-        let declared = self.attributes.get(i)?;
-        Some(declared.name)
+        let found = self.attributes.get(i)?;
+        Some(found.name)
     }
 
     /// How many classes there are.
