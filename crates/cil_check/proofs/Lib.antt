@@ -19,3 +19,4 @@ pub mod CircleLemmas
 pub mod GraphLemmas
 pub mod CircleFaults
 pub mod CleanLemmas
+pub mod SetLemmas

@@ -1,17 +1,36 @@
 //! Attributes that depend on themselves.
 
-ghost use Rattle.std.specs.Prelude.{List, OnOk, IfErr};
+ghost use Rattle.std.specs.Prelude.{◌≢◌, ◌↔◌, [], List, IsTrue, OnOk, IfErr};
 ghost use Rattle.cil_specs.specs.Joined.{Placed};
+ghost use Rattle.cil_specs.specs.Rule.{sets_of};
 ghost use Rattle.cil_specs.specs.PolicyFault.{circular, IsFaultOf};
 ghost use Rattle.cil_bind.specs.Ordered.{IsLeast};
+ghost use Rattle.cil_check.specs.Bound.{IsOf};
 ghost use Rattle.cil_check.specs.Checker.{IsNoted};
 ghost use Rattle.cil_check.specs.Image.{PolicyFaultIs};
 
 use crate::attribute_graph::AttributeNumbers;
+use crate::bound::BoundPolicy;
 use crate::checker::Checker;
 use crate::fault::{PolicyFault, PolicyFaultKind};
 use cil_dependence::first_circle;
+use cil_parse::StatementKind;
 use std::alloc::Allocator;
+
+impl<'p, 'm, A: Allocator> BoundPolicy<'p, 'm, A> {
+    /// Whether there is a set statement. Without one no attribute depends on itself, and no graph is needed.
+    fn has_sets(&self) -> bool
+        requires { (policy : List Placed) × IsOf self.now policy }
+        ensures { (policy : List Placed) → IsOf self.now policy → IsTrue result ↔ (sets_of policy ≢ []) }
+    {
+        for i in 0..self.len() {
+            if let StatementKind::TypeAttributeSet = self.seen(i).view.kind {
+                return true;
+            }
+        }
+        false
+    }
+}
 
 impl<'p, 'm, A: Allocator + Copy> Checker<'p, 'm, A> {
     /// The first attribute that depends on itself: by module name, and then by offset.
@@ -22,6 +41,9 @@ impl<'p, 'm, A: Allocator + Copy> Checker<'p, 'm, A> {
         ensures err { IfErr result (λ fault. (policy : List Placed) → IsNoted self.now policy
             → PolicyFaultIs fault (IsLeast (IsFaultOf circular policy))) }
     {
+        if !self.bound.has_sets() {
+            return Ok(());
+        }
         let attributes = AttributeNumbers::of(alloc, &self.bound)?;
         let graph = attributes.graph(alloc, &self.bound)?;
         let Some(number) = first_circle(alloc, &graph)? else {

@@ -1,4 +1,4 @@
-use Rattle.std.proofs.Common.{◌≡◌, ◌<◌, Some, None, MatchOption, length, sym, ◌∙◌, subst, arith}
+use Rattle.std.proofs.Common.{◌≡◌, ◌<◌, Some, None, MatchOption, length, sym, ◌∙◌, subst, true≢false, arith}
 use Rattle.std.proofs.lemmas.Option.{none-some, same_Some, slice_get_within}
 use Rattle.cil_specs.specs.PolicyFault.{circular, IsFaultOf}
 use Rattle.cil_specs.specs.Statements.{type_attribute}
@@ -10,6 +10,7 @@ use Rattle.cil_check.proofs.AskedLemmas.{reads-word}
 use Rattle.cil_check.proofs.CheckLemmas.{found-is, found-fault}
 use Rattle.cil_check.proofs.CircleFaults.{edges-within, straight-faultless, first-circle, attribute-read}
 use Rattle.cil_check.proofs.GraphLemmas.{places-many, place-numbered}
+use Rattle.cil_check.proofs.SetLemmas.{setless-faultless}
 use Rattle.cil_check.proofs.checker.Checker.check_circles.Goals as goal
 
 pub first_circle-requires : goal.first_circle-requires
@@ -100,3 +101,8 @@ returns-clause-err g c = λ policy noted.
     found-fault c.fault.result (IsLeast (IsFaultOf circular policy))
     (found-is c.fault.result (IsLeast (IsFaultOf circular policy)) (fault_at circular s found.0) (c.fault.ensures policy s found.0 seen found.2)
     (first-circle policy c.deref.result.now noted.is.bound.once noted.is.spelt graph c.in-Some.number c.index.result.now s found.0 noted.is.ordered first numbered declares))
+
+pub returns-then-not-has_sets-clause-ok : goal.returns-then-not-has_sets-clause-ok
+returns-then-not-has_sets-clause-ok g c = λ policy noted fault f.
+    let told = (c.has_sets.ensures policy noted.is).1 (λ none. setless-faultless policy none fault f) in
+    absurd (true≢false (sym told ∙ c.if-not-has_sets.true))
