@@ -1,0 +1,4 @@
+pub mod BitLemmas
+pub mod CountLemmas
+pub mod FillLemmas
+pub mod LookLemmas

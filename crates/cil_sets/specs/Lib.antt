@@ -1,0 +1,6 @@
+pub mod Bits
+pub mod Places
+pub mod Counts
+pub mod Members
+pub mod Filling
+pub mod Sound

@@ -1,0 +1,185 @@
+//! The members of small policies.
+
+ghost use Rattle.std.specs.Prelude.{List, IfOk};
+ghost use Rattle.cil_specs.specs.Joined.{Module};
+ghost use Rattle.cil_resolve.specs.Modules.{AreParsedFrom};
+ghost use Rattle.cil_sets.specs.Sound.{IsSoundModule};
+
+use crate::Members;
+use cil_parse::{ParsedModule, parse};
+use cil_resolve::{Joined, NamedModule, Resolved, resolve};
+use std::alloc::{AllocError, Global};
+use std::process::Abort;
+
+const START: &[u8] =
+    b"(class p (use))(type a)(type b)(type c)(typeattribute s)(typeattribute n)(typeattribute z)";
+
+// The parsed module of a text.
+fn module_of(rt: &impl Abort, alloc: Global, text: &[u8]) -> ParsedModule
+    ensures { IsSoundModule result }
+{
+    assert!(rt; text.len() <= 16_777_216, "too long a text");
+    parse(alloc, text).expect(rt, "a module")
+}
+
+// The module m.
+fn joined<'m>(alloc: Global, m: &'m ParsedModule) -> Result<Joined<'m>, AllocError>
+    requires { IsSoundModule m.now }
+    ensures { IfOk result (λ joined. (modules : List Module) × AreParsedFrom joined.modules.items modules) }
+{
+    let modules = Vec::from_array(
+        alloc,
+        [NamedModule {
+            name: b"m",
+            module: m,
+        }],
+    )?;
+    Ok(Joined { modules })
+}
+
+// The policy of these statements.
+fn policy(rt: &impl Abort, alloc: Global, statements: &[&[u8]]) -> Resolved {
+    let mut text = Vec::new(alloc);
+    for statement in statements {
+        text.extend_from_slice(statement).expect(rt, "memory");
+    }
+    let m = module_of(rt, alloc, text.as_slice());
+    let joined = joined(alloc, &m).expect(rt, "memory");
+    resolve(alloc, &joined).expect(rt, "a policy")
+}
+
+// The number of a name.
+fn number(resolved: &Resolved, name: &[u8]) -> usize {
+    for i in 0..resolved.names_len() {
+        if resolved.name(i) == name {
+            return i;
+        }
+    }
+    resolved.names_len()
+}
+
+// Asserts the members of an attribute, in the order of their names.
+fn assert_members(
+    rt: &impl Abort,
+    resolved: &Resolved,
+    members: &Members,
+    attribute: &[u8],
+    want: &[&[u8]],
+) {
+    let attribute = number(resolved, attribute);
+    let mut from: usize = 0;
+    for name in want {
+        let ty = number(resolved, name);
+        let found = members.has(attribute, ty) && members.next_member(attribute, from) == Some(ty);
+        assert!(rt; found);
+        from = ty.saturating_add(1);
+    }
+    let ended = members.next_member(attribute, from).is_none();
+    assert!(rt; ended);
+}
+
+// Statements behind the start, and the members of s and of n.
+const CASES: &[(&[u8], &[&[u8]], &[&[u8]])] = &[
+    (
+        b"(typeattributeset s (a c))(typeattributeset n (not (s)))",
+        &[b"a", b"c"],
+        &[b"b"],
+    ),
+    (b"(typeattributeset s (and (a b) (b c)))", &[b"b"], &[]),
+    (b"(typeattributeset s (or (a) (b)))", &[b"a", b"b"], &[]),
+    (
+        b"(typeattributeset s (xor (a b) (b c)))",
+        &[b"a", b"c"],
+        &[],
+    ),
+    (b"(typeattributeset s all)", &[b"a", b"b", b"c"], &[]),
+    (b"(typeattributeset s (a a b))", &[b"a", b"b"], &[]),
+    (
+        b"(typeattributeset s ())(typeattributeset n (()))",
+        &[],
+        &[],
+    ),
+    // z has no statement, and so no member.
+    (
+        b"(typeattributeset s (not (z)))(typeattributeset n (z))",
+        &[b"a", b"b", b"c"],
+        &[],
+    ),
+    // Two statements of one attribute: what either holds.
+    (
+        b"(typeattributeset s (a))(typeattributeset s (c))",
+        &[b"a", b"c"],
+        &[],
+    ),
+    (
+        b"(typeattributeset s (a))(typeattributeset s (a b))",
+        &[b"a", b"b"],
+        &[],
+    ),
+    // A statement in front of those that it depends on.
+    (
+        b"(typeattributeset n (s c))(typeattributeset s (a))",
+        &[b"a"],
+        &[b"a", b"c"],
+    ),
+    (
+        b"(typeattributeset n (and all (not (s))))(typeattributeset s (b))(typeattributeset s (c))",
+        &[b"b", b"c"],
+        &[b"a"],
+    ),
+    (
+        b"(typeattributeset s (not (a)))(typeattributeset n (xor (s) (b)))",
+        &[b"b", b"c"],
+        &[b"c"],
+    ),
+];
+
+#[test]
+fn members_of_small_policies(rt: HostRuntime) {
+    for (statements, s, n) in CASES {
+        let resolved = policy(&rt, rt.alloc(), &[START, statements]);
+        let members = Members::plain(rt.alloc(), &resolved).expect(&rt, "memory");
+        assert_members(&rt, &resolved, &members, b"s", s);
+        assert_members(&rt, &resolved, &members, b"n", n);
+        assert_members(&rt, &resolved, &members, b"z", &[]);
+        assert_members(&rt, &resolved, &members, b"a", &[]);
+    }
+}
+
+#[test]
+fn numbers_that_no_name_has(rt: HostRuntime) {
+    let resolved = policy(&rt, rt.alloc(), &[START, b"(typeattributeset s all)"]);
+    let members = Members::plain(rt.alloc(), &resolved).expect(&rt, "memory");
+    let names = resolved.names_len();
+    let s = number(&resolved, b"s");
+    let none = !members.has(s, names)
+        && !members.has(names, 0)
+        && members.next_member(names, 0).is_none();
+    assert!(&rt; none);
+}
+
+// All types but one of 130, more than two words of them.
+#[test]
+fn members_of_a_complement(rt: HostRuntime) {
+    let mut text = Vec::new(rt.alloc());
+    text.extend_from_slice(b"(class p (use))(typeattribute s)(typeattributeset s (not (t064)))")
+        .expect(&rt, "memory");
+    for i in 0..130_u8 {
+        text.extend_from_slice(b"(type t").expect(&rt, "memory");
+        text.push(b'0' + i / 100).expect(&rt, "memory");
+        text.push(b'0' + i / 10 % 10).expect(&rt, "memory");
+        text.push(b'0' + i % 10).expect(&rt, "memory");
+        text.push(b')').expect(&rt, "memory");
+    }
+    let resolved = policy(&rt, rt.alloc(), &[text.as_slice()]);
+    let members = Members::plain(rt.alloc(), &resolved).expect(&rt, "memory");
+    let s = number(&resolved, b"s");
+    let first = number(&resolved, b"t000");
+    for i in 0..130 {
+        let as_wanted = members.has(s, first.saturating_add(i)) == (i != 64);
+        assert!(&rt; as_wanted);
+    }
+    let skipped = members.next_member(s, first.saturating_add(64))
+        == Some(first.saturating_add(65));
+    assert!(&rt; skipped);
+}

@@ -1,0 +1,114 @@
+//! The members of a policy's attributes.
+
+use crate::filling::Filling;
+use crate::kept::kept_types;
+use crate::row::Row;
+use cil_resolve::{Meter, Resolved, resolved_is_sound, resolved_sets_are_in_order};
+use std::alloc::{AllocError, Allocator, Global};
+
+/// The members of a resolved policy's attributes, by the numbers of the names: for each type how many set statements
+/// make it a member. A row is that of the attribute whose number it stands at, and has counters only where a statement
+/// makes a type a member.
+#[derive(Debug, Drop)]
+pub struct Members<A: Allocator = Global> {
+    pub(crate) rows: Vec<Row<A>, A>,
+}
+
+impl<A: Allocator> Members<A> {
+    ghost use Rattle.std.specs.Prelude.{◌≡◌, MatchOption};
+    ghost use Rattle.cil_sets.specs.Members.{has_in, NoMember, IsNextMember};
+
+    /// Whether a type is a member of an attribute, by the numbers of their names. It takes no memory, and the same time
+    /// in every policy.
+    pub fn has(&self, attribute: usize, ty: usize) -> bool
+        ensures { result ≡ has_in self.now attribute ty }
+    {
+        match self.rows.get(attribute) {
+            Some(row) => row.has(ty),
+            None => false,
+        }
+    }
+
+    /// The first member of an attribute from a type's number on. Numbers rise in the byte order of the names.
+    pub fn next_member(&self, attribute: usize, from: usize) -> Option<usize>
+        ensures { MatchOption result (NoMember self.now attribute from) (IsNextMember self.now attribute from) }
+    {
+        match self.rows.get(attribute) {
+            Some(row) => row.next(from),
+            None => None,
+        }
+    }
+}
+
+impl<A: Allocator + Copy> Members<A> {
+    ghost use Rattle.std.specs.Prelude.{◌≡◌, ◌+◌, ◌<◌, ◌^◌, ◌&&◌, ◌==◌, ℕ, [], length, slice_index_or, IfOk, OnOk};
+    ghost use Rattle.cil_sets.specs.Counts.{AreWide, one_if};
+    ghost use Rattle.cil_sets.specs.Members.{count_in, AreMembers};
+
+    /// The members of a resolved policy's attributes. A policy of 2^32 set statements or more is told to take too much
+    /// memory.
+    pub fn plain(alloc: A, resolved: &Resolved<A>) -> Result<Self, AllocError>
+        ensures { IfOk result (AreMembers resolved.now) }
+    {
+        resolved_is_sound(resolved);
+        resolved_sets_are_in_order(resolved);
+        let sets = resolved.sets_len();
+        if sets > u32::MAX as usize {
+            return Err(AllocError);
+        }
+        let kept = kept_types(alloc, resolved)?;
+        let mut filling = Filling::new(alloc, resolved)?;
+        let mut meter = Meter::new();
+        for i in 0..sets {
+            filling.add_statement(alloc, resolved, &kept, i, &mut meter)?;
+        }
+        Ok(filling.members)
+    }
+
+    /// No members, for so many names.
+    pub(crate) fn none(alloc: A, names: usize) -> Result<Self, AllocError>
+        ensures none { IfOk result (λ members. (a t : ℕ) → count_in members a t ≡ 0) }
+        ensures len { IfOk result (λ members. length members.rows.items ≡ names) }
+        ensures wide { IfOk result (λ members. AreWide names members.rows.items) }
+    {
+        let mut rows = Vec::with_capacity(alloc, names)?;
+        for _ in 0..names {
+            rows.push(Row::new(alloc, 0)?)?;
+        }
+        Ok(Members { rows })
+    }
+
+    /// The row of an attribute has a counter for each name.
+    fn widen(&mut self, alloc: A, attribute: usize) -> Result<(), AllocError>
+        requires attribute { attribute < length self.old.rows.items }
+        requires wide { AreWide (length self.old.rows.items) self.old.rows.items }
+        ensures counts { OnOk result ((a t : ℕ) → count_in self.new a t ≡ count_in self.old a t) }
+        ensures len { OnOk result (length self.new.rows.items ≡ length self.old.rows.items) }
+        ensures wide { OnOk result (AreWide (length self.new.rows.items) self.new.rows.items) }
+        ensures row { OnOk result (length (slice_index_or self.new.rows.items attribute []) ≡ length self.new.rows.items) }
+    {
+        let columns = self.rows.len();
+        let row = &self.rows[attribute];
+        if row.len() == 0 {
+            self.rows[attribute] = Row::new(alloc, columns)?;
+        }
+        Ok(())
+    }
+
+    /// One more statement makes the type a member.
+    pub(crate) fn add(&mut self, alloc: A, attribute: usize, ty: usize) -> Result<(), AllocError>
+        requires attribute { attribute < length self.old.rows.items }
+        requires ty { ty < length self.old.rows.items }
+        requires wide { AreWide (length self.old.rows.items) self.old.rows.items }
+        requires fits { count_in self.old attribute ty + 1 < 2 ^ 32 }
+        ensures counts { OnOk result ((a t : ℕ) →
+            count_in self.new a t ≡ count_in self.old a t + one_if ((a == attribute) && (t == ty))) }
+        ensures len { OnOk result (length self.new.rows.items ≡ length self.old.rows.items) }
+        ensures wide { OnOk result (AreWide (length self.new.rows.items) self.new.rows.items) }
+    {
+        self.widen(alloc, attribute)?;
+        let row = &mut self.rows[attribute];
+        row.add_one(ty);
+        Ok(())
+    }
+}

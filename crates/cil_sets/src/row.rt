@@ -1,0 +1,123 @@
+//! The counters of one attribute, by the numbers of types.
+
+ghost use Rattle.std.specs.Prelude.{◌≡◌, ◌+◌, ◌*◌, ◌<◌, ◌≤◌, ◌^◌, ℕ, IsTrue, length, replicate, slice_index, slice_set, nat_lt, IfOk, MatchOption};
+ghost use Rattle.cil_sets.specs.Bits.{bit_of, IsNextBit, NoBit, SetsBit, IsNextCount, NoCount};
+
+use std::alloc::{AllocError, Allocator, Global};
+use std::marker::Model;
+
+// How many bits a word has.
+const WORD: usize = 64;
+
+/// A counter for each column, and a bit for each that is above 0.
+#[derive(Debug, Drop)]
+pub struct Row<A: Allocator = Global> {
+    counts: Vec<u32, A>,
+    words: Vec<u64, A>,
+}
+
+impl<A: Allocator> Model for Row<A> {
+    ghost use Rattle.std.specs.Prelude.{ℕ, List};
+    ghost use Rattle.cil_sets.specs.Bits.{AreMarked};
+
+    ghost Value = { List ℕ };
+
+    ghost view = { λ r. r.counts.items };
+
+    ghost invariant = { λ r. AreMarked r.counts.items r.words.items };
+}
+
+/// Whether a bit is set.
+fn has_bit(words: &[u64], place: usize) -> bool
+    ensures { result ≡ bit_of words.now place }
+{
+    let k = place / WORD;
+    if k < words.len() {
+        (words[k] >> (place % WORD)) & 1 == 1
+    } else {
+        false
+    }
+}
+
+/// Sets a bit.
+fn set_bit(words: &mut [u64], place: usize)
+    requires { place < 64 * length words.old }
+    ensures { SetsBit words.old words.new place }
+{
+    words[place / WORD] |= 1u64 << (place % WORD);
+}
+
+/// The first bit that is set in the words from one on.
+fn next_in_words(words: &[u64], first: usize) -> Option<usize>
+    requires { 64 * length words.now < 2 ^ 64 }
+    ensures { MatchOption result (NoBit words.now (64 * first)) (IsNextBit words.now (64 * first)) }
+{
+    for k in first..words.len() {
+        let word = words[k];
+        if word != 0 {
+            return Some(k * WORD + word.trailing_zeros() as usize);
+        }
+    }
+    None
+}
+
+/// The first bit that is set from a place on.
+fn next_bit(words: &[u64], from: usize) -> Option<usize>
+    requires { 64 * length words.now < 2 ^ 64 }
+    ensures { MatchOption result (NoBit words.now from) (IsNextBit words.now from) }
+{
+    let k = from / WORD;
+    if k >= words.len() {
+        return None;
+    }
+    let rest = words[k] & (u64::MAX << (from % WORD));
+    if rest != 0 {
+        return Some(k * WORD + rest.trailing_zeros() as usize);
+    }
+    next_in_words(words, k + 1)
+}
+
+impl<A: Allocator + Copy> Row<A> {
+    /// So many counters of 0.
+    pub fn new(alloc: A, columns: usize) -> Result<Self, AllocError>
+        ensures { IfOk result (λ row. row ≡ replicate columns 0) }
+    {
+        Ok(Row {
+            counts: vec![in alloc; 0; columns]?,
+            words: vec![in alloc; 0; columns / WORD + 1]?,
+        })
+    }
+}
+
+impl<A: Allocator> Row<A> {
+    /// How many counters there are.
+    pub fn len(&self) -> usize
+        ensures { result ≡ length self.now }
+    {
+        self.counts.len()
+    }
+
+    /// Whether a counter is above 0; none is that isn't there.
+    pub fn has(&self, column: usize) -> bool
+        ensures { result ≡ nat_lt 0 (slice_index self.now column) }
+    {
+        has_bit(&self.words, column)
+    }
+
+    /// A counter rises by one.
+    pub fn add_one(&mut self, column: usize)
+        requires within { column < length self.old }
+        requires fits { slice_index self.old column + 1 < 2 ^ 32 }
+        ensures { self.new ≡ slice_set self.old column (slice_index self.old column + 1) }
+    {
+        self.counts[column] += 1;
+        set_bit(&mut self.words, column);
+    }
+
+    /// The first column from one on whose counter is above 0. Words of zeros are skipped.
+    pub fn next(&self, from: usize) -> Option<usize>
+        ensures { MatchOption result (NoCount self.now from) (IsNextCount self.now from) }
+    {
+        next_bit(&self.words, from)
+    }
+}
