@@ -9,8 +9,8 @@ use crate::answers::{assert_same, shown};
 use crate::tables::assert_changes;
 use cil_parse::{ParsedModule, parse};
 use cil_resolve::{
-    ClassView, Element, ElementView, Joined, NameView, NamedModule, PolicyFault, Resolved,
-    RuleView, TargetView, join, resolve, resolve_types,
+    ClassView, Element, ElementView, Joined, Meter, NameView, NamedModule, PolicyFault, Resolved,
+    RuleView, SetView, TargetView, join, resolve, resolve_types,
 };
 use cil_rules::{Atom, Changes, Table};
 use cil_stream::MemorySink;
@@ -191,6 +191,68 @@ fn what_a_policy_resolves_to(rt: HostRuntime) {
     let p = class_seen(policy.class_at(0));
     let used = policy.class_permission(0, 0).map(shown);
     assert_same(&rt, (p, used), (Some(("p", 1)), Some("use")));
+}
+
+const SETS: &[u8] = b"(type a)(type b)(typeattribute s)(typeattribute n)\
+(typeattributeset n (not (s)))(typeattributeset s (a))";
+
+// A policy with two set statements, of which the first depends on the second.
+fn with_sets(rt: &impl Abort, alloc: Global) -> Resolved {
+    let m = module_of(rt, alloc, SETS);
+    let n = module_of(rt, alloc, b"(class p (use))");
+    let joined = joined(alloc, &m, &n).expect(rt, "memory");
+    resolve(alloc, &joined).expect(rt, "a policy")
+}
+
+// The module, the attribute and the offset of a set statement, and how many names it has.
+fn set_seen(view: Option<SetView<'_>>) -> Option<(&str, &str, u32, usize)> {
+    let view = view?;
+    Some((
+        shown(view.module),
+        shown(view.attribute),
+        view.at.offset,
+        view.names,
+    ))
+}
+
+#[test]
+fn set_statements_in_the_order_of_dependence(rt: HostRuntime) {
+    let policy = with_sets(&rt, rt.alloc());
+    assert_same(&rt, (policy.sets_len(), policy.names_len()), (2, 6));
+    let seen = (
+        set_seen(policy.set_at(0)),
+        set_seen(policy.set_at(1)),
+        set_seen(policy.set_at(2)),
+    );
+    let want = (Some(("m", "s", 80, 1)), Some(("m", "n", 50, 1)), None);
+    assert_same(&rt, seen, want);
+    let numbers = [
+        policy.set_attribute(0),
+        policy.attribute_number(0),
+        policy.type_number(1),
+    ];
+    assert_same(&rt, numbers, [Some(4), Some(4), Some(1)]);
+    assert_same(&rt, shown(policy.name(4)), "s");
+    let named = policy.set_names(0).first().copied();
+    assert_same(&rt, named, Some(Element::Type(0)));
+}
+
+#[test]
+fn set_statements_are_evaluated_and_counted(rt: HostRuntime) {
+    let policy = with_sets(&rt, rt.alloc());
+    let mut meter = Meter::new();
+    let named = policy.evaluate(0, 0, |_| false, &mut meter);
+    let other = policy.evaluate(0, 1, |_| false, &mut meter);
+    let complement = policy.evaluate(1, 1, |_| false, &mut meter);
+    assert_same(&rt, [named, other, complement], [true, false, true]);
+    assert_same(&rt, (meter.evaluations(), meter.adjustments()), (3, 0));
+    let reach = [policy.may_hold_any(0), policy.may_hold_any(1)];
+    assert_same(&rt, reach, [false, true]);
+    let same = [
+        policy.is_same_set(0, &policy, 0),
+        policy.is_same_set(0, &policy, 1),
+    ];
+    assert_same(&rt, same, [true, false]);
 }
 
 fn is_type_a(element: ElementView<'_>) -> bool {
