@@ -2,3 +2,4 @@ pub mod BitLemmas
 pub mod CountLemmas
 pub mod FillLemmas
 pub mod LookLemmas
+pub mod ListLemmas

@@ -1,5 +1,7 @@
 -- The members of attributes as they are kept.
-use Rattle.std.specs.Prelude.{◌≡◌, ◌<◌, ◌≤◌, ℕ, Bool, IsTrue, false, length, nat_lt}
+use Rattle.std.specs.Prelude.{◌≡◌, ◌<◌, ◌≤◌, ℕ, Bool, IsTrue, false, List, length, nat_eq, nat_lt}
+use Rattle.std.specs.List.{list_any}
+use Rattle.std.specs.List.Sorted.{IsStrictlyIncreasing}
 use Rattle.cil_specs.specs.Members.{is_member}
 use Rattle.cil_resolve.specs.Resolved.{meaning_in}
 use Rattle.cil_resolve.specs.Sets.{name_in, sets_in}
@@ -24,6 +26,11 @@ pub record IsNextMember {A : Type 0} (members : Members A) (attribute from next 
   pub from_on : from ≤ next
   pub has : IsTrue (has_in members attribute next)
   pub first : (ty : ℕ) → from ≤ ty → ty < next → has_in members attribute ty ≡ false
+
+-- the numbers of an attribute's members, and no others, each below the next
+pub record IsListOf {A : Type 0} (members : Members A) (attribute : ℕ) (numbers : List ℕ) : Type 0 where
+  pub are : (ty : ℕ) → list_any (nat_eq ty) numbers ≡ has_in members attribute ty
+  pub rising : IsStrictlyIncreasing numbers
 
 -- These are the members of a resolved policy's attributes; by numbers that no name has there are none.
 pub record AreMembers {A B : Type 0} (r : Resolved A) (members : Members B) : Type 0 where

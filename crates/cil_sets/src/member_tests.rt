@@ -7,7 +7,7 @@ ghost use Rattle.cil_sets.specs.Sound.{IsSoundModule};
 
 use crate::Members;
 use cil_parse::{ParsedModule, parse};
-use cil_resolve::{Joined, NamedModule, Resolved, resolve};
+use cil_resolve::{Joined, Meter, NamedModule, Resolved, resolve};
 use std::alloc::{AllocError, Global};
 use std::process::Abort;
 
@@ -182,4 +182,83 @@ fn members_of_a_complement(rt: HostRuntime) {
     let skipped = members.next_member(s, first.saturating_add(64))
         == Some(first.saturating_add(65));
     assert!(&rt; skipped);
+}
+
+#[test]
+fn the_members_of_an_attribute(rt: HostRuntime) {
+    let resolved = policy(&rt, rt.alloc(), &[START, b"(typeattributeset s (c a))"]);
+    let members = Members::plain(rt.alloc(), &resolved).expect(&rt, "memory");
+    let s = members
+        .members(rt.alloc(), number(&resolved, b"s"))
+        .expect(&rt, "memory");
+    let as_wanted = s.as_slice() == [number(&resolved, b"a"), number(&resolved, b"c")].as_slice();
+    assert!(&rt; as_wanted);
+    let n = members
+        .members(rt.alloc(), number(&resolved, b"n"))
+        .expect(&rt, "memory");
+    assert!(&rt; n.len() == 0);
+}
+
+// Appends a number of two digits.
+fn push_digits(rt: &impl Abort, text: &mut Vec<u8>, number: u8) {
+    text.push(b'0' + number / 10 % 10).expect(rt, "memory");
+    text.push(b'0' + number % 10).expect(rt, "memory");
+}
+
+// The declarations of the types t00 to t39 and of the attributes g00 to g09.
+fn declarations(rt: &impl Abort, alloc: Global) -> Vec<u8> {
+    let mut text = Vec::new(alloc);
+    text.extend_from_slice(b"(class p (use))")
+        .expect(rt, "memory");
+    for i in 0..40_u8 {
+        text.extend_from_slice(b"(type t").expect(rt, "memory");
+        push_digits(rt, &mut text, i);
+        text.push(b')').expect(rt, "memory");
+    }
+    for i in 0..10_u8 {
+        text.extend_from_slice(b"(typeattribute g")
+            .expect(rt, "memory");
+        push_digits(rt, &mut text, i);
+        text.push(b')').expect(rt, "memory");
+    }
+    text
+}
+
+// How many evaluations the members of a policy take.
+fn evaluations(rt: &impl Abort, alloc: Global, statements: &[&[u8]]) -> u128 {
+    let resolved = policy(rt, alloc, statements);
+    let mut meter = Meter::new();
+    Members::metered(alloc, &resolved, &mut meter).expect(rt, "memory");
+    meter.evaluations()
+}
+
+// 200 statements of one type each, four in five of one attribute: each is looked at where its type is, and not at all 40.
+#[test]
+fn statements_are_evaluated_where_their_names_are(rt: HostRuntime) {
+    let text = declarations(&rt, rt.alloc());
+    let mut statements = Vec::new(rt.alloc());
+    for i in 0..200_u8 {
+        let attribute = if i % 5 == 0 { i / 5 % 10 } else { 0 };
+        statements
+            .extend_from_slice(b"(typeattributeset g")
+            .expect(&rt, "memory");
+        push_digits(&rt, &mut statements, attribute);
+        statements.extend_from_slice(b" (t").expect(&rt, "memory");
+        push_digits(&rt, &mut statements, i % 40);
+        statements.extend_from_slice(b"))").expect(&rt, "memory");
+    }
+    let made = evaluations(&rt, rt.alloc(), &[text.as_slice(), statements.as_slice()]);
+    assert!(&rt; made >= 200 && made <= 250);
+}
+
+// A complement is looked at once at each type.
+#[test]
+fn a_complement_is_evaluated_at_each_type(rt: HostRuntime) {
+    let text = declarations(&rt, rt.alloc());
+    let made = evaluations(
+        &rt,
+        rt.alloc(),
+        &[text.as_slice(), b"(typeattributeset g00 (not (t00)))"],
+    );
+    assert!(&rt; made == 40);
 }

@@ -15,7 +15,7 @@ pub struct Members<A: Allocator = Global> {
 }
 
 impl<A: Allocator> Members<A> {
-    ghost use Rattle.std.specs.Prelude.{◌≡◌, MatchOption};
+    ghost use Rattle.std.specs.Prelude.{◌≡◌, ◌<◌, ◌^◌, [], length, slice_index_or, MatchOption};
     ghost use Rattle.cil_sets.specs.Members.{has_in, NoMember, IsNextMember};
 
     /// Whether a type is a member of an attribute, by the numbers of their names. It takes no memory, and the same time
@@ -38,16 +38,33 @@ impl<A: Allocator> Members<A> {
             None => None,
         }
     }
+
+    /// The numbers of a row's types fit in a word, for they were counted.
+    fn numbers_are_short(&self, attribute: usize)
+        ensures { length (slice_index_or self.now.rows.items attribute []) < 2 ^ 64 }
+    {
+        if let Some(row) = self.rows.get(attribute) {
+            row.len();
+        }
+    }
 }
 
 impl<A: Allocator + Copy> Members<A> {
     ghost use Rattle.std.specs.Prelude.{◌≡◌, ◌+◌, ◌<◌, ◌^◌, ◌&&◌, ◌==◌, ℕ, [], length, slice_index_or, IfOk, OnOk};
     ghost use Rattle.cil_sets.specs.Counts.{AreWide, one_if};
-    ghost use Rattle.cil_sets.specs.Members.{count_in, AreMembers};
+    ghost use Rattle.cil_sets.specs.Members.{count_in, AreMembers, IsListOf};
 
     /// The members of a resolved policy's attributes. A policy of 2^32 set statements or more is told to take too much
     /// memory.
     pub fn plain(alloc: A, resolved: &Resolved<A>) -> Result<Self, AllocError>
+        ensures { IfOk result (AreMembers resolved.now) }
+    {
+        let mut meter = Meter::new();
+        Self::metered(alloc, resolved, &mut meter)
+    }
+
+    /// The same, where the caller counts how often a statement is evaluated at a type.
+    pub fn metered(alloc: A, resolved: &Resolved<A>, meter: &mut Meter) -> Result<Self, AllocError>
         ensures { IfOk result (AreMembers resolved.now) }
     {
         resolved_is_sound(resolved);
@@ -58,11 +75,24 @@ impl<A: Allocator + Copy> Members<A> {
         }
         let kept = kept_types(alloc, resolved)?;
         let mut filling = Filling::new(alloc, resolved)?;
-        let mut meter = Meter::new();
         for i in 0..sets {
-            filling.add_statement(alloc, resolved, &kept, i, &mut meter)?;
+            filling.add_statement(alloc, resolved, &kept, i, meter)?;
         }
         Ok(filling.members)
+    }
+
+    /// The members of an attribute, by the numbers of their names, which rise: in the byte order of the names.
+    pub fn members(&self, alloc: A, attribute: usize) -> Result<Vec<usize, A>, AllocError>
+        ensures { IfOk result (λ list. IsListOf self.now attribute list.items) }
+    {
+        self.numbers_are_short(attribute);
+        let mut list = Vec::new(alloc);
+        let mut from = 0;
+        while let Some(ty) = self.next_member(attribute, from) {
+            list.push(ty)?;
+            from = ty + 1;
+        }
+        Ok(list)
     }
 
     /// No members, for so many names.

@@ -1,5 +1,5 @@
 use Rattle.cil_sets.specs.Filling.{IsReady}
-use Rattle.cil_sets.proofs.members.Members.plain.Given as goal
+use Rattle.cil_sets.proofs.members.Members.metered.Given as goal
 
 -- the statements so far are counted
 abbrev pub invariant-loop-i : goal.invariant-loop-i

@@ -2,7 +2,7 @@ use Rattle.std.proofs.Common.{◌≡◌, subst, length, arith}
 use Rattle.cil_resolve.specs.Sets.{sets_in}
 use Rattle.cil_sets.specs.Filling.{IsReady}
 use Rattle.cil_sets.proofs.FillLemmas.{members-after}
-use Rattle.cil_sets.proofs.members.Members.plain.Goals as goal
+use Rattle.cil_sets.proofs.members.Members.metered.Goals as goal
 
 pub returns : goal.returns
 returns g c =
