@@ -23,5 +23,6 @@ pub mod DroppedLemmas
 pub mod FormLemmas
 pub mod SetOrderLemmas
 pub mod SetNameLemmas
+pub mod ApartLemmas
 pub mod EvaluateLemmas
 pub mod SameLemmas

@@ -39,7 +39,7 @@ module _ {A : Type 0} (modules names : List (List ℕ)) (sets : List (NumberedSe
   the_set : NumberedSet A → SetStatement
   the_set = set_of modules names
 
-  at-set : (numbers : List ℕ) (t : NumberedSet A) → Contains (sets_at sets numbers) t → (j : ℕ) × (j < length numbers) × (slice_get sets (get_or numbers j 0) ≡ Some t)
+  pub at-set : (numbers : List ℕ) (t : NumberedSet A) → Contains (sets_at sets numbers) t → (j : ℕ) × (j < length numbers) × (slice_get sets (get_or numbers j 0) ≡ Some t)
   at-set [] t c = absurd (omega (arith, c.1))
   at-set (n ∷ numbers) t c = by (slice_get sets n) refl (at-set numbers t) c
     where

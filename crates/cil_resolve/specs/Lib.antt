@@ -12,5 +12,6 @@ pub mod Lowering
 pub mod Dropped
 pub mod Judged
 pub mod SetOrder
+pub mod Apart
 pub mod Sets
 pub mod Same

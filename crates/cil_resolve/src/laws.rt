@@ -1,6 +1,6 @@
 //! Laws of the definitions. They have no code.
 
-ghost use Rattle.std.specs.Prelude.{◌≡◌, ◌≤◌, ℕ, false, List, Contains, IsTrue, is_some, length};
+ghost use Rattle.std.specs.Prelude.{◌≡◌, ◌<◌, ◌≤◌, ◌^◌, ℕ, false, List, AllPairs, Contains, IsTrue, is_some, length};
 ghost use Rattle.cil_specs.specs.Dependence.{AreInOrder, AreTheSame};
 ghost use Rattle.cil_specs.specs.Expr.{Expr, leaves};
 ghost use Rattle.cil_specs.specs.Joined.{Placed};
@@ -13,6 +13,7 @@ ghost use Rattle.cil_specs.specs.Next.{IsPolicyOf};
 ghost use Rattle.cil_specs.specs.Rule.{Element};
 ghost use Rattle.cil_specs.specs.Sets.{holds_with, mentions};
 ghost use Rattle.cil_expression.specs.Holds.{holds_by};
+ghost use Rattle.cil_resolve.specs.Apart.{StandApart};
 ghost use Rattle.cil_resolve.specs.Consistent.{is_consistent};
 ghost use Rattle.cil_resolve.specs.Resolved.{meaning_in};
 ghost use Rattle.cil_resolve.specs.Sets.{sets_in};
@@ -74,6 +75,12 @@ pub fn resolved_is_sound<A: Allocator>(resolved: &Resolved<A>)
 pub fn resolved_sets_are_in_order<A: Allocator>(resolved: &Resolved<A>)
     ensures in_order { AreInOrder (sets_in resolved.now) }
     ensures the_same { AreTheSame (meaning_in resolved.now).sets (sets_in resolved.now) }
+{}
+
+/// No two of them stand in modules of one name at one offset, and there are fewer than 2^32.
+pub fn resolved_sets_are_apart<A: Allocator>(resolved: &Resolved<A>)
+    ensures apart { AllPairs StandApart (sets_in resolved.now) }
+    ensures few { length (sets_in resolved.now) < 2 ^ 32 }
 {}
 
 /// Where an expression holds nothing that none of its names does (may_hold_any answers no), a type that it doesn't name is in it only

@@ -1,5 +1,6 @@
-use Rattle.std.proofs.Common.{rules, ◌≡◌, ◌∙◌, List, [], ℕ, length, map, IsTrue, sym, ap, subst}
-use Rattle.std.specs.List.{list_all}
+use Rattle.std.proofs.Common.{rules, ◌≡◌, ◌∙◌, List, [], ℕ, ◌<◌, ◌^◌, length, map, IsTrue, sym, ap, subst}
+use Rattle.std.specs.List.{list_all, AllPairs}
+use Rattle.std.proofs.lemmas.List.{length-map}
 use Rattle.cil_specs.specs.Joined.{Placed}
 use Rattle.cil_specs.specs.Members.{HasSoundSets}
 use Rattle.cil_specs.specs.Meaning.{Meaning, meaning_of}
@@ -12,7 +13,9 @@ use Rattle.cil_resolve.specs.Numbers.{declared_of, class_of, set_of, rule_of, dr
 use Rattle.cil_resolve.proofs.ConsistentLemmas.{rules-declared}
 use Rattle.cil_resolve.proofs.PlacedLemmas.{from-named, all-placed}
 use Rattle.cil_specs.specs.Sets.{HasNoCircle}
+use Rattle.cil_resolve.specs.Apart.{StandApart}
 use Rattle.cil_resolve.specs.Below.{is_set_below}
+use Rattle.cil_resolve.proofs.ApartLemmas.{sets-apart, sets-few}
 use Rattle.cil_resolve.proofs.SetNameLemmas.{numbers-straight}
 use Rattle.cil_resolve.proofs.SoundLemmas.{faultless-sound}
 use Rattle.cil_resolve.proofs.lowered.lowered.Goals as goal
@@ -80,6 +83,12 @@ invariant_of-result g c =
     let means : _ ≡ meaning_of policy dropped = λ i. record { types = types i; attributes = attributes i; classes = classes i; sets = sets i; rules = rules i; dropped = map (dropped_with (modules i)) c.args.dropped.items } in
     record {
       sound = subst HasSoundSets (sym means) (faultless-sound policy faultless dropped);
+      apart = subst (AllPairs StandApart) (sym sets) (sets-apart policy noted.is.ordered);
+      few =
+          subst (λ n. n < 2 ^ 32)
+          (ap (λ l. length l) (sym parts.sets_are.is)
+          ∙ (length-map c.in_ok-parts.parts.sets.items (set_of (modules_of c.args.checker.now.bound.joined.now) names) ∙ ap (λ l. length l) (sym c.in_ok-sets.ensures)))
+          (sets-few policy noted.few);
       consistent = record {
         declared = (λ i. are_rules_of (types i) (attributes i) (classes i) (rules i)) ∙ rules-declared policy faultless;
         placed =
