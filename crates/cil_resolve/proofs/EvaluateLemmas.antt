@@ -99,6 +99,11 @@ module _ {A : Type 0} (r : Resolved A) where
         below = names-below i x there;
       }
 
+  pub set-there : (i : ℕ) (found : Option (NumberedSet A)) (x : NumberedSet A) → found ≡ slice_get (sets_at r.sets.sets.items r.sets.order.items) i → found ≡ Some x → slice_get (sets_in r) i ≡ None → ⊥
+  set-there i found x is one none =
+      none-some (set_of r.modules.items r.names.items x)
+      (sym none ∙ slice_get-map (set_of r.modules.items r.names.items) (sets_at r.sets.sets.items r.sets.order.items) i ∙ ap (option_map (set_of r.modules.items r.names.items)) (sym is ∙ one))
+
   pub no-set-at : (i : ℕ) (s : SetStatement) → slice_get (sets_at r.sets.sets.items r.sets.order.items) i ≡ None → slice_get (sets_in r) i ≡ Some s → ⊥
   no-set-at i s none at = none-some s (sym (slice_get-map (set_of r.modules.items r.names.items) (sets_at r.sets.sets.items r.sets.order.items) i ∙ ap (option_map (set_of r.modules.items r.names.items)) none) ∙ at)
 

@@ -1,6 +1,6 @@
 //! Evaluation of set statements at types.
 
-ghost use Rattle.std.specs.Prelude.{◌≡◌, ◌<◌, ◌+◌, ◌-◌, ◌^◌, IfSome, false, min, map, length, slice_get, Some, IsTrue, option_map};
+ghost use Rattle.std.specs.Prelude.{◌≡◌, ◌<◌, ◌+◌, ◌-◌, ◌^◌, IfSome, false, min, map, length, slice_get, Some, None, IsTrue, [], option_map};
 ghost use Rattle.std.specs.List.{list_all};
 ghost use Rattle.cil_specs.specs.Expr.{leaves};
 ghost use Rattle.cil_specs.specs.Rule.{SetStatement};
@@ -39,6 +39,7 @@ impl<A: Allocator> Resolved<A> {
     pub fn set_names(&self, i: usize) -> &[Element]
         ensures names { (s : SetStatement) → slice_get (sets_in self.now) i ≡ Some s → map (element_of self.now.names.items) result.now ≡ leaves s.expr }
         ensures below { IsTrue (list_all (is_element_below (length self.now.names.items)) result.now) }
+        ensures none { slice_get (sets_in self.now) i ≡ None → result.now ≡ [] }
     {
         match self.sets.at(i) {
             Some(set) => set.expression.names(),
@@ -47,9 +48,10 @@ impl<A: Allocator> Resolved<A> {
     }
 
     /// Whether the set statement at a place may hold a type that it doesn't name and that no attribute that it mentions has as a member.
-    /// It is a bound: where the answer is no, no such type is in its expression.
+    /// It is a bound: where the answer is no, no such type is in its expression. No is the answer where there is no such statement.
     pub fn may_hold_any(&self, i: usize) -> bool
-        ensures { (s : SetStatement) → slice_get (sets_in self.now) i ≡ Some s → result ≡ holds_by (λ element. false) s.expr }
+        ensures value { (s : SetStatement) → slice_get (sets_in self.now) i ≡ Some s → result ≡ holds_by (λ element. false) s.expr }
+        ensures none { slice_get (sets_in self.now) i ≡ None → result ≡ false }
     {
         match self.sets.at(i) {
             Some(set) => set.expression.may_hold_any(),
@@ -58,7 +60,7 @@ impl<A: Allocator> Resolved<A> {
     }
 
     /// Whether the expression of the set statement at a place holds a kept type, where known answers which attributes that it mentions
-    /// do; all by the numbers of their names. It is counted as one evaluation.
+    /// do; all by the numbers of their names. It is counted as one evaluation. No is the answer where there is no such statement.
     pub fn evaluate<F: Fn(usize) -> bool>(
         &self,
         i: usize,
@@ -70,6 +72,7 @@ impl<A: Allocator> Resolved<A> {
         ensures value { (s : SetStatement) → slice_get (sets_in self.now) i ≡ Some s → ty < length self.now.names.items
             → IsTrue (keeps_type (meaning_in self.now) (name_in self.now ty)) → TellsMembers self.now (F.post known) s ty
             → result ≡ is_in (meaning_in self.now) s.expr (name_in self.now ty) }
+        ensures none { slice_get (sets_in self.now) i ≡ None → result ≡ false }
         ensures evaluations { evaluations_in meter.new ≡ min (evaluations_in meter.old + 1) (2 ^ 128 - 1) }
         ensures adjustments { adjustments_in meter.new ≡ adjustments_in meter.old }
     {

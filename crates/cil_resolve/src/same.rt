@@ -1,6 +1,6 @@
 //! Set statements that are the same as resolved.
 
-ghost use Rattle.std.specs.Prelude.{◌≡◌, ◌↔◌, Some, IsTrue, slice_get};
+ghost use Rattle.std.specs.Prelude.{◌≡◌, ◌↔◌, Some, None, false, IsTrue, slice_get};
 ghost use Rattle.cil_specs.specs.Rule.{SetStatement, IsSameSet};
 ghost use Rattle.cil_resolve.specs.Numbers.{element_of, set_of};
 ghost use Rattle.cil_resolve.specs.Same.{same_element, same_set};
@@ -13,10 +13,12 @@ use std::alloc::Allocator;
 
 impl<A: Allocator> Resolved<A> {
     /// Whether the set statement at a place is the same as resolved as that at a place of another policy, or of this one: its module,
-    /// its offset and what it says are.
+    /// its offset and what it says are. No is the answer where there is no statement at one of the places.
     pub fn is_same_set(&self, i: usize, other: &Resolved<A>, j: usize) -> bool
-        ensures { (s t : SetStatement) → slice_get (sets_in self.now) i ≡ Some s → slice_get (sets_in other.now) j ≡ Some t
+        ensures same { (s t : SetStatement) → slice_get (sets_in self.now) i ≡ Some s → slice_get (sets_in other.now) j ≡ Some t
             → IsTrue result ↔ IsSameSet s t }
+        ensures none { slice_get (sets_in self.now) i ≡ None → result ≡ false }
+        ensures no_other { slice_get (sets_in other.now) j ≡ None → result ≡ false }
     {
         match (self.sets.at(i), other.sets.at(j)) {
             (Some(set), Some(against)) => self.are_same(set, other, against),

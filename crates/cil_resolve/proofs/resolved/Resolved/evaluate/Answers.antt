@@ -2,7 +2,7 @@ use Rattle.std.proofs.Common.{◌≡◌, ◌∙◌, None, Some, option_map, ap, 
 use Rattle.cil_specs.specs.Meaning.{is_in}
 use Rattle.cil_resolve.specs.Resolved.{meaning_in}
 use Rattle.cil_resolve.specs.Sets.{name_in}
-use Rattle.cil_resolve.proofs.EvaluateLemmas.{value-at, evaluated, answers-told, set-at, no-set-at}
+use Rattle.cil_resolve.proofs.EvaluateLemmas.{value-at, evaluated, answers-told, set-at, set-there, no-set-at}
 use Rattle.cil_resolve.proofs.resolved.Resolved.evaluate.Goals as goal
 
 pub returns-in-Some-clause-value : goal.returns-in-Some-clause-value
@@ -17,3 +17,6 @@ returns-in-Some-clause-value g c s at within kept tells =
 
 pub returns-clause-value : goal.returns-clause-value
 returns-clause-value g c s at within kept tells = absurd (no-set-at c.args.self.now c.args.i s (sym c.at.ensures ∙ ap (option_map (λ y. y.now)) c.in-None.is) at)
+
+pub returns-in-Some-clause-none : goal.returns-in-Some-clause-none
+returns-in-Some-clause-none g c none = absurd (set-there c.args.self.now c.args.i _ c.in-Some.set.now c.at.ensures (ap (option_map (λ y. y.now)) c.in-Some.is) none)

@@ -5,7 +5,7 @@ use Rattle.cil_specs.proofs.MeansLemmas.{leaves-mapped}
 use Rattle.cil_expression.specs.Expression.{expr_in}
 use Rattle.cil_resolve.specs.Below.{is_element_below}
 use Rattle.cil_resolve.specs.Numbers.{element_of}
-use Rattle.cil_resolve.proofs.EvaluateLemmas.{set-at, no-set-at, names-below}
+use Rattle.cil_resolve.proofs.EvaluateLemmas.{set-at, set-there, no-set-at, names-below}
 use Rattle.cil_resolve.proofs.resolved.Resolved.set_names.Goals as goal
 
 pub returns-in-Some-clause-names : goal.returns-in-Some-clause-names
@@ -22,3 +22,6 @@ returns-in-Some-clause-below g c =
 
 pub returns-in-None-clause-names : goal.returns-in-None-clause-names
 returns-in-None-clause-names g c s at = absurd (no-set-at c.args.self.now c.args.i s (sym c.at.ensures ∙ ap (option_map (λ y. y.now)) c.in-None.is) at)
+
+pub returns-in-Some-clause-none : goal.returns-in-Some-clause-none
+returns-in-Some-clause-none g c none = absurd (set-there c.args.self.now c.args.i _ c.in-Some.set.now c.at.ensures (ap (option_map (λ y. y.now)) c.in-Some.is) none)

@@ -18,5 +18,5 @@ pub returns-else-may_hold_any : goal.returns-else-may_hold_any
 returns-else-may_hold_any g c =
     on-both c.look_at_names.result
     (λ (goes : GoesOn c.args.resolved.now c.args.i c.args.self.now c.look_at_names.new.self) seen.
-    ready-names c.args.resolved.now c.args.i c.look_at_names.new.self c.requires.within goes.filling (no-more c.args.resolved.now c.args.i c.requires.within c.reach_is_a_bound.ensures (sym (c.may_hold_any.ensures (set_at c.args.resolved.now c.args.i) (set-there c.args.resolved.now c.args.i c.requires.within)) ∙ c.if-may_hold_any.false)) seen)
+    ready-names c.args.resolved.now c.args.i c.look_at_names.new.self c.requires.within goes.filling (no-more c.args.resolved.now c.args.i c.requires.within c.reach_is_a_bound.ensures (sym (c.may_hold_any.ensures.value (set_at c.args.resolved.now c.args.i) (set-there c.args.resolved.now c.args.i c.requires.within)) ∙ c.if-may_hold_any.false)) seen)
     c.look_at_names.ensures.goes_on c.look_at_names.ensures.seen
