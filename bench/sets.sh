@@ -1,36 +1,12 @@
 #!/bin/sh
-# Prints what set statements cost: the time of one install of a generated policy in the shape of a real one, at 1, 2, 4 and 8 times,
-# best of three, beside that of the same policy without its set statements; and how much time each takes for each byte. At 8 times it
-# has 60,000 set statements, 52,000 of them of one attribute, 800 attributes and 4,000 types. Most statements name one type or one
-# attribute; some unite several, and some take types away. Build the program first: `make run`.
+# Prints what set statements cost: the time of one install of the policy of bench/set_policy.sh, at 1, 2, 4 and 8 times, best of three,
+# beside that of the same policy without its set statements; and how much time each takes for each byte. Then, for the members of its
+# attributes, how often a set statement is evaluated at a type, by the program of bench/evaluations, which `rt try` builds without its
+# proofs in a copy of what is committed. Build the program first: `make run`.
 set -eu
 cd "$(dirname "$0")/.."
 . bench/session.sh
-
-# `sets 8 1` has its set statements, `sets 8 0` none.
-sets() {
-    awk -v k="$1" -v with_sets="$2" 'BEGIN {
-        srand(7);
-        types = 500 * k; attributes = 100 * k - 1; rules = 3000 * k;
-        for (i = 0; i < 100; i++) printf "(class c%d (use see read write open))\n", i;
-        for (i = 0; i < types; i++) printf "(type some_type_%d_t)\n", i;
-        for (i = 0; i < attributes; i++) printf "(typeattribute some_attribute_%d)\n", i;
-        print "(typeattribute required)";
-        for (i = 0; i < rules; i++)
-            printf "(allow some_type_%d_t some_type_%d_t (c%d (read open use)))\n", int(rand() * types), int(rand() * types), int(rand() * 100);
-        if (!with_sets) exit;
-        for (i = 0; i < 6500 * k; i++)
-            if (i % 10 == 0) printf "(typeattributeset required (some_attribute_%d))\n", int(rand() * attributes);
-            else printf "(typeattributeset required (some_type_%d_t))\n", int(rand() * types);
-        for (i = 0; i < 1000 * k; i++) {
-            of = i % attributes; below = int(rand() * of); one = int(rand() * types); other = int(rand() * types);
-            if (i % 97 == 0 && of) printf "(typeattributeset some_attribute_%d (and (some_attribute_%d) (not (some_type_%d_t))))\n", of, below, one;
-            else if (i % 13 == 0 && of) printf "(typeattributeset some_attribute_%d (some_attribute_%d some_type_%d_t some_type_%d_t))\n", of, below, one, other;
-            else if (i % 5 == 0) printf "(typeattributeset some_attribute_%d (some_type_%d_t some_type_%d_t))\n", of, one, other;
-            else printf "(typeattributeset some_attribute_%d (some_type_%d_t))\n", of, one;
-        }
-    }'
-}
+. bench/set_policy.sh
 
 # The time of one install of the text, and for each byte.
 time_of() {
@@ -46,4 +22,15 @@ for k in 1 2 4 8; do
     time_of without
     sets "$k" 1 > "$folder/text"
     time_of with
+done
+
+mkdir "$folder/copy"
+git archive HEAD HANDLES crates.txt crates | tar -x -C "$folder/copy"
+mkdir -p "$folder/copy/crates/set_evaluations/src"
+cp bench/evaluations/main.txt "$folder/copy/crates/set_evaluations/src/main.rt"
+echo 'set_evaluations: cil_sets cil_resolve cil_parse' >> "$folder/copy/crates.txt"
+for k in 1 2 4 8; do
+    sets "$k" 1 > "$folder/text"
+    printf '%d times   ' "$k"
+    (cd "$folder/copy/crates/set_evaluations" && rt try < "$folder/text" 2> "$folder/log") | grep evaluations
 done

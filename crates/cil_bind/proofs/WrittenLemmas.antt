@@ -1,10 +1,8 @@
 -- What holds of the statements of modules that are spelt by texts.
 use Rattle.std.proofs.Common.{◌≡◌, ℕ, Bool, true, false, not, ◌&&◌, ◌||◌, ◌==◌, cond, nat_le, List, [], ◌∷◌, length, map, None, Some, if◌then◌else◌, refl, sym, ap, ◌∙◌, true≢false}
-use Rattle.std.specs.List.{AllByRecursion, list_all, list_any, slice_split, onto_first}
+use Rattle.std.specs.List.{AllByRecursion, list_any}
 use Rattle.std.specs.Option.{IfSome}
-use Rattle.std.proofs.lemmas.Bool.{eqb-true}
 use Rattle.std.proofs.lemmas.Option.{none-some}
-use Rattle.std.proofs.lemmas.List.Splits.{slice_split-cons_no}
 use Rattle.cil_specs.specs.TextFault.{bad_name, reserved}
 use Rattle.cil_specs.specs.Names.{Word, declared, begins_name, is_name_byte, is_name, components, is_reserved}
 use Rattle.cil_specs.specs.Shape.{IsGoodWord, Shapes}
@@ -17,33 +15,12 @@ use Rattle.cil_specs.proofs.Runs.{first_true, second_true}
 use Rattle.cil_specs.proofs.NamesLemmas.{all-weaker, all-append, all-second, all-contained}
 use Rattle.cil_specs.proofs.ShapeLemmas.{shapes_apart}
 use Rattle.cil_specs.proofs.ApartLemmas.{joined-apart}
+use Rattle.cil_text.proofs.NameLemmas.{name-one}
 use Rattle.cil_parse.specs.Forms.{permissions_in}
 use Rattle.cil_bind.specs.Written.{IsWritten, AreWritten, IsOneName, IsName, HasOneNames, HaveOneNames}
 
 pub written-apart : (modules : List Module) → AreWritten modules → AreApart (joined modules)
 written-apart modules written = joined-apart modules (all-weaker IsWritten (λ m. are_apart false m.statements ≡ true) (λ m w. shapes_apart m.statements false w.trees w.shapes) modules written)
-
--- a byte of a name is no dot
-pub no-dot : (p : ℕ → Bool) → p 46 ≡ false → (b : ℕ) → p b ≡ true → (b == 46) ≡ false
-no-dot p none b is = by (b == 46) refl
-  where
-    by : (c : Bool) → (b == 46) ≡ c → c ≡ false
-    by false e = refl
-    by true e = absurd (true≢false (sym is ∙ ap p (eqb-true b 46 e) ∙ none))
-
-whole : (bytes : List ℕ) → list_all is_name_byte bytes ≡ true → slice_split (λ c. c == 46) bytes ≡ bytes ∷ []
-whole [] all = refl
-whole (b ∷ bytes) all =
-    slice_split-cons_no (λ c. c == 46) b bytes (no-dot is_name_byte refl b (first_true (is_name_byte b) (list_all is_name_byte bytes) all))
-    ∙ ap (onto_first b) (whole bytes (second_true (is_name_byte b) (list_all is_name_byte bytes) all))
-
-name-one : (text : List ℕ) → is_name text ≡ true → components text ≡ text ∷ []
-name-one [] is = absurd (true≢false (sym is))
-name-one (b ∷ bytes) is =
-    let first = no-dot begins_name refl b (first_true (begins_name b) (list_all is_name_byte bytes && nat_le (length (b ∷ bytes)) 2048) is) in
-    let others = first_true (list_all is_name_byte bytes) (nat_le (length (b ∷ bytes)) 2048) (second_true (begins_name b) (list_all is_name_byte bytes && nat_le (length (b ∷ bytes)) 2048) is) in
-    ap (λ c. cond c (slice_split (λ c. c == 46) bytes) (slice_split (λ c. c == 46) (b ∷ bytes))) first
-    ∙ slice_split-cons_no (λ c. c == 46) b bytes first ∙ ap (onto_first b) (whole bytes others)
 
 -- a good word in the place of a name is one
 good-spelt : (w : Word) → IsGoodWord (declared, w) → IsName w.text

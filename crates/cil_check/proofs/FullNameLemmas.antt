@@ -6,7 +6,7 @@ use Rattle.cil_specs.specs.Lookup.{full_name}
 use Rattle.cil_specs.proofs.Runs.{first_true, second_true}
 use Rattle.cil_specs.proofs.OnceLemmas.{any-middle}
 use Rattle.cil_bind.specs.Written.{IsName}
-use Rattle.cil_bind.proofs.WrittenLemmas.{no-dot}
+use Rattle.cil_text.proofs.NameLemmas.{no-dot}
 
 abbrev pub has_dot : List ℕ → Bool
 has_dot text = list_any (λ b. b == 46) text

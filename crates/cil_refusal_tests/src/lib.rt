@@ -10,6 +10,8 @@ mod edits;
 #[cfg(test)]
 mod growths;
 #[cfg(test)]
+mod lines;
+#[cfg(test)]
 mod questions;
 #[cfg(test)]
 mod scripts;

@@ -16,6 +16,7 @@ pub mod LoweringLemmas
 pub mod PartLemmas
 pub mod CommonLemmas
 pub mod RuleLemmas
+pub mod RuleOrderLemmas
 pub mod SetLemmas
 pub mod FaultLemmas
 pub mod JudgedLemmas

@@ -1,6 +1,7 @@
 //! Laws of the definitions. They have no code.
 
 ghost use Rattle.std.specs.Prelude.{◌≡◌, ◌<◌, ◌≤◌, ◌^◌, ℕ, false, List, AllPairs, Contains, IsTrue, is_some, length};
+ghost use Rattle.std.specs.List.Sorted.{IsStrictlySortedBy};
 ghost use Rattle.cil_specs.specs.Dependence.{AreInOrder, AreTheSame};
 ghost use Rattle.cil_specs.specs.Expr.{Expr, leaves};
 ghost use Rattle.cil_specs.specs.Joined.{Placed};
@@ -12,6 +13,7 @@ ghost use Rattle.cil_specs.specs.Members.{is_member, HasSoundSets};
 ghost use Rattle.cil_specs.specs.Next.{IsPolicyOf};
 ghost use Rattle.cil_specs.specs.Rule.{Element};
 ghost use Rattle.cil_specs.specs.Sets.{holds_with, mentions};
+ghost use Rattle.cil_specs.specs.Violations.{rule_cmp};
 ghost use Rattle.cil_expression.specs.Holds.{holds_by};
 ghost use Rattle.cil_resolve.specs.Apart.{StandApart};
 ghost use Rattle.cil_resolve.specs.Consistent.{is_consistent};
@@ -81,6 +83,11 @@ pub fn resolved_sets_are_in_order<A: Allocator>(resolved: &Resolved<A>)
 pub fn resolved_sets_are_apart<A: Allocator>(resolved: &Resolved<A>)
     ensures apart { AllPairs StandApart (sets_in resolved.now) }
     ensures few { length (sets_in resolved.now) < 2 ^ 32 }
+{}
+
+/// Its rules stand in the order of their modules and offsets.
+pub fn resolved_rules_are_in_order<A: Allocator>(resolved: &Resolved<A>)
+    ensures { IsStrictlySortedBy rule_cmp (meaning_in resolved.now).rules }
 {}
 
 /// Where an expression holds nothing that none of its names does (may_hold_any answers no), a type that it doesn't name is in it only

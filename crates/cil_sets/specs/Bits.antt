@@ -27,6 +27,10 @@ pub record AreMarked (counts words : List ℕ) : Type 0 where
   pub fits : 64 * length words < 2 ^ 64
   pub bits : (place : ℕ) → bit_of words place ≡ nat_lt 0 (slice_index counts place)
 
+-- whether the counter of a column is above 0
+abbrev pub is_counted : List ℕ → ℕ → Bool
+is_counted counts column = nat_lt 0 (slice_index counts column)
+
 -- no counter is above 0 from a column on
 abbrev pub NoCount : List ℕ → ℕ → Type 0
 NoCount counts from = (column : ℕ) → from ≤ column → slice_index counts column ≡ 0

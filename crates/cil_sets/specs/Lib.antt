@@ -3,4 +3,6 @@ pub mod Places
 pub mod Counts
 pub mod Members
 pub mod Filling
+pub mod Search
+pub mod TypeSets
 pub mod Sound

@@ -11,7 +11,8 @@ use cil_resolve::{Joined, Meter, NamedModule, Resolved, resolve};
 use std::alloc::{AllocError, Global};
 use std::process::Abort;
 
-const START: &[u8] =
+/// A class, three types and three attributes.
+pub const START: &[u8] =
     b"(class p (use))(type a)(type b)(type c)(typeattribute s)(typeattribute n)(typeattribute z)";
 
 // The parsed module of a text.
@@ -37,8 +38,8 @@ fn joined<'m>(alloc: Global, m: &'m ParsedModule) -> Result<Joined<'m>, AllocErr
     Ok(Joined { modules })
 }
 
-// The policy of these statements.
-fn policy(rt: &impl Abort, alloc: Global, statements: &[&[u8]]) -> Resolved {
+/// The policy of these statements.
+pub fn policy(rt: &impl Abort, alloc: Global, statements: &[&[u8]]) -> Resolved {
     let mut text = Vec::new(alloc);
     for statement in statements {
         text.extend_from_slice(statement).expect(rt, "memory");
@@ -48,8 +49,8 @@ fn policy(rt: &impl Abort, alloc: Global, statements: &[&[u8]]) -> Resolved {
     resolve(alloc, &joined).expect(rt, "a policy")
 }
 
-// The number of a name.
-fn number(resolved: &Resolved, name: &[u8]) -> usize {
+/// The number of a name.
+pub fn number(resolved: &Resolved, name: &[u8]) -> usize {
     for i in 0..resolved.names_len() {
         if resolved.name(i) == name {
             return i;

@@ -3,7 +3,8 @@
 use crate::filling::Filling;
 use crate::kept::kept_types;
 use crate::row::Row;
-use cil_resolve::{Meter, Resolved, resolved_is_sound, resolved_sets_are_in_order};
+use crate::type_set::{Held, TypeSet};
+use cil_resolve::{Element, Meter, Resolved, resolved_is_sound, resolved_sets_are_in_order};
 use std::alloc::{AllocError, Allocator, Global};
 
 /// The members of a resolved policy's attributes, by the numbers of the names: for each type how many set statements
@@ -15,8 +16,9 @@ pub struct Members<A: Allocator = Global> {
 }
 
 impl<A: Allocator> Members<A> {
-    ghost use Rattle.std.specs.Prelude.{◌≡◌, ◌<◌, ◌^◌, [], length, slice_index_or, MatchOption};
+    ghost use Rattle.std.specs.Prelude.{◌≡◌, ◌<◌, ◌^◌, ℕ, [], length, slice_index_or, MatchOption};
     ghost use Rattle.cil_sets.specs.Members.{has_in, NoMember, IsNextMember};
+    ghost use Rattle.cil_sets.specs.TypeSets.{is_of, is_held_in};
 
     /// Whether a type is a member of an attribute, by the numbers of their names. It takes no memory, and the same time
     /// in every policy.
@@ -37,6 +39,20 @@ impl<A: Allocator> Members<A> {
             Some(row) => row.next(from),
             None => None,
         }
+    }
+
+    /// The types that an element stands for: that type, or the members of that attribute.
+    pub fn types_of(&self, element: Element) -> TypeSet<'_, A>
+        ensures { (ty : ℕ) → is_of result ty ≡ is_held_in self.now element ty }
+    {
+        let held = match element {
+            Element::Type(ty) => Held::One(ty),
+            Element::Attribute(attribute) => match self.rows.get(attribute) {
+                Some(row) => Held::OfRow(row),
+                None => Held::Nothing,
+            },
+        };
+        TypeSet { held }
     }
 
     /// The numbers of a row's types fit in a word, for they were counted.

@@ -1,13 +1,14 @@
 //! The counters of one attribute, by the numbers of types.
 
 ghost use Rattle.std.specs.Prelude.{◌≡◌, ◌+◌, ◌*◌, ◌<◌, ◌≤◌, ◌^◌, ℕ, IsTrue, length, replicate, slice_index, slice_set, nat_lt, IfOk, MatchOption};
-ghost use Rattle.cil_sets.specs.Bits.{bit_of, IsNextBit, NoBit, SetsBit, IsNextCount, NoCount};
+ghost use Rattle.cil_sets.specs.Bits.{bit_of, IsNextBit, NoBit, SetsBit, IsNextCount, NoCount, is_counted};
+ghost use Rattle.cil_sets.specs.Search.{NoneFrom, IsFirstWordFrom, IsWordOf};
 
 use std::alloc::{AllocError, Allocator, Global};
 use std::marker::Model;
 
-// How many bits a word has.
-const WORD: usize = 64;
+/// How many bits a word has.
+pub const WORD: usize = 64;
 
 /// A counter for each column, and a bit for each that is above 0.
 #[derive(Debug, Drop)]
@@ -47,18 +48,32 @@ fn set_bit(words: &mut [u64], place: usize)
     words[place / WORD] |= 1u64 << (place % WORD);
 }
 
+/// The word at an index; one of zeros where there is none.
+fn word_at(words: &[u64], index: usize) -> u64
+    ensures { IsWordOf (bit_of words.now) index result }
+{
+    if index < words.len() { words[index] } else { 0 }
+}
+
+/// The first word from one on that has a bit.
+fn next_word(words: &[u64], from: usize) -> Option<usize>
+    ensures { MatchOption result (NoneFrom (bit_of words.now) (64 * from)) (IsFirstWordFrom (bit_of words.now) from) }
+{
+    for k in from..words.len() {
+        if words[k] != 0 {
+            return Some(k);
+        }
+    }
+    None
+}
+
 /// The first bit that is set in the words from one on.
 fn next_in_words(words: &[u64], first: usize) -> Option<usize>
     requires { 64 * length words.now < 2 ^ 64 }
     ensures { MatchOption result (NoBit words.now (64 * first)) (IsNextBit words.now (64 * first)) }
 {
-    for k in first..words.len() {
-        let word = words[k];
-        if word != 0 {
-            return Some(k * WORD + word.trailing_zeros() as usize);
-        }
-    }
-    None
+    let k = next_word(words, first)?;
+    Some(k * WORD + words[k].trailing_zeros() as usize)
 }
 
 /// The first bit that is set from a place on.
@@ -119,5 +134,19 @@ impl<A: Allocator> Row<A> {
         ensures { MatchOption result (NoCount self.now from) (IsNextCount self.now from) }
     {
         next_bit(&self.words, from)
+    }
+
+    /// A bit for each of the 64 columns of a word, which says whether its counter is above 0.
+    pub fn word(&self, index: usize) -> u64
+        ensures { IsWordOf (is_counted self.now) index result }
+    {
+        word_at(&self.words, index)
+    }
+
+    /// The first word from one on with a column whose counter is above 0.
+    pub fn next_word(&self, from: usize) -> Option<usize>
+        ensures { MatchOption result (NoneFrom (is_counted self.now) (64 * from)) (IsFirstWordFrom (is_counted self.now) from) }
+    {
+        next_word(&self.words, from)
     }
 }

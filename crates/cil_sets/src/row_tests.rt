@@ -15,7 +15,28 @@ fn row(rt: &impl Abort, alloc: Global, columns: usize, marked: &[usize]) -> Row 
     row
 }
 
-// Asserts that these columns are the ones above 0, each found from the one before.
+// The word at an index in which these columns are marked.
+fn word_of(marked: &[usize], index: usize) -> u64 {
+    let mut word = 0;
+    for &column in marked {
+        if column / 64 == index {
+            word |= 1u64 << (column % 64);
+        }
+    }
+    word
+}
+
+// The word of the first of these columns whose word is not in front of this one.
+fn next_word_of(marked: &[usize], from: usize) -> Option<usize> {
+    for &column in marked {
+        if column / 64 >= from {
+            return Some(column / 64);
+        }
+    }
+    None
+}
+
+// Asserts that these columns are the ones above 0, each found from the one before, alone and in words.
 fn assert_row(rt: &impl Abort, alloc: Global, columns: usize, marked: &[usize]) {
     let row = row(rt, alloc, columns, marked);
     let mut from: usize = 0;
@@ -28,6 +49,11 @@ fn assert_row(rt: &impl Abort, alloc: Global, columns: usize, marked: &[usize]) 
     assert!(rt; ended);
     for column in 0..columns {
         let as_wanted = row.has(column) == marked.contains(&column);
+        assert!(rt; as_wanted);
+    }
+    for index in 0..columns / 64 + 2 {
+        let as_wanted = row.word(index) == word_of(marked, index)
+            && row.next_word(index) == next_word_of(marked, index);
         assert!(rt; as_wanted);
     }
 }

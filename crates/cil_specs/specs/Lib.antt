@@ -18,6 +18,7 @@ pub mod Kept
 pub mod Meaning
 pub mod Members
 pub mod Report
+pub mod Violations
 pub mod Store
 pub mod Next
 pub mod Run

@@ -1,9 +1,10 @@
 //! How names are spelt, and the words that name nothing. Names are narrower than in the CIL
 //! Reference Guide ("Declarations"): this is this project's own choice.
 
-ghost use Rattle.std.specs.Prelude.{◌≡◌, ◌==◌};
+ghost use Rattle.std.specs.Prelude.{◌≡◌, ◌==◌, Some, None, if◌then◌else◌};
 ghost use Rattle.std.specs.List.{slice_split, list_all, list_any};
 ghost use Rattle.cil_specs.specs.Names.{begins_name, is_name_byte, is_name, is_reserved, is_reference, components, is_spelt, name_fault};
+ghost use Rattle.cil_specs.specs.TextFault as spec_faults;
 ghost use Rattle.cil_text.specs.Name.{without_dot, role_of, kind_option};
 
 use crate::fault::TextFaultKind;
@@ -110,9 +111,14 @@ fn is_spelt(role: Role, text: &[u8]) -> bool
     }
 }
 
-/// What is wrong with a word in such a place: its spelling, or else that it is a reserved word or
-/// has one between its dots.
-pub fn name_fault(role: Role, text: &[u8]) -> Option<TextFaultKind>
+fn reserved_fault(reserved: bool) -> Option<TextFaultKind>
+    ensures { kind_option result ≡ (if reserved then Some spec_faults.reserved else None) }
+{
+    reserved.then_some(TextFaultKind::Reserved)
+}
+
+// What is wrong with a word that is no single name.
+fn dotted_fault(role: Role, text: &[u8]) -> Option<TextFaultKind>
     ensures { kind_option result ≡ name_fault (role_of role) text.now }
 {
     if !is_spelt(role, text) {
@@ -121,5 +127,18 @@ pub fn name_fault(role: Role, text: &[u8]) -> Option<TextFaultKind>
         Some(TextFaultKind::Reserved)
     } else {
         None
+    }
+}
+
+/// What is wrong with a word in such a place: its spelling, or else that it is a reserved word or
+/// has one between its dots.
+pub fn name_fault(role: Role, text: &[u8]) -> Option<TextFaultKind>
+    ensures { kind_option result ≡ name_fault (role_of role) text.now }
+{
+    // Most words are a single name, which has no dot.
+    if is_name(text) {
+        reserved_fault(is_reserved(text))
+    } else {
+        dotted_fault(role, text)
     }
 }

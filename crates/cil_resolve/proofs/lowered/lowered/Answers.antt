@@ -1,5 +1,6 @@
 use Rattle.std.proofs.Common.{rules, ◌≡◌, ◌∙◌, List, [], ℕ, ◌<◌, ◌^◌, length, map, IsTrue, sym, ap, subst}
 use Rattle.std.specs.List.{list_all, AllPairs}
+use Rattle.std.specs.List.Sorted.{IsStrictlySortedBy}
 use Rattle.std.proofs.lemmas.List.{length-map}
 use Rattle.cil_specs.specs.Joined.{Placed}
 use Rattle.cil_specs.specs.Members.{HasSoundSets}
@@ -13,9 +14,11 @@ use Rattle.cil_resolve.specs.Numbers.{declared_of, class_of, set_of, rule_of, dr
 use Rattle.cil_resolve.proofs.ConsistentLemmas.{rules-declared}
 use Rattle.cil_resolve.proofs.PlacedLemmas.{from-named, all-placed}
 use Rattle.cil_specs.specs.Sets.{HasNoCircle}
+use Rattle.cil_specs.specs.Violations.{rule_cmp}
 use Rattle.cil_resolve.specs.Apart.{StandApart}
 use Rattle.cil_resolve.specs.Below.{is_set_below}
 use Rattle.cil_resolve.proofs.ApartLemmas.{sets-apart, sets-few}
+use Rattle.cil_resolve.proofs.RuleOrderLemmas.{rules-sorted}
 use Rattle.cil_resolve.proofs.SetNameLemmas.{numbers-straight}
 use Rattle.cil_resolve.proofs.SoundLemmas.{faultless-sound}
 use Rattle.cil_resolve.proofs.lowered.lowered.Goals as goal
@@ -89,6 +92,7 @@ invariant_of-result g c =
           (ap (λ l. length l) (sym parts.sets_are.is)
           ∙ (length-map c.in_ok-parts.parts.sets.items (set_of (modules_of c.args.checker.now.bound.joined.now) names) ∙ ap (λ l. length l) (sym c.in_ok-sets.ensures)))
           (sets-few policy noted.few);
+      rules_ordered = subst (IsStrictlySortedBy rule_cmp) (sym rules) (rules-sorted policy noted.is.ordered);
       consistent = record {
         declared = (λ i. are_rules_of (types i) (attributes i) (classes i) (rules i)) ∙ rules-declared policy faultless;
         placed =

@@ -1,18 +1,23 @@
-use Rattle.std.proofs.Common.{◌*◌, ◌/◌, arith, refl, get_or, inl, inr}
-use Rattle.std.proofs.lemmas.Bool.{cases_lt}
-use Rattle.cil_sets.proofs.BitLemmas.{bit-zero, bit-past, next-lowest}
+use Rattle.std.proofs.Common.{get_or, arith, w64}
+use Rattle.std.proofs.lemmas.Nat.Bits.{bit_at-trailing_zeros}
+use Rattle.cil_sets.proofs.WordLemmas.{word-some, word-within, bit-of-word}
 use Rattle.cil_sets.proofs.row.next_in_words.Goals as goal
 
-pub returns-then-word-ne0 : goal.returns-then-word-ne0
-returns-then-word-ne0 c =
-    let from_on = c.loop-k.auto.k in
-    next-lowest c.args.words.now (64 * c.args.first) c.loop-k.k (get_or c.args.words.now c.loop-k.k 0) (omega (arith, c.type_inv.words c.loop-k.k)) (omega arith)
-    (λ i below above. refl) (λ i below before. absurd (omega (arith, from_on)))
-    (λ place above below. bit-zero c.args.words.now place (c.loop-k.invariant (place / 64) (omega arith) (omega arith)))
+pub overflow_mul-result : goal.overflow_mul-result
+overflow_mul-result c = let within = word-within c.args.words.now c.args.first c.in_ok-k.k c.in_ok-k.ensures in omega (arith, within)
+
+pub offset_bounds-words-k : goal.offset_bounds-words-k
+offset_bounds-words-k c = let within = word-within c.args.words.now c.args.first c.in_ok-k.k c.in_ok-k.ensures in omega (arith, within)
+
+pub bounds-words-k : goal.bounds-words-k
+bounds-words-k c = word-within c.args.words.now c.args.first c.in_ok-k.k c.in_ok-k.ensures
+
+pub overflow_add-result : goal.overflow_add-result
+overflow_add-result c =
+    let within = word-within c.args.words.now c.args.first c.in_ok-k.k c.in_ok-k.ensures in
+    let some = word-some c.args.words.now c.args.first c.in_ok-k.k c.in_ok-k.ensures in
+    let small = (bit_at-trailing_zeros w64 (get_or c.args.words.now c.in_ok-k.k 0) some (omega (arith, c.type_inv.words c.in_ok-k.k))).0 in
+    omega (arith, within, small)
 
 pub returns : goal.returns
-returns c = λ place above.
-    elim (cases_lt (place / 64) c.loop-k.k) [
-      | inl before ↦ bit-zero c.args.words.now place (c.loop-k.invariant (place / 64) (omega arith) before)
-      | inr behind ↦ bit-past c.args.words.now place (omega arith)
-    ]
+returns c = bit-of-word c.args.words.now c.args.first c.in_ok-k.k c.in_ok-k.ensures (omega (arith, c.type_inv.words c.in_ok-k.k))

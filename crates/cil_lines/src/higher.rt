@@ -1,0 +1,124 @@
+//! The higher binary digits of the counters of a line, the lowest of them first.
+
+ghost use Rattle.std.specs.Prelude.{◌≡◌, ◌≢◌, ◌+◌, ◌-◌, ◌<◌, ◌^◌, ◌++◌, ℕ, List, length, min, IfOk, OnOk};
+ghost use Rattle.std.specs.Int.{bit_at};
+ghost use Rattle.cil_lines.specs.Digit.{Words, IsNext};
+ghost use Rattle.cil_lines.specs.Line.{total, value, HasRoom};
+
+use crate::digit::Digit;
+use std::alloc::{AllocError, Allocator};
+
+/// The counter of a bit, or the greatest `u64` where it is greater.
+pub fn count<A: Allocator>(digits: &[Digit<A>], word: usize, bit: u32) -> u64
+    requires { bit < 64 }
+    ensures { result ≡ min (value digits.now word bit) (2 ^ 64 - 1) }
+{
+    let mut count: u64 = 0;
+    let mut i = digits.len();
+    while i > 0 {
+        i -= 1;
+        let bits = digits[i].bits(word);
+        count = count.saturating_mul(2).saturating_add((bits >> bit) & 1);
+    }
+    count
+}
+
+/// The bits whose counters are at least 1.
+pub fn present<A: Allocator>(digits: &[Digit<A>], word: usize) -> u64
+    ensures { (b : ℕ) → bit_at result b ≡ min 1 (value digits.now word b) }
+{
+    let mut present = 0;
+    let mut i = digits.len();
+    while i > 0 {
+        i -= 1;
+        present |= digits[i].bits(word);
+    }
+    present
+}
+
+/// The first word from one on that has a place in some digit.
+pub fn next_place<A: Allocator>(digits: &[Digit<A>], from: usize) -> Option<usize>
+    ensures { IsNext (total digits.now) from result }
+{
+    let mut next = None;
+    let mut i = digits.len();
+    while i > 0 {
+        i -= 1;
+        next = earlier(digits[i].next_place(from), next);
+    }
+    next
+}
+
+/// The lower of two words, where there are two.
+pub fn earlier(first: Option<usize>, second: Option<usize>) -> Option<usize>
+    ensures { (f g : ℕ → ℕ) (from : ℕ) → IsNext f from first → IsNext g from second → IsNext (λ w. f w + g w) from result }
+{
+    match (first, second) {
+        (Some(first), Some(second)) => Some(first.min(second)),
+        (first, None) => first,
+        (None, second) => second,
+    }
+}
+
+/// Makes places for what a mask carries into each digit, and answers what it carries out of the last.
+fn make_places<A: Allocator + Copy>(
+    digits: &mut [Digit<A>],
+    alloc: A,
+    word: usize,
+    mask: u64,
+) -> Result<u64, AllocError>
+    requires { word < 2 ^ 58 }
+    ensures len { length digits.new ≡ length digits.old }
+    ensures room { IfOk result (λ carry. (rest : List Words) → HasRoom rest word carry → HasRoom (digits.new ++ rest) word mask) }
+    ensures now { (w b : ℕ) → value digits.new w b ≡ value digits.old w b }
+{
+    let mut carry = mask;
+    for i in 0..digits.len() {
+        if carry == 0 {
+            return Ok(0);
+        }
+        let digit = &mut digits[i];
+        digit.make_place(alloc, word)?;
+        carry &= digit.bits(word);
+    }
+    Ok(carry)
+}
+
+/// Makes room for one more at each bit of a mask, so that `add` takes no memory. Every counter stays.
+pub fn make_room<A: Allocator + Copy>(
+    digits: &mut Vec<Digit<A>, A>,
+    alloc: A,
+    word: usize,
+    mask: u64,
+) -> Result<(), AllocError>
+    requires { word < 2 ^ 58 }
+    ensures room { OnOk result (HasRoom digits.new.items word mask) }
+    ensures now { (w b : ℕ) → value digits.new.items w b ≡ value digits.old.items w b }
+{
+    let carry = make_places(digits, alloc, word, mask)?;
+    if carry != 0 {
+        let mut digit = Digit::new(alloc);
+        digit.make_place(alloc, word)?;
+        digits.push(digit)?;
+    }
+    Ok(())
+}
+
+/// Adds 1 at each bit of a mask.
+pub fn add<A: Allocator>(digits: &mut [Digit<A>], word: usize, mask: u64)
+    requires { HasRoom digits.old word mask }
+    ensures len { length digits.new ≡ length digits.old }
+    ensures sum { (b : ℕ) → value digits.new word b ≡ value digits.old word b + bit_at mask b }
+    ensures others { (w b : ℕ) → w ≢ word → value digits.new w b ≡ value digits.old w b }
+{
+    let mut carry = mask;
+    for i in 0..digits.len() {
+        if carry == 0 {
+            return;
+        }
+        let digit = &mut digits[i];
+        let bits = digit.bits(word);
+        digit.put(word, bits ^ carry);
+        carry &= bits;
+    }
+}

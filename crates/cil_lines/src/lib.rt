@@ -1,0 +1,10 @@
+//! The counters of one line of an access table, 64 a machine word.
+#![tactic(auto)]
+
+mod digit;
+mod higher;
+mod line;
+#[cfg(test)]
+mod line_tests;
+
+pub use line::Line;

@@ -1,0 +1,11 @@
+//! The access tables of a policy: for each access how many of its rules give it.
+#![tactic(auto)]
+
+mod adding;
+mod lines;
+#[cfg(test)]
+mod table_tests;
+mod tables;
+
+pub use lines::{LineKey, Lines};
+pub use tables::Tables;

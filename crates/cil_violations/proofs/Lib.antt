@@ -1,0 +1,9 @@
+pub mod PermissionLemmas
+pub mod HitLemmas
+pub mod TestLemmas
+pub mod OrderLemmas
+pub mod FoundLemmas
+pub mod MeaningLemmas
+pub mod OneSorted
+pub mod ViolatesLemmas
+pub mod LineLemmas

@@ -1,0 +1,77 @@
+-- The text of a line, written in parts.
+use Rattle.std.proofs.Common.{◌≡◌, ◌∙◌, ℕ, Bool, true, false, cond, List, [], ◌∷◌, ◌++◌, map, codes, decimal, flat_map, Option, refl, sym, ap, subst, append_assoc}
+use Rattle.std.specs.List.{filter}
+use Rattle.std.specs.Prelude.{slice_index_or}
+use Rattle.std.proofs.lemmas.List.Folds.{flat_map-map}
+use Rattle.cil_specs.specs.Rule.{Rule}
+use Rattle.cil_stream.specs.Device.{Gains, GainsFront}
+use Rattle.cil_stream.proofs.Gaining.{gains-both, gains-then_front, front-longer}
+use Rattle.cil_resolve.specs.Views.{RuleHead, rule_head}
+use Rattle.cil_resolve.specs.Sets.{name_in}
+use Rattle.cil_resolve.specs.declared.resolved.Resolved.{Resolved}
+use Rattle.cil_specs.specs.Violations.{Violation, rule_place, violation_line}
+use Rattle.cil_violations.specs.Permissions.{is_among, shared}
+use Rattle.cil_violations.specs.Lines.{rule_in, violation_by, head_text, name_text, shared_text}
+use Rattle.cil_violations.specs.declared.row.RowNumbers.{RowNumbers}
+
+-- three texts, one after the other
+module _ (old mid near new : Option (List ℕ)) (first second third whole : List ℕ) (is : first ++ (second ++ third) ≡ whole) where
+  pub front-in_first : GainsFront old mid first → GainsFront old mid whole
+  front-in_first front = subst (GainsFront old mid) is (front-longer old mid first (second ++ third) front)
+
+  pub front-in_second : Gains old mid first → GainsFront mid near second → GainsFront old near whole
+  front-in_second gains front = subst (GainsFront old near) is (gains-then_front old mid near first (second ++ third) gains (front-longer mid near second third front))
+
+  pub front-in_third : Gains old mid first → Gains mid near second → GainsFront near new third → GainsFront old new whole
+  front-in_third gains more front = subst (GainsFront old new) is (gains-then_front old mid new first (second ++ third) gains (gains-then_front mid near new second third more front))
+
+  pub gains-three : Gains old mid first → Gains mid near second → Gains near new third → Gains old new whole
+  gains-three gains more most = subst (Gains old new) is (gains-both old mid new first (second ++ third) gains (gains-both mid near new second third more most))
+
+-- the text of a place, with its numbers written
+pub place-is : (word name line column : List ℕ) (l c : ℕ) → line ≡ decimal l → column ≡ decimal c
+    → word ++ (codes " " ++ (name ++ (codes ":" ++ (line ++ (codes ":" ++ (column ++ codes " ")))))) ≡ word ++ codes " " ++ name ++ codes ":" ++ decimal l ++ codes ":" ++ decimal c ++ codes " "
+place-is word name line column l c a b =
+    (λ i. word ++ (codes " " ++ (name ++ (codes ":" ++ (a i ++ (codes ":" ++ (b i ++ codes " "))))))) ∙ sym (regroup word name (decimal l) (decimal c))
+  where
+    regroup : (w n x y : List ℕ) → w ++ codes " " ++ n ++ codes ":" ++ x ++ codes ":" ++ y ++ codes " " ≡ w ++ (codes " " ++ (n ++ (codes ":" ++ (x ++ (codes ":" ++ (y ++ codes " "))))))
+    regroup w n x y = simp append_assoc
+
+-- the texts of the permissions that are shared
+pub shared-texts : {A : Type 0} (r : Resolved A) (others ps : List ℕ) → flat_map (shared_text r others) ps ≡ flat_map (λ p. p ++ codes " ") (map (name_in r) (shared ps others))
+shared-texts r others [] = refl
+shared-texts r others (p ∷ ps) = by (is_among others p) (shared-texts r others ps)
+  where
+    by : (b : Bool) → flat_map (shared_text r others) ps ≡ flat_map (λ q. q ++ codes " ") (map (name_in r) (filter (is_among others) ps))
+        → (cond b (name_text r p) []) ++ flat_map (shared_text r others) ps ≡ flat_map (λ q. q ++ codes " ") (map (name_in r) (cond b (p ∷ filter (is_among others) ps) (filter (is_among others) ps)))
+    by true rest = ap (λ l. name_text r p ++ l) rest
+    by false rest = rest
+
+-- a line by its head, its permissions and its end
+pub line-is : (v : Violation) (n a : RuleHead) (texts : List ℕ) → n ≡ rule_head v.never → a ≡ rule_head v.allowed → v.the_class ≡ v.never.the_class → texts ≡ flat_map (λ p. p ++ codes " ") v.permissions
+    → head_text n a v.source v.target ++ (texts ++ codes "};\n") ≡ violation_line v
+line-is v n a texts n_is a_is class_is is =
+    (λ i. head_text (n_is i) (a_is i) v.source v.target ++ (is i ++ codes "};\n"))
+    ∙ regroup (rule_place v.never) (rule_place v.allowed) v.source v.target v.never.the_class (flat_map (λ p. p ++ codes " ") v.permissions)
+    ∙ (λ i. rule_place v.never ++ codes " " ++ rule_place v.allowed ++ codes " " ++ v.source ++ codes " " ++ v.target ++ codes ":" ++ sym class_is i ++ codes " { " ++ flat_map (λ p. p ++ codes " ") v.permissions ++ codes "};\n")
+  where
+    regroup : (x y s t c ps : List ℕ) → ((x ++ codes " ") ++ ((y ++ codes " ") ++ (s ++ codes " " ++ t ++ codes ":" ++ c ++ codes " { "))) ++ (ps ++ codes "};\n")
+        ≡ x ++ codes " " ++ y ++ codes " " ++ s ++ codes " " ++ t ++ codes ":" ++ c ++ codes " { " ++ ps ++ codes "};\n"
+    regroup x y s t c ps = simp append_assoc
+
+-- the texts of the permissions of a row
+abbrev pub texts-of : {A : Type 0} → Resolved A → List (List ℕ) → RowNumbers → List ℕ
+texts-of r permissions row = flat_map (λ p. p ++ codes " ") (violation_by r permissions row).permissions
+
+pub texts-are : {A : Type 0} (r : Resolved A) (permissions : List (List ℕ)) (row : RowNumbers) (first second : List ℕ) → first ≡ slice_index_or permissions row.never [] → second ≡ slice_index_or permissions row.allowed []
+    → flat_map (shared_text r second) first ≡ texts-of r permissions row
+texts-are r permissions row first second first_is second_is = shared-texts r second first ∙ (λ i. flat_map (λ p. p ++ codes " ") (map (name_in r) (shared (first_is i) (second_is i))))
+
+-- the line of a row by its parts
+pub line-whole : {A : Type 0} (r : Resolved A) (permissions : List (List ℕ)) (row : RowNumbers) (n a : RuleHead) (source target texts : List ℕ) → n ≡ rule_head (rule_in r row.never) → a ≡ rule_head (rule_in r row.allowed)
+    → source ≡ name_in r row.source → target ≡ name_in r row.target → texts ≡ texts-of r permissions row → head_text n a source target ++ (texts ++ codes "};\n") ≡ violation_line (violation_by r permissions row)
+line-whole r permissions row n a source target texts n_is a_is source_is target_is texts_is =
+    (λ i. head_text n a (source_is i) (target_is i) ++ (texts ++ codes "};\n")) ∙ line-is (violation_by r permissions row) n a texts n_is a_is refl texts_is
+
+pub mapped-text : {X Y : Type 0} (f : Y → List ℕ) (v : X → Y) (xs : List X) (ys : List Y) → map v xs ≡ ys → flat_map (λ x. f (v x)) xs ≡ flat_map f ys
+mapped-text f v xs ys is = sym (flat_map-map f v xs) ∙ ap (flat_map f) is

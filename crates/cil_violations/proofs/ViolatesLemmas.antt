@@ -1,0 +1,412 @@
+-- The rows that pass the tests are the violations of the policy, in order.
+use Rattle.std.proofs.Common.{◌≡◌, ◌≢◌, ◌↔◌, ◌∙◌, inl, inr, ℕ, zero, suc, ◌==◌, ◌&&◌, ◌<◌, Bool, true, false, List, [], ◌∷◌, ◌++◌, length, map, get_or, Option, Some, slice_get, Contains, bytes_eq, Ordering, Less, Equal, refl, sym, ap, subst, arith, eqb-true, eq-eqb}
+use Rattle.std.specs.Bool.{IsTrue}
+use Rattle.std.specs.Prelude.{nat_lt}
+use Rattle.std.specs.List.{AllByRecursion, list_all, list_any}
+use Rattle.std.specs.List.Sorted.{IsStrictlySortedBy}
+use Rattle.std.specs.Ordering.{nat_cmp, ordering_then}
+use Rattle.std.specs.declared.cmp.Ordering.TheVariants.{Greater}
+use Rattle.std.proofs.lemmas.Bool.{ltb-true, and_parts, and_from, cases_order}
+use Rattle.std.proofs.lemmas.Cmp.{tied_itself}
+use Rattle.std.proofs.lemmas.List.{get_or-map, length-map}
+use Rattle.std.proofs.lemmas.List.Elements.{recursion_from_All, All-from_recursion}
+use Rattle.std.proofs.lemmas.List.Kept.{IsStrictlySortedBy-filter}
+use Rattle.std.proofs.lemmas.Option.{slice_get_within, slice_get_read, get_or_from_slice_get}
+use Rattle.cil_specs.specs.Statements.{allow, neverallow}
+use Rattle.cil_specs.specs.Rule as spec
+use Rattle.cil_specs.specs.Rule.{kind_index}
+use Rattle.cil_specs.specs.Meaning.{keeps_type, holds, aims, covers}
+use Rattle.cil_specs.specs.Report.{name_cmp}
+use Rattle.cil_specs.proofs.ReportLemmas.{name_total, same-kind, sorted_from_names_rise}
+use Rattle.cil_specs.proofs.ReportLemmasMembers.{AnyByRecursion, any_from, any-map, any_from_map, any_from_filter, any_from_test, contains_to, contains_from, any_weaker, all_weaker, sorted_map, all_from_contains}
+use Rattle.cil_text.specs.Image.{rule_kind_of}
+use Rattle.cil_resolve.specs.Below.{is_name_below}
+use Rattle.cil_resolve.specs.Numbers.{rule_of, element_of, resolved_target_of, declared_of}
+use Rattle.cil_resolve.specs.Resolved.{meaning_in}
+use Rattle.cil_resolve.specs.Sets.{name_in}
+use Rattle.cil_resolve.specs.declared.numbered.NumberedRule.{NumberedRule}
+use Rattle.cil_resolve.specs.declared.numbered.ResolvedTarget.{ResolvedTarget}
+use Rattle.cil_resolve.specs.declared.numbered.ResolvedTarget.TheVariants as targets
+use Rattle.cil_resolve.specs.declared.resolved.Resolved.{Resolved}
+use Rattle.cil_resolve.proofs.RisingNames.{same-number}
+use Rattle.cil_sets.specs.TypeSets.{is_held_in, HoldByNumbers}
+use Rattle.cil_sets.proofs.HeldLemmas.{hold-by-numbers}
+use Rattle.cil_specs.specs.Violations.{Violation, IsViolation, AreViolations, rule_cmp, violation_cmp}
+use Rattle.cil_violations.specs.Aims.{aim_of}
+use Rattle.cil_violations.specs.Permissions.{is_among, share, shared}
+use Rattle.cil_violations.specs.Rows.{if_there, rules_in, is_kind, permissions_at, takes_source, takes_target, tests_of, all_rows, IsSearch}
+use Rattle.cil_violations.specs.Lines.{rule_in, no_rule, violation_by, IsRow, AreRows}
+use Rattle.cil_violations.specs.declared.row.RowNumbers.{RowNumbers}
+use Rattle.cil_violations.specs.declared.search.Search.{Search}
+use Rattle.cil_specs.proofs.ViolationLemmas.{rule_total}
+use Rattle.cil_violations.proofs.OneSorted.{one-sorted}
+use Rattle.cil_violations.proofs.OrderLemmas.{ranked, row_cmp, rows-sorted, less, greater}
+use Rattle.cil_violations.proofs.TestLemmas.{is-there, if-at}
+use Rattle.cil_violations.proofs.FoundLemmas.{Passes, found, passed}
+use Rattle.cil_violations.proofs.MeaningLemmas.{IsSound, rule-sound, witness, listed-to, listed-from, shared-to, shared-from, share-from, share-to, covers-to, covers-from, bytes-same}
+
+pub all-any : {X : Type 0} (p : X → Bool) (xs : List X) (x : X) → list_all p xs ≡ true → AnyByRecursion (λ y. y ≡ x) xs → p x ≡ true
+all-any p [] x all none = absurd none
+all-any p (y ∷ ys) x all (inl is) = subst (λ z. p z ≡ true) is (and_parts (p y) (list_all p ys) all).0
+all-any p (y ∷ ys) x all (inr later) = all-any p ys x (and_parts (p y) (list_all p ys) all).1 later
+
+first-of : {X : Type 0} (xs : List X) → xs ≢ [] → (x : X) × Contains xs x
+first-of [] some = absurd (some refl)
+first-of (x ∷ xs) some = (x, contains_from (x ∷ xs) x (inl refl))
+
+none-in : {X : Type 0} (xs : List X) (x : X) → Contains xs x → xs ≢ []
+none-in xs x there empty = elim (contains_to [] x (subst (λ l. Contains l x) empty there)) [ ]
+
+then-equal : (o : Ordering) → ordering_then o Equal ≡ o
+then-equal Less = refl
+then-equal Equal = refl
+then-equal Greater = refl
+
+module _ {A : Type 0} (s : Search A) (is : IsSearch s) where
+  hold : HoldByNumbers s.resolved.now s.members.now
+  hold = hold-by-numbers s.resolved.now s.members.now is.members
+
+  -- a row's rules, which meet at its source and target
+  pub record Meets (row : RowNumbers) : Type 0 where
+    pub never : NumberedRule A
+    pub allowed : NumberedRule A
+    pub never_at : slice_get (rules_in s) row.never ≡ Some never
+    pub allowed_at : slice_get (rules_in s) row.allowed ≡ Some allowed
+    pub forbids : is_kind 3 never ≡ true
+    pub permits : is_kind 0 allowed ≡ true
+    pub the_class : (allowed.class == never.class) ≡ true
+    pub shares : share (permissions_at s row.never) (permissions_at s row.allowed) ≡ true
+    pub source_low : row.source < length s.resolved.now.names.items
+    pub target_low : row.target < length s.resolved.now.names.items
+    pub never_source : is_held_in s.members.now never.source row.source ≡ true
+    pub allowed_source : is_held_in s.members.now allowed.source row.source ≡ true
+    pub never_target : is_held_in s.members.now (aim_of never.target row.source) row.target ≡ true
+    pub allowed_target : is_held_in s.members.now (aim_of allowed.target row.source) row.target ≡ true
+
+  pub meets : (row : RowNumbers) → Passes (tests_of s) (length (rules_in s)) (length s.resolved.now.names.items) row → Meets row
+  meets row p =
+      let (n, n_at, n_kind) = is-there (is_kind 3) (slice_get (rules_in s) row.never) p.never in
+      let test = λ (x : NumberedRule A). if_there (λ a. is_kind 0 a && ((a.class == x.class) && share (permissions_at s row.never) (permissions_at s row.allowed))) (slice_get (rules_in s) row.allowed) in
+      let inner : test n ≡ true = sym (if-at test (slice_get (rules_in s) row.never) n n_at) ∙ p.pair in
+      let (a, a_at, both) = is-there (λ a. is_kind 0 a && ((a.class == n.class) && share (permissions_at s row.never) (permissions_at s row.allowed))) (slice_get (rules_in s) row.allowed) inner in
+      let parts = and_parts (is_kind 0 a) ((a.class == n.class) && share (permissions_at s row.never) (permissions_at s row.allowed)) both in
+      let rest = and_parts (a.class == n.class) (share (permissions_at s row.never) (permissions_at s row.allowed)) parts.1 in
+      let sources = and_parts (takes_source s row.never row.source) (takes_source s row.allowed row.source) p.source in
+      let aimed = and_parts (takes_target s row.never row.source row.target) (takes_target s row.allowed row.source row.target) p.target in
+      record {
+        never = n;
+        allowed = a;
+        never_at = n_at;
+        allowed_at = a_at;
+        forbids = n_kind;
+        permits = parts.0;
+        the_class = rest.0;
+        shares = rest.1;
+        source_low = p.source_below;
+        target_low = p.target_below;
+        never_source = sym (if-at (λ r. is_held_in s.members.now r.source row.source) (slice_get (rules_in s) row.never) n n_at) ∙ sources.0;
+        allowed_source = sym (if-at (λ r. is_held_in s.members.now r.source row.source) (slice_get (rules_in s) row.allowed) a a_at) ∙ sources.1;
+        never_target = sym (if-at (λ r. is_held_in s.members.now (aim_of r.target row.source) row.target) (slice_get (rules_in s) row.never) n n_at) ∙ aimed.0;
+        allowed_target = sym (if-at (λ r. is_held_in s.members.now (aim_of r.target row.source) row.target) (slice_get (rules_in s) row.allowed) a a_at) ∙ aimed.1;
+      }
+
+  pub passes : (row : RowNumbers) → Meets row → Passes (tests_of s) (length (rules_in s)) (length s.resolved.now.names.items) row
+  passes row m =
+      let n = m.never in
+      record {
+        never_below = slice_get_within (rules_in s) row.never n m.never_at;
+        allowed_below = slice_get_within (rules_in s) row.allowed m.allowed m.allowed_at;
+        source_below = m.source_low;
+        target_below = m.target_low;
+        never = if-at (is_kind 3) (slice_get (rules_in s) row.never) n m.never_at ∙ m.forbids;
+        pair =
+            if-at (λ x. if_there (λ a. is_kind 0 a && ((a.class == x.class) && share (permissions_at s row.never) (permissions_at s row.allowed))) (slice_get (rules_in s) row.allowed)) (slice_get (rules_in s) row.never) n m.never_at
+            ∙ if-at (λ a. is_kind 0 a && ((a.class == n.class) && share (permissions_at s row.never) (permissions_at s row.allowed))) (slice_get (rules_in s) row.allowed) m.allowed m.allowed_at
+            ∙ and_from (is_kind 0 m.allowed) _ m.permits (and_from (m.allowed.class == n.class) (share (permissions_at s row.never) (permissions_at s row.allowed)) m.the_class m.shares);
+        source =
+            and_from (takes_source s row.never row.source) (takes_source s row.allowed row.source)
+            (if-at (λ r. is_held_in s.members.now r.source row.source) (slice_get (rules_in s) row.never) n m.never_at ∙ m.never_source)
+            (if-at (λ r. is_held_in s.members.now r.source row.source) (slice_get (rules_in s) row.allowed) m.allowed m.allowed_at ∙ m.allowed_source);
+        target =
+            and_from (takes_target s row.never row.source row.target) (takes_target s row.allowed row.source row.target)
+            (if-at (λ r. is_held_in s.members.now (aim_of r.target row.source) row.target) (slice_get (rules_in s) row.never) n m.never_at ∙ m.never_target)
+            (if-at (λ r. is_held_in s.members.now (aim_of r.target row.source) row.target) (slice_get (rules_in s) row.allowed) m.allowed m.allowed_at ∙ m.allowed_target);
+      }
+
+  -- the violation of rules by numbers
+  abbrev pub violation_of : (row : RowNumbers) → NumberedRule A → NumberedRule A → Violation
+  violation_of row n a = record {
+    never = rule_of s.resolved.now.modules.items s.resolved.now.names.items n;
+    allowed = rule_of s.resolved.now.modules.items s.resolved.now.names.items a;
+    source = name_in s.resolved.now row.source;
+    target = name_in s.resolved.now row.target;
+    the_class = name_in s.resolved.now n.class;
+    permissions = map (name_in s.resolved.now) (shared (permissions_at s row.never) (permissions_at s row.allowed));
+  }
+
+  rule-named : (i : ℕ) (rule : NumberedRule A) → slice_get (rules_in s) i ≡ Some rule → rule_in s.resolved.now i ≡ rule_of s.resolved.now.modules.items s.resolved.now.names.items rule
+  rule-named i rule at =
+      get_or-map (rule_of s.resolved.now.modules.items s.resolved.now.names.items) (rules_in s) i rule no_rule (slice_get_within (rules_in s) i rule at)
+      ∙ ap (rule_of s.resolved.now.modules.items s.resolved.now.names.items) (get_or_from_slice_get (rules_in s) i rule rule at)
+
+  pub by-rules : (row : RowNumbers) (m : Meets row) → violation_by s.resolved.now s.permissions.now.0 row ≡ violation_of row m.never m.allowed
+  by-rules row m =
+      let n = rule-named row.never m.never m.never_at in
+      let a = rule-named row.allowed m.allowed m.allowed_at in
+      λ k. record {
+        never = n k;
+        allowed = a k;
+        source = name_in s.resolved.now row.source;
+        target = name_in s.resolved.now row.target;
+        the_class = (n k).the_class;
+        permissions = map (name_in s.resolved.now) (shared (permissions_at s row.never) (permissions_at s row.allowed));
+      }
+
+  rule-there : (i : ℕ) (rule : NumberedRule A) → slice_get (rules_in s) i ≡ Some rule → Contains (meaning_in s.resolved.now).rules (rule_of s.resolved.now.modules.items s.resolved.now.names.items rule)
+  rule-there i rule at =
+      let f = rule_of s.resolved.now.modules.items s.resolved.now.names.items in
+      contains_from (map f (rules_in s)) (f rule)
+      (any-map f (λ y. y ≡ f rule) (rules_in s)
+      (any_weaker (λ x. x ≡ rule) (λ x. f x ≡ f rule) (λ x e. ap f e) (rules_in s) (contains_to (rules_in s) rule (i, slice_get_within (rules_in s) i rule at, get_or_from_slice_get (rules_in s) i rule rule at))))
+
+  permission-low : (rule : NumberedRule A) → IsSound s.resolved.now rule → (q : ℕ) → Contains rule.permissions.items q → q < length s.resolved.now.names.items
+  permission-low rule sound q there =
+      ltb-true q (length s.resolved.now.names.items) (all-any (λ p. nat_lt p (length s.resolved.now.names.items)) rule.permissions.items q sound.permissions_below (contains_to rule.permissions.items q there))
+
+  module _ (row : RowNumbers) (m : Meets row) where
+    first : List ℕ
+    first = permissions_at s row.never
+
+    never_sound : IsSound s.resolved.now m.never
+    never_sound = rule-sound s.resolved.now row.never m.never m.never_at
+
+    allowed_sound : IsSound s.resolved.now m.allowed
+    allowed_sound = rule-sound s.resolved.now row.allowed m.allowed m.allowed_at
+
+    classes : name_in s.resolved.now m.allowed.class ≡ name_in s.resolved.now m.never.class
+    classes = ap (name_in s.resolved.now) (eqb-true m.allowed.class m.never.class m.the_class)
+
+    covered : (p : List ℕ) → Contains (map (name_in s.resolved.now) (shared (permissions_at s row.never) (permissions_at s row.allowed))) p
+        → (covers (meaning_in s.resolved.now) (violation_of row m.never m.allowed).never (name_in s.resolved.now row.source) (name_in s.resolved.now row.target) (name_in s.resolved.now m.never.class) p
+        && covers (meaning_in s.resolved.now) (violation_of row m.never m.allowed).allowed (name_in s.resolved.now row.source) (name_in s.resolved.now row.target) (name_in s.resolved.now m.never.class) p) ≡ true
+    covered p there =
+        let r = s.resolved.now in
+        let name = name_in r in
+        let (q, here, also, p_is) = shared-from name (permissions_at s row.never) (permissions_at s row.allowed) p there in
+        let in_never = ((is.permissions.each row.never m.never m.never_at).same q).0 here in
+        let in_allowed = ((is.permissions.each row.allowed m.allowed m.allowed_at).same q).0 also in
+        and_from _ _
+        (covers-to r s.members.now hold m.never never_sound row.source row.target m.source_low m.target_low m.never_source m.never_target (name m.never.class) p refl
+        (subst (λ t. list_any (bytes_eq t) (map name m.never.permissions.items) ≡ true) (sym p_is) (listed-to name m.never.permissions.items q in_never)))
+        (covers-to r s.members.now hold m.allowed allowed_sound row.source row.target m.source_low m.target_low m.allowed_source m.allowed_target (name m.never.class) p classes
+        (subst (λ t. list_any (bytes_eq t) (map name m.allowed.permissions.items) ≡ true) (sym p_is) (listed-to name m.allowed.permissions.items q in_allowed)))
+
+    uncovered : (p : List ℕ) → (covers (meaning_in s.resolved.now) (violation_of row m.never m.allowed).never (name_in s.resolved.now row.source) (name_in s.resolved.now row.target) (name_in s.resolved.now m.never.class) p
+        && covers (meaning_in s.resolved.now) (violation_of row m.never m.allowed).allowed (name_in s.resolved.now row.source) (name_in s.resolved.now row.target) (name_in s.resolved.now m.never.class) p) ≡ true
+        → Contains (map (name_in s.resolved.now) (shared (permissions_at s row.never) (permissions_at s row.allowed))) p
+    uncovered p both =
+        let r = s.resolved.now in
+        let name = name_in r in
+        let parts = and_parts _ _ both in
+        let one = covers-from r s.members.now hold m.never never_sound row.source row.target m.source_low m.target_low (name m.never.class) p parts.0 in
+        let two = covers-from r s.members.now hold m.allowed allowed_sound row.source row.target m.source_low m.target_low (name m.never.class) p parts.1 in
+        let (q, here, q_is) = listed-from name p m.never.permissions.items one.3 in
+        let (k, there, k_is) = listed-from name p m.allowed.permissions.items two.3 in
+        let same = same-number r.names.items q k r.ordered (permission-low m.never never_sound q here) (permission-low m.allowed allowed_sound k there) (sym q_is ∙ k_is) in
+        subst (Contains (map name (shared (permissions_at s row.never) (permissions_at s row.allowed)))) (sym q_is)
+        (shared-to name (permissions_at s row.never) (permissions_at s row.allowed) q (((is.permissions.each row.never m.never m.never_at).same q).1 here)
+        (((is.permissions.each row.allowed m.allowed m.allowed_at).same q).1 (subst (Contains m.allowed.permissions.items) (sym same) there)))
+
+    shared-low : AllByRecursion (λ k. k < length s.resolved.now.names.items) (shared (permissions_at s row.never) (permissions_at s row.allowed))
+    shared-low =
+        recursion_from_All (λ k. k < length s.resolved.now.names.items) (shared (permissions_at s row.never) (permissions_at s row.allowed))
+        (all_from_contains (λ k. k < length s.resolved.now.names.items) (shared (permissions_at s row.never) (permissions_at s row.allowed))
+        (λ k c.
+        let (j, here, at) = witness (λ j. (j ≡ k) × IsTrue (is_among (permissions_at s row.allowed) j)) (permissions_at s row.never)
+        (any_from_filter (is_among (permissions_at s row.allowed)) (λ j. j ≡ k) (permissions_at s row.never) (contains_to (shared (permissions_at s row.never) (permissions_at s row.allowed)) k c)) in
+        subst (λ i. i < length s.resolved.now.names.items) at.0 (permission-low m.never never_sound j (((is.permissions.each row.never m.never m.never_at).same j).0 here))))
+
+    pub violates : IsViolation (meaning_in s.resolved.now) (violation_of row m.never m.allowed)
+    violates = record {
+      never = rule-there row.never m.never m.never_at;
+      forbids = same-kind (rule_kind_of m.never.kind) neverallow (eqb-true (kind_index (rule_kind_of m.never.kind)) 3 m.forbids);
+      allowed = rule-there row.allowed m.allowed m.allowed_at;
+      permits = same-kind (rule_kind_of m.allowed.kind) allow (eqb-true (kind_index (rule_kind_of m.allowed.kind)) 0 m.permits);
+      some =
+          let (q, here, also) = share-from (permissions_at s row.never) (permissions_at s row.allowed) m.shares in
+          none-in (map (name_in s.resolved.now) (shared (permissions_at s row.never) (permissions_at s row.allowed))) (name_in s.resolved.now q)
+          (shared-to (name_in s.resolved.now) (permissions_at s row.never) (permissions_at s row.allowed) q here also);
+      ordered =
+          sorted_map (name_in s.resolved.now) nat_cmp name_cmp (λ k. k < length s.resolved.now.names.items)
+          (λ x y px py. ranked name_cmp name_total s.resolved.now.names.items [] (sorted_from_names_rise s.resolved.now.names.items s.resolved.now.ordered) x y px py)
+          (shared (permissions_at s row.never) (permissions_at s row.allowed)) shared-low
+          (IsStrictlySortedBy-filter nat_cmp (is_among (permissions_at s row.allowed)) (permissions_at s row.never) (is.permissions.each row.never m.never m.never_at).rising);
+      exact = λ p. (covered p, uncovered p);
+    }
+
+  -- the place of a rule
+  rule-found : (x : spec.Rule) → Contains (meaning_in s.resolved.now).rules x → (i : ℕ) × (n : NumberedRule A) × (slice_get (rules_in s) i ≡ Some n) × (rule_of s.resolved.now.modules.items s.resolved.now.names.items n ≡ x)
+  rule-found x there =
+      let f = rule_of s.resolved.now.modules.items s.resolved.now.names.items in
+      let (i, n, within, at, named) = any_from (λ n. f n ≡ x) (rules_in s) (any_from_map f (λ y. y ≡ x) (rules_in s) (contains_to (map f (rules_in s)) x there)) in
+      (i, n, slice_get_read (rules_in s) (length (rules_in s)) i n refl within (sym at), named)
+
+  -- the number of a type's name
+  type-number : (t : List ℕ) → keeps_type (meaning_in s.resolved.now) t ≡ true → (k : ℕ) × (k < length s.resolved.now.names.items) × (t ≡ name_in s.resolved.now k)
+  type-number t kept =
+      let r = s.resolved.now in
+      let f = declared_of r.modules.items r.names.items in
+      let (d, there, named) = witness (λ d. bytes_eq t (f d).name ≡ true) r.types.items (any_from_map f (λ d. bytes_eq t d.name ≡ true) r.types.items (any_from_test (λ d. bytes_eq t d.name) (map f r.types.items) kept)) in (
+        d.name,
+        ltb-true d.name (length r.names.items) (all-any (is_name_below (length r.names.items)) r.types.items d r.types_within (contains_to r.types.items d there)),
+        bytes-same t (name_in r d.name) named,
+      )
+
+  -- and that of a target's
+  target-number : (target : ResolvedTarget) (source t : List ℕ) (k : ℕ) → aims (meaning_in s.resolved.now) (resolved_target_of s.resolved.now.names.items target) source t ≡ true
+      → k < length s.resolved.now.names.items → source ≡ name_in s.resolved.now k → (j : ℕ) × (j < length s.resolved.now.names.items) × (t ≡ name_in s.resolved.now j)
+  target-number targets.Itself source t k aimed low named = (k, low, sym (bytes-same source t aimed) ∙ named)
+  target-number (targets.Element element) source t k aimed low named =
+      type-number t (and_parts (keeps_type (meaning_in s.resolved.now) t) _ aimed).0
+
+  -- the violation of a policy is that of a row
+  pub row-of : (v : Violation) → IsViolation (meaning_in s.resolved.now) v → (row : RowNumbers) × Meets row × (violation_by s.resolved.now s.permissions.now.0 row ≡ v)
+  row-of v violation =
+      let r = s.resolved.now in
+      let m = meaning_in r in
+      let name = name_in r in
+      let f = rule_of r.modules.items r.names.items in
+      let (i, n, n_at, n_is) = rule-found v.never violation.never in
+      let (j, a, a_at, a_is) = rule-found v.allowed violation.allowed in
+      let (p, p_there) = first-of v.permissions violation.some in
+      let both = and_parts _ _ ((violation.exact p).0 p_there) in
+      let n_covers : covers m (f n) v.source v.target v.the_class p ≡ true = subst (λ x. covers m x v.source v.target v.the_class p ≡ true) (sym n_is) both.0 in
+      let a_covers : covers m (f a) v.source v.target v.the_class p ≡ true = subst (λ x. covers m x v.source v.target v.the_class p ≡ true) (sym a_is) both.1 in
+      let parts = and_parts (holds m (element_of r.names.items n.source) v.source) _ n_covers in
+      let (source, source_low, source_is) = type-number v.source (and_parts (keeps_type m v.source) _ parts.0).0 in
+      let aimed = and_parts (aims m (resolved_target_of r.names.items n.target) v.source v.target) _ parts.1 in
+      let (target, target_low, target_is) = target-number n.target v.source v.target source aimed.0 source_low source_is in
+      let n_sound = rule-sound r i n n_at in
+      let a_sound = rule-sound r j a a_at in
+      let one =
+      covers-from r s.members.now hold n n_sound source target source_low target_low v.the_class p (subst (λ t. covers m (f n) t (name target) v.the_class p ≡ true) source_is (subst (λ t. covers m (f n) v.source t v.the_class p ≡ true) target_is n_covers)) in
+      let two =
+      covers-from r s.members.now hold a a_sound source target source_low target_low v.the_class p (subst (λ t. covers m (f a) t (name target) v.the_class p ≡ true) source_is (subst (λ t. covers m (f a) v.source t v.the_class p ≡ true) target_is a_covers)) in
+      let same_class = same-number r.names.items a.class n.class r.ordered a_sound.class_below n_sound.class_below (two.2 ∙ sym one.2) in
+      let (q, here, q_is) = listed-from name p n.permissions.items one.3 in
+      let (k, there, k_is) = listed-from name p a.permissions.items two.3 in
+      let same = same-number r.names.items q k r.ordered (permission-low n n_sound q here) (permission-low a a_sound k there) (sym q_is ∙ k_is) in
+      let row : RowNumbers = record { never = i; allowed = j; source = source; target = target } in
+      let met : Meets row = record {
+        never = n;
+        allowed = a;
+        never_at = n_at;
+        allowed_at = a_at;
+        forbids = eq-eqb (kind_index (rule_kind_of n.kind)) 3 (ap (λ x. kind_index x.kind) n_is ∙ ap kind_index violation.forbids);
+        permits = eq-eqb (kind_index (rule_kind_of a.kind)) 0 (ap (λ x. kind_index x.kind) a_is ∙ ap kind_index violation.permits);
+        the_class = eq-eqb a.class n.class same_class;
+        shares =
+            share-to (permissions_at s i) (permissions_at s j) q (((is.permissions.each i n n_at).same q).1 here)
+            (((is.permissions.each j a a_at).same q).1 (subst (Contains a.permissions.items) (sym same) there));
+        source_low = source_low;
+        target_low = target_low;
+        never_source = one.0;
+        allowed_source = two.0;
+        never_target = one.1;
+        allowed_target = two.1;
+      } in
+      (row, met, by-rules row met ∙ same-violation row met v violation n_is a_is (sym source_is) (sym target_is) one.2)
+    where
+      same-violation : (row : RowNumbers) (met : Meets row) (v : Violation) → IsViolation (meaning_in s.resolved.now) v → (violation_of row met.never met.allowed).never ≡ v.never → (violation_of row met.never met.allowed).allowed ≡ v.allowed
+          → name_in s.resolved.now row.source ≡ v.source → name_in s.resolved.now row.target ≡ v.target → name_in s.resolved.now met.never.class ≡ v.the_class → violation_of row met.never met.allowed ≡ v
+      same-violation row met v violation n_is a_is source_is target_is class_is =
+          let m = meaning_in s.resolved.now in
+          let w = violates row met in
+          let cover : (p : List ℕ) → (covers m (violation_of row met.never met.allowed).never (name_in s.resolved.now row.source) (name_in s.resolved.now row.target) (name_in s.resolved.now met.never.class) p
+          && covers m (violation_of row met.never met.allowed).allowed (name_in s.resolved.now row.source) (name_in s.resolved.now row.target) (name_in s.resolved.now met.never.class) p)
+          ≡ (covers m v.never v.source v.target v.the_class p && covers m v.allowed v.source v.target v.the_class p) =
+          λ p k. covers m (n_is k) (source_is k) (target_is k) (class_is k) p && covers m (a_is k) (source_is k) (target_is k) (class_is k) p in
+          let listed = (violation_of row met.never met.allowed).permissions in
+          let permissions : listed ≡ v.permissions =
+          one-sorted name_cmp name_total listed v.permissions w.ordered violation.ordered
+          (λ p c. contains_to v.permissions p ((violation.exact p).1 (sym (cover p) ∙ (w.exact p).0 (contains_from listed p c))))
+          (λ p c. contains_to listed p ((w.exact p).1 (cover p ∙ (violation.exact p).0 (contains_from v.permissions p c)))) in
+          λ k. record { never = n_is k; allowed = a_is k; source = source_is k; target = target_is k; the_class = class_is k; permissions = permissions k }
+
+  -- the order of violations is that of their numbers
+  same-order : IsStrictlySortedBy rule_cmp (meaning_in s.resolved.now).rules → (x y : RowNumbers) → Passes (tests_of s) (length (rules_in s)) (length s.resolved.now.names.items) x
+      → Passes (tests_of s) (length (rules_in s)) (length s.resolved.now.names.items) y
+      → violation_cmp (violation_by s.resolved.now s.permissions.now.0 x) (violation_by s.resolved.now s.permissions.now.0 y) ≡ row_cmp x y
+  same-order ascend x y px py =
+      let r = s.resolved.now in
+      let rules = (meaning_in r).rules in
+      let mapped = length-map (rules_in s) (rule_of r.modules.items r.names.items) in
+      let x_never = px.never_below in
+      let y_never = py.never_below in
+      let x_allowed = px.allowed_below in
+      let y_allowed = py.allowed_below in
+      let rise = sorted_from_names_rise r.names.items r.ordered in
+      let never = ranked rule_cmp rule_total rules no_rule ascend x.never y.never (omega (arith, x_never, mapped)) (omega (arith, y_never, mapped)) in
+      let allowed = ranked rule_cmp rule_total rules no_rule ascend x.allowed y.allowed (omega (arith, x_allowed, mapped)) (omega (arith, y_allowed, mapped)) in
+      let source = ranked name_cmp name_total r.names.items [] rise x.source y.source px.source_below py.source_below in
+      let target = ranked name_cmp name_total r.names.items [] rise x.target y.target px.target_below py.target_below in
+      (λ k. ordering_then (never k) (ordering_then (allowed k) (ordering_then (source k) (ordering_then (target k) (name_cmp (rule_in r x.never).the_class (rule_in r y.never).the_class)))))
+      ∙ by-class x y (nat_cmp x.allowed y.allowed) (nat_cmp x.source y.source) (nat_cmp x.target y.target) (λ i. (rule_in r i).the_class)
+    where
+      by-class : (x y : RowNumbers) (b c d : Ordering) (class_at : ℕ → List ℕ) → ordering_then (nat_cmp x.never y.never) (ordering_then b (ordering_then c (ordering_then d (name_cmp (class_at x.never) (class_at y.never)))))
+          ≡ ordering_then (nat_cmp x.never y.never) (ordering_then b (ordering_then c d))
+      by-class x y b c d class_at = elim (cases_order x.never y.never) [
+        | inl same ↦
+            ap (λ o. ordering_then (nat_cmp x.never y.never) (ordering_then b (ordering_then c o)))
+            (ap (ordering_then d) (ap (λ i. name_cmp (class_at x.never) (class_at i)) (sym same) ∙ tied_itself name_total (class_at x.never)) ∙ then-equal d)
+        | inr order ↦ elim order [
+          | inl low ↦
+              ap (λ o. ordering_then o (ordering_then b (ordering_then c (ordering_then d (name_cmp (class_at x.never) (class_at y.never)))))) (less x.never y.never low)
+              ∙ sym (ap (λ o. ordering_then o (ordering_then b (ordering_then c d))) (less x.never y.never low))
+          | inr high ↦
+              ap (λ o. ordering_then o (ordering_then b (ordering_then c (ordering_then d (name_cmp (class_at x.never) (class_at y.never)))))) (greater x.never y.never high)
+              ∙ sym (ap (λ o. ordering_then o (ordering_then b (ordering_then c d))) (greater x.never y.never high))
+        ]
+      ]
+
+  all-pass : (rows : List RowNumbers) → ((x : RowNumbers) → AnyByRecursion (λ y. y ≡ x) rows → Passes (tests_of s) (length (rules_in s)) (length s.resolved.now.names.items) x)
+      → AllByRecursion (Passes (tests_of s) (length (rules_in s)) (length s.resolved.now.names.items)) rows
+  all-pass [] each = tt
+  all-pass (x ∷ rows) each = (each x (inl refl), all-pass rows (λ y there. each y (inr there)))
+
+  pub rows-pass : AllByRecursion (Passes (tests_of s) (length (rules_in s)) (length s.resolved.now.names.items)) (all_rows (tests_of s) (length (rules_in s)) (length s.resolved.now.names.items))
+  rows-pass = all-pass (all_rows (tests_of s) (length (rules_in s)) (length s.resolved.now.names.items)) (λ x there. passed (tests_of s) (length (rules_in s)) (length s.resolved.now.names.items) x there)
+
+  -- The rows that are found are the violations.
+  pub are-violations : IsStrictlySortedBy rule_cmp (meaning_in s.resolved.now).rules
+      → AreViolations (meaning_in s.resolved.now) (map (violation_by s.resolved.now s.permissions.now.0) (all_rows (tests_of s) (length (rules_in s)) (length s.resolved.now.names.items)))
+  are-violations ascend =
+      let by = violation_by s.resolved.now s.permissions.now.0 in
+      let rows = all_rows (tests_of s) (length (rules_in s)) (length s.resolved.now.names.items) in
+      record {
+        ordered = sorted_map by row_cmp violation_cmp (Passes (tests_of s) (length (rules_in s)) (length s.resolved.now.names.items)) (same-order ascend) rows rows-pass (rows-sorted (tests_of s) (length (rules_in s)) (length s.resolved.now.names.items));
+        exact = λ v. (
+          λ there.
+              let (row, here, named) = witness (λ x. by x ≡ v) rows (any_from_map by (λ w. w ≡ v) rows (contains_to (map by rows) v there)) in
+              let met = meets row (passed (tests_of s) (length (rules_in s)) (length s.resolved.now.names.items) row (contains_to rows row here)) in
+              subst (IsViolation (meaning_in s.resolved.now)) (sym (by-rules row met) ∙ named) (violates row met),
+          λ violation.
+              let (row, met, named) = row-of v violation in
+              contains_from (map by rows) v
+              (any-map by (λ w. w ≡ v) rows (any_weaker (λ x. x ≡ row) (λ x. by x ≡ v) (λ x e. ap by e ∙ named) rows (found (tests_of s) (length (rules_in s)) (length s.resolved.now.names.items) row (passes row met)))),
+        );
+      }
+
+  -- and there are rules at their places
+  pub are-rows : (permissions : List (List ℕ)) → length permissions ≡ length (rules_in s) → AreRows s.resolved.now permissions (all_rows (tests_of s) (length (rules_in s)) (length s.resolved.now.names.items))
+  are-rows permissions len =
+      let rows = all_rows (tests_of s) (length (rules_in s)) (length s.resolved.now.names.items) in
+      let rules = (meaning_in s.resolved.now).rules in
+      let mapped : length rules ≡ length (rules_in s) = length-map (rules_in s) (rule_of s.resolved.now.modules.items s.resolved.now.names.items) in
+      record {
+        len = len ∙ sym mapped;
+        each =
+            All-from_recursion (IsRow (length rules)) rows
+            (all_weaker (Passes (tests_of s) (length (rules_in s)) (length s.resolved.now.names.items)) (IsRow (length rules))
+            (λ x p. record { never = subst (λ n. x.never < n) (sym mapped) p.never_below; allowed = subst (λ n. x.allowed < n) (sym mapped) p.allowed_below }) rows rows-pass);
+      }

@@ -1,0 +1,11 @@
+use Rattle.std.proofs.Common.{◌≡◌, ◌<◌, ℕ, List, [], length, slice_get, Some, get_or}
+use Rattle.cil_resolve.specs.declared.numbered.NumberedRule.{NumberedRule}
+use Rattle.cil_violations.specs.Permissions.{IsOrdered}
+use Rattle.cil_violations.proofs.permissions.ordered_permissions.Given as goal
+
+abbrev pub invariant-loop-rule : goal.invariant-loop-rule
+invariant-loop-rule g l = record {
+  closed : l.lists.1 ≡ [];
+  len : length l.lists.0 ≡ l.rule-index;
+  each : (i : ℕ) (r : NumberedRule _) → i < l.rule-index → slice_get l.rules i ≡ Some r → IsOrdered r.permissions.items (get_or l.lists.0 i []);
+}

@@ -1,0 +1,7 @@
+use Rattle.std.proofs.Common.{◌≡◌, false, take}
+use Rattle.std.specs.List.{list_any}
+use Rattle.cil_violations.specs.Permissions.{is_among}
+use Rattle.cil_violations.proofs.permissions.share.Given as goal
+
+abbrev pub invariant-loop-permission : goal.invariant-loop-permission
+invariant-loop-permission l = list_any (is_among l.second) (take l.permission-index l.first) ≡ false

@@ -1,0 +1,25 @@
+use Rattle.std.proofs.Common.{◌≡◌, ◌∙◌, ◌-◌, ◌+◌, ◌<◌, ◌++◌, length, flat_map, ap, sym, arith}
+use Rattle.std.proofs.lemmas.List.{length-map}
+use Rattle.cil_resolve.specs.Numbers.{rule_of}
+use Rattle.cil_violations.specs.Rows.{hits, tests_of, rules_in, pair_rows}
+use Rattle.cil_violations.proofs.HitLemmas.{hits-here, hits-past, done-more, done-same}
+use Rattle.cil_violations.proofs.search.Search.push_all.Goals as goal
+use Rattle.cil_violations.proofs.search.Search.push_all.Goals.{then-is_never+in_ok-push_pairs, else-is_never}
+
+pub loop-never-preserved : goal.loop-never-preserved
+loop-never-preserved g c =
+    let s = c.args.self.now in
+    let all = length (rules_in s) in
+    let test = (tests_of s).never in
+    let rows = pair_rows (tests_of s) all (length s.resolved.now.names.items) in
+    let i = c.loop-never.never in
+    let long = c.rules_len-never-end.ensures in
+    let within : i < all = (let mapped = length-map (rules_in s) (rule_of s.resolved.now.modules.items s.resolved.now.names.items) in omega (arith, long, mapped, c.loop-never-test.true)) in
+    elim c.if-is_never.branch [
+      | then-is_never+in_ok-push_pairs w ↦
+          ap (λ l. l ++ flat_map rows (hits test (i + 1) (all - (i + 1)))) (ap (λ v. v.items) w.rows-is ∙ w.in_ok-push_pairs.ensures)
+          ∙ done-more rows _ c.loop-never.rows.items i (hits test i (all - i)) (hits test (i + 1) (all - (i + 1))) (hits-here test all i within (sym c.is_never.ensures ∙ w.if-is_never.true)) c.loop-never.invariant
+      | else-is_never w ↦
+          ap (λ l. l ++ flat_map rows (hits test (i + 1) (all - (i + 1)))) (ap (λ v. v.items) w.rows-is)
+          ∙ done-same rows _ c.loop-never.rows.items (hits test i (all - i)) (hits test (i + 1) (all - (i + 1))) (hits-past test all i within (sym c.is_never.ensures ∙ w.if-is_never.false)) c.loop-never.invariant
+    ]

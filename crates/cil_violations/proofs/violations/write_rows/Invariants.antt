@@ -1,0 +1,11 @@
+use Rattle.std.proofs.Common.{◌≤◌, take}
+use Rattle.std.specs.List.{flat_map}
+use Rattle.cil_stream.specs.Device.{Gains}
+use Rattle.cil_violations.specs.Lines.{line_by}
+use Rattle.cil_violations.proofs.violations.write_rows.Given as goal
+
+abbrev pub invariant-loop-row : goal.invariant-loop-row
+invariant-loop-row g l = record {
+  counted : g.W.Sink.failures l.fn.sink ≤ g.W.Sink.failures l.sink;
+  so_far : Gains (g.W.Sink.taken l.fn.sink) (g.W.Sink.taken l.sink) (flat_map (line_by l.resolved l.permissions.0) (take l.row-index l.rows));
+}

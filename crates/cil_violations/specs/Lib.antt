@@ -1,0 +1,4 @@
+pub mod Aims
+pub mod Permissions
+pub mod Rows
+pub mod Lines

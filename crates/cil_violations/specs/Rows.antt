@@ -1,0 +1,83 @@
+-- Violations by numbers.
+use Rattle.std.specs.Prelude.{◌≡◌, ◌&&◌, ◌==◌, ◌<◌, ℕ, zero, suc, Bool, false, List, [], ◌∷◌, Option, Some, None, length, map, slice_get, slice_index_or, if◌then◌else◌}
+use Rattle.std.specs.List.{flat_map, All}
+use Rattle.cil_specs.specs.Rule as spec
+use Rattle.cil_specs.specs.Rule.{kind_index}
+use Rattle.cil_text.specs.Image.{rule_kind_of}
+use Rattle.cil_resolve.specs.Numbers.{rule_of}
+use Rattle.cil_resolve.specs.Resolved.{meaning_in}
+use Rattle.cil_resolve.specs.Sets.{name_in}
+use Rattle.cil_resolve.specs.declared.numbered.NumberedRule.{NumberedRule}
+use Rattle.cil_resolve.specs.declared.resolved.Resolved.{Resolved}
+use Rattle.cil_sets.specs.Members.{AreMembers}
+use Rattle.cil_specs.specs.Violations.{Violation}
+use Rattle.cil_violations.specs.Permissions.{AreOrdered, share, shared}
+use Rattle.cil_sets.specs.TypeSets.{is_held_in}
+use Rattle.cil_violations.specs.Aims.{aim_of}
+use Rattle.cil_violations.specs.declared.row.RowNumbers.{RowNumbers}
+use Rattle.cil_violations.specs.declared.search.Search.{Search}
+
+-- the numbers from one on, so many of them, at which a test holds
+abbrev pub hits : (ℕ → Bool) → ℕ → ℕ → List ℕ
+hits test from zero = []
+hits test from (suc n) = if test from then from ∷ hits test (suc from) n else hits test (suc from) n
+
+-- Whether a rule is a neverallow rule, whether another is an allow rule that it may meet, and whether both take in a source, and a
+-- target of it: all by places and numbers.
+pub record Tests : Type 0 where
+  pub never : ℕ → Bool
+  pub pair : ℕ → ℕ → Bool
+  pub source : ℕ → ℕ → ℕ → Bool
+  pub target : ℕ → ℕ → ℕ → ℕ → Bool
+
+abbrev pub row_with : ℕ → ℕ → ℕ → ℕ → RowNumbers
+row_with never allowed source target = record { never = never; allowed = allowed; source = source; target = target }
+
+-- the violations of two rules with a source, among so many names
+abbrev pub target_rows : Tests → ℕ → ℕ → ℕ → ℕ → List RowNumbers
+target_rows tests names never allowed source = flat_map (λ target. row_with never allowed source target ∷ []) (hits (tests.target never allowed source) 0 names)
+
+-- the violations of two rules
+abbrev pub source_rows : Tests → ℕ → ℕ → ℕ → List RowNumbers
+source_rows tests names never allowed = flat_map (target_rows tests names never allowed) (hits (tests.source never allowed) 0 names)
+
+-- the violations of a neverallow rule, among so many rules
+abbrev pub pair_rows : Tests → ℕ → ℕ → ℕ → List RowNumbers
+pair_rows tests rules names never = flat_map (source_rows tests names never) (hits (tests.pair never) 0 rules)
+
+abbrev pub all_rows : Tests → ℕ → ℕ → List RowNumbers
+all_rows tests rules names = flat_map (pair_rows tests rules names) (hits tests.never 0 rules)
+
+-- whether there is something of which a test holds
+abbrev pub if_there : {X : Type 0} → (X → Bool) → Option X → Bool
+if_there test None = false
+if_there test (Some x) = test x
+
+abbrev pub rules_in : {A : Type 0} → Search A → List (NumberedRule A)
+rules_in s = s.resolved.now.rules.items
+
+abbrev pub is_kind : {A : Type 0} → ℕ → NumberedRule A → Bool
+is_kind kind r = kind_index (rule_kind_of r.kind) == kind
+
+-- the permissions of the rule at a place, in order
+abbrev pub permissions_at : {A : Type 0} → Search A → ℕ → List ℕ
+permissions_at s i = slice_index_or s.permissions.now.0 i []
+
+abbrev pub takes_source : {A : Type 0} → Search A → ℕ → ℕ → Bool
+takes_source s i source = if_there (λ r. is_held_in s.members.now r.source source) (slice_get (rules_in s) i)
+
+abbrev pub takes_target : {A : Type 0} → Search A → ℕ → ℕ → ℕ → Bool
+takes_target s i source target = if_there (λ r. is_held_in s.members.now (aim_of r.target source) target) (slice_get (rules_in s) i)
+
+abbrev pub tests_of : {A : Type 0} → Search A → Tests
+tests_of s = record {
+  never = λ i. if_there (is_kind 3) (slice_get (rules_in s) i);
+  pair = λ i j. if_there (λ n. if_there (λ a. is_kind 0 a && ((a.class == n.class) && share (permissions_at s i) (permissions_at s j))) (slice_get (rules_in s) j)) (slice_get (rules_in s) i);
+  source = λ i j t. takes_source s i t && takes_source s j t;
+  target = λ i j source t. takes_target s i source t && takes_target s j source t;
+}
+
+-- the members and the permissions are those of the policy
+pub record IsSearch {A : Type 0} (s : Search A) : Type 0 where
+  pub members : AreMembers s.resolved.now s.members.now
+  pub permissions : AreOrdered (rules_in s) s.permissions.now.0

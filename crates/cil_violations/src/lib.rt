@@ -1,0 +1,13 @@
+//! Violations: what neverallow rules forbid and allow rules give.
+#![tactic(auto)]
+
+mod line;
+mod permissions;
+mod row;
+mod search;
+mod shared;
+#[cfg(test)]
+mod violation_tests;
+mod violations;
+
+pub use violations::Violations;

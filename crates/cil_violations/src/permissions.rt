@@ -1,0 +1,59 @@
+//! The permissions of rules.
+
+ghost use Rattle.std.specs.Prelude.{◌≡◌, ◌++◌, ◌∷◌, [], ◌<◌, ◌↔◌, ℕ, Contains, IfOk, length};
+ghost use Rattle.std.specs.List.Sorted.{IsStrictlySortedBy};
+ghost use Rattle.std.specs.Ordering.{nat_cmp};
+ghost use Rattle.cil_violations.specs.Permissions.{AreOrdered, IsOrdered, is_among, share};
+
+use cil_parse::Lists;
+use cil_resolve::NumberedRule;
+use std::alloc::{AllocError, Allocator};
+
+/// Some numbers in order, each once.
+fn ordered<A: Allocator + Copy>(alloc: A, numbers: &[usize]) -> Result<Vec<usize, A>, AllocError>
+    ensures { IfOk result (λ v. IsOrdered numbers.now v.items) }
+{
+    let mut ordered = Vec::from_slice(alloc, numbers)?;
+    ordered.sort_unstable();
+    ordered.dedup();
+    Ok(ordered)
+}
+
+/// The permissions of each rule in order, each once.
+pub fn ordered_permissions<A: Allocator + Copy>(
+    alloc: A,
+    rules: &[NumberedRule<A>],
+) -> Result<Lists<usize, A>, AllocError>
+    ensures { IfOk result (λ lists. AreOrdered rules.now lists.0) }
+{
+    let mut lists = Lists::with_capacity(alloc, rules.len(), rules.len())?;
+    for rule in rules {
+        lists.extend(&ordered(alloc, &rule.permissions)?)?;
+        lists.close()?;
+    }
+    Ok(lists)
+}
+
+/// Whether a permission is among some.
+pub fn is_among(permission: usize, others: &[usize]) -> bool
+    ensures { result ≡ is_among others.now permission }
+{
+    for other in others {
+        if *other == permission {
+            return true;
+        }
+    }
+    false
+}
+
+/// Whether two lists share a permission.
+pub fn share(first: &[usize], second: &[usize]) -> bool
+    ensures { result ≡ share first.now second.now }
+{
+    for permission in first {
+        if is_among(*permission, second) {
+            return true;
+        }
+    }
+    false
+}

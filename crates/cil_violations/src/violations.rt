@@ -1,0 +1,111 @@
+//! The violations of a policy.
+
+ghost use Rattle.std.specs.Prelude.{◌≡◌, ◌≤◌, ◌==◌, List, length, IfOk, OnOk, OnErr};
+ghost use Rattle.std.specs.List.{All, flat_map};
+ghost use Rattle.cil_stream.specs.Device.{HasFailed, Gains, GainsFront};
+ghost use Rattle.cil_resolve.specs.Resolved.{meaning_in};
+ghost use Rattle.cil_sets.specs.Members.{AreMembers};
+ghost use Rattle.cil_specs.specs.Violations.{AreViolations, violation_line, violations_text};
+ghost use Rattle.cil_violations.specs.Lines.{line_by, AreRows};
+
+use crate::line::write_line;
+use crate::permissions::ordered_permissions;
+use crate::row::RowNumbers;
+use crate::search::Search;
+use cil_parse::Lists;
+use cil_resolve::{Resolved, resolved_rules_are_in_order};
+use cil_sets::Members;
+use cil_stream::{Sink, SinkFault};
+use std::alloc::{AllocError, Allocator, Global};
+use std::marker::Model;
+
+/// What neverallow rules of a policy forbid and allow rules give, in order. It borrows the policy and copies no name. Contracts see
+/// it as its list.
+#[derive(Debug, Drop)]
+pub struct Violations<'r, A: Allocator = Global> {
+    resolved: &'r Resolved<A>,
+    permissions: Lists<usize, A>,
+    rows: Vec<RowNumbers, A>,
+}
+
+impl<'r, A: Allocator> Model for Violations<'r, A> {
+    ghost use Rattle.std.specs.Prelude.{List, map};
+    ghost use Rattle.cil_specs.specs.Violations.{Violation};
+
+    ghost Value = { List Violation };
+
+    ghost use Rattle.cil_violations.specs.Lines.{violation_by, AreRows};
+
+    ghost view = { λ v. map (violation_by v.resolved.now v.permissions.0) v.rows.items };
+
+    ghost invariant = { λ v. AreRows v.resolved.now v.permissions.0 v.rows.items };
+}
+
+/// Writes the lines of violations.
+fn write_rows<W: Sink, A: Allocator>(
+    sink: &mut W,
+    resolved: &Resolved<A>,
+    permissions: &Lists<usize, A>,
+    rows: &[RowNumbers],
+) -> Result<(), SinkFault>
+    requires { AreRows resolved.now permissions.now.0 rows.now }
+    ensures ok { OnOk result (Gains (W.taken sink.old) (W.taken sink.new) (flat_map (line_by resolved.now permissions.now.0) rows.now)) }
+    ensures err { OnErr result (GainsFront (W.taken sink.old) (W.taken sink.new) (flat_map (line_by resolved.now permissions.now.0) rows.now)) }
+    ensures failed { OnErr result (HasFailed (W.failures sink.old) (W.failures sink.new)) }
+    ensures counted { W.failures sink.old ≤ W.failures sink.new }
+{
+    for row in rows {
+        write_line(sink, resolved, permissions, row)?;
+    }
+    Ok(())
+}
+
+impl<'r, A: Allocator + Copy> Violations<'r, A> {
+    /// The violations of a policy.
+    pub fn of(alloc: A, resolved: &'r Resolved<A>, members: &Members<A>) -> Result<Self, AllocError>
+        requires { AreMembers resolved.now members.now }
+        ensures { IfOk result (AreViolations (meaning_in resolved.now)) }
+    {
+        resolved_rules_are_in_order(resolved);
+        let permissions = ordered_permissions(alloc, resolved.rules())?;
+        let mut rows = Vec::new(alloc);
+        let search = Search {
+            resolved,
+            members,
+            permissions: &permissions,
+        };
+        search.push_all(&mut rows)?;
+        Ok(Violations {
+            resolved,
+            permissions,
+            rows,
+        })
+    }
+}
+
+impl<'r, A: Allocator> Violations<'r, A> {
+    /// How many violations there are.
+    pub fn len(&self) -> usize
+        ensures { result ≡ length self.now }
+    {
+        self.rows.len()
+    }
+
+    pub fn is_empty(&self) -> bool
+        ensures { result ≡ (length self.now == 0) }
+    {
+        self.rows.is_empty()
+    }
+
+    /// Writes their lines, and tells how many there are.
+    pub fn write<W: Sink>(&self, sink: &mut W) -> Result<usize, SinkFault>
+        ensures rows { IfOk result (λ n. n ≡ length self.now) }
+        ensures ok { OnOk result (Gains (W.taken sink.old) (W.taken sink.new) (violations_text self.now)) }
+        ensures err { OnErr result (GainsFront (W.taken sink.old) (W.taken sink.new) (violations_text self.now)) }
+        ensures failed { OnErr result (HasFailed (W.failures sink.old) (W.failures sink.new)) }
+        ensures counted { W.failures sink.old ≤ W.failures sink.new }
+    {
+        write_rows(sink, self.resolved, &self.permissions, &self.rows)?;
+        Ok(self.rows.len())
+    }
+}
