@@ -58,8 +58,8 @@ among-sorted whole (s ∷ policy) ordered =
     behind : (r : Rule) → Contains (rule_of whole s s.form) r → AllByRecursion (λ q. rule_cmp r q ≡ Less) (flat_map (λ t. rule_of whole t t.form) policy)
     behind r own =
         all-from-contained (λ q. rule_cmp r q ≡ Less) (flat_map (λ t. rule_of whole t t.form) policy) (λ q there.
-          let (t, among, from) = flat-contains (λ t. rule_of whole t t.form) policy q there in
-          before-less s t r q (all-contained (IsBefore s) policy t ordered.1 among) (rule-stands whole s s.form r own) (rule-stands whole t t.form q from))
+        let (t, among, from) = flat-contains (λ t. rule_of whole t t.form) policy q there in
+        before-less s t r q (all-contained (IsBefore s) policy t ordered.1 among) (rule-stands whole s s.form r own) (rule-stands whole t t.form q from))
 
 pub rules-sorted : (policy : List Placed) → AreOrdered policy → IsStrictlySortedBy rule_cmp (rules_of policy)
 rules-sorted policy ordered = among-sorted policy policy ordered

@@ -12,7 +12,7 @@ abbrev pub is_below : (ℕ → Bool) → ℕ → ℕ → Bool
 is_below test from t = nat_lt (t / 64) from && test t
 
 one-bit : (n : ℕ) → n < 2 → one_if (n == 1) ≡ n
-one-bit n low = elim (cases_eq n 1) [ | inl one ↦ ap one_if (eq-eqb n 1 one) ∙ sym one | inr other ↦ ap one_if (ne_eqb n 1 other) ∙ omega (arith, other) ]
+one-bit n low = elim (cases_eq n 1) [ inl one ↦ ap one_if (eq-eqb n 1 one) ∙ sym one | inr other ↦ ap one_if (ne_eqb n 1 other) ∙ omega (arith, other) ]
 
 -- what a word's mask adds is what the set has there
 pub hit-of : (test : ℕ → Bool) (word mask t : ℕ) → IsWordOf test word mask → hit word mask t ≡ one_if ((t / 64 == word) && test t)
@@ -41,16 +41,16 @@ module _ (test : ℕ → Bool) (from word t : ℕ) where
             ap (λ b. one_if (b && test t) + one_if ((t / 64 == word) && test t)) (le-ltb (t / 64) from behind)
             ∙ zero-add (one_if ((t / 64 == word) && test t))
             ∙ elim (cases_lt (t / 64) word) [
-                | inl between ↦
-                    ap (λ b. one_if ((t / 64 == word) && b)) (is.before t (omega (arith, behind)) (omega (arith, between)))
-                    ∙ nothing (t / 64 == word)
-                    ∙ sym (ap (λ b. one_if (nat_lt (t / 64) (word + 1) && b)) (is.before t (omega (arith, behind)) (omega (arith, between))) ∙ nothing (nat_lt (t / 64) (word + 1)))
-                | inr on ↦
-                    elim (cases_eq (t / 64) word) [
-                      | inl same ↦ ap (λ b. one_if (b && test t)) (eq-eqb (t / 64) word same ∙ sym (lt-ltb (t / 64) (word + 1) (omega (arith, same))))
-                      | inr other ↦ ap (λ b. one_if (b && test t)) (ne_eqb (t / 64) word other ∙ sym (le-ltb (t / 64) (word + 1) (omega (arith, on, other))))
-                    ]
-              ]
+              | inl between ↦
+                  ap (λ b. one_if ((t / 64 == word) && b)) (is.before t (omega (arith, behind)) (omega (arith, between)))
+                  ∙ nothing (t / 64 == word)
+                  ∙ sym (ap (λ b. one_if (nat_lt (t / 64) (word + 1) && b)) (is.before t (omega (arith, behind)) (omega (arith, between))) ∙ nothing (nat_lt (t / 64) (word + 1)))
+              | inr on ↦
+                  elim (cases_eq (t / 64) word) [
+                    | inl same ↦ ap (λ b. one_if (b && test t)) (eq-eqb (t / 64) word same ∙ sym (lt-ltb (t / 64) (word + 1) (omega (arith, same))))
+                    | inr other ↦ ap (λ b. one_if (b && test t)) (ne_eqb (t / 64) word other ∙ sym (le-ltb (t / 64) (word + 1) (omega (arith, on, other))))
+                  ]
+            ]
       ]
     where
       nothing : (b : Bool) → one_if (b && false) ≡ 0

@@ -13,7 +13,7 @@ returns g c =
     let place = c.args.place in
     let within : place < length lines = subst (λ (s : Stored). c.args.place < length s.lines) (sym c.self.view_is) c.requires.within in
     on_ok_weaker c.add_set.result (λ added key t.
-      counters-changed places lines (slice_set lines place c.add_set.new.line) place c.index_mut.result.now c.add_set.new.line (λ n. one_if (is_of c.args.types.now n))
-          (slice_get_read lines (length lines) place c.index_mut.result.now refl within c.index_mut.ensures.value) (set-here lines place c.add_set.new.line within) (λ i. set-elsewhere lines place i c.add_set.new.line) added key t
-      ∙ ap (λ n. counter (record { places = places; lines = lines }) key t + n) (both-if (is_place (place_of places key) place) (is_of c.args.types.now t))
-      ∙ ap (λ (s : Stored). counter s key t + one_if (is_place (place_of s.places key) place && is_of c.args.types.now t)) c.self.view_is) c.add_set.ensures
+    counters-changed places lines (slice_set lines place c.add_set.new.line) place c.index_mut.result.now c.add_set.new.line (λ n. one_if (is_of c.args.types.now n))
+    (slice_get_read lines (length lines) place c.index_mut.result.now refl within c.index_mut.ensures.value) (set-here lines place c.add_set.new.line within) (λ i. set-elsewhere lines place i c.add_set.new.line) added key t
+    ∙ ap (λ n. counter (record { places = places; lines = lines }) key t + n) (both-if (is_place (place_of places key) place) (is_of c.args.types.now t))
+    ∙ ap (λ (s : Stored). counter s key t + one_if (is_place (place_of s.places key) place && is_of c.args.types.now t)) c.self.view_is) c.add_set.ensures
