@@ -10,7 +10,6 @@ pub mod InheritedLemmas
 pub mod FewLemmas
 pub mod MissingLemmas
 pub mod TooManyLemmas
-pub mod AttributeLemmas
 pub mod FullNameLemmas
 pub mod NumberLemmas
 pub mod DeclaredLemmas

@@ -5,7 +5,6 @@ use Rattle.cil_specs.specs.Statements.{Form}
 use Rattle.cil_specs.specs.Joined.{Placed}
 use Rattle.cil_specs.specs.Lookup.{is_type, is_alias, is_attribute}
 use Rattle.cil_specs.specs.PolicyFault.{alias_twice_words, second_common_words}
-use Rattle.cil_specs.specs.Next.{is_attribute_word, rule_elements}
 use Rattle.cil_parse.specs.declared.row.StatementKind.{StatementKind}
 use Rattle.cil_parse.specs.declared.row.StatementKind.TheVariants as statements
 use Rattle.cil_check.specs.declared.kinds.Kind.{Kind}
@@ -35,6 +34,3 @@ abbrev pub again_words : Association → List Placed → List Placed → Placed 
 again_words Actual policy before s = alias_twice_words policy before s
 again_words Common policy before s = second_common_words policy before s
 
--- the words of a rule's source and target that lead to attributes
-abbrev pub attribute_words : List Placed → Placed → List Word
-attribute_words policy s = filter (is_attribute_word policy s.namespace) (rule_elements s.form)

@@ -2,7 +2,6 @@
 #![tactic(auto)]
 
 mod attribute_graph;
-mod attributes;
 mod bound;
 mod checker;
 mod circular;

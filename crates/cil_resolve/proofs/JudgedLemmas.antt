@@ -5,7 +5,6 @@ use Rattle.cil_specs.specs.Joined.{Placed}
 use Rattle.cil_specs.specs.PolicyFault.{PolicyFaultKind, PolicyFault, twice, missing, wrong_kind, alias_twice, alias_unset, second_common, too_many_permissions, circular, IsFaultOf}
 use Rattle.cil_specs.specs.Kept.{Optionals, dropped_of, has_innermost, is_within, restricted, AreKept, AreApart, judged, IsPolicyFault, IsFirst, Compiles, IsFirstFault}
 use Rattle.cil_specs.specs.Meaning.{Meaning, meaning_of, Means}
-use Rattle.cil_specs.specs.Next.{IsFirstAttributeFault, first_fault, first_attribute, IsPolicyFaultOf}
 use Rattle.cil_specs.proofs.NamesLemmas.{contains-first, contains-other, contains-cases}
 use Rattle.cil_specs.proofs.KeptLemmas.{kept-good}
 use Rattle.cil_specs.proofs.Runs.{first_true}
@@ -60,10 +59,6 @@ kept-inside policy kept apart are s there inside =
     let from = filter-contained (is_within kept) policy s there in
     (kept-good policy kept apart are).found s from.0 (within-directly kept s.module_name s.optionals inside from.1)
 
--- a first fault is one that the policy is refused for
-pub first-refused : (policy : List Placed) (fault : PolicyFault) → IsFirstFault policy fault → IsPolicyFaultOf policy fault
-first-refused policy fault (kept, are, first) = (kept, are, first_fault first)
-
 -- Where no name is declared twice, the faults of a policy are those of its statements in kept optionals.
 module _ (kept : Optionals) (policy : List Placed) (once : (fault : PolicyFault) → IsFaultOf twice policy fault → ⊥) where
   fault-within : (fault : PolicyFault) → IsPolicyFault kept policy fault → IsFaultIn (restricted kept policy) fault
@@ -109,9 +104,6 @@ module _ (policy : List Placed) (kept : Optionals) (are : AreKept policy kept) (
       first = λ other f. least.first other (fault-within kept policy once other f);
     },
   )
-
-  pub judged-attribute : (fault : PolicyFault) → IsFaultless (restricted kept policy) → IsFirstAttributeFault (restricted kept policy) fault → IsPolicyFaultOf policy fault
-  judged-attribute fault faultless first = (kept, are, first_attribute (compiles faultless) first)
 
 -- The modules of texts have these names, in order, and this joined policy.
 module _ {A : Type 0} (parsed : List (NamedModule A)) (modules : List Module) (are : AreParsedFrom parsed modules) (rise : names_rise (names_of parsed) ≡ true) where

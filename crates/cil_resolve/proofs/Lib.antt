@@ -10,7 +10,6 @@ pub mod ConsistentLemmas
 pub mod MeansLemmas
 pub mod SoundLemmas
 pub mod RisingNames
-pub mod TypesLemmas
 pub mod PlacedLemmas
 pub mod LoweringLemmas
 pub mod PartLemmas

@@ -1,6 +1,5 @@
 pub mod Below
 pub mod Consistent
-pub mod Types
 pub mod Numbers
 pub mod Resolved
 pub mod Meter

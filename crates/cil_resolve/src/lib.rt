@@ -14,7 +14,6 @@ mod name_set;
 mod numbered;
 mod numbering;
 mod resolved;
-mod resolved_types;
 mod resolver;
 mod same;
 mod set_order;
@@ -36,7 +35,6 @@ pub use numbered::{
     DroppedOptional, NumberedClass, NumberedName, NumberedRule, NumberedSet, ResolvedTarget,
 };
 pub use resolved::Resolved;
-pub use resolved_types::ResolvedTypes;
-pub use resolver::{resolve, resolve_types};
+pub use resolver::resolve;
 pub use text::Text;
 pub use views::{ClassView, ElementView, NameView, RuleView, SetView, TargetView};

@@ -2,9 +2,8 @@
 
 ghost use Rattle.std.specs.Prelude.{◌≡◌, List, IfOk, IfErr};
 ghost use Rattle.cil_specs.specs.Joined.{Module, Placed, joined as joined_policy};
-ghost use Rattle.cil_specs.specs.Kept.{Optionals, restricted, IsFirstFault};
+ghost use Rattle.cil_specs.specs.Kept.{Optionals, IsFirstFault};
 ghost use Rattle.cil_specs.specs.Meaning.{Means};
-ghost use Rattle.cil_specs.specs.Next.{HasTypesAlone, IsPolicyFaultOf};
 ghost use Rattle.cil_bind.specs.Ordered.{IsLeast};
 ghost use Rattle.cil_check.specs.Checker.{IsNoted};
 ghost use Rattle.cil_check.specs.Image.{PolicyFaultIs};
@@ -16,7 +15,6 @@ ghost use Rattle.cil_resolve.specs.Resolved.{meaning_in};
 use crate::judged::Judged;
 use crate::lowered::lowered;
 use crate::resolved::Resolved;
-use crate::resolved_types::ResolvedTypes;
 use cil_bind::{Joined, Policy};
 use cil_check::{BoundPolicy, Checker, PolicyFault};
 use std::alloc::Allocator;
@@ -52,22 +50,4 @@ pub fn resolve<'m, A: Allocator + Copy>(
     let Judged { policy, dropped } = Judged::of(alloc, joined)?;
     let checker = checked(alloc, joined, &policy)?;
     Ok(lowered(alloc, &checker, dropped)?)
-}
-
-/// What a policy resolves to, of which no kept rule names an attribute: the first such word of a policy that compiles is a fault of the
-/// wrong kind, until tables take in the members of attributes.
-pub fn resolve_types<'m, A: Allocator + Copy>(
-    alloc: A,
-    joined: &Joined<'m, A>,
-) -> Result<ResolvedTypes<A>, PolicyFault<'m>>
-    requires { (modules : List Module) × AreParsedFrom joined.now.modules.items modules }
-    ensures meaning { IfOk result (λ r. (modules : List Module) → AreParsedFrom joined.now.modules.items modules
-        → (kept : Optionals) × Means (joined_policy modules) kept (meaning_in r.resolved) × HasTypesAlone (restricted kept (joined_policy modules))) }
-    ensures err { IfErr result (λ fault. (modules : List Module) → AreParsedFrom joined.now.modules.items modules → PolicyFaultIs fault (IsPolicyFaultOf (joined_policy modules))) }
-{
-    let Judged { policy, dropped } = Judged::of(alloc, joined)?;
-    let checker = checked(alloc, joined, &policy)?;
-    checker.check_attributes()?;
-    let resolved = lowered(alloc, &checker, dropped)?;
-    Ok(ResolvedTypes { resolved })
 }

@@ -8,7 +8,6 @@ use Rattle.cil_specs.specs.Statements.{Form, block, optional, type_name, type_al
 use Rattle.cil_specs.specs.Joined.{Placed}
 use Rattle.cil_specs.specs.Lookup.{Table, types, classes, commons, scopes, declared_in, references, named_permissions}
 use Rattle.cil_specs.specs.PolicyFault.{PolicyFaultKind, twice, missing, wrong_kind, alias_twice, alias_unset, second_common, too_many_permissions, circular, is_again, tables, is_unfound, is_lacking, missing_words, kinds_asked, is_of_another_kind, alias_words, has_earlier_actual, element_words, is_unset, common_words, has_earlier_common, has_too_many, is_outside, IsFaulty}
-use Rattle.cil_specs.specs.Next.{rule_elements}
 use Rattle.cil_specs.proofs.OrderLemmas.{offset_of, role_offset, declared_offsets, referred_offsets}
 use Rattle.cil_specs.proofs.NamesLemmas.{all-weaker, all-contained, contains-first, contains-other, contains-cases, contains-mapped}
 
@@ -140,10 +139,6 @@ element-word _ = tt
 common-word : (form : Form) → AreAmong (words_in form) (common_words form)
 common-word (class_common the_class the_common) = (contains-first the_class (the_common ∷ []), tt)
 common-word _ = tt
-
-pub rule-word : (form : Form) → AreAmong (words_in form) (rule_elements form)
-rule-word (rule kind source target the_class permissions) = (contains-first source (target_words target ++ (the_class ∷ permissions)), target-among source the_class target permissions)
-rule-word _ = tt
 
 -- a word that is left of some is one of them
 left-word : (form : Form) (p : Word → Bool) (words : List Word) (w : Word) → AreAmong (words_in form) words → Contains (filter p words) w → Contains (words_in form) w

@@ -26,7 +26,6 @@ pub mod GrowsLemmas
 pub mod KeptLemmas
 pub mod ExistsLemmas
 pub mod DeclaredLemmas
-pub mod UnsupportedOrder
 pub mod OneText
 pub mod FaultWords
 pub mod OneFault

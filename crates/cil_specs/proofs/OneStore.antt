@@ -10,13 +10,13 @@ use Rattle.cil_specs.specs.TextFault as text_fault
 use Rattle.cil_specs.specs.Names.{Word}
 use Rattle.cil_specs.specs.Joined.{Module, Placed, joined}
 use Rattle.cil_specs.specs.PolicyFault.{PolicyFaultKind, twice, missing, wrong_kind, alias_twice, alias_unset, second_common, too_many_permissions, circular, code_of, PolicyFault, IsAtWordOf, IsNoLater}
-use Rattle.cil_specs.specs.Kept.{Optionals, AreKept, is_within, restricted, judged, IsPolicyFault, dropped_of}
+use Rattle.cil_specs.specs.Kept.{Optionals, AreKept, is_within, restricted, judged, IsPolicyFault, IsFirst, dropped_of}
 use Rattle.cil_specs.specs.Meaning.{Meaning, meaning_of}
 use Rattle.cil_specs.specs.Store.{Entry, Store, IsStore, active}
-use Rattle.cil_specs.specs.Next.{AreModules, IsPolicyOf, IsAttributeFault, IsRefusedFor, first_fault, first_attribute, IsMeaningOf, Edit, install, Refusal, at_place, store_refusal, HasGoodText, IsTextRefusal, IsNotTaken, by_itself, by_its_text, IsTaken, IsPolicyRefusal, Judgement, accepts, refuses, Next, not_taken, bad_policy, good}
-use Rattle.cil_specs.proofs.NamesLemmas.{all-contained, contains-middle}
+use Rattle.cil_specs.specs.Next.{AreModules, IsPolicyOf, IsMeaningOf, Edit, install, Refusal, at_place, store_refusal, HasGoodText, IsTextRefusal, IsNotTaken, by_itself, by_its_text, IsTaken, IsPolicyRefusal, Judgement, accepts, refuses, Next, not_taken, bad_policy, good}
+use Rattle.cil_specs.proofs.NamesLemmas.{contains-middle}
 use Rattle.cil_specs.proofs.KeptLemmas.{kept-one}
-use Rattle.cil_specs.proofs.FaultWords.{words_in, contains-filtered, faulty-word, rule-word}
+use Rattle.cil_specs.proofs.FaultWords.{words_in, contains-filtered, faulty-word}
 use Rattle.cil_specs.proofs.OneText.{module_text_same, no-text-fault, text-fault-same}
 use Rattle.cil_specs.proofs.OneFault.{one-word}
 
@@ -43,18 +43,14 @@ meaning-same store m n a b =
     a.means.is ∙ (λ i. meaning_of (restricted (kept i) (policies i)) (dropped_of (kept i) (policies i))) ∙ sym b.means.is
 
 -- what a store is refused for, by the policy and the optionals that another finds
-refused-as : (store : Store) (policy other : List Placed) (kept others : Optionals) (fault : PolicyFault) → IsPolicyOf store policy → IsPolicyOf store other → AreKept policy kept → AreKept other others → IsRefusedFor kept policy fault → IsRefusedFor others other fault
+refused-as : (store : Store) (policy other : List Placed) (kept others : Optionals) (fault : PolicyFault) → IsPolicyOf store policy → IsPolicyOf store other → AreKept policy kept → AreKept other others → IsFirst kept policy fault → IsFirst others other fault
 refused-as store policy other kept others fault a b k l h =
     let policies = policy-same store policy other a b in
     let same = kept-one other kept others (subst (λ p. AreKept p kept) policies k) l in
-    subst (λ o. IsRefusedFor o other fault) same (subst (λ p. IsRefusedFor kept p fault) policies h)
+    subst (λ o. IsFirst o other fault) same (subst (λ p. IsFirst kept p fault) policies h)
 
 pub no-meaning : (store : Store) (meaning : Meaning) (refusal : Refusal) → IsMeaningOf store meaning → IsPolicyRefusal store refusal → ⊥
-no-meaning store meaning refusal m r = by (refused-as store r.0 m.policy r.3.0 m.kept r.1 r.2 m.is_policy r.3.1 m.means.are_kept r.3.2)
-  where
-    by : IsRefusedFor m.kept m.policy r.1 → ⊥
-    by (first_fault h) = m.means.compiles r.1 h.is
-    by (first_attribute compiles h) = m.types_alone r.1 h.is
+no-meaning store meaning refusal m r = m.means.compiles r.1 (refused-as store r.0 m.policy r.3.0 m.kept r.1 r.2 m.is_policy r.3.1 m.means.are_kept r.3.2).is
 
 -- The first fault of a policy stands at a word of one of its statements.
 record IsAtSome (policy : List Placed) (fault : PolicyFault) : Type 0 where
@@ -82,16 +78,6 @@ at-some kept policy fault h = record {
   word = h.word;
   is_in = judged-in fault.kind kept policy h.s (subst (λ p. Contains p h.s) (sym h.split) (contains-middle h.before h.s h.after));
   has = faulty-word fault.kind (judged fault.kind kept policy) h.before h.s h.word h.is_faulty;
-  is_at = h.is_at;
-}
-
-at-rule : (kept : Optionals) (policy : List Placed) (fault : PolicyFault) → IsAttributeFault (restricted kept policy) fault → IsAtSome policy fault
-at-rule kept policy fault h = record {
-  kind = wrong_kind;
-  s = h.s;
-  word = h.word;
-  is_in = contains-filtered (is_within kept) policy h.s h.is_in;
-  has = all-contained (Contains (words_in h.s.form)) _ h.word (rule-word h.s.form) h.is_word;
   is_at = h.is_at;
 }
 
@@ -142,13 +128,9 @@ fault-same store policy f g is_store is_policy a b same =
     let kinds : a.kind ≡ b.kind = sym (ap (λ x. x.kind) a.is_at) ∙ same.kinds ∙ ap (λ x. x.kind) b.is_at in
     a.is_at ∙ (λ i. record { kind = kinds i; module_name = names i; at = (words i).at; word = (words i).text }) ∙ sym b.is_at
 
-first-same : (store : Store) (policy : List Placed) (kept : Optionals) (f g : PolicyFault) → IsStore store → IsPolicyOf store policy → IsRefusedFor kept policy f → IsRefusedFor kept policy g → f ≡ g
-first-same store policy kept f g is_store is_policy (first_fault h) (first_fault k) =
+first-same : (store : Store) (policy : List Placed) (kept : Optionals) (f g : PolicyFault) → IsStore store → IsPolicyOf store policy → IsFirst kept policy f → IsFirst kept policy g → f ≡ g
+first-same store policy kept f g is_store is_policy h k =
     fault-same store policy f g is_store is_policy (at-some kept policy f h.is) (at-some kept policy g k.is) (same-place f g (h.first g k.is) (k.first f h.is))
-first-same store policy kept f g is_store is_policy (first_fault h) (first_attribute compiles k) = absurd (compiles f h.is)
-first-same store policy kept f g is_store is_policy (first_attribute compiles h) (first_fault k) = absurd (compiles g k.is)
-first-same store policy kept f g is_store is_policy (first_attribute compiles h) (first_attribute others k) =
-    fault-same store policy f g is_store is_policy (at-rule kept policy f h.is) (at-rule kept policy g k.is) (same-place f g (h.first g k.is) (k.first f h.is))
 
 pub policy-refusal-same : (store : Store) (r s : Refusal) → IsStore store → IsPolicyRefusal store r → IsPolicyRefusal store s → r ≡ s
 policy-refusal-same store r s is_store a b =

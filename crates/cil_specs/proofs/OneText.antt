@@ -4,13 +4,12 @@ use Rattle.cil_specs.specs.TextFault.{TextFault}
 use Rattle.cil_specs.specs.Trees.{Trees, Reads}
 use Rattle.cil_specs.specs.Statements.{Statements}
 use Rattle.cil_specs.specs.Shape.{Shapes, IsShapeFault, IsFirstShapeFault}
-use Rattle.cil_specs.specs.Next.{IsUnsupportedFault, IsFirstUnsupportedFault, IsModuleText, IsTextFault, in_reading, in_shape, not_compiled}
+use Rattle.cil_specs.specs.Next.{IsModuleText, IsTextFault, in_reading, in_shape}
 use Rattle.cil_specs.proofs.Order.{reading-in_order}
 use Rattle.cil_specs.proofs.OneReading.{one-reading}
 use Rattle.cil_specs.proofs.Stuck.{no-fault, one-fault}
 use Rattle.cil_specs.proofs.ShapeLemmas.{shapes_no_fault, shapes_same}
 use Rattle.cil_specs.proofs.FaultSame.{first_fault_same}
-use Rattle.cil_specs.proofs.UnsupportedOrder.{first_unsupported_same}
 
 pub module_text_same : (bytes : List ℕ) (s t : Statements) → IsModuleText bytes s → IsModuleText bytes t → s ≡ t
 module_text_same bytes s t a b = shapes_same s t false a.trees a.shapes (subst (λ trees. Shapes false trees t) (one-reading bytes b.trees a.trees b.reads a.reads) b.shapes)
@@ -22,17 +21,10 @@ no-shape-fault bytes trees others s f reads other shapes h = shapes_no_fault s f
 pub no-text-fault : (bytes : List ℕ) (s : Statements) (f : TextFault) → IsModuleText bytes s → IsTextFault bytes f → ⊥
 no-text-fault bytes s f a (in_reading h) = no-fault bytes a.trees f a.reads h
 no-text-fault bytes s f a (in_shape trees reads h) = no-shape-fault bytes trees a.trees s f reads a.reads a.shapes h
-no-text-fault bytes s f a (not_compiled trees statements reads shapes h) = a.compiled f (subst (λ t. IsUnsupportedFault t f) (one-reading bytes trees a.trees reads a.reads) h.is)
 
 pub text-fault-same : (bytes : List ℕ) (f g : TextFault) → IsTextFault bytes f → IsTextFault bytes g → f ≡ g
 text-fault-same bytes f g (in_reading h) (in_reading k) = one-fault bytes f g h k
 text-fault-same bytes f g (in_reading h) (in_shape trees reads k) = absurd (no-fault bytes trees f reads h)
-text-fault-same bytes f g (in_reading h) (not_compiled trees statements reads shapes k) = absurd (no-fault bytes trees f reads h)
 text-fault-same bytes f g (in_shape trees reads h) (in_reading k) = absurd (no-fault bytes trees g reads k)
 text-fault-same bytes f g (in_shape trees reads h) (in_shape others other k) =
     first_fault_same trees 0 (length bytes) f g (reading-in_order bytes trees (length bytes) reads (omega arith)) h (subst (λ t. IsFirstShapeFault t g) (one-reading bytes others trees other reads) k)
-text-fault-same bytes f g (in_shape trees reads h) (not_compiled others statements other shapes k) = absurd (no-shape-fault bytes trees others statements f reads other shapes h)
-text-fault-same bytes f g (not_compiled trees statements reads shapes h) (in_reading k) = absurd (no-fault bytes trees g reads k)
-text-fault-same bytes f g (not_compiled trees statements reads shapes h) (in_shape others other k) = absurd (no-shape-fault bytes others trees statements g other reads shapes k)
-text-fault-same bytes f g (not_compiled trees statements reads shapes h) (not_compiled others more other shapes' k) =
-    first_unsupported_same trees 0 (length bytes) f g (reading-in_order bytes trees (length bytes) reads (omega arith)) h (subst (λ t. IsFirstUnsupportedFault t g) (one-reading bytes others trees other reads) k)

@@ -9,7 +9,7 @@ use Rattle.std.proofs.lemmas.Cmp.{nat_cmp_total, nat_list_cmp_total, on_total, t
 use Rattle.std.proofs.lemmas.List.Kept.{IsStrictlySortedBy-filter}
 use Rattle.cil_specs.specs.Store.{Entry, Store, IsStore, empty, entry_cmp, put}
 use Rattle.cil_specs.specs.Next.{Edit, install, changed, IsTaken, accepts, not_taken, bad_policy, good, Next}
-use Rattle.cil_specs.specs.Run.{Call, Reply, accepted, rejected, lists, tells_dropped, out_of_memory, Step, Run}
+use Rattle.cil_specs.specs.Run.{Call, Reply, accepted, rejected, lists, tells_violations, tells_dropped, out_of_memory, Step, Run}
 use Rattle.cil_specs.proofs.NamesLemmas.{all-weaker, all-append}
 
 entry-trans : (a b c : Entry) → entry_cmp a b ≡ Less → entry_cmp b c ≡ Less → entry_cmp a c ≡ Less
@@ -65,6 +65,7 @@ step-ordered : (old new : Store) (call : Call) (reply : Reply) → IsStore old �
 step-ordered old new call reply is (accepted edit changes asked told made) = next-ordered old new edit is made.next
 step-ordered old new call reply is (rejected edit refusal asked told next same) = subst IsStore (sym same) is
 step-ordered old new call reply is (lists rows asked told are same) = subst IsStore (sym same) is
+step-ordered old new call reply is (tells_violations violations asked told are same) = subst IsStore (sym same) is
 step-ordered old new call reply is (tells_dropped dropped asked told are same) = subst IsStore (sym same) is
 step-ordered old new call reply is (out_of_memory told same) = subst IsStore (sym same) is
 

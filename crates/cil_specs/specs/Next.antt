@@ -1,67 +1,31 @@
 -- What an edit of the store leads to.
-use Rattle.std.specs.Prelude.{◌≡◌, ◌⊎◌, ℕ, Bool, false, not, ◌&&◌, ◌||◌, ◌==◌, nat_le, nat_lt, List, [], ◌∷◌, length, codes, bytes_eq, decimal, Option, Some, None, Contains, IsTrue, if◌then◌else◌}
-use Rattle.std.specs.List.{list_all, list_any}
+use Rattle.std.specs.Prelude.{◌≡◌, ℕ, Bool, false, not, ◌&&◌, ◌||◌, ◌==◌, nat_le, nat_lt, List, [], ◌∷◌, length, decimal, Option, Some, None, if◌then◌else◌}
+use Rattle.std.specs.List.{list_all}
 use Rattle.cil_specs.specs.Place.{Place}
-use Rattle.cil_specs.specs.TextFault.{TextFault, unsupported, IsNoLater}
+use Rattle.cil_specs.specs.TextFault.{TextFault}
 use Rattle.cil_specs.specs.TextFault as text_fault
-use Rattle.cil_specs.specs.Trees.{Trees, none, a_word, a_string, a_list, Reads}
+use Rattle.cil_specs.specs.Trees.{Trees, Reads}
 use Rattle.cil_specs.specs.Reading.{IsReadingFault}
-use Rattle.cil_specs.specs.Names.{Word, is_letter, is_digit}
-use Rattle.cil_specs.specs.Statements.{Form, rule, target_words, Statements}
-use Rattle.cil_specs.specs.Shape.{Shapes, IsFirstShapeFault, holds_others}
+use Rattle.cil_specs.specs.Names.{is_letter, is_digit}
+use Rattle.cil_specs.specs.Statements.{Statements}
+use Rattle.cil_specs.specs.Shape.{Shapes, IsFirstShapeFault}
 use Rattle.cil_specs.specs.Joined.{Module, Placed, joined}
-use Rattle.cil_specs.specs.Lookup.{types, leads, holds_of, is_attribute}
-use Rattle.cil_specs.specs.PolicyFault.{PolicyFault, wrong_kind, IsAtWordOf}
+use Rattle.cil_specs.specs.PolicyFault.{PolicyFault}
 use Rattle.cil_specs.specs.PolicyFault as policy_fault
-use Rattle.cil_specs.specs.Kept.{Optionals, AreKept, restricted, IsFirst, Compiles}
+use Rattle.cil_specs.specs.Kept.{Optionals, IsFirstFault}
 use Rattle.cil_specs.specs.Meaning.{Meaning, Means}
 use Rattle.cil_specs.specs.Store.{Entry, Store, put, active}
 
--- the words of the statements that are compiled so far
-abbrev pub compiled_words : List (List ℕ)
-compiled_words = codes "block" ∷ codes "optional" ∷ codes "type" ∷ codes "typealias" ∷ codes "typealiasactual" ∷ codes "typeattribute" ∷ codes "typeattributeset" ∷ codes "common" ∷ codes "class" ∷ codes "classcommon"
-    ∷ codes "classorder" ∷ codes "allow" ∷ []
-
--- whether one of the words is self
-abbrev pub has_self : Trees → Bool
-has_self none = false
-has_self (a_word at text rest) = bytes_eq text (codes "self") || has_self rest
-has_self (a_string at text rest) = has_self rest
-has_self (a_list at end items rest) = has_self rest
-
--- whether a statement that begins with this word is one that isn't compiled yet
-abbrev pub is_unsupported : List ℕ → Trees → Bool
-is_unsupported keyword operands = not (list_any (bytes_eq keyword) compiled_words) || (bytes_eq keyword (codes "allow") && has_self operands)
-
--- A statement that isn't compiled yet is a fault at its first word, in a block or an optional too
-abbrev pub IsUnsupportedFault : Trees → TextFault → Type 0
-IsUnsupportedFault none fault = ⊥
-IsUnsupportedFault (a_word at text rest) fault = IsUnsupportedFault rest fault
-IsUnsupportedFault (a_string at text rest) fault = IsUnsupportedFault rest fault
-IsUnsupportedFault (a_list at end none rest) fault = IsUnsupportedFault rest fault
-IsUnsupportedFault (a_list at end (a_word place text operands) rest) fault =
-    (IsTrue (is_unsupported text operands) × (fault ≡ record { kind = unsupported; at = place; word = text }))
-    ⊎ ((IsTrue (holds_others text) × IsUnsupportedFault operands fault) ⊎ IsUnsupportedFault rest fault)
-IsUnsupportedFault (a_list at end (a_string place text more) rest) fault = IsUnsupportedFault rest fault
-IsUnsupportedFault (a_list at end (a_list place last items more) rest) fault = IsUnsupportedFault rest fault
-
--- the first of them, in trees that spell statements
-pub record IsFirstUnsupportedFault (trees : Trees) (fault : TextFault) : Type 0 where
-  pub is : IsUnsupportedFault trees fault
-  pub first : (other : TextFault) → IsUnsupportedFault trees other → IsNoLater fault other
-
--- the text spells the statements, all of which are compiled
+-- the text spells the statements
 pub record IsModuleText (bytes : List ℕ) (statements : Statements) : Type 0 where
   pub trees : Trees
   pub reads : Reads bytes trees
   pub shapes : Shapes false trees statements
-  pub compiled : (fault : TextFault) → IsUnsupportedFault trees fault → ⊥
 
--- the fault of a text: that of reading it; or else the first of its shape; or else the first statement that isn't compiled
+-- the fault of a text: that of reading it, or else the first of its shape
 pub data IsTextFault (bytes : List ℕ) (fault : TextFault) : Type 0 where
   in_reading : IsReadingFault bytes fault → IsTextFault bytes fault
   in_shape : (trees : Trees) → Reads bytes trees → IsFirstShapeFault trees fault → IsTextFault bytes fault
-  not_compiled : (trees : Trees) (statements : Statements) → Reads bytes trees → Shapes false trees statements → IsFirstUnsupportedFault trees fault → IsTextFault bytes fault
 
 -- the modules of entries, by the entries' names and texts
 abbrev pub AreModules : List Entry → List Module → Type 0
@@ -74,49 +38,12 @@ AreModules (e ∷ entries) [] = ⊥
 abbrev pub IsPolicyOf : Store → List Placed → Type 0
 IsPolicyOf store policy = (modules : List Module) × AreModules (active store) modules × (policy ≡ joined modules)
 
--- whether a word leads to an attribute
-abbrev pub is_attribute_word : List Placed → List (List ℕ) → Word → Bool
-is_attribute_word policy namespace word = holds_of (λ s. is_attribute s.form) (leads policy types namespace word.text)
-
--- the words of a rule's source and target
-abbrev pub rule_elements : Form → List Word
-rule_elements (rule kind source target the_class permissions) = source ∷ target_words target
-rule_elements _ = []
-
--- Until attributes have members, a rule's source or target that leads to one is a fault of the code of another kind.
-pub record IsAttributeFault (policy : List Placed) (fault : PolicyFault) : Type 0 where
-  pub s : Placed
-  pub word : Word
-  pub is_in : Contains policy s
-  pub is_word : Contains (rule_elements s.form) word
-  pub is_attribute : IsTrue (is_attribute_word policy s.namespace word)
-  pub is_at : IsAtWordOf fault wrong_kind s word
-
--- the first of them, by module name and then by offset
-pub record IsFirstAttributeFault (policy : List Placed) (fault : PolicyFault) : Type 0 where
-  pub is : IsAttributeFault policy fault
-  pub first : (other : PolicyFault) → IsAttributeFault policy other → policy_fault.IsNoLater fault other
-
--- a policy in which no rule names an attribute
-abbrev pub HasTypesAlone : List Placed → Type 0
-HasTypesAlone policy = (fault : PolicyFault) → IsAttributeFault policy fault → ⊥
-
--- the fault that a policy is refused for: its first; or else, among the statements that it keeps, the first of a rule of an attribute
-pub data IsRefusedFor (kept : Optionals) (policy : List Placed) (fault : PolicyFault) : Type 0 where
-  first_fault : IsFirst kept policy fault → IsRefusedFor kept policy fault
-  first_attribute : Compiles kept policy → IsFirstAttributeFault (restricted kept policy) fault → IsRefusedFor kept policy fault
-
--- the same, by the optionals that the policy keeps
-abbrev pub IsPolicyFaultOf : List Placed → PolicyFault → Type 0
-IsPolicyFaultOf policy fault = (kept : Optionals) × AreKept policy kept × IsRefusedFor kept policy fault
-
--- What a store means, in whose policy no kept rule names an attribute.
+-- What a store means, whose policy compiles.
 pub record IsMeaningOf (store : Store) (meaning : Meaning) : Type 0 where
   pub policy : List Placed
   pub kept : Optionals
   pub is_policy : IsPolicyOf store policy
   pub means : Means policy kept meaning
-  pub types_alone : HasTypesAlone (restricted kept policy)
 
 pub data Edit : Type 0 where
   install : List ℕ → ℕ → List ℕ → Edit
@@ -173,7 +100,7 @@ pub record IsTaken (store : Store) (edit : Edit) (new : Store) : Type 0 where
 
 -- the refusal of a store for the first fault of its policy
 abbrev pub IsPolicyRefusal : Store → Refusal → Type 0
-IsPolicyRefusal store refusal = (policy : List Placed) × (fault : PolicyFault) × IsPolicyOf store policy × IsPolicyFaultOf policy fault
+IsPolicyRefusal store refusal = (policy : List Placed) × (fault : PolicyFault) × IsPolicyOf store policy × IsFirstFault policy fault
     × (refusal ≡ at_place (policy_fault.code_of fault.kind) fault.module_name fault.at fault.word)
 
 -- an edit is accepted, and leads to another store; or it is refused

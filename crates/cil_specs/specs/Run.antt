@@ -3,19 +3,22 @@ use Rattle.std.specs.Prelude.{◌≡◌, List, [], ◌∷◌}
 use Rattle.cil_specs.specs.Rule.{Declared}
 use Rattle.cil_specs.specs.Meaning.{Meaning, is_in_table}
 use Rattle.cil_specs.specs.Report.{Changes, AreChanges, Row, AreRows}
+use Rattle.cil_specs.specs.Violations.{Violation, AreViolations}
 use Rattle.cil_specs.specs.Store.{Store}
 use Rattle.cil_specs.specs.Next.{Edit, Refusal, for_memory, accepts, refuses, Next, IsMeaningOf}
 
--- an edit, or the question for the listing or for the optionals that drop
+-- an edit, or the question for the listing, for the violations or for the optionals that drop
 pub data Call : Type 0 where
   an_edit : Edit → Call
   ask_rows : Call
+  ask_violations : Call
   ask_dropped : Call
 
 pub data Reply : Type 0 where
   changed_by : Changes → Reply
   refused : Refusal → Reply
   listed : List Row → Reply
+  violated : List Violation → Reply
   dropped_optionals : List Declared → Reply
 
 -- The accepted edit moves to the next store, and the reply is the difference of the two tables.
@@ -31,16 +34,21 @@ pub record IsAccepted (old : Store) (edit : Edit) (changes : Changes) (new : Sto
 abbrev pub AreRowsOf : Store → List Row → Type 0
 AreRowsOf store rows = (meaning : Meaning) × IsMeaningOf store meaning × AreRows (is_in_table meaning) rows
 
+-- the violations of a store
+abbrev pub AreViolationsOf : Store → List Violation → Type 0
+AreViolationsOf store violations = (meaning : Meaning) × IsMeaningOf store meaning × AreViolations meaning violations
+
 -- the optionals of a store that drop
 abbrev pub AreDroppedOf : Store → List Declared → Type 0
 AreDroppedOf store dropped = (meaning : Meaning) × IsMeaningOf store meaning × (dropped ≡ meaning.dropped)
 
--- The reply to a call, and the store after it: an edit is accepted or refused; the rows of the table are listed; the optionals
--- that drop are told; or memory runs out, at any call. All but an accepted edit keep the store.
+-- The reply to a call, and the store after it: an edit is accepted or refused; the rows of the table are listed; the violations
+-- are told, or the optionals that drop; or memory runs out, at any call. All but an accepted edit keep the store.
 pub data Step (old : Store) (call : Call) (reply : Reply) (new : Store) : Type 0 where
   accepted : (edit : Edit) (changes : Changes) → call ≡ an_edit edit → reply ≡ changed_by changes → IsAccepted old edit changes new → Step old call reply new
   rejected : (edit : Edit) (refusal : Refusal) → call ≡ an_edit edit → reply ≡ refused refusal → Next old edit (refuses refusal) → new ≡ old → Step old call reply new
   lists : (rows : List Row) → call ≡ ask_rows → reply ≡ listed rows → AreRowsOf old rows → new ≡ old → Step old call reply new
+  tells_violations : (violations : List Violation) → call ≡ ask_violations → reply ≡ violated violations → AreViolationsOf old violations → new ≡ old → Step old call reply new
   tells_dropped : (dropped : List Declared) → call ≡ ask_dropped → reply ≡ dropped_optionals dropped → AreDroppedOf old dropped → new ≡ old → Step old call reply new
   out_of_memory : reply ≡ refused for_memory → new ≡ old → Step old call reply new
 

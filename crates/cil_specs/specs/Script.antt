@@ -3,7 +3,8 @@ use Rattle.std.specs.Prelude.{◌≡◌, ◌≢◌, ℕ, ◌+◌, ◌<◌, ◌�
 use Rattle.std.specs.List.{list_all, AllByRecursion}
 use Rattle.cil_specs.specs.Next.{install, Refusal, by_store, at_place, for_memory}
 use Rattle.cil_specs.specs.Report.{row_line, dropped_line}
-use Rattle.cil_specs.specs.Run.{Call, an_edit, ask_rows, ask_dropped, Reply, changed_by, refused, listed, dropped_optionals}
+use Rattle.cil_specs.specs.Violations.{violation_line}
+use Rattle.cil_specs.specs.Run.{Call, an_edit, ask_rows, ask_violations, ask_dropped, Reply, changed_by, refused, listed, violated, dropped_optionals}
 
 -- a byte of 0x21 to 0x7E
 abbrev pub is_shown : ℕ → Bool
@@ -17,12 +18,14 @@ install_line name priority size = codes "install " ++ name ++ codes " " ++ decim
 abbrev pub line_of : Call → List ℕ
 line_of (an_edit (install name priority text)) = install_line name priority (length text)
 line_of ask_rows = codes "rules"
+line_of ask_violations = codes "violations"
 line_of ask_dropped = codes "dropped"
 
 -- the bytes of a command: its line, and behind that of an install its text; a line feed stands behind each
 abbrev pub command : Call → List ℕ
 command (an_edit (install name priority text)) = line_of (an_edit (install name priority text)) ++ 10 ∷ (text ++ 10 ∷ [])
 command ask_rows = line_of ask_rows ++ 10 ∷ []
+command ask_violations = line_of ask_violations ++ 10 ∷ []
 command ask_dropped = line_of ask_dropped ++ 10 ∷ []
 
 -- a name has shown bytes alone, and a number at most nine digits
@@ -35,6 +38,7 @@ pub record AreGoodWords (name : List ℕ) (priority size : ℕ) : Type 0 where
 abbrev pub HasGoodWords : Call → Type 0
 HasGoodWords (an_edit (install name priority text)) = AreGoodWords name priority (length text)
 HasGoodWords ask_rows = Unit {0}
+HasGoodWords ask_violations = Unit {0}
 HasGoodWords ask_dropped = Unit {0}
 
 -- a command that a script may have: its line is at most 4096 bytes long
@@ -45,6 +49,7 @@ IsCommand call = HasGoodWords call × (length (line_of call) ≤ 4096)
 abbrev pub MayLackItsEnd : Call → Type 0
 MayLackItsEnd (an_edit edit) = ⊥
 MayLackItsEnd ask_rows = Unit {0}
+MayLackItsEnd ask_violations = Unit {0}
 MayLackItsEnd ask_dropped = Unit {0}
 
 -- these bytes begin with no command, and are none that lacks its line feed
@@ -80,6 +85,7 @@ abbrev pub answer : Reply → List ℕ
 answer (changed_by changes) = codes "ok " ++ decimal (length changes.added) ++ codes " " ++ decimal (length changes.removed) ++ codes "\n"
 answer (refused refusal) = refusal_line refusal
 answer (listed listing) = flat_map row_line listing ++ codes "end " ++ decimal (length listing) ++ codes "\n"
+answer (violated violations) = flat_map violation_line violations ++ codes "end " ++ decimal (length violations) ++ codes "\n"
 answer (dropped_optionals dropped) = flat_map dropped_line dropped ++ codes "end " ++ decimal (length dropped) ++ codes "\n"
 
 -- what is written behind the answers
@@ -95,4 +101,5 @@ abbrev pub is_refusal : Reply → Bool
 is_refusal (changed_by changes) = false
 is_refusal (refused refusal) = true
 is_refusal (listed listing) = false
+is_refusal (violated violations) = false
 is_refusal (dropped_optionals dropped) = false
