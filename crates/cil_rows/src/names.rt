@@ -13,6 +13,7 @@ use cil_resolve::{
     RuleView, SetView, TargetView, join, resolve,
 };
 use cil_rules::{Atom, Changes, Table};
+use cil_sets::Members;
 use cil_stream::MemorySink;
 use cil_text::RuleKind;
 use std::alloc::{AllocError, Global};
@@ -24,7 +25,7 @@ const CLASS_AND_TYPE: &[u8] = b"(class p (use))(type a)";
 
 const RULE: &[u8] = b"(allow a a (p (use)))";
 
-// The parsed module of a text, also of rules that no store takes yet.
+// The parsed module of a text.
 fn module_of(rt: &impl Abort, alloc: Global, text: &[u8]) -> ParsedModule
     ensures { IsSoundModule result }
 {
