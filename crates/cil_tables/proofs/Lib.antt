@@ -4,3 +4,4 @@ pub mod GivenLemmas
 pub mod OnceLemmas
 pub mod NamedLemmas
 pub mod KindLemmas
+pub mod ReaderLemmas

@@ -32,6 +32,11 @@ counter_at lines i t = option_map_or (λ l. line.count_of l t) (slice_get lines 
 unfoldable pub counter : Stored → LineKey → ℕ → ℕ
 counter stored key t = option_map_or (λ i. counter_at stored.lines i t) (place_of stored.places key) 0
 
+-- the line at a place of the order is that of a key
+pub record IsLineAt (stored : Stored) (i : ℕ) (key : LineKey) (counters : Counters) : Type 0 where
+  pub at : (place : ℕ) × (slice_get stored.places i ≡ Some (key, place))
+  pub counts : (t : ℕ) → line.count_of counters t ≡ counter stored key t
+
 -- Each place is that of a line, and of one key alone.
 pub record ArePlaced (places : List (LineKey × ℕ)) (count : ℕ) : Type 0 where
   pub within : (key : LineKey) (i : ℕ) → place_of places key ≡ Some i → i < count

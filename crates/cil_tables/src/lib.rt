@@ -7,5 +7,5 @@ mod lines;
 mod table_tests;
 mod tables;
 
-pub use lines::{LineKey, Lines};
+pub use lines::{KeyedLine, LineKey, Lines};
 pub use tables::Tables;

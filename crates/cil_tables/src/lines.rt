@@ -1,9 +1,9 @@
 //! The lines of an access table by their keys.
 
-ghost use Rattle.std.specs.Prelude.{◌≡◌, ◌+◌, ◌-◌, ◌<◌, ◌^◌, ◌≤◌, ◌&&◌, ℕ, false, Some, length, min, IfOk, OnErr, OnOk};
+ghost use Rattle.std.specs.Prelude.{◌≡◌, ◌+◌, ◌-◌, ◌<◌, ◌^◌, ◌≤◌, ◌==◌, ◌&&◌, ℕ, false, Some, length, min, IfOk, MatchOption, OnErr, OnOk};
 ghost use Rattle.cil_lines.specs.Line.{count_of};
 ghost use Rattle.cil_sets.specs.TypeSets.{is_of};
-ghost use Rattle.cil_tables.specs.Lines.{counter, is_key, is_place, one_if, place_of};
+ghost use Rattle.cil_tables.specs.Lines.{counter, is_key, is_place, one_if, place_of, IsLineAt};
 
 use cil_lines::Line;
 use cil_sets::TypeSet;
@@ -18,6 +18,13 @@ pub struct LineKey {
     pub class: usize,
     pub permission: usize,
     pub source: usize,
+}
+
+/// A line with what it is of.
+#[derive(Clone, Copy)]
+pub struct KeyedLine<'t, A: Allocator = Global> {
+    pub key: LineKey,
+    pub line: &'t Line<A>,
 }
 
 /// Lines of counters, each found by its key.
@@ -101,6 +108,31 @@ impl<A: Allocator + Copy> Lines<A> {
 }
 
 impl<A: Allocator> Lines<A> {
+    /// How many lines there are.
+    pub fn len(&self) -> usize
+        ensures { result ≡ length self.now.places }
+    {
+        self.places.len()
+    }
+
+    /// Whether there is no line.
+    pub fn is_empty(&self) -> bool
+        ensures { result ≡ (length self.now.places == 0) }
+    {
+        self.places.is_empty()
+    }
+
+    /// The line at a place of their order, in which they were made.
+    pub fn at(&self, i: usize) -> Option<KeyedLine<'_, A>>
+        ensures { MatchOption result (length self.now.places ≤ i) (λ l. IsLineAt self.now i l.key l.line.now) }
+    {
+        let (key, place) = self.places.get_index(i)?;
+        Some(KeyedLine {
+            key: *key,
+            line: &self.lines[*place],
+        })
+    }
+
     /// The place of a key's line.
     fn find(&self, key: LineKey) -> Option<usize>
         ensures { result ≡ place_of self.now.places key }

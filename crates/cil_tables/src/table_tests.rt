@@ -5,7 +5,7 @@ ghost use Rattle.cil_specs.specs.Joined.{Module};
 ghost use Rattle.cil_resolve.specs.Modules.{AreParsedFrom};
 ghost use Rattle.cil_sets.specs.Sound.{IsSoundModule};
 
-use crate::{LineKey, Tables};
+use crate::{KeyedLine, LineKey, Tables};
 use cil_parse::{ParsedModule, parse};
 use cil_resolve::{Joined, NamedModule, Resolved, resolve};
 use cil_sets::Members;
@@ -141,4 +141,47 @@ fn itself_is_each_source_alone(rt: HostRuntime) {
             access(b"a", b"a", b"p", b"use", 0),
         ],
     );
+}
+
+// Asserts that the line at a place of its order is that of a source's use of p, and has some counter of b.
+fn assert_line(
+    rt: &impl Abort,
+    resolved: &Resolved,
+    found: Option<KeyedLine<'_>>,
+    source: &'static [u8],
+    count: u64,
+) {
+    let keyed = found.expect(rt, "a line");
+    let key = LineKey {
+        class: number(resolved, b"p"),
+        permission: number(resolved, b"use"),
+        source: number(resolved, source),
+    };
+    let same = keyed.key == key;
+    assert!(rt; same);
+    let counted = keyed.line.count(number(resolved, b"b"));
+    assert!(rt; counted == count);
+}
+
+#[test]
+fn lines_stand_in_the_order_in_which_they_were_made(rt: HostRuntime) {
+    let alloc = rt.alloc();
+    let resolved = policy(
+        &rt,
+        alloc,
+        b"(allow b c (p (use)))(allow a b (p (use)))(allow a b (p (use)))(auditallow c b (p (use)))",
+    );
+    let members = Members::plain(alloc, &resolved).expect(&rt, "memory");
+    let tables = Tables::plain(alloc, &resolved, &members).expect(&rt, "memory");
+    let allowed = tables.lines(RuleKind::Allow);
+    assert!(&rt; allowed.len() == 2);
+    assert_line(&rt, &resolved, allowed.at(0), b"b", 0);
+    assert_line(&rt, &resolved, allowed.at(1), b"a", 2);
+    let ended = allowed.at(2).is_none();
+    assert!(&rt; ended);
+    let audited = tables.lines(RuleKind::AuditAllow);
+    assert!(&rt; audited.len() == 1);
+    assert_line(&rt, &resolved, audited.at(0), b"c", 1);
+    let none = !audited.is_empty() && tables.lines(RuleKind::DontAudit).is_empty();
+    assert!(&rt; none);
 }

@@ -71,7 +71,19 @@ impl<A: Allocator + Copy> Tables<A> {
 
 impl<A: Allocator> Tables<A> {
     ghost use Rattle.std.specs.Prelude.{◌≡◌, ◌-◌, ◌^◌, min};
-    ghost use Rattle.cil_tables.specs.Tables.{count_now};
+    ghost use Rattle.cil_tables.specs.Tables.{count_now, lines_of};
+
+    /// The lines of the rules of a kind.
+    pub fn lines(&self, kind: RuleKind) -> &Lines<A>
+        ensures { result.now ≡ lines_of self.now kind }
+    {
+        match kind {
+            RuleKind::Allow => &self.allow,
+            RuleKind::AuditAllow => &self.auditallow,
+            RuleKind::DontAudit => &self.dontaudit,
+            RuleKind::NeverAllow => &self.neverallow,
+        }
+    }
 
     /// How many rules of a kind give an access, by the numbers of its names; the greatest `u64` where they are more.
     pub fn count_at(&self, kind: RuleKind, key: LineKey, target: usize) -> u64
