@@ -1,12 +1,11 @@
 -- Where the lines of keys stand.
 use Rattle.std.proofs.Common.{zero, suc, ◌≡◌, ◌≢◌, ℕ, ◌+◌, ◌<◌, ◌≤◌, ◌==◌, ◌&&◌, Bool, true, false, cond, List, [], ◌∷◌, ◌++◌, length, Option, None, Some, slice_get, slice_set, refl, sym, ap, subst, ◌∙◌, true≢false, inl, inr, arith, add-zero}
-use Rattle.std.specs.Map.{lookup}
 use Rattle.std.specs.Option.{option_map_or}
 use Rattle.std.proofs.lemmas.Bool.{cases_eq, eqb-true, eq-eqb, ne_eqb}
 use Rattle.cil_specs.proofs.Runs.{first_true, second_true}
 use Rattle.cil_lines.specs.Line as line
 use Rattle.cil_lines.specs.Line.{Counters}
-use Rattle.cil_tables.specs.Lines.{Stored, is_key, is_place, place_of, counter_at, counter, ArePlaced, one_if}
+use Rattle.cil_tables.specs.Lines.{is_key, is_place, place_of, counter_at, counter, ArePlaced, one_if}
 use Rattle.cil_tables.specs.declared.lines.LineKey.{LineKey}
 use Rattle.cil_tables.specs.contracts.lines.LineKeyPartialEq.TheImpl as key_eq
 

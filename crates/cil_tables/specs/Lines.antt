@@ -1,5 +1,5 @@
 -- Lines of counters by their keys.
-use Rattle.std.specs.Prelude.{◌≡◌, ◌<◌, ◌&&◌, ◌==◌, ℕ, Bool, true, false, List, length, Option, None, Some, IsTrue, slice_get, cond}
+use Rattle.std.specs.Prelude.{◌≡◌, ◌<◌, ◌&&◌, ◌==◌, ℕ, Bool, true, false, List, Option, None, Some, slice_get, cond}
 use Rattle.std.specs.Map.{lookup}
 use Rattle.std.specs.Option.{option_map_or}
 use Rattle.cil_lines.specs.Line as line

@@ -1,7 +1,6 @@
-use Rattle.std.proofs.Common.{ap, ◌∙◌, ◌+◌}
 use Rattle.cil_lines.specs.Line.{count_of}
 use Rattle.cil_sets.specs.TypeSets.{is_of}
-use Rattle.cil_tables.proofs.AddLemmas.{added-word, all-below}
+use Rattle.cil_tables.proofs.AddLemmas.{added-word}
 use Rattle.cil_tables.proofs.lines.add_set.Goals as goal
 
 pub loop-word-preserved : goal.loop-word-preserved

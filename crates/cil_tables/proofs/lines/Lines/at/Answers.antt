@@ -18,8 +18,8 @@ returns g c =
     record {
       at = (place, ap (λ (s : Stored). slice_get s.places c.args.i) (sym c.self.view_is) ∙ sym c.in_ok-key.ensures.entry);
       counts = λ t. sym (
-        ap (λ (s : Stored). counter s key t) (sym c.self.view_is)
-        ∙ counter-there places lines key place t c.in_ok-key.ensures.value
-        ∙ ap (λ o. option_map_or (λ l. count_of l t) o 0)
-        (slice_get_read lines (length lines) place c.index.result.now refl (c.self.invariant.within key place c.in_ok-key.ensures.value) c.index.ensures));
+          ap (λ (s : Stored). counter s key t) (sym c.self.view_is)
+          ∙ counter-there places lines key place t c.in_ok-key.ensures.value
+          ∙ ap (λ o. option_map_or (λ l. count_of l t) o 0)
+          (slice_get_read lines (length lines) place c.index.result.now refl (c.self.invariant.within key place c.in_ok-key.ensures.value) c.index.ensures));
     }

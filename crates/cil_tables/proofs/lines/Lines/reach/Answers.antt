@@ -1,4 +1,4 @@
-use Rattle.std.proofs.Common.{◌≡◌, ◌+◌, ◌++◌, [], ◌∷◌, Some, None, sym, ap, ◌∙◌, length, length-append, subst, arith}
+use Rattle.std.proofs.Common.{◌+◌, ◌++◌, [], ◌∷◌, sym, ap, ◌∙◌, length, length-append, subst, arith}
 use Rattle.cil_tables.specs.Lines.{Stored, ArePlaced, is_place, place_of, counter}
 use Rattle.cil_tables.proofs.LinesLemmas.{placed-new, place-new, counters-new, counters-longer, place-found, placed-longer}
 use Rattle.cil_tables.proofs.lines.Lines.reach.Goals as goal
