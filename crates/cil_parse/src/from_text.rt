@@ -9,8 +9,7 @@ use crate::parsed::ParsedModule;
 use cil_text::{TextFault, read};
 use std::alloc::Allocator;
 
-/// The parsed module of a text, or its fault: that of reading it, or else the first of its shape. What is not compiled yet is no fault
-/// here.
+/// The parsed module of a text, or its fault: that of reading it, or else the first of its shape.
 pub fn parse<'a, A: Allocator + Copy>(
     alloc: A,
     text: &'a [u8],

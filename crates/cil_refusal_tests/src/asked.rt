@@ -18,6 +18,7 @@ pub type Engine<'h> = Plain<&'h Heap>;
 pub enum Asked<'a> {
     Edit(Edit<'a>),
     Rows,
+    Violations,
     Dropped,
     Run(&'a [Call<'a>]),
     /// A script, by its commands.
@@ -54,6 +55,13 @@ fn write_rows(rt: &impl Abort, sink: &mut MemorySink, engine: &Engine<'_>) {
             let count = rows.write(sink).expect(rt, "a sink");
             reply::write_end(sink, count).expect(rt, "a sink");
         }
+        Err(_) => reply::write_no_memory(sink).expect(rt, "a sink"),
+    }
+}
+
+fn write_violations(rt: &impl Abort, sink: &mut MemorySink, engine: &Engine<'_>) {
+    match engine.write_violations(sink) {
+        Ok(count) => reply::write_end(sink, count).expect(rt, "a sink"),
         Err(_) => reply::write_no_memory(sink).expect(rt, "a sink"),
     }
 }
@@ -123,6 +131,7 @@ pub fn answer<'h>(
     match asked {
         Asked::Edit(edit) => write_edit(rt, &mut sink, engine, edit),
         Asked::Rows => write_rows(rt, &mut sink, engine),
+        Asked::Violations => write_violations(rt, &mut sink, engine),
         Asked::Dropped => write_dropped(rt, &mut sink, engine),
         Asked::Run(calls) => write_run(rt, &mut sink, heap, engine, calls),
         Asked::Session(commands) => write_session(rt, alloc, &mut sink, heap, engine, commands),
@@ -140,6 +149,7 @@ pub fn state<'h>(
     heap.refuse(0);
     let mut sink = MemorySink::new(alloc);
     write_rows(rt, &mut sink, engine);
+    write_violations(rt, &mut sink, engine);
     write_dropped(rt, &mut sink, engine);
     write_edit(rt, &mut sink, engine, EMPTY);
     write_dropped(rt, &mut sink, engine);

@@ -10,6 +10,11 @@ fn rows(rt: HostRuntime) {
 }
 
 #[test]
+fn violations(rt: HostRuntime) {
+    assert_each_growth(&rt, rt.alloc(), BASE, Asked::Violations);
+}
+
+#[test]
 fn dropped(rt: HostRuntime) {
     assert_each_growth(&rt, rt.alloc(), BASE, Asked::Dropped);
 }

@@ -12,16 +12,10 @@ const CALLS: &[Call<'static>] = &[
         text: b"(type late)",
     }),
     Call::Rows,
-    Call::Dropped,
     Call::Edit(Edit::Install {
         name: b"text",
         priority: 400,
         text: b"(type)",
-    }),
-    Call::Edit(Edit::Install {
-        name: b"more",
-        priority: 400,
-        text: b"(optional p (allow a never (file (read))))",
     }),
     Call::Dropped,
 ];
@@ -34,11 +28,8 @@ fn a_run(rt: HostRuntime) {
 const COMMANDS: &[&str] = &[
     "install late 400 11\n(type late)\n",
     "rules\n",
-    "dropped\n",
+    "violations\n",
     "install -bad 400 0\n\n",
-    "install text 400 6\n(type)\n",
-    "install more 400 42\n(optional p (allow a never (file (read))))\n",
-    "rules\n",
     "dropped\n",
 ];
 

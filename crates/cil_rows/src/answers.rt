@@ -74,11 +74,13 @@ fn push(rt: &impl Abort, script: &mut Vec<u8>, piece: &[u8]) {
     script.extend_from_slice(piece).expect(rt, "memory");
 }
 
-/// A command of a script: an install of a module with a text, or the question for the listing or for the optionals that drop.
+/// A command of a script: an install of a module with a text, or the question for the listing, for the violations or for the optionals
+/// that drop.
 #[derive(Clone, Copy)]
 pub enum Command<'a> {
     Install(&'a str, &'a str),
     Rules,
+    Violations,
     Dropped,
 }
 
@@ -95,6 +97,7 @@ fn assert_dialogue(rt: &impl Abort, alloc: Global, dialogue: Dialogue<'_>, statu
                 push_install(rt, alloc, &mut script, name, text.as_bytes());
             }
             Command::Rules => push(rt, &mut script, b"rules\n"),
+            Command::Violations => push(rt, &mut script, b"violations\n"),
             Command::Dropped => push(rt, &mut script, b"dropped\n"),
         }
         want.push_str(answer).expect(rt, "memory");

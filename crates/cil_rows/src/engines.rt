@@ -48,6 +48,31 @@ fn assert_listing(
     assert_same(rt, (found, shown(sink.bytes())), want);
 }
 
+// Asserts what an engine writes of its violations to a sink that takes so much.
+fn assert_violations(
+    rt: &impl Abort,
+    alloc: Global,
+    engine: &Plain,
+    limit: usize,
+    want: (Result<usize, WriteFault>, &str),
+) {
+    let mut sink = MemorySink::with_limits(alloc, 1000, limit);
+    let found = engine.write_violations(&mut sink);
+    assert_same(rt, (found, shown(sink.bytes())), want);
+}
+
+#[test]
+fn violations_of_an_engine(rt: HostRuntime) {
+    let mut engine = Plain::new(rt.alloc());
+    assert_violations(&rt, rt.alloc(), &engine, 1000, (Ok(0), ""));
+    let text = b"(class p (use))(type a)(allow a a (p (use)))(neverallow a self (p (use)))";
+    engine.edit(install(text)).expect(&rt, "an edit");
+    let line = "neverallow m:1:45 allow m:1:24 a a:p { use };\n";
+    assert_violations(&rt, rt.alloc(), &engine, 1000, (Ok(1), line));
+    let front = (Err(WriteFault::Sink), "neverallow m:1");
+    assert_violations(&rt, rt.alloc(), &engine, 14, front);
+}
+
 fn rows_len(rt: &impl Abort, engine: &Plain) -> usize {
     engine.rows().expect(rt, "memory").len()
 }

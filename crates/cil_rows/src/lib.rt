@@ -34,6 +34,8 @@ mod reading;
 #[cfg(test)]
 mod refusals;
 #[cfg(test)]
+mod rules;
+#[cfg(test)]
 mod sets;
 #[cfg(test)]
 mod shapes;
@@ -47,5 +49,9 @@ mod streams;
 mod tables;
 #[cfg(test)]
 mod texts;
+#[cfg(test)]
+mod violations;
+#[cfg(test)]
+mod wide;
 #[cfg(test)]
 mod worked;

@@ -13,10 +13,12 @@ use cil_stream::{MemorySink, MemorySource};
 // Lines, each with its command, and the name, the priority and the length of an install.
 const COMMANDS: &[(&str, &str, &str, u32, u32)] = &[
     ("rules", "rules", "", 0, 0),
+    ("violations", "violations", "", 0, 0),
     ("dropped", "dropped", "", 0, 0),
     ("install a( 0 999999999", "install", "a(", 0, 999_999_999),
     ("", "none", "", 0, 0),
     ("rule", "none", "", 0, 0),
+    ("violation", "none", "", 0, 0),
     ("dropped ", "none", "", 0, 0),
     ("install", "none", "", 0, 0),
     ("install m 400", "none", "", 0, 0),
@@ -26,6 +28,7 @@ const COMMANDS: &[(&str, &str, &str, u32, u32)] = &[
 fn parts(line: &[u8]) -> (&str, &str, u32, u32) {
     match script_line(line) {
         Some(ScriptLine::Rules) => ("rules", "", 0, 0),
+        Some(ScriptLine::Violations) => ("violations", "", 0, 0),
         Some(ScriptLine::Dropped) => ("dropped", "", 0, 0),
         Some(
             ScriptLine::Install {

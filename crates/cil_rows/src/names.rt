@@ -10,9 +10,10 @@ use crate::tables::assert_changes;
 use cil_parse::{ParsedModule, parse};
 use cil_resolve::{
     ClassView, Element, ElementView, Joined, Meter, NameView, NamedModule, PolicyFault, Resolved,
-    RuleView, SetView, TargetView, join, resolve, resolve_types,
+    RuleView, SetView, TargetView, join, resolve,
 };
 use cil_rules::{Atom, Changes, Table};
+use cil_sets::Members;
 use cil_stream::MemorySink;
 use cil_text::RuleKind;
 use std::alloc::{AllocError, Global};
@@ -24,7 +25,7 @@ const CLASS_AND_TYPE: &[u8] = b"(class p (use))(type a)";
 
 const RULE: &[u8] = b"(allow a a (p (use)))";
 
-// The parsed module of a text, also of rules that no store takes yet.
+// The parsed module of a text.
 fn module_of(rt: &impl Abort, alloc: Global, text: &[u8]) -> ParsedModule
     ensures { IsSoundModule result }
 {
@@ -142,8 +143,9 @@ fn table(rt: &impl Abort, alloc: Global, rule: &[u8]) -> Table {
     let m = module_of(rt, alloc, CLASS_AND_TYPE);
     let n = module_of(rt, alloc, rule);
     let joined = joined(alloc, &m, &n).expect(rt, "memory");
-    let policy = resolve_types(alloc, &joined).expect(rt, "a policy");
-    Table::of(alloc, policy).expect(rt, "memory")
+    let policy = resolve(alloc, &joined).expect(rt, "a policy");
+    let members = Members::plain(alloc, &policy).expect(rt, "memory");
+    Table::of(alloc, &policy, &members).expect(rt, "memory")
 }
 
 // A class and a type, and a rule of these.

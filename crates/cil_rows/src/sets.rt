@@ -35,14 +35,10 @@ const FAULTS: &[(&[u8], &str)] = &[
         b"(typeattribute a)(type t)(optional o (type u)(typeattributeset a (a)))",
         "refused 48 m:1:16 a\n",
     ),
-    // A rule of an attribute is refused behind all of these, also where the attribute has members.
+    // A rule of such an attribute is no fault of its own.
     (
         b"(class p (use))(type t)(typeattribute s)(typeattributeset s (s))(allow s t (p (use)))",
         "refused 48 m:1:39 s\n",
-    ),
-    (
-        b"(class p (use))(type t)(typeattribute s)(typeattributeset s (t))(allow s t (p (use)))",
-        "refused 43 m:1:72 s\n",
     ),
 ];
 

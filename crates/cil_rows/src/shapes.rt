@@ -1,4 +1,4 @@
-//! Trees that spell no statements, and statements that aren't compiled yet.
+//! Trees that spell no statements.
 
 use crate::answers::assert_installs;
 
@@ -57,47 +57,17 @@ fn names_of_rules(rt: HostRuntime) {
     assert_installs(&rt, rt.alloc(), NAMES);
 }
 
-// Well shaped statements that aren't compiled yet are refused at their first words.
-const NOT_YET: &[(&[u8], &str)] = &[
-    (
-        b"(auditallow a a (p (use)))",
-        "refused 20 m:1:2 auditallow\n",
-    ),
-    (b"(dontaudit a a (p (use)))", "refused 20 m:1:2 dontaudit\n"),
-    (
-        b"(neverallow a a (p (use)))",
-        "refused 20 m:1:2 neverallow\n",
-    ),
-    (
-        b"(type a)(allow a self (p (use)))",
-        "refused 20 m:1:10 allow\n",
-    ),
-    // Inside a block or an optional too, and the first of several.
-    (
-        b"(block b (auditallow a a (p (use))))",
-        "refused 20 m:1:11 auditallow\n",
-    ),
-    (
-        b"(block b (optional o (dontaudit a a (p ()))))(neverallow a a (p ()))",
-        "refused 20 m:1:23 dontaudit\n",
-    ),
-    // They are looked for behind every fault of shape, and before any fault of the policy.
-    (
-        b"(dontaudit a a (p (u)))(type 1x)(type \"",
-        "refused 13 m:1:39 \"\n",
-    ),
+// A fault of shape comes before every fault of the policy.
+const BEFORE_THE_POLICY: &[(&[u8], &str)] = &[
     (
         b"(dontaudit a a (p (u)))(type 1x)",
         "refused 22 m:1:30 1x\n",
     ),
-    (
-        b"(type a)(type a)(dontaudit a a (p (u)))",
-        "refused 20 m:1:18 dontaudit\n",
-    ),
+    (b"(type a)(type a)(role r)", "refused 20 m:1:18 role\n"),
     (b"(type a)(type a)(type s)", "refused 41 m:1:15 a\n"),
 ];
 
 #[test]
-fn statements_that_are_not_compiled_yet(rt: HostRuntime) {
-    assert_installs(&rt, rt.alloc(), NOT_YET);
+fn shapes_before_the_policy(rt: HostRuntime) {
+    assert_installs(&rt, rt.alloc(), BEFORE_THE_POLICY);
 }
