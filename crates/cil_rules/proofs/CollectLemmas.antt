@@ -1,5 +1,5 @@
 -- What is collected, bit by bit, word by word and line by line.
-use Rattle.std.proofs.Common.{◌≡◌, ◌≢◌, ◌⊎◌, ◌↔◌, ℕ, ◌+◌, ◌*◌, ◌/◌, ◌%◌, ◌<◌, ◌≤◌, ◌++◌, ◌∷◌, List, [], Option, Some, length, min, slice_get, Contains, refl, sym, ap, subst, ◌∙◌, inl, inr, arith}
+use Rattle.std.proofs.Common.{◌≡◌, ◌≢◌, ◌⊎◌, ◌↔◌, ℕ, ◌+◌, ◌*◌, ◌/◌, ◌%◌, ◌<◌, ◌≤◌, ◌++◌, ◌∷◌, List, [], Some, length, min, slice_get, Contains, refl, sym, ap, subst, ◌∙◌, inl, inr, arith}
 use Rattle.std.specs.Int.{bit_at}
 use Rattle.std.proofs.lemmas.Bool.{cases_eq, cases_lt}
 use Rattle.std.proofs.lemmas.List.Elements.{Contains-append_left, Contains-push, Contains-push_cases}
@@ -185,28 +185,21 @@ pub lines-more : (stored : Stored) (kind : RuleKind) (i : ℕ) (key : LineKey) (
 lines-more stored kind i key line h old mid new is head was gained =
     gained-more (IsAmong stored kind i) (IsTo h (λ t. 0 < count_of line t)) (IsAmong stored kind (i + 1)) old mid new was gained split earlier here
   where
-    place : ℕ
-    place = is.at.0
-
-    there : slice_get stored.places i ≡ Some (key, place)
-    unfolding place
-    there = is.at.1
-
     split : (a : AtomNumbers) → IsAmong stored kind (i + 1) a → IsAmong stored kind i a ⊎ IsTo h (λ t. 0 < count_of line t) a
-    split a (k, low, other, place', at, t, some, same) =
+    split a (k, low, other, place, at, t, some, same) =
         elim (cases_lt k i) [
-          | inl before ↦ inl (k, before, other, place', at, t, some, same)
+          | inl before ↦ inl (k, before, other, place, at, t, some, same)
           | inr behind ↦
               let one : k ≡ i = omega (arith, low, behind) in
-              let keys : other ≡ key = ap (λ p. p.0) (same_Some (other, place') (key, place) (sym at ∙ ap (slice_get stored.places) one ∙ there)) in
+              let keys : other ≡ key = ap (λ p. p.0) (same_Some (other, place) (key, is.at.0) (sym at ∙ ap (slice_get stored.places) one ∙ is.at.1)) in
               inr (t, subst (λ n. 0 < n) (ap (λ q. counter stored q t) keys ∙ sym (is.counts t)) some, same ∙ ap (λ q. access_of (head_at kind q) t) keys ∙ ap (λ g. access_of g t) (sym head))
         ]
 
     earlier : (a : AtomNumbers) → IsAmong stored kind i a → IsAmong stored kind (i + 1) a
-    earlier a (k, low, other, place', at, t, some, same) = (k, omega (arith, low), other, place', at, t, some, same)
+    earlier a (k, low, other, place, at, t, some, same) = (k, omega (arith, low), other, place, at, t, some, same)
 
     here : (a : AtomNumbers) → IsTo h (λ t. 0 < count_of line t) a → IsAmong stored kind (i + 1) a
-    here a (t, some, same) = (i, omega arith, key, place, there, t, subst (λ n. 0 < n) (is.counts t) some, same ∙ ap (λ g. access_of g t) head)
+    here a (t, some, same) = (i, omega arith, key, is.at.0, is.at.1, t, subst (λ n. 0 < n) (is.counts t) some, same ∙ ap (λ g. access_of g t) head)
 
 pub lines-all : {A : Type 0} (tables : Tables A) (stored : Stored) (kind : RuleKind) (i : ℕ) (old new : List AtomNumbers) → stored ≡ lines_of tables kind → length stored.places ≤ i
     → AreGained (IsAmong stored kind i) old new → AreGained (IsCounted tables kind) old new
@@ -214,12 +207,10 @@ unfolding count_now
 lines-all tables stored kind i old new lines past was = gained-alike (IsAmong stored kind i) (IsCounted tables kind) old new was to from
   where
     to : (a : AtomNumbers) → IsAmong stored kind i a → IsCounted tables kind a
-    unfolding count_now
     to a (k, low, key, place, at, t, some, same) =
         (ap (λ x. x.kind) same, subst (λ x. 0 < counter (lines_of tables kind) (key_of x) x.target) (sym same) (subst (λ s. 0 < counter s key t) lines some))
 
     from : (a : AtomNumbers) → IsCounted tables kind a → IsAmong stored kind i a
-    unfolding count_now
     from a (same, some) =
         let counted : 0 < counter stored (key_of a) a.target = subst (λ s. 0 < counter s (key_of a) a.target) (sym lines) some in
         let (k, key, place, at, is) = line-of_counter stored (key_of a) a.target counted in
@@ -233,17 +224,13 @@ pub collected : {A : Type 0} (tables : Tables A) (none first second third fourth
     → AreGained (IsCounted tables DontAudit) second third → AreGained (IsCounted tables NeverAllow) third fourth → (a : AtomNumbers) → Contains fourth a ↔ (0 < count_now tables a.kind (key_of a) a.target)
 collected tables none first second third fourth empty allow auditallow dontaudit neverallow a = (to, from a.kind refl)
   where
-    Counts : Type 0
-    Counts = 0 < count_now tables a.kind (key_of a) a.target
-
-    counted : (kind : RuleKind) → IsCounted tables kind a → Counts
-    unfolding Counts
+    counted : (kind : RuleKind) → IsCounted tables kind a → 0 < count_now tables a.kind (key_of a) a.target
     counted kind (same, some) = subst (λ k. 0 < count_now tables k (key_of a) a.target) (sym same) some
 
     nothing : Contains none a → ⊥
     nothing h = let within = (subst (λ l. Contains l a) empty h).1 in omega (arith, within)
 
-    to : Contains fourth a → Counts
+    to : Contains fourth a → 0 < count_now tables a.kind (key_of a) a.target
     to h =
         elim ((neverallow.are a).0 h) [
           | inr told ↦ counted NeverAllow told
@@ -258,12 +245,14 @@ collected tables none first second third fourth empty allow auditallow dontaudit
               ]
         ]
 
-    told : (kind : RuleKind) → a.kind ≡ kind → Counts → IsCounted tables kind a
-    unfolding Counts
+    told : (kind : RuleKind) → a.kind ≡ kind → 0 < count_now tables a.kind (key_of a) a.target → IsCounted tables kind a
     told kind is some = (is, subst (λ k. 0 < count_now tables k (key_of a) a.target) is some)
 
-    from : (kind : RuleKind) → a.kind ≡ kind → Counts → Contains fourth a
+    from : (kind : RuleKind) → a.kind ≡ kind → 0 < count_now tables a.kind (key_of a) a.target → Contains fourth a
     from Allow is some = (neverallow.are a).1 (inl ((dontaudit.are a).1 (inl ((auditallow.are a).1 (inl ((allow.are a).1 (inr (told Allow is some))))))))
     from AuditAllow is some = (neverallow.are a).1 (inl ((dontaudit.are a).1 (inl ((auditallow.are a).1 (inr (told AuditAllow is some))))))
     from DontAudit is some = (neverallow.are a).1 (inl ((dontaudit.are a).1 (inr (told DontAudit is some))))
     from NeverAllow is some = (neverallow.are a).1 (inr (told NeverAllow is some))
+
+pub alike-trans : {X Y Z : Type 0} → X ↔ Y → Y ↔ Z → X ↔ Z
+alike-trans f g = (λ x. g.0 (f.0 x), λ z. f.1 (g.1 z))

@@ -1,14 +1,20 @@
 //! Collects the accesses of the access tables of a policy.
 
-ghost use Rattle.std.specs.Prelude.{◌≡◌, ◌<◌, ◌↔◌, Contains, IfOk, OnOk};
+ghost use Rattle.std.specs.Prelude.{◌≡◌, ◌<◌, ◌↔◌, Contains, IfOk, OnOk, map};
 ghost use Rattle.std.specs.List.Sorted.{IsStrictlySortedBy};
+ghost use Rattle.cil_specs.specs.Meaning.{is_in_table};
+ghost use Rattle.cil_specs.specs.Report.{AreAtoms};
+ghost use Rattle.cil_resolve.specs.Resolved.{meaning_in};
+ghost use Rattle.cil_sets.specs.Members.{AreMembers};
 ghost use Rattle.cil_lines.specs.Line.{count_of};
 ghost use Rattle.cil_tables.specs.Tables.{count_now};
-ghost use Rattle.cil_rules.specs.Atoms.{numbers_cmp};
+ghost use Rattle.cil_rules.specs.Atoms.{atom_at, numbers_cmp, AreNumbered};
 ghost use Rattle.cil_rules.specs.Collected.{access_of, head_at, key_of, AreGained, IsCounted, IsMarked, IsTo};
 
 use crate::numbers::{AtomNumbers, number};
 use cil_lines::Line;
+use cil_resolve::Resolved;
+use cil_sets::Members;
 use cil_tables::{LineKey, Tables};
 use cil_text::RuleKind;
 use std::alloc::{AllocError, Allocator};
@@ -105,7 +111,7 @@ fn push_kind<A: Allocator>(
 }
 
 /// The accesses that some rule gives, line by line.
-pub fn collect<A: Allocator + Copy>(
+fn collect<A: Allocator + Copy>(
     alloc: A,
     tables: &Tables<A>,
 ) -> Result<Vec<AtomNumbers, A>, AllocError>
@@ -120,10 +126,26 @@ pub fn collect<A: Allocator + Copy>(
 }
 
 /// Puts accesses in order, and keeps each once.
-pub fn sort_distinct<A: Allocator>(atoms: &mut Vec<AtomNumbers, A>)
+fn sort_distinct<A: Allocator>(atoms: &mut Vec<AtomNumbers, A>)
     ensures ordered { IsStrictlySortedBy numbers_cmp atoms.new.items }
     ensures same { (a : _) → Contains atoms.new.items a ↔ Contains atoms.old.items a }
 {
     atoms.sort_unstable();
     atoms.dedup();
+}
+
+/// The accesses that the rules of a policy give, each once, in order, by the numbers of its names.
+pub fn accesses_of<A: Allocator + Copy>(
+    alloc: A,
+    resolved: &Resolved<A>,
+    members: &Members<A>,
+) -> Result<Vec<AtomNumbers, A>, AllocError>
+    requires { AreMembers resolved.now members.now }
+    ensures numbered { IfOk result (λ atoms. AreNumbered resolved.now.names.items atoms.items) }
+    ensures exact { IfOk result (λ atoms. AreAtoms (is_in_table (meaning_in resolved.now)) (map (atom_at resolved.now.names.items) atoms.items)) }
+{
+    let tables = Tables::plain(alloc, resolved, members)?;
+    let mut atoms = collect(alloc, &tables)?;
+    sort_distinct(&mut atoms);
+    Ok(atoms)
 }

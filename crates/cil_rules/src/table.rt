@@ -11,7 +11,7 @@ ghost use Rattle.cil_stream.specs.Device.{HasFailed, Gains, GainsFront};
 ghost use Rattle.cil_rules.specs.Atoms.{atom_of};
 
 use crate::atom::Atom;
-use crate::collect::{collect, sort_distinct};
+use crate::collect::accesses_of;
 use crate::listing::write_rows;
 use crate::name_list::{NameList, names_of};
 use crate::numbers::AtomNumbers;
@@ -19,7 +19,6 @@ use crate::rows::Rows;
 use cil_resolve::Resolved;
 use cil_sets::Members;
 use cil_stream::{Sink, SinkFault};
-use cil_tables::Tables;
 use std::alloc::{AllocError, Allocator, Global};
 use std::marker::Model;
 
@@ -55,16 +54,11 @@ impl<A: Allocator + Copy> Table<A> {
     }
 
     /// The table of the rules of a resolved policy with these members of its attributes. It has names of its own.
-    pub fn of(
-        alloc: A,
-        resolved: &Resolved<A>,
-        members: &Members<A>,
-    ) -> Result<Self, AllocError>
+    pub fn of(alloc: A, resolved: &Resolved<A>, members: &Members<A>) -> Result<Self, AllocError>
         requires { AreMembers resolved.now members.now }
         ensures { IfOk result (λ table. AreAtoms (is_in_table (meaning_in resolved.now)) table) }
     {
-        let mut atoms = collect(alloc, &Tables::plain(alloc, resolved, members)?)?;
-        sort_distinct(&mut atoms);
+        let atoms = accesses_of(alloc, resolved, members)?;
         Ok(Table {
             names: NameList::of(names_of(alloc, resolved)?)?,
             atoms,
