@@ -19,6 +19,10 @@ use Rattle.cil_rules.specs.declared.numbers.AtomNumbers.{AtomNumbers}
 use Rattle.cil_rules.specs.Collected.{access_of, head_at, key_of, AreGained, IsCounted, IsMarked, IsTo}
 use Rattle.cil_rules.proofs.BitLemmas.{IsCleared}
 
+-- one of two that follow from each other, and a third
+pub alike-trans : {X Y Z : Type 0} → X ↔ Y → Y ↔ Z → X ↔ Z
+alike-trans f g = (λ x. g.0 (f.0 x), λ z. f.1 (g.1 z))
+
 -- where nothing is told, nothing is gained
 pub gained-none : (told : AtomNumbers → Type 0) (atoms : List AtomNumbers) → ((a : AtomNumbers) → told a → ⊥) → AreGained told atoms atoms
 gained-none told atoms none = record { are = λ a. (λ h. inl h, λ some. elim some [ inl h ↦ h | inr t ↦ absurd (none a t) ]) }
@@ -201,23 +205,22 @@ lines-more stored kind i key line h old mid new is head was gained =
     here : (a : AtomNumbers) → IsTo h (λ t. 0 < count_of line t) a → IsAmong stored kind (i + 1) a
     here a (t, some, same) = (i, omega arith, key, is.at.0, is.at.1, t, subst (λ n. 0 < n) (is.counts t) some, same ∙ ap (λ g. access_of g t) head)
 
-pub lines-all : {A : Type 0} (tables : Tables A) (stored : Stored) (kind : RuleKind) (i : ℕ) (old new : List AtomNumbers) → stored ≡ lines_of tables kind → length stored.places ≤ i
-    → AreGained (IsAmong stored kind i) old new → AreGained (IsCounted tables kind) old new
+pub lines-all : {A : Type 0} (tables : Tables A) (kind : RuleKind) (i : ℕ) (old new : List AtomNumbers) → length (lines_of tables kind).places ≤ i
+    → AreGained (IsAmong (lines_of tables kind) kind i) old new → AreGained (IsCounted tables kind) old new
 unfolding count_now
-lines-all tables stored kind i old new lines past was = gained-alike (IsAmong stored kind i) (IsCounted tables kind) old new was to from
+lines-all tables kind i old new past was = gained-alike (IsAmong (lines_of tables kind) kind i) (IsCounted tables kind) old new was to from
   where
-    to : (a : AtomNumbers) → IsAmong stored kind i a → IsCounted tables kind a
+    to : (a : AtomNumbers) → IsAmong (lines_of tables kind) kind i a → IsCounted tables kind a
     to a (k, low, key, place, at, t, some, same) =
-        (ap (λ x. x.kind) same, subst (λ x. 0 < counter (lines_of tables kind) (key_of x) x.target) (sym same) (subst (λ s. 0 < counter s key t) lines some))
+        (ap (λ x. x.kind) same, subst (λ x. 0 < counter (lines_of tables kind) (key_of x) x.target) (sym same) some)
 
-    from : (a : AtomNumbers) → IsCounted tables kind a → IsAmong stored kind i a
+    from : (a : AtomNumbers) → IsCounted tables kind a → IsAmong (lines_of tables kind) kind i a
     from a (same, some) =
-        let counted : 0 < counter stored (key_of a) a.target = subst (λ s. 0 < counter s (key_of a) a.target) (sym lines) some in
-        let (k, key, place, at, is) = line-of_counter stored (key_of a) a.target counted in
+        let (k, key, place, at, is) = line-of_counter (lines_of tables kind) (key_of a) a.target some in
         let one : key_of a ≡ key = same-key (key_of a) key is in
-        let within : k < length stored.places = slice_get_within stored.places k (key, place) at in
+        let within : k < length (lines_of tables kind).places = slice_get_within (lines_of tables kind).places k (key, place) at in
         let access : a ≡ access_of (head_at kind key) a.target = λ j. record { kind = same j; source = (one j).source; target = a.target; class = (one j).class; permission = (one j).permission } in
-        (k, omega (arith, within, past), key, place, at, a.target, subst (λ q. 0 < counter stored q a.target) one counted, access)
+        (k, omega (arith, within, past), key, place, at, a.target, subst (λ q. 0 < counter (lines_of tables kind) q a.target) one some, access)
 
 -- what the tables of the four kinds count
 pub collected : {A : Type 0} (tables : Tables A) (none first second third fourth : List AtomNumbers) → none ≡ [] → AreGained (IsCounted tables Allow) none first → AreGained (IsCounted tables AuditAllow) first second
@@ -253,6 +256,3 @@ collected tables none first second third fourth empty allow auditallow dontaudit
     from AuditAllow is some = (neverallow.are a).1 (inl ((dontaudit.are a).1 (inl ((auditallow.are a).1 (inr (told AuditAllow is some))))))
     from DontAudit is some = (neverallow.are a).1 (inl ((dontaudit.are a).1 (inr (told DontAudit is some))))
     from NeverAllow is some = (neverallow.are a).1 (inr (told NeverAllow is some))
-
-pub alike-trans : {X Y Z : Type 0} → X ↔ Y → Y ↔ Z → X ↔ Z
-alike-trans f g = (λ x. g.0 (f.0 x), λ z. f.1 (g.1 z))

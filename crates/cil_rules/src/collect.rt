@@ -110,7 +110,7 @@ fn push_kind<A: Allocator>(
     Ok(())
 }
 
-/// The accesses that some rule gives, line by line.
+/// The accesses that tables count, kind by kind and line by line.
 fn collect<A: Allocator + Copy>(
     alloc: A,
     tables: &Tables<A>,

@@ -29,5 +29,5 @@ pub returns : goal.returns
 returns g c =
     let past = c.loop-i-test.false in
     let len = c.len-i-end.ensures ∙ ap (λ (s : Stored). length s.places) c.lines-lines.ensures in
-    lines-all c.args.tables.now (lines_of c.args.tables.now c.args.kind) c.args.kind c.loop-i.i c.args.atoms.now.items c.loop-i.atoms.items (λ i. lines_of c.args.tables.now c.args.kind)
+    lines-all c.args.tables.now c.args.kind c.loop-i.i c.args.atoms.now.items c.loop-i.atoms.items
     (omega (arith, past, len)) c.loop-i.invariant
