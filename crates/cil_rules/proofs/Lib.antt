@@ -1,11 +1,12 @@
 pub mod AtomLemmas
 pub mod ChangesLemmas
+pub mod BitLemmas
 pub mod CollectLemmas
 pub mod DerivedOrder
 pub mod DifferenceLemmas
-pub mod GivenLemmas
 pub mod GroupLemmas
 pub mod ListingLemmas
 pub mod NumberedRowLemmas
 pub mod RankLemmas
 pub mod RowLemmas
+pub mod TableLemmas

@@ -1,5 +1,5 @@
 -- Accesses by full names and by numbers, as the definitions see them.
-use Rattle.std.specs.Prelude.{ℕ, ◌<◌, List, [], slice_index_or, length, map, Option, Some, None, IsTrue}
+use Rattle.std.specs.Prelude.{ℕ, ◌<◌, List, [], slice_index_or, length, IsTrue}
 use Rattle.std.specs.List.{All}
 use Rattle.std.specs.List.Sorted.{IsStrictlySortedBy}
 use Rattle.std.specs.Ordering.{nat_cmp, on, then_cmp}
@@ -8,14 +8,7 @@ use Rattle.cil_specs.specs.Rule as spec
 use Rattle.cil_specs.specs.Rule.{kind_index}
 use Rattle.cil_specs.specs.Report.{names_rise}
 use Rattle.cil_text.specs.Image.{rule_kind_of}
-use Rattle.cil_expression.specs.declared.expression.Element.{Element}
-use Rattle.cil_expression.specs.declared.expression.Element.TheVariants.{«Type», Attribute}
-use Rattle.cil_resolve.specs.declared.numbered.ResolvedTarget.{ResolvedTarget}
-use Rattle.cil_resolve.specs.declared.numbered.ResolvedTarget.TheVariants as aims
-use Rattle.cil_resolve.specs.declared.numbered.NumberedRule.{NumberedRule}
 use Rattle.cil_rules.specs.declared.atom.Atom.{Atom}
-use Rattle.cil_rules.specs.declared.heads.HeadedRule.{HeadedRule}
-use Rattle.cil_rules.specs.declared.heads.RuleHead.{RuleHead}
 use Rattle.cil_rules.specs.declared.numbers.AtomNumbers.{AtomNumbers}
 
 -- the access that an access of the code stands for
@@ -53,35 +46,3 @@ pub record AreNumbered (names : List (List ℕ)) (atoms : List AtomNumbers) : Ty
   pub names_ordered : IsTrue (names_rise names)
   pub ordered : IsStrictlySortedBy numbers_cmp atoms
   pub within : All (IsWithin (length names)) atoms
-
--- what a rule gives between two types for a permission
-abbrev pub given_for : {A : Type 0} → NumberedRule A → ℕ → ℕ → ℕ → AtomNumbers
-given_for r source target p = record { kind = r.kind; source = source; target = target; class = r.class; permission = p }
-
--- the type that a target takes in for a source: the source itself, or the type that is its element
-abbrev pub target_for : ℕ → ResolvedTarget → Option ℕ
-target_for source aims.Itself = Some source
-target_for source (aims.Element («Type» target)) = Some target
-target_for source (aims.Element (Attribute target)) = None
-
--- what a rule gives from a type: one access for each permission where the target takes in a type
-abbrev pub given_to : {A : Type 0} → NumberedRule A → ℕ → Option ℕ → List AtomNumbers
-given_to r source (Some target) = map (given_for r source target) r.permissions.items
-given_to r source None = []
-
--- what a rule gives from a source to a target
-abbrev pub given_between : {A : Type 0} → NumberedRule A → Element → ResolvedTarget → List AtomNumbers
-given_between r («Type» source) target = given_to r source (target_for source target)
-given_between r (Attribute source) target = []
-
--- the accesses that a rule gives
-abbrev pub given : {A : Type 0} → NumberedRule A → List AtomNumbers
-given r = given_between r r.source r.target
-
--- the access with a head for a permission
-abbrev pub access_of : RuleHead → ℕ → AtomNumbers
-access_of h p = record { kind = h.kind; source = h.source; target = h.target; class = h.class; permission = p }
-
--- the accesses that a rule gives, by its head
-abbrev pub given_by : HeadedRule → List AtomNumbers
-given_by r = map (access_of r.head) r.permissions.now

@@ -1,112 +1,151 @@
-//! Collects the accesses that rules give.
+//! Collects the accesses of the access tables of a policy.
 
-ghost use Rattle.std.specs.Prelude.{◌≡◌, ◌++◌, ◌↔◌, ◌≤◌, Contains, IfOk, OnOk, length};
-ghost use Rattle.std.specs.List.{flat_map};
-ghost use Rattle.std.specs.List.Sorted.{IsPermutation, IsStrictlySortedBy};
-ghost use Rattle.cil_rules.specs.Atoms.{numbers_cmp, given, given_by};
+ghost use Rattle.std.specs.Prelude.{◌≡◌, ◌<◌, ◌↔◌, Contains, IfOk, OnOk, map};
+ghost use Rattle.std.specs.List.Sorted.{IsStrictlySortedBy};
+ghost use Rattle.cil_specs.specs.Meaning.{is_in_table};
+ghost use Rattle.cil_specs.specs.Report.{AreAtoms};
+ghost use Rattle.cil_resolve.specs.Resolved.{meaning_in};
+ghost use Rattle.cil_sets.specs.Members.{AreMembers};
+ghost use Rattle.cil_lines.specs.Line.{count_of};
+ghost use Rattle.cil_tables.specs.Tables.{count_now};
+ghost use Rattle.cil_rules.specs.Atoms.{atom_at, numbers_cmp, AreNumbered};
+ghost use Rattle.cil_rules.specs.Collected.{access_of, head_at, key_of, AreGained, IsCounted, IsMarked, IsTo};
 
-use crate::heads::{HeadedRule, RuleHead, by_head};
 use crate::numbers::{AtomNumbers, number};
-use cil_resolve::NumberedRule;
+use cil_lines::Line;
+use cil_resolve::Resolved;
+use cil_sets::Members;
+use cil_tables::{LineKey, Tables};
+use cil_text::RuleKind;
 use std::alloc::{AllocError, Allocator};
 
-/// Appends the accesses that a rule gives.
-fn push_given<A: Allocator>(
+// How many targets a word has.
+const WORD: usize = 64;
+
+/// What the accesses of a line share.
+#[derive(Clone, Copy, Debug)]
+pub struct LineHead {
+    pub kind: RuleKind,
+    pub source: u32,
+    pub class: u32,
+    pub permission: u32,
+}
+
+impl LineHead {
+    /// The head of a key's line in the table of a kind.
+    fn of(kind: RuleKind, key: LineKey) -> Result<Self, AllocError>
+        ensures { IfOk result (λ head. head ≡ head_at kind key) }
+    {
+        Ok(LineHead {
+            kind,
+            source: number(key.source)?,
+            class: number(key.class)?,
+            permission: number(key.permission)?,
+        })
+    }
+
+    /// The access with this head to a target.
+    fn access(&self, target: u32) -> AtomNumbers
+        ensures { result ≡ access_of self.now target }
+    {
+        AtomNumbers {
+            kind: self.kind,
+            source: self.source,
+            target,
+            class: self.class,
+            permission: self.permission,
+        }
+    }
+}
+
+/// Appends the accesses to the targets of a word that its mask has.
+fn push_word<A: Allocator>(
     atoms: &mut Vec<AtomNumbers, A>,
-    rule: &HeadedRule<'_>,
+    head: &LineHead,
+    word: u32,
+    mask: u64,
 ) -> Result<(), AllocError>
-    ensures { OnOk result (atoms.new.items ≡ atoms.old.items ++ given_by rule.now) }
+    ensures { OnOk result (AreGained (IsTo head.now (IsMarked word mask)) atoms.old.items atoms.new.items) }
 {
-    for permission in rule.permissions {
-        atoms.push(rule.head.access(number(*permission)?))?;
+    let first = word as usize * WORD;
+    let mut rest = mask;
+    while rest != 0 {
+        let bit = rest.trailing_zeros();
+        atoms.push(head.access(number(first + bit as usize)?))?;
+        rest &= !(1u64 << bit);
     }
     Ok(())
 }
 
-/// How many permissions rules name: no rule gives more accesses than permissions.
-fn permission_count(rules: &[HeadedRule<'_>]) -> usize {
-    let mut count: usize = 0;
-    for rule in rules {
-        count = count.saturating_add(rule.permissions.len());
-    }
-    count
-}
-
-/// Whether the last of some accesses has another head.
-fn ends_before(atoms: &[AtomNumbers], head: &RuleHead) -> bool {
-    match atoms.last() {
-        Some(last) => !head.is_of(last),
-        None => false,
-    }
-}
-
-/// Puts the accesses from a place on in order.
-fn sort_tail(atoms: &mut [AtomNumbers], from: usize)
-    requires { from ≤ length atoms.old }
-    ensures { IsPermutation atoms.old atoms.new }
-{
-    let end = atoms.len();
-    atoms[from..end].sort_unstable();
-}
-
-/// Puts the accesses of a list from a place on in order.
-fn sort_from<A: Allocator>(atoms: &mut Vec<AtomNumbers, A>, from: usize)
-    requires { from ≤ length atoms.old.items }
-    ensures { IsPermutation atoms.old.items atoms.new.items }
-{
-    sort_tail(atoms, from);
-}
-
-/// Where the accesses of a head begin: in a group that stands already, or behind it, and then the group is put in order.
-#[tactic(auto, using(crate::proofs::CollectLemmas::permuted_itself))]
-fn group_of<A: Allocator>(atoms: &mut Vec<AtomNumbers, A>, group: usize, head: &RuleHead) -> usize
-    requires { group ≤ length atoms.old.items }
-    ensures within { result ≤ length atoms.new.items }
-    ensures same { IsPermutation atoms.old.items atoms.new.items }
-{
-    if ends_before(atoms, head) {
-        sort_from(atoms, group);
-        atoms.len()
-    } else {
-        group
-    }
-}
-
-/// Appends the accesses that rules give. Where the rules stand in the order of their heads, so do the accesses: those of one head
-/// are few, and are put in order by themselves.
-fn push_by_head<A: Allocator>(
+/// Appends the accesses to the targets that a line counts.
+fn push_line<A: Allocator>(
     atoms: &mut Vec<AtomNumbers, A>,
-    rules: &[HeadedRule<'_>],
+    head: &LineHead,
+    line: &Line<A>,
 ) -> Result<(), AllocError>
-    ensures { OnOk result (IsPermutation (atoms.old.items ++ flat_map given_by rules.now) atoms.new.items) }
+    ensures { OnOk result (AreGained (IsTo head.now (λ t. 0 < count_of line.now t)) atoms.old.items atoms.new.items) }
 {
-    let mut group = atoms.len();
-    for rule in rules {
-        group = group_of(atoms, group, &rule.head);
-        push_given(atoms, rule)?;
+    let mut from = 0;
+    while let Some(word) = line.next_present_word(from) {
+        push_word(atoms, head, number(word)?, line.present(word))?;
+        from = word + 1;
     }
-    sort_from(atoms, group);
     Ok(())
 }
 
-/// The accesses that rules give, almost in order.
-pub fn collect<A: Allocator + Copy>(
+/// Appends the accesses that the table of a kind counts.
+fn push_kind<A: Allocator>(
+    atoms: &mut Vec<AtomNumbers, A>,
+    tables: &Tables<A>,
+    kind: RuleKind,
+) -> Result<(), AllocError>
+    ensures { OnOk result (AreGained (IsCounted tables.now kind) atoms.old.items atoms.new.items) }
+{
+    let lines = tables.lines(kind);
+    for i in 0..lines.len() {
+        if let Some(found) = lines.at(i) {
+            push_line(atoms, &LineHead::of(kind, found.key)?, found.line)?;
+        }
+    }
+    Ok(())
+}
+
+/// The accesses that tables count, kind by kind and line by line.
+fn collect<A: Allocator + Copy>(
     alloc: A,
-    rules: &[NumberedRule<A>],
+    tables: &Tables<A>,
 ) -> Result<Vec<AtomNumbers, A>, AllocError>
-    ensures { IfOk result (λ atoms. (a : _) → Contains atoms.items a ↔ Contains (flat_map given rules.now) a) }
+    ensures { IfOk result (λ atoms. (a : AtomNumbers) → Contains atoms.items a ↔ (0 < count_now tables.now a.kind (key_of a) a.target)) }
 {
-    let rules = by_head(alloc, rules)?;
-    let mut atoms = Vec::with_capacity(alloc, permission_count(&rules))?;
-    push_by_head(&mut atoms, &rules)?;
+    let mut atoms = Vec::new(alloc);
+    push_kind(&mut atoms, tables, RuleKind::Allow)?;
+    push_kind(&mut atoms, tables, RuleKind::AuditAllow)?;
+    push_kind(&mut atoms, tables, RuleKind::DontAudit)?;
+    push_kind(&mut atoms, tables, RuleKind::NeverAllow)?;
     Ok(atoms)
 }
 
 /// Puts accesses in order, and keeps each once.
-pub fn sort_distinct<A: Allocator>(atoms: &mut Vec<AtomNumbers, A>)
+fn sort_distinct<A: Allocator>(atoms: &mut Vec<AtomNumbers, A>)
     ensures ordered { IsStrictlySortedBy numbers_cmp atoms.new.items }
     ensures same { (a : _) → Contains atoms.new.items a ↔ Contains atoms.old.items a }
 {
     atoms.sort_unstable();
     atoms.dedup();
+}
+
+/// The accesses that the rules of a policy give, each once, in order, by the numbers of its names.
+pub fn accesses_of<A: Allocator + Copy>(
+    alloc: A,
+    resolved: &Resolved<A>,
+    members: &Members<A>,
+) -> Result<Vec<AtomNumbers, A>, AllocError>
+    requires { AreMembers resolved.now members.now }
+    ensures numbered { IfOk result (λ atoms. AreNumbered resolved.now.names.items atoms.items) }
+    ensures exact { IfOk result (λ atoms. AreAtoms (is_in_table (meaning_in resolved.now)) (map (atom_at resolved.now.names.items) atoms.items)) }
+{
+    let tables = Tables::plain(alloc, resolved, members)?;
+    let mut atoms = collect(alloc, &tables)?;
+    sort_distinct(&mut atoms);
+    Ok(atoms)
 }

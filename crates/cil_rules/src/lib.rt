@@ -6,7 +6,6 @@ mod changes;
 mod collect;
 mod difference;
 mod first_row;
-mod heads;
 mod listing;
 mod name_list;
 mod numbers;

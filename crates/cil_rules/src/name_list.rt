@@ -2,7 +2,7 @@
 
 ghost use Rattle.std.specs.Prelude.{◌≡◌, [], IfOk};
 
-use cil_resolve::Text;
+use cil_resolve::{Resolved, Text};
 use std::alloc::{AllocError, Allocator, Global};
 use std::marker::Model;
 use std::rc::RcSlice;
@@ -63,4 +63,18 @@ impl<A: Allocator> NameList<A> {
             None => &[],
         }
     }
+}
+
+/// Copies of the names of a policy, in the order of their numbers.
+pub fn names_of<A: Allocator + Copy>(
+    alloc: A,
+    resolved: &Resolved<A>,
+) -> Result<Vec<Text<A>, A>, AllocError>
+    ensures { IfOk result (λ names. names.items ≡ resolved.now.names.items) }
+{
+    let mut names = Vec::with_capacity(alloc, resolved.names_len())?;
+    for i in 0..resolved.names_len() {
+        names.push(Text::of(alloc, resolved.name(i))?)?;
+    }
+    Ok(names)
 }

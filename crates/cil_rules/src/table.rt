@@ -6,16 +6,18 @@ ghost use Rattle.cil_specs.specs.Rule as spec;
 ghost use Rattle.cil_specs.specs.Meaning.{is_in_table};
 ghost use Rattle.cil_specs.specs.Report.{AreAtoms, Row, AreRows, row_line};
 ghost use Rattle.cil_resolve.specs.Resolved.{meaning_in};
+ghost use Rattle.cil_sets.specs.Members.{AreMembers};
 ghost use Rattle.cil_stream.specs.Device.{HasFailed, Gains, GainsFront};
 ghost use Rattle.cil_rules.specs.Atoms.{atom_of};
 
 use crate::atom::Atom;
-use crate::collect::{collect, sort_distinct};
+use crate::collect::accesses_of;
 use crate::listing::write_rows;
-use crate::name_list::NameList;
+use crate::name_list::{NameList, names_of};
 use crate::numbers::AtomNumbers;
 use crate::rows::Rows;
-use cil_resolve::ResolvedTypes;
+use cil_resolve::Resolved;
+use cil_sets::Members;
 use cil_stream::{Sink, SinkFault};
 use std::alloc::{AllocError, Allocator, Global};
 use std::marker::Model;
@@ -51,15 +53,14 @@ impl<A: Allocator + Copy> Table<A> {
         }
     }
 
-    /// The table of the rules of a policy, whose names it keeps.
-    pub fn of(alloc: A, policy: ResolvedTypes<A>) -> Result<Self, AllocError>
-        ensures { IfOk result (λ table. AreAtoms (is_in_table (meaning_in policy.resolved)) table) }
+    /// The table of the rules of a resolved policy with these members of its attributes. It has names of its own.
+    pub fn of(alloc: A, resolved: &Resolved<A>, members: &Members<A>) -> Result<Self, AllocError>
+        requires { AreMembers resolved.now members.now }
+        ensures { IfOk result (λ table. AreAtoms (is_in_table (meaning_in resolved.now)) table) }
     {
-        let resolved = policy.resolved;
-        let mut atoms = collect(alloc, resolved.rules())?;
-        sort_distinct(&mut atoms);
+        let atoms = accesses_of(alloc, resolved, members)?;
         Ok(Table {
-            names: NameList::of(resolved.into_names())?,
+            names: NameList::of(names_of(alloc, resolved)?)?,
             atoms,
         })
     }

@@ -1,5 +1,7 @@
-use Rattle.cil_rules.proofs.CollectLemmas.{permuted-same}
+use Rattle.cil_rules.proofs.CollectLemmas.{collected}
 use Rattle.cil_rules.proofs.collect.collect.Goals as goal
 
 pub returns : goal.returns
-returns g c = permuted-same _ _ _ (rw (c.in_ok-atoms.ensures.items, c.deref-2.ensures.value) at c.in_ok-push_by_head.ensures) c.in_ok-rules.ensures
+returns g c =
+    collected c.args.tables.now c.new-atoms.result.items c.push_kind.new.atoms.items c.push_kind-2.new.atoms.items c.push_kind-3.new.atoms.items c.push_kind-4.new.atoms.items
+    c.new-atoms.ensures.items c.in_ok-push_kind.ensures c.in_ok-push_kind-2.ensures c.in_ok-push_kind-3.ensures c.in_ok-push_kind-4.ensures
