@@ -1,22 +1,25 @@
 -- The allow rules of each class, found one after the other.
 use Rattle.std.proofs.Common.{◌≡◌, ◌≢◌, ◌∙◌, inl, inr, ℕ, zero, suc, ◌+◌, ◌-◌, ◌<◌, ◌≤◌, ◌==◌, ◌&&◌, Bool, true, false, List, [], ◌∷◌, length, get_or, set, replicate, Option, Some, None, slice_get, refl, sym, ap, subst, arith, add-one, true≢false}
-use Rattle.std.proofs.lemmas.Bool.{and_parts, and_from, cases_eq, eqb-true, eq-eqb, ne_eqb}
+use Rattle.std.specs.Prelude.{nat_lt}
+use Rattle.std.specs.List.{list_all}
+use Rattle.std.proofs.lemmas.Bool.{ltb-true, and_parts, and_from, cases_eq, eqb-true, eq-eqb, ne_eqb}
 use Rattle.std.proofs.lemmas.List.{length-replicate, get_or_default, get_or-replicate, get_or-set_same, get_or-set_other}
-use Rattle.std.proofs.lemmas.Option.{none-some, same_Some, slice_get_within}
+use Rattle.std.proofs.lemmas.Option.{none-some, same_Some, slice_get_cases, slice_get_within}
 use Rattle.cil_specs.specs.Rule.{kind_index}
 use Rattle.cil_text.specs.Image.{rule_kind_of}
 use Rattle.cil_text.specs.contracts.statement.RuleKindPartialEq.TheImpl as kind_eq
 use Rattle.cil_text.specs.declared.statement.RuleKind.{RuleKind}
 use Rattle.cil_text.specs.declared.statement.RuleKind.TheVariants.{Allow, AuditAllow, DontAudit, NeverAllow}
+use Rattle.cil_resolve.specs.Below.{is_element_below, is_target_below, is_rule_below}
 use Rattle.cil_resolve.specs.declared.numbered.NumberedRule.{NumberedRule}
 use Rattle.cil_sets.specs.Search.{NoneFrom, IsFirstFrom}
 use Rattle.cil_violations.specs.Index.{if_there, is_kind, is_allow_of, is_met, IsNext, IsIndexFrom}
-use Rattle.cil_violations.specs.Rows.{hits, rules_in, permissions_at, tests_of}
+use Rattle.cil_violations.specs.Rows.{hits, rules_in, permissions_at, tests_of, IsSearch}
 use Rattle.cil_violations.specs.Permissions.{share}
 use Rattle.cil_violations.specs.declared.index.ClassIndex.{ClassIndex}
 use Rattle.cil_violations.specs.declared.search.Search.{Search}
 use Rattle.cil_violations.proofs.HitLemmas.{hits-none, hits-past}
-use Rattle.cil_violations.proofs.TestLemmas.{is-there, if-at}
+use Rattle.cil_violations.proofs.TestLemmas.{all-at, is-there, if-at}
 
 -- the derived == of kinds, at allow rules
 pub derived-allow : (k : RuleKind) → (kind_eq.eq-value).it k Allow ≡ (kind_index (rule_kind_of k) == 0)
@@ -82,6 +85,20 @@ module _ {A : Type 0} (rules : List (NumberedRule A)) (place : ℕ) (rule : Numb
 pub before-it : {A : Type 0} (rules : List (NumberedRule A)) (place : ℕ) (rule : NumberedRule A) (first : List (Option ℕ)) (x : Option ℕ) → rule.class < length first → x ≡ get_or first rule.class x
     → ((c : ℕ) → c < length first → IsNext (is_allow_of rules c) (place + 1) (get_or first c None)) → IsNext (is_allow_of rules rule.class) (place + 1) x
 before-it rules place rule first x within is so_far = subst (IsNext (is_allow_of rules rule.class) (place + 1)) (get_or_default first rule.class None x within ∙ sym is) (so_far rule.class within)
+
+-- something stands at a place within
+pub there-at : {X : Type 0} (xs : List X) (i : ℕ) → i < length xs → (x : X) × (slice_get xs i ≡ Some x)
+there-at xs i low = elim (slice_get_cases xs i).1 [
+  | inl there ↦ (there.0, there.2)
+  | inr past ↦ absurd (let high = past.0 in omega (arith, low, high))
+]
+
+-- the class of a rule is below the number of names
+pub class-below : {A : Type 0} (n : ℕ) (rules : List (NumberedRule A)) (i : ℕ) (rule : NumberedRule A) → list_all (is_rule_below n) rules ≡ true → slice_get rules i ≡ Some rule → rule.class < n
+class-below n rules i rule all at =
+    let below = and_parts (is_element_below n rule.source) _ (all-at (is_rule_below n) rules i rule all at) in
+    let aims = and_parts (is_target_below n rule.target) _ below.1 in
+    ltb-true rule.class n (and_parts (nat_lt rule.class n) _ aims.1).0
 
 -- no rule is in at first
 pub none-in : {A : Type 0} (rules : List (NumberedRule A)) (c from : ℕ) → length rules ≤ from → NoneFrom (is_allow_of rules c) from
@@ -170,3 +187,45 @@ empty-index rules index classes from past empty = record {
 pub only-none : (P : Option ℕ → Type 0) → ((x : ℕ) → P (Some x) → ⊥) → (o : Option ℕ) → P o → o ≡ None
 only-none P never None is = refl
 only-none P never (Some x) is = absurd (never x is)
+
+-- the test holds at the next number
+pub next-holds : (test : ℕ → Bool) (from : ℕ) (next : Option ℕ) → IsNext test from next → (j : ℕ) → next ≡ Some j → test j ≡ true
+next-holds test from None none j some = absurd (none-some j some)
+next-holds test from (Some k) is j some = subst (λ n. test n ≡ true) (same_Some k j some) is.holds
+
+module _ {A : Type 0} (s : Search A) (is : IsSearch s) (i : ℕ) (rule : NumberedRule A) (at : slice_get (rules_in s) i ≡ Some rule) where
+  met-at : (j : ℕ) → is_met (rules_in s) i j ≡ is_allow_of (rules_in s) rule.class j
+  met-at j = if-at (λ r. is_allow_of (rules_in s) r.class j) (slice_get (rules_in s) i) rule at
+
+  -- what the index has for the class of a rule
+  pub first-met : (x : Option ℕ) → x ≡ get_or s.index.now.first.items rule.class x → IsNext (is_met (rules_in s) i) 0 x
+  first-met x there =
+      let n = length s.resolved.now.names.items in
+      let low : rule.class < length s.index.now.first.items = (let below = class-below n (rules_in s) i rule s.resolved.now.rules_within at in let long = is.index.classes in omega (arith, below, long)) in
+      subst (IsNext (is_met (rules_in s) i) 0) (get_or_default s.index.now.first.items rule.class None x low ∙ sym there)
+      (subst (λ test. IsNext test 0 (get_or s.index.now.first.items rule.class None)) (λ d j. sym (met-at j) d) (is.index.holds.first rule.class low))
+
+  -- and for the rule
+  pub behind-met : (x : Option ℕ) → x ≡ get_or s.index.now.next.items i x → IsNext (is_met (rules_in s) i) (i + 1) x
+  behind-met x there =
+      let low : i < length s.index.now.next.items = (let below = slice_get_within (rules_in s) i rule at in let long = is.index.rules in omega (arith, below, long)) in
+      subst (IsNext (is_met (rules_in s) i) (i + 1)) (get_or_default s.index.now.next.items i None x low ∙ sym there)
+      (subst (λ test. IsNext test (i + 1) (get_or s.index.now.next.items i None)) (λ d j. sym (met-at j) d) (is.index.holds.next i rule (omega arith) at))
+
+module _ {A : Type 0} (s : Search A) (i : ℕ) where
+  -- the pairs of a rule start at the first allow rule of its class
+  pub pairs-first : (next : Option ℕ) → IsNext (is_met (rules_in s) i) 0 next → hits ((tests_of s).pair i) 0 (length (rules_in s)) ≡ behind ((tests_of s).pair i) (length (rules_in s)) next
+  pairs-first next is =
+      let whole : length (rules_in s) ≡ length (rules_in s) - 0 = omega arith in
+      ap (hits ((tests_of s).pair i) 0) whole
+      ∙ hits-behind ((tests_of s).pair i) (is_met (rules_in s) i) (length (rules_in s)) 0 next (pair-met s i) (met-within (rules_in s) i) is
+
+  -- those behind an allow rule of its class go on at the next one
+  pub pairs-next : (j : ℕ) (next : Option ℕ) → is_met (rules_in s) i j ≡ true → IsNext (is_met (rules_in s) j) (j + 1) next
+      → hits ((tests_of s).pair i) (j + 1) (length (rules_in s) - (j + 1)) ≡ behind ((tests_of s).pair i) (length (rules_in s)) next
+  pairs-next j next met is =
+      hits-behind ((tests_of s).pair i) (is_met (rules_in s) j) (length (rules_in s)) (j + 1) next (λ k pair. sym (met-same (rules_in s) i j k met) ∙ pair-met s i k pair) (met-within (rules_in s) j) is
+
+  -- and it is one of its class too
+  pub next-met : (j : ℕ) (next : Option ℕ) → is_met (rules_in s) i j ≡ true → IsNext (is_met (rules_in s) j) (j + 1) next → (k : ℕ) → next ≡ Some k → is_met (rules_in s) i k ≡ true
+  next-met j next met is k some = met-same (rules_in s) i j k met ∙ next-holds (is_met (rules_in s) j) (j + 1) next is k some

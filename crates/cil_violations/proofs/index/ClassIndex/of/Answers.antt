@@ -1,13 +1,9 @@
 use Rattle.std.proofs.Common.{◌≡◌, ◌∙◌, ◌-◌, ◌+◌, ℕ, Option, None, Some, List, length, replicate, get_or, slice_get, refl, sym, ap, subst, arith}
-use Rattle.std.specs.Prelude.{nat_lt}
-use Rattle.std.proofs.lemmas.Bool.{and_parts, ltb-true}
 use Rattle.std.proofs.lemmas.List.{length-replicate}
 use Rattle.std.proofs.lemmas.Option.{slice_get_read}
-use Rattle.cil_resolve.specs.Below.{is_element_below, is_target_below, is_rule_below}
 use Rattle.cil_violations.specs.Index.{IsIndexFrom}
 use Rattle.cil_violations.specs.declared.index.ClassIndex.{ClassIndex}
-use Rattle.cil_violations.proofs.IndexLemmas.{empty-index, only-none}
-use Rattle.cil_violations.proofs.TestLemmas.{all-at}
+use Rattle.cil_violations.proofs.IndexLemmas.{class-below, empty-index, only-none}
 use Rattle.cil_violations.proofs.index.ClassIndex.of.Goals as goal
 
 pub put-requires-clause-place : goal.put-requires-clause-place
@@ -22,9 +18,7 @@ put-requires-clause-class g c =
     let n = length c.args.resolved.now.names.items in
     let rule = c.index-rules-place.result in
     let at = slice_get_read c.rules-rules.result.now (length c.rules-rules.result.now) (c.loop-place.place - 1) rule refl (let low = c.loop-place.auto.place in let some = c.loop-place-test.true in omega (arith, low, some)) c.index-rules-place.is in
-    let below = and_parts (is_element_below n rule.source) _ (all-at (is_rule_below n) c.rules-rules.result.now (c.loop-place.place - 1) rule c.rules-rules.ensures.within at) in
-    let aims = and_parts (is_target_below n rule.target) _ below.1 in
-    let low = ltb-true rule.class n (and_parts (nat_lt rule.class n) _ aims.1).0 in
+    let low = class-below n c.rules-rules.result.now (c.loop-place.place - 1) rule c.rules-rules.ensures.within at in
     omega (arith, low, m.classes)
 
 pub loop-place-init : goal.loop-place-init
