@@ -1,6 +1,7 @@
 pub mod PermissionLemmas
 pub mod HitLemmas
 pub mod TestLemmas
+pub mod IndexLemmas
 pub mod OrderLemmas
 pub mod FoundLemmas
 pub mod MeaningLemmas

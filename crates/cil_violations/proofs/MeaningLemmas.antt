@@ -38,7 +38,8 @@ use Rattle.cil_sets.proofs.HeldLemmas.{hold-by-numbers}
 use Rattle.cil_specs.specs.Violations.{Violation, IsViolation}
 use Rattle.cil_violations.specs.Aims.{aim_of}
 use Rattle.cil_violations.specs.Permissions.{IsOrdered, is_among, share, shared}
-use Rattle.cil_violations.specs.Rows.{if_there, rules_in, is_kind, permissions_at, takes_source, takes_target, tests_of, IsSearch}
+use Rattle.cil_violations.specs.Index.{if_there, is_kind}
+use Rattle.cil_violations.specs.Rows.{rules_in, permissions_at, takes_source, takes_target, tests_of, IsSearch}
 use Rattle.cil_violations.specs.Lines.{rule_in, no_rule, violation_by}
 use Rattle.cil_violations.specs.declared.row.RowNumbers.{RowNumbers}
 use Rattle.cil_violations.specs.declared.search.Search.{Search}

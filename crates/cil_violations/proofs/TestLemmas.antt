@@ -14,7 +14,8 @@ use Rattle.cil_sets.specs.Members.{AreMembers}
 use Rattle.cil_sets.specs.declared.members.Members.{Members}
 use Rattle.cil_sets.specs.TypeSets.{is_held_in}
 use Rattle.cil_violations.specs.Aims.{aim_of}
-use Rattle.cil_violations.specs.Rows.{if_there, rules_in, takes_source, takes_target, tests_of, IsSearch}
+use Rattle.cil_violations.specs.Index.{if_there}
+use Rattle.cil_violations.specs.Rows.{rules_in, takes_source, takes_target, tests_of, IsSearch}
 use Rattle.cil_violations.specs.declared.search.Search.{Search}
 
 -- what holds of all holds of the one at a place

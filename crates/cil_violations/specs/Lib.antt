@@ -1,4 +1,5 @@
 pub mod Aims
 pub mod Permissions
+pub mod Index
 pub mod Rows
 pub mod Lines

@@ -11,6 +11,7 @@ use Rattle.cil_resolve.specs.declared.numbered.NumberedRule.{NumberedRule}
 use Rattle.cil_resolve.specs.declared.resolved.Resolved.{Resolved}
 use Rattle.cil_sets.specs.Members.{AreMembers}
 use Rattle.cil_specs.specs.Violations.{Violation}
+use Rattle.cil_violations.specs.Index.{if_there, is_kind, IsIndexOf}
 use Rattle.cil_violations.specs.Permissions.{AreOrdered, share, shared}
 use Rattle.cil_sets.specs.TypeSets.{is_held_in}
 use Rattle.cil_violations.specs.Aims.{aim_of}
@@ -48,16 +49,8 @@ pair_rows tests rules names never = flat_map (source_rows tests names never) (hi
 abbrev pub all_rows : Tests → ℕ → ℕ → List RowNumbers
 all_rows tests rules names = flat_map (pair_rows tests rules names) (hits tests.never 0 rules)
 
--- whether there is something of which a test holds
-abbrev pub if_there : {X : Type 0} → (X → Bool) → Option X → Bool
-if_there test None = false
-if_there test (Some x) = test x
-
 abbrev pub rules_in : {A : Type 0} → Search A → List (NumberedRule A)
 rules_in s = s.resolved.now.rules.items
-
-abbrev pub is_kind : {A : Type 0} → ℕ → NumberedRule A → Bool
-is_kind kind r = kind_index (rule_kind_of r.kind) == kind
 
 -- the permissions of the rule at a place, in order
 abbrev pub permissions_at : {A : Type 0} → Search A → ℕ → List ℕ
@@ -77,7 +70,8 @@ tests_of s = record {
   target = λ i j source t. takes_target s i source t && takes_target s j source t;
 }
 
--- the members and the permissions are those of the policy
+-- the members, the permissions and the index are those of the policy
 pub record IsSearch {A : Type 0} (s : Search A) : Type 0 where
   pub members : AreMembers s.resolved.now s.members.now
   pub permissions : AreOrdered (rules_in s) s.permissions.now.0
+  pub index : IsIndexOf s.resolved.now s.index.now

@@ -1,6 +1,7 @@
 //! Violations: what neverallow rules forbid and allow rules give.
 #![tactic(auto)]
 
+mod index;
 mod line;
 mod permissions;
 mod row;

@@ -1,10 +1,12 @@
 //! Looks for violations: pairs of rules of one class first, then the types that they have in common.
 
-ghost use Rattle.std.specs.Prelude.{◌≡◌, ◌++◌, ◌<◌, length, MatchOption, OnOk};
+ghost use Rattle.std.specs.Prelude.{◌≡◌, ◌+◌, ◌++◌, ◌<◌, length, MatchOption, OnOk};
 ghost use Rattle.cil_sets.specs.Search.{NoneFrom, IsFirstFrom};
 ghost use Rattle.cil_violations.specs.Aims.{aim_of};
+ghost use Rattle.cil_violations.specs.Index.{is_met, IsNext};
 ghost use Rattle.cil_violations.specs.Rows.{tests_of, rules_in, IsSearch, target_rows, source_rows, pair_rows, all_rows};
 
+use crate::index::ClassIndex;
 use crate::permissions::share;
 use crate::row::RowNumbers;
 use crate::shared::next_shared;
@@ -14,12 +16,14 @@ use cil_sets::Members;
 use cil_text::RuleKind;
 use std::alloc::{AllocError, Allocator, Global};
 
-/// What violations are looked for in: a policy, the members of its attributes, and the permissions of each rule in order.
+/// What violations are looked for in: a policy, the members of its attributes, the permissions of each rule in order, and the allow rules
+/// of each class.
 #[derive(Clone, Copy)]
 pub struct Search<'r, A: Allocator = Global> {
     pub resolved: &'r Resolved<A>,
     pub members: &'r Members<A>,
     pub permissions: &'r Lists<usize, A>,
+    pub index: &'r ClassIndex<A>,
 }
 
 /// The element that a target takes in for a source.
@@ -39,6 +43,24 @@ impl<A: Allocator> Search<'_, A> {
         ensures { result ≡ (tests_of self.now).never never }
     {
         self.resolved.rules()[never].kind == RuleKind::NeverAllow
+    }
+
+    /// The place of the first allow rule of the class of a rule.
+    fn first_of_class(&self, never: usize) -> Option<usize>
+        requires search { IsSearch self.now }
+        requires never { never < length (rules_in self.now) }
+        ensures { IsNext (is_met (rules_in self.now) never) 0 result }
+    {
+        self.index.first[self.resolved.rules()[never].class]
+    }
+
+    /// The place of the next allow rule of the class of a rule behind it.
+    fn next_of_class(&self, allowed: usize) -> Option<usize>
+        requires search { IsSearch self.now }
+        requires allowed { allowed < length (rules_in self.now) }
+        ensures { IsNext (is_met (rules_in self.now) allowed) (allowed + 1) result }
+    {
+        self.index.next[allowed]
     }
 
     /// Whether the rule at a second place is an allow rule of the class of the first, and they share a permission.
@@ -131,16 +153,18 @@ impl<A: Allocator> Search<'_, A> {
         Ok(())
     }
 
-    /// Appends the violations of a neverallow rule.
+    /// Appends the violations of a neverallow rule. It meets the allow rules of its class alone.
     fn push_pairs(&self, rows: &mut Vec<RowNumbers, A>, never: usize) -> Result<(), AllocError>
         requires search { IsSearch self.now }
         requires never { never < length (rules_in self.now) }
         ensures { OnOk result (rows.new.items ≡ rows.old.items ++ pair_rows (tests_of self.now) (length (rules_in self.now)) (length self.now.resolved.now.names.items) never) }
     {
-        for allowed in 0..self.resolved.rules_len() {
+        let mut next = self.first_of_class(never);
+        while let Some(allowed) = next {
             if self.is_pair(never, allowed) {
                 self.push_sources(rows, never, allowed)?;
             }
+            next = self.next_of_class(allowed);
         }
         Ok(())
     }

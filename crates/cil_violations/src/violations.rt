@@ -8,6 +8,7 @@ ghost use Rattle.cil_sets.specs.Members.{AreMembers};
 ghost use Rattle.cil_specs.specs.Violations.{AreViolations, violation_line, violations_text};
 ghost use Rattle.cil_violations.specs.Lines.{line_by, AreRows};
 
+use crate::index::ClassIndex;
 use crate::line::write_line;
 use crate::permissions::ordered_permissions;
 use crate::row::RowNumbers;
@@ -68,11 +69,13 @@ impl<'r, A: Allocator + Copy> Violations<'r, A> {
     {
         resolved_rules_are_in_order(resolved);
         let permissions = ordered_permissions(alloc, resolved.rules())?;
+        let index = ClassIndex::of(alloc, resolved)?;
         let mut rows = Vec::new(alloc);
         let search = Search {
             resolved,
             members,
             permissions: &permissions,
+            index: &index,
         };
         search.push_all(&mut rows)?;
         Ok(Violations {
