@@ -6,12 +6,12 @@ use Rattle.std.proofs.lemmas.Fmt.{decimal_by_steps}
 use Rattle.std.proofs.lemmas.List.Folds.{list_all-append}
 use Rattle.std.proofs.Math.Dec.{eqb}
 use Rattle.cil_specs.specs.Next.{install}
-use Rattle.cil_specs.specs.Run.{Call, an_edit, ask_rows, ask_dropped}
+use Rattle.cil_specs.specs.Run.{Call, an_edit, ask_rows, ask_violations, ask_dropped}
 use Rattle.cil_specs.specs.Script.{is_shown, AreGoodWords, HasGoodWords, install_line, line_of}
 use Rattle.cil_specs.proofs.Runs.{both_true, first_true, second_true, same_run}
 use Rattle.cil_program.specs.Command.{is_no_space, install_rest, IsLine, IsInstallRest}
 use Rattle.cil_program.specs.declared.script.command.ScriptLine.{ScriptLine}
-use Rattle.cil_program.specs.declared.script.command.ScriptLine.TheVariants.{Install, Rules, Dropped}
+use Rattle.cil_program.specs.declared.script.command.ScriptLine.TheVariants.{Install, Rules, Violations, Dropped}
 
 -- a byte that isn't a space
 other-byte : (b : ℕ) → (b ≡ 32 → ⊥) → is_no_space b ≡ true
@@ -75,6 +75,7 @@ some-line None line first rest split is some = tt
 some-line (Some (Install name priority len)) line first rest split is some =
     (some.0, split ∙ ap (λ l. l ++ 32 ∷ rest) is ∙ ap (λ l. codes "install" ++ 32 ∷ l) some.1 ∙ sym (line-rest name.now priority len))
 some-line (Some Rules) line first rest split is some = absurd some
+some-line (Some Violations) line first rest split is some = absurd some
 some-line (Some Dropped) line first rest split is some = absurd some
 
 -- no command stands on a line whose first word is another, or that has one word
@@ -84,13 +85,15 @@ no-line line first rest split all none (an_edit (install name priority text)) go
     let both = same-words first (codes "install") rest (install_rest name priority (length text)) all refl (sym split ∙ is ∙ line-rest name priority (length text)) in
     none name priority (length text) good both.0 both.1
 no-line line first rest split all none ask_rows good is = has-space first rest (ap (list_all is_no_space) (sym split ∙ is))
+no-line line first rest split all none ask_violations good is = has-space first rest (ap (list_all is_no_space) (sym split ∙ is))
 no-line line first rest split all none ask_dropped good is = has-space first rest (ap (list_all is_no_space) (sym split ∙ is))
 
-pub no-word : (line : List ℕ) → list_all is_no_space line ≡ true → line ≢ codes "rules" → line ≢ codes "dropped" → (call : Call) → HasGoodWords call → line ≡ line_of call → ⊥
-no-word line all other another (an_edit (install name priority text)) good is =
+pub no-word : (line : List ℕ) → list_all is_no_space line ≡ true → line ≢ codes "rules" → line ≢ codes "violations" → line ≢ codes "dropped" → (call : Call) → HasGoodWords call → line ≡ line_of call → ⊥
+no-word line all rules violations dropped (an_edit (install name priority text)) good is =
     has-space (codes "install") (install_rest name priority (length text)) (sym (ap (list_all is_no_space) (is ∙ line-rest name priority (length text))) ∙ all)
-no-word line all other another ask_rows good is = other is
-no-word line all other another ask_dropped good is = another is
+no-word line all rules violations dropped ask_rows good is = rules is
+no-word line all rules violations dropped ask_violations good is = violations is
+no-word line all rules violations dropped ask_dropped good is = dropped is
 
 -- a list of no length is empty
 pub empty-list : (xs : List ℕ) → length xs ≡ 0 → xs ≡ []

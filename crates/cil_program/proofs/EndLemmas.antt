@@ -4,7 +4,7 @@ use Rattle.std.specs.List.{list_all}
 use Rattle.std.proofs.lemmas.Fmt.{decimal_by_steps, decimal_injective}
 use Rattle.std.proofs.lemmas.List.Folds.{list_all-append}
 use Rattle.cil_specs.specs.Next.{install}
-use Rattle.cil_specs.specs.Run.{Call, an_edit, ask_rows, ask_dropped}
+use Rattle.cil_specs.specs.Run.{Call, an_edit, ask_rows, ask_violations, ask_dropped}
 use Rattle.cil_specs.specs.Script.{is_shown, AreGoodWords, HasGoodWords, install_line, line_of, command, MayLackItsEnd, IsNoCommand}
 use Rattle.cil_specs.proofs.Runs.{both_true, first_true, second_true, same_run}
 use Rattle.cil_program.specs.Input.{stays, IsShort}
@@ -34,6 +34,7 @@ both-stay xs ys a b = list_all-append stays xs ys ∙ both_true (list_all stays 
 -- the line of a command has no line feed
 pub line-stays : (call : Call) → HasGoodWords call → list_all stays (line_of call) ≡ true
 line-stays ask_rows good = refl
+line-stays ask_violations good = refl
 line-stays ask_dropped good = refl
 line-stays (an_edit (install name priority text)) good =
     let first : List ℕ = codes "install " ++ name in
@@ -62,11 +63,13 @@ within-line (b ∷ first) (c ∷ other) rest more all e = omega (arith, within-l
 abbrev pub behind : Call → List ℕ
 behind (an_edit (install name priority text)) = text ++ 10 ∷ []
 behind ask_rows = []
+behind ask_violations = []
 behind ask_dropped = []
 
 pub command-line : (call : Call) (rest : List ℕ) → command call ++ rest ≡ line_of call ++ 10 ∷ (behind call ++ rest)
 command-line (an_edit (install name priority text)) rest = append_assoc (line_of (an_edit (install name priority text))) (10 ∷ (text ++ 10 ∷ [])) rest
 command-line ask_rows rest = append_assoc (line_of ask_rows) (10 ∷ []) rest
+command-line ask_violations rest = append_assoc (line_of ask_violations) (10 ∷ []) rest
 command-line ask_dropped rest = append_assoc (line_of ask_dropped) (10 ∷ []) rest
 
 -- the line of an install tells its numbers
@@ -120,6 +123,9 @@ no-text-command name priority size line read more ended held good is all short n
         no-text size read more text rest ended held short none (install-size name other priority second size (length text) good words (sym is ∙ both.0)) (both.1 ∙ append_assoc text (10 ∷ []) rest)
     by ask_rows rest words e =
         let both = same-lines line (line_of ask_rows) (read ++ more) rest all refl e in
+        has-space (codes "install") (install_rest name priority size) (sym (ap (list_all is_no_space) (sym both.0 ∙ is ∙ line-rest name priority size)))
+    by ask_violations rest words e =
+        let both = same-lines line (line_of ask_violations) (read ++ more) rest all refl e in
         has-space (codes "install") (install_rest name priority size) (sym (ap (list_all is_no_space) (sym both.0 ∙ is ∙ line-rest name priority size)))
     by ask_dropped rest words e =
         let both = same-lines line (line_of ask_dropped) (read ++ more) rest all refl e in

@@ -3,7 +3,7 @@ use Rattle.std.proofs.Common.{◌≡◌, ℕ, ◌+◌, true, List, [], ◌∷◌
 use Rattle.std.specs.List.{list_all, AllByRecursion}
 use Rattle.std.proofs.lemmas.Fmt.{decimal_injective}
 use Rattle.cil_specs.specs.Next.{install}
-use Rattle.cil_specs.specs.Run.{Call, an_edit, ask_rows, ask_dropped}
+use Rattle.cil_specs.specs.Run.{Call, an_edit, ask_rows, ask_violations, ask_dropped}
 use Rattle.cil_specs.specs.Script.{AreGoodWords, HasGoodWords, IsCommand, install_line, line_of, command, MayLackItsEnd, End, ends, stops, IsEnd, Commands, whole, without_end}
 use Rattle.cil_specs.proofs.NamesLemmas.{all-first, all-second}
 use Rattle.cil_program.specs.Command.{is_no_space, install_rest}
@@ -49,13 +49,20 @@ same-behind (an_edit (install name priority text)) (an_edit (install other secon
     let texts = same-fronts text more_text (10 ∷ []) (10 ∷ []) same.sizes both.0 in
     (λ i. an_edit (install (same.names i) (same.priorities i) (texts.0 i)), both.1)
 same-behind (an_edit (install name priority text)) ask_rows rest more a b lines e = absurd (no-space-line name priority (length text) (codes "rules") refl lines)
+same-behind (an_edit (install name priority text)) ask_violations rest more a b lines e = absurd (no-space-line name priority (length text) (codes "violations") refl lines)
 same-behind (an_edit (install name priority text)) ask_dropped rest more a b lines e = absurd (no-space-line name priority (length text) (codes "dropped") refl lines)
 same-behind ask_rows (an_edit (install name priority text)) rest more a b lines e = absurd (no-space-line name priority (length text) (codes "rules") refl (sym lines))
+same-behind ask_violations (an_edit (install name priority text)) rest more a b lines e = absurd (no-space-line name priority (length text) (codes "violations") refl (sym lines))
 same-behind ask_dropped (an_edit (install name priority text)) rest more a b lines e = absurd (no-space-line name priority (length text) (codes "dropped") refl (sym lines))
 same-behind ask_rows ask_rows rest more a b lines e = (refl, e)
+same-behind ask_violations ask_violations rest more a b lines e = (refl, e)
 same-behind ask_dropped ask_dropped rest more a b lines e = (refl, e)
+same-behind ask_rows ask_violations rest more a b lines e = absurd (omega (arith, ap length lines))
 same-behind ask_rows ask_dropped rest more a b lines e = absurd (omega (arith, ap length lines))
+same-behind ask_violations ask_rows rest more a b lines e = absurd (omega (arith, ap length lines))
+same-behind ask_violations ask_dropped rest more a b lines e = absurd (omega (arith, ap length lines))
 same-behind ask_dropped ask_rows rest more a b lines e = absurd (omega (arith, ap length lines))
+same-behind ask_dropped ask_violations rest more a b lines e = absurd (omega (arith, ap length lines))
 
 -- a command at the front of bytes is one
 same-command : (c d : Call) (rest more : List ℕ) → HasGoodWords c → HasGoodWords d → command c ++ rest ≡ command d ++ more → (c ≡ d) × (rest ≡ more)
@@ -68,9 +75,14 @@ same-last : (c d : Call) → HasGoodWords c → HasGoodWords d → MayLackItsEnd
 same-last (an_edit edit) d a b may other e = absurd may
 same-last c (an_edit edit) a b may other e = absurd other
 same-last ask_rows ask_rows a b may other e = refl
+same-last ask_violations ask_violations a b may other e = refl
 same-last ask_dropped ask_dropped a b may other e = refl
+same-last ask_rows ask_violations a b may other e = absurd (omega (arith, ap length e))
 same-last ask_rows ask_dropped a b may other e = absurd (omega (arith, ap length e))
+same-last ask_violations ask_rows a b may other e = absurd (omega (arith, ap length e))
+same-last ask_violations ask_dropped a b may other e = absurd (omega (arith, ap length e))
 same-last ask_dropped ask_rows a b may other e = absurd (omega (arith, ap length e))
+same-last ask_dropped ask_violations a b may other e = absurd (omega (arith, ap length e))
 
 -- no command stands at the front of the bytes
 HasNoFront : List ℕ → Type 0
@@ -108,6 +120,7 @@ same-end before rest (stops line) (stops other) a b = ap stops (a.2 ∙ sym b.2)
 not-a-line : (before rest : List ℕ) (end : End) (last : Call) → IsEnd before rest end → IsCommand last → MayLackItsEnd last → rest ≡ line_of last → ⊥
 not-a-line before rest ends (an_edit edit) none is may e = may
 not-a-line before rest ends ask_rows none is may e = omega (arith, ap length (sym none ∙ e))
+not-a-line before rest ends ask_violations none is may e = omega (arith, ap length (sym none ∙ e))
 not-a-line before rest ends ask_dropped none is may e = omega (arith, ap length (sym none ∙ e))
 not-a-line before rest (stops line) last none is may e = none.1.1 last is may e
 

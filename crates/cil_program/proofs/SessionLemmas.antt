@@ -6,7 +6,7 @@ use Rattle.std.proofs.lemmas.Grind.{flat_map-append}
 use Rattle.std.proofs.lemmas.List.{append_cancel_left}
 use Rattle.std.specs.Option.{option_map}
 use Rattle.cil_stream.specs.Device.{Account, Gains, Gives, IsSound, IsLeft, has_ended}
-use Rattle.cil_specs.specs.Run.{Call, Reply, changed_by, refused, listed, dropped_optionals, Run}
+use Rattle.cil_specs.specs.Run.{Call, Reply, changed_by, refused, listed, violated, dropped_optionals, Run}
 use Rattle.cil_specs.specs.Script.{line_of, command, HasGoodWords, IsCommand, MayLackItsEnd, Commands, IsNoCommand, ends, stops, whole, without_end, answer, last_line, is_refusal}
 use Rattle.cil_specs.specs.Session as spec
 use Rattle.cil_specs.specs.Session.{IsSession, all_accepted, some_refused, no_script}
@@ -37,6 +37,7 @@ some-outcome : (reply : Reply) → NoCommand ≡ outcome_of reply → ⊥
 some-outcome (changed_by changes) e = true≢false (ap is_none e)
 some-outcome (refused refusal) e = true≢false (ap is_none e)
 some-outcome (listed rows) e = true≢false (ap is_none e)
+some-outcome (violated violations) e = true≢false (ap is_none e)
 some-outcome (dropped_optionals dropped) e = true≢false (ap is_none e)
 
 -- a question, whose command is its line and a line feed, was answered
@@ -105,6 +106,7 @@ refused-more replies reply outcome status is so_far = ap (λ o. status_of (after
     by : (reply : Reply) → status_of (after_outcome (outcome_of reply) status) ≡ (if list_any is_refusal replies || list_any is_refusal (reply ∷ []) then some_refused else all_accepted)
     by (changed_by changes) = so_far ∙ ap (λ b. if b then some_refused else all_accepted) (sym (without (list_any is_refusal replies)))
     by (listed rows) = so_far ∙ ap (λ b. if b then some_refused else all_accepted) (sym (without (list_any is_refusal replies)))
+    by (violated violations) = so_far ∙ ap (λ b. if b then some_refused else all_accepted) (sym (without (list_any is_refusal replies)))
     by (dropped_optionals dropped) = so_far ∙ ap (λ b. if b then some_refused else all_accepted) (sym (without (list_any is_refusal replies)))
     by (refused refusal) = ap (λ b. if b then some_refused else all_accepted) (sym (with (list_any is_refusal replies)))
 

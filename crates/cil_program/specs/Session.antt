@@ -3,7 +3,7 @@ use Rattle.std.specs.Prelude.{◌≡◌, ℕ, true, List, [], ◌∷◌, ◌++�
 use Rattle.cil_stream.specs.Device.{Account, Gains, Gives, IsLeft, has_ended}
 use Rattle.cil_specs.specs.Store.{Store}
 use Rattle.cil_specs.specs.Next.{install}
-use Rattle.cil_specs.specs.Run.{Call, an_edit, Reply, changed_by, refused, listed, dropped_optionals, Step}
+use Rattle.cil_specs.specs.Run.{Call, an_edit, Reply, changed_by, refused, listed, violated, dropped_optionals, Step}
 use Rattle.cil_specs.specs.Script.{AreGoodWords, HasGoodWords, install_line, line_of, command, MayLackItsEnd, answer}
 use Rattle.cil_specs.specs.Session.{IsSession, all_accepted, some_refused, no_script}
 use Rattle.cil_specs.specs.Session as spec
@@ -37,6 +37,7 @@ abbrev pub outcome_of : Reply → Outcome
 outcome_of (changed_by changes) = Accepted
 outcome_of (refused refusal) = Refused
 outcome_of (listed rows) = Accepted
+outcome_of (violated violations) = Accepted
 outcome_of (dropped_optionals dropped) = Accepted
 
 -- a call was made and its answer written

@@ -2,5 +2,4 @@ pub mod StoredLemmas
 pub mod ParsedLemmas
 pub mod JoinLemmas
 pub mod PlainLemmas
-pub mod UnsupportedLemmas
 pub mod DroppedLemmas

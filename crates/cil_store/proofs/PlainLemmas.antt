@@ -9,8 +9,8 @@ use Rattle.cil_specs.specs.Rule.{Atom, Declared}
 use Rattle.cil_specs.specs.Meaning.{Means, meaning_of, is_in_table}
 use Rattle.cil_specs.specs.Report.{AreAtoms, Changes, AreChanges}
 use Rattle.cil_specs.specs.Store.{Entry, Store, empty, is_highest, active, put}
-use Rattle.cil_specs.specs.Kept.{Optionals, AreKept, restricted, judged, Compiles}
-use Rattle.cil_specs.specs.Next.{AreModules, IsPolicyOf, HasTypesAlone, IsPolicyFaultOf, IsTextFault, install, Refusal, by_store, is_module_name, changed, install_refusal, HasGoodText, IsPolicyRefusal, by_itself, by_its_text, not_taken, bad_policy, good}
+use Rattle.cil_specs.specs.Kept.{Optionals, AreKept, judged, Compiles, IsFirstFault}
+use Rattle.cil_specs.specs.Next.{AreModules, IsPolicyOf, IsTextFault, install, Refusal, by_store, is_module_name, changed, install_refusal, HasGoodText, IsPolicyRefusal, by_itself, by_its_text, not_taken, bad_policy, good}
 use Rattle.cil_specs.specs.Run.{an_edit, changed_by, refused, accepted, rejected, out_of_memory, Step}
 use Rattle.cil_specs.proofs.Runs.{both_true, first_true, second_true}
 use Rattle.cil_text.specs.Image.{FaultIs, kind_of, place_of, shown}
@@ -22,8 +22,9 @@ use Rattle.cil_check.specs.declared.fault.PolicyFault.TheVariants.{Memory, Found
 use Rattle.cil_resolve.specs.Resolved.{meaning_in}
 use Rattle.cil_resolve.specs.declared.resolved.Resolved.{Resolved}
 use Rattle.cil_store.specs.Refusing.{IsRefusalOf, IsRefusalOfText, IsRefusalOfPolicy}
-use Rattle.cil_store.specs.Stored.{entry_for}
-use Rattle.cil_store.specs.Plain.{IsCompiledTo, IsKept, IsRefusedPolicy}
+use Rattle.cil_store.specs.Stored.{AreStored, entry_for}
+use Rattle.cil_store.specs.Plain.{meaning_by, IsCompiledTo, IsKept, IsRefusedPolicy}
+use Rattle.cil_store.specs.declared.policy.Policy.{Policy}
 use Rattle.cil_store.proofs.StoredLemmas.{none-stored, put-stored}
 
 filter-every : (p : Entry → Bool) (xs : List Entry) → AllByRecursion (λ x. p x ≡ true) xs → filter p xs ≡ xs
@@ -57,22 +58,21 @@ pub active-all : (store : Store) → store.disabled ≡ [] → list_all (λ o. o
 active-all store none all = filter-every (λ e. not (list_any (bytes_eq e.name) store.disabled) && is_highest store.entries e) store.entries (each-active store.disabled store.entries store.entries none all all)
 
 -- the entries after an install are all active
-changed-active : (store : Store) (table : List Atom) (dropped : List Declared) (name text : List ℕ) → IsKept store table dropped
+changed-active : (store : Store) (name text : List ℕ) → AreStored store.entries → store.disabled ≡ []
     → active (changed store (install name 400 text)) ≡ put (entry_for name text) store.entries
-changed-active store table dropped name text kept =
-    active-all (changed store (install name 400 text)) kept.enabled (put-stored (entry_for name text) store.entries refl kept.stored).one_priority
+changed-active store name text stored enabled = active-all (changed store (install name 400 text)) enabled (put-stored (entry_for name text) store.entries refl stored).one_priority
 
 -- the policy of the store after an install
-pub changed-policy : (store : Store) (table : List Atom) (dropped : List Declared) (name text : List ℕ) (modules : List Module) → IsKept store table dropped
+pub changed-policy : (store : Store) (name text : List ℕ) (modules : List Module) → AreStored store.entries → store.disabled ≡ []
     → AreModules (put (entry_for name text) store.entries) modules → IsPolicyOf (changed store (install name 400 text)) (joined modules)
-changed-policy store table dropped name text modules kept are = (modules, subst (λ es. AreModules es modules) (sym (changed-active store table dropped name text kept)) are, refl)
+changed-policy store name text modules stored enabled are = (modules, subst (λ es. AreModules es modules) (sym (changed-active store name text stored enabled)) are, refl)
 
-pub policy-refused : (fault : PolicyFault) (refusal : Refusal) (store : Store) (table : List Atom) (dropped : List Declared) (name text : List ℕ) (modules : List Module) → IsKept store table dropped
-    → AreModules (put (entry_for name text) store.entries) modules → PolicyFaultIs fault (IsPolicyFaultOf (joined modules)) → IsRefusalOfPolicy fault refusal → IsRefusedPolicy store name text refusal
-policy-refused Memory refusal store table dropped name text modules kept are first is = inl is
-policy-refused (Found kind module_name at word) refusal store table dropped name text modules kept are first (inl is) = inl is
-policy-refused (Found kind module_name at word) refusal store table dropped name text modules kept are first (inr is) =
-    inr (joined modules, _, changed-policy store table dropped name text modules kept are, first, is)
+pub policy-refused : (fault : PolicyFault) (refusal : Refusal) (store : Store) (name text : List ℕ) (modules : List Module) → AreStored store.entries → store.disabled ≡ []
+    → AreModules (put (entry_for name text) store.entries) modules → PolicyFaultIs fault (IsFirstFault (joined modules)) → IsRefusalOfPolicy fault refusal → IsRefusedPolicy store name text refusal
+policy-refused Memory refusal store name text modules stored enabled are first is = inl is
+policy-refused (Found kind module_name at word) refusal store name text modules stored enabled are first (inl is) = inl is
+policy-refused (Found kind module_name at word) refusal store name text modules stored enabled are first (inr is) =
+    inr (joined modules, _, changed-policy store name text modules stored enabled are, first, is)
 
 -- the set of no optional
 abbrev no_optional : Optionals
@@ -90,32 +90,33 @@ none-judged _ = refl
 none-wrong : Compiles no_optional []
 none-wrong fault h = absurd (omega (arith, ap length (sym h.split ∙ none-judged fault.kind), length-append h.before (h.s ∷ h.after)))
 
-none-attribute : HasTypesAlone []
-none-attribute fault h = absurd (omega (arith, h.is_in.1))
-
+-- no access is in its table
 no-atoms : AreAtoms (is_in_table (meaning_of [] [])) []
 unfolding IsStrictlySortedBy
 no-atoms = record { ordered = tt; exact = λ a. ((λ has. absurd (omega (arith, has.1))), λ e. absurd (true≢false (sym e))) }
 
-pub kept-empty : (table : List Atom) (dropped : List Declared) → table ≡ [] → dropped ≡ [] → IsKept empty table dropped
-kept-empty table dropped none nothing = record {
+pub kept-empty : {A : Type 0} (policy : Option (Policy A)) (table : List Atom) (dropped : List Declared) → policy ≡ None → table ≡ [] → dropped ≡ [] → IsKept empty policy table dropped
+kept-empty policy table dropped no_policy none nothing = subst (λ p. IsKept empty p table dropped) (sym no_policy) (record {
   stored = none-stored;
   enabled = refl;
   is_compiled = record {
-    meaning = meaning_of [] [];
-    is_meaning = record { policy = []; kept = no_optional; is_policy = ([], tt, refl); means = record { are_kept = none-kept; compiles = none-wrong; is = refl }; types_alone = none-attribute };
+    is_meaning = record { policy = []; kept = no_optional; is_policy = ([], tt, refl); means = record { are_kept = none-kept; compiles = none-wrong; is = refl } };
     are_atoms = subst (AreAtoms (is_in_table (meaning_of [] []))) (sym none) no-atoms;
     are_dropped = nothing;
   };
-}
+})
 
--- what the store after an install compiles to, by the resolved policy
-pub compiled-to : {A : Type 0} (store : Store) (table atoms : List Atom) (dropped others : List Declared) (name text : List ℕ) (modules : List Module) (r : Resolved A) → IsKept store table dropped
-    → AreModules (put (entry_for name text) store.entries) modules → (kept : Optionals) × Means (joined modules) kept (meaning_in r) × HasTypesAlone (restricted kept (joined modules)) → AreAtoms (is_in_table (meaning_in r)) atoms
-    → others ≡ (meaning_in r).dropped → IsCompiledTo (changed store (install name 400 text)) atoms others
-compiled-to store table atoms dropped others name text modules r kept are means are_atoms are_dropped = record {
-  meaning = meaning_in r;
-  is_meaning = record { policy = joined modules; kept = means.0; is_policy = changed-policy store table dropped name text modules kept are; means = means.1; types_alone = means.2 };
+-- what the store after an install compiles to, by the policy that it resolves to
+pub compiled-to : {A : Type 0} (store : Store) (atoms : List Atom) (dropped : List Declared) (name text : List ℕ) (modules : List Module) (resolved : Resolved A) (policy : Policy A) → AreStored store.entries → store.disabled ≡ []
+    → AreModules (put (entry_for name text) store.entries) modules → (kept : Optionals) × Means (joined modules) kept (meaning_in resolved) → policy.resolved ≡ resolved → AreAtoms (is_in_table (meaning_in policy.resolved)) atoms
+    → dropped ≡ (meaning_in policy.resolved).dropped → IsCompiledTo (changed store (install name 400 text)) (Some policy) atoms dropped
+compiled-to store atoms dropped name text modules resolved policy stored enabled are means same are_atoms are_dropped = record {
+  is_meaning = record {
+    policy = joined modules;
+    kept = means.0;
+    is_policy = changed-policy store name text modules stored enabled are;
+    means = subst (λ r. Means (joined modules) means.0 (meaning_in r)) (sym same) means.1;
+  };
   are_atoms = are_atoms;
   are_dropped = are_dropped;
 }
@@ -160,24 +161,23 @@ policy-step store name text priority refusal taken good_text (inr policy) =
     (subst (λ p. IsPolicyRefusal (changed store (install name p text)) refusal) (sym (taken-priority name priority (length text) taken)) policy) refl) refl
 
 -- the step of an install that was made
-pub accepted-step : (store : Store) (old atoms : List Atom) (dropped others : List Declared) (name text : List ℕ) (priority : ℕ) (changes : Changes) → install_refusal name priority (length text) ≡ None → HasGoodText (install name 400 text)
-    → IsKept store old dropped → IsCompiledTo (changed store (install name 400 text)) atoms others → ((p q : Atom → Bool) → AreAtoms p old → AreAtoms q atoms → AreChanges p q changes)
+pub accepted-step : {A : Type 0} (store : Store) (first second : Option (Policy A)) (old atoms : List Atom) (dropped others : List Declared) (name text : List ℕ) (priority : ℕ) (changes : Changes) → install_refusal name priority (length text) ≡ None
+    → HasGoodText (install name 400 text) → IsCompiledTo store first old dropped → IsCompiledTo (changed store (install name 400 text)) second atoms others → ((p q : Atom → Bool) → AreAtoms p old → AreAtoms q atoms → AreChanges p q changes)
     → Step store (an_edit (install name priority text)) (changed_by changes) (changed store (install name 400 text))
-accepted-step store old atoms dropped others name text priority changes taken good_text kept made between =
-    let before = kept.is_compiled.meaning in
+accepted-step store first second old atoms dropped others name text priority changes taken good_text was made between =
     accepted (install name priority text) changes refl refl (record {
-      next = good (changed store (install name 400 text)) made.meaning
+      next = good (changed store (install name 400 text)) (meaning_by second)
           (record { not_refused = taken; good_text = good_text; is = ap (λ p. changed store (install name p text)) (sym (taken-priority name priority (length text) taken)) }) made.is_meaning refl;
-      before = before;
-      after = made.meaning;
-      meant = kept.is_compiled.is_meaning;
+      before = meaning_by first;
+      after = meaning_by second;
+      meant = was.is_meaning;
       means = made.is_meaning;
-      are_changes = between (is_in_table before) (is_in_table made.meaning) kept.is_compiled.are_atoms made.are_atoms;
+      are_changes = between (is_in_table (meaning_by first)) (is_in_table (meaning_by second)) was.are_atoms made.are_atoms;
     })
 
-pub kept-changed : (store : Store) (old atoms : List Atom) (dropped others : List Declared) (name text : List ℕ) → IsKept store old dropped → IsCompiledTo (changed store (install name 400 text)) atoms others
-    → IsKept (changed store (install name 400 text)) atoms others
-kept-changed store old atoms dropped others name text kept made = record { stored = put-stored (entry_for name text) store.entries refl kept.stored; enabled = kept.enabled; is_compiled = made }
+pub kept-changed : {A : Type 0} (store : Store) (policy : Option (Policy A)) (atoms : List Atom) (dropped : List Declared) (name text : List ℕ) → AreStored store.entries → store.disabled ≡ []
+    → IsCompiledTo (changed store (install name 400 text)) policy atoms dropped → IsKept (changed store (install name 400 text)) policy atoms dropped
+kept-changed store policy atoms dropped name text stored enabled made = record { stored = put-stored (entry_for name text) store.entries refl stored; enabled = enabled; is_compiled = made }
 
 -- an install that the store refuses by its line
 pub line-step : (store : Store) (name text : List ℕ) (priority : ℕ) (refusal meant : Refusal) → install_refusal name priority (length text) ≡ Some meant → IsRefusalOf refusal meant → Step store (an_edit (install name priority text)) (refused refusal) store

@@ -3,4 +3,3 @@ pub mod Calls
 pub mod Stored
 pub mod Refusing
 pub mod Plain
-pub mod Unsupported

@@ -24,7 +24,7 @@ pub record AreStored (entries : List spec.Entry) : Type 0 where
 abbrev pub IsNamedAt : List spec.Entry → ℕ → List ℕ → Type 0
 IsNamedAt entries place name = MatchOption (slice_get entries place) ⊥ (λ e. e.name ≡ name)
 
--- the text spells the statements of a parsed module, all of which are compiled
+-- the text spells the statements of a parsed module
 pub record IsParsedOf {A : Type 0} (text : List ℕ) (p : ParsedModule A) : Type 0 where
   pub statements : Statements
   pub is_text : IsModuleText text statements

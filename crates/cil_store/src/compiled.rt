@@ -3,8 +3,9 @@
 ghost use Rattle.std.specs.Prelude.{◌≡◌, ◌≤◌, List, IfOk, OnErr, IsErrOf, length, flat_map};
 ghost use Rattle.cil_stream.specs.Device.{HasFailed, Gains, GainsFront};
 ghost use Rattle.cil_specs.specs.Report.{Row, row_line};
-ghost use Rattle.cil_specs.specs.Run.{an_edit, AreRowsOf, AreDroppedOf, Step};
+ghost use Rattle.cil_specs.specs.Run.{an_edit, AreRowsOf, AreViolationsOf, AreDroppedOf, Step};
 ghost use Rattle.cil_specs.specs.Store.{Store};
+ghost use Rattle.cil_specs.specs.Violations.{Violation, violations_text};
 ghost use Rattle.cil_store.specs.Calls.{edit_reply};
 ghost use Rattle.cil_store.specs.Edits.{edit_of};
 
@@ -49,6 +50,14 @@ pub trait Compiled<A: Allocator + Copy> {
     fn write_listing<W: Sink>(&self, sink: &mut W) -> Result<usize, WriteFault>
         ensures ok { IfOk result (λ n. (rows : List Row) × AreRowsOf (store self.now) rows × (n ≡ length rows) × Gains (W.taken sink.old) (W.taken sink.new) (flat_map row_line rows)) }
         ensures err { OnErr result ((rows : List Row) × AreRowsOf (store self.now) rows × GainsFront (W.taken sink.old) (W.taken sink.new) (flat_map row_line rows)) }
+        ensures memory { IsErrOf result WriteFault.Memory → W.taken sink.new ≡ W.taken sink.old }
+        ensures failed { IsErrOf result WriteFault.Sink → HasFailed (W.failures sink.old) (W.failures sink.new) }
+        ensures counted { W.failures sink.old ≤ W.failures sink.new };
+
+    /// Writes the violations of neverallow rules, a line for each, and tells how many there are.
+    fn write_violations<W: Sink>(&self, sink: &mut W) -> Result<usize, WriteFault>
+        ensures ok { IfOk result (λ n. (violations : List Violation) × AreViolationsOf (store self.now) violations × (n ≡ length violations) × Gains (W.taken sink.old) (W.taken sink.new) (violations_text violations)) }
+        ensures err { IsErrOf result WriteFault.Sink → (violations : List Violation) × AreViolationsOf (store self.now) violations × GainsFront (W.taken sink.old) (W.taken sink.new) (violations_text violations) }
         ensures memory { IsErrOf result WriteFault.Memory → W.taken sink.new ≡ W.taken sink.old }
         ensures failed { IsErrOf result WriteFault.Sink → HasFailed (W.failures sink.old) (W.failures sink.new) }
         ensures counted { W.failures sink.old ≤ W.failures sink.new };

@@ -11,10 +11,10 @@ mod join;
 mod laws;
 mod modules;
 mod plain;
+mod policy;
 mod refusal;
 mod refusing;
 mod runs;
-mod unsupported;
 
 pub use call::{Call, Reply};
 pub use compiled::{Compiled, WriteFault};

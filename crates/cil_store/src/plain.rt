@@ -1,6 +1,6 @@
 //! The plain engine, which compiles its store anew at each edit.
 
-ghost use Rattle.std.specs.Prelude.{◌≡◌, ℕ, Bool, List, None, length, IfOk, IfErr, OnOk, OnErr};
+ghost use Rattle.std.specs.Prelude.{◌≡◌, ℕ, Bool, List, None, Some, length, IfOk, IfErr, OnOk, OnErr};
 ghost use Rattle.cil_specs.specs.Next.{install, changed, install_refusal};
 ghost use Rattle.cil_specs.specs.Run.{Step, an_edit, changed_by, refused};
 ghost use Rattle.cil_specs.specs.Rule.{Atom};
@@ -20,10 +20,11 @@ use crate::entry::Entry;
 use crate::from_text::parse;
 use crate::join::join;
 use crate::modules::Store;
+use crate::policy::Policy;
 use crate::refusal::{Refusal, check_install};
 use crate::refusing::{refuse_install, refuse_policy, refuse_text};
 use cil_parse::ParsedModule;
-use cil_resolve::{ResolvedTypes, resolve_types};
+use cil_resolve::{Resolved, resolve};
 use cil_rules::{Changes, Rows, Table};
 use cil_stream::Sink;
 use std::alloc::{AllocError, Allocator, Global};
@@ -32,37 +33,43 @@ use std::marker::Model;
 /// What a store with one more module compiles to, and how its table differs from the one before.
 #[derive(Drop)]
 struct Made<A: Allocator> {
+    policy: Policy<A>,
     table: Table<A>,
     dropped: Dropped<A>,
     changes: Changes<A>,
 }
 
-/// The table of a policy and the optionals that drop, and how it differs from another table.
+/// A policy with its table and the optionals that drop, and how the table differs from another.
 fn tabulate<A: Allocator + Copy>(
     alloc: A,
     old: &Table<A>,
-    policy: ResolvedTypes<A>,
+    resolved: Resolved<A>,
 ) -> Result<Made<A>, AllocError>
-    ensures table { IfOk result (λ made. AreAtoms (is_in_table (meaning_in policy.resolved)) made.table) }
-    ensures dropped { IfOk result (λ made. made.dropped ≡ (meaning_in policy.resolved).dropped) }
+    ensures policy { IfOk result (λ made. made.policy.resolved ≡ resolved) }
+    ensures table { IfOk result (λ made. AreAtoms (is_in_table (meaning_in made.policy.resolved)) made.table) }
+    ensures dropped { IfOk result (λ made. made.dropped ≡ (meaning_in made.policy.resolved).dropped) }
     ensures changes { IfOk result (λ made. (p q : Atom → Bool) → AreAtoms p old.now → AreAtoms q made.table → AreChanges p q made.changes) }
 {
+    let policy = Policy::of(alloc, resolved)?;
     let dropped = Dropped::of(alloc, &policy.resolved)?;
-    let table = Table::of(alloc, policy)?;
+    let table = policy.table(alloc)?;
     let changes = Changes::between(alloc, old, &table)?;
     Ok(Made {
+        policy,
         table,
         dropped,
         changes,
     })
 }
 
-/// A store, the table of its accesses and the optionals that drop. At an edit the text that it brings is parsed, the changed store is
-/// compiled anew from its parsed modules, and what it compiles to put in place of the old where nothing is against it.
+/// A store and what it compiles to: its policy, which an empty store has none of, the table of its accesses, and the optionals that
+/// drop. At an edit the text that it brings is parsed, the changed store is compiled anew from its parsed modules, and what it
+/// compiles to put in place of the old where nothing is against it.
 #[derive(Drop)]
 pub struct Plain<A: Allocator = Global> {
     alloc: A,
     store: Store<A>,
+    policy: Option<Policy<A>>,
     table: Table<A>,
     dropped: Dropped<A>,
 }
@@ -75,7 +82,7 @@ impl<A: Allocator> Model for Plain<A> {
 
     ghost view = { λ p. p.store };
 
-    ghost invariant = { λ p. IsKept p.store p.table p.dropped };
+    ghost invariant = { λ p. IsKept p.store p.policy p.table p.dropped };
 }
 
 impl<A: Allocator + Copy> Plain<A> {
@@ -86,6 +93,7 @@ impl<A: Allocator + Copy> Plain<A> {
         Plain {
             alloc,
             store: Store::new(alloc),
+            policy: None,
             table: Table::empty(alloc),
             dropped: Dropped::empty(alloc),
         }
@@ -109,17 +117,17 @@ impl<A: Allocator + Copy> Plain<A> {
     /// What the store with one more module compiles to.
     fn compile(&self, name: &[u8], module: &ParsedModule<A>) -> Result<Made<A>, Refusal<A>>
         requires { (text : List ℕ) × IsParsedOf text «module».now }
-        ensures ok { IfOk result (λ made. (text : List ℕ) → IsParsedOf text «module».now → IsCompiledTo (changed self.now (install name.now 400 text)) made.table made.dropped) }
+        ensures ok { IfOk result (λ made. (text : List ℕ) → IsParsedOf text «module».now → IsCompiledTo (changed self.now (install name.now 400 text)) (Some made.policy) made.table made.dropped) }
         ensures changes { IfOk result (λ made. (text : List ℕ) → IsParsedOf text «module».now → install_refusal name.now 400 (length text) ≡ None
             → Step self.now (an_edit (install name.now 400 text)) (changed_by made.changes) (changed self.now (install name.now 400 text))) }
         ensures err { IfErr result (λ refusal. (text : List ℕ) → IsParsedOf text «module».now → IsRefusedPolicy self.now name.now text (refusal_of refusal)) }
     {
         let joined = join(self.alloc, &self.store, name, module)?;
-        let policy = match resolve_types(self.alloc, &joined) {
-            Ok(policy) => policy,
+        let resolved = match resolve(self.alloc, &joined) {
+            Ok(resolved) => resolved,
             Err(fault) => return Err(refuse_policy(self.alloc, fault)),
         };
-        let made = tabulate(self.alloc, &self.table, policy)?;
+        let made = tabulate(self.alloc, &self.table, resolved)?;
         Ok(made)
     }
 
@@ -132,12 +140,13 @@ impl<A: Allocator + Copy> Plain<A> {
     ) -> Result<Changes<A>, AllocError>
         requires priority { entry.priority ≡ 400 }
         requires parsed { IsParsedOf entry.text.now «module» }
-        requires made { IsCompiledTo (changed self.old (install entry.name.now 400 entry.text.now)) made.table made.dropped }
+        requires made { IsCompiledTo (changed self.old (install entry.name.now 400 entry.text.now)) (Some made.policy) made.table made.dropped }
         ensures ok { OnOk result (self.new ≡ changed self.old (install entry.entry.name.now 400 entry.entry.text.now)) }
         ensures changes { IfOk result (λ changes. changes ≡ made.changes) }
         ensures err { OnErr result (self.new ≡ self.old) }
     {
         self.store.put(self.alloc, entry, module)?;
+        self.policy = Some(made.policy);
         self.table = made.table;
         self.dropped = made.dropped;
         Ok(made.changes)
@@ -183,6 +192,13 @@ impl<A: Allocator + Copy> Compiled<A> for Plain<A> {
         match self.table.write_listing(sink) {
             Ok(rows) => Ok(rows),
             Err(_) => Err(WriteFault::Sink),
+        }
+    }
+
+    fn write_violations<W: Sink>(&self, sink: &mut W) -> Result<usize, WriteFault> {
+        match &self.policy {
+            Some(policy) => policy.write_violations(self.alloc, sink),
+            None => Ok(0),
         }
     }
 }

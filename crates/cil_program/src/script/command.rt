@@ -21,6 +21,7 @@ pub enum ScriptLine<'a> {
         len: u32,
     },
     Rules,
+    Violations,
     Dropped,
 }
 
@@ -123,6 +124,9 @@ pub fn script_line<'a>(line: &'a [u8]) -> Option<ScriptLine<'a>>
 {
     if is_word(line, b"rules") {
         return Some(ScriptLine::Rules);
+    }
+    if is_word(line, b"violations") {
+        return Some(ScriptLine::Violations);
     }
     if is_word(line, b"dropped") {
         return Some(ScriptLine::Dropped);

@@ -2,7 +2,7 @@
 
 ghost use Rattle.std.specs.Prelude.{◌≡◌, ◌≢◌, ◌≤◌, [], List, ℕ, IfOk, OnOk, OnErr, IsErrOf, IsTrue};
 ghost use Rattle.cil_stream.specs.Device.{HasFailed, HasEnded, Gains, has_ended};
-ghost use Rattle.cil_specs.specs.Run.{an_edit, ask_rows, ask_dropped};
+ghost use Rattle.cil_specs.specs.Run.{an_edit, ask_rows, ask_violations, ask_dropped};
 ghost use Rattle.cil_specs.specs.Script.{refusal_line};
 ghost use Rattle.cil_store.specs.Edits.{edit_of, store_refusal_of};
 ghost use Rattle.cil_program.specs.Input.{Fits};
@@ -84,6 +84,29 @@ fn answer_rows<W: Sink, A: Allocator + Copy, C: Compiled<A>>(
     match engine.write_listing(sink) {
         Ok(rows) => {
             reply::write_end(sink, rows)?;
+            Ok(Outcome::Accepted)
+        }
+        Err(WriteFault::Memory) => {
+            reply::write_no_memory(sink)?;
+            Ok(Outcome::Refused)
+        }
+        Err(WriteFault::Sink) => Err(SinkFault),
+    }
+}
+
+/// Answers the question for the violations.
+fn answer_violations<W: Sink, A: Allocator + Copy, C: Compiled<A>>(
+    sink: &mut W,
+    engine: &C,
+) -> Result<Outcome, SinkFault>
+    ensures ok { IfOk result (λ outcome. HasAnswered ask_violations outcome (record { store = C.store engine.now; taken = W.taken sink.old })
+        (record { store = C.store engine.now; taken = W.taken sink.new })) }
+    ensures failed { OnErr result (HasFailed (W.failures sink.old) (W.failures sink.new)) }
+    ensures counted { W.failures sink.old ≤ W.failures sink.new }
+{
+    match engine.write_violations(sink) {
+        Ok(violations) => {
+            reply::write_end(sink, violations)?;
             Ok(Outcome::Accepted)
         }
         Err(WriteFault::Memory) => {
@@ -250,6 +273,7 @@ fn answer_line<S: Source, W: Sink, A: Allocator + Copy, C: Compiled<A>>(
     };
     match asked {
         ScriptLine::Rules => Ok(answer_rows(sink, engine)?),
+        ScriptLine::Violations => Ok(answer_violations(sink, engine)?),
         ScriptLine::Dropped => Ok(answer_dropped(sink, engine)?),
         ScriptLine::Install {
             name,

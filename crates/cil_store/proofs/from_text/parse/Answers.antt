@@ -1,21 +1,8 @@
-use Rattle.cil_specs.specs.Next.{IsTextFault, in_shape, not_compiled}
+use Rattle.cil_specs.specs.Next.{IsTextFault, in_shape}
 use Rattle.cil_specs.specs.Shape.{IsFirstShapeFault}
-use Rattle.cil_text.specs.Image.{statements_of}
 use Rattle.cil_text.specs.Forest.{forest_of}
 use Rattle.cil_text.proofs.FirstBad.{handed_on, fault_weaker}
 use Rattle.cil_store.proofs.from_text.parse.Goals as goal
-
-pub returns-in_err-shape-clause-err : goal.returns-in_err-shape-clause-err
-returns-in_err-shape-clause-err g c =
-    let bytes = c.args.text.now in
-    let trees = forest_of c.in_ok-forest.forest in
-    let fault = c.in_err-shape.field-0.0 in
-    handed_on (IsTextFault bytes) c.from_residual-in_err-shape.result fault c.from_residual-in_err-shape.ensures.1
-    (fault_weaker (IsFirstShapeFault trees) (IsTextFault bytes) fault (λ f h. in_shape trees c.in_ok-forest.ensures.ok h) c.in_err-shape.ensures.err)
-
-pub returns-in-Some-clause-err : goal.returns-in-Some-clause-err
-returns-in-Some-clause-err g c =
-    not_compiled (forest_of c.in_ok-forest.forest) (statements_of c.in_ok-shape.field-0.statements.items) c.in_ok-forest.ensures.ok c.in_ok-shape.ensures.ok c.in-Some.ensures.some
 
 pub returns-in_err-parsed-clause-err : goal.returns-in_err-parsed-clause-err
 returns-in_err-parsed-clause-err g c =
@@ -29,8 +16,4 @@ pub returns-clause-ok : goal.returns-clause-ok
 returns-clause-ok g c =
     let trees = forest_of c.in_ok-forest.forest in
     let made = c.in_ok-parsed.ensures.ok in
-    record {
-      statements = made.statements;
-      is_text = record { trees = trees; reads = c.in_ok-forest.ensures.ok; shapes = made.shapes; compiled = c.in_default.ensures.none };
-      spells = made.spells;
-    }
+    record { statements = made.statements; is_text = record { trees = trees; reads = c.in_ok-forest.ensures.ok; shapes = made.shapes }; spells = made.spells }
