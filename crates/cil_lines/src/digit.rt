@@ -1,6 +1,6 @@
 //! One binary digit of the counters of a line.
 
-ghost use Rattle.std.specs.Prelude.{◌≡◌, ◌≢◌, ◌+◌, ◌<◌, ◌≤◌, ◌^◌, ℕ, length, slice_index, if◌then◌else◌, ltb, OnOk, MatchResult};
+ghost use Rattle.std.specs.Prelude.{◌≡◌, ◌≢◌, ◌+◌, ◌/◌, ◌<◌, ◌≤◌, ◌^◌, ℕ, length, max, slice_index, vec_capacity, if◌then◌else◌, ltb, OnOk, MatchResult};
 ghost use Rattle.cil_lines.specs.Digit.{bits_in, bits_of, HasPlace, IsEntry, IsGap, IsLast, IsNext, Rises};
 
 use std::alloc::{AllocError, Allocator, Global};
@@ -9,6 +9,9 @@ use std::marker::Model;
 // Entries go over to the dense words where these would be no more than so many for each entry. An entry has the
 // size of two words.
 const SPAN: usize = 4;
+
+// Where a list grows it gets room for one item in so many to spare: it seldom moves, and little of it stays unused.
+const SPARE: usize = 8;
 
 /// The bits of one word.
 #[derive(Clone, Copy, Debug)]
@@ -34,6 +37,18 @@ impl<A: Allocator> Model for Digit<A> {
     ghost view = { λ d. record { dense = d.dense.items; sparse = d.sparse.items } };
 
     ghost invariant = { λ d. (length d.dense.items ≤ 2 ^ 58) × Rises (length d.dense.items) (2 ^ 58) d.sparse.items };
+}
+
+/// Makes room for a list to reach a length.
+fn reserve<T, A: Allocator>(items: &mut Vec<T, A>, len: usize) -> Result<(), AllocError>
+    ensures same { items.new.items ≡ items.old.items }
+    ensures room { OnOk result (len ≤ vec_capacity items.new) }
+    ensures spare { vec_capacity items.new ≤ max (vec_capacity items.old) (len + len / 8) }
+{
+    if len <= items.capacity() {
+        return Ok(());
+    }
+    items.reserve_exact((len - items.len()).saturating_add(len / SPARE))
 }
 
 /// The place of a word's entry, or the place where it would stand.
@@ -111,6 +126,8 @@ impl<A: Allocator + Copy> Digit<A> {
         if (last - self.dense.len()) / SPAN <= self.sparse.len() {
             self.spread(alloc, last + 1)
         } else {
+            let len = self.sparse.len() + 1;
+            reserve(&mut self.sparse, len)?;
             self.sparse.insert(place, Entry { word, bits: 0 })?;
             Ok(())
         }
@@ -124,6 +141,7 @@ impl<A: Allocator + Copy> Digit<A> {
         ensures len { OnOk result (length self.new.dense ≡ end) }
         ensures bits { (w : ℕ) → bits_of self.new w ≡ bits_of self.old w }
     {
+        reserve(&mut self.dense, end)?;
         self.dense.resize(end, 0)?;
         fill(&mut self.dense, &self.sparse);
         self.sparse = Vec::new(alloc);

@@ -99,6 +99,7 @@ pub fn make_room<A: Allocator + Copy>(
     if carry != 0 {
         let mut digit = Digit::new(alloc);
         digit.make_place(alloc, word)?;
+        digits.reserve_exact(1)?;
         digits.push(digit)?;
     }
     Ok(())

@@ -8,7 +8,7 @@ returns-in_ok-push-clause-room g c =
     let d = c.make_place.new.self in
     let none = c.in_ok-make_place.ensures.bits c.args.word ∙ c.new-digit.ensures c.args.word in
     let stored = with_items_is c.args.digits.now c.make_places.new.digits (c.make_places.ensures.len ∙ c.deref_mut.ensures.len) in
-    rw (c.in_ok-push.ensures.items, stored) (c.in_ok-carry.ensures.room (d ∷ []) (room-last d c.args.word c.in_ok-carry.carry c.in_ok-make_place.ensures.place none))
+    rw (c.in_ok-push.ensures.items, c.reserve_exact.ensures.items, stored) (c.in_ok-carry.ensures.room (d ∷ []) (room-last d c.args.word c.in_ok-carry.carry c.in_ok-make_place.ensures.place none))
 
 pub returns-in_ok-push-clause-now : goal.returns-in_ok-push-clause-now
 returns-in_ok-push-clause-now g c w b =
@@ -16,4 +16,4 @@ returns-in_ok-push-clause-now g c w b =
     let none = c.in_ok-make_place.ensures.bits w ∙ c.new-digit.ensures w in
     let stored = with_items_is c.args.digits.now c.make_places.new.digits (c.make_places.ensures.len ∙ c.deref_mut.ensures.len) in
     let before = rw c.deref_mut.ensures.value at (c.in_ok-carry.ensures.now w b) in
-    rw (c.in_ok-push.ensures.items, stored) (value-append c.make_places.new.digits d w b none ∙ before)
+    rw (c.in_ok-push.ensures.items, c.reserve_exact.ensures.items, stored) (value-append c.make_places.new.digits d w b none ∙ before)

@@ -29,7 +29,7 @@ pub invariant_of-self-else-last-len : goal.invariant_of-self-else-last-len
 invariant_of-self-else-last-len g c =
     let gap : IsGap c.self.inside.sparse.items c.args.word c.args.place = rw (← c.self.view_is) at c.requires.gap in
     let behind : length c.self.inside.dense.items ≤ c.args.word = rw (← c.self.view_is) at c.requires.behind in
-    (c.self.invariant.0, rw c.in_ok-insert.ensures.items (Rises-insert _ _ c.self.inside.sparse.items c.args.word 0 c.args.place c.self.invariant.1 gap behind c.requires.word))
+    (c.self.invariant.0, rw (c.in_ok-insert.ensures.items, c.reserve.ensures.same) (Rises-insert _ _ c.self.inside.sparse.items c.args.word 0 c.args.place c.self.invariant.1 gap behind c.requires.word))
 
 pub returns-then-last-len-clause-place : goal.returns-then-last-len-clause-place
 returns-then-last-len-clause-place g c =
@@ -39,9 +39,9 @@ returns-then-last-len-clause-place g c =
 pub returns-in_ok-insert-clause-place : goal.returns-in_ok-insert-clause-place
 returns-in_ok-insert-clause-place g c =
     let gap : IsGap c.self.inside.sparse.items c.args.word c.args.place = rw (← c.self.view_is) at c.requires.gap in
-    rw c.in_ok-insert.ensures.items (place-insert c.self.inside.dense.items c.self.inside.sparse.items c.args.word c.args.place gap.within)
+    rw (c.in_ok-insert.ensures.items, c.reserve.ensures.same) (place-insert c.self.inside.dense.items c.self.inside.sparse.items c.args.word c.args.place gap.within)
 
 pub returns-in_ok-insert-clause-bits : goal.returns-in_ok-insert-clause-bits
 returns-in_ok-insert-clause-bits g c w =
     let gap : IsGap c.self.inside.sparse.items c.args.word c.args.place = rw (← c.self.view_is) at c.requires.gap in
-    rw (← c.self.view_is, c.in_ok-insert.ensures.items) (bits-insert c.self.inside.dense.items c.self.inside.sparse.items c.args.word c.args.place gap w)
+    rw (← c.self.view_is, c.in_ok-insert.ensures.items, c.reserve.ensures.same) (bits-insert c.self.inside.dense.items c.self.inside.sparse.items c.args.word c.args.place gap w)

@@ -1,4 +1,4 @@
-use Rattle.std.proofs.Common.{◌≡◌, ◌≤◌, ◌<◌, ℕ, ◌∙◌, refl, length, get_or, arith, rules, inl, inr}
+use Rattle.std.proofs.Common.{◌≡◌, ◌≤◌, ◌<◌, ℕ, ◌∙◌, ap, refl, length, get_or, arith, rules, inl, inr}
 use Rattle.std.proofs.lemmas.Bool.{cases_lt}
 use Rattle.std.proofs.lemmas.List.{with_items_is}
 use Rattle.std.proofs.Math.ListN.{get_or-eq_default}
@@ -22,7 +22,7 @@ returns-clause-bits g c w =
     let longer : length c.fill.new.words ≡ c.args.end = c.fill.ensures.len ∙ long in
     let rises : Rises (length l) c.args.end es = rw (← c.self.view_is) at c.requires.rises in
     let behind : length l ≤ c.args.end = rw (← c.self.view_is) at c.requires.behind in
-    let kept : (v : ℕ) → v < length l → get_or l' v 0 ≡ get_or l v 0 = λ v first. rw c.deref_mut.ensures.value (c.in_ok-resize.ensures.by_index.0 v 0 (omega (arith, behind, first)) (search rules)) in
+    let kept : (v : ℕ) → v < length l → get_or l' v 0 ≡ get_or l v 0 = λ v first. rw c.deref_mut.ensures.value (c.in_ok-resize.ensures.by_index.0 v 0 (omega (arith, behind, first)) (search rules) ∙ ap (λ m. get_or m v 0) c.reserve.ensures.same) in
     let none : (v : ℕ) → length l ≤ v → get_or l' v 0 ≡ 0 = λ v later.
     elim (cases_lt v c.args.end) [
       | inl within ↦ rw c.deref_mut.ensures.value (c.in_ok-resize.ensures.by_index.1 v 0 refl (search rules) within)
