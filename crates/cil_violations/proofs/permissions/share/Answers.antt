@@ -1,4 +1,4 @@
-use Rattle.std.proofs.Common.{◌≡◌, ◌∙◌, ◌<◌, get_or, sym, arith}
+use Rattle.std.proofs.Common.{◌∙◌, ◌<◌, get_or, sym, arith}
 use Rattle.cil_violations.proofs.ShareLemmas.{share-less, share-greater, share-end-second}
 use Rattle.cil_violations.proofs.permissions.share.Goals as goal
 
