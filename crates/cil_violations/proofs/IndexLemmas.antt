@@ -1,5 +1,5 @@
 -- The allow rules of each class, found one after the other.
-use Rattle.std.proofs.Common.{◌≡◌, ◌≢◌, ◌∙◌, inl, inr, ℕ, zero, suc, ◌+◌, ◌-◌, ◌<◌, ◌≤◌, ◌==◌, ◌&&◌, Bool, true, false, List, [], ◌∷◌, length, get_or, set, replicate, Option, Some, None, slice_get, refl, sym, ap, subst, arith, add-one, true≢false}
+use Rattle.std.proofs.Common.{◌≡◌, ◌∙◌, inl, inr, ℕ, zero, suc, ◌+◌, ◌-◌, ◌<◌, ◌≤◌, ◌==◌, ◌&&◌, Bool, true, false, List, [], length, get_or, set, replicate, Option, Some, None, slice_get, refl, sym, ap, subst, arith, true≢false}
 use Rattle.std.specs.Prelude.{nat_lt}
 use Rattle.std.specs.List.{list_all}
 use Rattle.std.proofs.lemmas.Bool.{ltb-true, and_parts, and_from, cases_eq, eqb-true, eq-eqb, ne_eqb}
@@ -12,7 +12,7 @@ use Rattle.cil_text.specs.declared.statement.RuleKind.{RuleKind}
 use Rattle.cil_text.specs.declared.statement.RuleKind.TheVariants.{Allow, AuditAllow, DontAudit, NeverAllow}
 use Rattle.cil_resolve.specs.Below.{is_element_below, is_target_below, is_rule_below}
 use Rattle.cil_resolve.specs.declared.numbered.NumberedRule.{NumberedRule}
-use Rattle.cil_sets.specs.Search.{NoneFrom, IsFirstFrom}
+use Rattle.cil_sets.specs.Search.{NoneFrom}
 use Rattle.cil_violations.specs.Index.{if_there, is_kind, is_allow_of, is_met, IsNext, IsIndexFrom}
 use Rattle.cil_violations.specs.Rows.{hits, rules_in, permissions_at, tests_of, IsSearch}
 use Rattle.cil_violations.specs.Permissions.{share}
@@ -162,6 +162,7 @@ hits-behind test wide all from next implies within is = by next is
         at : (b : Bool) → test n ≡ b → b ≡ false
         at true holds = absurd (true≢false (sym (implies n holds) ∙ fails_wide))
         at false holds = refl
+
     by : (o : Option ℕ) → IsNext wide from o → hits test from (all - from) ≡ behind test all o
     by None none = hits-none test (all - from) from (λ n low. fails n (none n low))
     by (Some first) found =

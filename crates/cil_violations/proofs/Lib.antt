@@ -1,4 +1,5 @@
 pub mod PermissionLemmas
+pub mod ShareLemmas
 pub mod HitLemmas
 pub mod TestLemmas
 pub mod IndexLemmas

@@ -3,7 +3,6 @@ use Rattle.std.proofs.Common.{◌≡◌, ◌∙◌, ℕ, Bool, true, false, cond
 use Rattle.std.specs.List.{filter}
 use Rattle.std.specs.Prelude.{slice_index_or}
 use Rattle.std.proofs.lemmas.List.Folds.{flat_map-map}
-use Rattle.cil_specs.specs.Rule.{Rule}
 use Rattle.cil_stream.specs.Device.{Gains, GainsFront}
 use Rattle.cil_stream.proofs.Gaining.{gains-both, gains-then_front, front-longer}
 use Rattle.cil_resolve.specs.Views.{RuleHead, rule_head}

@@ -1,27 +1,15 @@
 -- What passes the tests by numbers violates by names, and the other way round.
-use Rattle.std.proofs.Common.{◌≡◌, ◌≢◌, ◌↔◌, ◌∙◌, inl, inr, ℕ, ◌==◌, ◌&&◌, ◌<◌, ◌≤◌, Bool, true, false, List, [], ◌∷◌, length, map, get_or, Option, Some, None, slice_get, Contains, bytes_eq, refl, sym, ap, subst, arith, true≢false, eqb-true, eq-eqb}
+use Rattle.std.proofs.Common.{◌≡◌, ◌∙◌, ℕ, ◌==◌, ◌<◌, true, List, length, map, Some, slice_get, Contains, bytes_eq, sym, ap, subst, eqb-true, eq-eqb}
 use Rattle.std.specs.Bool.{IsTrue}
-use Rattle.std.specs.List.{AllByRecursion, list_all, list_any, filter}
+use Rattle.std.specs.List.{list_all, list_any}
 use Rattle.std.specs.Option.{option_map}
 use Rattle.std.specs.Prelude.{nat_lt}
-use Rattle.std.specs.List.Sorted.{IsStrictlySortedBy}
-use Rattle.std.specs.Ordering.{nat_cmp}
 use Rattle.std.proofs.lemmas.Bool.{ltb-true, and_parts, and_from}
-use Rattle.std.proofs.lemmas.List.{get_or-map, length-map}
-use Rattle.std.proofs.lemmas.List.Kept.{IsStrictlySortedBy-filter}
-use Rattle.std.proofs.lemmas.Option.{same_Some, slice_get_within, slice_get-get_or, get_or_from_slice_get, slice_get-map}
+use Rattle.std.proofs.lemmas.Option.{slice_get-map}
 use Rattle.std.proofs.lemmas.Slice.Eq.{bytes_eq-Decides}
-use Rattle.cil_specs.specs.Statements.{RuleKind, allow, neverallow}
-use Rattle.cil_specs.specs.Rule as spec
-use Rattle.cil_specs.specs.Rule.{kind_index}
-use Rattle.cil_specs.specs.Meaning.{Meaning, keeps_type, holds, aims, covers}
-use Rattle.cil_specs.specs.Members.{keeps_element}
-use Rattle.cil_specs.specs.Report.{name_cmp}
-use Rattle.cil_specs.proofs.ReportLemmas.{name_total, same-kind, sorted_from_names_rise}
-use Rattle.cil_specs.proofs.ReportLemmasMembers.{AnyByRecursion, any_from, any-map, any_from_map, any-filter, any_from_filter, any_from_test, test_from_any, contains_to, contains_from, any_weaker, sorted_map}
-use Rattle.cil_text.specs.Image.{rule_kind_of}
+use Rattle.cil_specs.specs.Meaning.{holds, aims, covers}
+use Rattle.cil_specs.proofs.ReportLemmasMembers.{AnyByRecursion, any_from, any-map, any_from_map, any-filter, any_from_filter, any_from_test, test_from_any, contains_to, contains_from, any_weaker}
 use Rattle.cil_expression.specs.declared.expression.Element.{Element}
-use Rattle.cil_expression.specs.declared.expression.Element.TheVariants.{«Type», Attribute}
 use Rattle.cil_resolve.specs.Below.{is_element_below, is_target_below, is_rule_below}
 use Rattle.cil_resolve.specs.Consistent.{is_rule_of, is_element_of, is_aim_of}
 use Rattle.cil_resolve.specs.Numbers.{rule_of, element_of, resolved_target_of}
@@ -31,21 +19,12 @@ use Rattle.cil_resolve.specs.declared.numbered.NumberedRule.{NumberedRule}
 use Rattle.cil_resolve.specs.declared.numbered.ResolvedTarget.{ResolvedTarget}
 use Rattle.cil_resolve.specs.declared.numbered.ResolvedTarget.TheVariants as targets
 use Rattle.cil_resolve.specs.declared.resolved.Resolved.{Resolved}
-use Rattle.cil_resolve.proofs.RisingNames.{same-name, same-number}
+use Rattle.cil_resolve.proofs.RisingNames.{same-name}
 use Rattle.cil_sets.specs.TypeSets.{is_held_in, HoldByNumbers}
 use Rattle.cil_sets.specs.declared.members.Members.{Members}
-use Rattle.cil_sets.proofs.HeldLemmas.{hold-by-numbers}
-use Rattle.cil_specs.specs.Violations.{Violation, IsViolation}
 use Rattle.cil_violations.specs.Aims.{aim_of}
-use Rattle.cil_violations.specs.Permissions.{IsOrdered, is_among, share, shared}
-use Rattle.cil_violations.specs.Index.{if_there, is_kind}
-use Rattle.cil_violations.specs.Rows.{rules_in, permissions_at, takes_source, takes_target, tests_of, IsSearch}
-use Rattle.cil_violations.specs.Lines.{rule_in, no_rule, violation_by}
-use Rattle.cil_violations.specs.declared.row.RowNumbers.{RowNumbers}
-use Rattle.cil_violations.specs.declared.search.Search.{Search}
-use Rattle.cil_violations.proofs.OrderLemmas.{ranked}
-use Rattle.cil_violations.proofs.TestLemmas.{all-at, is-there, if-at}
-use Rattle.cil_violations.proofs.FoundLemmas.{Passes}
+use Rattle.cil_violations.specs.Permissions.{is_among, share, shared}
+use Rattle.cil_violations.proofs.TestLemmas.{all-at}
 
 pub bytes-same : (xs ys : List ℕ) → bytes_eq xs ys ≡ true → xs ≡ ys
 bytes-same xs ys e = (bytes_eq-Decides xs ys).0 e

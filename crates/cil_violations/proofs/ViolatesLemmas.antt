@@ -1,5 +1,5 @@
 -- The rows that pass the tests are the violations of the policy, in order.
-use Rattle.std.proofs.Common.{◌≡◌, ◌≢◌, ◌↔◌, ◌∙◌, inl, inr, ℕ, zero, suc, ◌==◌, ◌&&◌, ◌<◌, Bool, true, false, List, [], ◌∷◌, ◌++◌, length, map, get_or, Option, Some, slice_get, Contains, bytes_eq, Ordering, Less, Equal, refl, sym, ap, subst, arith, eqb-true, eq-eqb}
+use Rattle.std.proofs.Common.{◌≡◌, ◌≢◌, ◌∙◌, inl, inr, ℕ, ◌==◌, ◌&&◌, ◌<◌, Bool, true, List, [], ◌∷◌, length, map, Some, slice_get, Contains, bytes_eq, Ordering, Less, Equal, refl, sym, ap, subst, arith, eqb-true, eq-eqb}
 use Rattle.std.specs.Bool.{IsTrue}
 use Rattle.std.specs.Prelude.{nat_lt}
 use Rattle.std.specs.List.{AllByRecursion, list_all, list_any}
@@ -27,7 +27,6 @@ use Rattle.cil_resolve.specs.Sets.{name_in}
 use Rattle.cil_resolve.specs.declared.numbered.NumberedRule.{NumberedRule}
 use Rattle.cil_resolve.specs.declared.numbered.ResolvedTarget.{ResolvedTarget}
 use Rattle.cil_resolve.specs.declared.numbered.ResolvedTarget.TheVariants as targets
-use Rattle.cil_resolve.specs.declared.resolved.Resolved.{Resolved}
 use Rattle.cil_resolve.proofs.RisingNames.{same-number}
 use Rattle.cil_sets.specs.TypeSets.{is_held_in, HoldByNumbers}
 use Rattle.cil_sets.proofs.HeldLemmas.{hold-by-numbers}

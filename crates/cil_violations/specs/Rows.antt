@@ -1,18 +1,10 @@
 -- Violations by numbers.
-use Rattle.std.specs.Prelude.{◌≡◌, ◌&&◌, ◌==◌, ◌<◌, ℕ, zero, suc, Bool, false, List, [], ◌∷◌, Option, Some, None, length, map, slice_get, slice_index_or, if◌then◌else◌}
-use Rattle.std.specs.List.{flat_map, All}
-use Rattle.cil_specs.specs.Rule as spec
-use Rattle.cil_specs.specs.Rule.{kind_index}
-use Rattle.cil_text.specs.Image.{rule_kind_of}
-use Rattle.cil_resolve.specs.Numbers.{rule_of}
-use Rattle.cil_resolve.specs.Resolved.{meaning_in}
-use Rattle.cil_resolve.specs.Sets.{name_in}
+use Rattle.std.specs.Prelude.{◌&&◌, ◌==◌, ℕ, zero, suc, Bool, List, [], ◌∷◌, slice_get, slice_index_or, if◌then◌else◌}
+use Rattle.std.specs.List.{flat_map}
 use Rattle.cil_resolve.specs.declared.numbered.NumberedRule.{NumberedRule}
-use Rattle.cil_resolve.specs.declared.resolved.Resolved.{Resolved}
 use Rattle.cil_sets.specs.Members.{AreMembers}
-use Rattle.cil_specs.specs.Violations.{Violation}
 use Rattle.cil_violations.specs.Index.{if_there, is_kind, IsIndexOf}
-use Rattle.cil_violations.specs.Permissions.{AreOrdered, share, shared}
+use Rattle.cil_violations.specs.Permissions.{AreOrdered, share}
 use Rattle.cil_sets.specs.TypeSets.{is_held_in}
 use Rattle.cil_violations.specs.Aims.{aim_of}
 use Rattle.cil_violations.specs.declared.row.RowNumbers.{RowNumbers}

@@ -46,13 +46,22 @@ pub fn is_among(permission: usize, others: &[usize]) -> bool
     false
 }
 
-/// Whether two lists share a permission.
+/// Whether two lists in order share a permission. It goes along both at once.
 pub fn share(first: &[usize], second: &[usize]) -> bool
+    requires first { IsStrictlySortedBy nat_cmp first.now }
+    requires second { IsStrictlySortedBy nat_cmp second.now }
     ensures { result ≡ share first.now second.now }
 {
-    for permission in first {
-        if is_among(*permission, second) {
+    let mut at = 0;
+    let mut other = 0;
+    while at < first.len() && other < second.len() {
+        if first[at] == second[other] {
             return true;
+        }
+        if first[at] < second[other] {
+            at += 1;
+        } else {
+            other += 1;
         }
     }
     false

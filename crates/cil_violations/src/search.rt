@@ -4,7 +4,8 @@ ghost use Rattle.std.specs.Prelude.{◌≡◌, ◌+◌, ◌++◌, ◌<◌, lengt
 ghost use Rattle.cil_sets.specs.Search.{NoneFrom, IsFirstFrom};
 ghost use Rattle.cil_violations.specs.Aims.{aim_of};
 ghost use Rattle.cil_violations.specs.Index.{is_met, IsNext};
-ghost use Rattle.cil_violations.specs.Rows.{tests_of, rules_in, IsSearch, target_rows, source_rows, pair_rows, all_rows};
+ghost use Rattle.cil_violations.specs.Permissions.{share};
+ghost use Rattle.cil_violations.specs.Rows.{tests_of, rules_in, permissions_at, IsSearch, target_rows, source_rows, pair_rows, all_rows};
 
 use crate::index::ClassIndex;
 use crate::permissions::share;
@@ -63,6 +64,16 @@ impl<A: Allocator> Search<'_, A> {
         self.index.next[allowed]
     }
 
+    /// Whether two rules share a permission.
+    fn share_permission(&self, never: usize, allowed: usize) -> bool
+        requires search { IsSearch self.now }
+        requires never { never < length (rules_in self.now) }
+        requires allowed { allowed < length (rules_in self.now) }
+        ensures { result ≡ share (permissions_at self.now never) (permissions_at self.now allowed) }
+    {
+        share(self.permissions.get(never), self.permissions.get(allowed))
+    }
+
     /// Whether the rule at a second place is an allow rule of the class of the first, and they share a permission.
     fn is_pair(&self, never: usize, allowed: usize) -> bool
         requires search { IsSearch self.now }
@@ -74,7 +85,7 @@ impl<A: Allocator> Search<'_, A> {
         let other = &rules[allowed];
         other.kind == RuleKind::Allow
             && other.class == rules[never].class
-            && share(self.permissions.get(never), self.permissions.get(allowed))
+            && self.share_permission(never, allowed)
     }
 
     /// The first type from a number on that is in the sources of both rules.

@@ -1,5 +1,4 @@
-use Rattle.std.proofs.Common.{rules}
-use Rattle.cil_stream.proofs.Gaining.{on_err, gains-pieces_front, gains-pieces_more}
+use Rattle.cil_stream.proofs.Gaining.{on_err, gains-pieces_front}
 use Rattle.cil_violations.specs.Lines.{shared_text}
 use Rattle.cil_violations.proofs.line.write_permissions.Goals as goal
 

@@ -1,4 +1,4 @@
-use Rattle.std.proofs.Common.{◌≡◌, ◌<◌, ◌∙◌, ◌++◌, ◌∷◌, ◌+◌, ℕ, refl, [], Some, slice_get, length, get_or, ap, sym, subst, arith, length-append}
+use Rattle.std.proofs.Common.{◌≡◌, ◌∙◌, ◌++◌, ◌∷◌, refl, [], length, get_or, ap, sym, subst, arith, length-append}
 use Rattle.std.proofs.lemmas.Option.{slice_get_read, slice_get_within}
 use Rattle.cil_violations.specs.Permissions.{IsOrdered}
 use Rattle.cil_violations.proofs.PermissionLemmas.{each-more}

@@ -1,4 +1,4 @@
-use Rattle.std.proofs.Common.{◌≡◌, ◌∙◌, ◌-◌, ◌+◌, ℕ, Option, None, Some, List, length, replicate, get_or, slice_get, refl, sym, ap, subst, arith}
+use Rattle.std.proofs.Common.{◌≡◌, ◌∙◌, ◌-◌, ◌+◌, ℕ, Option, None, length, replicate, slice_get, refl, sym, ap, subst, arith}
 use Rattle.std.proofs.lemmas.List.{length-replicate}
 use Rattle.std.proofs.lemmas.Option.{slice_get_read}
 use Rattle.cil_violations.specs.Index.{IsIndexFrom}
@@ -7,7 +7,7 @@ use Rattle.cil_violations.proofs.IndexLemmas.{class-below, empty-index, only-non
 use Rattle.cil_violations.proofs.index.ClassIndex.of.Goals as goal
 
 pub put-requires-clause-place : goal.put-requires-clause-place
-put-requires-clause-place g c = 
+put-requires-clause-place g c =
     let m = c.loop-place.invariant in
     let long = ap length c.rules-rules.ensures.rules in
     omega (arith, long, m.rules, c.loop-place.auto.place, c.loop-place-test.true)

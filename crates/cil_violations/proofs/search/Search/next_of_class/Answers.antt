@@ -1,5 +1,3 @@
-use Rattle.std.proofs.Common.{get_or, ◌∷◌}
-use Rattle.std.proofs.lemmas.Option.{slice_get_cases}
 use Rattle.cil_violations.specs.Rows.{rules_in}
 use Rattle.cil_violations.proofs.IndexLemmas.{behind-met, there-at}
 use Rattle.cil_violations.proofs.search.Search.next_of_class.Goals as goal

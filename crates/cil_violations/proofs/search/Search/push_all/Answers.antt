@@ -1,4 +1,4 @@
-use Rattle.std.proofs.Common.{◌≡◌, ◌∙◌, ◌-◌, ◌+◌, ◌<◌, ◌++◌, length, flat_map, ap, sym, arith}
+use Rattle.std.proofs.Common.{◌∙◌, ◌-◌, ◌+◌, ◌<◌, ◌++◌, length, flat_map, ap, sym, arith}
 use Rattle.std.proofs.lemmas.List.{length-map}
 use Rattle.cil_resolve.specs.Numbers.{rule_of}
 use Rattle.cil_violations.specs.Rows.{hits, tests_of, rules_in, pair_rows}

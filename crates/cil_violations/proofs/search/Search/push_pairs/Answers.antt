@@ -1,4 +1,4 @@
-use Rattle.std.proofs.Common.{◌≡◌, ◌∙◌, ◌-◌, ◌+◌, ◌<◌, ◌++◌, ◌∷◌, true, Some, length, flat_map, ap, sym, subst}
+use Rattle.std.proofs.Common.{◌∙◌, ◌-◌, ◌<◌, ◌++◌, ◌∷◌, length, flat_map, ap, sym, subst}
 use Rattle.cil_violations.specs.Index.{is_met}
 use Rattle.cil_violations.specs.Rows.{hits, tests_of, rules_in, source_rows}
 use Rattle.cil_violations.proofs.HitLemmas.{hits-here, hits-past, done-more, done-same, done-all}

@@ -1,4 +1,4 @@
-use Rattle.std.proofs.Common.{◌≡◌, ◌∙◌, ◌-◌, ◌+◌, ◌++◌, length, flat_map, ap, arith}
+use Rattle.std.proofs.Common.{◌∙◌, ◌-◌, ◌+◌, ◌++◌, length, flat_map, ap, arith}
 use Rattle.cil_violations.specs.Rows.{hits, tests_of, target_rows}
 use Rattle.cil_violations.proofs.HitLemmas.{hits-next, hits-none, done-more, done-all}
 use Rattle.cil_violations.proofs.TestLemmas.{source-below}

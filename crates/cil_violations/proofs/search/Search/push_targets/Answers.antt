@@ -1,5 +1,5 @@
-use Rattle.std.proofs.Common.{◌≡◌, ◌∙◌, ◌-◌, ◌+◌, ◌++◌, ◌∷◌, [], length, flat_map, ap, arith}
-use Rattle.cil_violations.specs.Rows.{hits, row_with, tests_of, target_rows}
+use Rattle.std.proofs.Common.{◌∙◌, ◌-◌, ◌+◌, ◌++◌, ◌∷◌, [], length, flat_map, ap, arith}
+use Rattle.cil_violations.specs.Rows.{hits, row_with, tests_of}
 use Rattle.cil_violations.proofs.HitLemmas.{hits-next, hits-none, done-more, done-all}
 use Rattle.cil_violations.proofs.TestLemmas.{target-below}
 use Rattle.cil_violations.proofs.search.Search.push_targets.Goals as goal

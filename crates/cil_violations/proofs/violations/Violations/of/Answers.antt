@@ -1,4 +1,4 @@
-use Rattle.std.proofs.Common.{◌≡◌, ◌∙◌, ◌++◌, length, map, sym, ap, subst}
+use Rattle.std.proofs.Common.{◌∙◌, ◌++◌, length, map, sym, ap, subst}
 use Rattle.cil_resolve.specs.Resolved.{meaning_in}
 use Rattle.cil_specs.specs.Violations.{AreViolations}
 use Rattle.cil_violations.specs.Permissions.{AreOrdered}
