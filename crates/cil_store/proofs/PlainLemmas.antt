@@ -1,17 +1,18 @@
 -- What the plain engine keeps, and what its steps lead to.
-use Rattle.std.proofs.Common.{◌≡◌, ◌==◌, ◌||◌, ◌&&◌, ◌≤◌, inl, inr, ℕ, Bool, true, false, not, cond, nat_le, nat_lt, if◌then◌else◌, List, [], ◌∷◌, filter, length, bytes_eq, Option, Some, None, is_some, decimal, refl, ap, sym, ◌∙◌, subst, true≢false, length-append, arith}
+use Rattle.std.proofs.Common.{◌≡◌, ◌==◌, ◌||◌, ◌&&◌, ◌≤◌, inl, inr, ℕ, Bool, true, false, not, cond, nat_le, nat_lt, if◌then◌else◌, List, [], ◌∷◌, filter, length, bytes_eq, Option, Some, None, is_some, decimal, Contains, refl, ap, sym, ◌∙◌, subst, true≢false, length-append, arith}
 use Rattle.std.specs.List.{list_all, list_any, AllByRecursion}
 use Rattle.std.proofs.lemmas.Bool.{eqb-true, ltb-false}
 use Rattle.cil_specs.specs.Joined.{Module, joined}
 use Rattle.std.specs.List.Sorted.{IsStrictlySortedBy}
 use Rattle.cil_specs.specs.PolicyFault.{PolicyFaultKind, twice}
-use Rattle.cil_specs.specs.Rule.{Atom, Declared}
+use Rattle.cil_specs.specs.Rule.{Rule, Atom, Declared}
 use Rattle.cil_specs.specs.Meaning.{Means, meaning_of, is_in_table}
 use Rattle.cil_specs.specs.Report.{AreAtoms, Changes, AreChanges}
+use Rattle.cil_specs.specs.Violations.{AreViolations}
 use Rattle.cil_specs.specs.Store.{Entry, Store, empty, is_highest, active, put}
 use Rattle.cil_specs.specs.Kept.{Optionals, AreKept, judged, Compiles, IsFirstFault}
 use Rattle.cil_specs.specs.Next.{AreModules, IsPolicyOf, IsTextFault, install, Refusal, by_store, is_module_name, changed, install_refusal, HasGoodText, IsPolicyRefusal, by_itself, by_its_text, not_taken, bad_policy, good}
-use Rattle.cil_specs.specs.Run.{an_edit, changed_by, refused, accepted, rejected, out_of_memory, Step}
+use Rattle.cil_specs.specs.Run.{an_edit, changed_by, refused, AreViolationsOf, accepted, rejected, out_of_memory, Step}
 use Rattle.cil_specs.proofs.Runs.{both_true, first_true, second_true}
 use Rattle.cil_text.specs.Image.{FaultIs, kind_of, place_of, shown}
 use Rattle.cil_text.specs.declared.fault.TextFault.{TextFault}
@@ -94,6 +95,18 @@ none-wrong fault h = absurd (omega (arith, ap length (sym h.split ∙ none-judge
 no-atoms : AreAtoms (is_in_table (meaning_of [] [])) []
 unfolding IsStrictlySortedBy
 no-atoms = record { ordered = tt; exact = λ a. ((λ has. absurd (omega (arith, has.1))), λ e. absurd (true≢false (sym e))) }
+
+not-in-none : (r : Rule) → Contains [] r → ⊥
+not-in-none r has = omega (arith, has.1)
+
+-- no violation is in its report
+no-violations : AreViolations (meaning_of [] []) []
+unfolding IsStrictlySortedBy
+no-violations = record { ordered = tt; exact = λ v. ((λ has. absurd (omega (arith, has.1))), λ is. absurd (not-in-none v.never is.never)) }
+
+-- where no policy is kept the store has no violation
+pub none-violated : {A : Type 0} (store : Store) (policy : Option (Policy A)) (table : List Atom) (dropped : List Declared) → policy ≡ None → IsCompiledTo store policy table dropped → AreViolationsOf store []
+none-violated store policy table dropped none compiled = (meaning_by policy, compiled.is_meaning, subst (λ p. AreViolations (meaning_by p) []) (sym none) no-violations)
 
 pub kept-empty : {A : Type 0} (policy : Option (Policy A)) (table : List Atom) (dropped : List Declared) → policy ≡ None → table ≡ [] → dropped ≡ [] → IsKept empty policy table dropped
 kept-empty policy table dropped no_policy none nothing = subst (λ p. IsKept empty p table dropped) (sym no_policy) (record {

@@ -18,6 +18,9 @@ returns-in_err-made g c =
     rw (made.1, made.2) (policy-step c.args.self.now c.args.name.now c.args.text.now c.args.priority (refusal_of c.in_err-made.field-0.0) c.in_ok-module.ensures.taken (parsed.statements, parsed.is_text)
     (c.in_err-made.ensures.err c.args.text.now parsed))
 
+pub replace-requires-clause-priority : goal.replace-requires-clause-priority
+replace-requires-clause-priority g c = taken-priority c.args.name.now c.args.priority (length c.args.text.now) c.in_ok-module.ensures.taken
+
 pub replace-requires-clause-made : goal.replace-requires-clause-made
 replace-requires-clause-made g c = c.in_ok-made.ensures.ok c.args.text.now c.in_ok-module.ensures.ok
 
