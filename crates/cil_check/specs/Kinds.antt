@@ -33,4 +33,3 @@ is_kind _ _ = false
 abbrev pub again_words : Association → List Placed → List Placed → Placed → List Word
 again_words Actual policy before s = alias_twice_words policy before s
 again_words Common policy before s = second_common_words policy before s
-

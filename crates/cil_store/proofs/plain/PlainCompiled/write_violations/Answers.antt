@@ -6,8 +6,7 @@ use Rattle.cil_store.proofs.plain.PlainCompiled.write_violations.Goals as goal
 
 pub returns-in-None-clause-ok : goal.returns-in-None-clause-ok
 returns-in-None-clause-ok g c =
-    let self = c.self.inside in
-    (
+    let self = c.self.inside in (
       [],
       subst (λ s. AreViolationsOf s []) c.self.view_is (none-violated self.store self.policy self.table self.dropped c.in-None.is c.self.invariant.is_compiled),
       refl,
