@@ -60,7 +60,7 @@ const LINES: &[(&[u8], &str)] = &[
         b"rules\ndisable m\nremove m 400\nfrob\nrules\n",
         "end 0\nscript 2\n",
     ),
-    (b"rules\nviolations\n", "end 0\nscript 2\n"),
+    (b"rules\nviolation\n", "end 0\nscript 2\n"),
     (b"dropped\ndropped \n", "end 0\nscript 2\n"),
     (b"rules\nmodules\n", "end 0\nscript 2\n"),
     (b"rules\ndump\n", "end 0\nscript 2\n"),

@@ -186,10 +186,10 @@ const FAULTS: &[(&[u8], &str)] = &[
         b"(type a)(typealias x)(optional o (typealiasactual x a))(optional r (typealiasactual x a))",
         "refused 44 m:1:85 x\n",
     ),
-    // A rule of an attribute is refused where it is kept, and not where it drops.
+    // A word of the wrong kind is refused where it is kept, and not where it drops.
     (
-        b"(class p (use))(type a)(typeattribute s)(optional o (allow a s (p (use))))",
-        "refused 43 m:1:62 s\n",
+        b"(class p (use))(type a)(typeattribute s)(optional o (typealias x)(typealiasactual x s))",
+        "refused 43 m:1:84 s\n",
     ),
     (
         b"(class p (use))(type a)(typeattribute s)(optional o (allow a s (p (no))))",

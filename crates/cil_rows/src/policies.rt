@@ -45,8 +45,8 @@ const FAULTS: &[(&[u8], &str)] = &[
         "refused 43 m:1:58 s\n",
     ),
     (
-        b"(typeattribute s)(class p (use))(type a)(allow a s (p (use)))",
-        "refused 43 m:1:50 s\n",
+        b"(typeattribute s)(class p (use))(type a)(typeattributeset a (s))",
+        "refused 43 m:1:59 a\n",
     ),
     (
         b"(type a)(typealias x)(typealiasactual x a)(typealiasactual x a)",
@@ -219,9 +219,9 @@ const OF_ATTRIBUTES: Dialogue<'static> = &[
     ),
     (
         Install("n", "(allow a a (p (use)))(allow a s (p (use)))"),
-        "refused 43 n:1:31 s\n",
+        "ok 1 0\n",
     ),
-    (Rules, "end 0\n"),
+    (Rules, "allow a a:p { use };\nend 1\n"),
 ];
 
 #[test]

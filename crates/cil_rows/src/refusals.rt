@@ -71,8 +71,8 @@ const NOTHING_CHANGED: Dialogue<'static> = &[
     (Install("-m", ONE), "refused 30 -m\n"),
     (Install("m", "(type a b)"), "refused 21 m:1:2 type\n"),
     (
-        Install("m", "(dontaudit a b (p (use)))"),
-        "refused 20 m:1:2 dontaudit\n",
+        Install("m", "(dontaudits a b (p (use)))"),
+        "refused 20 m:1:2 dontaudits\n",
     ),
     (Install("n", "(class p (use))"), "refused 41 n:1:8 p\n"),
     (
