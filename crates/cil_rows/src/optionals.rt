@@ -189,7 +189,7 @@ const FAULTS: &[(&[u8], &str)] = &[
     // A word of the wrong kind is refused where it is kept, and not where it drops.
     (
         b"(class p (use))(type a)(typeattribute s)(optional o (typealias x)(typealiasactual x s))",
-        "refused 43 m:1:84 s\n",
+        "refused 43 m:1:85 s\n",
     ),
     (
         b"(class p (use))(type a)(typeattribute s)(optional o (allow a s (p (no))))",
