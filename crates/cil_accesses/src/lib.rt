@@ -1,0 +1,10 @@
+//! Accesses by numbers, 64 targets a machine word.
+#![tactic(auto)]
+
+mod access;
+mod accesses;
+mod chunk;
+
+pub use access::AccessNumbers;
+pub use accesses::Accesses;
+pub use chunk::Chunk;
