@@ -1,23 +1,16 @@
 -- How many accesses chunks have.
 use Rattle.std.proofs.Common.{◌≡◌, ℕ, suc, zero, ◌<◌, ◌≤◌, ◌+◌, ◌*◌, ◌/◌, ◌%◌, ◌^◌, Bool, true, false, cond, ◌==◌, List, [], ◌∷◌, ◌++◌, filter, flat_map, map, length, sum_by, count_ones, refl, sym, ap, ◌∙◌, arith, pow-suc}
 use Rattle.std.specs.Int.{bit_at}
+use Rattle.std.specs.Int.Count.{ones-ones}
 use Rattle.std.proofs.lemmas.List.{length-map, length-append}
 use Rattle.std.proofs.lemmas.List.Sums.{sum_by-cons, sum_by-append}
 use Rattle.std.proofs.lemmas.Nat.{ones_cat}
 use Rattle.std.proofs.lemmas.Nat.Bits.{bit_at_lowest, bit_at-suc, bit_at-lt}
 use Rattle.std.proofs.lemmas.Bool.{eqb-true, eqb-false}
 use Rattle.cil_accesses.specs.declared.chunk.Chunk.{Chunk}
+use Rattle.cil_accesses.specs.Chunks.{set_from, ones_of}
 use Rattle.cil_accesses.specs.View.{runs_of, has_bit, access_at, at_bit, at_bits, run_accesses, accesses_of}
 use Rattle.cil_accesses.proofs.Members.{joined-runs_of}
-
--- how many of n bits from one on are set
-abbrev set_from : ℕ → ℕ → ℕ → ℕ
-set_from zero b m = 0
-set_from (suc n) b m = bit_at m b + set_from n (b + 1) m
-
--- the bits of a chunk that are set
-pub ones_of : Chunk → ℕ
-ones_of c = set_from 64 0 c.bits
 
 set_from-half : (n b m : ℕ) → set_from n (suc b) m ≡ set_from n b (m / 2)
 set_from-half zero b m = refl
@@ -28,12 +21,12 @@ set_from-half (suc n) b m =
     omega (arith, rest, here)
 
 one-digit : (n : ℕ) → n < 2 → count_ones n ≡ n
-one-digit zero h = refl
-one-digit (suc zero) h = refl
+one-digit zero h = ones-ones 0
+one-digit (suc zero) h = ones-ones 1
 one-digit (suc (suc n)) h = absurd (omega arith)
 
 set_from-ones : (n m : ℕ) → m < 2 ^ n → set_from n 0 m ≡ count_ones m
-set_from-ones zero m fits = let none : m ≡ 0 = omega (arith, fits) in ap count_ones (sym none)
+set_from-ones zero m fits = let none : m ≡ 0 = omega (arith, fits) in sym (ap count_ones none ∙ ones-ones 0)
 set_from-ones (suc n) m fits =
     let twice : 2 ^ suc n ≡ 2 * 2 ^ n = omega (arith, pow-suc 2 n) in
     let rest : set_from n 0 (m / 2) ≡ count_ones (m / 2) = set_from-ones n (m / 2) (omega (arith, fits, twice)) in

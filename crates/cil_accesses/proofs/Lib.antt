@@ -5,3 +5,5 @@ pub mod RunLemmas
 pub mod Ascending
 pub mod Made
 pub mod Counts
+pub mod Beyond
+pub mod Walk

@@ -4,7 +4,7 @@ use Rattle.std.specs.Ordering.{nat_cmp, ordering_then, eq_by_cmp, is_eq}
 use Rattle.std.specs.Cmp.{IsTotalOrder}
 use Rattle.std.specs.declared.cmp.Ordering.{Ordering}
 use Rattle.std.specs.declared.cmp.Ordering.TheVariants.{Less, Equal, Greater}
-use Rattle.std.proofs.lemmas.Cmp.{nat_cmp_total, on_total, then_total}
+use Rattle.std.proofs.lemmas.Cmp.{nat_cmp_total, on_total, then_total, tied_itself}
 use Rattle.std.proofs.lemmas.Map.Lookups.{CmpEqualImpliesEq, exact_unsigned}
 use Rattle.cil_specs.specs.Statements as spec
 use Rattle.cil_specs.specs.Statements.{allow, auditallow, dontaudit, neverallow}
@@ -16,7 +16,7 @@ use Rattle.cil_text.specs.declared.statement.RuleKind.TheVariants.{Allow, AuditA
 use Rattle.cil_text.specs.contracts.statement.RuleKindOrd.TheImpl as kind_ord
 use Rattle.cil_accesses.specs.declared.access.AccessNumbers.{AccessNumbers}
 use Rattle.cil_accesses.specs.declared.chunk.Chunk.{Chunk}
-use Rattle.cil_accesses.specs.Chunks.{numbers_cmp, run_cmp, chunk_cmp}
+use Rattle.cil_accesses.specs.Chunks.{numbers_cmp, run_cmp, chunk_cmp, IsAccessOf}
 use Rattle.cil_accesses.specs.contracts.chunk.ChunkOrd.TheImpl as chunk_ord
 
 -- kinds stand in the order of their variants
@@ -133,3 +133,19 @@ same-chunk_cmp c d same e =
     λ i. ordering_then
         (ordering_then (nat_cmp (kind_index (rule_kind_of (same.run.kind i))) (kind_index (rule_kind_of e.kind))) (ordering_then (nat_cmp (same.run.source i) e.source) (nat_cmp (same.run.word i) e.word)))
         (ordering_then (nat_cmp (same.the_class i) e.class) (nat_cmp (same.permission i) e.permission))
+
+-- chunks that have one access have one key
+pub one-key : (c d : Chunk) (a : AccessNumbers) → IsAccessOf c a → IsAccessOf d a → chunk_cmp c d ≡ Equal
+one-key c d a of_c of_d =
+    let same : HaveOneKey c d = record {
+      run = record { kind = sym of_c.kind ∙ of_d.kind; source = sym of_c.source ∙ of_d.source; word = sym of_c.word ∙ of_d.word };
+      the_class = sym of_c.the_class ∙ of_d.the_class;
+      permission = sym of_c.permission ∙ of_d.permission;
+    } in
+    same-chunk_cmp c d same d ∙ tied_itself chunk_total d
+
+-- what comparing keys computes
+pub key-cmp : (k : Ordering) (x y : Chunk) → k ≡ (kind_ord.cmp-value).it x.kind y.kind
+    → ordering_then (ordering_then k (ordering_then (nat_cmp x.source y.source) (nat_cmp x.word y.word))) (ordering_then (nat_cmp x.class y.class) (nat_cmp x.permission y.permission)) ≡ chunk_cmp x y
+key-cmp k x y is =
+    ap (λ o. ordering_then (ordering_then o (ordering_then (nat_cmp x.source y.source) (nat_cmp x.word y.word))) (ordering_then (nat_cmp x.class y.class) (nat_cmp x.permission y.permission))) (is ∙ kind-cmp x.kind y.kind)

@@ -1,5 +1,5 @@
 -- The accesses of chunks, and the orders of both.
-use Rattle.std.specs.Prelude.{◌≡◌, ℕ, ◌/◌, ◌%◌, List, Any}
+use Rattle.std.specs.Prelude.{◌≡◌, zero, suc, ℕ, ◌+◌, ◌/◌, ◌%◌, List, Any}
 use Rattle.std.specs.Int.{bit_at}
 use Rattle.std.specs.Ordering.{nat_cmp, on, then_cmp}
 use Rattle.std.specs.declared.cmp.Ordering.{Ordering}
@@ -33,3 +33,12 @@ pub record IsAccessOf (c : Chunk) (a : AccessNumbers) : Type 0 where
 -- the access is one of some chunk
 abbrev pub IsGiven : List Chunk → AccessNumbers → Type 0
 IsGiven chunks a = Any (λ c. IsAccessOf c a) chunks
+
+-- how many of so many bits, from one on, are set
+abbrev pub set_from : ℕ → ℕ → ℕ → ℕ
+set_from zero b bits = 0
+set_from (suc n) b bits = bit_at bits b + set_from n (b + 1) bits
+
+-- how many accesses a chunk has
+unfoldable pub ones_of : Chunk → ℕ
+ones_of c = set_from 64 0 c.bits

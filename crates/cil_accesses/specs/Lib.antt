@@ -1,3 +1,4 @@
 pub mod Chunks
+pub mod Difference
 pub mod Runs
 pub mod View

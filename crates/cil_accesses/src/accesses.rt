@@ -58,7 +58,7 @@ impl<A: Allocator> Accesses<A> {
     {
         let mut count: u128 = 0;
         for chunk in &self.chunks {
-            count += u128::from(chunk.bits.count_ones());
+            count += u128::from(chunk.len());
         }
         count
     }

@@ -1,6 +1,10 @@
 //! Accesses to the targets of one word.
 
+ghost use Rattle.std.specs.Prelude.{◌≡◌, ◌≤◌};
+ghost use Rattle.cil_accesses.specs.Chunks.{chunk_cmp, ones_of};
+
 use cil_text::RuleKind;
+use std::cmp::Ordering;
 
 /// The accesses of one kind, source, class and permission to the targets of a word: target `64 * word + b` for each bit `b` that is
 /// set in `bits`.
@@ -12,4 +16,26 @@ pub struct Chunk {
     pub class: u32,
     pub permission: u32,
     pub bits: u64,
+}
+
+impl Chunk {
+    /// Its order by kind, source, word, class and permission, whatever the bits.
+    pub fn key_cmp(&self, other: &Chunk) -> Ordering
+        ensures { result ≡ chunk_cmp self.now other.now }
+    {
+        let run = self
+            .kind
+            .cmp(&other.kind)
+            .then(self.source.cmp(&other.source).then(self.word.cmp(&other.word)));
+        run.then(self.class.cmp(&other.class).then(self.permission.cmp(&other.permission)))
+    }
+
+    /// How many accesses it has.
+    pub fn len(&self) -> u32
+        ensures count { result ≡ ones_of self.now }
+        ensures few { result ≤ 64 }
+    {
+        let bits = self.bits;
+        bits.count_ones()
+    }
 }

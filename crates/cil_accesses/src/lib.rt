@@ -4,7 +4,9 @@
 mod access;
 mod accesses;
 mod chunk;
+mod difference;
 
 pub use access::AccessNumbers;
 pub use accesses::Accesses;
 pub use chunk::Chunk;
+pub use difference::Difference;

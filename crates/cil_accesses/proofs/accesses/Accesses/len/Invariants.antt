@@ -1,5 +1,5 @@
 use Rattle.std.proofs.Common.{◌≡◌, ◌≤◌, ◌*◌, sum_by, take}
-use Rattle.cil_accesses.proofs.Counts.{ones_of}
+use Rattle.cil_accesses.specs.Chunks.{ones_of}
 use Rattle.cil_accesses.proofs.accesses.Accesses.len.Given as goal
 
 abbrev pub invariant-loop-chunk : goal.invariant-loop-chunk
