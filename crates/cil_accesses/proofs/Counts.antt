@@ -1,9 +1,9 @@
 -- How many accesses chunks have.
-use Rattle.std.proofs.Common.{◌≡◌, ℕ, suc, zero, ◌<◌, ◌≤◌, ◌+◌, ◌*◌, ◌/◌, ◌%◌, ◌^◌, Bool, true, false, cond, ◌==◌, List, [], ◌∷◌, ◌++◌, filter, flat_map, map, length, sum_by, count_ones, refl, sym, ap, ◌∙◌, arith, pow-suc}
+use Rattle.std.proofs.Common.{◌≡◌, ℕ, suc, zero, ◌<◌, ◌≤◌, ◌+◌, ◌*◌, ◌/◌, ◌%◌, ◌^◌, Bool, true, false, cond, ◌==◌, List, [], ◌∷◌, ◌++◌, filter, flat_map, map, length, get_or, take, drop, sum_by, count_ones, refl, sym, ap, ◌∙◌, arith, pow-suc}
 use Rattle.std.specs.Int.{bit_at}
 use Rattle.std.specs.Int.Count.{ones-ones}
-use Rattle.std.proofs.lemmas.List.{length-map, length-append}
-use Rattle.std.proofs.lemmas.List.Sums.{sum_by-cons, sum_by-append}
+use Rattle.std.proofs.lemmas.List.{length-map, length-append, take-append-drop}
+use Rattle.std.proofs.lemmas.List.Sums.{sum_by-cons, sum_by-append, sum_by-drop_more}
 use Rattle.std.proofs.lemmas.Nat.{ones_cat}
 use Rattle.std.proofs.lemmas.Nat.Bits.{bit_at_lowest, bit_at-suc, bit_at-lt}
 use Rattle.std.proofs.lemmas.Bool.{eqb-true, eqb-false}
@@ -92,3 +92,11 @@ length-runs (run ∷ runs) =
 pub length-accesses_of : (chunks : List Chunk) → length (accesses_of chunks) ≡ sum_by ones_of chunks
 unfolding accesses_of
 length-accesses_of chunks = length-runs (runs_of chunks) ∙ ap (sum_by ones_of) (joined-runs_of chunks)
+
+-- a place that is behind the accesses of the chunks so far, and not behind those of the next
+pub within-next : (run : List Chunk) (i rest n place : ℕ) (d : Chunk) → i < length run → n ≡ ones_of (get_or run i d) → rest + sum_by ones_of (take i run) ≡ place → (n ≤ rest → ⊥) → place < length (run_accesses run)
+within-next run i rest n place d within is so_far below =
+    let next = sum_by-drop_more ones_of run i d within in
+    let parts = sym (sum_by-append ones_of (take i run) (drop i run)) ∙ ap (sum_by ones_of) (take-append-drop i run) in
+    let long = length-run_accesses run in
+    omega (arith, next, parts, long, is, so_far, below)

@@ -7,3 +7,4 @@ pub mod Made
 pub mod Counts
 pub mod Beyond
 pub mod Walk
+pub mod Places

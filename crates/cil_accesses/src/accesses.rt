@@ -1,12 +1,14 @@
 //! Accesses in order.
 
-ghost use Rattle.std.specs.Prelude.{◌≡◌, ◌<◌, ◌^◌, ◌↔◌, [], Contains, length};
+ghost use Rattle.std.specs.Prelude.{◌≡◌, ◌<◌, ◌^◌, ◌↔◌, [], Contains, length, slice_get};
 ghost use Rattle.std.specs.List.{All, IsDistinct};
 ghost use Rattle.std.specs.List.Sorted.{IsStrictlySortedBy};
 ghost use Rattle.std.specs.Ordering.{eq_by_cmp};
 ghost use Rattle.cil_accesses.specs.Chunks.{chunk_cmp, numbers_cmp, IsGiven};
 
+use crate::access::AccessNumbers;
 use crate::chunk::Chunk;
+use crate::place::access_in;
 use std::alloc::{Allocator, Global};
 use std::marker::Model;
 
@@ -61,5 +63,12 @@ impl<A: Allocator> Accesses<A> {
             count += u128::from(chunk.len());
         }
         count
+    }
+
+    /// The access at a place of the order.
+    pub fn get(&self, i: usize) -> Option<AccessNumbers>
+        ensures { result ≡ slice_get self.now i }
+    {
+        access_in(&self.chunks, i)
     }
 }

@@ -1,8 +1,10 @@
 //! Accesses to the targets of one word.
 
-ghost use Rattle.std.specs.Prelude.{◌≡◌, ◌≤◌};
+ghost use Rattle.std.specs.Prelude.{◌≡◌, ◌<◌, ◌≤◌, ◌^◌};
 ghost use Rattle.cil_accesses.specs.Chunks.{chunk_cmp, ones_of};
+ghost use Rattle.cil_accesses.specs.View.{access_at, has_bit, in_run};
 
+use crate::access::AccessNumbers;
 use cil_text::RuleKind;
 use std::cmp::Ordering;
 
@@ -20,7 +22,7 @@ pub struct Chunk {
 
 impl Chunk {
     /// Its order by kind, source, word, class and permission, whatever the bits.
-    pub fn key_cmp(&self, other: &Chunk) -> Ordering
+    pub(super) fn key_cmp(&self, other: &Chunk) -> Ordering
         ensures { result ≡ chunk_cmp self.now other.now }
     {
         let run = self
@@ -37,5 +39,35 @@ impl Chunk {
     {
         let bits = self.bits;
         bits.count_ones()
+    }
+
+    /// Whether it stands in the run of another.
+    pub fn is_in_run_of(&self, other: &Chunk) -> bool
+        ensures { result ≡ in_run other.now self.now }
+    {
+        other.kind == self.kind && other.source == self.source && other.word == self.word
+    }
+
+    /// Whether it has the access to the target of a bit.
+    pub fn has_bit(&self, bit: u32) -> bool
+        requires { bit < 64 }
+        ensures { result ≡ has_bit bit self.now }
+    {
+        (self.bits >> bit) & 1 == 1
+    }
+
+    /// The access to the target of a bit.
+    pub fn access(&self, bit: u32) -> AccessNumbers
+        requires word { self.now.word < 2 ^ 26 }
+        requires within { bit < 64 }
+        ensures { result ≡ access_at bit self.now }
+    {
+        AccessNumbers {
+            kind: self.kind,
+            source: self.source,
+            target: 64 * self.word + bit,
+            class: self.class,
+            permission: self.permission,
+        }
     }
 }

@@ -5,6 +5,8 @@ mod access;
 mod accesses;
 mod chunk;
 mod difference;
+mod place;
+mod run;
 
 pub use access::AccessNumbers;
 pub use accesses::Accesses;
