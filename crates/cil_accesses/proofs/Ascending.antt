@@ -15,12 +15,13 @@ use Rattle.cil_text.specs.Image.{rule_kind_of}
 use Rattle.cil_accesses.specs.declared.access.AccessNumbers.{AccessNumbers}
 use Rattle.cil_accesses.specs.declared.chunk.Chunk.{Chunk}
 use Rattle.cil_accesses.specs.Chunks.{numbers_cmp, run_cmp, chunk_cmp, IsAccessOf, IsGiven}
-use Rattle.cil_accesses.specs.Runs.{IsFirstRun}
+use Rattle.cil_accesses.specs.Groups.{IsFirstGroup}
 use Rattle.cil_accesses.specs.View.{in_run, has_bit, access_at, at_bit, at_bits, run_accesses, accesses_of, AreChunks}
 use Rattle.cil_accesses.proofs.Order.{InOneRun}
+use Rattle.cil_accesses.proofs.GroupLemmas.{group-shorter}
 use Rattle.cil_accesses.proofs.Lists.{all-by, sorted-join}
 use Rattle.cil_accesses.proofs.Members.{IsInRun, in-at_bit, in-at_bits, in-run_accesses, in-accesses_of}
-use Rattle.cil_accesses.proofs.RunLemmas.{first-run, then_less, accesses-parts, parts-length, in-one-run, run-ascends, later-ascends, below-later}
+use Rattle.cil_accesses.proofs.RunLemmas.{first-run, then_less, accesses-parts, in-one-run, run-ascends, later-ascends, below-later}
 
 less : (i j : ℕ) → i < j → nat_cmp i j ≡ Less
 less i j h = grind (arith, nat_tests)
@@ -121,15 +122,15 @@ parted : (n : ℕ) (c : Chunk) (cs : List Chunk) → suc (length cs) ≤ suc n �
 parted n c cs upto sorted others =
     let run : List Chunk = c ∷ take (prefix_len (in_run c) cs) cs in
     let later : List Chunk = drop (prefix_len (in_run c) cs) cs in
-    let parts : IsFirstRun (c ∷ cs) c run later = first-run c cs in
-    let short = parts-length (c ∷ cs) c run later parts in
+    let parts : IsFirstGroup in_run (c ∷ cs) c run later = first-run c cs in
+    let short = group-shorter in_run (c ∷ cs) c run later parts in
     subst (IsStrictlySortedBy numbers_cmp) (sym (accesses-parts (c ∷ cs) c run later parts))
     (sorted-join numbers_cmp (run_accesses run) (accesses_of later)
     (run-accesses-ascend c run (in-one-run (c ∷ cs) c run later parts) (run-ascends (c ∷ cs) c run later parts sorted))
     (others later (omega (arith, short, upto)) (later-ascends (c ∷ cs) c run later parts sorted))
     (λ x y h i. across x y parts (in-run_accesses run x h) (in-accesses_of later y i)))
   where
-    across : (x y : AccessNumbers) → IsFirstRun (c ∷ cs) c (c ∷ take (prefix_len (in_run c) cs) cs) (drop (prefix_len (in_run c) cs) cs) → IsInRun (c ∷ take (prefix_len (in_run c) cs) cs) x
+    across : (x y : AccessNumbers) → IsFirstGroup in_run (c ∷ cs) c (c ∷ take (prefix_len (in_run c) cs) cs) (drop (prefix_len (in_run c) cs) cs) → IsInRun (c ∷ take (prefix_len (in_run c) cs) cs) x
         → IsGiven (drop (prefix_len (in_run c) cs) cs) y → numbers_cmp x y ≡ Less
     across x y parts at (k, d, within, is, of_d) =
         below-run at.chunk d x y at.of of_d (below-later (c ∷ cs) c (c ∷ take (prefix_len (in_run c) cs) cs) (drop (prefix_len (in_run c) cs) cs) parts sorted at.chunk d at.among (k, within, is))

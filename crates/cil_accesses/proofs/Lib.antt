@@ -1,5 +1,6 @@
 pub mod Order
 pub mod Lists
+pub mod GroupLemmas
 pub mod Members
 pub mod RunLemmas
 pub mod Ascending

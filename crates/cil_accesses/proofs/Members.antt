@@ -1,5 +1,5 @@
 -- Which accesses the chunks of a list have.
-use Rattle.std.proofs.Common.{◌≡◌, ◌↔◌, ◌⊎◌, inl, inr, ℕ, suc, zero, ◌<◌, ◌≤◌, ◌+◌, ◌*◌, ◌/◌, ◌%◌, Bool, true, false, cond, List, [], ◌∷◌, ◌++◌, map, filter, flat_map, refl, sym, ap, ◌∙◌, subst, arith, Contains, eq-eqb, eqb-true}
+use Rattle.std.proofs.Common.{◌≡◌, ◌↔◌, ◌⊎◌, inl, inr, ℕ, suc, zero, ◌<◌, ◌≤◌, ◌+◌, ◌*◌, ◌/◌, ◌%◌, Bool, true, false, List, [], ◌∷◌, ◌++◌, map, filter, flat_map, refl, sym, ap, ◌∙◌, subst, arith, Contains, eq-eqb, eqb-true}
 use Rattle.std.specs.Int.{bit_at}
 use Rattle.std.proofs.lemmas.Bool.{cases_eq}
 use Rattle.std.proofs.lemmas.List.Elements.{Contains-append_left, Contains-append_right, Contains-append_cases}
@@ -9,7 +9,8 @@ use Rattle.cil_specs.proofs.FaultWords.{contains-filtered}
 use Rattle.cil_accesses.specs.declared.access.AccessNumbers.{AccessNumbers}
 use Rattle.cil_accesses.specs.declared.chunk.Chunk.{Chunk}
 use Rattle.cil_accesses.specs.Chunks.{IsAccessOf, IsGiven}
-use Rattle.cil_accesses.specs.View.{in_run, put_first, runs_of, has_bit, access_at, at_bit, at_bits, run_accesses, accesses_of}
+use Rattle.cil_accesses.specs.View.{in_run, runs_of, has_bit, access_at, at_bit, at_bits, run_accesses, accesses_of}
+use Rattle.cil_accesses.proofs.GroupLemmas.{joined-groups_of}
 use Rattle.cil_accesses.proofs.Lists.{contains-none, contains-filter, filter-passes}
 
 -- an access at a bit is one of its chunk
@@ -90,18 +91,8 @@ run_accesses-has run a c among of =
     at_bits-has 64 0 (a.target % 64) run a (omega arith) (omega arith) (subst (Contains (at_bit (a.target % 64) run)) parts.1 (at_bit-has (a.target % 64) run c among parts.0))
 
 -- the runs of chunks have those chunks
-joined-put_first : (c : Chunk) (runs : List (List Chunk)) → flat_map (λ run. run) (put_first c runs) ≡ c ∷ flat_map (λ run. run) runs
-joined-put_first c [] = refl
-joined-put_first c ([] ∷ runs) = refl
-joined-put_first c ((d ∷ run) ∷ runs) = by (in_run c d)
-  where
-    by : (b : Bool) → flat_map (λ run. run) (cond b ((c ∷ d ∷ run) ∷ runs) ((c ∷ []) ∷ (d ∷ run) ∷ runs)) ≡ c ∷ flat_map (λ run. run) ((d ∷ run) ∷ runs)
-    by true = refl
-    by false = refl
-
 pub joined-runs_of : (chunks : List Chunk) → flat_map (λ run. run) (runs_of chunks) ≡ chunks
-joined-runs_of [] = refl
-joined-runs_of (c ∷ chunks) = joined-put_first c (runs_of chunks) ∙ ap (λ l. c ∷ l) (joined-runs_of chunks)
+joined-runs_of chunks = joined-groups_of in_run chunks
 
 -- the accesses of chunks are those of one of them
 pub in-accesses_of : (chunks : List Chunk) (a : AccessNumbers) → Contains (accesses_of chunks) a → IsGiven chunks a

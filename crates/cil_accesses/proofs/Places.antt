@@ -7,31 +7,13 @@ use Rattle.cil_specs.proofs.NamesLemmas.{all-first, all-second, contains-first, 
 use Rattle.cil_specs.proofs.FaultWords.{contains-filtered}
 use Rattle.cil_accesses.specs.declared.access.AccessNumbers.{AccessNumbers}
 use Rattle.cil_accesses.specs.declared.chunk.Chunk.{Chunk}
-use Rattle.cil_accesses.specs.Runs.{IsFirstRun}
+use Rattle.cil_accesses.specs.Groups.{IsFirstGroup}
 use Rattle.cil_accesses.specs.View.{in_run, has_bit, access_at, at_bit, at_bits, run_accesses, accesses_of}
-use Rattle.cil_accesses.proofs.RunLemmas.{in_own_run, accesses-parts}
+use Rattle.cil_accesses.proofs.RunLemmas.{accesses-parts}
 
 -- a fact of an element as it is read
 pub holds_at : (P : Chunk → Type 0) (xs : List Chunk) (i : ℕ) (d : Chunk) → i < length xs → P (get_or xs i d) → HoldsAt P xs i
 holds_at P xs i d within holds = λ e. subst P (get_or_default xs i d e within) holds
-
--- the chunks from the front that stand in the run of the first, and the others
-pub first-run-front : (chunks : List Chunk) (first : Chunk) (n : ℕ) (run later : List Chunk) → Some first ≡ slice_get chunks 0 → n ≡ prefix_len (in_run first) chunks → run ≡ take n chunks → later ≡ drop n chunks → length run ≡ n
-    → IsFirstRun chunks first run later
-first-run-front chunks first n run later is count front back long = record {
-  whole = sym (take-append-drop n chunks) ∙ (λ i. sym front i ++ sym back i);
-  some = by chunks is count front;
-  all = long ∙ count;
-}
-  where
-    by : (xs : List Chunk) → Some first ≡ slice_get xs 0 → n ≡ prefix_len (in_run first) xs → run ≡ take n xs → (rest : List Chunk) × (run ≡ first ∷ rest)
-    by [] is count front = absurd (let none : Some first ≡ None = is in cc)
-    by (x ∷ xs) is count front =
-        let same : first ≡ x = cc in
-        let own : in_run first x ≡ true = ap (in_run first) (sym same) ∙ in_own_run first in
-        let k : ℕ = prefix_len (in_run first) xs in
-        let more : n ≡ suc k = count ∙ ap (λ b. cond b (1 + k) 0) own ∙ one-add k in
-        (take k xs, front ∙ ap (λ m. take m (x ∷ xs)) more ∙ ap (λ y. y ∷ take k xs) (sym same))
 
 -- a place within a list, or behind it
 pub get-left : {X : Type 0} (xs ys : List X) (i : ℕ) → i < length xs → slice_get (xs ++ ys) i ≡ slice_get xs i
@@ -93,7 +75,7 @@ pub word-of-found : (run : List Chunk) (b place : ℕ) (c : Chunk) → All (λ d
 word-of-found run b place c words is = All-contains (λ d. d.word < 2 ^ 26) run c words (contains-filtered (has_bit b) run c (get-contains (filter (has_bit b) run) place c is))
 
 -- how a first run parts places and words
-module _ (chunks : List Chunk) (first : Chunk) (run later : List Chunk) (parts : IsFirstRun chunks first run later) where
+module _ (chunks : List Chunk) (first : Chunk) (run later : List Chunk) (parts : IsFirstGroup in_run chunks first run later) where
   pub place-in-run : (place : ℕ) → place < length (run_accesses run) → slice_get (accesses_of chunks) place ≡ slice_get (run_accesses run) place
   place-in-run place within = ap (λ l. slice_get l place) (accesses-parts chunks first run later parts) ∙ get-left (run_accesses run) (accesses_of later) place within
 

@@ -13,74 +13,18 @@ use Rattle.cil_specs.proofs.NamesLemmas.{all-contained, contains-cases, contains
 use Rattle.cil_accesses.specs.declared.access.AccessNumbers.{AccessNumbers}
 use Rattle.cil_accesses.specs.declared.chunk.Chunk.{Chunk}
 use Rattle.cil_accesses.specs.Chunks.{run_cmp, chunk_cmp}
-use Rattle.cil_accesses.specs.Runs.{IsFirstRun}
-use Rattle.cil_accesses.specs.View.{in_run, put_first, runs_of, run_accesses, accesses_of}
+use Rattle.cil_accesses.specs.Groups.{IsFirstGroup}
+use Rattle.cil_accesses.specs.View.{in_run, run_accesses, accesses_of}
 use Rattle.cil_accesses.proofs.Order.{run_total, run_exact, InOneRun}
+use Rattle.cil_accesses.proofs.GroupLemmas.{alike-own, first-group, groups-parts, prefix-ends, prefix-passes}
 use Rattle.cil_accesses.proofs.Lists.{contains-none, sorted-left, sorted-right, sorted-first}
 
 pub in_own_run : (c : Chunk) → in_run c c ≡ true
-in_own_run c = ap is_eq (tied_itself run_total c)
-
--- chunks of one run have the same chunks in their run
-same-run : (c d : Chunk) → in_run c d ≡ true → in_run c ≡ in_run d
-same-run c d e = λ i x. is_eq (run_total.congr c d x (equal-is (run_cmp c d) e) i)
-
--- the first run has the chunks from the front that stand in it
-runs-behind : (c : Chunk) (cs : List Chunk) → runs_of (c ∷ cs) ≡ (c ∷ take (prefix_len (in_run c) cs) cs) ∷ runs_of (drop (prefix_len (in_run c) cs) cs)
-runs-behind c [] = refl
-runs-behind c (d ∷ cs) = by (in_run c d) refl (runs-behind d cs)
-  where
-    by : (b : Bool) → in_run c d ≡ b → runs_of (d ∷ cs) ≡ (d ∷ take (prefix_len (in_run d) cs) cs) ∷ runs_of (drop (prefix_len (in_run d) cs) cs)
-        → runs_of (c ∷ d ∷ cs) ≡ (c ∷ take (cond b (1 + prefix_len (in_run c) cs) 0) (d ∷ cs)) ∷ runs_of (drop (cond b (1 + prefix_len (in_run c) cs) 0) (d ∷ cs))
-    by true same rest =
-        let n : ℕ = prefix_len (in_run d) cs in
-        ap (put_first c) rest
-        ∙ ap (λ b. cond b ((c ∷ d ∷ take n cs) ∷ runs_of (drop n cs)) ((c ∷ []) ∷ (d ∷ take n cs) ∷ runs_of (drop n cs))) same
-        ∙ ap (λ (test : Chunk → Bool). (c ∷ d ∷ take (prefix_len test cs) cs) ∷ runs_of (drop (prefix_len test cs) cs)) (sym (same-run c d same))
-        ∙ ap (λ k. (c ∷ take k (d ∷ cs)) ∷ runs_of (drop k (d ∷ cs))) (sym (one-add (prefix_len (in_run c) cs)))
-    by false other rest =
-        let n : ℕ = prefix_len (in_run d) cs in
-        ap (put_first c) rest
-        ∙ ap (λ b. cond b ((c ∷ d ∷ take n cs) ∷ runs_of (drop n cs)) ((c ∷ []) ∷ (d ∷ take n cs) ∷ runs_of (drop n cs))) other
-        ∙ ap (λ l. (c ∷ []) ∷ l) (sym rest)
-
-runs-front : (c : Chunk) (cs : List Chunk) → runs_of (c ∷ cs) ≡ take (prefix_len (in_run c) (c ∷ cs)) (c ∷ cs) ∷ runs_of (drop (prefix_len (in_run c) (c ∷ cs)) (c ∷ cs))
-runs-front c cs =
-    let n : ℕ = prefix_len (in_run c) cs in
-    runs-behind c cs
-    ∙ ap (λ k. take k (c ∷ cs) ∷ runs_of (drop k (c ∷ cs))) (sym (one-add n))
-    ∙ ap (λ b. take (cond b (1 + n) 0) (c ∷ cs) ∷ runs_of (drop (cond b (1 + n) 0) (c ∷ cs))) (sym (in_own_run c))
+in_own_run c = alike-own run_total c
 
 -- there is a first run
-pub first-run : (c : Chunk) (cs : List Chunk) → IsFirstRun (c ∷ cs) c (c ∷ take (prefix_len (in_run c) cs) cs) (drop (prefix_len (in_run c) cs) cs)
-first-run c cs =
-    let n : ℕ = prefix_len (in_run c) cs in
-    record {
-      whole = ap (λ l. c ∷ l) (sym (take-append-drop n cs));
-      some = (take n cs, refl);
-      all = ap suc (length-prefix_len (in_run c) cs) ∙ sym (one-add n) ∙ ap (λ b. cond b (1 + n) 0) (sym (in_own_run c));
-    }
-
--- where a prefix that passes ends, the next element does not
-prefix-ends : {X : Type 0} (p : X → Bool) (xs : List X) (y : X) (ys : List X) → length xs ≡ prefix_len p (xs ++ y ∷ ys) → p y ≡ false
-prefix-ends p [] y ys long = by (p y) refl long
-  where
-    by : (b : Bool) → p y ≡ b → 0 ≡ cond b (1 + prefix_len p ys) 0 → p y ≡ false
-    by true is e = absurd (omega (arith, e))
-    by false is e = is
-prefix-ends p (x ∷ xs) y ys long = by (prefix-ends p xs y ys) (p x) refl long
-  where
-    by : (length xs ≡ prefix_len p (xs ++ y ∷ ys) → p y ≡ false) → (b : Bool) → p x ≡ b → suc (length xs) ≡ cond b (1 + prefix_len p (xs ++ y ∷ ys)) 0 → p y ≡ false
-    by rest true is e = rest (omega (arith, e))
-    by rest false is e = absurd (omega (arith, e))
-
-prefix-passes : {X : Type 0} (p : X → Bool) (xs ys : List X) → length xs ≡ prefix_len p (xs ++ ys) → AllByRecursion (λ x. p x ≡ true) xs
-prefix-passes p [] ys long = tt
-prefix-passes p (x ∷ xs) ys long = by (prefix-passes p xs ys) (p x) refl long
-  where
-    by : (length xs ≡ prefix_len p (xs ++ ys) → AllByRecursion (λ z. p z ≡ true) xs) → (b : Bool) → p x ≡ b → suc (length xs) ≡ cond b (1 + prefix_len p (xs ++ ys)) 0 → (p x ≡ true) × AllByRecursion (λ x. p x ≡ true) xs
-    by rest true is e = (is, rest (omega (arith, e)))
-    by rest false is e = absurd (omega (arith, e))
+pub first-run : (c : Chunk) (cs : List Chunk) → IsFirstGroup in_run (c ∷ cs) c (c ∷ take (prefix_len (in_run c) cs) cs) (drop (prefix_len (in_run c) cs) cs)
+first-run c cs = first-group run_total c cs
 
 -- comparisons in turn
 pub then_less : (o p : Ordering) → ordering_then o p ≡ Less → (o ≡ Less) ⊎ ((o ≡ Equal) × (p ≡ Less))
@@ -117,28 +61,11 @@ first-below chunks first rest (e ∷ later) sorted whole n long count d among =
     (sorted-right chunk_cmp (first ∷ rest) (e ∷ later) behind) among
 
 -- how a first run parts the chunks
-module _ (chunks : List Chunk) (first : Chunk) (run later : List Chunk) (parts : IsFirstRun chunks first run later) where
-  pub parts-length : 1 + length later ≤ length chunks
-  parts-length =
-      let whole = ap length parts.whole ∙ length-append run later in
-      let some = ap length parts.some.1 in
-      omega (arith, whole, some)
-
-  pub runs-parts : runs_of chunks ≡ run ∷ runs_of later
-  runs-parts =
-      let tail : List Chunk = parts.some.0 ++ later in
-      let is : chunks ≡ first ∷ tail = parts.whole ∙ ap (λ l. l ++ later) parts.some.1 in
-      let n : ℕ = prefix_len (in_run first) (first ∷ tail) in
-      let long : length run ≡ n = parts.all ∙ ap (prefix_len (in_run first)) is in
-      let joined : first ∷ tail ≡ run ++ later = sym is ∙ parts.whole in
-      let front : take n (first ∷ tail) ≡ run = ap (take n) joined ∙ take_at run later n long in
-      let back : drop n (first ∷ tail) ≡ later = ap (drop n) joined ∙ drop_at run later n long in
-      ap runs_of is ∙ runs-front first tail ∙ (λ i. front i ∷ runs_of (back i))
-
+module _ (chunks : List Chunk) (first : Chunk) (run later : List Chunk) (parts : IsFirstGroup in_run chunks first run later) where
   -- the accesses are those of the first run, and those of the later chunks
   pub accesses-parts : accesses_of chunks ≡ run_accesses run ++ accesses_of later
   unfolding accesses_of
-  accesses-parts = ap (flat_map run_accesses) runs-parts
+  accesses-parts = ap (flat_map run_accesses) (groups-parts run_total chunks first run later parts)
 
   long-run : length run ≡ prefix_len (in_run first) (run ++ later)
   long-run = parts.all ∙ ap (prefix_len (in_run first)) parts.whole

@@ -1,4 +1,4 @@
 pub mod Chunks
 pub mod Difference
-pub mod Runs
+pub mod Groups
 pub mod View

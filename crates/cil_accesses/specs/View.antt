@@ -1,5 +1,5 @@
 -- The accesses of chunks in order.
-use Rattle.std.specs.Prelude.{zero, suc, ℕ, ◌+◌, ◌*◌, ◌<◌, ◌^◌, ◌==◌, Bool, List, [], ◌∷◌, ◌++◌, map, filter, flat_map, if◌then◌else◌}
+use Rattle.std.specs.Prelude.{zero, suc, ℕ, ◌+◌, ◌*◌, ◌<◌, ◌^◌, ◌==◌, Bool, List, [], ◌∷◌, ◌++◌, map, filter, flat_map}
 use Rattle.std.specs.Int.{bit_at}
 use Rattle.std.specs.List.{All}
 use Rattle.std.specs.List.Sorted.{IsStrictlySortedBy}
@@ -7,21 +7,15 @@ use Rattle.std.specs.Ordering.{eq_by_cmp}
 use Rattle.cil_accesses.specs.declared.access.AccessNumbers.{AccessNumbers}
 use Rattle.cil_accesses.specs.declared.chunk.Chunk.{Chunk}
 use Rattle.cil_accesses.specs.Chunks.{run_cmp, chunk_cmp}
+use Rattle.cil_accesses.specs.Groups.{groups_of}
 
 -- whether a chunk stands in the run of another
 abbrev pub in_run : Chunk → Chunk → Bool
 in_run = eq_by_cmp run_cmp
 
--- A chunk before the runs of those after it: it goes onto the first where that is its run.
-abbrev pub put_first : Chunk → List (List Chunk) → List (List Chunk)
-put_first c [] = (c ∷ []) ∷ []
-put_first c ([] ∷ runs) = (c ∷ []) ∷ runs
-put_first c ((d ∷ run) ∷ runs) = if in_run c d then (c ∷ d ∷ run) ∷ runs else ((c ∷ []) ∷ (d ∷ run) ∷ runs)
-
--- the runs of chunks, where those of a run stand one behind the other
+-- the runs of chunks
 abbrev pub runs_of : List Chunk → List (List Chunk)
-runs_of [] = []
-runs_of (c ∷ chunks) = put_first c (runs_of chunks)
+runs_of chunks = groups_of in_run chunks
 
 -- whether a chunk has the access to the target of a bit
 abbrev pub has_bit : ℕ → Chunk → Bool

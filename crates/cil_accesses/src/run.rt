@@ -2,7 +2,7 @@
 
 ghost use Rattle.std.specs.Prelude.{◌≡◌, ◌≤◌, [], length, MatchOption};
 ghost use Rattle.std.specs.List.{prefix_len};
-ghost use Rattle.cil_accesses.specs.Runs.{IsFirstRun};
+ghost use Rattle.cil_accesses.specs.Groups.{IsFirstGroup};
 ghost use Rattle.cil_accesses.specs.View.{in_run};
 
 use crate::chunk::Chunk;
@@ -21,7 +21,7 @@ fn run_len(first: &Chunk, chunks: &[Chunk]) -> usize
 
 /// The first chunk, the chunks that stand in its run, and those after them.
 pub fn split_run(chunks: &[Chunk]) -> Option<(&Chunk, &[Chunk], &[Chunk])>
-    ensures { MatchOption result (chunks.now ≡ []) (λ parts. IsFirstRun chunks.now parts.0.now parts.1.now parts.2.now) }
+    ensures { MatchOption result (chunks.now ≡ []) (λ parts. IsFirstGroup in_run chunks.now parts.0.now parts.1.now parts.2.now) }
 {
     let first = chunks.first()?;
     let (run, later) = chunks.split_at(run_len(first, chunks));
