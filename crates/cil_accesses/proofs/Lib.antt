@@ -9,3 +9,4 @@ pub mod Counts
 pub mod Beyond
 pub mod Walk
 pub mod Places
+pub mod RowPlaces

@@ -8,7 +8,7 @@ use Rattle.cil_specs.proofs.FaultWords.{contains-filtered}
 use Rattle.cil_accesses.specs.declared.access.AccessNumbers.{AccessNumbers}
 use Rattle.cil_accesses.specs.declared.chunk.Chunk.{Chunk}
 use Rattle.cil_accesses.specs.Groups.{IsFirstGroup}
-use Rattle.cil_accesses.specs.View.{in_run, has_bit, access_at, at_bit, at_bits, run_accesses, accesses_of}
+use Rattle.cil_accesses.specs.View.{in_run, has_bit, access_at, at_bit, at_bits, from_bit, run_accesses, accesses_of}
 use Rattle.cil_accesses.proofs.RunLemmas.{accesses-parts}
 
 -- a fact of an element as it is read
@@ -35,10 +35,6 @@ pub get-within : {X : Type 0} (xs : List X) (i : ℕ) (x : X) → slice_get xs i
 get-within [] i x is = absurd (let none : None ≡ Some x = is in cc)
 get-within (y ∷ xs) zero x is = omega arith
 get-within (y ∷ xs) (suc i) x is = let rest = get-within xs i x is in omega (arith, rest)
-
--- the accesses of a run to the targets of the bits from one on
-pub from_bit : ℕ → List Chunk → List AccessNumbers
-from_bit b run = at_bits (64 - b) b run
 
 pub from_bit-first : (run : List Chunk) → run_accesses run ≡ from_bit 0 run
 unfolding run_accesses from_bit

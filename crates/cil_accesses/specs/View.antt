@@ -1,5 +1,5 @@
 -- The accesses of chunks in order.
-use Rattle.std.specs.Prelude.{zero, suc, ℕ, ◌+◌, ◌*◌, ◌<◌, ◌^◌, ◌==◌, Bool, List, [], ◌∷◌, ◌++◌, map, filter, flat_map}
+use Rattle.std.specs.Prelude.{zero, suc, ℕ, ◌+◌, ◌-◌, ◌*◌, ◌<◌, ◌^◌, ◌==◌, Bool, List, [], ◌∷◌, ◌++◌, map, filter, flat_map}
 use Rattle.std.specs.Int.{bit_at}
 use Rattle.std.specs.List.{All}
 use Rattle.std.specs.List.Sorted.{IsStrictlySortedBy}
@@ -37,6 +37,10 @@ at_bits (suc n) b run = at_bit b run ++ at_bits n (b + 1) run
 -- the accesses of a run in order: one target behind the other
 unfoldable pub run_accesses : List Chunk → List AccessNumbers
 run_accesses run = at_bits 64 0 run
+
+-- the accesses of a run from one bit on
+unfoldable pub from_bit : ℕ → List Chunk → List AccessNumbers
+from_bit b run = at_bits (64 - b) b run
 
 -- the accesses of chunks in order: one run behind the other
 unfoldable pub accesses_of : List Chunk → List AccessNumbers

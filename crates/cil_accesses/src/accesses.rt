@@ -9,6 +9,7 @@ ghost use Rattle.cil_accesses.specs.Chunks.{chunk_cmp, numbers_cmp, IsGiven};
 use crate::access::AccessNumbers;
 use crate::chunk::Chunk;
 use crate::place::access_in;
+use crate::rows::Rows;
 use std::alloc::{Allocator, Global};
 use std::marker::Model;
 
@@ -70,5 +71,12 @@ impl<A: Allocator> Accesses<A> {
         ensures { result ≡ slice_get self.now i }
     {
         access_in(&self.chunks, i)
+    }
+
+    /// The rows in order, of which each is all permissions of one kind, source, target and class.
+    pub fn rows(&self) -> Rows<'_>
+        ensures { result ≡ self.now }
+    {
+        Rows::of(&self.chunks)
     }
 }

@@ -6,9 +6,11 @@ mod accesses;
 mod chunk;
 mod difference;
 mod place;
+mod rows;
 mod run;
 
 pub use access::AccessNumbers;
 pub use accesses::Accesses;
 pub use chunk::Chunk;
 pub use difference::Difference;
+pub use rows::{AccessRow, Rows};

@@ -1,6 +1,5 @@
 use Rattle.std.proofs.Common.{◌≡◌, slice_get}
-use Rattle.cil_accesses.specs.View.{run_accesses}
-use Rattle.cil_accesses.proofs.Places.{from_bit}
+use Rattle.cil_accesses.specs.View.{from_bit, run_accesses}
 use Rattle.cil_accesses.proofs.place.access_in_run.Given as goal
 
 abbrev pub invariant-loop-bit : goal.invariant-loop-bit
