@@ -10,3 +10,4 @@ pub mod Beyond
 pub mod Walk
 pub mod Places
 pub mod RowPlaces
+pub mod Moves

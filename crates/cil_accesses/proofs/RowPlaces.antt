@@ -242,3 +242,7 @@ module _ (p : RowPlace) (at : IsPlace p) (first : Chunk) (row later : List Chunk
 
   pub first-rows : (a : AccessNumbers) → a ≡ access_at b first → rows_of old ≡ at_bit b row ∷ rows_of new
   first-rows a a_is = groups-parts row_total old a (at_bit b row) new (first-row a a_is)
+
+-- chunks whose classes differ
+pub other-class : (c d : Chunk) → (d.class ≡ c.class → ⊥) → has_class c d ≡ false
+other-class c d apart = false_from_ne_true (has_class c d) (λ e. apart (sym (exact_unsigned _ _ (equal-is (class_cmp c d) e))))
