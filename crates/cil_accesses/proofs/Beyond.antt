@@ -131,7 +131,7 @@ module _ (others : List Chunk) where
   left-are chunks are = record {
     ordered = left-ascends chunks are.ordered;
     words = all_from_contains (λ c. c.word < 2 ^ 26) (flat_map (left_beyond others) chunks) (λ e h. let left = in-left chunks e h in
-    subst (λ (x : Chunk). x.word < 2 ^ 26) (sym left.is) (All-contains (λ c. c.word < 2 ^ 26) chunks left.chunk are.words left.among));
+        subst (λ (x : Chunk). x.word < 2 ^ 26) (sym left.is) (All-contains (λ c. c.word < 2 ^ 26) chunks left.chunk are.words left.among));
   }
 
   -- its accesses are those of the list that no other chunk has

@@ -86,8 +86,8 @@ sorted_one R total (x ∷ xs) [] sorted rising to back = absurd (contains-none x
 sorted_one R total (x ∷ xs) (y ∷ ys) sorted rising to back =
     let same : x ≡ y = heads (contains-cases y ys x (to x (contains-first x xs))) (contains-cases x xs y (back y (contains-first y ys))) in
     let tails : xs ≡ ys = sorted_one R total xs ys (sorted-others R x xs sorted) (sorted-others R y ys rising)
-        (λ z h. tail-of y z ys (contains-cases y ys z (to z (contains-other x xs z h))) (λ e. below_itself R total x z (same ∙ e) (sorted-first R x xs z sorted h)))
-        (λ z h. tail-of x z xs (contains-cases x xs z (back z (contains-other y ys z h))) (λ e. below_itself R total y z (sym same ∙ e) (sorted-first R y ys z rising h))) in
+    (λ z h. tail-of y z ys (contains-cases y ys z (to z (contains-other x xs z h))) (λ e. below_itself R total x z (same ∙ e) (sorted-first R x xs z sorted h)))
+    (λ z h. tail-of x z xs (contains-cases x xs z (back z (contains-other y ys z h))) (λ e. below_itself R total y z (sym same ∙ e) (sorted-first R y ys z rising h))) in
     λ i. same i ∷ tails i
   where
     heads : (y ≡ x) ⊎ Contains ys x → (x ≡ y) ⊎ Contains xs y → x ≡ y

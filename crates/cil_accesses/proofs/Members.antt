@@ -31,8 +31,8 @@ pub of-access : (c : Chunk) (a : AccessNumbers) → IsAccessOf c a → (has_bit 
 of-access c a is = (
   eq-eqb (bit_at c.bits (a.target % 64)) 1 is.bit,
   let word = is.word in
-  let target : 64 * c.word + a.target % 64 ≡ a.target = omega (arith, word) in
-  λ i. record { kind = sym is.kind i; source = sym is.source i; target = target i; class = sym is.the_class i; permission = sym is.permission i },
+      let target : 64 * c.word + a.target % 64 ≡ a.target = omega (arith, word) in
+      λ i. record { kind = sym is.kind i; source = sym is.source i; target = target i; class = sym is.the_class i; permission = sym is.permission i },
 )
 
 pub in-at_bit : (b : ℕ) (run : List Chunk) (a : AccessNumbers) → Contains (at_bit b run) a → (c : Chunk) × Contains run c × (has_bit b c ≡ true) × (access_at b c ≡ a)

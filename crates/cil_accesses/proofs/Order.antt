@@ -131,8 +131,8 @@ chunk_exact c d e =
 pub same-chunk_cmp : (c d : Chunk) → HaveOneKey c d → (e : Chunk) → chunk_cmp c e ≡ chunk_cmp d e
 same-chunk_cmp c d same e =
     λ i. ordering_then
-        (ordering_then (nat_cmp (kind_index (rule_kind_of (same.run.kind i))) (kind_index (rule_kind_of e.kind))) (ordering_then (nat_cmp (same.run.source i) e.source) (nat_cmp (same.run.word i) e.word)))
-        (ordering_then (nat_cmp (same.the_class i) e.class) (nat_cmp (same.permission i) e.permission))
+    (ordering_then (nat_cmp (kind_index (rule_kind_of (same.run.kind i))) (kind_index (rule_kind_of e.kind))) (ordering_then (nat_cmp (same.run.source i) e.source) (nat_cmp (same.run.word i) e.word)))
+    (ordering_then (nat_cmp (same.the_class i) e.class) (nat_cmp (same.permission i) e.permission))
 
 -- chunks that have one access have one key
 pub one-key : (c d : Chunk) (a : AccessNumbers) → IsAccessOf c a → IsAccessOf d a → chunk_cmp c d ≡ Equal

@@ -25,11 +25,16 @@ impl Chunk {
     pub(super) fn key_cmp(&self, other: &Chunk) -> Ordering
         ensures { result ≡ chunk_cmp self.now other.now }
     {
-        let run = self
-            .kind
-            .cmp(&other.kind)
-            .then(self.source.cmp(&other.source).then(self.word.cmp(&other.word)));
-        run.then(self.class.cmp(&other.class).then(self.permission.cmp(&other.permission)))
+        let run = self.kind.cmp(&other.kind).then(
+            self.source
+                .cmp(&other.source)
+                .then(self.word.cmp(&other.word)),
+        );
+        run.then(
+            self.class
+                .cmp(&other.class)
+                .then(self.permission.cmp(&other.permission)),
+        )
     }
 
     /// How many accesses it has.

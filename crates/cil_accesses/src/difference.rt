@@ -95,11 +95,7 @@ fn compare<A: Allocator + Copy>(
 impl<A: Allocator + Copy> Difference<A> {
     /// What two lists of accesses have each beyond the other, where both are by the same numbers. It takes no memory for what both
     /// have.
-    pub fn between(
-        alloc: A,
-        old: &Accesses<A>,
-        new: &Accesses<A>,
-    ) -> Result<Self, AllocError>
+    pub fn between(alloc: A, old: &Accesses<A>, new: &Accesses<A>) -> Result<Self, AllocError>
         ensures removed { IfOk result (λ d. d.removed ≡ filter (is_absent new.now) old.now) }
         ensures added { IfOk result (λ d. d.added ≡ filter (is_absent old.now) new.now) }
     {

@@ -3,6 +3,8 @@
 
 mod access;
 mod accesses;
+#[cfg(test)]
+mod accesses_tests;
 mod chunk;
 mod difference;
 mod place;

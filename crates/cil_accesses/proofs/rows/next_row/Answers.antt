@@ -17,5 +17,5 @@ returns-in-Some c =
     let at = c.loop-first.invariant.place in (
       behind-is p c.in-Some.left at c.in-Some.first.now c.in-Some.chunks.now c.in-Some.ensures,
       subst (λ l. IsNextRow (record { first = c.access.result; chunks = c.in-Some.chunks; bit = p.bit }) l (at_place (behind p c.in-Some.left))) c.loop-first.invariant.same
-      (row-is p c.in-Some.left c.in-Some.chunks c.access.result at c.in-Some.first.now c.in-Some.ensures c.access.ensures),
+          (row-is p c.in-Some.left c.in-Some.chunks c.access.result at c.in-Some.first.now c.in-Some.ensures c.access.ensures),
     )
