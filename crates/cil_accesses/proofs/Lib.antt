@@ -1,0 +1,13 @@
+pub mod Order
+pub mod Lists
+pub mod GroupLemmas
+pub mod Members
+pub mod RunLemmas
+pub mod Ascending
+pub mod Made
+pub mod Counts
+pub mod Beyond
+pub mod Walk
+pub mod Places
+pub mod RowPlaces
+pub mod Moves

@@ -1,0 +1,142 @@
+-- From place to place among the rows.
+use Rattle.std.proofs.Common.{◌≡◌, ℕ, ◌+◌, ◌-◌, ◌*◌, ◌^◌, ◌<◌, ◌≤◌, not, List, [], ◌∷◌, ◌++◌, length, take, drop, filter, map, slice_get, Some, refl, sym, ap, ◌∙◌, subst, arith, append_assoc, append-nil, Contains, Bor}
+use Rattle.std.specs.List.{All, prefix_len}
+use Rattle.std.specs.List.Sorted.{IsStrictlySortedBy}
+use Rattle.std.specs.Ordering.{ordering_reverse}
+use Rattle.std.specs.declared.cmp.Ordering.TheVariants.{Less, Equal}
+use Rattle.std.proofs.lemmas.List.{take-append-drop}
+use Rattle.std.proofs.lemmas.List.Elements.{All-nil}
+use Rattle.cil_accesses.specs.declared.access.AccessNumbers.{AccessNumbers}
+use Rattle.cil_accesses.specs.declared.chunk.Chunk.{Chunk}
+use Rattle.cil_accesses.specs.declared.rows.AccessRow.{AccessRow}
+use Rattle.cil_accesses.specs.declared.rows.RowPlace.{RowPlace}
+use Rattle.cil_accesses.specs.Chunks.{run_cmp, chunk_cmp}
+use Rattle.cil_accesses.specs.Groups.{IsFirstGroup}
+use Rattle.cil_accesses.specs.Rows.{has_class, class_cmp, at_place, size_of, IsNextClass, IsNextRow, IsPlace}
+use Rattle.cil_accesses.specs.View.{in_run, has_bit, access_at, at_bit, from_bit, run_accesses, accesses_of, AreChunks}
+use Rattle.cil_accesses.proofs.GroupLemmas.{group-front, group-shorter}
+use Rattle.cil_accesses.proofs.Lists.{contains-none}
+use Rattle.cil_accesses.proofs.Made.{no-accesses}
+use Rattle.cil_accesses.proofs.Order.{run_total}
+use Rattle.cil_accesses.proofs.Places.{from_bit-first, from_bit-more, from_bit-none, run-all, later-all}
+use Rattle.cil_accesses.proofs.RowPlaces.{skipped-none, found-passes, none-passes, class_total, first-row, first-rows, later-of-run, later-ordered, first-of-run}
+use Rattle.cil_accesses.proofs.RunLemmas.{accesses-parts, in-first-run, run-ascends, later-ascends, below-later}
+
+-- what is split off
+pub next-class : (chunks : List Chunk) (bit n m : ℕ) (rest : List Chunk) (first : Chunk) (row later : List Chunk) → n ≡ prefix_len (λ c. not (has_bit bit c)) chunks → rest ≡ drop n chunks → Some first ≡ slice_get rest 0
+    → m ≡ prefix_len (has_class first) rest → row ≡ take m rest → later ≡ drop m rest → length row ≡ m → IsNextClass chunks bit first row later
+next-class chunks bit n m rest first row later n_is rest_is first_is m_is row_is later_is long = record {
+  front = take n chunks;
+  rest = rest;
+  whole = sym (take-append-drop n chunks) ∙ ap (λ l. take n chunks ++ l) (sym rest_is);
+  passed = ap (λ k. at_bit bit (take k chunks)) n_is ∙ ap (map (access_at bit)) (skipped-none (has_bit bit) chunks);
+  set = found-passes (has_bit bit) chunks first (first_is ∙ ap (λ l. slice_get l 0) (rest_is ∙ ap (λ k. drop k chunks) n_is));
+  group = group-front class_total rest first m row later first_is m_is row_is later_is long;
+}
+
+pub no-class : (chunks : List Chunk) (bit n : ℕ) → n ≡ prefix_len (λ c. not (has_bit bit c)) chunks → drop n chunks ≡ [] → at_bit bit chunks ≡ []
+no-class chunks bit n n_is past = ap (map (access_at bit)) (none-passes (has_bit bit) chunks (ap (λ k. drop k chunks) (sym n_is) ∙ past))
+
+-- behind a row
+abbrev pub behind : RowPlace → Bor (List Chunk) → RowPlace
+behind p left = record { run = p.run; left = left; bit = p.bit; later = p.later }
+
+pub behind-is : (p : RowPlace) (left : Bor (List Chunk)) → IsPlace p → (first : Chunk) (row : List Chunk) → IsNextClass p.left.now p.bit first row left.now → IsPlace (behind p left)
+behind-is p left at first row next = record {
+  bit = at.bit;
+  left_ordered = later-ordered p at first row left.now next;
+  left_of_run = later-of-run p at first row left.now next;
+  run_ordered = at.run_ordered;
+  run_words = at.run_words;
+  one_run = at.one_run;
+  later = at.later;
+  apart = at.apart;
+}
+
+pub row-is : (p : RowPlace) (left chunks : Bor (List Chunk)) (a : AccessNumbers) → IsPlace p → (first : Chunk) → IsNextClass p.left.now p.bit first chunks.now left.now → a ≡ access_at p.bit first
+    → IsNextRow (record { first = a; chunks = chunks; bit = p.bit }) (at_place p) (at_place (behind p left))
+row-is p left chunks a at first next is = record {
+  bit = at.bit;
+  first = first-row p at first chunks.now left.now next a is;
+  rows = first-rows p at first chunks.now left.now next a is;
+}
+
+-- at the next bit
+abbrev pub at-next : RowPlace → RowPlace
+at-next p = record { run = p.run; left = p.run; bit = p.bit + 1; later = p.later }
+
+module _ (p : RowPlace) (at : IsPlace p) (none : at_bit p.bit p.left.now ≡ []) where
+  skipped-bit : at_place p ≡ from_bit (p.bit + 1) p.run.now ++ accesses_of p.later.now
+  skipped-bit = ap (λ l. l ++ (from_bit (p.bit + 1) p.run.now ++ accesses_of p.later.now)) none
+
+  pub next-place : p.bit < 63 → IsPlace (at-next p)
+  next-place more = record {
+    bit = omega (arith, more);
+    left_ordered = at.run_ordered;
+    left_of_run = λ c h. h;
+    run_ordered = at.run_ordered;
+    run_words = at.run_words;
+    one_run = at.one_run;
+    later = at.later;
+    apart = at.apart;
+  }
+
+  pub next-same : p.bit < 63 → at_place (at-next p) ≡ at_place p
+  next-same more =
+      sym (append_assoc (at_bit (p.bit + 1) p.run.now) (from_bit (p.bit + 1 + 1) p.run.now) (accesses_of p.later.now))
+      ∙ ap (λ l. l ++ accesses_of p.later.now) (sym (from_bit-more (p.bit + 1) p.run.now (omega (arith, more))))
+      ∙ sym skipped-bit
+
+  -- at the first bit of the next run
+  run-behind : 63 ≤ p.bit → at_place p ≡ accesses_of p.later.now
+  run-behind past = skipped-bit ∙ ap (λ l. l ++ accesses_of p.later.now) (from_bit-none (p.bit + 1) p.run.now (omega (arith, past)))
+
+  pub no-run : 63 ≤ p.bit → p.later.now ≡ [] → at_place p ≡ []
+  no-run past ended = run-behind past ∙ ap accesses_of ended ∙ no-accesses
+
+  module _ (past : 63 ≤ p.bit) (run later : Bor (List Chunk)) (first : Chunk) (parts : IsFirstGroup in_run p.later.now first run.now later.now) where
+    abbrev pub at-run : RowPlace
+    at-run = record { run = run; left = run; bit = 0; later = later }
+
+    pub run-place : IsPlace at-run
+    run-place = record {
+      bit = omega arith;
+      left_ordered = run-ascends p.later.now first run.now later.now parts at.later.ordered;
+      left_of_run = λ c h. h;
+      run_ordered = run-ascends p.later.now first run.now later.now parts at.later.ordered;
+      run_words = run-all p.later.now first run.now later.now parts (λ c. c.word < 2 ^ 26) at.later.words;
+      one_run = λ c d h i. sym (run_total.congr first c d (in-first-run p.later.now first run.now later.now parts c h)) ∙ in-first-run p.later.now first run.now later.now parts d i;
+      later = record {
+        ordered = later-ascends p.later.now first run.now later.now parts at.later.ordered;
+        words = later-all p.later.now first run.now later.now parts (λ c. c.word < 2 ^ 26) at.later.words;
+      };
+      apart = below-later p.later.now first run.now later.now parts at.later.ordered;
+    }
+
+    pub run-same : at_place at-run ≡ at_place p
+    run-same =
+        sym (append_assoc (at_bit 0 run.now) (from_bit 1 run.now) (accesses_of later.now))
+        ∙ ap (λ l. l ++ accesses_of later.now) (sym (from_bit-first run.now ∙ from_bit-more 0 run.now (omega arith)))
+        ∙ sym (run-behind past ∙ accesses-parts p.later.now first run.now later.now parts)
+
+    pub run-smaller : size_of at-run < size_of p
+    run-smaller = let shorter = group-shorter in_run p.later.now first run.now later.now parts in let bit = at.bit in omega (arith, shorter, past, bit)
+
+-- before the first row
+pub start-place : (p : RowPlace) → p.bit ≡ 63 → p.run.now ≡ [] → p.left.now ≡ [] → AreChunks p.later.now → IsPlace p
+unfolding IsStrictlySortedBy
+start-place p bit run left are = record {
+  bit = omega (arith, bit);
+  left_ordered = subst (IsStrictlySortedBy chunk_cmp) (sym left) tt;
+  left_of_run = λ c h. absurd (contains-none c (subst (λ l. Contains l c) left h));
+  run_ordered = subst (IsStrictlySortedBy chunk_cmp) (sym run) tt;
+  run_words = subst (All (λ c. c.word < 2 ^ 26)) (sym run) (All-nil (λ c. c.word < 2 ^ 26));
+  one_run = λ c d h i. absurd (contains-none c (subst (λ l. Contains l c) run h));
+  later = are;
+  apart = λ c d h i. absurd (contains-none c (subst (λ l. Contains l c) run h));
+}
+
+pub start-is : (p : RowPlace) → p.bit ≡ 63 → p.run.now ≡ [] → p.left.now ≡ [] → at_place p ≡ accesses_of p.later.now
+start-is p bit run left =
+    ap (λ l. at_bit p.bit l ++ (from_bit (p.bit + 1) p.run.now ++ accesses_of p.later.now)) left
+    ∙ ap (λ l. l ++ accesses_of p.later.now) (from_bit-none (p.bit + 1) p.run.now (omega (arith, bit)))

@@ -1,0 +1,13 @@
+use Rattle.std.proofs.Common.{◌≡◌, ◌<◌, ◌≤◌, ◌-◌, ℕ, true, get_or, length}
+use Rattle.cil_accesses.specs.declared.chunk.Chunk.{Chunk}
+use Rattle.cil_accesses.specs.Rows.{has_class}
+use Rattle.cil_accesses.proofs.rows.class_len.Given as goal
+
+abbrev pub invariant-loop-len : goal.invariant-loop-len
+invariant-loop-len l = record {
+  within : l.len ≤ length l.chunks;
+  same : (k : ℕ) (d : Chunk) → k < l.len → has_class l.first (get_or l.chunks k d) ≡ true;
+}
+
+abbrev pub decreases-loop-len : goal.decreases-loop-len
+decreases-loop-len l = length l.chunks - l.len

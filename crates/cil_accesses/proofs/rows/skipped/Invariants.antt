@@ -1,0 +1,13 @@
+use Rattle.std.proofs.Common.{◌≡◌, ◌<◌, ◌≤◌, ◌-◌, ℕ, true, not, get_or, length}
+use Rattle.cil_accesses.specs.declared.chunk.Chunk.{Chunk}
+use Rattle.cil_accesses.specs.View.{has_bit}
+use Rattle.cil_accesses.proofs.rows.skipped.Given as goal
+
+abbrev pub invariant-loop-count : goal.invariant-loop-count
+invariant-loop-count l = record {
+  within : l.count ≤ length l.chunks;
+  same : (k : ℕ) (d : Chunk) → k < l.count → not (has_bit l.bit (get_or l.chunks k d)) ≡ true;
+}
+
+abbrev pub decreases-loop-count : goal.decreases-loop-count
+decreases-loop-count l = length l.chunks - l.count

@@ -1,0 +1,82 @@
+//! Accesses in order.
+
+ghost use Rattle.std.specs.Prelude.{◌≡◌, ◌<◌, ◌^◌, ◌↔◌, [], Contains, length, slice_get};
+ghost use Rattle.std.specs.List.{All, IsDistinct};
+ghost use Rattle.std.specs.List.Sorted.{IsStrictlySortedBy};
+ghost use Rattle.std.specs.Ordering.{eq_by_cmp};
+ghost use Rattle.cil_accesses.specs.Chunks.{chunk_cmp, numbers_cmp, IsGiven};
+
+use crate::access::AccessNumbers;
+use crate::chunk::Chunk;
+use crate::place::access_in;
+use crate::rows::Rows;
+use std::alloc::{Allocator, Global};
+use std::marker::Model;
+
+/// Accesses, each once, by kind, source, target, class and permission. Contracts see them as their list.
+#[derive(Debug, Drop)]
+pub struct Accesses<A: Allocator = Global> {
+    pub(super) chunks: Vec<Chunk, A>,
+}
+
+impl<A: Allocator> Model for Accesses<A> {
+    ghost use Rattle.std.specs.Prelude.{List};
+    ghost use Rattle.cil_accesses.specs.declared.access.AccessNumbers.{AccessNumbers};
+
+    ghost Value = { List AccessNumbers };
+
+    ghost use Rattle.cil_accesses.specs.View.{accesses_of, AreChunks};
+
+    ghost view = { λ s. accesses_of s.chunks.items };
+
+    ghost invariant = { λ s. AreChunks s.chunks.items };
+}
+
+impl<A: Allocator> Accesses<A> {
+    /// No access. It takes no memory.
+    pub fn empty(alloc: A) -> Self
+        ensures { result ≡ [] }
+    {
+        Accesses {
+            chunks: Vec::new(alloc),
+        }
+    }
+
+    /// The accesses of chunks, no two of which are of one kind, source, word, class and permission.
+    pub fn of(chunks: Vec<Chunk, A>) -> Self
+        requires distinct { IsDistinct (eq_by_cmp chunk_cmp) chunks.items }
+        requires words { All (λ c. c.word < 2 ^ 26) chunks.items }
+        ensures ordered { IsStrictlySortedBy numbers_cmp result }
+        ensures same { (a : _) → Contains result a ↔ IsGiven chunks.items a }
+    {
+        let mut chunks = chunks;
+        chunks.sort_unstable();
+        Accesses { chunks }
+    }
+
+    /// How many accesses there are.
+    pub fn len(&self) -> u128
+        ensures count { result ≡ length self.now }
+        ensures ordered { IsStrictlySortedBy numbers_cmp self.now }
+    {
+        let mut count: u128 = 0;
+        for chunk in &self.chunks {
+            count += u128::from(chunk.len());
+        }
+        count
+    }
+
+    /// The access at a place of the order.
+    pub fn get(&self, i: usize) -> Option<AccessNumbers>
+        ensures { result ≡ slice_get self.now i }
+    {
+        access_in(&self.chunks, i)
+    }
+
+    /// The rows in order, of which each is all permissions of one kind, source, target and class.
+    pub fn rows(&self) -> Rows<'_>
+        ensures { result ≡ self.now }
+    {
+        Rows::of(&self.chunks)
+    }
+}

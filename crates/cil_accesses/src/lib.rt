@@ -1,0 +1,18 @@
+//! Accesses by numbers, 64 targets a machine word.
+#![tactic(auto)]
+
+mod access;
+mod accesses;
+#[cfg(test)]
+mod accesses_tests;
+mod chunk;
+mod difference;
+mod place;
+mod rows;
+mod run;
+
+pub use access::AccessNumbers;
+pub use accesses::Accesses;
+pub use chunk::Chunk;
+pub use difference::Difference;
+pub use rows::{AccessRow, Rows};
