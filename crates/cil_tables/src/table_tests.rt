@@ -185,3 +185,18 @@ fn lines_stand_in_the_order_in_which_they_were_made(rt: HostRuntime) {
     let none = !audited.is_empty() && tables.lines(RuleKind::DontAudit).is_empty();
     assert!(&rt; none);
 }
+
+#[test]
+fn a_counter_above_65536(rt: HostRuntime) {
+    let mut rules = Vec::new(rt.alloc());
+    for _ in 0..65_540 {
+        rules
+            .extend_from_slice(b"(allow a b (p (use)))")
+            .expect(&rt, "memory");
+    }
+    let wanted = [
+        access(b"a", b"b", b"p", b"use", 65_540),
+        access(b"b", b"b", b"p", b"use", 0),
+    ];
+    assert_counts(&rt, rt.alloc(), rules.as_slice(), RuleKind::Allow, &wanted);
+}
