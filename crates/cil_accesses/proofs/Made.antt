@@ -68,3 +68,7 @@ same-accesses xs ys moved a = (
   λ h. given-moved ys xs (IsPermutation-sym xs ys moved) a (in-accesses_of ys a h),
   λ h. accesses_of-has ys a (given-moved xs ys moved a h),
 )
+
+pub none-distinct : IsDistinct (eq_by_cmp chunk_cmp) []
+unfolding IsDistinct
+none-distinct = tt
