@@ -1,5 +1,5 @@
 -- Chunks that are put in order.
-use Rattle.std.proofs.Common.{◌≡◌, ◌↔◌, ℕ, ◌<◌, ◌≤◌, ◌+◌, ◌^◌, Bool, true, false, List, [], get_or, length, refl, sym, ap, ◌∙◌, arith, Contains, IsPermutation, IsSorted}
+use Rattle.std.proofs.Common.{◌≡◌, ◌↔◌, ℕ, ◌<◌, ◌+◌, ◌^◌, false, List, [], get_or, length, refl, sym, ap, ◌∙◌, arith, Contains, IsPermutation, IsSorted}
 use Rattle.std.specs.List.{All, IsDistinct}
 use Rattle.std.specs.List.Sorted.{IsStrictlySortedBy}
 use Rattle.std.specs.Ordering.{nat_cmp, ordering_then, ordering_reverse, eq_by_cmp, is_eq, is_lt}

@@ -1,27 +1,24 @@
 -- From place to place among the rows.
-use Rattle.std.proofs.Common.{◌≡◌, ◌⊎◌, inl, inr, ◌==◌, bit_or, get_or, false, cond, ℕ, ◌+◌, ◌-◌, ◌*◌, ◌^◌, ◌<◌, ◌≤◌, not, List, [], ◌∷◌, ◌++◌, length, take, drop, filter, map, slice_get, Some, refl, sym, ap, ◌∙◌, subst, arith, append_assoc, append-nil, Contains, Bor}
+use Rattle.std.proofs.Common.{◌≡◌, ◌⊎◌, inl, inr, ◌==◌, bit_or, get_or, false, cond, ℕ, ◌+◌, ◌^◌, ◌<◌, ◌≤◌, not, List, [], ◌∷◌, ◌++◌, length, take, drop, map, slice_get, Some, refl, sym, ap, ◌∙◌, subst, arith, append_assoc, Contains, Bor}
 use Rattle.std.specs.List.{All, prefix_len}
 use Rattle.std.specs.List.Sorted.{IsStrictlySortedBy}
-use Rattle.std.specs.Ordering.{ordering_reverse}
-use Rattle.std.specs.declared.cmp.Ordering.TheVariants.{Less, Equal}
 use Rattle.std.specs.Int.{bit_at}
 use Rattle.std.proofs.lemmas.List.{take-append-drop, take_more}
 use Rattle.std.proofs.lemmas.Nat.Bits.{bit_at_or}
 use Rattle.std.proofs.lemmas.List.Elements.{All-nil}
 use Rattle.cil_accesses.specs.declared.access.AccessNumbers.{AccessNumbers}
 use Rattle.cil_accesses.specs.declared.chunk.Chunk.{Chunk}
-use Rattle.cil_accesses.specs.declared.rows.AccessRow.{AccessRow}
 use Rattle.cil_accesses.specs.declared.rows.RowPlace.{RowPlace}
-use Rattle.cil_accesses.specs.Chunks.{run_cmp, chunk_cmp}
+use Rattle.cil_accesses.specs.Chunks.{chunk_cmp}
 use Rattle.cil_accesses.specs.Groups.{IsFirstGroup}
-use Rattle.cil_accesses.specs.Rows.{has_class, class_cmp, at_place, size_of, HasBitsOf, IsNextClass, IsNextRow, IsPlace}
-use Rattle.cil_accesses.specs.View.{in_run, has_bit, access_at, at_bit, from_bit, run_accesses, accesses_of, AreChunks}
+use Rattle.cil_accesses.specs.Rows.{has_class, at_place, size_of, HasBitsOf, IsNextClass, IsNextRow, IsPlace}
+use Rattle.cil_accesses.specs.View.{in_run, has_bit, access_at, at_bit, from_bit, accesses_of, AreChunks}
 use Rattle.cil_accesses.proofs.GroupLemmas.{group-front, group-shorter}
 use Rattle.cil_accesses.proofs.Lists.{contains-none}
 use Rattle.cil_accesses.proofs.Made.{no-accesses}
 use Rattle.cil_accesses.proofs.Order.{run_total}
 use Rattle.cil_accesses.proofs.Places.{from_bit-first, from_bit-more, from_bit-none, run-all, later-all}
-use Rattle.cil_accesses.proofs.RowPlaces.{skipped-none, found-passes, none-passes, class_total, first-row, first-rows, at_bit-append, later-of-run, later-ordered, first-of-run}
+use Rattle.cil_accesses.proofs.RowPlaces.{skipped-none, found-passes, none-passes, class_total, first-row, first-rows, at_bit-append, later-of-run, later-ordered}
 use Rattle.cil_accesses.proofs.RunLemmas.{accesses-parts, in-first-run, run-ascends, later-ascends, below-later}
 
 -- what is split off

@@ -1,4 +1,4 @@
-use Rattle.std.proofs.Common.{◌≡◌, ◌<◌, ◌^◌, [], ◌++◌, ◌∷◌, ◌∙◌, get_or, is_ok, if◌then◌else◌, sym, ap, arith}
+use Rattle.std.proofs.Common.{◌<◌, ◌^◌, [], ◌++◌, ◌∷◌, ◌∙◌, get_or, is_ok, if◌then◌else◌, sym, ap, arith}
 use Rattle.std.proofs.lemmas.List.Elements.{All-nil, All-push}
 use Rattle.std.proofs.lemmas.Cmp.{eq_by_cmp_equiv}
 use Rattle.std.proofs.lemmas.Map.Keys.{IsDistinct-push}
