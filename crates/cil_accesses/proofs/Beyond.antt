@@ -1,19 +1,14 @@
 -- What chunks have beyond others.
-use Rattle.std.proofs.Common.{◌≡◌, ◌≢◌, ◌↔◌, ◌⊎◌, inl, inr, ℕ, suc, zero, ◌<◌, ◌≤◌, ◌+◌, ◌-◌, ◌/◌, ◌%◌, ◌^◌, ◌==◌, Bool, true, false, not, cond, if◌then◌else◌, min, List, [], ◌∷◌, ◌++◌, length, get_or, take, filter, flat_map, bit_and, bit_xor, Any, refl, sym, ap, ◌∙◌, subst, arith, Contains, eq-eqb, w64}
+use Rattle.std.proofs.Common.{◌≡◌, ◌⊎◌, inl, inr, ℕ, ◌<◌, ◌-◌, ◌%◌, ◌^◌, ◌==◌, Bool, true, false, not, if◌then◌else◌, min, List, [], ◌∷◌, filter, flat_map, bit_and, bit_xor, Any, refl, sym, ap, ◌∙◌, subst, arith, Contains, w64}
 use Rattle.std.specs.Int.{bit_at, bit_not}
-use Rattle.std.specs.List.{All, HoldsAt, list_any}
+use Rattle.std.specs.List.{list_any}
 use Rattle.std.specs.List.Sorted.{IsStrictlySortedBy}
 use Rattle.std.specs.Ordering.{eq_by_cmp, is_eq, ordering_reverse}
-use Rattle.std.specs.declared.cmp.Ordering.{Ordering}
 use Rattle.std.specs.declared.cmp.Ordering.TheVariants.{Less, Equal, Greater}
-use Rattle.std.proofs.lemmas.Bool.{cases_eq, cases_lt, cases_Bool, cases_order, ne_eqb, true≢false, not-true, not-false, false_from_ne_true}
+use Rattle.std.proofs.lemmas.Bool.{cases_eq, cases_lt, ne_eqb, true≢false, not-true, false_from_ne_true}
 use Rattle.std.proofs.lemmas.Cmp.{tied_itself}
-use Rattle.std.proofs.lemmas.Grind.{flat_map-append}
-use Rattle.std.proofs.lemmas.List.{append-nil}
-use Rattle.std.proofs.lemmas.List.Concat.{flat_map-cons}
 use Rattle.std.proofs.lemmas.List.Elements.{All-contains}
 use Rattle.std.proofs.lemmas.List.Folds.{list_any-from_Any, Any-from_list_any}
-use Rattle.std.proofs.lemmas.Map.Keys.{Less-from_sorted}
 use Rattle.std.proofs.lemmas.Nat.Bits.{bit_at-lt, bit_at_and, bit_at_xor, bit_at_not, bit_at_above, bit_at-zero, same_from_bits}
 use Rattle.cil_specs.proofs.NamesLemmas.{contains-first, contains-cases, contains-other}
 use Rattle.cil_specs.proofs.ReportLemmas.{equal-is}
@@ -23,9 +18,9 @@ use Rattle.cil_specs.proofs.FaultWords.{contains-filtered}
 use Rattle.cil_accesses.specs.declared.access.AccessNumbers.{AccessNumbers}
 use Rattle.cil_accesses.specs.declared.chunk.Chunk.{Chunk}
 use Rattle.cil_accesses.specs.Chunks.{numbers_cmp, chunk_cmp, IsAccessOf, IsGiven}
-use Rattle.cil_accesses.specs.Difference.{is_absent, with_bits, if_any, left_of, bits_in, left_beyond, nowhere, chunk_at, IsBelow, IsNextChunk}
+use Rattle.cil_accesses.specs.Difference.{is_absent, with_bits, if_any, bits_in, left_beyond}
 use Rattle.cil_accesses.specs.View.{accesses_of, AreChunks}
-use Rattle.cil_accesses.proofs.Order.{chunk_total, chunk_exact, numbers_total, numbers_exact, same-chunk_cmp, HaveOneKey, one-key}
+use Rattle.cil_accesses.proofs.Order.{chunk_total, chunk_exact, numbers_total, numbers_exact, one-key}
 use Rattle.cil_accesses.proofs.Lists.{contains-none, sorted-join, sorted-first, sorted-others, sorted_one, contains-filter, filter-passes}
 use Rattle.cil_accesses.proofs.Members.{in-accesses_of, accesses_of-has}
 use Rattle.cil_accesses.proofs.Ascending.{accesses-ascend}

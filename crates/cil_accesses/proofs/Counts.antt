@@ -1,5 +1,5 @@
 -- How many accesses chunks have.
-use Rattle.std.proofs.Common.{◌≡◌, ℕ, suc, zero, ◌<◌, ◌≤◌, ◌+◌, ◌*◌, ◌/◌, ◌%◌, ◌^◌, Bool, true, false, cond, ◌==◌, List, [], ◌∷◌, ◌++◌, filter, flat_map, map, length, get_or, take, drop, sum_by, count_ones, refl, sym, ap, ◌∙◌, arith, pow-suc}
+use Rattle.std.proofs.Common.{◌≡◌, ℕ, suc, zero, ◌<◌, ◌≤◌, ◌+◌, ◌*◌, ◌/◌, ◌%◌, ◌^◌, Bool, true, false, cond, List, [], ◌∷◌, filter, flat_map, length, get_or, take, drop, sum_by, count_ones, refl, sym, ap, ◌∙◌, arith, pow-suc}
 use Rattle.std.specs.Int.{bit_at}
 use Rattle.std.specs.Int.Count.{ones-ones}
 use Rattle.std.proofs.lemmas.List.{length-map, length-append, take-append-drop}

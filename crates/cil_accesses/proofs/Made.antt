@@ -1,5 +1,5 @@
 -- Chunks that are put in order.
-use Rattle.std.proofs.Common.{◌≡◌, ◌↔◌, ℕ, ◌<◌, ◌≤◌, ◌+◌, ◌^◌, Bool, true, false, List, [], get_or, length, refl, sym, ap, ◌∙◌, arith, Contains, IsPermutation, IsSorted}
+use Rattle.std.proofs.Common.{◌≡◌, ◌↔◌, ℕ, ◌<◌, ◌+◌, ◌^◌, false, List, [], get_or, length, refl, sym, ap, ◌∙◌, arith, Contains, IsPermutation, IsSorted}
 use Rattle.std.specs.List.{All, IsDistinct}
 use Rattle.std.specs.List.Sorted.{IsStrictlySortedBy}
 use Rattle.std.specs.Ordering.{nat_cmp, ordering_then, ordering_reverse, eq_by_cmp, is_eq, is_lt}
@@ -68,3 +68,7 @@ same-accesses xs ys moved a = (
   λ h. given-moved ys xs (IsPermutation-sym xs ys moved) a (in-accesses_of ys a h),
   λ h. accesses_of-has ys a (given-moved xs ys moved a h),
 )
+
+pub none-distinct : IsDistinct (eq_by_cmp chunk_cmp) []
+unfolding IsDistinct
+none-distinct = tt

@@ -1,25 +1,24 @@
 -- From place to place among the rows.
-use Rattle.std.proofs.Common.{◌≡◌, ℕ, ◌+◌, ◌-◌, ◌*◌, ◌^◌, ◌<◌, ◌≤◌, not, List, [], ◌∷◌, ◌++◌, length, take, drop, filter, map, slice_get, Some, refl, sym, ap, ◌∙◌, subst, arith, append_assoc, append-nil, Contains, Bor}
+use Rattle.std.proofs.Common.{◌≡◌, ◌⊎◌, inl, inr, ◌==◌, bit_or, get_or, false, cond, ℕ, ◌+◌, ◌^◌, ◌<◌, ◌≤◌, not, List, [], ◌∷◌, ◌++◌, length, take, drop, map, slice_get, Some, refl, sym, ap, ◌∙◌, subst, arith, append_assoc, Contains, Bor}
 use Rattle.std.specs.List.{All, prefix_len}
 use Rattle.std.specs.List.Sorted.{IsStrictlySortedBy}
-use Rattle.std.specs.Ordering.{ordering_reverse}
-use Rattle.std.specs.declared.cmp.Ordering.TheVariants.{Less, Equal}
-use Rattle.std.proofs.lemmas.List.{take-append-drop}
+use Rattle.std.specs.Int.{bit_at}
+use Rattle.std.proofs.lemmas.List.{take-append-drop, take_more}
+use Rattle.std.proofs.lemmas.Nat.Bits.{bit_at_or}
 use Rattle.std.proofs.lemmas.List.Elements.{All-nil}
 use Rattle.cil_accesses.specs.declared.access.AccessNumbers.{AccessNumbers}
 use Rattle.cil_accesses.specs.declared.chunk.Chunk.{Chunk}
-use Rattle.cil_accesses.specs.declared.rows.AccessRow.{AccessRow}
 use Rattle.cil_accesses.specs.declared.rows.RowPlace.{RowPlace}
-use Rattle.cil_accesses.specs.Chunks.{run_cmp, chunk_cmp}
+use Rattle.cil_accesses.specs.Chunks.{chunk_cmp}
 use Rattle.cil_accesses.specs.Groups.{IsFirstGroup}
-use Rattle.cil_accesses.specs.Rows.{has_class, class_cmp, at_place, size_of, IsNextClass, IsNextRow, IsPlace}
-use Rattle.cil_accesses.specs.View.{in_run, has_bit, access_at, at_bit, from_bit, run_accesses, accesses_of, AreChunks}
+use Rattle.cil_accesses.specs.Rows.{has_class, at_place, size_of, HasBitsOf, IsNextClass, IsNextRow, IsPlace}
+use Rattle.cil_accesses.specs.View.{in_run, has_bit, access_at, at_bit, from_bit, accesses_of, AreChunks}
 use Rattle.cil_accesses.proofs.GroupLemmas.{group-front, group-shorter}
 use Rattle.cil_accesses.proofs.Lists.{contains-none}
 use Rattle.cil_accesses.proofs.Made.{no-accesses}
 use Rattle.cil_accesses.proofs.Order.{run_total}
 use Rattle.cil_accesses.proofs.Places.{from_bit-first, from_bit-more, from_bit-none, run-all, later-all}
-use Rattle.cil_accesses.proofs.RowPlaces.{skipped-none, found-passes, none-passes, class_total, first-row, first-rows, later-of-run, later-ordered, first-of-run}
+use Rattle.cil_accesses.proofs.RowPlaces.{skipped-none, found-passes, none-passes, class_total, first-row, first-rows, at_bit-append, later-of-run, later-ordered}
 use Rattle.cil_accesses.proofs.RunLemmas.{accesses-parts, in-first-run, run-ascends, later-ascends, below-later}
 
 -- what is split off
@@ -39,7 +38,7 @@ no-class chunks bit n n_is past = ap (map (access_at bit)) (none-passes (has_bit
 
 -- behind a row
 abbrev pub behind : RowPlace → Bor (List Chunk) → RowPlace
-behind p left = record { run = p.run; left = left; bit = p.bit; later = p.later }
+behind p left = record { run = p.run; bits = p.bits; left = left; bit = p.bit; later = p.later }
 
 pub behind-is : (p : RowPlace) (left : Bor (List Chunk)) → IsPlace p → (first : Chunk) (row : List Chunk) → IsNextClass p.left.now p.bit first row left.now → IsPlace (behind p left)
 behind-is p left at first row next = record {
@@ -49,6 +48,7 @@ behind-is p left at first row next = record {
   run_ordered = at.run_ordered;
   run_words = at.run_words;
   one_run = at.one_run;
+  bits = at.bits;
   later = at.later;
   apart = at.apart;
 }
@@ -61,29 +61,54 @@ row-is p left chunks a at first next is = record {
   rows = first-rows p at first chunks.now left.now next a is;
 }
 
+-- the bits of chunks
+pub bits-none : HasBitsOf 0 []
+bits-none b none = refl
+
+pub bits-more : (run : List Chunk) (i bits : ℕ) (d : Chunk) → i < length run → HasBitsOf bits (take i run) → HasBitsOf (bit_or bits (get_or run i d).bits) (take (i + 1) run)
+bits-more run i bits d within so_far b none =
+    let c : Chunk = get_or run i d in
+    let both = bit_at_or bits c.bits b in
+    let before : bit_at bits b ≡ 0 = omega (arith, both, none) in
+    let here : bit_at c.bits b ≡ 0 = omega (arith, both, none) in
+    let unset : has_bit b c ≡ false = ap (λ n. n == 1) here in
+    ap (at_bit b) (take_more run i d within) ∙ at_bit-append b (take i run) (c ∷ []) ∙ (λ k. so_far b before k ++ map (access_at b) (cond (unset k) (c ∷ []) []))
+
+-- all of a run, or nothing
+part-ordered : (l run : List Chunk) → (l ≡ run) ⊎ (l ≡ []) → IsStrictlySortedBy chunk_cmp run → IsStrictlySortedBy chunk_cmp l
+unfolding IsStrictlySortedBy
+part-ordered l run (inl is) sorted = subst (IsStrictlySortedBy chunk_cmp) (sym is) sorted
+part-ordered l run (inr none) sorted = subst (IsStrictlySortedBy chunk_cmp) (sym none) tt
+
+part-of : (l run : List Chunk) → (l ≡ run) ⊎ (l ≡ []) → (c : Chunk) → Contains l c → Contains run c
+part-of l run (inl is) c h = subst (λ m. Contains m c) is h
+part-of l run (inr none) c h = absurd (contains-none c (subst (λ m. Contains m c) none h))
+
 -- at the next bit
-abbrev pub at-next : RowPlace → RowPlace
-at-next p = record { run = p.run; left = p.run; bit = p.bit + 1; later = p.later }
+abbrev pub at-next : RowPlace → Bor (List Chunk) → RowPlace
+at-next p left = record { run = p.run; bits = p.bits; left = left; bit = p.bit + 1; later = p.later }
 
 module _ (p : RowPlace) (at : IsPlace p) (none : at_bit p.bit p.left.now ≡ []) where
   skipped-bit : at_place p ≡ from_bit (p.bit + 1) p.run.now ++ accesses_of p.later.now
   skipped-bit = ap (λ l. l ++ (from_bit (p.bit + 1) p.run.now ++ accesses_of p.later.now)) none
 
-  pub next-place : p.bit < 63 → IsPlace (at-next p)
-  next-place more = record {
+  pub next-place : (left : Bor (List Chunk)) → (left.now ≡ p.run.now) ⊎ (left.now ≡ []) → p.bit < 63 → IsPlace (at-next p left)
+  next-place left part more = record {
     bit = omega (arith, more);
-    left_ordered = at.run_ordered;
-    left_of_run = λ c h. h;
+    left_ordered = part-ordered left.now p.run.now part at.run_ordered;
+    left_of_run = part-of left.now p.run.now part;
     run_ordered = at.run_ordered;
     run_words = at.run_words;
     one_run = at.one_run;
+    bits = at.bits;
     later = at.later;
     apart = at.apart;
   }
 
-  pub next-same : p.bit < 63 → at_place (at-next p) ≡ at_place p
-  next-same more =
-      sym (append_assoc (at_bit (p.bit + 1) p.run.now) (from_bit (p.bit + 1 + 1) p.run.now) (accesses_of p.later.now))
+  pub next-same : (left : Bor (List Chunk)) → at_bit (p.bit + 1) left.now ≡ at_bit (p.bit + 1) p.run.now → p.bit < 63 → at_place (at-next p left) ≡ at_place p
+  next-same left same more =
+      ap (λ l. l ++ (from_bit (p.bit + 1 + 1) p.run.now ++ accesses_of p.later.now)) same
+      ∙ sym (append_assoc (at_bit (p.bit + 1) p.run.now) (from_bit (p.bit + 1 + 1) p.run.now) (accesses_of p.later.now))
       ∙ ap (λ l. l ++ accesses_of p.later.now) (sym (from_bit-more (p.bit + 1) p.run.now (omega (arith, more))))
       ∙ sym skipped-bit
 
@@ -94,18 +119,19 @@ module _ (p : RowPlace) (at : IsPlace p) (none : at_bit p.bit p.left.now ≡ [])
   pub no-run : 63 ≤ p.bit → p.later.now ≡ [] → at_place p ≡ []
   no-run past ended = run-behind past ∙ ap accesses_of ended ∙ no-accesses
 
-  module _ (past : 63 ≤ p.bit) (run later : Bor (List Chunk)) (first : Chunk) (parts : IsFirstGroup in_run p.later.now first run.now later.now) where
+  module _ (past : 63 ≤ p.bit) (run later left : Bor (List Chunk)) (bits : ℕ) (first : Chunk) (parts : IsFirstGroup in_run p.later.now first run.now later.now) where
     abbrev pub at-run : RowPlace
-    at-run = record { run = run; left = run; bit = 0; later = later }
+    at-run = record { run = run; bits = bits; left = left; bit = 0; later = later }
 
-    pub run-place : IsPlace at-run
-    run-place = record {
+    pub run-place : HasBitsOf bits run.now → (left.now ≡ run.now) ⊎ (left.now ≡ []) → IsPlace at-run
+    run-place bits_are part = record {
       bit = omega arith;
-      left_ordered = run-ascends p.later.now first run.now later.now parts at.later.ordered;
-      left_of_run = λ c h. h;
+      left_ordered = part-ordered left.now run.now part (run-ascends p.later.now first run.now later.now parts at.later.ordered);
+      left_of_run = part-of left.now run.now part;
       run_ordered = run-ascends p.later.now first run.now later.now parts at.later.ordered;
       run_words = run-all p.later.now first run.now later.now parts (λ c. c.word < 2 ^ 26) at.later.words;
       one_run = λ c d h i. sym (run_total.congr first c d (in-first-run p.later.now first run.now later.now parts c h)) ∙ in-first-run p.later.now first run.now later.now parts d i;
+      bits = bits_are;
       later = record {
         ordered = later-ascends p.later.now first run.now later.now parts at.later.ordered;
         words = later-all p.later.now first run.now later.now parts (λ c. c.word < 2 ^ 26) at.later.words;
@@ -113,9 +139,10 @@ module _ (p : RowPlace) (at : IsPlace p) (none : at_bit p.bit p.left.now ≡ [])
       apart = below-later p.later.now first run.now later.now parts at.later.ordered;
     }
 
-    pub run-same : at_place at-run ≡ at_place p
-    run-same =
-        sym (append_assoc (at_bit 0 run.now) (from_bit 1 run.now) (accesses_of later.now))
+    pub run-same : at_bit 0 left.now ≡ at_bit 0 run.now → at_place at-run ≡ at_place p
+    run-same same =
+        ap (λ l. l ++ (from_bit 1 run.now ++ accesses_of later.now)) same
+        ∙ sym (append_assoc (at_bit 0 run.now) (from_bit 1 run.now) (accesses_of later.now))
         ∙ ap (λ l. l ++ accesses_of later.now) (sym (from_bit-first run.now ∙ from_bit-more 0 run.now (omega arith)))
         ∙ sym (run-behind past ∙ accesses-parts p.later.now first run.now later.now parts)
 
@@ -132,6 +159,7 @@ start-place p bit run left are = record {
   run_ordered = subst (IsStrictlySortedBy chunk_cmp) (sym run) tt;
   run_words = subst (All (λ c. c.word < 2 ^ 26)) (sym run) (All-nil (λ c. c.word < 2 ^ 26));
   one_run = λ c d h i. absurd (contains-none c (subst (λ l. Contains l c) run h));
+  bits = λ b none. ap (at_bit b) run;
   later = are;
   apart = λ c d h i. absurd (contains-none c (subst (λ l. Contains l c) run h));
 }

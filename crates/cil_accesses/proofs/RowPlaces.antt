@@ -1,6 +1,6 @@
 -- The first row at a place, and the places behind it.
-use Rattle.std.proofs.Common.{◌≡◌, ◌⊎◌, inl, inr, ℕ, suc, zero, ◌+◌, ◌-◌, ◌*◌, ◌/◌, ◌%◌, ◌^◌, ◌<◌, ◌≤◌, Bool, true, false, not, cond, List, [], ◌∷◌, ◌++◌, length, take, drop, filter, map, slice_get, Some, None, refl, sym, ap, ◌∙◌, subst, arith, one-add, append_assoc, append-nil, Contains, true≢false}
-use Rattle.std.specs.List.{All, prefix_len}
+use Rattle.std.proofs.Common.{◌≡◌, ◌⊎◌, inl, inr, ℕ, ◌+◌, ◌-◌, ◌*◌, ◌<◌, ◌≤◌, Bool, true, false, not, cond, List, [], ◌∷◌, ◌++◌, length, take, drop, filter, map, slice_get, Some, None, refl, sym, ap, ◌∙◌, subst, arith, one-add, append_assoc, append-nil, Contains, true≢false}
+use Rattle.std.specs.List.{prefix_len}
 use Rattle.std.specs.List.Sorted.{IsStrictlySortedBy}
 use Rattle.std.specs.Cmp.{IsTotalOrder}
 use Rattle.std.specs.Ordering.{nat_cmp, ordering_then, is_eq}
@@ -10,7 +10,7 @@ use Rattle.std.proofs.lemmas.Bool.{false_from_ne_true}
 use Rattle.std.proofs.lemmas.Bool.Decides.{nat_tests}
 use Rattle.std.proofs.lemmas.Cmp.{nat_cmp_total, on_total, then_total}
 use Rattle.std.proofs.lemmas.List.{take-append-drop, map-append}
-use Rattle.std.proofs.lemmas.List.Elements.{All-nil, filter-append, Contains-append_left, Contains-append_right, Contains-append_cases}
+use Rattle.std.proofs.lemmas.List.Elements.{filter-append, Contains-append_left, Contains-append_right, Contains-append_cases}
 use Rattle.std.proofs.lemmas.Map.Lookups.{exact_unsigned}
 use Rattle.cil_specs.specs.Rule.{kind_index}
 use Rattle.cil_specs.proofs.NamesLemmas.{all-contained, contains-cases, contains-first}
@@ -18,19 +18,16 @@ use Rattle.cil_specs.proofs.ReportLemmas.{then_equal, equal-is}
 use Rattle.cil_text.specs.Image.{rule_kind_of}
 use Rattle.cil_accesses.specs.declared.access.AccessNumbers.{AccessNumbers}
 use Rattle.cil_accesses.specs.declared.chunk.Chunk.{Chunk}
-use Rattle.cil_accesses.specs.declared.rows.AccessRow.{AccessRow}
 use Rattle.cil_accesses.specs.declared.rows.RowPlace.{RowPlace}
-use Rattle.cil_accesses.specs.Chunks.{run_cmp, chunk_cmp, IsAccessOf, IsGiven}
+use Rattle.cil_accesses.specs.Chunks.{run_cmp, chunk_cmp, IsGiven}
 use Rattle.cil_accesses.specs.Groups.{IsFirstGroup}
-use Rattle.cil_accesses.specs.Rows.{row_cmp, in_row, rows_of, class_cmp, has_class, accesses_in, at_place, size_of, IsNextClass, IsNextRow, IsPlace}
-use Rattle.cil_accesses.specs.View.{in_run, has_bit, access_at, at_bit, from_bit, run_accesses, accesses_of, AreChunks}
-use Rattle.cil_accesses.proofs.GroupLemmas.{alike-own, groups-parts, group-shorter, prefix-ends, prefix-passes, prefix-is}
+use Rattle.cil_accesses.specs.Rows.{row_cmp, in_row, rows_of, class_cmp, has_class, at_place, IsNextClass, IsPlace}
+use Rattle.cil_accesses.specs.View.{has_bit, access_at, at_bit, from_bit, accesses_of}
+use Rattle.cil_accesses.proofs.GroupLemmas.{alike-own, groups-parts, prefix-ends, prefix-passes, prefix-is}
 use Rattle.cil_accesses.proofs.Lists.{contains-none, sorted-right, sorted-first}
-use Rattle.cil_accesses.proofs.Made.{no-accesses, no-chunks}
 use Rattle.cil_accesses.proofs.Members.{IsAt, in-at_bit, in-at_bits, in-accesses_of}
 use Rattle.cil_accesses.proofs.Order.{run_total, run_exact, InOneRun, same-rule_kind}
-use Rattle.cil_accesses.proofs.Places.{from_bit-first, from_bit-more, from_bit-none, run-all, later-all}
-use Rattle.cil_accesses.proofs.RunLemmas.{then_less, accesses-parts, in-first-run, run-ascends, later-ascends, below-later}
+use Rattle.cil_accesses.proofs.RunLemmas.{then_less}
 
 -- ---- the first that passes
 

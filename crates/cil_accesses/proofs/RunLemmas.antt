@@ -1,16 +1,12 @@
 -- The first run of chunks, and those after it.
-use Rattle.std.proofs.Common.{◌≡◌, ◌⊎◌, inl, inr, ℕ, suc, zero, ◌+◌, ◌≤◌, Bool, true, false, cond, List, [], ◌∷◌, ◌++◌, length, take, drop, flat_map, refl, sym, ap, ◌∙◌, subst, arith, one-add, Contains, true≢false}
-use Rattle.std.specs.List.{AllByRecursion, prefix_len}
+use Rattle.std.proofs.Common.{◌≡◌, ◌⊎◌, inl, inr, ℕ, suc, true, false, List, [], ◌∷◌, ◌++◌, length, take, drop, flat_map, refl, sym, ap, ◌∙◌, subst, Contains, true≢false}
+use Rattle.std.specs.List.{prefix_len}
 use Rattle.std.specs.List.Sorted.{IsStrictlySortedBy}
-use Rattle.std.specs.Ordering.{eq_by_cmp, is_eq, nat_cmp, ordering_then, ordering_reverse}
+use Rattle.std.specs.Ordering.{is_eq, nat_cmp, ordering_then, ordering_reverse}
 use Rattle.std.specs.declared.cmp.Ordering.{Ordering}
 use Rattle.std.specs.declared.cmp.Ordering.TheVariants.{Less, Equal, Greater}
-use Rattle.std.proofs.lemmas.Cmp.{tied_itself}
-use Rattle.std.proofs.lemmas.List.{take-append-drop, length-append, take_at, drop_at}
-use Rattle.std.proofs.lemmas.List.Folds.{length-prefix_len}
 use Rattle.cil_specs.proofs.ReportLemmas.{equal-is}
-use Rattle.cil_specs.proofs.NamesLemmas.{all-contained, contains-cases, contains-first, contains-middle}
-use Rattle.cil_accesses.specs.declared.access.AccessNumbers.{AccessNumbers}
+use Rattle.cil_specs.proofs.NamesLemmas.{all-contained, contains-cases, contains-middle}
 use Rattle.cil_accesses.specs.declared.chunk.Chunk.{Chunk}
 use Rattle.cil_accesses.specs.Chunks.{run_cmp, chunk_cmp}
 use Rattle.cil_accesses.specs.Groups.{IsFirstGroup}

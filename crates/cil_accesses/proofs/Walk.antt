@@ -1,5 +1,5 @@
 -- One walk over two lists of ascending chunks.
-use Rattle.std.proofs.Common.{◌≡◌, ◌⊎◌, inl, inr, ℕ, ◌<◌, ◌≤◌, ◌+◌, ◌==◌, ◌++◌, ◌^◌, Bool, true, false, if◌then◌else◌, List, [], ◌∷◌, length, take, flat_map, bit_and, bit_xor, sym, ap, ◌∙◌, subst, arith, Contains, eq-eqb, ne_eqb, w64}
+use Rattle.std.proofs.Common.{◌≡◌, ◌⊎◌, inl, inr, ℕ, ◌<◌, ◌≤◌, ◌+◌, ◌==◌, ◌++◌, ◌^◌, false, if◌then◌else◌, List, [], ◌∷◌, length, take, flat_map, bit_and, sym, ap, ◌∙◌, subst, arith, Contains, eq-eqb, ne_eqb, w64}
 use Rattle.std.specs.Int.{bit_not}
 use Rattle.std.specs.List.Sorted.{IsStrictlySortedBy}
 use Rattle.std.specs.Ordering.{eq_by_cmp, is_eq, ordering_reverse}

@@ -1,5 +1,6 @@
 -- Rows of accesses in order, and how far they are read.
 use Rattle.std.specs.Prelude.{◌≡◌, ℕ, ◌+◌, ◌-◌, ◌*◌, ◌<◌, ◌^◌, Bool, true, List, [], ◌∷◌, ◌++◌, length, Contains}
+use Rattle.std.specs.Int.{bit_at}
 use Rattle.std.specs.List.{All}
 use Rattle.std.specs.List.Sorted.{IsStrictlySortedBy}
 use Rattle.std.specs.Ordering.{eq_by_cmp, nat_cmp, on, then_cmp}
@@ -61,6 +62,10 @@ at_place p = at_bit p.bit p.left.now ++ (from_bit (p.bit + 1) p.run.now ++ acces
 abbrev pub size_of : RowPlace → ℕ
 size_of p = 64 * length p.later.now + (64 - p.bit)
 
+-- a bit that isn't among these is that of no chunk
+abbrev pub HasBitsOf : ℕ → List Chunk → Type 0
+HasBitsOf bits run = (b : ℕ) → bit_at bits b ≡ 0 → at_bit b run ≡ []
+
 -- the chunks that are left are of a run, and those behind the run are of later ones
 pub record IsPlace (p : RowPlace) : Type 0 where
   pub bit : p.bit < 64
@@ -69,5 +74,6 @@ pub record IsPlace (p : RowPlace) : Type 0 where
   pub run_ordered : IsStrictlySortedBy chunk_cmp p.run.now
   pub run_words : All (λ c. c.word < 2 ^ 26) p.run.now
   pub one_run : (c d : Chunk) → Contains p.run.now c → Contains p.run.now d → run_cmp c d ≡ Equal
+  pub bits : HasBitsOf p.bits p.run.now
   pub later : AreChunks p.later.now
   pub apart : (c d : Chunk) → Contains p.run.now c → Contains p.later.now d → run_cmp c d ≡ Less

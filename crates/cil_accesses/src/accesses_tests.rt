@@ -1,12 +1,21 @@
 //! Chunks against accesses that are listed one by one.
 
+ghost use Rattle.std.specs.Prelude.{◌≡◌, ◌<◌};
+ghost use Rattle.std.specs.List.{list_any};
+ghost use Rattle.std.specs.Ordering.{eq_by_cmp};
+ghost use Rattle.cil_accesses.specs.Chunks.{chunk_cmp};
+
 use crate::access::AccessNumbers;
 use crate::accesses::Accesses;
 use crate::chunk::Chunk;
 use crate::difference::Difference;
+use crate::rows::AccessRow;
 use cil_text::RuleKind;
 use std::alloc::Global;
+use std::cmp::Ordering;
 use std::process::Abort;
+
+const WORDS: u32 = 1 << 26;
 
 const ALL: u64 = u64::MAX;
 
@@ -72,9 +81,25 @@ fn their_accesses() -> [AccessNumbers; 9] {
     ]
 }
 
+// Whether a chunk of one kind, source, word, class and permission stands in a list.
+fn stands(chunks: &[Chunk], chunk: &Chunk) -> bool
+    ensures { result ≡ list_any (eq_by_cmp chunk_cmp chunk.now) chunks.now }
+{
+    for other in chunks {
+        if chunk.key_cmp(other) == Ordering::Equal {
+            return true;
+        }
+    }
+    false
+}
+
+// The accesses of chunks, without those that no list of accesses has.
 fn accesses(rt: &impl Abort, alloc: Global, chunks: &[Chunk]) -> Accesses {
     let mut all = Vec::new(alloc);
     for chunk in chunks {
+        if chunk.word >= WORDS || stands(&all, chunk) {
+            continue;
+        }
         all.push(*chunk).expect(rt, "memory");
     }
     Accesses::of(all)
@@ -91,23 +116,37 @@ fn assert_listed(rt: &impl Abort, accesses: &Accesses, listed: &[AccessNumbers])
     assert!(rt; ended);
     let mut rows = accesses.rows();
     let mut i = 0;
-    while let Some(row) = rows.next() {
-        let start = i;
-        for chunk in row.chunks {
-            if chunk.has_bit(row.bit) {
-                assert!(rt; i < listed.len());
-                let same = chunk.access(row.bit) == listed[i];
-                assert!(rt; same);
-                i += 1;
-            }
+    for _ in 0..=listed.len() {
+        if let Some(row) = rows.next() {
+            i = assert_row(rt, row, listed, i);
         }
-        assert!(rt; start < i);
-        let first = row.first == listed[start];
-        assert!(rt; first);
-        let other = i == listed.len() || !is_in_row(&listed[i], &listed[start]);
-        assert!(rt; other);
     }
     assert!(rt; i == listed.len());
+}
+
+// Asserts that a row has the accesses from a place on, as far as they are in one row, and tells the place behind it.
+fn assert_row(rt: &impl Abort, row: AccessRow<'_>, listed: &[AccessNumbers], start: usize) -> usize
+    requires { row.bit < 64 }
+{
+    let mut i = start;
+    for chunk in row.chunks {
+        if chunk.has_bit(row.bit) {
+            assert!(rt; i < listed.len());
+            let access = AccessNumbers {
+                permission: chunk.permission,
+                ..row.first
+            };
+            let same = access == listed[i];
+            assert!(rt; same);
+            i += 1;
+        }
+    }
+    assert!(rt; start < i && i <= listed.len());
+    let first = row.first == listed[start];
+    assert!(rt; first);
+    let ended = i == listed.len() || !is_in_row(&listed[i], &listed[start]);
+    assert!(rt; ended);
+    i
 }
 
 fn is_in_row(access: &AccessNumbers, other: &AccessNumbers) -> bool {

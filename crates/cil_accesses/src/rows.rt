@@ -1,8 +1,8 @@
 //! The rows of accesses: all permissions of one kind, source, target and class.
 
-ghost use Rattle.std.specs.Prelude.{◌≡◌, ◌<◌, ◌≤◌, [], length, not, MatchOption};
+ghost use Rattle.std.specs.Prelude.{◌≡◌, ◌⊎◌, ◌<◌, ◌≤◌, [], length, not, MatchOption};
 ghost use Rattle.std.specs.List.{prefix_len};
-ghost use Rattle.cil_accesses.specs.Rows.{at_place, has_class, size_of, IsNextClass, IsNextRow, IsPlace};
+ghost use Rattle.cil_accesses.specs.Rows.{at_place, has_class, size_of, HasBitsOf, IsNextClass, IsNextRow, IsPlace};
 ghost use Rattle.cil_accesses.specs.View.{accesses_of, at_bit, has_bit, AreChunks};
 
 use crate::access::AccessNumbers;
@@ -18,10 +18,12 @@ pub struct AccessRow<'c> {
     pub bit: u32,
 }
 
-/// How far the rows are read: the chunks of a run that are left for a bit, and the chunks behind the run.
+/// How far the rows are read: the chunks of a run that are left for a bit, and the chunks behind the run. A bit that isn't among
+/// `bits` is that of no chunk of the run, so it takes no look at them.
 #[derive(Clone, Copy, Debug)]
 pub struct RowPlace<'c> {
     pub run: &'c [Chunk],
+    pub bits: u64,
     pub left: &'c [Chunk],
     pub bit: u32,
     pub later: &'c [Chunk],
@@ -63,6 +65,32 @@ fn split_class(chunks: &[Chunk], bit: u32) -> Option<(&Chunk, &[Chunk], &[Chunk]
     Some((first, row, later))
 }
 
+/// The bits that some chunk has.
+fn bits_of(run: &[Chunk]) -> u64
+    ensures { HasBitsOf result run.now }
+{
+    let mut bits = 0;
+    for chunk in run {
+        bits |= chunk.bits;
+    }
+    bits
+}
+
+/// The chunks to look at for a bit: all of a run, or none where the bit isn't among those of the run.
+fn chunks_for(run: &[Chunk], bits: u64, bit: u32) -> &[Chunk]
+    requires within { bit < 64 }
+    requires bits { HasBitsOf bits run.now }
+    ensures same { at_bit bit result.now ≡ at_bit bit run.now }
+    ensures part { (result.now ≡ run.now) ⊎ (result.now ≡ []) }
+{
+    if (bits >> bit) & 1 == 1 {
+        run
+    } else {
+        let (none, _) = run.split_at(0);
+        none
+    }
+}
+
 /// The place at the next target: that of the next bit, or of the first bit of the next run.
 fn next_target<'c>(place: RowPlace<'c>) -> Option<RowPlace<'c>>
     requires place { IsPlace place }
@@ -70,16 +98,17 @@ fn next_target<'c>(place: RowPlace<'c>) -> Option<RowPlace<'c>>
     ensures { MatchOption result (at_place place.entry ≡ []) (λ next. IsPlace next × (at_place next ≡ at_place place.entry) × (size_of next < size_of place.entry)) }
 {
     if place.bit < 63 {
-        return Some(RowPlace {
-            left: place.run,
-            bit: place.bit + 1,
-            ..place
-        });
+        let bit = place.bit + 1;
+        let left = chunks_for(place.run, place.bits, bit);
+        return Some(RowPlace { left, bit, ..place });
     }
     let (_, run, later) = split_run(place.later)?;
+    let bits = bits_of(run);
+    let left = chunks_for(run, bits, 0);
     Some(RowPlace {
         run,
-        left: run,
+        bits,
+        left,
         bit: 0,
         later,
     })
@@ -134,6 +163,7 @@ impl<'c> Rows<'c> {
         Rows {
             place: RowPlace {
                 run: none,
+                bits: 0,
                 left: none,
                 bit: 63,
                 later,

@@ -1,4 +1,4 @@
-use Rattle.std.proofs.Common.{◌≡◌, ◌∙◌, ◌<◌, ◌^◌, ◌++◌, sym, ap, rules}
+use Rattle.std.proofs.Common.{◌∙◌, ◌<◌, ◌^◌, ◌++◌, sym, ap, rules}
 use Rattle.std.proofs.lemmas.List.{append-nil}
 use Rattle.cil_accesses.proofs.Walk.{left-some, left-none}
 use Rattle.cil_accesses.proofs.difference.push_left.Goals as goal

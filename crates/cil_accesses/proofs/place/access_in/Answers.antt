@@ -1,4 +1,4 @@
-use Rattle.std.proofs.Common.{◌≡◌, ◌∙◌, ◌<◌, ◌^◌, length, slice_get, sym, ap, arith}
+use Rattle.std.proofs.Common.{◌∙◌, ◌<◌, ◌^◌, slice_get, sym, ap}
 use Rattle.cil_accesses.specs.View.{accesses_of}
 use Rattle.cil_accesses.proofs.Made.{no-accesses}
 use Rattle.cil_accesses.proofs.Places.{place-in-run, place-behind, later-all}

@@ -1,4 +1,4 @@
-use Rattle.std.proofs.Common.{◌≡◌, ◌∙◌, Some, slice_get, sym, ap, arith}
+use Rattle.std.proofs.Common.{◌∙◌, Some, slice_get, sym, ap, arith}
 use Rattle.cil_accesses.proofs.Places.{from_bit-first, from_bit-none, at-bit-here, at-bit-behind, word-of-found}
 use Rattle.cil_accesses.proofs.place.access_in_run.Goals as goal
 

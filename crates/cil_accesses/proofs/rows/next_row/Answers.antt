@@ -1,4 +1,4 @@
-use Rattle.std.proofs.Common.{◌≡◌, ◌∙◌, ◌<◌, ◌^◌, sym, subst}
+use Rattle.std.proofs.Common.{◌<◌, ◌^◌, subst}
 use Rattle.std.proofs.lemmas.List.Elements.{All-contains}
 use Rattle.cil_accesses.specs.Rows.{at_place, IsNextRow}
 use Rattle.cil_accesses.proofs.Moves.{behind, behind-is, row-is}

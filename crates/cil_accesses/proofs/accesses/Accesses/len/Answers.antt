@@ -1,5 +1,4 @@
-use Rattle.std.proofs.Common.{◌≡◌, ◌∙◌, ◌+◌, ◌≤◌, ◌*◌, length, take, sum_by, sym, ap, arith, take_all}
-use Rattle.std.proofs.lemmas.List.Sums.{sum_by_more}
+use Rattle.std.proofs.Common.{◌∙◌, length, sum_by, sym, ap, arith, take_all}
 use Rattle.cil_accesses.specs.Chunks.{ones_of}
 use Rattle.cil_accesses.proofs.Ascending.{accesses-ascend}
 use Rattle.cil_accesses.proofs.Counts.{length-accesses_of}

@@ -1,4 +1,4 @@
-use Rattle.std.proofs.Common.{◌≡◌, ◌∙◌}
+use Rattle.std.proofs.Common.{◌∙◌}
 use Rattle.std.specs.Ordering.{ordering_then}
 use Rattle.cil_accesses.proofs.Order.{key-cmp}
 use Rattle.cil_accesses.proofs.chunk.Chunk.key_cmp.Goals as goal

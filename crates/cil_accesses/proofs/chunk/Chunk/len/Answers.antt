@@ -1,4 +1,4 @@
-use Rattle.std.proofs.Common.{◌≡◌, ◌<◌, ◌^◌, ◌∙◌, sym, rules}
+use Rattle.std.proofs.Common.{◌<◌, ◌^◌, sym, rules}
 use Rattle.cil_accesses.proofs.Counts.{ones-of_bits}
 use Rattle.cil_accesses.proofs.chunk.Chunk.len.Goals as goal
 
