@@ -4,7 +4,9 @@ pub mod GroupLemmas
 pub mod Members
 pub mod RunLemmas
 pub mod Ascending
+pub mod Merging
 pub mod Made
+pub mod Renumbering
 pub mod Counts
 pub mod Beyond
 pub mod Walk

@@ -1,5 +1,7 @@
 pub mod Chunks
 pub mod Difference
 pub mod Groups
+pub mod Merged
+pub mod Renumbered
 pub mod Rows
 pub mod View

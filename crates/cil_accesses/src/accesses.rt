@@ -1,16 +1,18 @@
 //! Accesses in order.
 
-ghost use Rattle.std.specs.Prelude.{◌≡◌, ◌<◌, ◌^◌, ◌↔◌, [], Contains, length, slice_get};
-ghost use Rattle.std.specs.List.{All, IsDistinct};
-ghost use Rattle.std.specs.List.Sorted.{IsStrictlySortedBy};
-ghost use Rattle.std.specs.Ordering.{eq_by_cmp};
-ghost use Rattle.cil_accesses.specs.Chunks.{chunk_cmp, numbers_cmp, IsGiven};
+ghost use Rattle.std.specs.Prelude.{◌≡◌, ◌<◌, ◌^◌, ◌↔◌, [], Contains, IfOk, length, map, slice_get};
+ghost use Rattle.std.specs.List.{All};
+ghost use Rattle.std.specs.List.Sorted.{IsStrictlyIncreasing, IsStrictlySortedBy};
+ghost use Rattle.cil_accesses.specs.Chunks.{numbers_cmp, IsGiven};
+ghost use Rattle.cil_accesses.specs.Renumbered.{renumbered, IsWithin};
 
 use crate::access::AccessNumbers;
 use crate::chunk::Chunk;
+use crate::merge::merge;
 use crate::place::access_in;
+use crate::renumber::renumbered_chunks;
 use crate::rows::Rows;
-use std::alloc::{Allocator, Global};
+use std::alloc::{AllocError, Allocator, Global};
 use std::marker::Model;
 
 /// Accesses, each once, by kind, source, target, class and permission. Contracts see them as their list.
@@ -42,15 +44,15 @@ impl<A: Allocator> Accesses<A> {
         }
     }
 
-    /// The accesses of chunks, no two of which are of one kind, source, word, class and permission.
+    /// The accesses of chunks.
     pub fn of(chunks: Vec<Chunk, A>) -> Self
-        requires distinct { IsDistinct (eq_by_cmp chunk_cmp) chunks.items }
         requires words { All (λ c. c.word < 2 ^ 26) chunks.items }
         ensures ordered { IsStrictlySortedBy numbers_cmp result }
         ensures same { (a : _) → Contains result a ↔ IsGiven chunks.items a }
     {
         let mut chunks = chunks;
         chunks.sort_unstable();
+        merge(&mut chunks);
         Accesses { chunks }
     }
 
@@ -78,5 +80,14 @@ impl<A: Allocator> Accesses<A> {
         ensures { result ≡ self.now }
     {
         Rows::of(&self.chunks)
+    }
+    /// The accesses with the numbers at the places of their own in a list that rises.
+    pub fn renumbered(&self, alloc: A, numbers: &[u32]) -> Result<Accesses<A>, AllocError>
+        requires within { All (IsWithin (length numbers.now)) self.now }
+        requires rising { IsStrictlyIncreasing numbers.now }
+        ensures { IfOk result (λ r. r ≡ map (renumbered numbers.now) self.now) }
+    {
+        let made = renumbered_chunks(alloc, &self.chunks, numbers)?;
+        Ok(Accesses::of(made))
     }
 }

@@ -1,9 +1,8 @@
 //! Chunks against accesses that are listed one by one.
 
-ghost use Rattle.std.specs.Prelude.{◌≡◌, ◌<◌};
-ghost use Rattle.std.specs.List.{list_any};
-ghost use Rattle.std.specs.Ordering.{eq_by_cmp};
-ghost use Rattle.cil_accesses.specs.Chunks.{chunk_cmp};
+ghost use Rattle.std.specs.List.{All};
+ghost use Rattle.std.specs.List.Sorted.{IsStrictlyIncreasing};
+ghost use Rattle.cil_accesses.specs.Renumbered.{IsWithin};
 
 use crate::access::AccessNumbers;
 use crate::accesses::Accesses;
@@ -12,10 +11,7 @@ use crate::difference::Difference;
 use crate::rows::AccessRow;
 use cil_text::RuleKind;
 use std::alloc::Global;
-use std::cmp::Ordering;
 use std::process::Abort;
-
-const WORDS: u32 = 1 << 26;
 
 const ALL: u64 = u64::MAX;
 
@@ -81,25 +77,11 @@ fn their_accesses() -> [AccessNumbers; 9] {
     ]
 }
 
-// Whether a chunk of one kind, source, word, class and permission stands in a list.
-fn stands(chunks: &[Chunk], chunk: &Chunk) -> bool
-    ensures { result ≡ list_any (eq_by_cmp chunk_cmp chunk.now) chunks.now }
-{
-    for other in chunks {
-        if chunk.key_cmp(other) == Ordering::Equal {
-            return true;
-        }
-    }
-    false
-}
-
-// The accesses of chunks, without those that no list of accesses has.
+// The accesses of chunks, whose words have to be low enough.
 fn accesses(rt: &impl Abort, alloc: Global, chunks: &[Chunk]) -> Accesses {
     let mut all = Vec::new(alloc);
     for chunk in chunks {
-        if chunk.word >= WORDS || stands(&all, chunk) {
-            continue;
-        }
+        assert!(rt; chunk.word < 1 << 26);
         all.push(*chunk).expect(rt, "memory");
     }
     Accesses::of(all)
@@ -115,38 +97,38 @@ fn assert_listed(rt: &impl Abort, accesses: &Accesses, listed: &[AccessNumbers])
     let ended = accesses.get(listed.len()).is_none();
     assert!(rt; ended);
     let mut rows = accesses.rows();
-    let mut i = 0;
-    for _ in 0..=listed.len() {
+    let mut start = 0;
+    for _ in 0..listed.len() {
         if let Some(row) = rows.next() {
-            i = assert_row(rt, row, listed, i);
+            start = assert_row(rt, &row, listed, start);
         }
     }
-    assert!(rt; i == listed.len());
+    let ended = rows.next().is_none();
+    assert!(rt; ended);
+    assert!(rt; start == listed.len());
 }
 
-// Asserts that a row has the accesses from a place on, as far as they are in one row, and tells the place behind it.
-fn assert_row(rt: &impl Abort, row: AccessRow<'_>, listed: &[AccessNumbers], start: usize) -> usize
-    requires { row.bit < 64 }
-{
-    let mut i = start;
-    for chunk in row.chunks {
-        if chunk.has_bit(row.bit) {
-            assert!(rt; i < listed.len());
-            let access = AccessNumbers {
-                permission: chunk.permission,
-                ..row.first
-            };
-            let same = access == listed[i];
-            assert!(rt; same);
-            i += 1;
-        }
-    }
-    assert!(rt; start < i && i <= listed.len());
+// Asserts that the accesses of a row are those from a place on, and answers the place behind them.
+fn assert_row(rt: &impl Abort, row: &AccessRow, listed: &[AccessNumbers], start: usize) -> usize {
+    assert!(rt; start < listed.len());
     let first = row.first == listed[start];
     assert!(rt; first);
-    let ended = i == listed.len() || !is_in_row(&listed[i], &listed[start]);
-    assert!(rt; ended);
-    i
+    let bit = row.bit;
+    assert!(rt; bit < 64);
+    let mut end = start;
+    for chunk in row.chunks {
+        assert!(rt; chunk.word < 1 << 26);
+        if chunk.has_bit(bit) {
+            assert!(rt; end < listed.len());
+            let same = chunk.access(bit) == listed[end];
+            assert!(rt; same);
+            end += 1;
+        }
+    }
+    assert!(rt; start < end);
+    let other = end >= listed.len() || !is_in_row(&listed[end], &listed[start]);
+    assert!(rt; other);
+    end
 }
 
 fn is_in_row(access: &AccessNumbers, other: &AccessNumbers) -> bool {
@@ -171,6 +153,31 @@ fn no_access(rt: HostRuntime) {
 fn accesses_in_order(rt: HostRuntime) {
     let accesses = accesses(&rt, rt.alloc(), &some_chunks());
     assert_listed(&rt, &accesses, &their_accesses());
+}
+
+#[test]
+fn chunks_of_one_key(rt: HostRuntime) {
+    let parts = accesses(
+        &rt,
+        rt.alloc(),
+        &[
+            chunk(1, 0, 1, 1, 0b0100),
+            chunk(1, 0, 1, 2, 0b0001),
+            chunk(1, 0, 1, 1, 0b0001),
+            dont_audit(chunk(1, 0, 1, 1, 0b0010)),
+            chunk(1, 0, 1, 1, 0b0101),
+        ],
+    );
+    assert_listed(
+        &rt,
+        &parts,
+        &[
+            allowed(1, 0, 1, 1),
+            allowed(1, 0, 1, 2),
+            allowed(1, 2, 1, 1),
+            not_audited(allowed(1, 1, 1, 1)),
+        ],
+    );
 }
 
 #[test]
@@ -226,4 +233,99 @@ fn what_is_added_and_removed(rt: HostRuntime) {
     let none = Difference::between(alloc, &old, &old).expect(&rt, "memory");
     assert_listed(&rt, &none.removed, &[]);
     assert_listed(&rt, &none.added, &[]);
+}
+
+// So many numbers, from one on and with a step.
+fn numbers(rt: &impl Abort, alloc: Global, len: u32, first: u32, step: u32) -> Vec<u32> {
+    let mut all = Vec::new(alloc);
+    let mut number = first;
+    for _ in 0..len {
+        all.push(number).expect(rt, "memory");
+        number = number.wrapping_add(step);
+    }
+    all
+}
+
+// Asserts that the numbers rise.
+fn assert_rising(rt: &impl Abort, numbers: &[u32])
+    ensures { IsStrictlyIncreasing numbers.now }
+{
+    for i in 1..numbers.len() {
+        assert!(rt; numbers[i - 1] < numbers[i]);
+    }
+}
+
+// Asserts that the numbers of an access are low enough.
+fn assert_low(rt: &impl Abort, access: AccessNumbers, len: usize)
+    ensures { IsWithin len access }
+{
+    assert!(rt; (access.source as usize) < len);
+    assert!(rt; (access.target as usize) < len);
+    assert!(rt; (access.class as usize) < len);
+    assert!(rt; (access.permission as usize) < len);
+}
+
+// Asserts that all accesses have numbers that are low enough.
+fn assert_within(rt: &impl Abort, accesses: &Accesses, len: usize)
+    ensures { All (IsWithin len) accesses.now }
+{
+    let count = usize::try_from(accesses.len()).expect(rt, "few accesses");
+    for i in 0..count {
+        let access = accesses.get(i).expect(rt, "an access");
+        assert_low(rt, access, len);
+    }
+}
+
+// The accesses with the numbers at the places of their own.
+fn renumbered(rt: &impl Abort, alloc: Global, accesses: &Accesses, numbers: &[u32]) -> Accesses {
+    assert_rising(rt, numbers);
+    assert_within(rt, accesses, numbers.len());
+    accesses.renumbered(alloc, numbers).expect(rt, "memory")
+}
+
+#[test]
+fn with_other_numbers(rt: HostRuntime) {
+    let alloc = rt.alloc();
+    let odd = numbers(&rt, alloc, 128, 1, 2);
+    let old = accesses(&rt, alloc, &some_chunks());
+    assert_listed(
+        &rt,
+        &renumbered(&rt, alloc, &old, &odd),
+        &[
+            allowed(3, 1, 3, 3),
+            allowed(3, 3, 3, 3),
+            allowed(3, 3, 3, 7),
+            allowed(3, 3, 5, 3),
+            allowed(3, 5, 5, 3),
+            allowed(3, 129, 3, 5),
+            allowed(3, 255, 3, 5),
+            allowed(5, 7, 3, 3),
+            not_audited(allowed(1, 1, 1, 1)),
+        ],
+    );
+}
+
+#[test]
+fn words_that_join_where_numbers_change(rt: HostRuntime) {
+    let alloc = rt.alloc();
+    let later = numbers(&rt, alloc, 65, 10, 1);
+    let old = accesses(
+        &rt,
+        alloc,
+        &[
+            chunk(1, 0, 1, 1, 1 << 60 | 1),
+            chunk(1, 0, 2, 1, 1 << 60),
+            chunk(1, 1, 1, 1, 1),
+        ],
+    );
+    assert_listed(
+        &rt,
+        &renumbered(&rt, alloc, &old, &later),
+        &[
+            allowed(11, 10, 11, 11),
+            allowed(11, 70, 11, 11),
+            allowed(11, 70, 12, 11),
+            allowed(11, 74, 11, 11),
+        ],
+    );
 }

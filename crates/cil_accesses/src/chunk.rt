@@ -1,7 +1,8 @@
 //! Accesses to the targets of one word.
 
-ghost use Rattle.std.specs.Prelude.{◌≡◌, ◌<◌, ◌≤◌, ◌^◌};
-ghost use Rattle.cil_accesses.specs.Chunks.{chunk_cmp, ones_of};
+ghost use Rattle.std.specs.Prelude.{◌≡◌, ◌<◌, ◌≤◌, ◌^◌, ◌↔◌};
+ghost use Rattle.cil_accesses.specs.Chunks.{chunk_cmp, ones_of, IsAccessOf};
+ghost use Rattle.cil_accesses.specs.Merged.{of_one_key, taking_up};
 ghost use Rattle.cil_accesses.specs.View.{access_at, has_bit, in_run};
 
 use crate::access::AccessNumbers;
@@ -21,6 +22,21 @@ pub struct Chunk {
 }
 
 impl Chunk {
+    /// The chunk of one access.
+    pub(super) fn of(access: AccessNumbers) -> Chunk
+        ensures word { result.word < 2 ^ 26 }
+        ensures one { (a : _) → IsAccessOf result a ↔ (a ≡ access) }
+    {
+        Chunk {
+            kind: access.kind,
+            source: access.source,
+            word: access.target / 64,
+            class: access.class,
+            permission: access.permission,
+            bits: 1 << (access.target % 64),
+        }
+    }
+
     /// Its order by kind, source, word, class and permission, whatever the bits.
     pub(super) fn key_cmp(&self, other: &Chunk) -> Ordering
         ensures { result ≡ chunk_cmp self.now other.now }
@@ -35,6 +51,18 @@ impl Chunk {
                 .cmp(&other.class)
                 .then(self.permission.cmp(&other.permission)),
         )
+    }
+
+    /// Takes up the bits of another, where both are of one kind, source, word, class and permission, and says whether it does.
+    pub(super) fn take_up(&mut self, other: &Chunk) -> bool
+        ensures same { result ≡ of_one_key self.old other.now }
+        ensures bits { self.new ≡ taking_up self.old other.now }
+    {
+        let same = self.key_cmp(other) == Ordering::Equal;
+        if same {
+            self.bits |= other.bits;
+        }
+        same
     }
 
     /// How many accesses it has.

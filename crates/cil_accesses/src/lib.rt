@@ -7,7 +7,9 @@ mod accesses;
 mod accesses_tests;
 mod chunk;
 mod difference;
+mod merge;
 mod place;
+mod renumber;
 mod rows;
 mod run;
 

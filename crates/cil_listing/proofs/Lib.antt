@@ -1,0 +1,9 @@
+pub mod AtomLemmas
+pub mod ChangesLemmas
+pub mod CollectLemmas
+pub mod GroupLemmas
+pub mod ListingLemmas
+pub mod NumberedRowLemmas
+pub mod RankLemmas
+pub mod RowLemmas
+pub mod TableLemmas

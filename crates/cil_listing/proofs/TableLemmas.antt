@@ -1,0 +1,144 @@
+-- The accesses of the access tables of a policy are those of its table.
+use Rattle.std.proofs.Common.{◌≡◌, ◌↔◌, ℕ, ◌<◌, ◌==◌, List, [], ◌∷◌, length, map, bytes_eq, nat_lt, Contains, sym, ap, subst, ◌∙◌, inl, inr, arith}
+use Rattle.std.specs.Bool.{IsTrue}
+use Rattle.std.specs.List.{list_all, list_any}
+use Rattle.std.specs.List.Sorted.{IsStrictlySortedBy}
+use Rattle.std.specs.Cmp.Lexicographic.{bytes_decides}
+use Rattle.std.proofs.lemmas.Bool.{and_parts, cases_lt, eqb-true, lt-ltb, ltb-true}
+use Rattle.cil_specs.specs.Rule as spec
+use Rattle.cil_specs.specs.Rule.{kind_index}
+use Rattle.cil_specs.specs.Meaning.{aims, count_of, covers, gives, holds, is_in_table, keeps_type}
+use Rattle.cil_specs.specs.Report.{AreAtoms}
+use Rattle.cil_specs.proofs.ReportLemmas.{same-kind}
+use Rattle.cil_specs.proofs.ReportLemmasMembers.{AnyByRecursion, all_from_contains, any-map, any_from, any_from_counted, any_from_map, any_from_test, any_to, contains_from, contains_to}
+use Rattle.cil_text.specs.Image.{rule_kind_of}
+use Rattle.cil_resolve.specs.Below.{is_element_below, is_name_below, is_rule_below, is_target_below}
+use Rattle.cil_resolve.specs.Numbers.{declared_of, rule_of}
+use Rattle.cil_resolve.specs.Resolved.{meaning_in}
+use Rattle.cil_resolve.specs.declared.numbered.NumberedName.{NumberedName}
+use Rattle.cil_resolve.specs.declared.numbered.NumberedRule.{NumberedRule}
+use Rattle.cil_resolve.specs.declared.resolved.Resolved.{Resolved}
+use Rattle.cil_tables.specs.Tables.{count_now, AreTables}
+use Rattle.cil_tables.specs.declared.tables.Tables.{Tables}
+use Rattle.cil_accesses.specs.declared.access.AccessNumbers.{AccessNumbers}
+use Rattle.cil_accesses.specs.Chunks.{numbers_cmp}
+use Rattle.cil_accesses.specs.Renumbered.{IsWithin}
+use Rattle.cil_listing.specs.Atoms.{atom_at, name_at, AreNumbered}
+use Rattle.cil_listing.specs.Collected.{key_of}
+use Rattle.cil_listing.proofs.AtomLemmas.{atoms-ordered}
+
+-- a number of a name
+abbrev IsNamed : List (List ℕ) → List ℕ → Type 0
+IsNamed names name = (i : ℕ) × (i < length names) × (name_at names i ≡ name)
+
+-- an access by numbers
+abbrev IsNumbered : List (List ℕ) → spec.Atom → Type 0
+IsNumbered names a = (n : AccessNumbers) × IsWithin (length names) n × (atom_at names n ≡ a)
+
+-- one of some numbers has the name
+number-named : (names : List (List ℕ)) (name : List ℕ) (ps : List ℕ) → IsTrue (list_all (λ p. nat_lt p (length names)) ps) → AnyByRecursion (λ p. IsTrue (bytes_eq name (name_at names p))) ps → IsNamed names name
+number-named names name [] below none = absurd none
+number-named names name (p ∷ ps) below (inl is) = (p, ltb-true p (length names) (and_parts (nat_lt p (length names)) _ below).0, sym ((bytes_decides name (name_at names p)).0 is))
+number-named names name (p ∷ ps) below (inr later) = number-named names name ps (and_parts (nat_lt p (length names)) _ below).1 later
+
+-- so has a type of the policy
+type-named : (modules names : List (List ℕ)) (name : List ℕ) (ds : List NumberedName) → IsTrue (list_all (is_name_below (length names)) ds) → AnyByRecursion (λ d. IsTrue (bytes_eq name (declared_of modules names d).name)) ds
+    → IsNamed names name
+type-named modules names name [] below none = absurd none
+type-named modules names name (d ∷ ds) below (inl is) = (d.name, ltb-true d.name (length names) (and_parts (is_name_below (length names) d) _ below).0, sym ((bytes_decides name (name_at names d.name)).0 is))
+type-named modules names name (d ∷ ds) below (inr later) = type-named modules names name ds (and_parts (is_name_below (length names) d) _ below).1 later
+
+module _ {A : Type 0} (r : Resolved A) where
+  abbrev names : List (List ℕ)
+  names = r.names.items
+
+  kept-named : (t : List ℕ) → IsTrue (keeps_type (meaning_in r) t) → IsNamed names t
+  kept-named t kept =
+      type-named r.modules.items names t r.types.items r.types_within
+      (any_from_map (declared_of r.modules.items names) (λ d. IsTrue (bytes_eq t d.name)) r.types.items (any_from_test (λ d. bytes_eq t d.name) (meaning_in r).types kept))
+
+  held-named : (element : spec.Element) (t : List ℕ) → IsTrue (holds (meaning_in r) element t) → IsNamed names t
+  held-named element t held = kept-named t (and_parts (keeps_type (meaning_in r) t) _ held).0
+
+  aimed-named : (target : spec.ResolvedTarget) (s t : List ℕ) → IsNamed names s → IsTrue (aims (meaning_in r) target s t) → IsNamed names t
+  aimed-named spec.at_itself s t source aimed = subst (IsNamed names) ((bytes_decides s t).0 aimed) source
+  aimed-named (spec.at_element element) s t source aimed = held-named element t aimed
+
+  -- what a rule gives has numbers
+  given-numbered : (rule : NumberedRule A) (a : spec.Atom) → IsTrue (is_rule_below (length names) rule) → IsTrue (gives (meaning_in r) (rule_of r.modules.items names rule) a) → IsNumbered names a
+  given-numbered rule a below given =
+      let named : spec.Rule = rule_of r.modules.items names rule in
+      let kinds = and_parts (kind_index named.kind == kind_index a.kind) (covers (meaning_in r) named a.source a.target a.the_class a.permission) given in
+      let sources = and_parts (holds (meaning_in r) named.source a.source) _ kinds.1 in
+      let targets = and_parts (aims (meaning_in r) named.target a.source a.target) _ sources.1 in
+      let classes = and_parts (bytes_eq named.the_class a.the_class) (list_any (bytes_eq a.permission) named.permissions) targets.1 in
+      let below_source = and_parts (is_element_below (length names) rule.source) _ below in
+      let below_target = and_parts (is_target_below (length names) rule.target) _ below_source.1 in
+      let below_class = and_parts (nat_lt rule.class (length names)) (list_all (λ p. nat_lt p (length names)) rule.permissions.items) below_target.1 in
+      let kind : rule_kind_of rule.kind ≡ a.kind = same-kind (rule_kind_of rule.kind) a.kind (eqb-true _ _ kinds.0) in
+      let the_class : name_at names rule.class ≡ a.the_class = (bytes_decides (name_at names rule.class) a.the_class).0 classes.0 in
+      let source : IsNamed names a.source = held-named named.source a.source sources.0 in
+      let target : IsNamed names a.target = aimed-named named.target a.source a.target source targets.0 in
+      let permission : IsNamed names a.permission =
+      number-named names a.permission rule.permissions.items below_class.1
+      (any_from_map (name_at names) (λ q. IsTrue (bytes_eq a.permission q)) rule.permissions.items (any_from_test (bytes_eq a.permission) named.permissions classes.1)) in (
+        record { kind = rule.kind; source = source.0; target = target.0; class = rule.class; permission = permission.0 },
+        record { source = source.1; target = target.1; the_class = ltb-true rule.class (length names) below_class.0; permission = permission.1 },
+        λ i. record { kind = kind i; source = source.2 i; target = target.2 i; the_class = the_class i; permission = permission.2 i },
+      )
+
+  one-numbered : (rules : List (NumberedRule A)) (a : spec.Atom) → IsTrue (list_all (is_rule_below (length names)) rules) → AnyByRecursion (λ rule. IsTrue (gives (meaning_in r) (rule_of r.modules.items names rule) a)) rules
+      → IsNumbered names a
+  one-numbered [] a below none = absurd none
+  one-numbered (rule ∷ rules) a below (inl given) = given-numbered rule a (and_parts (is_rule_below (length names) rule) _ below).0 given
+  one-numbered (rule ∷ rules) a below (inr later) = one-numbered rules a (and_parts (is_rule_below (length names) rule) _ below).1 later
+
+  -- so has each access of the table
+  table-numbered : (a : spec.Atom) → IsTrue (is_in_table (meaning_in r) a) → IsNumbered names a
+  table-numbered a there =
+      one-numbered r.rules.items a r.rules_within
+      (any_from_map (rule_of r.modules.items names) (λ rule. IsTrue (gives (meaning_in r) rule a)) r.rules.items (any_from_counted (λ rule. gives (meaning_in r) rule a) (meaning_in r).rules there))
+
+  module _ {B : Type 0} (tables : Tables B) (are : AreTables r tables) where
+    abbrev counter_of : AccessNumbers → ℕ
+    counter_of n = count_now tables n.kind (key_of n) n.target
+
+    -- what is counted has numbers of names
+    counted-within : (n : AccessNumbers) → 0 < counter_of n → IsWithin (length names) n
+    counted-within n some =
+        record {
+          source = elim (cases_lt n.source (length names)) [ inl low ↦ low | inr past ↦ absurd (let none = are.no_source n.kind (key_of n) n.target past in omega (arith, none, some)) ];
+          target = elim (cases_lt n.target (length names)) [ inl low ↦ low | inr past ↦ absurd (let none = are.no_target n.kind (key_of n) n.target past in omega (arith, none, some)) ];
+          the_class = elim (cases_lt n.class (length names)) [ inl low ↦ low | inr past ↦ absurd (let none = are.no_class n.kind (key_of n) n.target past in omega (arith, none, some)) ];
+          permission = elim (cases_lt n.permission (length names)) [ inl low ↦ low | inr past ↦ absurd (let none = are.no_permission n.kind (key_of n) n.target past in omega (arith, none, some)) ];
+        }
+
+    -- and is counted as often as rules give it
+    counted-named : (n : AccessNumbers) → IsWithin (length names) n → counter_of n ≡ count_of (meaning_in r) (atom_at names n)
+    counted-named n within = are.counts n.kind (key_of n) n.target within.the_class within.permission within.source within.target
+
+    module _ (atoms : List AccessNumbers) (ordered : IsStrictlySortedBy numbers_cmp atoms) (exact : (n : AccessNumbers) → Contains atoms n ↔ (0 < counter_of n)) where
+      pub are-numbered : AreNumbered names atoms
+      are-numbered = record {
+        names_ordered = r.ordered;
+        ordered = ordered;
+        within = all_from_contains (IsWithin (length names)) atoms (λ n h. counted-within n ((exact n).0 h));
+      }
+
+      to-table : (a : spec.Atom) → Contains (map (atom_at names) atoms) a → IsTrue (is_in_table (meaning_in r) a)
+      to-table a h =
+          let (k, n, low, at, same) = any_from (λ n. atom_at names n ≡ a) atoms (any_from_map (atom_at names) (λ b. b ≡ a) atoms (contains_to (map (atom_at names) atoms) a h)) in
+          let some : 0 < counter_of n = (exact n).0 (k, low, at) in
+          let counts : counter_of n ≡ count_of (meaning_in r) a = counted-named n (counted-within n some) ∙ ap (count_of (meaning_in r)) same in
+          lt-ltb 0 (count_of (meaning_in r) a) (subst (λ c. 0 < c) counts some)
+
+      from-table : (a : spec.Atom) → IsTrue (is_in_table (meaning_in r) a) → Contains (map (atom_at names) atoms) a
+      from-table a there =
+          let (n, within, same) = table-numbered a there in
+          let counts : count_of (meaning_in r) a ≡ counter_of n = sym (counted-named n within ∙ ap (count_of (meaning_in r)) same) in
+          let h : Contains atoms n = (exact n).1 (subst (λ c. 0 < c) counts (ltb-true 0 (count_of (meaning_in r) a) there)) in
+          contains_from (map (atom_at names) atoms) a (any-map (atom_at names) (λ b. b ≡ a) atoms (any_to (λ n. atom_at names n ≡ a) atoms (h.0, n, h.1, h.2, same)))
+
+      -- what is counted, each once and in order, is the table
+      pub are-atoms : AreAtoms (is_in_table (meaning_in r)) (map (atom_at names) atoms)
+      are-atoms = record { ordered = atoms-ordered names atoms are-numbered; exact = λ a. (to-table a, from-table a) }

@@ -1,0 +1,48 @@
+use Rattle.std.proofs.Common.{◌++◌, codes, subst}
+use Rattle.std.specs.List.{flat_map}
+use Rattle.std.proofs.lemmas.Result.{on_ok_weaker, on_err_weaker}
+use Rattle.cil_stream.specs.Device.{Gains, GainsFront}
+use Rattle.cil_stream.proofs.Gaining.{on_err}
+use Rattle.cil_listing.specs.Atoms.{name_at}
+use Rattle.cil_listing.specs.Rows.{row_head}
+use Rattle.cil_listing.specs.NumberedRows.{row_of}
+use Rattle.cil_listing.proofs.ListingLemmas.{line-parts, mapped-text, front-in_first, front-in_second, front-in_third, gains-three}
+use Rattle.cil_listing.proofs.listing.write_row_line.Goals as goal
+
+pub returns-in_err-write_head-clause-err : goal.returns-in_err-write_head-clause-err
+returns-in_err-write_head-clause-err g c =
+    let taken = g.W.Sink.taken in
+    let row = row_of c.args.row.now in
+    on_err c.from_residual.result
+    (front-in_first (taken c.args.sink.now) (taken c.args.sink.now) (taken c.args.sink.now) (taken c.write_head.new.sink) (row_head row.kind row.source row.target row.the_class)
+    (flat_map (λ name. name ++ codes " ") row.permissions) (codes "};\n") _ (line-parts row) c.in_err-write_head.ensures.err)
+
+pub returns-in_err-write_names-clause-err : goal.returns-in_err-write_names-clause-err
+returns-in_err-write_names-clause-err g c =
+    let taken = g.W.Sink.taken in
+    let row = row_of c.args.row.now in
+    let text = mapped-text (λ name. name ++ codes " ") (name_at c.permissions.inside.names.now) c.permissions.inside.numbers.now row.permissions c.permissions.view_is in
+    on_err c.from_residual-in_err-write_names.result
+    (front-in_second (taken c.args.sink.now) (taken c.write_head.new.sink) (taken c.write_head.new.sink) (taken c.write_names.new.sink) (row_head row.kind row.source row.target row.the_class)
+    (flat_map (λ name. name ++ codes " ") row.permissions) (codes "};\n") _ (line-parts row) c.in_ok-write_head.ensures.ok
+    (subst (GainsFront (taken c.write_head.new.sink) (taken c.write_names.new.sink)) text c.in_err-write_names.ensures.err))
+
+pub returns-clause-ok : goal.returns-clause-ok
+returns-clause-ok g c =
+    let taken = g.W.Sink.taken in
+    let row = row_of c.args.row.now in
+    let text = mapped-text (λ name. name ++ codes " ") (name_at c.permissions.inside.names.now) c.permissions.inside.numbers.now row.permissions c.permissions.view_is in
+    on_ok_weaker c.write_all.result
+    (gains-three (taken c.args.sink.now) (taken c.write_head.new.sink) (taken c.write_names.new.sink) (taken c.write_all.new.sink) (row_head row.kind row.source row.target row.the_class)
+    (flat_map (λ name. name ++ codes " ") row.permissions) (codes "};\n") _ (line-parts row) c.in_ok-write_head.ensures.ok
+    (subst (Gains (taken c.write_head.new.sink) (taken c.write_names.new.sink)) text c.in_ok-write_names.ensures.ok)) c.write_all.ensures.ok
+
+pub returns-clause-err : goal.returns-clause-err
+returns-clause-err g c =
+    let taken = g.W.Sink.taken in
+    let row = row_of c.args.row.now in
+    let text = mapped-text (λ name. name ++ codes " ") (name_at c.permissions.inside.names.now) c.permissions.inside.numbers.now row.permissions c.permissions.view_is in
+    on_err_weaker c.write_all.result
+    (front-in_third (taken c.args.sink.now) (taken c.write_head.new.sink) (taken c.write_names.new.sink) (taken c.write_all.new.sink) (row_head row.kind row.source row.target row.the_class)
+    (flat_map (λ name. name ++ codes " ") row.permissions) (codes "};\n") _ (line-parts row) c.in_ok-write_head.ensures.ok
+    (subst (Gains (taken c.write_head.new.sink) (taken c.write_names.new.sink)) text c.in_ok-write_names.ensures.ok)) c.write_all.ensures.err

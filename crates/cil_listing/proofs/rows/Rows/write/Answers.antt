@@ -1,0 +1,22 @@
+use Rattle.std.proofs.Common.{◌∙◌, subst}
+use Rattle.std.specs.List.{flat_map}
+use Rattle.cil_specs.specs.Report.{row_line}
+use Rattle.cil_stream.specs.Device.{Gains, GainsFront}
+use Rattle.cil_stream.proofs.Gaining.{on_err}
+use Rattle.cil_listing.specs.NumberedRows.{row_by, line_by}
+use Rattle.cil_listing.proofs.ListingLemmas.{mapped-text}
+use Rattle.cil_listing.proofs.rows.Rows.write.Goals as goal
+
+pub returns-in_err-write_numbered-clause-err : goal.returns-in_err-write_numbered-clause-err
+returns-in_err-write_numbered-clause-err g c =
+    let text =
+    (λ i. flat_map (line_by (c.as_slice.ensures i) (c.deref.ensures.value i)) (c.deref-2.ensures.value i))
+    ∙ mapped-text row_line (row_by c.self.inside.names c.self.inside.permissions.items) c.self.inside.rows.items c.args.self.now c.self.view_is in
+    on_err c.from_residual.result (subst (GainsFront (g.W.Sink.taken c.args.sink.now) (g.W.Sink.taken c.write_numbered.new.sink)) text c.in_err-write_numbered.ensures.err)
+
+pub returns-clause-ok : goal.returns-clause-ok
+returns-clause-ok g c =
+    let text =
+    (λ i. flat_map (line_by (c.as_slice.ensures i) (c.deref.ensures.value i)) (c.deref-2.ensures.value i))
+    ∙ mapped-text row_line (row_by c.self.inside.names c.self.inside.permissions.items) c.self.inside.rows.items c.args.self.now c.self.view_is in
+    subst (Gains (g.W.Sink.taken c.args.sink.now) (g.W.Sink.taken c.write_numbered.new.sink)) text c.in_ok-write_numbered.ensures.ok

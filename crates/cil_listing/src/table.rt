@@ -1,0 +1,109 @@
+//! The access table.
+
+ghost use Rattle.std.specs.Prelude.{◌≡◌, ◌≤◌, ◌==◌, Bool, List, [], length, slice_get, option_map, IfOk, OnErr};
+ghost use Rattle.std.specs.List.{flat_map};
+ghost use Rattle.cil_specs.specs.Rule as spec;
+ghost use Rattle.cil_specs.specs.Meaning.{is_in_table};
+ghost use Rattle.cil_specs.specs.Report.{AreAtoms, Row, AreRows, row_line};
+ghost use Rattle.cil_resolve.specs.Resolved.{meaning_in};
+ghost use Rattle.cil_sets.specs.Members.{AreMembers};
+ghost use Rattle.cil_stream.specs.Device.{HasFailed, Gains, GainsFront};
+ghost use Rattle.cil_listing.specs.Atoms.{atom_of};
+
+use crate::atom::Atom;
+use crate::collect::accesses_of;
+use crate::listing::write_rows;
+use crate::name_list::{NameList, names_of};
+use crate::numbers::named;
+use crate::rows::Rows;
+use cil_accesses::Accesses;
+use cil_resolve::Resolved;
+use cil_sets::Members;
+use cil_stream::{Sink, SinkFault};
+use std::alloc::{AllocError, Allocator, Global};
+use std::marker::Model;
+
+/// The accesses that the rules of a policy give, each once, in order. Contracts see it as their list.
+#[derive(Debug, Drop)]
+pub struct Table<A: Allocator = Global> {
+    pub(super) names: NameList<A>,
+    pub(super) accesses: Accesses<A>,
+}
+
+impl<A: Allocator> Model for Table<A> {
+    ghost use Rattle.std.specs.Prelude.{List, map};
+    ghost use Rattle.cil_specs.specs.Rule.{Atom};
+
+    ghost Value = { List Atom };
+
+    ghost use Rattle.cil_listing.specs.Atoms.{atom_at, AreNumbered};
+
+    ghost view = { λ t. map (atom_at t.names) t.accesses };
+
+    ghost invariant = { λ t. AreNumbered t.names t.accesses };
+}
+
+impl<A: Allocator + Copy> Table<A> {
+    /// A table with no access.
+    pub fn empty(alloc: A) -> Self
+        ensures { result ≡ [] }
+    {
+        Table {
+            names: NameList::empty(),
+            accesses: Accesses::empty(alloc),
+        }
+    }
+
+    /// The table of the rules of a resolved policy with these members of its attributes. It has names of its own.
+    pub fn of(alloc: A, resolved: &Resolved<A>, members: &Members<A>) -> Result<Self, AllocError>
+        requires { AreMembers resolved.now members.now }
+        ensures { IfOk result (λ table. AreAtoms (is_in_table (meaning_in resolved.now)) table) }
+    {
+        let accesses = accesses_of(alloc, resolved, members)?;
+        Ok(Table {
+            names: NameList::of(names_of(alloc, resolved)?)?,
+            accesses,
+        })
+    }
+
+    /// The rows of the listing. Those of `neverallow` aren't part of it.
+    pub fn rows(&self, alloc: A) -> Result<Rows<A>, AllocError>
+        ensures { IfOk result (λ rows. (p : spec.Atom → Bool) → AreAtoms p self.now → AreRows p rows) }
+    {
+        Rows::of(alloc, self.names.shared()?, &self.accesses)
+    }
+}
+
+impl<A: Allocator> Table<A> {
+    pub fn len(&self) -> u128
+        ensures { result ≡ length self.now }
+    {
+        self.accesses.len()
+    }
+
+    pub fn is_empty(&self) -> bool
+        ensures { result ≡ (length self.now == 0) }
+    {
+        self.accesses.get(0).is_none()
+    }
+
+    /// The access at a place of the order.
+    pub fn get(&self, i: usize) -> Option<Atom<'_>>
+        ensures { option_map atom_of result ≡ slice_get self.now i }
+    {
+        let access = self.accesses.get(i)?;
+        Some(named(&access, self.names.as_slice()))
+    }
+
+    /// Writes the lines of the rows of the listing, and tells how many there are.
+    pub fn write_listing<W: Sink>(&self, sink: &mut W) -> Result<u128, SinkFault>
+        ensures ok { IfOk result (λ n. (p : spec.Atom → Bool) → AreAtoms p self.now → (rows : List Row)
+            × AreRows p rows × (n ≡ length rows) × Gains (W.taken sink.old) (W.taken sink.new) (flat_map row_line rows)) }
+        ensures err { OnErr result ((p : spec.Atom → Bool) → AreAtoms p self.now → (rows : List Row)
+            × AreRows p rows × GainsFront (W.taken sink.old) (W.taken sink.new) (flat_map row_line rows)) }
+        ensures failed { OnErr result (HasFailed (W.failures sink.old) (W.failures sink.new)) }
+        ensures counted { W.failures sink.old ≤ W.failures sink.new }
+    {
+        write_rows(sink, self.names.as_slice(), &self.accesses)
+    }
+}
