@@ -3,7 +3,7 @@
 ghost use Rattle.std.specs.Prelude.{ℕ, List, map, IsTrue};
 ghost use Rattle.cil_specs.specs.Joined.{Placed, Module, joined as joined_policy};
 ghost use Rattle.cil_specs.specs.Kept.{Optionals, AreApart, IsFirstFault, restricted};
-ghost use Rattle.cil_specs.specs.Next.{IsModuleText};
+ghost use Rattle.cil_specs.specs.ModuleText.{IsModuleText};
 ghost use Rattle.cil_specs.specs.PolicyFault.{twice, IsFaultOf};
 ghost use Rattle.cil_specs.specs.Report.{names_rise};
 ghost use Rattle.cil_bind.specs.Scope.{AreSpelt, AreAround};

@@ -7,5 +7,4 @@ pub mod Builder
 pub mod Kinds
 pub mod View
 pub mod Parsed
-pub mod Texts
 pub mod FromTrees

@@ -1,8 +1,7 @@
 -- Modules kept parsed.
-use Rattle.std.specs.Prelude.{◌≡◌, ℕ, List, [], false, map, length, Some}
-use Rattle.cil_specs.specs.Trees.{Trees, Reads}
+use Rattle.std.specs.Prelude.{◌≡◌, ℕ, List, [], map, length, Some}
 use Rattle.cil_specs.specs.Statements.{Statements}
-use Rattle.cil_specs.specs.Shape.{Shapes}
+use Rattle.cil_specs.specs.ModuleText.{IsModuleText}
 use Rattle.cil_parse.specs.Lexicon.{texts_in}
 use Rattle.cil_parse.specs.Forms.{words_in, nodes_in}
 use Rattle.cil_parse.specs.Flat.{FlatStatement, flat}
@@ -41,8 +40,6 @@ pub record IsOwned {A : Type 0} (b : Builder A) (p : ParsedModule A) : Type 0 wh
 
 -- the module is that of the text
 pub record IsParsed {A : Type 0} (bytes : List ℕ) (p : ParsedModule A) : Type 0 where
-  pub trees : Trees
   pub statements : Statements
-  pub reads : Reads bytes trees
-  pub shapes : Shapes false trees statements
+  pub is_text : IsModuleText bytes statements
   pub spells : Spells p statements

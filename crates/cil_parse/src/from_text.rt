@@ -3,7 +3,7 @@
 ghost use Rattle.std.specs.Prelude.{◌≤◌, length, IfOk, IfErr};
 ghost use Rattle.cil_text.specs.Image.{FaultIs};
 ghost use Rattle.cil_parse.specs.Parsed.{IsParsed};
-ghost use Rattle.cil_parse.specs.Texts.{IsTextFault};
+ghost use Rattle.cil_specs.specs.ModuleText.{IsTextFault};
 
 use crate::parsed::ParsedModule;
 use cil_text::{TextFault, read};

@@ -6,11 +6,10 @@ use Rattle.std.proofs.lemmas.Option.{slice_get_within, get_or_from_slice_get}
 use Rattle.cil_stream.specs.Device.{Gains, GainsFront}
 use Rattle.cil_specs.specs.Report.{dropped_line}
 use Rattle.cil_specs.specs.Rule.{Declared}
-use Rattle.cil_specs.specs.Run.{dropped_optionals}
-use Rattle.cil_specs.specs.Script.{answer}
+use Rattle.cil_store_specs.specs.Run.{dropped_optionals}
+use Rattle.cil_store_specs.specs.Script.{reply_text, end_line}
 use Rattle.cil_stream.proofs.Gaining.{gains-then_front, gains-pieces_more, gains-pieces_front}
 use Rattle.cil_store.proofs.DroppedLemmas.{past-end}
-use Rattle.cil_program.specs.Replies.{end_line}
 
 -- one more line
 pub optional-more : (old mid new : Option (List ℕ)) (xs : List Declared) (i : ℕ) (d : Declared) → Some d ≡ slice_get xs i → Gains old mid (flat_map dropped_line (take i xs)) → Gains mid new (dropped_line d) → Gains old new (flat_map dropped_line (take (i + 1) xs))
@@ -26,19 +25,12 @@ optional-front old mid new xs i d is so_far front =
 pub some-optional : (xs : List Declared) (i : ℕ) → i < length xs → None ≡ slice_get xs i → ⊥
 some-optional xs i within none = omega (arith, within, past-end xs i none)
 
--- a listing and its last line
-pub with-end : (x : List ℕ) (n : ℕ) → x ++ end_line n ≡ x ++ codes "end " ++ decimal n ++ codes "\n"
-with-end x n = sym (regroup x (decimal n))
-  where
-    regroup : (x y : List ℕ) → x ++ codes "end " ++ y ++ codes "\n" ≡ x ++ (codes "end " ++ y ++ codes "\n")
-    regroup x y = simp append_assoc
-
 -- the lines and a beginning of the last line
 pub dropped-front : {E : Type 0} (r : Result (Unit {0}) E) (old mid new : Option (List ℕ)) (xs : List Declared) (n : ℕ) → n ≡ length xs → Gains old mid (flat_map dropped_line xs) → OnErr r (GainsFront mid new (end_line n))
-    → OnErr r (GainsFront old new (answer (dropped_optionals xs)))
+    → OnErr r (GainsFront old new (reply_text (dropped_optionals xs)))
 dropped-front (Ok _) old mid new xs n is lines front = tt
 dropped-front (Err _) old mid new xs n is lines front =
-    subst (GainsFront old new) (with-end (flat_map dropped_line xs) n ∙ ap (λ k. flat_map dropped_line xs ++ codes "end " ++ decimal k ++ codes "\n") is) (gains-then_front old mid new (flat_map dropped_line xs) (end_line n) lines front)
+    subst (GainsFront old new) (ap (λ k. flat_map dropped_line xs ++ end_line k) is) (gains-then_front old mid new (flat_map dropped_line xs) (end_line n) lines front)
 
 -- a text that was taken, or a beginning of it, is a beginning of it
 pub gains-some : {T E : Type 0} (r : Result T E) (old new : Option (List ℕ)) (text : List ℕ) → OnOk r (Gains old new text) → OnErr r (GainsFront old new text) → GainsFront old new text

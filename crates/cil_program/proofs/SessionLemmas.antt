@@ -6,12 +6,12 @@ use Rattle.std.proofs.lemmas.Grind.{flat_map-append}
 use Rattle.std.proofs.lemmas.List.{append_cancel_left}
 use Rattle.std.specs.Option.{option_map}
 use Rattle.cil_stream.specs.Device.{Account, Gains, Gives, IsSound, IsLeft, has_ended}
-use Rattle.cil_specs.specs.Run.{Call, Reply, changed_by, refused, listed, violated, dropped_optionals, Run}
-use Rattle.cil_specs.specs.Script.{line_of, command, HasGoodWords, IsCommand, MayLackItsEnd, Commands, IsNoCommand, ends, stops, whole, without_end, answer, last_line, is_refusal}
-use Rattle.cil_specs.specs.Session as spec
-use Rattle.cil_specs.specs.Session.{IsSession, all_accepted, some_refused, no_script}
+use Rattle.cil_store_specs.specs.Script.{Command, line_of, behind, command_bytes, HasGoodWords, IsCommand, MayLackItsEnd, Commands, IsNoCommand, ends, stops, whole, without_end, Answer, AnswersAll, last_line}
+use Rattle.cil_store_specs.specs.Session as spec
+use Rattle.cil_store_specs.specs.Session.{IsSession, all_accepted, some_refused, no_script}
 use Rattle.cil_stream.proofs.Gaining.{gains-both, gains-none}
-use Rattle.cil_specs.proofs.RunLemmas.{run-more}
+use Rattle.cil_store_specs.proofs.LineLemmas.{no-line-command, no-last-command, no-long-command}
+use Rattle.cil_store_specs.proofs.RunLemmas.{answers-more}
 use Rattle.cil_specs.proofs.Runs.{both_true}
 use Rattle.cil_program.specs.Input.{Fits, EndsLine, stays}
 use Rattle.cil_program.specs.Session.{Moment, Standing, Leaves, status_of, Advances, outcome_of, HasAnswered, IsWhole, IsBad, IsOutcome}
@@ -22,7 +22,7 @@ use Rattle.cil_program.specs.declared.script.session.Outcome.TheVariants.{Accept
 use Rattle.cil_program.specs.declared.script.session.Status.{Status}
 use Rattle.cil_program.specs.declared.script.session.Status.TheVariants as statuses
 use Rattle.cil_program.proofs.InputLemmas.{reads-none, reads-both}
-use Rattle.cil_program.proofs.EndLemmas.{no-line-command, no-last-command, no-long-command, no-text-command}
+use Rattle.cil_program.proofs.EndLemmas.{no-text-command}
 
 -- nothing was read
 pub stands : (now : Moment) → Fits now.account.count now.held → Advances now now []
@@ -33,53 +33,50 @@ abbrev is_none : Outcome → Bool
 is_none NoCommand = true
 is_none _ = false
 
-some-outcome : (reply : Reply) → NoCommand ≡ outcome_of reply → ⊥
-some-outcome (changed_by changes) e = true≢false (ap is_none e)
-some-outcome (refused refusal) e = true≢false (ap is_none e)
-some-outcome (listed rows) e = true≢false (ap is_none e)
-some-outcome (violated violations) e = true≢false (ap is_none e)
-some-outcome (dropped_optionals dropped) e = true≢false (ap is_none e)
+some-outcome : (refuses : Bool) → NoCommand ≡ outcome_of refuses → ⊥
+some-outcome true e = true≢false (ap is_none e)
+some-outcome false e = true≢false (ap is_none e)
 
--- a question, whose command is its line and a line feed, was answered
-pub question-outcome : (call : Call) (outcome : Outcome) (end : LineEnd) (line : List ℕ) (now : Moment) (before after : Standing) → HasGoodWords call → MayLackItsEnd call → line_of call ++ 10 ∷ [] ≡ command call → Fits now.account.count now.held → end ≢ TooLong
-    → (end ≡ LastByte → IsTrue (has_ended now.account) × (now.held.bytes ≡ [])) → line ≡ line_of call → HasAnswered call outcome before after → IsOutcome outcome end line now now before after
-question-outcome call NoCommand end line now before after good may whole_is fits short last is answered = absurd (some-outcome answered.reply answered.is)
-question-outcome call Accepted LineFeed line now before after good may whole_is fits short last is answered = (call, [], stands now fits, (good, is, ap (λ l. l ++ 10 ∷ []) is ∙ whole_is), answered)
-question-outcome call Accepted LastByte line now before after good may whole_is fits short last is answered = (call, [], stands now fits, (good, may, is, refl, (last refl).0, (last refl).1), answered)
-question-outcome call Accepted TooLong line now before after good may whole_is fits short last is answered = absurd (short refl)
-question-outcome call Refused LineFeed line now before after good may whole_is fits short last is answered = (call, [], stands now fits, (good, is, ap (λ l. l ++ 10 ∷ []) is ∙ whole_is), answered)
-question-outcome call Refused LastByte line now before after good may whole_is fits short last is answered = (call, [], stands now fits, (good, may, is, refl, (last refl).0, (last refl).1), answered)
-question-outcome call Refused TooLong line now before after good may whole_is fits short last is answered = absurd (short refl)
+-- a command that is its line and a line feed was answered
+pub line-outcome : (command : Command) (outcome : Outcome) (end : LineEnd) (line : List ℕ) (now : Moment) (before after : Standing) → HasGoodWords command → MayLackItsEnd command → behind command ≡ [] → Fits now.account.count now.held → end ≢ TooLong
+    → (end ≡ LastByte → IsTrue (has_ended now.account) × (now.held.bytes ≡ [])) → line ≡ line_of command → HasAnswered command outcome before after → IsOutcome outcome end line now now before after
+line-outcome command NoCommand end line now before after good may alone fits short last is answered = absurd (some-outcome answered.answer.refuses answered.is)
+line-outcome command Accepted LineFeed line now before after good may alone fits short last is answered = (command, [], stands now fits, (good, is, sym alone), answered)
+line-outcome command Accepted LastByte line now before after good may alone fits short last is answered = (command, [], stands now fits, (good, may, is, refl, (last refl).0, (last refl).1), answered)
+line-outcome command Accepted TooLong line now before after good may alone fits short last is answered = absurd (short refl)
+line-outcome command Refused LineFeed line now before after good may alone fits short last is answered = (command, [], stands now fits, (good, is, sym alone), answered)
+line-outcome command Refused LastByte line now before after good may alone fits short last is answered = (command, [], stands now fits, (good, may, is, refl, (last refl).0, (last refl).1), answered)
+line-outcome command Refused TooLong line now before after good may alone fits short last is answered = absurd (short refl)
 
 -- What a session did so far: it read whole commands, answered them, and wrote the answers.
 pub record SoFar (first now : Moment) (before after : Standing) (status : Status) : Type 0 where
   pub read : List ℕ
   pub reads : Advances first now read
-  pub calls : List Call
-  pub replies : List Reply
-  pub good : AllByRecursion IsCommand calls
-  pub is : read ≡ flat_map command calls
-  pub run : Run before.store calls replies after.store
-  pub written : Gains before.taken after.taken (flat_map answer replies)
-  pub status_is : status_of status ≡ spec.status_of replies ends
+  pub commands : List Command
+  pub answers : List Answer
+  pub good : AllByRecursion IsCommand commands
+  pub is : read ≡ flat_map command_bytes commands
+  pub answered : AnswersAll before.store commands answers after.store
+  pub written : Gains before.taken after.taken (flat_map (λ a. a.bytes) answers)
+  pub status_is : status_of status ≡ spec.status_of answers ends
 
 -- before the first line
 pub at-start : (first : Moment) (before : Standing) → first.held.bytes ≡ [] → first.held.line_feeds ≡ 0 → SoFar first first before before statuses.Clean
 at-start first before none feeds = record {
   read = [];
   reads = stands first (record { within = omega (arith, feeds, ap length none); small = λ some. absurd (some none) });
-  calls = [];
-  replies = [];
+  commands = [];
+  answers = [];
   good = tt;
   is = refl;
-  run = refl;
+  answered = refl;
   written = gains-none before.taken;
   status_is = refl;
 }
 
-all-more : (calls : List Call) (call : Call) → AllByRecursion IsCommand calls → IsCommand call → AllByRecursion IsCommand (calls ++ call ∷ [])
-all-more [] call all is = (is, tt)
-all-more (c ∷ calls) call all is = (all.0, all-more calls call all.1 is)
+all-more : (commands : List Command) (command : Command) → AllByRecursion IsCommand commands → IsCommand command → AllByRecursion IsCommand (commands ++ command ∷ [])
+all-more [] command all is = (is, tt)
+all-more (c ∷ commands) command all is = (all.0, all-more commands command all.1 is)
 
 map-more : {X : Type 0} (f : X → List ℕ) (xs : List X) (x : X) → flat_map f (xs ++ x ∷ []) ≡ flat_map f xs ++ f x
 map-more f xs x = flat_map-append f xs (x ∷ []) ∙ ap (λ l. flat_map f xs ++ l) (append-nil (f x))
@@ -90,10 +87,11 @@ after_outcome Accepted status = status
 after_outcome Refused status = statuses.Refused
 after_outcome NoCommand status = statuses.Script
 
--- the replies tell the status
-refused-more : (replies : List Reply) (reply : Reply) (outcome : Outcome) (status : Status) → outcome ≡ outcome_of reply → status_of status ≡ spec.status_of replies ends
-    → status_of (after_outcome outcome status) ≡ spec.status_of (replies ++ reply ∷ []) ends
-refused-more replies reply outcome status is so_far = ap (λ o. status_of (after_outcome o status)) is ∙ by reply ∙ ap (λ b. if b then some_refused else all_accepted) (sym (list_any-append is_refusal replies (reply ∷ [])))
+-- the answers tell the status
+refused-more : (answers : List Answer) (answer : Answer) (outcome : Outcome) (status : Status) → outcome ≡ outcome_of answer.refuses → status_of status ≡ spec.status_of answers ends
+    → status_of (after_outcome outcome status) ≡ spec.status_of (answers ++ answer ∷ []) ends
+refused-more answers answer outcome status is so_far =
+    ap (λ o. status_of (after_outcome o status)) is ∙ by answer.refuses ∙ ap (λ b. if b then some_refused else all_accepted) (sym (list_any-append (λ a. a.refuses) answers (answer ∷ [])))
   where
     without : (b : Bool) → (b || false) ≡ b
     without true = refl
@@ -103,40 +101,37 @@ refused-more replies reply outcome status is so_far = ap (λ o. status_of (after
     with true = refl
     with false = refl
 
-    by : (reply : Reply) → status_of (after_outcome (outcome_of reply) status) ≡ (if list_any is_refusal replies || list_any is_refusal (reply ∷ []) then some_refused else all_accepted)
-    by (changed_by changes) = so_far ∙ ap (λ b. if b then some_refused else all_accepted) (sym (without (list_any is_refusal replies)))
-    by (listed rows) = so_far ∙ ap (λ b. if b then some_refused else all_accepted) (sym (without (list_any is_refusal replies)))
-    by (violated violations) = so_far ∙ ap (λ b. if b then some_refused else all_accepted) (sym (without (list_any is_refusal replies)))
-    by (dropped_optionals dropped) = so_far ∙ ap (λ b. if b then some_refused else all_accepted) (sym (without (list_any is_refusal replies)))
-    by (refused refusal) = ap (λ b. if b then some_refused else all_accepted) (sym (with (list_any is_refusal replies)))
+    by : (refuses : Bool) → status_of (after_outcome (outcome_of refuses) status) ≡ (if list_any (λ a. a.refuses) answers || (refuses || false) then some_refused else all_accepted)
+    by false = so_far ∙ ap (λ b. if b then some_refused else all_accepted) (sym (without (list_any (λ a. a.refuses) answers)))
+    by true = ap (λ b. if b then some_refused else all_accepted) (sym (with (list_any (λ a. a.refuses) answers)))
 
 -- what is left of an outcome where there was a command
 pub record HasCommand (outcome : Outcome) (end : LineEnd) (line : List ℕ) (old new : Moment) (before after : Standing) : Type 0 where
-  pub call : Call
+  pub command : Command
   pub read : List ℕ
   pub reads : Advances old new read
-  pub is_whole : IsWhole end line read new call
-  pub answered : HasAnswered call outcome before after
+  pub is_whole : IsWhole end line read new command
+  pub answered : HasAnswered command outcome before after
 
 pub some-command : (outcome : Outcome) (end : LineEnd) (line : List ℕ) (old new : Moment) (before after : Standing) → outcome ≢ NoCommand → IsOutcome outcome end line old new before after → HasCommand outcome end line old new before after
-some-command Accepted end line old new before after some is = record { call = is.0; read = is.1; reads = is.2; is_whole = is.3; answered = is.4 }
-some-command Refused end line old new before after some is = record { call = is.0; read = is.1; reads = is.2; is_whole = is.3; answered = is.4 }
+some-command Accepted end line old new before after some is = record { command = is.0; read = is.1; reads = is.2; is_whole = is.3; answered = is.4 }
+some-command Refused end line old new before after some is = record { command = is.0; read = is.1; reads = is.2; is_whole = is.3; answered = is.4 }
 some-command NoCommand end line old new before after some is = absurd (some refl)
 
 advances-both : (old mid new : Moment) (first second : List ℕ) → Advances old mid first → Advances mid new second → Advances old new (first ++ second)
 advances-both old mid new first second a b = reads-both old.account mid.account new.account old.held mid.held new.held first second a b
 
-good-words : (end : LineEnd) (line read : List ℕ) (now : Moment) (call : Call) → IsWhole end line read now call → length line ≤ 4096 → IsCommand call
-good-words LineFeed line read now call is short = (is.0, omega (arith, short, ap length is.1))
-good-words LastByte line read now call is short = (is.0, omega (arith, short, ap length is.2))
-good-words TooLong line read now call is short = absurd is
+good-words : (end : LineEnd) (line read : List ℕ) (now : Moment) (command : Command) → IsWhole end line read now command → length line ≤ 4096 → IsCommand command
+good-words LineFeed line read now command is short = (is.0, omega (arith, short, ap length is.1))
+good-words LastByte line read now command is short = (is.0, omega (arith, short, ap length is.2))
+good-words TooLong line read now command is short = absurd is
 
-run-on : (old mid new : Standing) (calls : List Call) (replies : List Reply) (call : Call) (outcome : Outcome) → Run old.store calls replies mid.store → (answered : HasAnswered call outcome mid new) → Run old.store (calls ++ call ∷ []) (replies ++ answered.reply ∷ []) new.store
-run-on old mid new calls replies call outcome run answered = run-more old.store mid.store new.store calls replies call answered.reply run answered.step
+answers-on : (old mid new : Standing) (commands : List Command) (answers : List Answer) (command : Command) (outcome : Outcome) → AnswersAll old.store commands answers mid.store → (answered : HasAnswered command outcome mid new) → AnswersAll old.store (commands ++ command ∷ []) (answers ++ answered.answer ∷ []) new.store
+answers-on old mid new commands answers command outcome all answered = answers-more old.store mid.store new.store commands answers command answered.answer all answered.answers
 
-written-on : (old mid new : Standing) (replies : List Reply) (call : Call) (outcome : Outcome) → Gains old.taken mid.taken (flat_map answer replies) → (answered : HasAnswered call outcome mid new) → Gains old.taken new.taken (flat_map answer (replies ++ answered.reply ∷ []))
-written-on old mid new replies call outcome written answered =
-    subst (Gains old.taken new.taken) (sym (map-more answer replies answered.reply)) (gains-both old.taken mid.taken new.taken (flat_map answer replies) (answer answered.reply) written answered.written)
+written-on : (old mid new : Standing) (answers : List Answer) (command : Command) (outcome : Outcome) → Gains old.taken mid.taken (flat_map (λ a. a.bytes) answers) → (answered : HasAnswered command outcome mid new) → Gains old.taken new.taken (flat_map (λ a. a.bytes) (answers ++ answered.answer ∷ []))
+written-on old mid new answers command outcome written answered =
+    subst (Gains old.taken new.taken) (sym (map-more (λ a. a.bytes) answers answered.answer)) (gains-both old.taken mid.taken new.taken (flat_map (λ a. a.bytes) answers) answered.answer.bytes written answered.written)
 
 -- one more line, with its line feed, was a command
 pub line-more : (first old mid now : Moment) (before between after : Standing) (status : Status) (outcome : Outcome) (line bytes : List ℕ) → SoFar first old before between status → Advances old mid bytes → EndsLine LineFeed line bytes (has_ended mid.account) mid.held.bytes → length line ≤ 4096
@@ -146,13 +141,13 @@ line-more first old mid now before between after status outcome line bytes so_fa
     record {
       read = so_far.read ++ (bytes ++ had.read);
       reads = advances-both first old now so_far.read (bytes ++ had.read) so_far.reads (advances-both old mid now bytes had.read reads had.reads);
-      calls = so_far.calls ++ had.call ∷ [];
-      replies = so_far.replies ++ had.answered.reply ∷ [];
-      good = all-more so_far.calls had.call so_far.good (good-words LineFeed line had.read now had.call had.is_whole short);
-      is = (λ i. so_far.is i ++ (ends_line i ++ had.read)) ∙ ap (λ l. flat_map command so_far.calls ++ l) (append_assoc line (10 ∷ []) had.read ∙ had.is_whole.2) ∙ sym (map-more command so_far.calls had.call);
-      run = run-on before between after so_far.calls so_far.replies had.call outcome so_far.run had.answered;
-      written = written-on before between after so_far.replies had.call outcome so_far.written had.answered;
-      status_is = refused-more so_far.replies had.answered.reply outcome status had.answered.is so_far.status_is;
+      commands = so_far.commands ++ had.command ∷ [];
+      answers = so_far.answers ++ had.answered.answer ∷ [];
+      good = all-more so_far.commands had.command so_far.good (good-words LineFeed line had.read now had.command had.is_whole short);
+      is = (λ i. so_far.is i ++ (ends_line i ++ had.read)) ∙ ap (λ l. flat_map command_bytes so_far.commands ++ l) (append_assoc line (10 ∷ []) had.read ∙ (λ i. had.is_whole.1 i ++ 10 ∷ had.is_whole.2 i)) ∙ sym (map-more command_bytes so_far.commands had.command);
+      answered = answers-on before between after so_far.commands so_far.answers had.command outcome so_far.answered had.answered;
+      written = written-on before between after so_far.answers had.command outcome so_far.written had.answered;
+      status_is = refused-more so_far.answers had.answered.answer outcome status had.answered.is so_far.status_is;
     }
 
 -- no end is forgotten at a line
@@ -199,12 +194,12 @@ leaves first now before after status done sound = record {
   whole = λ rest left.
       let more = left-given first.account now.account done.bytes rest sound done.gives left in
       record {
-        calls = done.session.calls;
-        replies = done.session.replies;
+        commands = done.session.commands;
+        answers = done.session.answers;
         end = done.session.end;
-        commands = λ after none. subst (λ script. Commands script done.session.calls done.session.end) (more.2 ∙ sym (append-nil rest) ∙ sym (ap (λ l. rest ++ l) (none refl))) (done.session.commands more.0 more.1);
-        run = done.session.run;
+        are_commands = λ after none. subst (λ script. Commands script done.session.commands done.session.end) (more.2 ∙ sym (append-nil rest) ∙ sym (ap (λ l. rest ++ l) (none refl))) (done.session.are_commands more.0 more.1);
         answered = done.session.answered;
+        are_written = done.session.are_written;
         status_is = done.session.status_is;
       };
 }
@@ -222,19 +217,19 @@ pub done-at-end : (first old now : Moment) (before after : Standing) (status : S
     → HasEndedSo first now before after status
 done-at-end first old now before after status bytes line none so_far reads ends_line empty =
     let all = advances-both first old now so_far.read bytes so_far.reads reads in
-    let read_is : so_far.read ++ bytes ≡ flat_map command so_far.calls = (λ i. so_far.is i ++ (ends_line.0 ∙ empty) i) ∙ append-nil (flat_map command so_far.calls) in
+    let read_is : so_far.read ++ bytes ≡ flat_map command_bytes so_far.commands = (λ i. so_far.is i ++ (ends_line.0 ∙ empty) i) ∙ append-nil (flat_map command_bytes so_far.commands) in
     record {
       bytes = all.takes.fresh;
-      text = flat_map answer so_far.replies;
+      text = flat_map (λ a. a.bytes) so_far.answers;
       gives = all.takes.gives;
       written = so_far.written;
       session = record {
-        calls = so_far.calls;
-        replies = so_far.replies;
+        commands = so_far.commands;
+        answers = so_far.answers;
         end = ends;
-        commands = λ more no_more. whole so_far.good [] (last-bytes now all.takes.fresh (so_far.read ++ bytes) more (fresh-is first now (so_far.read ++ bytes) none all) ends_line.1 ends_line.2 no_more ∙ read_is ∙ sym (append-nil (flat_map command so_far.calls))) refl;
-        run = so_far.run;
-        answered = sym (append-nil (flat_map answer so_far.replies));
+        are_commands = λ more no_more. whole so_far.good [] (last-bytes now all.takes.fresh (so_far.read ++ bytes) more (fresh-is first now (so_far.read ++ bytes) none all) ends_line.1 ends_line.2 no_more ∙ read_is ∙ sym (append-nil (flat_map command_bytes so_far.commands))) refl;
+        answered = so_far.answered;
+        are_written = sym (append-nil (flat_map (λ a. a.bytes) so_far.answers));
         status_is = so_far.status_is;
       };
     }
@@ -245,23 +240,23 @@ pub done-without-end : (first old mid now : Moment) (before between after : Stan
 done-without-end first old mid now before between after status outcome line bytes none so_far reads ends_line short some is =
     let had = some-command outcome LastByte line mid now between after some is in
     let all = advances-both first old now so_far.read (bytes ++ had.read) so_far.reads (advances-both old mid now bytes had.read reads had.reads) in
-    let read_is : so_far.read ++ (bytes ++ had.read) ≡ flat_map command so_far.calls ++ line_of had.call =
-    (λ i. so_far.is i ++ ((ends_line.0 ∙ had.is_whole.2) i ++ had.is_whole.3 i)) ∙ ap (λ l. flat_map command so_far.calls ++ l) (append-nil (line_of had.call))
+    let read_is : so_far.read ++ (bytes ++ had.read) ≡ flat_map command_bytes so_far.commands ++ line_of had.command =
+    (λ i. so_far.is i ++ ((ends_line.0 ∙ had.is_whole.2) i ++ had.is_whole.3 i)) ∙ ap (λ l. flat_map command_bytes so_far.commands ++ l) (append-nil (line_of had.command))
     in
     record {
       bytes = all.takes.fresh;
-      text = flat_map answer (so_far.replies ++ had.answered.reply ∷ []);
+      text = flat_map (λ a. a.bytes) (so_far.answers ++ had.answered.answer ∷ []);
       gives = all.takes.gives;
-      written = written-on before between after so_far.replies had.call outcome so_far.written had.answered;
+      written = written-on before between after so_far.answers had.command outcome so_far.written had.answered;
       session = record {
-        calls = so_far.calls ++ had.call ∷ [];
-        replies = so_far.replies ++ had.answered.reply ∷ [];
+        commands = so_far.commands ++ had.command ∷ [];
+        answers = so_far.answers ++ had.answered.answer ∷ [];
         end = ends;
-        commands = λ more no_more. without_end so_far.calls had.call (all-more so_far.calls had.call so_far.good (good-words LastByte line had.read now had.call had.is_whole short)) refl had.is_whole.1
+        are_commands = λ more no_more. without_end so_far.commands had.command (all-more so_far.commands had.command so_far.good (good-words LastByte line had.read now had.command had.is_whole short)) refl had.is_whole.1
             (last-bytes now all.takes.fresh (so_far.read ++ (bytes ++ had.read)) more (fresh-is first now (so_far.read ++ (bytes ++ had.read)) none all) had.is_whole.4 had.is_whole.5 no_more ∙ read_is) refl;
-        run = run-on before between after so_far.calls so_far.replies had.call outcome so_far.run had.answered;
-        answered = sym (append-nil (flat_map answer (so_far.replies ++ had.answered.reply ∷ [])));
-        status_is = refused-more so_far.replies had.answered.reply outcome status had.answered.is so_far.status_is;
+        answered = answers-on before between after so_far.commands so_far.answers had.command outcome so_far.answered had.answered;
+        are_written = sym (append-nil (flat_map (λ a. a.bytes) (so_far.answers ++ had.answered.answer ∷ [])));
+        status_is = refused-more so_far.answers had.answered.answer outcome status had.answered.is so_far.status_is;
       };
     }
 
@@ -294,21 +289,21 @@ pub done-at-line : (first old mid now : Moment) (before after last : Standing) (
     → HasEndedSo first now before last statuses.Script
 done-at-line first old mid now before after last status end line bytes read none feeds so_far reads ends_line stay some more_reads bad same written =
     let all = advances-both first old now so_far.read (bytes ++ read) so_far.reads (advances-both old mid now bytes read reads more_reads) in
-    let line_is : old.held.line_feeds ≡ count_by (λ b. b == 10) (flat_map command so_far.calls) = omega (arith, so_far.reads.line_feeds, feeds) ∙ ap (count_by (λ b. b == 10)) so_far.is in
+    let line_is : old.held.line_feeds ≡ count_by (λ b. b == 10) (flat_map command_bytes so_far.commands) = omega (arith, so_far.reads.line_feeds, feeds) ∙ ap (count_by (λ b. b == 10)) so_far.is in
     record {
       bytes = all.takes.fresh;
-      text = flat_map answer so_far.replies ++ last_line (stops (1 + old.held.line_feeds));
+      text = flat_map (λ a. a.bytes) so_far.answers ++ last_line (stops (1 + old.held.line_feeds));
       gives = all.takes.gives;
-      written = gains-both before.taken after.taken last.taken (flat_map answer so_far.replies) (last_line (stops (1 + old.held.line_feeds))) so_far.written written;
+      written = gains-both before.taken after.taken last.taken (flat_map (λ a. a.bytes) so_far.answers) (last_line (stops (1 + old.held.line_feeds))) so_far.written written;
       session = record {
-        calls = so_far.calls;
-        replies = so_far.replies;
+        commands = so_far.commands;
+        answers = so_far.answers;
         end = stops (1 + old.held.line_feeds);
-        commands = λ more no_more. whole so_far.good ((bytes ++ read) ++ (now.held.bytes ++ more))
+        are_commands = λ more no_more. whole so_far.good ((bytes ++ read) ++ (now.held.bytes ++ more))
             ((λ i. fresh-is first now (so_far.read ++ (bytes ++ read)) none all i ++ more) ∙ regroup so_far.read (bytes ++ read) now.held.bytes more ∙ ap (λ l. l ++ ((bytes ++ read) ++ (now.held.bytes ++ more))) so_far.is)
             (subst (λ l. l ≢ []) (sym (append_assoc bytes read (now.held.bytes ++ more))) (some-bytes end line bytes (read ++ (now.held.bytes ++ more)) (has_ended mid.account) mid.held.bytes some ends_line), bad-line end line bytes read more mid now ends_line stay bad no_more, ap (λ n. 1 + n) line_is);
-        run = subst (Run before.store so_far.calls so_far.replies) (sym same) so_far.run;
-        answered = refl;
+        answered = subst (AnswersAll before.store so_far.commands so_far.answers) (sym same) so_far.answered;
+        are_written = refl;
         status_is = refl;
       };
     }

@@ -1,26 +1,30 @@
 -- The commands on the lines of a script.
-use Rattle.std.specs.Prelude.{◌≡◌, ℕ, Bool, not, ◌==◌, List, ◌∷◌, ◌++◌, decimal}
-use Rattle.cil_specs.specs.Run.{ask_rows, ask_violations, ask_dropped}
-use Rattle.cil_specs.specs.Script.{AreGoodWords, install_line, line_of}
+use Rattle.std.specs.Prelude.{◌≡◌, ℕ, List, [], ◌∷◌, codes, decimal}
+use Rattle.std.specs.List.{join_with_byte}
+use Rattle.cil_store_specs.specs.Script.{IsGoodName, IsShortNumber}
 use Rattle.cil_program.specs.declared.script.command.ScriptLine.{ScriptLine}
-use Rattle.cil_program.specs.declared.script.command.ScriptLine.TheVariants.{Install, Rules, Violations, Dropped}
+use Rattle.cil_program.specs.declared.script.command.ScriptLine.TheVariants.{Install, Remove, Enable, Disable, Rules, Violations, Dropped, Modules}
 
-abbrev pub is_no_space : ℕ → Bool
-is_no_space b = not (b == 32)
+-- the words of the line that asks for it
+abbrev pub words_asked : ScriptLine → List (List ℕ)
+words_asked (Install name priority len) = codes "install" ∷ name.now ∷ decimal priority ∷ decimal len ∷ []
+words_asked (Remove name priority) = codes "remove" ∷ name.now ∷ decimal priority ∷ []
+words_asked (Enable name) = codes "enable" ∷ name.now ∷ []
+words_asked (Disable name) = codes "disable" ∷ name.now ∷ []
+words_asked Rules = codes "rules" ∷ []
+words_asked Violations = codes "violations" ∷ []
+words_asked Dropped = codes "dropped" ∷ []
+words_asked Modules = codes "modules" ∷ []
+
+-- its name and its numbers are those of a command
+abbrev pub HasGoodParts : ScriptLine → Type 0
+HasGoodParts (Install name priority len) = IsGoodName name.now × IsShortNumber priority × IsShortNumber len
+HasGoodParts (Remove name priority) = IsGoodName name.now × IsShortNumber priority
+HasGoodParts (Enable name) = IsGoodName name.now
+HasGoodParts (Disable name) = IsGoodName name.now
+HasGoodParts _ = Unit {0}
 
 -- the line of what it asks for
-abbrev pub IsLine : ScriptLine → List ℕ → Type 0
-IsLine (Install name priority len) line = AreGoodWords name.now priority len × (line ≡ install_line name.now priority len)
-IsLine Rules line = line ≡ line_of ask_rows
-IsLine Violations line = line ≡ line_of ask_violations
-IsLine Dropped line = line ≡ line_of ask_dropped
-
--- what stands on the line of an install behind its first word
-abbrev pub install_rest : List ℕ → ℕ → ℕ → List ℕ
-install_rest name priority size = name ++ 32 ∷ (decimal priority ++ 32 ∷ decimal size)
-
-abbrev pub IsInstallRest : ScriptLine → List ℕ → Type 0
-IsInstallRest (Install name priority len) rest = AreGoodWords name.now priority len × (rest ≡ install_rest name.now priority len)
-IsInstallRest Rules rest = ⊥
-IsInstallRest Violations rest = ⊥
-IsInstallRest Dropped rest = ⊥
+pub record IsLine (asked : ScriptLine) (line : List ℕ) : Type 0 where
+  pub good : HasGoodParts asked
+  pub is : line ≡ join_with_byte 32 (words_asked asked)

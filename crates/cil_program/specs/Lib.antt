@@ -1,5 +1,4 @@
 pub mod Input
 pub mod Command
-pub mod Replies
 pub mod Session
 pub mod CommandLine

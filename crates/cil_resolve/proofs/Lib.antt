@@ -26,3 +26,4 @@ pub mod SetNameLemmas
 pub mod ApartLemmas
 pub mod EvaluateLemmas
 pub mod SameLemmas
+pub mod NumberOf

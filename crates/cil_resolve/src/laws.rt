@@ -5,12 +5,10 @@ ghost use Rattle.std.specs.List.Sorted.{IsStrictlySortedBy};
 ghost use Rattle.cil_specs.specs.Dependence.{AreInOrder, AreTheSame};
 ghost use Rattle.cil_specs.specs.Expr.{Expr, leaves};
 ghost use Rattle.cil_specs.specs.Joined.{Placed};
-ghost use Rattle.cil_specs.specs.Lookup.{Table, leads};
-ghost use Rattle.cil_specs.specs.Store.{Store};
+ghost use Rattle.cil_specs.specs.Lookup.{Table, has_name, leads};
 ghost use Rattle.cil_specs.specs.Kept.{Optionals, restricted, IsWithin, IsGood, AreKept, AreApart};
 ghost use Rattle.cil_specs.specs.Meaning.{Meaning, Means, keeps_type, is_in, holds};
-ghost use Rattle.cil_specs.specs.Members.{is_member, HasSoundSets};
-ghost use Rattle.cil_specs.specs.Next.{IsPolicyOf};
+ghost use Rattle.cil_specs.specs.Members.{is_member, keeps_attribute, HasSoundSets};
 ghost use Rattle.cil_specs.specs.Rule.{Element};
 ghost use Rattle.cil_specs.specs.Sets.{holds_with, mentions};
 ghost use Rattle.cil_specs.specs.Violations.{rule_cmp};
@@ -43,11 +41,6 @@ pub fn kept_exists()
 /// It keeps one set of them.
 pub fn kept_is_one()
     ensures { (policy : List Placed) (kept others : Optionals) → AreKept policy kept → AreKept policy others → kept ≡ others }
-{}
-
-/// The policy of a store is one in which these stand in no optional.
-pub fn policies_are_apart()
-    ensures { (store : Store) (policy : List Placed) → IsPolicyOf store policy → AreApart policy }
 {}
 
 /// In what a policy means the rules name what is declared: their sources and targets are among the types, or among the attributes,
@@ -83,6 +76,12 @@ pub fn resolved_sets_are_in_order<A: Allocator>(resolved: &Resolved<A>)
 pub fn resolved_sets_are_apart<A: Allocator>(resolved: &Resolved<A>)
     ensures apart { AllPairs StandApart (sets_in resolved.now) }
     ensures few { length (sets_in resolved.now) < 2 ^ 32 }
+{}
+
+/// The types and the attributes that it keeps are among its names.
+pub fn resolved_names_are_kept<A: Allocator>(resolved: &Resolved<A>)
+    ensures types { (name : List ℕ) → IsTrue (keeps_type (meaning_in resolved.now) name) → IsTrue (has_name resolved.now.names.items name) }
+    ensures attributes { (name : List ℕ) → IsTrue (keeps_attribute (meaning_in resolved.now) name) → IsTrue (has_name resolved.now.names.items name) }
 {}
 
 /// Its rules stand in the order of their modules and offsets.

@@ -1,9 +1,11 @@
 //! What is read of a resolved policy. It takes no memory.
 
-ghost use Rattle.std.specs.Prelude.{◌≡◌, ◌<◌, IfSome, IsTrue, [], length, slice_get, slice_index_or, option_map};
-ghost use Rattle.std.specs.List.{list_all};
+ghost use Rattle.std.specs.Prelude.{◌≡◌, ◌<◌, ◌↔◌, false, Some, IfNone, IfSome, IsTrue, [], length, slice_get, slice_index_or, option_map};
+ghost use Rattle.std.specs.List.{list_all, prefix_len};
 ghost use Rattle.std.specs.Option.{option_and_then};
-ghost use Rattle.cil_specs.specs.Report.{names_rise};
+ghost use Rattle.std.specs.Ordering.{is_lt};
+ghost use Rattle.cil_specs.specs.Lookup.{has_name};
+ghost use Rattle.cil_specs.specs.Report.{name_cmp, names_rise};
 ghost use Rattle.cil_resolve.specs.Below.{is_rule_below};
 ghost use Rattle.cil_resolve.specs.Numbers.{element_of, resolved_target_of};
 ghost use Rattle.cil_resolve.specs.Resolved.{meaning_in};
@@ -94,6 +96,40 @@ impl<A: Allocator> Resolved<A> {
         match self.names.get(i) {
             Some(name) => name.as_slice(),
             None => b"",
+        }
+    }
+
+    /// How many names stand before one in the order of the bytes.
+    fn place(&self, name: &[u8]) -> usize
+        ensures { result ≡ prefix_len (λ other. is_lt (name_cmp other name.now)) self.now.names.items }
+    {
+        self.names.as_slice().partition_point(
+            |other: &Text<A>| -> bool
+                ensures { result ≡ is_lt (name_cmp other.now name.entry.now) }
+            { other.as_slice().cmp(name).is_lt() },
+        )
+    }
+
+    /// Whether a name has this number.
+    fn is_number(&self, i: usize, name: &[u8]) -> bool
+        ensures { IsTrue result ↔ (slice_get self.now.names.items i ≡ Some name.now) }
+    {
+        match self.names.get(i) {
+            Some(other) => other.as_slice() == name,
+            None => false,
+        }
+    }
+
+    /// The number of a name, if it is among the names. Its time goes with the logarithm of their number.
+    pub fn number(&self, name: &[u8]) -> Option<usize>
+        ensures some { IfSome result (λ n. slice_get self.now.names.items n ≡ Some name.now) }
+        ensures none { IfNone result (has_name self.now.names.items name.now ≡ false) }
+    {
+        let place = self.place(name);
+        if self.is_number(place, name) {
+            Some(place)
+        } else {
+            None
         }
     }
 

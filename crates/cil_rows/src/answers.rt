@@ -1,10 +1,10 @@
 //! What a session over memory answers.
 
-ghost use Rattle.cil_store.specs.Stored.{IsParsedOf};
+ghost use Rattle.cil_parse.specs.Parsed.{IsParsed};
 
-use cil_parse::ParsedModule;
+use cil_parse::{ParsedModule, parse};
 use cil_program::script::session::{Status, session};
-use cil_store::{Plain, parse};
+use cil_store::Plain;
 use cil_stream::{MemorySink, MemorySource};
 use std::alloc::Global;
 use std::fmt::Debug;
@@ -141,7 +141,7 @@ pub fn spelled(rt: &impl Abort, alloc: Global, pieces: &[Piece<'_>]) -> Vec<u8> 
 
 /// The parsed module of a text that the store takes.
 pub fn module_of(rt: &impl Abort, alloc: Global, text: &[u8]) -> ParsedModule
-    ensures { IsParsedOf text.now result }
+    ensures { IsParsed text.now result }
 {
     assert!(rt; text.len() <= 16_777_216, "too long a text");
     parse(alloc, text).expect(rt, "a module")

@@ -1,9 +1,9 @@
 //! Small policies by calls of `cil_resolve`: one that compiles, and some with a fault.
 
-ghost use Rattle.std.specs.Prelude.{List, IfOk};
+ghost use Rattle.std.specs.Prelude.{List, IfOk, ℕ};
 ghost use Rattle.cil_specs.specs.Joined.{Module};
+ghost use Rattle.cil_parse.specs.Parsed.{IsParsed};
 ghost use Rattle.cil_resolve.specs.Modules.{AreParsedFrom};
-ghost use Rattle.cil_rows.specs.Sound.{IsSoundModule};
 
 use crate::answers::{assert_same, shown};
 use crate::tables::assert_changes;
@@ -27,7 +27,7 @@ const RULE: &[u8] = b"(allow a a (p (use)))";
 
 // The parsed module of a text.
 fn module_of(rt: &impl Abort, alloc: Global, text: &[u8]) -> ParsedModule
-    ensures { IsSoundModule result }
+    ensures { (text : List ℕ) × IsParsed text result }
 {
     assert!(rt; text.len() <= 16_777_216, "too long a text");
     parse(alloc, text).expect(rt, "a module")
@@ -39,8 +39,8 @@ fn joined<'m>(
     m: &'m ParsedModule,
     n: &'m ParsedModule,
 ) -> Result<Joined<'m>, AllocError>
-    requires first { IsSoundModule m.now }
-    requires second { IsSoundModule n.now }
+    requires first { (text : List ℕ) × IsParsed text m.now }
+    requires second { (text : List ℕ) × IsParsed text n.now }
     ensures { IfOk result (λ joined. (modules : List Module) × AreParsedFrom joined.modules.items modules) }
 {
     let modules = Vec::from_array(

@@ -16,8 +16,10 @@ use Rattle.cil_specs.specs.Report.{name_cmp, atom_cmp, names_rise}
 use Rattle.cil_specs.proofs.ReportLemmas.{name_total, sorted_from_names_rise}
 use Rattle.cil_specs.proofs.ReportLemmasMembers.{sorted_map, sorted_unmap}
 use Rattle.cil_text.specs.Image.{rule_kind_of}
-use Rattle.cil_rules.specs.declared.numbers.AtomNumbers.{AtomNumbers}
-use Rattle.cil_rules.specs.Atoms.{atom_at, name_at, IsWithin, numbers_cmp, AreNumbered}
+use Rattle.cil_accesses.specs.declared.access.AccessNumbers.{AccessNumbers}
+use Rattle.cil_accesses.specs.Renumbered.{IsWithin}
+use Rattle.cil_accesses.specs.Chunks.{numbers_cmp}
+use Rattle.cil_rules.specs.Atoms.{atom_at, name_at, AreNumbered}
 
 less : (i j : ℕ) → i < j → nat_cmp i j ≡ Less
 less i j h = grind (arith, nat_tests)
@@ -43,7 +45,7 @@ name_cmp-name_at names i j rise i_within j_within = by (cases_order i j)
         ∙ ap ordering_reverse (Less-from_sorted name_cmp names j i [] ascending above i_within) ∙ sym (greater i j above)
 
 -- and the order of accesses is that of their numbers
-pub atom_cmp-atom_at : (names : List (List ℕ)) (a b : AtomNumbers) → IsTrue (names_rise names) → IsWithin (length names) a → IsWithin (length names) b
+pub atom_cmp-atom_at : (names : List (List ℕ)) (a b : AccessNumbers) → IsTrue (names_rise names) → IsWithin (length names) a → IsWithin (length names) b
     → atom_cmp (atom_at names a) (atom_at names b) ≡ numbers_cmp a b
 atom_cmp-atom_at names a b rise a_within b_within =
     let source = name_cmp-name_at names a.source b.source rise a_within.source b_within.source in
@@ -54,13 +56,13 @@ atom_cmp-atom_at names a b rise a_within b_within =
     λ i. ordering_then kinds (ordering_then (source i) (ordering_then (target i) (ordering_then (the_class i) (permission i))))
 
 -- the accesses of numbered ones ascend
-pub atoms-ordered : (names : List (List ℕ)) (atoms : List AtomNumbers) → AreNumbered names atoms → IsStrictlySortedBy atom_cmp (map (atom_at names) atoms)
+pub atoms-ordered : (names : List (List ℕ)) (atoms : List AccessNumbers) → AreNumbered names atoms → IsStrictlySortedBy atom_cmp (map (atom_at names) atoms)
 atoms-ordered names atoms are =
     sorted_map (atom_at names) numbers_cmp atom_cmp (IsWithin (length names)) (λ x y p q. atom_cmp-atom_at names x y are.names_ordered p q) atoms
     (recursion_from_All (IsWithin (length names)) atoms are.within) are.ordered
 
 -- numbers of ascending accesses ascend
-pub numbers-ordered : (names : List (List ℕ)) (atoms : List AtomNumbers) → IsTrue (names_rise names) → All (IsWithin (length names)) atoms → IsStrictlySortedBy atom_cmp (map (atom_at names) atoms)
+pub numbers-ordered : (names : List (List ℕ)) (atoms : List AccessNumbers) → IsTrue (names_rise names) → All (IsWithin (length names)) atoms → IsStrictlySortedBy atom_cmp (map (atom_at names) atoms)
     → IsStrictlySortedBy numbers_cmp atoms
 numbers-ordered names atoms rise within ordered =
     sorted_unmap (atom_at names) numbers_cmp atom_cmp (IsWithin (length names)) (λ x y p q. atom_cmp-atom_at names x y rise p q) atoms

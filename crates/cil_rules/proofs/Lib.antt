@@ -1,9 +1,6 @@
 pub mod AtomLemmas
 pub mod ChangesLemmas
-pub mod BitLemmas
 pub mod CollectLemmas
-pub mod DerivedOrder
-pub mod DifferenceLemmas
 pub mod GroupLemmas
 pub mod ListingLemmas
 pub mod NumberedRowLemmas

@@ -1,6 +1,9 @@
 -- The text of a row, written in pieces.
-use Rattle.std.proofs.Common.{◌≡◌, ℕ, Bool, List, ◌∷◌, ◌++◌, length, map, codes, Option, Result, Ok, Err, IfOk, OnOk, OnErr, sym, ap, ◌∙◌, subst, append_assoc}
-use Rattle.std.specs.List.{flat_map}
+use Rattle.std.proofs.Common.{◌≡◌, ◌<◌, ℕ, Bool, true, false, cond, refl, List, [], ◌∷◌, ◌++◌, length, map, codes, Option, Result, Ok, Err, IfOk, OnOk, OnErr, sym, ap, ◌∙◌, subst, append_assoc}
+use Rattle.std.specs.Bool.{IsTrue}
+use Rattle.std.specs.List.{All, AllByRecursion, filter, flat_map}
+use Rattle.std.proofs.lemmas.Bool.{both_ways}
+use Rattle.std.proofs.lemmas.List.Elements.{All-from_recursion, recursion_from_All}
 use Rattle.std.proofs.lemmas.Result.{on_err_weaker}
 use Rattle.std.proofs.lemmas.List.Folds.{flat_map-map}
 use Rattle.cil_specs.specs.Rule as spec
@@ -9,21 +12,60 @@ use Rattle.cil_stream.specs.Device.{Gains, GainsFront}
 use Rattle.cil_stream.proofs.Gaining.{gains-both}
 use Rattle.cil_stream.proofs.Gaining.{gains-then_front, front-longer}
 use Rattle.cil_text.specs.Image.{rule_kind_of}
-use Rattle.cil_rules.specs.declared.numbers.AtomNumbers.{AtomNumbers}
+use Rattle.cil_accesses.specs.declared.access.AccessNumbers.{AccessNumbers}
+use Rattle.cil_accesses.specs.declared.chunk.Chunk.{Chunk}
+use Rattle.cil_accesses.specs.Renumbered.{IsWithin}
+use Rattle.cil_accesses.specs.View.{access_at, at_bit, has_bit}
+use Rattle.cil_text.specs.declared.statement.RuleKind.TheVariants.{Allow}
 use Rattle.cil_rules.specs.Atoms.{name_at}
-use Rattle.cil_rules.specs.Rows.{rows_of, row_head, row_at, permission_text}
+use Rattle.cil_rules.specs.Rows.{rows_of, row_head, row_at, name_text, permission_text, chunk_text}
 use Rattle.cil_rules.proofs.RowLemmas.{are-rows}
 
 -- the line of a row is its head, its permissions and its end
 pub line-parts : (r : Row) → row_line r ≡ row_head r.kind r.source r.target r.the_class ++ (flat_map (λ p. p ++ codes " ") r.permissions ++ codes "};\n")
 line-parts r = append_assoc (row_head r.kind r.source r.target r.the_class) (flat_map (λ p. p ++ codes " ") r.permissions) (codes "};\n")
 
-pub line-is : (names : List (List ℕ)) (first : AtomNumbers) (atoms : List AtomNumbers)
+pub line-is : (names : List (List ℕ)) (first : AccessNumbers) (atoms : List AccessNumbers)
     → row_line (row_at names first atoms) ≡ row_head (rule_kind_of first.kind) (name_at names first.source) (name_at names first.target) (name_at names first.class) ++ (flat_map (permission_text names) atoms ++ codes "};\n")
 line-is names first atoms =
     line-parts (row_at names first atoms)
     ∙ ap (λ l. row_head (rule_kind_of first.kind) (name_at names first.source) (name_at names first.target) (name_at names first.class) ++ (l ++ codes "};\n"))
     (flat_map-map (λ p. p ++ codes " ") (λ a. name_at names a.permission) atoms)
+
+-- the permissions of a row are those of its chunks that have its bit
+pub chunks-text : (names : List (List ℕ)) (bit : ℕ) (chunks : List Chunk) → flat_map (permission_text names) (at_bit bit chunks) ≡ flat_map (chunk_text names bit) chunks
+chunks-text names bit [] = refl
+chunks-text names bit (c ∷ chunks) = by (has_bit bit c) (chunks-text names bit chunks)
+  where
+    by : (b : Bool) → flat_map (permission_text names) (at_bit bit chunks) ≡ flat_map (chunk_text names bit) chunks
+        → flat_map (permission_text names) (map (access_at bit) (cond b (c ∷ filter (has_bit bit) chunks) (filter (has_bit bit) chunks))) ≡ cond b (name_text names c.permission) [] ++ flat_map (chunk_text names bit) chunks
+    by true rest = ap (λ l. name_text names c.permission ++ l) rest
+    by false rest = rest
+
+-- the line of a row whose permissions are those of chunks
+pub row-line-is : (names : List (List ℕ)) (first : AccessNumbers) (bit : ℕ) (chunks : List Chunk)
+    → row_line (row_at names first (at_bit bit chunks)) ≡ row_head (rule_kind_of first.kind) (name_at names first.source) (name_at names first.target) (name_at names first.class) ++ (flat_map (chunk_text names bit) chunks ++ codes "};\n")
+row-line-is names first bit chunks =
+    line-is names first (at_bit bit chunks)
+    ∙ ap (λ l. row_head (rule_kind_of first.kind) (name_at names first.source) (name_at names first.target) (name_at names first.class) ++ (l ++ codes "};\n")) (chunks-text names bit chunks)
+
+within-each : (n bit : ℕ) (chunks : List Chunk) → AllByRecursion (IsWithin n) (at_bit bit chunks) → AllByRecursion (λ c. IsTrue (has_bit bit c) → c.permission < n) chunks
+within-each n bit [] all = tt
+within-each n bit (c ∷ chunks) all = by (has_bit bit c) refl (within-each n bit chunks) all
+  where
+    by : (b : Bool) → has_bit bit c ≡ b → (AllByRecursion (IsWithin n) (at_bit bit chunks) → AllByRecursion (λ c. IsTrue (has_bit bit c) → c.permission < n) chunks)
+        → AllByRecursion (IsWithin n) (map (access_at bit) (cond b (c ∷ filter (has_bit bit) chunks) (filter (has_bit bit) chunks))) → AllByRecursion (λ c. IsTrue (has_bit bit c) → c.permission < n) (c ∷ chunks)
+    by true set others all = (λ h. all.0.permission, others all.1)
+    by false unset others all = (λ h. absurd (both_ways (has_bit bit c) unset h), others all)
+
+-- where the accesses of a row have names, so have their permissions
+pub permissions-within : (n bit : ℕ) (chunks : List Chunk) → All (IsWithin n) (at_bit bit chunks) → All (λ c. IsTrue (has_bit bit c) → c.permission < n) chunks
+permissions-within n bit chunks all =
+    All-from_recursion (λ c. IsTrue (has_bit bit c) → c.permission < n) chunks (within-each n bit chunks (recursion_from_All (IsWithin n) (at_bit bit chunks) all))
+
+-- the chunk that a place past the end of a list is read as
+abbrev pub no_chunk : Chunk
+no_chunk = record { kind = Allow; source = 0; word = 0; class = 0; permission = 0; bits = 0 }
 
 -- three texts, one after the other
 module _ (old mid near new : Option (List ℕ)) (first second third whole : List ℕ) (is : whole ≡ first ++ (second ++ third)) where

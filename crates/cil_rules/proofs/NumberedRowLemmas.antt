@@ -1,13 +1,16 @@
 -- Rows by numbers, as they are built.
-use Rattle.std.proofs.Common.{◌≡◌, ℕ, ◌-◌, ◌<◌, ◌≤◌, List, [], ◌∷◌, ◌++◌, length, map, take, drop, refl, ap, ◌∙◌, arith}
+use Rattle.std.proofs.Common.{◌≡◌, ℕ, ◌+◌, ◌-◌, true, false, cond, get_or, sym, append_assoc, append-nil, ◌<◌, ◌≤◌, List, [], ◌∷◌, ◌++◌, length, map, take, drop, refl, ap, ◌∙◌, arith}
 use Rattle.std.specs.Prelude.{slice_range}
-use Rattle.std.specs.List.{All, AllByRecursion}
+use Rattle.std.specs.List.{All, AllByRecursion, filter}
 use Rattle.std.proofs.lemmas.List.{length-append, length-drop, map_push, drop-append-le, take-append-le, drop_at, take_all}
-use Rattle.std.proofs.lemmas.List.Elements.{All-push, All-weaker, All-append, All-map, recursion_from_All}
+use Rattle.std.proofs.lemmas.List.Elements.{All-push, All-weaker, All-append, All-map, recursion_from_All, filter_more}
 use Rattle.cil_text.specs.declared.statement.RuleKind.TheVariants.{Allow}
-use Rattle.cil_rules.specs.declared.numbers.AtomNumbers.{AtomNumbers}
+use Rattle.cil_accesses.specs.declared.access.AccessNumbers.{AccessNumbers}
+use Rattle.cil_accesses.specs.declared.chunk.Chunk.{Chunk}
+use Rattle.cil_accesses.specs.View.{access_at, at_bit, has_bit}
 use Rattle.cil_rules.specs.declared.rows.RowNumbers.{RowNumbers}
-use Rattle.cil_rules.specs.Atoms.{name_at, IsWithin}
+use Rattle.cil_accesses.specs.Renumbered.{IsWithin}
+use Rattle.cil_rules.specs.Atoms.{name_at}
 use Rattle.cil_rules.specs.Rows.{row_at}
 use Rattle.cil_rules.specs.NumberedRows.{numbered_row, row_by, IsNumberedRow, AreNumberedRows}
 
@@ -40,7 +43,7 @@ map-map f g [] = refl
 map-map f g (x ∷ xs) = ap (λ l. f (g x) ∷ l) (map-map f g xs)
 
 -- one more row
-module _ (names : List (List ℕ)) (ps : List ℕ) (rows : List RowNumbers) (first : AtomNumbers) (row : List AtomNumbers) (are : AreNumberedRows names ps rows) where
+module _ (names : List (List ℕ)) (ps : List ℕ) (rows : List RowNumbers) (first : AccessNumbers) (row : List AccessNumbers) (are : AreNumberedRows names ps rows) where
   pub row_by-push : map (row_by names (ps ++ map (λ a. a.permission) row)) (rows ++ numbered_row first (length ps) (length (ps ++ map (λ a. a.permission) row)) ∷ []) ≡ map (row_by names ps) rows ++ row_at names first row ∷ []
   row_by-push =
       let qs : List ℕ = map (λ a. a.permission) row in
@@ -73,3 +76,29 @@ none-numbered_rows names = record { each = λ k d h. absurd (omega arith); withi
 -- the numbers that a place past the end of a list is read as
 abbrev pub no_row : RowNumbers
 no_row = record { kind = Allow; source = 0; target = 0; class = 0; start = 0; end = 0 }
+
+-- the permissions of the chunks that have a bit
+abbrev pub permissions_at : ℕ → List Chunk → List ℕ
+permissions_at bit chunks = map (λ a. a.permission) (at_bit bit chunks)
+
+-- with those of one chunk more
+module _ (bit : ℕ) (chunks : List Chunk) (i : ℕ) (d : Chunk) (within : i < length chunks) (old now : List ℕ) (is : now ≡ old ++ permissions_at bit (take i chunks)) where
+  pub permissions-more : has_bit bit (get_or chunks i d) ≡ true → now ++ (get_or chunks i d).permission ∷ [] ≡ old ++ permissions_at bit (take (i + 1) chunks)
+  permissions-more set =
+      let c : Chunk = get_or chunks i d in
+      let some : List Chunk = filter (has_bit bit) (take i chunks) in
+      let kept : filter (has_bit bit) (take (i + 1) chunks) ≡ some ++ c ∷ [] = filter_more (has_bit bit) chunks i d within ∙ ap (λ b. some ++ cond b (c ∷ []) []) set in
+      ap (λ l. l ++ c.permission ∷ []) is
+      ∙ append_assoc old (permissions_at bit (take i chunks)) (c.permission ∷ [])
+      ∙ ap (λ l. old ++ l)
+      (sym
+      (ap (λ l. map (λ a. a.permission) (map (access_at bit) l)) kept
+      ∙ ap (map (λ a. a.permission)) (map_push (access_at bit) some c)
+      ∙ map_push (λ a. a.permission) (map (access_at bit) some) (access_at bit c)))
+
+  pub permissions-same : has_bit bit (get_or chunks i d) ≡ false → now ≡ old ++ permissions_at bit (take (i + 1) chunks)
+  permissions-same unset =
+      let c : Chunk = get_or chunks i d in
+      let some : List Chunk = filter (has_bit bit) (take i chunks) in
+      let kept : filter (has_bit bit) (take (i + 1) chunks) ≡ some = filter_more (has_bit bit) chunks i d within ∙ ap (λ b. some ++ cond b (c ∷ []) []) unset ∙ append-nil some in
+      is ∙ ap (λ l. old ++ map (λ a. a.permission) (map (access_at bit) l)) (sym kept)

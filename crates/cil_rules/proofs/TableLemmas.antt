@@ -20,8 +20,10 @@ use Rattle.cil_resolve.specs.declared.numbered.NumberedRule.{NumberedRule}
 use Rattle.cil_resolve.specs.declared.resolved.Resolved.{Resolved}
 use Rattle.cil_tables.specs.Tables.{count_now, AreTables}
 use Rattle.cil_tables.specs.declared.tables.Tables.{Tables}
-use Rattle.cil_rules.specs.declared.numbers.AtomNumbers.{AtomNumbers}
-use Rattle.cil_rules.specs.Atoms.{atom_at, name_at, numbers_cmp, AreNumbered, IsWithin}
+use Rattle.cil_accesses.specs.declared.access.AccessNumbers.{AccessNumbers}
+use Rattle.cil_accesses.specs.Chunks.{numbers_cmp}
+use Rattle.cil_accesses.specs.Renumbered.{IsWithin}
+use Rattle.cil_rules.specs.Atoms.{atom_at, name_at, AreNumbered}
 use Rattle.cil_rules.specs.Collected.{key_of}
 use Rattle.cil_rules.proofs.AtomLemmas.{atoms-ordered}
 
@@ -31,7 +33,7 @@ IsNamed names name = (i : ℕ) × (i < length names) × (name_at names i ≡ nam
 
 -- an access by numbers
 abbrev IsNumbered : List (List ℕ) → spec.Atom → Type 0
-IsNumbered names a = (n : AtomNumbers) × IsWithin (length names) n × (atom_at names n ≡ a)
+IsNumbered names a = (n : AccessNumbers) × IsWithin (length names) n × (atom_at names n ≡ a)
 
 -- one of some numbers has the name
 number-named : (names : List (List ℕ)) (name : List ℕ) (ps : List ℕ) → IsTrue (list_all (λ p. nat_lt p (length names)) ps) → AnyByRecursion (λ p. IsTrue (bytes_eq name (name_at names p))) ps → IsNamed names name
@@ -98,11 +100,11 @@ module _ {A : Type 0} (r : Resolved A) where
       (any_from_map (rule_of r.modules.items names) (λ rule. IsTrue (gives (meaning_in r) rule a)) r.rules.items (any_from_counted (λ rule. gives (meaning_in r) rule a) (meaning_in r).rules there))
 
   module _ {B : Type 0} (tables : Tables B) (are : AreTables r tables) where
-    abbrev counter_of : AtomNumbers → ℕ
+    abbrev counter_of : AccessNumbers → ℕ
     counter_of n = count_now tables n.kind (key_of n) n.target
 
     -- what is counted has numbers of names
-    counted-within : (n : AtomNumbers) → 0 < counter_of n → IsWithin (length names) n
+    counted-within : (n : AccessNumbers) → 0 < counter_of n → IsWithin (length names) n
     counted-within n some =
         record {
           source = elim (cases_lt n.source (length names)) [ inl low ↦ low | inr past ↦ absurd (let none = are.no_source n.kind (key_of n) n.target past in omega (arith, none, some)) ];
@@ -112,10 +114,10 @@ module _ {A : Type 0} (r : Resolved A) where
         }
 
     -- and is counted as often as rules give it
-    counted-named : (n : AtomNumbers) → IsWithin (length names) n → counter_of n ≡ count_of (meaning_in r) (atom_at names n)
+    counted-named : (n : AccessNumbers) → IsWithin (length names) n → counter_of n ≡ count_of (meaning_in r) (atom_at names n)
     counted-named n within = are.counts n.kind (key_of n) n.target within.the_class within.permission within.source within.target
 
-    module _ (atoms : List AtomNumbers) (ordered : IsStrictlySortedBy numbers_cmp atoms) (exact : (n : AtomNumbers) → Contains atoms n ↔ (0 < counter_of n)) where
+    module _ (atoms : List AccessNumbers) (ordered : IsStrictlySortedBy numbers_cmp atoms) (exact : (n : AccessNumbers) → Contains atoms n ↔ (0 < counter_of n)) where
       pub are-numbered : AreNumbered names atoms
       are-numbered = record {
         names_ordered = r.ordered;

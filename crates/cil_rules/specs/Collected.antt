@@ -1,31 +1,43 @@
 -- The accesses that access tables count.
-use Rattle.std.specs.Prelude.{◌≡◌, ◌↔◌, ◌⊎◌, ℕ, ◌+◌, ◌*◌, ◌<◌, List, Contains}
+use Rattle.std.specs.Prelude.{◌≡◌, ◌↔◌, ◌⊎◌, ℕ, ◌+◌, ◌*◌, ◌<◌, ◌^◌, List}
 use Rattle.std.specs.Int.{bit_at}
+use Rattle.std.specs.List.{All}
 use Rattle.cil_text.specs.declared.statement.RuleKind.{RuleKind}
+use Rattle.cil_accesses.specs.declared.access.AccessNumbers.{AccessNumbers}
+use Rattle.cil_accesses.specs.declared.chunk.Chunk.{Chunk}
+use Rattle.cil_accesses.specs.Chunks.{IsGiven}
 use Rattle.cil_tables.specs.Tables.{count_now}
 use Rattle.cil_tables.specs.declared.lines.LineKey.{LineKey}
 use Rattle.cil_tables.specs.declared.tables.Tables.{Tables}
 use Rattle.cil_rules.specs.declared.collect.LineHead.{LineHead}
-use Rattle.cil_rules.specs.declared.numbers.AtomNumbers.{AtomNumbers}
 
 -- the access with a head to a target
-abbrev pub access_of : LineHead → ℕ → AtomNumbers
+abbrev pub access_of : LineHead → ℕ → AccessNumbers
 access_of h target = record { kind = h.kind; source = h.source; target = target; class = h.class; permission = h.permission }
+
+-- the accesses with a head to the targets of a word that a mask has
+abbrev pub chunk_of : LineHead → ℕ → ℕ → Chunk
+chunk_of h word mask = record { kind = h.kind; source = h.source; word = word; class = h.class; permission = h.permission; bits = mask }
 
 -- the head of the accesses of a key's line in the table of a kind
 abbrev pub head_at : RuleKind → LineKey → LineHead
 head_at kind key = record { kind = kind; source = key.source; class = key.class; permission = key.permission }
 
 -- the key of the line that counts an access
-abbrev pub key_of : AtomNumbers → LineKey
+abbrev pub key_of : AccessNumbers → LineKey
 key_of a = record { class = a.class; permission = a.permission; source = a.source }
 
--- Behind some accesses stand those that are told, and no others.
-pub record AreGained (told : AtomNumbers → Type 0) (old new : List AtomNumbers) : Type 0 where
-  pub are : (a : AtomNumbers) → Contains new a ↔ (Contains old a ⊎ told a)
+-- the targets of a chunk have numbers of 32 bits
+abbrev pub IsShort : Chunk → Type 0
+IsShort c = c.word < 2 ^ 26
+
+-- Behind some chunks stand those of the accesses that are told, and of no others.
+pub record AreGained (told : AccessNumbers → Type 0) (old new : List Chunk) : Type 0 where
+  pub are : (a : AccessNumbers) → IsGiven new a ↔ (IsGiven old a ⊎ told a)
+  pub short : All IsShort old → All IsShort new
 
 -- it is the access with a head to one of these targets
-abbrev pub IsTo : LineHead → (ℕ → Type 0) → AtomNumbers → Type 0
+abbrev pub IsTo : LineHead → (ℕ → Type 0) → AccessNumbers → Type 0
 IsTo h targets a = (t : ℕ) × targets t × (a ≡ access_of h t)
 
 -- it is a target of the mask of a word
@@ -33,5 +45,5 @@ abbrev pub IsMarked : ℕ → ℕ → ℕ → Type 0
 IsMarked word mask t = (b : ℕ) × (b < 64) × (bit_at mask b ≡ 1) × (t ≡ 64 * word + b)
 
 -- the table of a kind counts it
-abbrev pub IsCounted : {A : Type 0} → Tables A → RuleKind → AtomNumbers → Type 0
+abbrev pub IsCounted : {A : Type 0} → Tables A → RuleKind → AccessNumbers → Type 0
 IsCounted tables kind a = (a.kind ≡ kind) × (0 < count_now tables kind (key_of a) a.target)

@@ -1,6 +1,5 @@
 pub mod Atoms
 pub mod Collected
-pub mod Difference
 pub mod NameList
 pub mod NumberedRows
 pub mod Ranks

@@ -4,7 +4,7 @@ use Rattle.std.specs.List.{All}
 use Rattle.cil_specs.specs.Report as spec
 use Rattle.cil_specs.specs.Report.{row_line}
 use Rattle.cil_text.specs.Image.{rule_kind_of}
-use Rattle.cil_rules.specs.declared.numbers.AtomNumbers.{AtomNumbers}
+use Rattle.cil_accesses.specs.declared.access.AccessNumbers.{AccessNumbers}
 use Rattle.cil_rules.specs.declared.row.Row.{Row}
 use Rattle.cil_rules.specs.declared.rows.RowNumbers.{RowNumbers}
 use Rattle.cil_rules.specs.Atoms.{name_at}
@@ -14,7 +14,7 @@ abbrev pub row_of : {A : Type 0} → Row A → spec.Row
 row_of r = record { kind = rule_kind_of r.kind; source = r.source.now; target = r.target.now; the_class = r.class.now; permissions = r.permissions }
 
 -- the row of an access, whose permissions stand from one place up to another
-abbrev pub numbered_row : AtomNumbers → ℕ → ℕ → RowNumbers
+abbrev pub numbered_row : AccessNumbers → ℕ → ℕ → RowNumbers
 numbered_row a start end = record { kind = a.kind; source = a.source; target = a.target; class = a.class; start = start; end = end }
 
 -- the row by the names at its numbers

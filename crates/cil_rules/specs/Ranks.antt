@@ -18,10 +18,6 @@ pub record IsMerged (names : List (List ℕ)) (first_numbers second_numbers : Li
   pub first_places : ArePlaces names first_numbers first
   pub second_places : ArePlaces names second_numbers second
 
--- the numbers are the places of both lists in one order of all their names
-abbrev pub AreRanks : List ℕ → List ℕ → List (List ℕ) → List (List ℕ) → Type 0
-AreRanks first_numbers second_numbers first second = (names : List (List ℕ)) × IsMerged names first_numbers second_numbers first second
-
 -- which of the names at two places comes first, where past the end of a list there is none
 abbrev pub IsNext : List (List ℕ) → ℕ → List (List ℕ) → ℕ → Ordering → Type 0
 IsNext first i second j next =

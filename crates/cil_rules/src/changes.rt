@@ -1,27 +1,26 @@
 //! The changes between two access tables.
 
-ghost use Rattle.std.specs.Prelude.{◌≡◌, Bool, length, slice_get, option_map, IfOk};
+ghost use Rattle.std.specs.Prelude.{◌≡◌, Bool, length, map, slice_get, option_map, IfOk};
 ghost use Rattle.cil_specs.specs.Rule as spec;
 ghost use Rattle.cil_specs.specs.Report.{AreAtoms, AreChanges};
-ghost use Rattle.cil_rules.specs.Atoms.{atom_of};
+ghost use Rattle.cil_rules.specs.Atoms.{atom_of, atom_at, AreNumbered};
 
 use crate::atom::Atom;
-use crate::difference::{Ranked, compare};
 use crate::name_list::NameList;
-use crate::numbers::AtomNumbers;
+use crate::numbers::named;
 use crate::ranks::rank;
 use crate::table::Table;
+use cil_accesses::{Accesses, Difference};
 use std::alloc::{AllocError, Allocator, Global};
 use std::marker::Model;
 
-/// What is in a new table and not in an old one, and what is in the old and not in the new, each in order, by the numbers of the
-/// table that has it. Contracts see both lists.
+/// What is in a new table and not in an old one, and what is in the old and not in the new, each in order. Contracts see both
+/// lists.
 #[derive(Debug, Drop)]
 pub struct Changes<A: Allocator = Global> {
-    old_names: NameList<A>,
-    new_names: NameList<A>,
-    added: Vec<AtomNumbers, A>,
-    removed: Vec<AtomNumbers, A>,
+    names: NameList<A>,
+    added: Accesses<A>,
+    removed: Accesses<A>,
 }
 
 impl<A: Allocator> Model for Changes<A> {
@@ -32,43 +31,58 @@ impl<A: Allocator> Model for Changes<A> {
 
     ghost use Rattle.cil_rules.specs.Atoms.{atom_at, AreNumbered};
 
-    ghost view = { λ c. record { added = map (atom_at c.new_names) c.added.items; removed = map (atom_at c.old_names) c.removed.items } };
+    ghost view = { λ c. record { added = map (atom_at c.names) c.added; removed = map (atom_at c.names) c.removed } };
 
-    ghost invariant = { λ c. AreNumbered c.new_names c.added.items × AreNumbered c.old_names c.removed.items };
+    ghost invariant = { λ c. AreNumbered c.names c.added × AreNumbered c.names c.removed };
 }
 
 impl<A: Allocator + Copy> Changes<A> {
-    /// The changes from one table to another.
+    /// The changes from one table to another. Where both have the same names, these are shared.
     pub fn between(alloc: A, old: &Table<A>, new: &Table<A>) -> Result<Self, AllocError>
         ensures { IfOk result (λ changes. (p q : spec.Atom → Bool) → AreAtoms p old.now → AreAtoms q new.now → AreChanges p q changes) }
     {
+        if new.names.is_same(&old.names) {
+            return Changes::by(alloc, new.names.shared()?, &old.accesses, &new.accesses);
+        }
         let ranks = rank(alloc, old.names.as_slice(), new.names.as_slice())?;
-        let old_ranked = Ranked {
-            atoms: &old.atoms,
-            ranks: &ranks.first,
-        };
-        let new_ranked = Ranked {
-            atoms: &new.atoms,
-            ranks: &ranks.second,
-        };
-        let difference = compare(alloc, old_ranked, new_ranked)?;
+        let old_accesses = old.accesses.renumbered(alloc, &ranks.first)?;
+        let new_accesses = new.accesses.renumbered(alloc, &ranks.second)?;
+        Changes::by(
+            alloc,
+            NameList::of(ranks.names)?,
+            &old_accesses,
+            &new_accesses,
+        )
+    }
+
+    /// The changes between accesses by the numbers of the same names.
+    fn by(
+        alloc: A,
+        names: NameList<A>,
+        old: &Accesses<A>,
+        new: &Accesses<A>,
+    ) -> Result<Self, AllocError>
+        requires old { AreNumbered names old.now }
+        requires new { AreNumbered names new.now }
+        ensures { IfOk result (λ changes. (p q : spec.Atom → Bool) → AreAtoms p (map (atom_at names) old.now) → AreAtoms q (map (atom_at names) new.now) → AreChanges p q changes) }
+    {
+        let found = Difference::between(alloc, old, new)?;
         Ok(Changes {
-            old_names: old.names.shared()?,
-            new_names: new.names.shared()?,
-            added: difference.added,
-            removed: difference.removed,
+            names,
+            added: found.added,
+            removed: found.removed,
         })
     }
 }
 
 impl<A: Allocator> Changes<A> {
-    pub fn added_len(&self) -> usize
+    pub fn added_len(&self) -> u128
         ensures { result ≡ length self.now.added }
     {
         self.added.len()
     }
 
-    pub fn removed_len(&self) -> usize
+    pub fn removed_len(&self) -> u128
         ensures { result ≡ length self.now.removed }
     {
         self.removed.len()
@@ -78,21 +92,15 @@ impl<A: Allocator> Changes<A> {
     pub fn added(&self, i: usize) -> Option<Atom<'_>>
         ensures { option_map atom_of result ≡ slice_get self.now.added i }
     {
-        if i < self.added.len() {
-            Some(self.added[i].named(self.new_names.as_slice()))
-        } else {
-            None
-        }
+        let access = self.added.get(i)?;
+        Some(named(&access, self.names.as_slice()))
     }
 
     /// The removed access at a place of their order.
     pub fn removed(&self, i: usize) -> Option<Atom<'_>>
         ensures { option_map atom_of result ≡ slice_get self.now.removed i }
     {
-        if i < self.removed.len() {
-            Some(self.removed[i].named(self.old_names.as_slice()))
-        } else {
-            None
-        }
+        let access = self.removed.get(i)?;
+        Some(named(&access, self.names.as_slice()))
     }
 }

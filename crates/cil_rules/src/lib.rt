@@ -4,8 +4,6 @@
 mod atom;
 mod changes;
 mod collect;
-mod difference;
-mod first_row;
 mod listing;
 mod name_list;
 mod numbers;

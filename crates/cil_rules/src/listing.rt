@@ -1,18 +1,21 @@
 //! Writes rows as lines.
 
-ghost use Rattle.std.specs.Prelude.{◌≡◌, ◌<◌, ◌≤◌, ◌++◌, length, map, codes, OnOk, OnErr, IfOk};
+ghost use Rattle.std.specs.Prelude.{◌≡◌, ◌<◌, ◌≤◌, ◌++◌, length, map, codes, IsTrue, OnOk, OnErr, IfOk};
 ghost use Rattle.std.specs.List.{All, flat_map};
 ghost use Rattle.cil_specs.specs.Statements.{rule_word};
 ghost use Rattle.cil_specs.specs.Report.{row_line};
 ghost use Rattle.cil_stream.specs.Device.{HasFailed, Gains, GainsFront};
 ghost use Rattle.cil_text.specs.Image.{rule_kind_of};
-ghost use Rattle.cil_rules.specs.Atoms.{atom_at, IsWithin, AreNumbered};
-ghost use Rattle.cil_rules.specs.Rows.{rows_of, row_head, name_text, permission_text, row_at};
+ghost use Rattle.cil_accesses.specs.Renumbered.{IsWithin};
+ghost use Rattle.cil_accesses.specs.Rows.{accesses_in};
+ghost use Rattle.cil_accesses.specs.View.{has_bit};
+ghost use Rattle.cil_rules.specs.Atoms.{atom_at, AreNumbered};
+ghost use Rattle.cil_rules.specs.Rows.{rows_of, row_head, name_text, chunk_text, row_at};
 ghost use Rattle.cil_rules.specs.NumberedRows.{row_of};
 
-use crate::first_row::split_row;
-use crate::numbers::AtomNumbers;
+use crate::numbers::{is_listed, named};
 use crate::row::Row;
+use cil_accesses::{AccessRow, Accesses, Chunk};
 use cil_resolve::Text;
 use cil_stream::{Sink, SinkFault, write_all, write_pieces};
 use cil_text::RuleKind;
@@ -60,65 +63,88 @@ fn write_permission<W: Sink>(sink: &mut W, name: &[u8]) -> Result<(), SinkFault>
     write_pieces(sink, &[name, b" "])
 }
 
-/// Writes the permissions of accesses.
-fn write_permissions<W: Sink, A: Allocator>(
+/// Writes the permission of a chunk, where it has a bit.
+fn write_chunk<W: Sink, A: Allocator>(
     sink: &mut W,
     names: &[Text<A>],
-    atoms: &[AtomNumbers],
+    chunk: &Chunk,
+    bit: u32,
 ) -> Result<(), SinkFault>
-    requires { All (IsWithin (length names.now)) atoms.now }
-    ensures ok { OnOk result (Gains (W.taken sink.old) (W.taken sink.new) (flat_map (permission_text names.now) atoms.now)) }
-    ensures err { OnErr result (GainsFront (W.taken sink.old) (W.taken sink.new) (flat_map (permission_text names.now) atoms.now)) }
+    requires bit { bit < 64 }
+    requires within { IsTrue (has_bit bit chunk.now) → chunk.now.permission < length names.now }
+    ensures ok { OnOk result (Gains (W.taken sink.old) (W.taken sink.new) (chunk_text names.now bit chunk.now)) }
+    ensures err { OnErr result (GainsFront (W.taken sink.old) (W.taken sink.new) (chunk_text names.now bit chunk.now)) }
     ensures failed { OnErr result (HasFailed (W.failures sink.old) (W.failures sink.new)) }
     ensures counted { W.failures sink.old ≤ W.failures sink.new }
 {
-    for atom in atoms {
-        write_permission(sink, names[atom.permission as usize].as_slice())?;
+    if chunk.has_bit(bit) {
+        write_permission(sink, names[chunk.permission as usize].as_slice())?;
     }
     Ok(())
 }
 
-/// Writes the line of the row of an access with the permissions of all accesses of the row.
+/// Writes the permissions of the chunks that have a bit.
+fn write_permissions<W: Sink, A: Allocator>(
+    sink: &mut W,
+    names: &[Text<A>],
+    chunks: &[Chunk],
+    bit: u32,
+) -> Result<(), SinkFault>
+    requires bit { bit < 64 }
+    requires within { All (λ c. IsTrue (has_bit bit c) → c.permission < length names.now) chunks.now }
+    ensures ok { OnOk result (Gains (W.taken sink.old) (W.taken sink.new) (flat_map (chunk_text names.now bit) chunks.now)) }
+    ensures err { OnErr result (GainsFront (W.taken sink.old) (W.taken sink.new) (flat_map (chunk_text names.now bit) chunks.now)) }
+    ensures failed { OnErr result (HasFailed (W.failures sink.old) (W.failures sink.new)) }
+    ensures counted { W.failures sink.old ≤ W.failures sink.new }
+{
+    for chunk in chunks {
+        write_chunk(sink, names, chunk, bit)?;
+    }
+    Ok(())
+}
+
+/// Writes the line of a row of accesses.
 fn write_row<W: Sink, A: Allocator>(
     sink: &mut W,
     names: &[Text<A>],
-    first: &AtomNumbers,
-    atoms: &[AtomNumbers],
+    row: &AccessRow<'_>,
 ) -> Result<(), SinkFault>
-    requires first_within { IsWithin (length names.now) first.now }
-    requires within { All (IsWithin (length names.now)) atoms.now }
-    ensures ok { OnOk result (Gains (W.taken sink.old) (W.taken sink.new) (row_line (row_at names.now first.now atoms.now))) }
-    ensures err { OnErr result (GainsFront (W.taken sink.old) (W.taken sink.new) (row_line (row_at names.now first.now atoms.now))) }
+    requires bit { row.now.bit < 64 }
+    requires first { IsWithin (length names.now) row.now.first }
+    requires within { All (IsWithin (length names.now)) (accesses_in row.now) }
+    ensures ok { OnOk result (Gains (W.taken sink.old) (W.taken sink.new) (row_line (row_at names.now row.now.first (accesses_in row.now)))) }
+    ensures err { OnErr result (GainsFront (W.taken sink.old) (W.taken sink.new) (row_line (row_at names.now row.now.first (accesses_in row.now)))) }
     ensures failed { OnErr result (HasFailed (W.failures sink.old) (W.failures sink.new)) }
     ensures counted { W.failures sink.old ≤ W.failures sink.new }
 {
-    let atom = first.named(names);
+    let atom = named(&row.first, names);
     write_head(sink, atom.kind, atom.source, atom.target, atom.class)?;
-    write_permissions(sink, names, atoms)?;
+    write_permissions(sink, names, row.chunks, row.bit)?;
     write_all(sink, b"};\n")
 }
 
-/// Writes the lines of the rows of accesses that stand in order, and tells how many rows there are.
+/// Writes the lines of the rows of accesses, and tells how many rows there are.
 pub fn write_rows<W: Sink, A: Allocator>(
     sink: &mut W,
     names: &[Text<A>],
-    atoms: &[AtomNumbers],
-) -> Result<usize, SinkFault>
-    requires { AreNumbered names.now atoms.now }
-    ensures rows { IfOk result (λ n. n ≡ length (rows_of (map (atom_at names.now) atoms.now))) }
-    ensures ok { OnOk result (Gains (W.taken sink.old) (W.taken sink.new) (flat_map row_line (rows_of (map (atom_at names.now) atoms.now)))) }
-    ensures err { OnErr result (GainsFront (W.taken sink.old) (W.taken sink.new) (flat_map row_line (rows_of (map (atom_at names.now) atoms.now)))) }
+    accesses: &Accesses<A>,
+) -> Result<u128, SinkFault>
+    requires { AreNumbered names.now accesses.now }
+    ensures rows { IfOk result (λ n. n ≡ length (rows_of (map (atom_at names.now) accesses.now))) }
+    ensures ok { OnOk result (Gains (W.taken sink.old) (W.taken sink.new) (flat_map row_line (rows_of (map (atom_at names.now) accesses.now)))) }
+    ensures err { OnErr result (GainsFront (W.taken sink.old) (W.taken sink.new) (flat_map row_line (rows_of (map (atom_at names.now) accesses.now)))) }
     ensures failed { OnErr result (HasFailed (W.failures sink.old) (W.failures sink.new)) }
     ensures counted { W.failures sink.old ≤ W.failures sink.new }
 {
+    // There are no more rows than accesses, so their count holds in as many bits.
+    let _most = accesses.len();
+    let mut rows = accesses.rows();
     let mut count = 0;
-    let mut rest = atoms;
-    while let Some((first, row, later)) = split_row(rest) {
-        if first.is_listed() {
-            write_row(sink, names, first, row)?;
+    while let Some(row) = rows.next() {
+        if is_listed(row.first.kind) {
+            write_row(sink, names, &row)?;
             count += 1;
         }
-        rest = later;
     }
     Ok(count)
 }

@@ -1,17 +1,18 @@
 //! The common order of two lists of names.
 
-ghost use Rattle.std.specs.Prelude.{◌≡◌, ◌+◌, ◌<◌, ◌≤◌, length, IfOk, IsTrue};
+ghost use Rattle.std.specs.Prelude.{◌≡◌, ◌+◌, ◌<◌, ◌≤◌, [], ◌∷◌, ◌++◌, length, IfOk, IsTrue, OnOk};
 ghost use Rattle.cil_specs.specs.Report.{names_rise};
-ghost use Rattle.cil_rules.specs.Ranks.{AreRanks, IsNext};
+ghost use Rattle.cil_rules.specs.Ranks.{IsMerged, IsNext};
 
 use crate::numbers::number;
 use cil_resolve::Text;
 use std::alloc::{AllocError, Allocator};
 use std::cmp::Ordering;
 
-/// For each name of two lists its place among the names of both, where a name of both has one place.
+/// The names of two lists, a name of both once, and for each name of either list its place among them.
 #[derive(Drop)]
 pub struct Ranks<A: Allocator> {
+    pub names: Vec<Text<A>, A>,
     pub first: Vec<u32, A>,
     pub second: Vec<u32, A>,
 }
@@ -32,7 +33,19 @@ fn next_of<A: Allocator>(first: &[Text<A>], i: usize, second: &[Text<A>], j: usi
     }
 }
 
-/// The places of ascending names among those of both lists. It copies no name.
+/// Appends a copy of a name.
+fn push_copy<A: Allocator + Copy>(
+    alloc: A,
+    names: &mut Vec<Text<A>, A>,
+    name: &Text<A>,
+) -> Result<(), AllocError>
+    ensures { OnOk result (names.new.items ≡ names.old.items ++ name.now ∷ []) }
+{
+    names.push(Text::of(alloc, name.as_slice())?)?;
+    Ok(())
+}
+
+/// The names of two ascending lists in one, copied, and the places of both among them.
 pub fn rank<A: Allocator + Copy>(
     alloc: A,
     first: &[Text<A>],
@@ -40,28 +53,31 @@ pub fn rank<A: Allocator + Copy>(
 ) -> Result<Ranks<A>, AllocError>
     requires first_ordered { IsTrue (names_rise first.now) }
     requires second_ordered { IsTrue (names_rise second.now) }
-    ensures { IfOk result (λ r. AreRanks r.first.items r.second.items first.now second.now) }
+    ensures { IfOk result (λ r. IsMerged r.names.items r.first.items r.second.items first.now second.now) }
 {
     let mut ranks = Ranks {
+        names: Vec::new(alloc),
         first: Vec::with_capacity(alloc, first.len())?,
         second: Vec::with_capacity(alloc, second.len())?,
     };
-    let (mut i, mut j, mut place) = (0, 0, 0);
+    let (mut i, mut j) = (0, 0);
     while i + j < first.len() + second.len() {
-        let rank = number(place)?;
-        place += 1;
+        let place = number(ranks.names.len())?;
         match next_of(first, i, second, j) {
             Ordering::Less => {
-                ranks.first.push(rank)?;
+                push_copy(alloc, &mut ranks.names, &first[i])?;
+                ranks.first.push(place)?;
                 i += 1;
             }
             Ordering::Greater => {
-                ranks.second.push(rank)?;
+                push_copy(alloc, &mut ranks.names, &second[j])?;
+                ranks.second.push(place)?;
                 j += 1;
             }
             Ordering::Equal => {
-                ranks.first.push(rank)?;
-                ranks.second.push(rank)?;
+                push_copy(alloc, &mut ranks.names, &first[i])?;
+                ranks.first.push(place)?;
+                ranks.second.push(place)?;
                 i += 1;
                 j += 1;
             }

@@ -4,15 +4,17 @@ ghost use Rattle.std.specs.Prelude.{◌≡◌, ◌<◌, ◌≤◌, ◌==◌, [],
 ghost use Rattle.std.specs.List.{All, flat_map};
 ghost use Rattle.cil_specs.specs.Report.{row_line};
 ghost use Rattle.cil_stream.specs.Device.{HasFailed, Gains, GainsFront};
+ghost use Rattle.cil_accesses.specs.Rows.{accesses_in};
+ghost use Rattle.cil_accesses.specs.View.{at_bit};
 ghost use Rattle.cil_rules.specs.Atoms.{atom_at, AreNumbered};
 ghost use Rattle.cil_rules.specs.Rows.{rows_of};
 ghost use Rattle.cil_rules.specs.NumberedRows.{row_of, row_by, numbered_row, line_by, IsNumberedRow, AreNumberedRows};
 
-use crate::first_row::split_row;
 use crate::listing::write_row_line;
 use crate::name_list::NameList;
-use crate::numbers::AtomNumbers;
+use crate::numbers::is_listed;
 use crate::row::{Names, Row};
+use cil_accesses::{AccessRow, Accesses, Chunk};
 use cil_resolve::Text;
 use cil_stream::{Sink, SinkFault};
 use cil_text::RuleKind;
@@ -72,20 +74,36 @@ impl<A: Allocator> Model for Rows<A> {
     ghost invariant = { λ r. AreNumberedRows r.names r.permissions.items r.rows.items };
 }
 
+/// Appends the permissions of the chunks that have a bit.
+fn push_permissions<A: Allocator>(
+    permissions: &mut Vec<u32, A>,
+    chunks: &[Chunk],
+    bit: u32,
+) -> Result<(), AllocError>
+    requires { bit < 64 }
+    ensures { OnOk result (permissions.new.items ≡ permissions.old.items ++ map (λ a. a.permission) (at_bit bit chunks.now)) }
+{
+    for chunk in chunks {
+        if chunk.has_bit(bit) {
+            permissions.push(chunk.permission)?;
+        }
+    }
+    Ok(())
+}
+
 /// Appends a row and its permissions.
 fn push_row<A: Allocator>(
     rows: &mut Vec<RowNumbers, A>,
     permissions: &mut Vec<u32, A>,
-    first: &AtomNumbers,
-    row: &[AtomNumbers],
+    row: &AccessRow<'_>,
 ) -> Result<(), AllocError>
-    ensures permissions { OnOk result (permissions.new.items ≡ permissions.old.items ++ map (λ a. a.permission) row.now) }
-    ensures rows { OnOk result (rows.new.items ≡ rows.old.items ++ numbered_row first.now (length permissions.old.items) (length permissions.new.items) ∷ []) }
+    requires { row.now.bit < 64 }
+    ensures permissions { OnOk result (permissions.new.items ≡ permissions.old.items ++ map (λ a. a.permission) (accesses_in row.now)) }
+    ensures rows { OnOk result (rows.new.items ≡ rows.old.items ++ numbered_row row.now.first (length permissions.old.items) (length permissions.new.items) ∷ []) }
 {
     let start = permissions.len();
-    for atom in row {
-        permissions.push(atom.permission)?;
-    }
+    push_permissions(permissions, row.chunks, row.bit)?;
+    let first = row.first;
     rows.push(RowNumbers {
         kind: first.kind,
         source: first.source,
@@ -117,23 +135,22 @@ fn write_numbered<W: Sink, A: Allocator>(
 }
 
 impl<A: Allocator + Copy> Rows<A> {
-    /// The rows of accesses that stand in order.
+    /// The rows of accesses.
     pub(super) fn of(
         alloc: A,
         names: NameList<A>,
-        atoms: &[AtomNumbers],
+        accesses: &Accesses<A>,
     ) -> Result<Self, AllocError>
-        requires { AreNumbered names atoms.now }
-        ensures { IfOk result (λ rows. rows ≡ rows_of (map (atom_at names) atoms.now)) }
+        requires { AreNumbered names accesses.now }
+        ensures { IfOk result (λ rows. rows ≡ rows_of (map (atom_at names) accesses.now)) }
     {
         let mut rows = Vec::new(alloc);
         let mut permissions = Vec::new(alloc);
-        let mut rest = atoms;
-        while let Some((first, row, later)) = split_row(rest) {
-            if first.is_listed() {
-                push_row(&mut rows, &mut permissions, first, row)?;
+        let mut left = accesses.rows();
+        while let Some(row) = left.next() {
+            if is_listed(row.first.kind) {
+                push_row(&mut rows, &mut permissions, &row)?;
             }
-            rest = later;
         }
         Ok(Rows {
             names,

@@ -14,8 +14,9 @@ use crate::atom::Atom;
 use crate::collect::accesses_of;
 use crate::listing::write_rows;
 use crate::name_list::{NameList, names_of};
-use crate::numbers::AtomNumbers;
+use crate::numbers::named;
 use crate::rows::Rows;
+use cil_accesses::Accesses;
 use cil_resolve::Resolved;
 use cil_sets::Members;
 use cil_stream::{Sink, SinkFault};
@@ -26,7 +27,7 @@ use std::marker::Model;
 #[derive(Debug, Drop)]
 pub struct Table<A: Allocator = Global> {
     pub(super) names: NameList<A>,
-    pub(super) atoms: Vec<AtomNumbers, A>,
+    pub(super) accesses: Accesses<A>,
 }
 
 impl<A: Allocator> Model for Table<A> {
@@ -37,9 +38,9 @@ impl<A: Allocator> Model for Table<A> {
 
     ghost use Rattle.cil_rules.specs.Atoms.{atom_at, AreNumbered};
 
-    ghost view = { λ t. map (atom_at t.names) t.atoms.items };
+    ghost view = { λ t. map (atom_at t.names) t.accesses };
 
-    ghost invariant = { λ t. AreNumbered t.names t.atoms.items };
+    ghost invariant = { λ t. AreNumbered t.names t.accesses };
 }
 
 impl<A: Allocator + Copy> Table<A> {
@@ -49,7 +50,7 @@ impl<A: Allocator + Copy> Table<A> {
     {
         Table {
             names: NameList::empty(),
-            atoms: Vec::new(alloc),
+            accesses: Accesses::empty(alloc),
         }
     }
 
@@ -58,10 +59,10 @@ impl<A: Allocator + Copy> Table<A> {
         requires { AreMembers resolved.now members.now }
         ensures { IfOk result (λ table. AreAtoms (is_in_table (meaning_in resolved.now)) table) }
     {
-        let atoms = accesses_of(alloc, resolved, members)?;
+        let accesses = accesses_of(alloc, resolved, members)?;
         Ok(Table {
             names: NameList::of(names_of(alloc, resolved)?)?,
-            atoms,
+            accesses,
         })
     }
 
@@ -69,36 +70,33 @@ impl<A: Allocator + Copy> Table<A> {
     pub fn rows(&self, alloc: A) -> Result<Rows<A>, AllocError>
         ensures { IfOk result (λ rows. (p : spec.Atom → Bool) → AreAtoms p self.now → AreRows p rows) }
     {
-        Rows::of(alloc, self.names.shared()?, &self.atoms)
+        Rows::of(alloc, self.names.shared()?, &self.accesses)
     }
 }
 
 impl<A: Allocator> Table<A> {
-    pub fn len(&self) -> usize
+    pub fn len(&self) -> u128
         ensures { result ≡ length self.now }
     {
-        self.atoms.len()
+        self.accesses.len()
     }
 
     pub fn is_empty(&self) -> bool
         ensures { result ≡ (length self.now == 0) }
     {
-        self.atoms.is_empty()
+        self.accesses.get(0).is_none()
     }
 
     /// The access at a place of the order.
     pub fn get(&self, i: usize) -> Option<Atom<'_>>
         ensures { option_map atom_of result ≡ slice_get self.now i }
     {
-        if i < self.atoms.len() {
-            Some(self.atoms[i].named(self.names.as_slice()))
-        } else {
-            None
-        }
+        let access = self.accesses.get(i)?;
+        Some(named(&access, self.names.as_slice()))
     }
 
     /// Writes the lines of the rows of the listing, and tells how many there are.
-    pub fn write_listing<W: Sink>(&self, sink: &mut W) -> Result<usize, SinkFault>
+    pub fn write_listing<W: Sink>(&self, sink: &mut W) -> Result<u128, SinkFault>
         ensures ok { IfOk result (λ n. (p : spec.Atom → Bool) → AreAtoms p self.now → (rows : List Row)
             × AreRows p rows × (n ≡ length rows) × Gains (W.taken sink.old) (W.taken sink.new) (flat_map row_line rows)) }
         ensures err { OnErr result ((p : spec.Atom → Bool) → AreAtoms p self.now → (rows : List Row)
@@ -106,6 +104,6 @@ impl<A: Allocator> Table<A> {
         ensures failed { OnErr result (HasFailed (W.failures sink.old) (W.failures sink.new)) }
         ensures counted { W.failures sink.old ≤ W.failures sink.new }
     {
-        write_rows(sink, self.names.as_slice(), &self.atoms)
+        write_rows(sink, self.names.as_slice(), &self.accesses)
     }
 }

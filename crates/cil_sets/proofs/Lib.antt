@@ -5,3 +5,4 @@ pub mod FillLemmas
 pub mod LookLemmas
 pub mod ListLemmas
 pub mod HeldLemmas
+pub mod NamedLemmas

@@ -5,4 +5,3 @@ pub mod Members
 pub mod Filling
 pub mod Search
 pub mod TypeSets
-pub mod Sound

@@ -6,6 +6,7 @@ mod kept;
 #[cfg(test)]
 mod member_tests;
 mod members;
+mod named;
 mod row;
 #[cfg(test)]
 mod row_tests;

@@ -1,9 +1,9 @@
 //! The members of small policies.
 
-ghost use Rattle.std.specs.Prelude.{List, IfOk};
+ghost use Rattle.std.specs.Prelude.{List, IfOk, ℕ};
 ghost use Rattle.cil_specs.specs.Joined.{Module};
+ghost use Rattle.cil_parse.specs.Parsed.{IsParsed};
 ghost use Rattle.cil_resolve.specs.Modules.{AreParsedFrom};
-ghost use Rattle.cil_sets.specs.Sound.{IsSoundModule};
 
 use crate::Members;
 use cil_parse::{ParsedModule, parse};
@@ -17,7 +17,7 @@ pub const START: &[u8] =
 
 // The parsed module of a text.
 fn module_of(rt: &impl Abort, alloc: Global, text: &[u8]) -> ParsedModule
-    ensures { IsSoundModule result }
+    ensures { (text : List ℕ) × IsParsed text result }
 {
     assert!(rt; text.len() <= 16_777_216, "too long a text");
     parse(alloc, text).expect(rt, "a module")
@@ -25,7 +25,7 @@ fn module_of(rt: &impl Abort, alloc: Global, text: &[u8]) -> ParsedModule
 
 // The module m.
 fn joined<'m>(alloc: Global, m: &'m ParsedModule) -> Result<Joined<'m>, AllocError>
-    requires { IsSoundModule m.now }
+    requires { (text : List ℕ) × IsParsed text m.now }
     ensures { IfOk result (λ joined. (modules : List Module) × AreParsedFrom joined.modules.items modules) }
 {
     let modules = Vec::from_array(

@@ -1,15 +1,12 @@
 -- What stands apart in its module stands in no optional of the joined policy.
-use Rattle.std.proofs.Common.{◌≡◌, ℕ, Bool, true, false, not, ◌&&◌, ◌||◌, List, [], ◌∷◌, refl, sym, ap, ◌∙◌, subst, true≢false}
+use Rattle.std.proofs.Common.{◌≡◌, ℕ, Bool, true, false, not, ◌&&◌, ◌||◌, List, [], ◌∷◌, refl, sym, ap, ◌∙◌, true≢false}
 use Rattle.std.specs.List.{AllByRecursion}
 use Rattle.cil_specs.specs.Place.{Place}
 use Rattle.cil_specs.specs.Statements.{Form, block, optional, type_name, type_alias, alias_actual, type_attribute, attribute_set, common, class, class_common, class_order, rule, Statements, no_more, statement, is_optional, stands_apart, are_apart}
 use Rattle.cil_specs.specs.Joined.{Module, Placed, namespace_inside, optionals_inside, placed, joined}
-use Rattle.cil_specs.specs.Store.{Entry, Store, active}
 use Rattle.cil_specs.specs.Kept.{AreApart}
-use Rattle.cil_specs.specs.Next.{AreModules, IsPolicyOf}
 use Rattle.cil_specs.proofs.Runs.{first_true, second_true}
 use Rattle.cil_specs.proofs.NamesLemmas.{all-append, all-contained}
-use Rattle.cil_specs.proofs.ShapeLemmas.{shapes_apart}
 
 abbrev IsApart : Placed → Type 0
 IsApart s = stands_apart s.form ≡ true → s.optionals ≡ []
@@ -62,13 +59,3 @@ all-apart (m ∷ modules) apart =
 
 pub joined-apart : (modules : List Module) → AllByRecursion (λ m. are_apart false m.statements ≡ true) modules → AreApart (joined modules)
 joined-apart modules apart s among there = all-contained IsApart (joined modules) s (all-apart modules apart) among there
-
-modules-apart : (entries : List Entry) (modules : List Module) → AreModules entries modules → AllByRecursion (λ m. are_apart false m.statements ≡ true) modules
-modules-apart [] [] are = tt
-modules-apart [] (m ∷ modules) are = absurd are
-modules-apart (e ∷ entries) [] are = absurd are
-modules-apart (e ∷ entries) (m ∷ modules) are = (shapes_apart m.statements false are.1.trees are.1.shapes, modules-apart entries modules are.2)
-
--- so it is of the policy of a store
-pub policy-of-apart : (store : Store) (policy : List Placed) → IsPolicyOf store policy → AreApart policy
-policy-of-apart store policy is = subst AreApart (sym is.2) (joined-apart is.0 (modules-apart (active store) is.0 is.1))

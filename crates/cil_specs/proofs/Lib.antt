@@ -5,7 +5,6 @@ pub mod Order
 pub mod Fronts
 pub mod Stuck
 pub mod OneReading
-pub mod RunLemmas
 pub mod NamesLemmas
 pub mod ExprLemmas
 pub mod ExprSame
@@ -28,9 +27,6 @@ pub mod ExistsLemmas
 pub mod DeclaredLemmas
 pub mod OneText
 pub mod FaultWords
-pub mod OneFault
-pub mod OneStore
-pub mod StoreOrder
 pub mod SetLemmas
 pub mod MemberLemmas
 pub mod MeansLemmas
@@ -38,3 +34,4 @@ pub mod DependsLemmas
 pub mod DependenceLemmas
 pub mod FirstLemmas
 pub mod CircularLemmas
+pub mod SearchLemmas

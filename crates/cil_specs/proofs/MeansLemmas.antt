@@ -18,13 +18,12 @@ use Rattle.cil_specs.specs.Sets.{DependsOn}
 use Rattle.cil_specs.specs.Meaning.{Meaning, meaning_of, Means, keeps_type}
 use Rattle.cil_specs.specs.Members.{keeps_attribute, keeps_element, HasOwnSets, HasSoundSets}
 use Rattle.cil_specs.proofs.Runs.{first_true}
-use Rattle.cil_specs.proofs.NamesLemmas.{all-contained, around, contains-first, contains-other, contains-cases, contains-map, contains-mapped, contains-middle}
+use Rattle.cil_specs.proofs.NamesLemmas.{all-contained, around, contains-first, contains-other, contains-cases, contains-map, contains-mapped, contains-middle, passed}
 use Rattle.cil_specs.proofs.RestrictedLemmas.{declares-some}
 use Rattle.cil_specs.proofs.KeptLemmas.{nil-append, kept-good}
 use Rattle.cil_specs.proofs.FaultWords.{contains-filtered, contains-left, contains-right, contains-append_cases}
 use Rattle.cil_specs.proofs.DependsLemmas.{any-contained, first-step}
 use Rattle.cil_specs.proofs.OnceLemmas.{passes-among}
-use Rattle.cil_specs.proofs.OneFault.{passed}
 use Rattle.cil_specs.proofs.CircularLemmas.{attribute-word}
 
 -- what a search finds is there and passes

@@ -1,5 +1,5 @@
 -- Places in lists, and offsets that rise.
-use Rattle.std.proofs.Common.{◌≡◌, ℕ, ◌+◌, ◌<◌, ◌≤◌, ◌⊎◌, inl, inr, zero, suc, true, nat_le, List, [], ◌∷◌, ◌++◌, get_or, map, Contains, refl, sym, ap, subst, arith, drop}
+use Rattle.std.proofs.Common.{◌≡◌, ℕ, ◌+◌, ◌<◌, ◌≤◌, ◌⊎◌, inl, inr, zero, suc, Bool, true, false, nat_le, List, [], ◌∷◌, ◌++◌, get_or, map, filter, if◌then◌else◌, Contains, refl, sym, ap, subst, arith, drop}
 use Rattle.std.specs.List.{AllByRecursion}
 use Rattle.std.proofs.lemmas.Bool.{leb-true, le-leb}
 use Rattle.cil_specs.specs.Statements.{rise_from}
@@ -120,3 +120,12 @@ rises-append low (m ∷ ms) ns r =
       below = (omega (arith, more.no_less), more.below);
       second = more.second;
     }
+
+-- what a filter lets through passes
+pub passed : {X : Type 0} (p : X → Bool) (xs : List X) → AllByRecursion (λ x. p x ≡ true) (filter p xs)
+passed p [] = tt
+passed p (x ∷ xs) = by (p x) refl (passed p xs)
+  where
+    by : (b : Bool) → p x ≡ b → AllByRecursion (λ y. p y ≡ true) (filter p xs) → AllByRecursion (λ y. p y ≡ true) (if b then x ∷ filter p xs else filter p xs)
+    by true is next = (is, next)
+    by false is next = next

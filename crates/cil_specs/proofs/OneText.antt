@@ -4,7 +4,7 @@ use Rattle.cil_specs.specs.TextFault.{TextFault}
 use Rattle.cil_specs.specs.Trees.{Trees, Reads}
 use Rattle.cil_specs.specs.Statements.{Statements}
 use Rattle.cil_specs.specs.Shape.{Shapes, IsShapeFault, IsFirstShapeFault}
-use Rattle.cil_specs.specs.Next.{IsModuleText, IsTextFault, in_reading, in_shape}
+use Rattle.cil_specs.specs.ModuleText.{IsModuleText, IsTextFault, in_reading, in_shape}
 use Rattle.cil_specs.proofs.Order.{reading-in_order}
 use Rattle.cil_specs.proofs.OneReading.{one-reading}
 use Rattle.cil_specs.proofs.Stuck.{no-fault, one-fault}

@@ -19,8 +19,4 @@ pub mod Meaning
 pub mod Members
 pub mod Report
 pub mod Violations
-pub mod Store
-pub mod Next
-pub mod Run
-pub mod Script
-pub mod Session
+pub mod ModuleText

@@ -1,27 +1,35 @@
 -- The parsed modules of entries, one list of them after another.
-use Rattle.std.proofs.Common.{◌≡◌, inl, inr, ◌+◌, ◌<◌, List, ℕ, [], ◌∷◌, ◌++◌, length, get_or, map, take, Bool, true, false, IsTrue, bytes_eq, true≢false, refl, ap, sym, ◌∙◌, subst, append_assoc}
-use Rattle.std.specs.List.{AllByRecursion, IsDistinct}
+use Rattle.std.proofs.Common.{◌≡◌, inl, inr, zero, suc, arith, ◌==◌, ◌+◌, ◌<◌, List, ℕ, [], ◌∷◌, ◌++◌, length, get_or, map, take, filter, cond, not, ◌&&◌, ◌||◌, Bool, true, false, IsTrue, bytes_eq, true≢false, refl, ap, sym, ◌∙◌, subst, append_assoc}
+use Rattle.std.specs.List.{list_any, AllByRecursion, IsDistinct}
 use Rattle.std.specs.List.Sorted.{IsStrictlySortedBy, IsPermutation}
 use Rattle.std.specs.Ordering.{is_lt, ordering_reverse}
 use Rattle.std.specs.declared.cmp.Ordering.TheVariants.{Less}
 use Rattle.std.specs.Cmp.Lexicographic.{bytes_decides}
+use Rattle.std.proofs.lemmas.Bool.{eqb-true}
 use Rattle.std.proofs.lemmas.Cmp.{tied_itself}
 use Rattle.std.proofs.lemmas.List.Sorted.{Contains-permutation, IsPermutation-sym}
-use Rattle.std.proofs.lemmas.List.{take_more, map-append}
+use Rattle.std.proofs.lemmas.List.{take_more}
+use Rattle.std.proofs.lemmas.List.Elements.{filter-append}
+use Rattle.std.proofs.lemmas.Slice.Eq.{bytes_eq-Decides}
 use Rattle.cil_specs.specs.Report.{name_cmp, names_rise}
-use Rattle.cil_specs.specs.Store.{Entry}
+use Rattle.cil_store_specs.specs.Store.{Entry, Store, IsStore, is_active, is_installed}
+use Rattle.cil_store_specs.specs.Next.{Edit, changed}
+use Rattle.cil_store_specs.proofs.ActiveLemmas.{entry_at, is_disabled_after, is_first_at, disabled-after, highest-at}
+use Rattle.cil_store_specs.proofs.StoreOrder.{changed-ordered}
 use Rattle.cil_specs.proofs.ReportLemmas.{name_total, sorted_from_names_rise}
 use Rattle.cil_specs.proofs.ReportLemmasMembers.{AnyByRecursion, contains_to, contains_from}
 use Rattle.cil_bind.specs.declared.joined.NamedModule.{NamedModule}
-use Rattle.cil_store.specs.Stored.{IsParsedOf, AreParsedOf}
+use Rattle.cil_parse.specs.Parsed.{IsParsed}
+use Rattle.cil_store.specs.Stored.{AreParsedOf}
 
-parsed-append : {A : Type 0} (es fs : List Entry) (ms ns : List (NamedModule A)) → AreParsedOf es ms → AreParsedOf fs ns → AreParsedOf (es ++ fs) (ms ++ ns)
+-- parsed modules of some entries and of others behind them
+pub parsed-append : {A : Type 0} (es fs : List Entry) (ms ns : List (NamedModule A)) → AreParsedOf es ms → AreParsedOf fs ns → AreParsedOf (es ++ fs) (ms ++ ns)
 parsed-append [] fs [] ns a b = b
 parsed-append [] fs (m ∷ ms) ns a b = absurd a
 parsed-append (e ∷ es) fs [] ns a b = absurd a
 parsed-append (e ∷ es) fs (m ∷ ms) ns a b = (a.0, a.1, parsed-append es fs ms ns a.2 b)
 
-parsed-names : {A : Type 0} (es : List Entry) (ms : List (NamedModule A)) → AreParsedOf es ms → map (λ m. m.name.now) ms ≡ map (λ e. e.name) es
+pub parsed-names : {A : Type 0} (es : List Entry) (ms : List (NamedModule A)) → AreParsedOf es ms → map (λ m. m.name.now) ms ≡ map (λ e. e.name) es
 parsed-names [] [] a = refl
 parsed-names [] (m ∷ ms) a = absurd a
 parsed-names (e ∷ es) [] a = absurd a
@@ -29,24 +37,45 @@ parsed-names (e ∷ es) (m ∷ ms) a = λ i. a.0 i ∷ parsed-names es ms a.2 i
 
 -- the parsed module of one more entry
 pub parsed-more : {A : Type 0} (entries : List Entry) (i : ℕ) (e d : Entry) (ms : List (NamedModule A)) (m : NamedModule A) → i < length entries → e ≡ get_or entries i d → AreParsedOf (take i entries) ms → m.name.now ≡ e.name
-    → IsParsedOf e.text m.«module».now → AreParsedOf (take (i + 1) entries) (ms ++ m ∷ [])
+    → IsParsed e.text m.«module».now → AreParsedOf (take (i + 1) entries) (ms ++ m ∷ [])
 parsed-more entries i e d ms m within is are name text =
     subst (λ es. AreParsedOf es (ms ++ m ∷ [])) (sym (take_more entries i d within))
-    (parsed-append (take i entries) (get_or entries i d ∷ []) ms (m ∷ []) are (name ∙ ap (λ o. o.name) is, subst (λ t. IsParsedOf t m.«module».now) (ap (λ o. o.text) is) text, tt))
+    (parsed-append (take i entries) (get_or entries i d ∷ []) ms (m ∷ []) are (name ∙ ap (λ o. o.name) is, subst (λ t. IsParsed t m.«module».now) (ap (λ o. o.text) is) text, tt))
 
 -- the parsed modules of entries before and after one, with its own between
 pub parsed-around : {A : Type 0} (before after : List Entry) (e : Entry) (first second : List (NamedModule A)) (m : NamedModule A) → AreParsedOf before first → AreParsedOf after second → m.name.now ≡ e.name
-    → IsParsedOf e.text m.«module».now → AreParsedOf (before ++ e ∷ after) ((first ++ m ∷ []) ++ second)
+    → IsParsed e.text m.«module».now → AreParsedOf (before ++ e ∷ after) ((first ++ m ∷ []) ++ second)
 parsed-around before after e first second m a b name text =
     subst (AreParsedOf (before ++ e ∷ after)) (sym (append_assoc first (m ∷ []) second)) (parsed-append before (e ∷ after) first (m ∷ second) a (name, text, b))
 
--- their names are in order
-pub names-around : {A : Type 0} (before after : List Entry) (first second : List (NamedModule A)) (m : NamedModule A) → AreParsedOf before first → AreParsedOf after second
-    → IsStrictlySortedBy name_cmp (map (λ e. e.name) before ++ m.name.now ∷ map (λ e. e.name) after) → IsStrictlySortedBy name_cmp (map (λ n. n.name.now) ((first ++ m ∷ []) ++ second))
-names-around before after first second m a b =
-    subst (IsStrictlySortedBy name_cmp)
-    ((λ i. sym (parsed-names before first a) i ++ m.name.now ∷ sym (parsed-names after second b) i)
-    ∙ sym (ap (map (λ n. n.name.now)) (append_assoc first (m ∷ []) second) ∙ map-append (λ n. n.name.now) first (m ∷ second)))
+-- the name at a place
+pub name-at : {A : Type 0} (entries : List Entry) (parsed : List (NamedModule A)) (i : ℕ) (d : Entry) (n : NamedModule A) → AreParsedOf entries parsed → i < length parsed → (get_or parsed i n).name.now ≡ (get_or entries i d).name
+name-at [] [] i d n are within = absurd (omega (arith, within))
+name-at [] (m ∷ parsed) i d n are within = absurd are
+name-at (e ∷ entries) [] i d n are within = absurd are
+name-at (e ∷ entries) (m ∷ parsed) zero d n are within = are.0
+name-at (e ∷ entries) (m ∷ parsed) (suc i) d n are within = name-at entries parsed i d n are.2 (omega (arith, within))
+
+pub parsed-length : {A : Type 0} (entries : List Entry) (parsed : List (NamedModule A)) → AreParsedOf entries parsed → length parsed ≡ length entries
+parsed-length [] [] are = refl
+parsed-length [] (m ∷ parsed) are = absurd are
+parsed-length (e ∷ entries) [] are = absurd are
+parsed-length (e ∷ entries) (m ∷ parsed) are = ap suc (parsed-length entries parsed are.2)
+
+pub parsed-at : {A : Type 0} (entries : List Entry) (parsed : List (NamedModule A)) (i : ℕ) (d : Entry) (n : NamedModule A) → AreParsedOf entries parsed → i < length parsed → IsParsed (get_or entries i d).text (get_or parsed i n).«module».now
+parsed-at [] [] i d n are within = absurd (omega (arith, within))
+parsed-at [] (m ∷ parsed) i d n are within = absurd are
+parsed-at (e ∷ entries) [] i d n are within = absurd are
+parsed-at (e ∷ entries) (m ∷ parsed) zero d n are within = are.1
+parsed-at (e ∷ entries) (m ∷ parsed) (suc i) d n are within = parsed-at entries parsed i d n are.2 (omega (arith, within))
+
+pub not-zero : (i : ℕ) → (i ≡ 0 → ⊥) → false ≡ (i == 0)
+not-zero zero some = absurd (some refl)
+not-zero (suc i) some = sym (by (suc i == 0) refl)
+  where
+    by : (b : Bool) → (suc i == 0) ≡ b → b ≡ false
+    by true is = absurd (some (eqb-true (suc i) 0 is))
+    by false is = refl
 
 -- names that rise differ
 unequal : (a b : List ℕ) → name_cmp a b ≡ Less → bytes_eq a b ≡ false
@@ -107,3 +136,40 @@ permutation-one f xs ys sorted rise moved =
     sym (sorted-one f xs ys sorted (sorted_from_names_rise (map f ys) rise)
     (λ x is. contains_to ys x (Contains-permutation xs ys x moved (contains_from xs x is)))
     (λ x is. contains_to xs x (Contains-permutation ys xs x (IsPermutation-sym xs ys moved) (contains_from ys x is))))
+
+-- Which entries are compiled, one after another.
+pub active-more : {A : Type 0} (store : Store) (entries : List Entry) (i : ℕ) (d : Entry) (ms : List (NamedModule A)) (m : NamedModule A) → i < length entries → is_active store (get_or entries i d) ≡ true → AreParsedOf (filter (is_active store) (take i entries)) ms
+    → m.name.now ≡ (get_or entries i d).name → IsParsed (get_or entries i d).text m.«module».now → AreParsedOf (filter (is_active store) (take (i + 1) entries)) (ms ++ m ∷ [])
+active-more store entries i d ms m within is are name text =
+    subst (λ es. AreParsedOf es (ms ++ m ∷ []))
+    (sym (ap (filter (is_active store)) (take_more entries i d within) ∙ filter-append (is_active store) (take i entries) (get_or entries i d ∷ []) ∙ ap (λ b. filter (is_active store) (take i entries) ++ cond b (get_or entries i d ∷ []) []) is))
+    (parsed-append (filter (is_active store) (take i entries)) (get_or entries i d ∷ []) ms (m ∷ []) are (name, text, tt))
+
+pub active-same : {A : Type 0} (store : Store) (entries : List Entry) (i : ℕ) (d : Entry) (ms : List (NamedModule A)) → i < length entries → is_active store (get_or entries i d) ≡ false → AreParsedOf (filter (is_active store) (take i entries)) ms
+    → AreParsedOf (filter (is_active store) (take (i + 1) entries)) ms
+active-same store entries i d ms within is are =
+    subst (λ es. AreParsedOf es ms)
+    (sym (ap (filter (is_active store)) (take_more entries i d within) ∙ filter-append (is_active store) (take i entries) (get_or entries i d ∷ []) ∙ ap (λ b. filter (is_active store) (take i entries) ++ cond b (get_or entries i d ∷ []) []) is
+    ∙ append-none (filter (is_active store) (take i entries))))
+    are
+  where
+    append-none : (xs : List Entry) → xs ++ [] ≡ xs
+    append-none [] = refl
+    append-none (x ∷ xs) = ap (λ l. x ∷ l) (append-none xs)
+
+-- an entry that is there is installed
+pub installed-at : (entries : List Entry) (i : ℕ) (d : Entry) → i < length entries → is_installed (get_or entries i d).name entries ≡ true
+installed-at [] i d within = absurd (omega (arith, within))
+installed-at (e ∷ entries) zero d within = ap (λ b. b || is_installed e.name entries) ((bytes_eq-Decides e.name e.name).1 refl)
+installed-at (e ∷ entries) (suc i) d within = ap (λ b. bytes_eq e.name (get_or entries i d).name || b) (installed-at entries i d (omega (arith, within))) ∙ or-true (bytes_eq e.name (get_or entries i d).name)
+  where
+    or-true : (b : Bool) → (b || true) ≡ true
+    or-true true = refl
+    or-true false = refl
+
+-- whether the entry at a place, of those after an edit, is compiled
+pub active-is : (store : Store) (edit : Edit) (i : ℕ) → IsStore store → i < length (changed store edit).entries → is_active (changed store edit) (get_or (changed store edit).entries i (entry_at [] 0))
+    ≡ (not (is_disabled_after edit store (get_or (changed store edit).entries i (entry_at [] 0)).name) && is_first_at (changed store edit).entries i)
+active-is store edit i ordered within =
+    let e = get_or (changed store edit).entries i (entry_at [] 0) in
+    λ k. not (disabled-after store edit e.name (installed-at (changed store edit).entries i (entry_at [] 0) within) k) && highest-at (changed store edit).entries (changed-ordered store edit ordered).entries i within k

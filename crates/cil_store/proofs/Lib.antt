@@ -1,5 +1,8 @@
-pub mod StoredLemmas
 pub mod ParsedLemmas
+pub mod EntryLemmas
+pub mod SizeLemmas
+pub mod FindLemmas
+pub mod StateLemmas
+pub mod StepLemmas
 pub mod JoinLemmas
-pub mod PlainLemmas
 pub mod DroppedLemmas

@@ -1,8 +1,9 @@
 -- The parsed modules of entries stand for the modules of their texts.
 use Rattle.std.proofs.Common.{List, ℕ, [], ◌∷◌, refl}
 use Rattle.cil_specs.specs.Joined.{Module}
-use Rattle.cil_specs.specs.Next.{IsModuleText, AreModules}
-use Rattle.cil_specs.specs.Store.{Entry}
+use Rattle.cil_specs.specs.ModuleText.{IsModuleText}
+use Rattle.cil_store_specs.specs.Next.{AreModules}
+use Rattle.cil_store_specs.specs.Store.{Entry}
 use Rattle.cil_bind.specs.Written.{IsWritten}
 use Rattle.cil_bind.specs.declared.joined.NamedModule.{NamedModule}
 use Rattle.cil_resolve.specs.Modules.{AreParsedFrom}

@@ -1,5 +1,6 @@
 pub mod Edits
 pub mod Calls
 pub mod Stored
+pub mod Admitted
+pub mod States
 pub mod Refusing
-pub mod Plain

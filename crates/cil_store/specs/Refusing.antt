@@ -1,6 +1,7 @@
 -- Refusals by the faults that they tell.
 use Rattle.std.specs.Prelude.{◌≡◌, ◌⊎◌, ℕ, List}
-use Rattle.cil_specs.specs.Next.{Refusal, at_place, for_memory}
+use Rattle.cil_store_specs.specs.Next.{Edit, Refusal, at_place, changed, for_memory, IsTextRefusal, IsPolicyRefusal}
+use Rattle.cil_store_specs.specs.Store.{Store}
 use Rattle.cil_specs.specs.TextFault as text_fault
 use Rattle.cil_specs.specs.PolicyFault as policy_fault
 use Rattle.cil_text.specs.Image.{place_of, kind_of, shown}
@@ -21,3 +22,11 @@ IsRefusalOfText (texts.Found kind at word) name refusal = IsRefusalOf refusal (a
 abbrev pub IsRefusalOfPolicy : PolicyFault → Refusal → Type 0
 IsRefusalOfPolicy policies.Memory refusal = refusal ≡ for_memory
 IsRefusalOfPolicy (policies.Found kind module_name at word) refusal = IsRefusalOf refusal (at_place (policy_fault.code_of (policy_kind_of kind)) module_name.now (place_of at) word.now)
+
+-- the refusal is out of memory, or that for the fault of the text of an edit
+abbrev pub IsRefusedText : Edit → Refusal → Type 0
+IsRefusedText edit refusal = (refusal ≡ for_memory) ⊎ IsTextRefusal edit refusal
+
+-- the refusal is out of memory, or that of the policy of the store after the edit
+abbrev pub IsRefusedPolicy : Store → Edit → Refusal → Type 0
+IsRefusedPolicy store edit refusal = (refusal ≡ for_memory) ⊎ IsPolicyRefusal (changed store edit) refusal

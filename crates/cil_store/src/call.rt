@@ -2,6 +2,7 @@
 
 use crate::refusal::Refusal;
 use crate::{dropped, edit};
+use cil_resolve::Text;
 use std::alloc::{Allocator, Global};
 
 /// A call of an engine: an edit of its store, or a question.
@@ -10,16 +11,22 @@ pub enum Call<'a> {
     Edit(edit::Edit<'a>),
     /// Which accesses are allowed, by rows.
     Rows,
+    /// The lines of these rows.
+    Listing,
+    /// Which allow rules give what neverallow rules forbid.
+    Violations,
     /// Which optionals drop.
     Dropped,
 }
 
 /// What an engine replies to a call.
-#[derive(Debug, Drop)]
+#[derive(Drop)]
 pub enum Reply<A: Allocator = Global> {
     /// The edit was accepted.
     Changes(cil_rules::Changes<A>),
     Rows(cil_rules::Rows<A>),
+    Listing(Text<A>),
+    Violations(cil_violations::Violations<A>),
     Dropped(dropped::Dropped<A>),
     Refused(Refusal<A>),
 }

@@ -1,11 +1,13 @@
 //! The entries of a store.
 
-ghost use Rattle.std.specs.Prelude.{◌≡◌, ◌↔◌, IsTrue, IfOk};
+ghost use Rattle.std.specs.Prelude.{◌≡◌, IfOk, bytes_eq, length};
 ghost use Rattle.std.specs.Ordering.{is_lt};
-ghost use Rattle.cil_specs.specs.Report.{name_cmp};
+ghost use Rattle.cil_parse.specs.Parsed.{IsParsed};
+ghost use Rattle.cil_store_specs.specs.Store.{entry_cmp, is_entry};
+ghost use Rattle.cil_store_specs.proofs.ActiveLemmas.{entry_at};
 
 use cil_parse::ParsedModule;
-use cil_resolve::Text;
+use cil_resolve::{NamedModule, Text};
 use std::alloc::{AllocError, Allocator, Global};
 use std::marker::Model;
 
@@ -27,22 +29,22 @@ pub struct StoredEntry<A: Allocator = Global> {
 }
 
 impl<A: Allocator> Model for StoredEntry<A> {
-    ghost use Rattle.cil_specs.specs.Store.{Entry};
-    ghost use Rattle.cil_store.specs.Stored.{IsParsedOf};
+    ghost use Rattle.cil_store_specs.specs.Store.{Entry};
+    ghost use Rattle.cil_parse.specs.Parsed.{IsParsed};
 
     ghost Value = { Entry };
 
     ghost view = { λ e. record { name = e.name; priority = e.priority; text = e.text } };
 
-    ghost invariant = { λ e. IsParsedOf e.text e.«module» };
+    ghost invariant = { λ e. IsParsed e.text e.«module» };
 }
 
 impl<A: Allocator + Copy> StoredEntry<A> {
-    ghost use Rattle.cil_store.specs.Stored.{entry_of, IsParsedOf};
+    ghost use Rattle.cil_store.specs.Stored.{entry_of};
 
     /// A copy of an entry, with the parsed module of its text.
     pub fn of(alloc: A, entry: Entry<'_>, module: ParsedModule<A>) -> Result<Self, AllocError>
-        requires { IsParsedOf entry.text.now «module» }
+        requires { IsParsed entry.text.now «module» }
         ensures { IfOk result (λ e. e ≡ entry_of entry.entry) }
     {
         Ok(StoredEntry {
@@ -55,7 +57,7 @@ impl<A: Allocator + Copy> StoredEntry<A> {
 }
 
 impl<A: Allocator> StoredEntry<A> {
-    ghost use Rattle.cil_store.specs.Stored.{entry_of, IsParsedOf};
+    ghost use Rattle.cil_store.specs.Stored.{entry_of};
 
     pub fn as_entry(&self) -> Entry<'_>
         ensures { entry_of result ≡ self.now }
@@ -67,28 +69,49 @@ impl<A: Allocator> StoredEntry<A> {
         }
     }
 
+    /// Its name, and the parsed module of its text.
+    pub fn as_module(&self) -> NamedModule<'_, A>
+        ensures name { result.name.now ≡ self.now.name }
+        ensures parsed { IsParsed self.now.text result.«module».now }
+    {
+        NamedModule {
+            name: self.name.as_slice(),
+            module: &self.module,
+        }
+    }
+
     pub fn name(&self) -> &[u8]
         ensures { result.now ≡ self.now.name }
     {
         self.name.as_slice()
     }
 
-    /// The parsed module of its text.
-    pub fn module(&self) -> &ParsedModule<A>
-        ensures { IsParsedOf self.now.text result.now }
+    /// How long its text is.
+    pub fn len(&self) -> usize
+        ensures { result ≡ length self.now.text }
     {
-        &self.module
+        self.text.as_slice().len()
     }
 
-    /// Whether its name comes before this one.
-    pub fn is_before(&self, name: &[u8]) -> bool
-        ensures { result ≡ is_lt (name_cmp self.now.name name.now) }
+    /// Whether it stands before an entry of a name and a priority: by its name, or by a higher priority of the same name.
+    pub fn is_before(&self, name: &[u8], priority: u32) -> bool
+        ensures { result ≡ is_lt (entry_cmp self.now (entry_at name.now priority)) }
     {
-        self.name().cmp(name).is_lt()
+        self.name()
+            .cmp(name)
+            .then(priority.cmp(&self.priority))
+            .is_lt()
+    }
+
+    /// Whether it is that of a name and a priority.
+    pub fn is_at(&self, name: &[u8], priority: u32) -> bool
+        ensures { result ≡ is_entry name.now priority self.now }
+    {
+        self.is_named(name) && self.priority == priority
     }
 
     pub fn is_named(&self, name: &[u8]) -> bool
-        ensures { IsTrue result ↔ (self.now.name ≡ name.now) }
+        ensures { result ≡ bytes_eq self.now.name name.now }
     {
         self.name() == name
     }

@@ -1,16 +1,24 @@
 //! Laws of the definitions, which make the contracts of engines exact. They have no code.
 
 ghost use Rattle.std.specs.Prelude.{◌≡◌, List};
+ghost use Rattle.cil_specs.specs.Joined.{Placed};
+ghost use Rattle.cil_specs.specs.Kept.{AreApart};
 ghost use Rattle.cil_specs.specs.Meaning.{Meaning};
-ghost use Rattle.cil_specs.specs.Next.{Edit, Refusal, Judgement, IsMeaningOf, IsPolicyRefusal, IsTaken, Next};
-ghost use Rattle.cil_specs.specs.Run.{Call, Reply, Run};
-ghost use Rattle.cil_specs.specs.Store.{Store, IsStore, empty};
+ghost use Rattle.cil_store_specs.specs.Next.{Edit, Refusal, Judgement, IsMeaningOf, IsPolicyOf, IsPolicyRefusal, IsTaken, Next};
+ghost use Rattle.cil_store_specs.specs.Run.{Call, Reply, Run};
+ghost use Rattle.cil_store_specs.specs.Store.{Store, IsStore, empty};
 
 /// A store in which no module stands is in order, and edits and runs of calls lead from one in order to another.
 pub fn stores_are_in_order()
     ensures empty { IsStore empty }
     ensures taken { (old new : Store) (edit : Edit) → IsStore old → IsTaken old edit new → IsStore new }
     ensures run { (old new : Store) (calls : List Call) (replies : List Reply) → IsStore old → Run old calls replies new → IsStore new }
+{}
+
+/// In the policy of a store blocks, classes, commons and what is said of them stand in no optional, so that `kept_exists` and
+/// `kept_is_good` of `cil_resolve` hold of it.
+pub fn policies_are_apart()
+    ensures { (store : Store) (policy : List Placed) → IsPolicyOf store policy → AreApart policy }
 {}
 
 /// A store has one meaning at most.

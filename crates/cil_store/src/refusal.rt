@@ -1,23 +1,26 @@
 //! Why an edit is refused.
 
-ghost use Rattle.std.specs.Prelude.{◌≡◌, ◌||◌, ◌==◌, Some, None, MatchResult};
+ghost use Rattle.std.specs.Prelude.{◌≡◌, ◌||◌, ◌==◌};
 ghost use Rattle.std.specs.List.{list_all};
-ghost use Rattle.cil_specs.specs.Next.{begins_module_name as front_byte, is_module_name as module_name, install_refusal};
-ghost use Rattle.cil_store.specs.Edits.{store_refusal_of};
+ghost use Rattle.cil_store_specs.specs.Next.{begins_module_name as front_byte, is_module_name as module_name};
 
 use cil_resolve::{PolicyFaultKind, Text};
 use cil_text::{Place, TextFaultKind};
 use std::alloc::{AllocError, Allocator, Global};
 
-/// The store's own refusals of an install. The codes and their order are this project's own; names and priorities are those
-/// of `semodule(8)`, as far as they go.
+/// The store's own refusals of an edit. The codes and their order are this project's own; names and priorities are those of
+/// `semodule(8)`.
 #[derive(Clone, Copy, Debug, PartialEq, Eq)]
 pub enum StoreFault {
     /// A module's name has other bytes than letters, digits, `_`, `-` and dots, begins with `-` or a dot, or is longer than
     /// 255 bytes.
     BadModuleName = 30,
-    /// A priority other than 400.
+    /// A priority that isn't 1 to 999.
     BadPriority = 31,
+    /// Nothing is installed at the name and priority of a removal, or at the name of a change of state.
+    NotInstalled = 32,
+    /// With the text the store would have more than 4096 entries, or texts of more than 2^26 bytes.
+    Full = 33,
     /// A text of more than 2^24 bytes.
     TextTooLong = 34,
 }
@@ -84,10 +87,8 @@ impl<A: Allocator> From<AllocError> for Refusal<A> {
     }
 }
 
-/// The greatest length of a module's name, and of its text.
+/// The greatest length of a module's name.
 const GREATEST_NAME: usize = 255;
-
-const GREATEST_TEXT: usize = 16_777_216;
 
 fn begins_module_name(b: u8) -> bool
     ensures { result ≡ front_byte b }
@@ -107,28 +108,12 @@ fn all_in_module_name(bytes: &[u8]) -> bool
     bytes.iter().all(|b| is_in_module_name(*b))
 }
 
-fn is_module_name(name: &[u8]) -> bool
+/// Whether a text is the name of a module.
+pub(crate) fn is_module_name(name: &[u8]) -> bool
     ensures { result ≡ module_name name.now }
 {
     let Some((first, rest)) = name.split_first() else {
         return false;
     };
     begins_module_name(*first) && all_in_module_name(rest) && name.len() <= GREATEST_NAME
-}
-
-/// Whether the store takes an install of a text of this length, or its first refusal. It takes no memory.
-pub fn check_install(name: &[u8], priority: u32, len: usize) -> Result<(), StoreFault>
-    ensures { MatchResult result (λ _. install_refusal name.now priority len ≡ None)
-        (λ fault. install_refusal name.now priority len ≡ Some (store_refusal_of fault name.now priority)) }
-{
-    if !is_module_name(name) {
-        return Err(StoreFault::BadModuleName);
-    }
-    if priority != 400 {
-        return Err(StoreFault::BadPriority);
-    }
-    if len > GREATEST_TEXT {
-        return Err(StoreFault::TextTooLong);
-    }
-    Ok(())
 }

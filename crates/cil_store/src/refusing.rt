@@ -2,7 +2,7 @@
 
 ghost use Rattle.std.specs.Prelude.{◌≡◌, IfOk, IfSome};
 ghost use Rattle.cil_specs.specs.Bytes.{hex};
-ghost use Rattle.cil_specs.specs.Next.{at_place};
+ghost use Rattle.cil_store_specs.specs.Next.{at_place};
 ghost use Rattle.cil_text.specs.Image.{place_of, shown};
 ghost use Rattle.cil_store.specs.Edits.{fault_code, refusal_of, store_refusal_of};
 ghost use Rattle.cil_store.specs.Refusing.{IsRefusalOf, IsRefusalOfText, IsRefusalOfPolicy};
@@ -32,8 +32,8 @@ fn shown_text<A: Allocator>(alloc: A, word: ShownWord<'_>) -> Result<Text<A>, Al
     }
 }
 
-/// The refusal of an install by its name, its priority or the length of its text.
-pub fn refuse_install<A: Allocator + Copy>(
+/// The refusal of an edit by the store.
+pub fn refuse_edit<A: Allocator + Copy>(
     alloc: A,
     fault: StoreFault,
     name: &[u8],
@@ -44,7 +44,10 @@ pub fn refuse_install<A: Allocator + Copy>(
     let mut digits = Buffer::new();
     let word = match fault {
         StoreFault::BadPriority => digits.format(priority).as_bytes(),
-        StoreFault::BadModuleName | StoreFault::TextTooLong => name,
+        StoreFault::BadModuleName
+        | StoreFault::NotInstalled
+        | StoreFault::Full
+        | StoreFault::TextTooLong => name,
     };
     match Text::of(alloc, word) {
         Ok(word) => Refusal::Store { fault, word },

@@ -1,16 +1,37 @@
 //! A list of calls, one after another.
 
-ghost use Rattle.std.specs.Prelude.{◌≡◌, map, IfOk, OnErr};
-ghost use Rattle.cil_specs.specs.Run.{Step, Run};
+ghost use Rattle.std.specs.Prelude.{◌≡◌, List, flat_map, map, IfOk, OnErr};
+ghost use Rattle.cil_specs.specs.Report.{Row, row_line};
+ghost use Rattle.cil_store_specs.specs.Run.{AreRowsOf, Step, Run};
 ghost use Rattle.cil_store.specs.Calls.{call_of, reply_of};
 
 use crate::call::{Call, Reply};
 use crate::compiled::Compiled;
 use crate::refusal::Refusal;
+use cil_resolve::Text;
+use cil_stream::MemorySink;
 use std::alloc::{AllocError, Allocator};
 
+/// The lines of the listing.
+fn listing<A: Allocator + Copy, C: Compiled<A>>(
+    alloc: A,
+    engine: &C,
+) -> Result<Text<A>, AllocError>
+    ensures { IfOk result (λ text. (rows : List Row) × (text ≡ flat_map row_line rows) × AreRowsOf (C.store engine.now) rows) }
+{
+    let mut sink = MemorySink::new(alloc);
+    match engine.write_listing(&mut sink) {
+        Ok(_) => Ok(Text::from_vec(sink.into_bytes())),
+        Err(_) => Err(AllocError),
+    }
+}
+
 /// Makes one call.
-fn answer<A: Allocator + Copy, C: Compiled<A>>(engine: &mut C, call: Call<'_>) -> Reply<A>
+fn answer<A: Allocator + Copy, C: Compiled<A>>(
+    alloc: A,
+    engine: &mut C,
+    call: Call<'_>,
+) -> Reply<A>
     ensures { Step (C.store engine.old) (call_of call.entry) (reply_of result) (C.store engine.new) }
 {
     match call {
@@ -20,6 +41,14 @@ fn answer<A: Allocator + Copy, C: Compiled<A>>(engine: &mut C, call: Call<'_>) -
         },
         Call::Rows => match engine.rows() {
             Ok(rows) => Reply::Rows(rows),
+            Err(_) => Reply::Refused(Refusal::Memory),
+        },
+        Call::Listing => match listing(alloc, engine) {
+            Ok(text) => Reply::Listing(text),
+            Err(_) => Reply::Refused(Refusal::Memory),
+        },
+        Call::Violations => match engine.violations() {
+            Ok(violations) => Reply::Violations(violations),
             Err(_) => Reply::Refused(Refusal::Memory),
         },
         Call::Dropped => match engine.dropped() {
@@ -41,7 +70,7 @@ pub fn run<A: Allocator + Copy, C: Compiled<A>>(
 {
     let mut replies = Vec::with_capacity(alloc, calls.len())?;
     for call in calls {
-        let reply = answer(engine, *call);
+        let reply = answer(alloc, engine, *call);
         replies.push(reply).unwrap();
     }
     Ok(replies)

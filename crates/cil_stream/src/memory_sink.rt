@@ -57,6 +57,13 @@ impl<A: Allocator> MemorySink<A> {
         self.bytes.as_slice()
     }
 
+    /// The bytes that it took, which are not copied.
+    pub fn into_bytes(self) -> Vec<u8, A>
+        ensures { result.items ≡ self.bytes }
+    {
+        self.bytes
+    }
+
     fn fail(&mut self) -> SinkFault
         ensures exact { self.new ≡ record self.old { failures = min (self.old.failures + 1) (2 ^ 64 - 1) } }
         ensures counted { self.old.failures ≤ self.new.failures }

@@ -1,9 +1,9 @@
 //! The violations of small policies.
 
-ghost use Rattle.std.specs.Prelude.{List, IfOk};
+ghost use Rattle.std.specs.Prelude.{List, IfOk, ℕ};
 ghost use Rattle.cil_specs.specs.Joined.{Module};
+ghost use Rattle.cil_parse.specs.Parsed.{IsParsed};
 ghost use Rattle.cil_resolve.specs.Modules.{AreParsedFrom};
-ghost use Rattle.cil_sets.specs.Sound.{IsSoundModule};
 
 use crate::Violations;
 use cil_parse::{ParsedModule, parse};
@@ -18,7 +18,7 @@ const START: &[u8] =
 
 // The parsed module of a text.
 fn module_of(rt: &impl Abort, alloc: Global, text: &[u8]) -> ParsedModule
-    ensures { IsSoundModule result }
+    ensures { (text : List ℕ) × IsParsed text result }
 {
     assert!(rt; text.len() <= 16_777_216, "too long a text");
     parse(alloc, text).expect(rt, "a module")
@@ -26,7 +26,7 @@ fn module_of(rt: &impl Abort, alloc: Global, text: &[u8]) -> ParsedModule
 
 // The module m.
 fn joined<'m>(alloc: Global, m: &'m ParsedModule) -> Result<Joined<'m>, AllocError>
-    requires { IsSoundModule m.now }
+    requires { (text : List ℕ) × IsParsed text m.now }
     ensures { IfOk result (λ joined. (modules : List Module) × AreParsedFrom joined.modules.items modules) }
 {
     let modules = Vec::from_array(
@@ -52,7 +52,7 @@ fn policy(rt: &impl Abort, alloc: Global, statements: &[&[u8]]) -> Resolved {
 
 // Asserts the report of a policy, and that a sink that fails has a beginning of it.
 fn assert_violations(rt: &impl Abort, alloc: Global, statements: &[&[u8]], want: &[u8]) {
-    let resolved = policy(rt, alloc, statements);
+    let resolved = Rc::new(alloc, policy(rt, alloc, statements)).expect(rt, "memory");
     let members = Members::plain(alloc, &resolved).expect(rt, "memory");
     let violations = Violations::of(alloc, &resolved, &members).expect(rt, "memory");
     let mut sink = MemorySink::new(alloc);

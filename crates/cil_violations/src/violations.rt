@@ -1,12 +1,13 @@
 //! The violations of a policy.
 
-ghost use Rattle.std.specs.Prelude.{◌≡◌, ◌≤◌, ◌==◌, List, length, IfOk, OnOk, OnErr};
-ghost use Rattle.std.specs.List.{All, flat_map};
+ghost use Rattle.std.specs.Prelude.{◌≡◌, ◌≤◌, ◌==◌, length, map, IfOk, OnOk, OnErr};
+ghost use Rattle.std.specs.List.{flat_map};
+ghost use Rattle.std.specs.Rc.{rc_value};
 ghost use Rattle.cil_stream.specs.Device.{HasFailed, Gains, GainsFront};
 ghost use Rattle.cil_resolve.specs.Resolved.{meaning_in};
 ghost use Rattle.cil_sets.specs.Members.{AreMembers};
 ghost use Rattle.cil_specs.specs.Violations.{AreViolations, violation_line, violations_text};
-ghost use Rattle.cil_violations.specs.Lines.{line_by, AreRows};
+ghost use Rattle.cil_violations.specs.Lines.{line_by, violation_by, AreRows};
 
 use crate::index::ClassIndex;
 use crate::line::write_line;
@@ -19,27 +20,29 @@ use cil_sets::Members;
 use cil_stream::{Sink, SinkFault};
 use std::alloc::{AllocError, Allocator, Global};
 use std::marker::Model;
+use std::rc::Rc;
 
-/// What neverallow rules of a policy forbid and allow rules give, in order. It borrows the policy and copies no name. Contracts see
+/// What neverallow rules of a policy forbid and allow rules give, in order. It shares the policy and copies no name. Contracts see
 /// it as its list.
-#[derive(Debug, Drop)]
-pub struct Violations<'r, A: Allocator = Global> {
-    resolved: &'r Resolved<A>,
+#[derive(Drop)]
+pub struct Violations<A: Allocator = Global> {
+    resolved: Rc<Resolved<A>, A>,
     permissions: Lists<usize, A>,
     rows: Vec<RowNumbers, A>,
 }
 
-impl<'r, A: Allocator> Model for Violations<'r, A> {
+impl<A: Allocator> Model for Violations<A> {
     ghost use Rattle.std.specs.Prelude.{List, map};
     ghost use Rattle.cil_specs.specs.Violations.{Violation};
 
     ghost Value = { List Violation };
 
+    ghost use Rattle.std.specs.Rc.{rc_value};
     ghost use Rattle.cil_violations.specs.Lines.{violation_by, AreRows};
 
-    ghost view = { λ v. map (violation_by v.resolved.now v.permissions.0) v.rows.items };
+    ghost view = { λ v. map (violation_by (rc_value v.resolved) v.permissions.0) v.rows.items };
 
-    ghost invariant = { λ v. AreRows v.resolved.now v.permissions.0 v.rows.items };
+    ghost invariant = { λ v. AreRows (rc_value v.resolved) v.permissions.0 v.rows.items };
 }
 
 /// Writes the lines of violations.
@@ -61,32 +64,57 @@ fn write_rows<W: Sink, A: Allocator>(
     Ok(())
 }
 
-impl<'r, A: Allocator + Copy> Violations<'r, A> {
-    /// The violations of a policy.
-    pub fn of(alloc: A, resolved: &'r Resolved<A>, members: &Members<A>) -> Result<Self, AllocError>
-        requires { AreMembers resolved.now members.now }
-        ensures { IfOk result (AreViolations (meaning_in resolved.now)) }
+/// The violations of a policy by numbers, and the permissions of each rule in order.
+#[derive(Drop)]
+struct Found<A: Allocator> {
+    permissions: Lists<usize, A>,
+    rows: Vec<RowNumbers, A>,
+}
+
+/// Looks for the violations of a policy.
+fn find<A: Allocator + Copy>(
+    alloc: A,
+    resolved: &Resolved<A>,
+    members: &Members<A>,
+) -> Result<Found<A>, AllocError>
+    requires { AreMembers resolved.now members.now }
+    ensures rows { IfOk result (λ found. AreRows resolved.now found.permissions.0 found.rows.items) }
+    ensures violations { IfOk result (λ found. AreViolations (meaning_in resolved.now) (map (violation_by resolved.now found.permissions.0) found.rows.items)) }
+{
+    resolved_rules_are_in_order(resolved);
+    let permissions = ordered_permissions(alloc, resolved.rules())?;
+    let index = ClassIndex::of(alloc, resolved)?;
+    let mut rows = Vec::new(alloc);
+    let search = Search {
+        resolved,
+        members,
+        permissions: &permissions,
+        index: &index,
+    };
+    search.push_all(&mut rows)?;
+    Ok(Found { permissions, rows })
+}
+
+impl<A: Allocator + Copy> Violations<A> {
+    /// The violations of a policy. An out of memory stands also where no more owners of the policy can be counted.
+    pub fn of(
+        alloc: A,
+        resolved: &Rc<Resolved<A>, A>,
+        members: &Members<A>,
+    ) -> Result<Self, AllocError>
+        requires { AreMembers (rc_value resolved.now) members.now }
+        ensures { IfOk result (AreViolations (meaning_in (rc_value resolved.now))) }
     {
-        resolved_rules_are_in_order(resolved);
-        let permissions = ordered_permissions(alloc, resolved.rules())?;
-        let index = ClassIndex::of(alloc, resolved)?;
-        let mut rows = Vec::new(alloc);
-        let search = Search {
-            resolved,
-            members,
-            permissions: &permissions,
-            index: &index,
-        };
-        search.push_all(&mut rows)?;
+        let found = find(alloc, resolved, members)?;
         Ok(Violations {
-            resolved,
-            permissions,
-            rows,
+            resolved: resolved.clone()?,
+            permissions: found.permissions,
+            rows: found.rows,
         })
     }
 }
 
-impl<'r, A: Allocator> Violations<'r, A> {
+impl<A: Allocator> Violations<A> {
     /// How many violations there are.
     pub fn len(&self) -> usize
         ensures { result ≡ length self.now }
@@ -108,7 +136,7 @@ impl<'r, A: Allocator> Violations<'r, A> {
         ensures failed { OnErr result (HasFailed (W.failures sink.old) (W.failures sink.new)) }
         ensures counted { W.failures sink.old ≤ W.failures sink.new }
     {
-        write_rows(sink, self.resolved, &self.permissions, &self.rows)?;
+        write_rows(sink, &self.resolved, &self.permissions, &self.rows)?;
         Ok(self.rows.len())
     }
 }

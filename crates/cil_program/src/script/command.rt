@@ -1,10 +1,10 @@
 //! The commands on the lines of a script.
 
-ghost use Rattle.std.specs.Prelude.{◌≡◌, ◌≢◌, ◌<◌, ◌↔◌, ◌∷◌, ◌++◌, [], ℕ, List, Bool, not, ◌==◌, decimal, codes, IsTrue, Some, IfSome, IfNone};
+ghost use Rattle.std.specs.Prelude.{◌≡◌, ◌<◌, ◌↔◌, ◌∷◌, ◌++◌, ℕ, decimal, codes, IsTrue, Some, IfSome, IfNone};
 ghost use Rattle.std.specs.List.{list_all};
-ghost use Rattle.cil_specs.specs.Run.{Call};
-ghost use Rattle.cil_specs.specs.Script.{is_shown as shown_byte, AreGoodWords, HasGoodWords, line_of};
-ghost use Rattle.cil_program.specs.Command.{is_no_space, IsLine, IsInstallRest, install_rest};
+ghost use Rattle.cil_store_specs.specs.Script.{is_shown as shown_byte, Command, HasGoodWords, IsGoodName, line_of};
+ghost use Rattle.cil_store_specs.proofs.WordLemmas.{is_no_space};
+ghost use Rattle.cil_program.specs.Command.{IsLine};
 
 use itoa::Buffer;
 use std::str;
@@ -20,9 +20,20 @@ pub enum ScriptLine<'a> {
         priority: u32,
         len: u32,
     },
+    Remove {
+        name: &'a [u8],
+        priority: u32,
+    },
+    Enable {
+        name: &'a [u8],
+    },
+    Disable {
+        name: &'a [u8],
+    },
     Rules,
     Violations,
     Dropped,
+    Modules,
 }
 
 /// What std reads as a number, leading zeros and a plus too.
@@ -87,10 +98,17 @@ fn all_shown(word: &[u8]) -> bool
     word.iter().all(|b| is_shown(*b))
 }
 
-/// What an install's line asks for, behind its first word.
+/// Whether a word may be the name in a command.
+fn is_name(word: &[u8]) -> bool
+    ensures { IsTrue result ↔ IsGoodName word.now }
+{
+    !word.is_empty() && all_shown(word)
+}
+
+/// What the line of an install asks for, by what stands behind its first word.
 fn install<'a>(rest: &'a [u8]) -> Option<ScriptLine<'a>>
-    ensures some { IfSome result (λ line. IsInstallRest line rest.now) }
-    ensures none { IfNone result ((name : List ℕ) (priority size : ℕ) → AreGoodWords name priority size → rest.now ≡ install_rest name priority size → ⊥) }
+    ensures some { IfSome result (λ asked. IsLine asked (codes "install" ++ 32 ∷ rest.now)) }
+    ensures none { IfNone result ((command : Command) → HasGoodWords command → codes "install" ++ 32 ∷ rest.now ≡ line_of command → ⊥) }
 {
     let Some((name, numbers)) = split_word(rest) else {
         return None;
@@ -98,10 +116,7 @@ fn install<'a>(rest: &'a [u8]) -> Option<ScriptLine<'a>>
     let Some((first, second)) = split_word(numbers) else {
         return None;
     };
-    if name.is_empty() {
-        return None;
-    }
-    if !all_shown(name) {
+    if !is_name(name) {
         return None;
     }
     let Some(priority) = number(first) else {
@@ -117,25 +132,94 @@ fn install<'a>(rest: &'a [u8]) -> Option<ScriptLine<'a>>
     })
 }
 
+/// The same for a removal.
+fn remove<'a>(rest: &'a [u8]) -> Option<ScriptLine<'a>>
+    ensures some { IfSome result (λ asked. IsLine asked (codes "remove" ++ 32 ∷ rest.now)) }
+    ensures none { IfNone result ((command : Command) → HasGoodWords command → codes "remove" ++ 32 ∷ rest.now ≡ line_of command → ⊥) }
+{
+    let Some((name, second)) = split_word(rest) else {
+        return None;
+    };
+    if !is_name(name) {
+        return None;
+    }
+    let Some(priority) = number(second) else {
+        return None;
+    };
+    Some(ScriptLine::Remove { name, priority })
+}
+
+/// The same for the enabling of a name.
+fn enable<'a>(rest: &'a [u8]) -> Option<ScriptLine<'a>>
+    ensures some { IfSome result (λ asked. IsLine asked (codes "enable" ++ 32 ∷ rest.now)) }
+    ensures none { IfNone result ((command : Command) → HasGoodWords command → codes "enable" ++ 32 ∷ rest.now ≡ line_of command → ⊥) }
+{
+    if !is_name(rest) {
+        return None;
+    }
+    Some(ScriptLine::Enable { name: rest })
+}
+
+/// And for its disabling.
+fn disable<'a>(rest: &'a [u8]) -> Option<ScriptLine<'a>>
+    ensures some { IfSome result (λ asked. IsLine asked (codes "disable" ++ 32 ∷ rest.now)) }
+    ensures none { IfNone result ((command : Command) → HasGoodWords command → codes "disable" ++ 32 ∷ rest.now ≡ line_of command → ⊥) }
+{
+    if !is_name(rest) {
+        return None;
+    }
+    Some(ScriptLine::Disable { name: rest })
+}
+
+/// What a line of several words asks for.
+fn edit<'a>(first: &'a [u8], rest: &'a [u8]) -> Option<ScriptLine<'a>>
+    requires { IsTrue (list_all is_no_space first.now) }
+    ensures some { IfSome result (λ asked. IsLine asked (first.now ++ 32 ∷ rest.now)) }
+    ensures none { IfNone result ((command : Command) → HasGoodWords command → first.now ++ 32 ∷ rest.now ≡ line_of command → ⊥) }
+{
+    if is_word(first, b"install") {
+        return install(rest);
+    }
+    if is_word(first, b"remove") {
+        return remove(rest);
+    }
+    if is_word(first, b"enable") {
+        return enable(rest);
+    }
+    if is_word(first, b"disable") {
+        return disable(rest);
+    }
+    None
+}
+
+/// What a line of one word asks for.
+fn question<'a>(word: &'a [u8]) -> Option<ScriptLine<'a>>
+    requires { IsTrue (list_all is_no_space word.now) }
+    ensures some { IfSome result (λ asked. IsLine asked word.now) }
+    ensures none { IfNone result ((command : Command) → HasGoodWords command → word.now ≡ line_of command → ⊥) }
+{
+    if is_word(word, b"rules") {
+        return Some(ScriptLine::Rules);
+    }
+    if is_word(word, b"violations") {
+        return Some(ScriptLine::Violations);
+    }
+    if is_word(word, b"dropped") {
+        return Some(ScriptLine::Dropped);
+    }
+    if is_word(word, b"modules") {
+        return Some(ScriptLine::Modules);
+    }
+    None
+}
+
 /// What a line asks for; none where it is no command.
 pub fn script_line<'a>(line: &'a [u8]) -> Option<ScriptLine<'a>>
     ensures some { IfSome result (λ asked. IsLine asked line.now) }
-    ensures none { IfNone result ((call : Call) → HasGoodWords call → line.now ≡ line_of call → ⊥) }
+    ensures none { IfNone result ((command : Command) → HasGoodWords command → line.now ≡ line_of command → ⊥) }
 {
-    if is_word(line, b"rules") {
-        return Some(ScriptLine::Rules);
+    match split_word(line) {
+        Some((first, rest)) => edit(first, rest),
+        None => question(line),
     }
-    if is_word(line, b"violations") {
-        return Some(ScriptLine::Violations);
-    }
-    if is_word(line, b"dropped") {
-        return Some(ScriptLine::Dropped);
-    }
-    let Some((first, rest)) = split_word(line) else {
-        return None;
-    };
-    if !is_word(first, b"install") {
-        return None;
-    }
-    install(rest)
 }

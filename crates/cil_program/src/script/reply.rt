@@ -1,19 +1,20 @@
 //! The lines that answer a script (a form of this project's own).
 
-ghost use Rattle.std.specs.Prelude.{◌≡◌, ◌+◌, ◌≤◌, flat_map, OnOk, OnErr};
+ghost use Rattle.std.specs.Prelude.{◌≡◌, ◌+◌, ◌++◌, ◌≤◌, flat_map, length, OnOk, OnErr};
 ghost use Rattle.cil_stream.specs.Device.{HasFailed, Gains, GainsFront};
-ghost use Rattle.cil_specs.specs.Next.{by_store, at_place, for_memory};
+ghost use Rattle.cil_store_specs.specs.Next.{by_store, at_place, for_memory};
 ghost use Rattle.cil_specs.specs.Report.{dropped_line};
-ghost use Rattle.cil_specs.specs.Script.{refusal_line, answer, last_line, stops};
-ghost use Rattle.cil_specs.specs.Run.{changed_by, dropped_optionals};
+ghost use Rattle.cil_store_specs.specs.Script.{refusal_line, reply_text, end_line, last_line, stops};
+ghost use Rattle.cil_store_specs.specs.Run.{changed_by, dropped_optionals};
 ghost use Rattle.cil_text.specs.Image.{place_of};
 ghost use Rattle.cil_resolve.specs.Views.{declared_seen};
+ghost use Rattle.cil_store_specs.specs.StoreReport.{entry_text, modules_text};
 ghost use Rattle.cil_store.specs.Edits.{refusal_of};
-ghost use Rattle.cil_program.specs.Replies.{end_line};
+ghost use Rattle.cil_store.specs.Stored.{entry_of};
 
 use cil_resolve::NameView;
 use cil_rules::Changes;
-use cil_store::{Dropped, Refusal};
+use cil_store::{Dropped, Entry, Refusal, Store};
 use cil_stream::{Sink, SinkFault, write_all, write_pieces};
 use cil_text::Place;
 use itoa::Buffer;
@@ -24,8 +25,8 @@ pub fn write_changes<W: Sink, A: Allocator>(
     sink: &mut W,
     changes: &Changes<A>,
 ) -> Result<(), SinkFault>
-    ensures ok { OnOk result (Gains (W.taken sink.old) (W.taken sink.new) (answer (changed_by changes.now))) }
-    ensures err { OnErr result (GainsFront (W.taken sink.old) (W.taken sink.new) (answer (changed_by changes.now))) }
+    ensures ok { OnOk result (Gains (W.taken sink.old) (W.taken sink.new) (reply_text (changed_by changes.now))) }
+    ensures err { OnErr result (GainsFront (W.taken sink.old) (W.taken sink.new) (reply_text (changed_by changes.now))) }
     ensures failed { OnErr result (HasFailed (W.failures sink.old) (W.failures sink.new)) }
     ensures counted { W.failures sink.old ≤ W.failures sink.new }
 {
@@ -44,7 +45,7 @@ pub fn write_changes<W: Sink, A: Allocator>(
 }
 
 /// Writes the last line of a listing of so many rows.
-pub fn write_end<W: Sink>(sink: &mut W, rows: usize) -> Result<(), SinkFault>
+pub fn write_end<W: Sink>(sink: &mut W, rows: u128) -> Result<(), SinkFault>
     ensures ok { OnOk result (Gains (W.taken sink.old) (W.taken sink.new) (end_line rows)) }
     ensures err { OnErr result (GainsFront (W.taken sink.old) (W.taken sink.new) (end_line rows)) }
     ensures failed { OnErr result (HasFailed (W.failures sink.old) (W.failures sink.new)) }
@@ -101,13 +102,67 @@ pub fn write_dropped<W: Sink, A: Allocator>(
     sink: &mut W,
     dropped: &Dropped<A>,
 ) -> Result<(), SinkFault>
-    ensures ok { OnOk result (Gains (W.taken sink.old) (W.taken sink.new) (answer (dropped_optionals dropped.now))) }
-    ensures err { OnErr result (GainsFront (W.taken sink.old) (W.taken sink.new) (answer (dropped_optionals dropped.now))) }
+    ensures ok { OnOk result (Gains (W.taken sink.old) (W.taken sink.new) (reply_text (dropped_optionals dropped.now))) }
+    ensures err { OnErr result (GainsFront (W.taken sink.old) (W.taken sink.new) (reply_text (dropped_optionals dropped.now))) }
     ensures failed { OnErr result (HasFailed (W.failures sink.old) (W.failures sink.new)) }
     ensures counted { W.failures sink.old ≤ W.failures sink.new }
 {
     write_optionals(sink, dropped)?;
-    write_end(sink, dropped.len())
+    write_end(sink, dropped.len() as u128)
+}
+
+/// Writes the line of an entry of a store, with the word of its state.
+fn write_module<W: Sink>(sink: &mut W, entry: Entry<'_>, state: &[u8]) -> Result<(), SinkFault>
+    ensures ok { OnOk result (Gains (W.taken sink.old) (W.taken sink.new) (entry_text (entry_of entry.entry) state.now)) }
+    ensures err { OnErr result (GainsFront (W.taken sink.old) (W.taken sink.new) (entry_text (entry_of entry.entry) state.now)) }
+    ensures failed { OnErr result (HasFailed (W.failures sink.old) (W.failures sink.new)) }
+    ensures counted { W.failures sink.old ≤ W.failures sink.new }
+{
+    let mut priority_digits = Buffer::new();
+    let mut length_digits = Buffer::new();
+    write_pieces(
+        sink,
+        &[
+            entry.name,
+            b" ",
+            priority_digits.format(entry.priority).as_bytes(),
+            b" ",
+            length_digits.format(entry.text.len()).as_bytes(),
+            b" ",
+            state,
+            b"\n",
+        ],
+    )
+}
+
+/// Writes the lines of the entries of a store.
+fn write_entries<W: Sink, A: Allocator>(
+    sink: &mut W,
+    store: &Store<A>,
+) -> Result<(), SinkFault>
+    ensures ok { OnOk result (Gains (W.taken sink.old) (W.taken sink.new) (modules_text store.now)) }
+    ensures err { OnErr result (GainsFront (W.taken sink.old) (W.taken sink.new) (modules_text store.now)) }
+    ensures failed { OnErr result (HasFailed (W.failures sink.old) (W.failures sink.new)) }
+    ensures counted { W.failures sink.old ≤ W.failures sink.new }
+{
+    for i in 0..store.len() {
+        write_module(sink, store.at(i), store.state(i).as_bytes())?;
+    }
+    Ok(())
+}
+
+/// Writes the modules of a store (`semodule -lfull`, in a form of this project's own). It takes no memory.
+pub fn write_modules<W: Sink, A: Allocator>(
+    sink: &mut W,
+    store: &Store<A>,
+) -> Result<(), SinkFault>
+    ensures ok { OnOk result (Gains (W.taken sink.old) (W.taken sink.new) (modules_text store.now ++ end_line (length store.now.entries))) }
+    ensures err { OnErr result (GainsFront (W.taken sink.old) (W.taken sink.new) (modules_text store.now ++ end_line (length store.now.entries))) }
+    ensures failed { OnErr result (HasFailed (W.failures sink.old) (W.failures sink.new)) }
+    ensures counted { W.failures sink.old ≤ W.failures sink.new }
+{
+    write_entries(sink, store)?;
+    write_end(sink, store.len() as u128)
 }
 
 /// Writes that a script is none from the line behind so many line feeds.

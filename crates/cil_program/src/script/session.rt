@@ -2,8 +2,7 @@
 
 ghost use Rattle.std.specs.Prelude.{◌≡◌, ◌≢◌, ◌≤◌, [], List, ℕ, IfOk, OnOk, OnErr, IsErrOf, IsTrue};
 ghost use Rattle.cil_stream.specs.Device.{HasFailed, HasEnded, Gains, has_ended};
-ghost use Rattle.cil_specs.specs.Run.{an_edit, ask_rows, ask_violations, ask_dropped};
-ghost use Rattle.cil_specs.specs.Script.{refusal_line};
+ghost use Rattle.cil_store_specs.specs.Script.{makes, asks_rules, asks_violations, asks_dropped, asks_modules, refusal_line};
 ghost use Rattle.cil_store.specs.Edits.{edit_of, store_refusal_of};
 ghost use Rattle.cil_program.specs.Input.{Fits};
 ghost use Rattle.cil_program.specs.Session.{Moment, Standing, HasAnswered, IsOutcome, IsInstallOutcome, Leaves};
@@ -14,7 +13,7 @@ use crate::script::command::{ScriptLine, script_line};
 use crate::script::input::{Input, LineEnd};
 use crate::script::line::Line;
 use crate::script::reply;
-use cil_store::{Compiled, Edit, StoreFault, WriteFault, check_install};
+use cil_store::{Compiled, Edit, StoreFault, WriteFault};
 use cil_stream::{Sink, SinkFault, Source, SourceFault};
 use itoa::Buffer;
 use std::alloc::Allocator;
@@ -76,7 +75,7 @@ fn answer_rows<W: Sink, A: Allocator + Copy, C: Compiled<A>>(
     sink: &mut W,
     engine: &C,
 ) -> Result<Outcome, SinkFault>
-    ensures ok { IfOk result (λ outcome. HasAnswered ask_rows outcome (record { store = C.store engine.now; taken = W.taken sink.old })
+    ensures ok { IfOk result (λ outcome. HasAnswered asks_rules outcome (record { store = C.store engine.now; taken = W.taken sink.old })
         (record { store = C.store engine.now; taken = W.taken sink.new })) }
     ensures failed { OnErr result (HasFailed (W.failures sink.old) (W.failures sink.new)) }
     ensures counted { W.failures sink.old ≤ W.failures sink.new }
@@ -99,14 +98,14 @@ fn answer_violations<W: Sink, A: Allocator + Copy, C: Compiled<A>>(
     sink: &mut W,
     engine: &C,
 ) -> Result<Outcome, SinkFault>
-    ensures ok { IfOk result (λ outcome. HasAnswered ask_violations outcome (record { store = C.store engine.now; taken = W.taken sink.old })
+    ensures ok { IfOk result (λ outcome. HasAnswered asks_violations outcome (record { store = C.store engine.now; taken = W.taken sink.old })
         (record { store = C.store engine.now; taken = W.taken sink.new })) }
     ensures failed { OnErr result (HasFailed (W.failures sink.old) (W.failures sink.new)) }
     ensures counted { W.failures sink.old ≤ W.failures sink.new }
 {
     match engine.write_violations(sink) {
         Ok(violations) => {
-            reply::write_end(sink, violations)?;
+            reply::write_end(sink, violations as u128)?;
             Ok(Outcome::Accepted)
         }
         Err(WriteFault::Memory) => {
@@ -122,7 +121,7 @@ fn answer_dropped<W: Sink, A: Allocator + Copy, C: Compiled<A>>(
     sink: &mut W,
     engine: &C,
 ) -> Result<Outcome, SinkFault>
-    ensures ok { IfOk result (λ outcome. HasAnswered ask_dropped outcome (record { store = C.store engine.now; taken = W.taken sink.old })
+    ensures ok { IfOk result (λ outcome. HasAnswered asks_dropped outcome (record { store = C.store engine.now; taken = W.taken sink.old })
         (record { store = C.store engine.now; taken = W.taken sink.new })) }
     ensures failed { OnErr result (HasFailed (W.failures sink.old) (W.failures sink.new)) }
     ensures counted { W.failures sink.old ≤ W.failures sink.new }
@@ -139,13 +138,27 @@ fn answer_dropped<W: Sink, A: Allocator + Copy, C: Compiled<A>>(
     }
 }
 
+/// Answers the question for the modules of the store.
+fn answer_modules<W: Sink, A: Allocator + Copy, C: Compiled<A>>(
+    sink: &mut W,
+    engine: &C,
+) -> Result<Outcome, SinkFault>
+    ensures ok { IfOk result (λ outcome. HasAnswered asks_modules outcome (record { store = C.store engine.now; taken = W.taken sink.old })
+        (record { store = C.store engine.now; taken = W.taken sink.new })) }
+    ensures failed { OnErr result (HasFailed (W.failures sink.old) (W.failures sink.new)) }
+    ensures counted { W.failures sink.old ≤ W.failures sink.new }
+{
+    reply::write_modules(sink, engine.store())?;
+    Ok(Outcome::Accepted)
+}
+
 /// Makes an edit and answers it.
 fn answer_edit<W: Sink, A: Allocator + Copy, C: Compiled<A>>(
     sink: &mut W,
     engine: &mut C,
     edit: Edit<'_>,
 ) -> Result<Outcome, SinkFault>
-    ensures ok { IfOk result (λ outcome. HasAnswered (an_edit (edit_of edit.entry)) outcome (record { store = C.store engine.old; taken = W.taken sink.old })
+    ensures ok { IfOk result (λ outcome. HasAnswered (makes (edit_of edit.entry)) outcome (record { store = C.store engine.old; taken = W.taken sink.old })
         (record { store = C.store engine.new; taken = W.taken sink.new })) }
     ensures failed { OnErr result (HasFailed (W.failures sink.old) (W.failures sink.new)) }
     ensures counted { W.failures sink.old ≤ W.failures sink.new }
@@ -162,7 +175,7 @@ fn answer_edit<W: Sink, A: Allocator + Copy, C: Compiled<A>>(
     }
 }
 
-/// Writes the refusal of an install by its line.
+/// Writes the refusal of an install by the store.
 fn write_store_fault<W: Sink>(
     sink: &mut W,
     fault: StoreFault,
@@ -178,9 +191,10 @@ fn write_store_fault<W: Sink>(
             let mut digits = Buffer::new();
             reply::write_store_refusal(sink, fault.code(), digits.format(priority).as_bytes())
         }
-        StoreFault::BadModuleName | StoreFault::TextTooLong => {
-            reply::write_store_refusal(sink, fault.code(), name)
-        }
+        StoreFault::BadModuleName
+        | StoreFault::NotInstalled
+        | StoreFault::Full
+        | StoreFault::TextTooLong => reply::write_store_refusal(sink, fault.code(), name),
     }
 }
 
@@ -197,8 +211,8 @@ fn flush_unless<W: Sink>(sink: &mut W, held: bool) -> Result<(), SinkFault>
     sink.flush()
 }
 
-/// Reads the text of an install and makes the install. An install that the store refuses by its line, or for whose text there
-/// is no memory, has its text left aside.
+/// Reads the text of an install and makes the install. An install that the store refuses whatever its text spells, or for whose
+/// text there is no memory, has its text left aside.
 fn answer_install<S: Source, W: Sink, A: Allocator + Copy, C: Compiled<A>>(
     alloc: A,
     input: &mut Input,
@@ -219,7 +233,7 @@ fn answer_install<S: Source, W: Sink, A: Allocator + Copy, C: Compiled<A>>(
     ensures read_failures { (S.account source.old).failures ≤ (S.account source.new).failures }
     ensures write_failures { W.failures sink.old ≤ W.failures sink.new }
 {
-    if let Err(fault) = check_install(name, priority, len) {
+    if let Err(fault) = engine.store().check_install(name, priority, len) {
         if !input.skip_text(source, len)? {
             return Ok(Outcome::NoCommand);
         }
@@ -275,6 +289,12 @@ fn answer_line<S: Source, W: Sink, A: Allocator + Copy, C: Compiled<A>>(
         ScriptLine::Rules => Ok(answer_rows(sink, engine)?),
         ScriptLine::Violations => Ok(answer_violations(sink, engine)?),
         ScriptLine::Dropped => Ok(answer_dropped(sink, engine)?),
+        ScriptLine::Modules => Ok(answer_modules(sink, engine)?),
+        ScriptLine::Remove { name, priority } => {
+            Ok(answer_edit(sink, engine, Edit::Remove { name, priority })?)
+        }
+        ScriptLine::Enable { name } => Ok(answer_edit(sink, engine, Edit::Enable { name })?),
+        ScriptLine::Disable { name } => Ok(answer_edit(sink, engine, Edit::Disable { name })?),
         ScriptLine::Install {
             name,
             priority,

@@ -1,7 +1,7 @@
 use Rattle.cil_specs.specs.Shape.{IsFirstShapeFault}
 use Rattle.cil_text.specs.Forest.{forest_of}
 use Rattle.cil_text.proofs.FirstBad.{handed_on, fault_weaker}
-use Rattle.cil_parse.specs.Texts.{IsTextFault, in_shape}
+use Rattle.cil_specs.specs.ModuleText.{IsTextFault, in_shape}
 use Rattle.cil_parse.proofs.from_text.parse.Goals as goal
 
 pub returns-in_err-parsed-clause-err : goal.returns-in_err-parsed-clause-err
@@ -14,5 +14,6 @@ returns-in_err-parsed-clause-err g c =
 
 pub returns-clause-ok : goal.returns-clause-ok
 returns-clause-ok g c =
+    let trees = forest_of c.in_ok-forest.forest in
     let made = c.in_ok-parsed.ensures.ok in
-    record { trees = forest_of c.in_ok-forest.forest; statements = made.statements; reads = c.in_ok-forest.ensures.ok; shapes = made.shapes; spells = made.spells }
+    record { statements = made.statements; is_text = record { trees = trees; reads = c.in_ok-forest.ensures.ok; shapes = made.shapes }; spells = made.spells }

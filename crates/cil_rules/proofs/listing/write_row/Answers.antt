@@ -4,46 +4,49 @@ use Rattle.std.proofs.lemmas.Result.{on_ok_weaker, on_err_weaker}
 use Rattle.cil_stream.specs.Device.{Gains, GainsFront}
 use Rattle.cil_stream.proofs.Gaining.{on_err}
 use Rattle.cil_rules.specs.Atoms.{atom_at}
-use Rattle.cil_rules.specs.Rows.{row_head, permission_text}
-use Rattle.cil_rules.proofs.ListingLemmas.{line-is, front-in_first, front-in_second, front-in_third, gains-three}
+use Rattle.cil_rules.specs.Rows.{row_head, chunk_text}
+use Rattle.cil_rules.proofs.ListingLemmas.{permissions-within, row-line-is, front-in_first, front-in_second, front-in_third, gains-three}
 use Rattle.cil_rules.proofs.listing.write_row.Goals as goal
+
+pub write_permissions-requires-clause-within : goal.write_permissions-requires-clause-within
+write_permissions-requires-clause-within g c = permissions-within _ c.args.row.now.bit c.args.row.now.chunks.now c.requires.within
 
 pub returns-in_err-write_head-clause-err : goal.returns-in_err-write_head-clause-err
 returns-in_err-write_head-clause-err g c =
     let taken = g.W.Sink.taken in
-    let a = atom_at c.args.names.now c.args.first.now in
+    let a = atom_at c.args.names.now c.args.row.now.first in
     let head = row_head a.kind a.source a.target a.the_class in
-    let permissions = flat_map (permission_text c.args.names.now) c.args.atoms.now in
+    let permissions = flat_map (chunk_text c.args.names.now c.args.row.now.bit) c.args.row.now.chunks.now in
     on_err c.from_residual.result
-    (front-in_first (taken c.args.sink.now) (taken c.args.sink.now) (taken c.args.sink.now) (taken c.write_head.new.sink) head permissions (codes "};\n") _ (line-is c.args.names.now c.args.first.now c.args.atoms.now)
+    (front-in_first (taken c.args.sink.now) (taken c.args.sink.now) (taken c.args.sink.now) (taken c.write_head.new.sink) head permissions (codes "};\n") _ (row-line-is c.args.names.now c.args.row.now.first c.args.row.now.bit c.args.row.now.chunks.now)
     (subst (λ a. GainsFront (taken c.args.sink.now) (taken c.write_head.new.sink) (row_head a.kind a.source a.target a.the_class)) c.named-atom.ensures c.in_err-write_head.ensures.err))
 
 pub returns-in_err-write_permissions-clause-err : goal.returns-in_err-write_permissions-clause-err
 returns-in_err-write_permissions-clause-err g c =
     let taken = g.W.Sink.taken in
-    let a = atom_at c.args.names.now c.args.first.now in
+    let a = atom_at c.args.names.now c.args.row.now.first in
     let head = row_head a.kind a.source a.target a.the_class in
-    let permissions = flat_map (permission_text c.args.names.now) c.args.atoms.now in
+    let permissions = flat_map (chunk_text c.args.names.now c.args.row.now.bit) c.args.row.now.chunks.now in
     on_err c.from_residual-in_err-write_permissions.result
     (front-in_second (taken c.args.sink.now) (taken c.write_head.new.sink) (taken c.write_head.new.sink) (taken c.write_permissions.new.sink) head permissions (codes "};\n") _
-    (line-is c.args.names.now c.args.first.now c.args.atoms.now) (subst (λ a. Gains (taken c.args.sink.now) (taken c.write_head.new.sink) (row_head a.kind a.source a.target a.the_class)) c.named-atom.ensures c.in_ok-write_head.ensures.ok) c.in_err-write_permissions.ensures.err)
+    (row-line-is c.args.names.now c.args.row.now.first c.args.row.now.bit c.args.row.now.chunks.now) (subst (λ a. Gains (taken c.args.sink.now) (taken c.write_head.new.sink) (row_head a.kind a.source a.target a.the_class)) c.named-atom.ensures c.in_ok-write_head.ensures.ok) c.in_err-write_permissions.ensures.err)
 
 pub returns-clause-ok : goal.returns-clause-ok
 returns-clause-ok g c =
     let taken = g.W.Sink.taken in
-    let a = atom_at c.args.names.now c.args.first.now in
+    let a = atom_at c.args.names.now c.args.row.now.first in
     let head = row_head a.kind a.source a.target a.the_class in
-    let permissions = flat_map (permission_text c.args.names.now) c.args.atoms.now in
+    let permissions = flat_map (chunk_text c.args.names.now c.args.row.now.bit) c.args.row.now.chunks.now in
     on_ok_weaker c.write_all.result
     (gains-three (taken c.args.sink.now) (taken c.write_head.new.sink) (taken c.write_permissions.new.sink) (taken c.write_all.new.sink) head permissions (codes "};\n") _
-    (line-is c.args.names.now c.args.first.now c.args.atoms.now) (subst (λ a. Gains (taken c.args.sink.now) (taken c.write_head.new.sink) (row_head a.kind a.source a.target a.the_class)) c.named-atom.ensures c.in_ok-write_head.ensures.ok) c.in_ok-write_permissions.ensures.ok) c.write_all.ensures.ok
+    (row-line-is c.args.names.now c.args.row.now.first c.args.row.now.bit c.args.row.now.chunks.now) (subst (λ a. Gains (taken c.args.sink.now) (taken c.write_head.new.sink) (row_head a.kind a.source a.target a.the_class)) c.named-atom.ensures c.in_ok-write_head.ensures.ok) c.in_ok-write_permissions.ensures.ok) c.write_all.ensures.ok
 
 pub returns-clause-err : goal.returns-clause-err
 returns-clause-err g c =
     let taken = g.W.Sink.taken in
-    let a = atom_at c.args.names.now c.args.first.now in
+    let a = atom_at c.args.names.now c.args.row.now.first in
     let head = row_head a.kind a.source a.target a.the_class in
-    let permissions = flat_map (permission_text c.args.names.now) c.args.atoms.now in
+    let permissions = flat_map (chunk_text c.args.names.now c.args.row.now.bit) c.args.row.now.chunks.now in
     on_err_weaker c.write_all.result
     (front-in_third (taken c.args.sink.now) (taken c.write_head.new.sink) (taken c.write_permissions.new.sink) (taken c.write_all.new.sink) head permissions (codes "};\n") _
-    (line-is c.args.names.now c.args.first.now c.args.atoms.now) (subst (λ a. Gains (taken c.args.sink.now) (taken c.write_head.new.sink) (row_head a.kind a.source a.target a.the_class)) c.named-atom.ensures c.in_ok-write_head.ensures.ok) c.in_ok-write_permissions.ensures.ok) c.write_all.ensures.err
+    (row-line-is c.args.names.now c.args.row.now.first c.args.row.now.bit c.args.row.now.chunks.now) (subst (λ a. Gains (taken c.args.sink.now) (taken c.write_head.new.sink) (row_head a.kind a.source a.target a.the_class)) c.named-atom.ensures c.in_ok-write_head.ensures.ok) c.in_ok-write_permissions.ensures.ok) c.write_all.ensures.err

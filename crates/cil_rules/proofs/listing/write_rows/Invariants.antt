@@ -2,20 +2,21 @@ use Rattle.std.proofs.Common.{◌≡◌, ◌≤◌, ◌+◌, ◌++◌, ℕ, List
 use Rattle.std.specs.List.{All, flat_map}
 use Rattle.cil_specs.specs.Report.{row_line}
 use Rattle.cil_stream.specs.Device.{Gains}
-use Rattle.cil_rules.specs.Atoms.{atom_at, IsWithin}
+use Rattle.cil_accesses.specs.Renumbered.{IsWithin}
+use Rattle.cil_rules.specs.Atoms.{atom_at}
 use Rattle.cil_rules.specs.Rows.{rows_of}
 use Rattle.cil_rules.proofs.listing.write_rows.Given as goal
 
-abbrev pub invariant-loop-first : goal.invariant-loop-first
-invariant-loop-first g l = record {
+abbrev pub invariant-loop-row : goal.invariant-loop-row
+invariant-loop-row g l = record {
   counted : g.W.Sink.failures l.fn.sink ≤ g.W.Sink.failures l.sink;
-  within : All (IsWithin (length l.names)) l.rest;
-  bounded : l.count + length l.rest ≤ length l.atoms;
-  rows : l.count + length (rows_of (map (atom_at l.names) l.rest)) ≡ length (rows_of (map (atom_at l.names) l.atoms));
+  within : All (IsWithin (length l.names)) l.rows;
+  bounded : l.count + length l.rows ≤ length l.accesses;
+  rows : l.count + length (rows_of (map (atom_at l.names) l.rows)) ≡ length (rows_of (map (atom_at l.names) l.accesses));
   text : List ℕ;
-  whole : text ++ flat_map row_line (rows_of (map (atom_at l.names) l.rest)) ≡ flat_map row_line (rows_of (map (atom_at l.names) l.atoms));
+  whole : text ++ flat_map row_line (rows_of (map (atom_at l.names) l.rows)) ≡ flat_map row_line (rows_of (map (atom_at l.names) l.accesses));
   so_far : Gains (g.W.Sink.taken l.fn.sink) (g.W.Sink.taken l.sink) text;
 }
 
-abbrev pub decreases-loop-first : goal.decreases-loop-first
-decreases-loop-first g l = length l.rest
+abbrev pub decreases-loop-row : goal.decreases-loop-row
+decreases-loop-row g l = length l.rows

@@ -1,4 +1,4 @@
-use Rattle.std.proofs.Common.{◌≡◌, ℕ, List, length, ◌≤◌, ◌-◌, ◌+◌}
+use Rattle.std.proofs.Common.{◌≡◌, length, ◌-◌, ◌+◌}
 use Rattle.cil_rules.proofs.RankLemmas.{Merges}
 use Rattle.cil_rules.proofs.ranks.rank.Given as goal
 
@@ -6,8 +6,7 @@ abbrev pub invariant-loop-i : goal.invariant-loop-i
 invariant-loop-i g l = record {
   first : l.i ≡ length l.ranks.first.items;
   second : l.j ≡ length l.ranks.second.items;
-  place : l.place ≤ l.i + l.j;
-  merges : (names : List (List ℕ)) × (l.place ≡ length names) × Merges names l.ranks.first.items l.ranks.second.items l.first l.second;
+  merges : Merges l.ranks.names.items l.ranks.first.items l.ranks.second.items l.first l.second;
 }
 
 abbrev pub decreases-loop-i : goal.decreases-loop-i

@@ -1,35 +1,27 @@
-use Rattle.std.proofs.Common.{◌≡◌, ◌∙◌, ◌++◌, ◌∷◌, [], List, map, refl, ap, sym, subst}
+use Rattle.std.proofs.Common.{◌≡◌, ap, sym, subst}
 use Rattle.std.specs.List.Sorted.{IsStrictlySortedBy}
-use Rattle.cil_bind.specs.declared.joined.NamedModule.{NamedModule}
 use Rattle.cil_specs.specs.Report.{name_cmp}
-use Rattle.cil_specs.specs.Store.{put}
-use Rattle.cil_store.specs.Stored.{AreParsedOf, entry_for}
-use Rattle.cil_store.proofs.JoinLemmas.{parsed-around, names-around, distinct-from_sorted, permutation-one}
+use Rattle.cil_store_specs.specs.Next.{changed}
+use Rattle.cil_store_specs.specs.Store.{IsStore, active}
+use Rattle.cil_store_specs.proofs.ActiveLemmas.{active-ascend}
+use Rattle.cil_store_specs.proofs.StoreOrder.{changed-ordered}
+use Rattle.cil_store.specs.Admitted.{admitted_edit}
+use Rattle.cil_store.specs.Stored.{AreParsedOf}
+use Rattle.cil_store.proofs.JoinLemmas.{parsed-names, distinct-from_sorted, permutation-one}
 use Rattle.cil_store.proofs.join.join.Goals as goal
-
--- the modules after the three steps
-all-modules : {A : Type 0} (start first mid last found more : List (NamedModule A)) (m : NamedModule A) → start ≡ [] → first ≡ start ++ found → mid ≡ first ++ m ∷ [] → last ≡ mid ++ more → last ≡ (found ++ m ∷ []) ++ more
-all-modules start first mid last found more m none a push b = b ∙ ap (λ l. l ++ more) (push ∙ ap (λ l. l ++ m ∷ []) (a ∙ ap (λ l. l ++ found) none))
 
 pub join-requires : goal.join-requires
 join-requires g c =
-    let found = c.in_ok-push_modules.ensures in
-    let more = c.in_ok-push_modules-2.ensures in
-    let pushed = c.push_modules-2.new.modules.items in
-    let m : NamedModule _ = record { name = c.args.name; «module» = c.args.«module» } in
-    let all = all-modules c.new-modules.result.items c.push_modules.new.modules.items c.push.new.self.items pushed found.0 more.0 m c.new-modules.ensures.items found.1 c.in_ok-push.ensures.items more.1 in
-    let sorted = names-around c.split.result.0.now c.split.result.1.now found.0 more.0 m found.2 more.2 c.split.ensures.ordered in
-    distinct-from_sorted (λ m. m.name.now) pushed (subst (λ ms. IsStrictlySortedBy name_cmp (map (λ m. m.name.now) ms)) (sym all) sorted)
+    let edit = admitted_edit c.args.edit.now in
+    let after = changed c.args.store.now edit in
+    let ordered = subst IsStore c.store.view_is c.store.invariant in
+    let rise = subst (IsStrictlySortedBy name_cmp) (sym (parsed-names (active after) c.in_ok-modules.modules.items c.in_ok-modules.ensures)) (active-ascend after (changed-ordered c.args.store.now edit ordered).entries) in
+    distinct-from_sorted (λ m. m.name.now) c.in_ok-modules.modules.items rise
 
 pub returns : goal.returns
-returns g c text is =
-    let found = c.in_ok-push_modules.ensures in
-    let more = c.in_ok-push_modules-2.ensures in
-    let pushed = c.push_modules-2.new.modules.items in
-    let m : NamedModule _ = record { name = c.args.name; «module» = c.args.«module» } in
-    let all = all-modules c.new-modules.result.items c.push_modules.new.modules.items c.push.new.self.items pushed found.0 more.0 m c.new-modules.ensures.items found.1 c.in_ok-push.ensures.items more.1 in
-    let sorted = names-around c.split.result.0.now c.split.result.1.now found.0 more.0 m found.2 more.2 c.split.ensures.ordered in
-    let same = permutation-one (λ m. m.name.now) pushed c.join.result.modules.items (subst (λ ms. IsStrictlySortedBy name_cmp (map (λ m. m.name.now) ms)) (sym all) sorted) c.join.result.ordered c.join.ensures in
-    subst (AreParsedOf (put (entry_for c.args.name.now text) c.args.store.now.entries)) (sym (same ∙ all))
-    (subst (λ es. AreParsedOf es ((found.0 ++ m ∷ []) ++ more.0)) (c.split.ensures.whole text)
-    (parsed-around c.split.result.0.now c.split.result.1.now (entry_for c.args.name.now text) found.0 more.0 m found.2 more.2 refl is))
+returns g c =
+    let edit = admitted_edit c.args.edit.now in
+    let after = changed c.args.store.now edit in
+    let ordered = subst IsStore c.store.view_is c.store.invariant in
+    let rise = subst (IsStrictlySortedBy name_cmp) (sym (parsed-names (active after) c.in_ok-modules.modules.items c.in_ok-modules.ensures)) (active-ascend after (changed-ordered c.args.store.now edit ordered).entries) in
+    subst (AreParsedOf (active after)) (sym (permutation-one (λ m. m.name.now) c.in_ok-modules.modules.items c.join.result.modules.items rise c.join.result.ordered c.join.ensures)) c.in_ok-modules.ensures

@@ -1,5 +1,5 @@
-use Rattle.cil_specs.proofs.StoreOrder.{taken-ordered}
-use Rattle.cil_specs.proofs.OneStore.{judgement-same}
+use Rattle.cil_store_specs.proofs.StoreOrder.{taken-ordered}
+use Rattle.cil_store_specs.proofs.OneStore.{judgement-same}
 use Rattle.cil_store.proofs.laws.one_judgement.Goals as goal
 
 pub returns : goal.returns

@@ -1,4 +1,4 @@
-use Rattle.cil_specs.proofs.OneStore.{policy-refusal-same}
+use Rattle.cil_store_specs.proofs.OneStore.{policy-refusal-same}
 use Rattle.cil_store.proofs.laws.one_policy_refusal.Goals as goal
 
 pub returns : goal.returns

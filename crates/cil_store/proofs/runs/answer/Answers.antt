@@ -1,5 +1,5 @@
-use Rattle.std.proofs.Common.{refl, sym, subst}
-use Rattle.cil_specs.specs.Run.{changed_by, refused, listed, dropped_optionals, lists, tells_dropped, Step}
+use Rattle.std.proofs.Common.{ap, refl, sym, subst}
+use Rattle.cil_store_specs.specs.Run.{changed_by, refused, listed, printed, violated, dropped_optionals, lists, prints, tells_violations, tells_dropped, Step}
 use Rattle.cil_store.specs.Calls.{call_of}
 use Rattle.cil_store.specs.Edits.{refusal_of}
 use Rattle.cil_store.proofs.runs.answer.Goals as goal
@@ -20,3 +20,14 @@ pub returns-in-Ok-dropped : goal.returns-in-Ok-dropped
 returns-in-Ok-dropped g c =
     let store = g.C.Compiled.store c.args.engine.now in
     subst (λ call. Step store (call_of call) (dropped_optionals c.in-Ok-dropped.dropped) store) (sym c.in-Dropped.is) (tells_dropped c.in-Ok-dropped.dropped refl refl c.in-Ok-dropped.ensures refl)
+
+pub returns-in-Ok-listing : goal.returns-in-Ok-listing
+returns-in-Ok-listing g c =
+    let store = g.C.Compiled.store c.args.engine.now in
+    let made = c.in-Ok-listing.ensures in
+    subst (λ call. Step store (call_of call) (printed c.in-Ok-listing.text) store) (sym c.in-Listing.is) (prints made.0 refl (ap printed made.1) made.2 refl)
+
+pub returns-in-Ok-violations : goal.returns-in-Ok-violations
+returns-in-Ok-violations g c =
+    let store = g.C.Compiled.store c.args.engine.now in
+    subst (λ call. Step store (call_of call) (violated c.in-Ok-violations.violations) store) (sym c.in-Violations.is) (tells_violations c.in-Ok-violations.violations refl refl c.in-Ok-violations.ensures refl)

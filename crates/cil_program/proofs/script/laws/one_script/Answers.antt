@@ -1,4 +1,4 @@
-use Rattle.cil_program.proofs.ScriptLemmas.{one-script}
+use Rattle.cil_store_specs.proofs.OneScript.{one-script}
 use Rattle.cil_program.proofs.script.laws.one_script.Goals as goal
 
 pub returns : goal.returns

@@ -6,7 +6,7 @@ use Rattle.cil_program.specs.declared.script.input.LineEnd.TheVariants.{LastByte
 use Rattle.cil_program.specs.declared.script.session.Outcome.{Outcome}
 use Rattle.cil_program.specs.declared.script.session.Outcome.TheVariants.{NoCommand}
 use Rattle.cil_stream.specs.Device.{Gains, has_ended}
-use Rattle.cil_specs.specs.Script.{last_line, stops}
+use Rattle.cil_store_specs.specs.Script.{last_line, stops}
 use Rattle.cil_program.specs.declared.script.session.Status.TheVariants.{Script}
 use Rattle.cil_program.proofs.CommandLemmas.{empty-list}
 use Rattle.cil_program.proofs.InputLemmas.{ended-within}

@@ -1,5 +1,5 @@
 use Rattle.std.proofs.Common.{◌∙◌, refl, sym, true≢false}
-use Rattle.cil_specs.specs.Run.{ask_rows, ask_violations, ask_dropped}
+use Rattle.cil_store_specs.specs.Run.{ask_rows, ask_violations, ask_dropped}
 use Rattle.cil_program.specs.Session.{Moment, Standing}
 use Rattle.cil_program.proofs.SessionLemmas.{question-outcome}
 use Rattle.cil_program.proofs.script.session.answer_line.Goals as goal

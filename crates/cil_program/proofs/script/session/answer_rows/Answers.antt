@@ -1,25 +1,23 @@
-use Rattle.std.proofs.Common.{Err, ◌≡◌, ◌∙◌, ◌++◌, List, ℕ, Option, length, flat_map, refl, ap, subst}
+use Rattle.std.proofs.Common.{Err, ◌≡◌, ◌++◌, List, ℕ, Option, length, flat_map, refl, ap, subst}
 use Rattle.cil_stream.specs.Device.{Gains}
 use Rattle.cil_specs.specs.Report.{Row, row_line}
-use Rattle.cil_specs.specs.Next.{for_memory}
-use Rattle.cil_specs.specs.Run.{refused, listed, lists, out_of_memory}
-use Rattle.cil_specs.specs.Script.{answer, refusal_line}
+use Rattle.cil_store_specs.specs.Next.{for_memory}
+use Rattle.cil_store_specs.specs.Run.{ask_rows, refused, listed, lists, out_of_memory}
+use Rattle.cil_store_specs.specs.Script.{answer_of, by_engine, end_line, refusal_line, reply_text}
 use Rattle.cil_stream.proofs.Gaining.{gains-both}
-use Rattle.cil_program.specs.Replies.{end_line}
-use Rattle.cil_program.proofs.ReplyLemmas.{with-end}
 use Rattle.cil_program.proofs.script.session.answer_rows.Goals as goal
 
 -- the rows and then the last line are the answer
-listing : (old mid new : Option (List ℕ)) (rows : List Row) (n : ℕ) → n ≡ length rows → Gains old mid (flat_map row_line rows) → Gains mid new (end_line n) → Gains old new (answer (listed rows))
-listing old mid new rows n is a b = subst (Gains old new) (ap (λ k. flat_map row_line rows ++ end_line k) is ∙ with-end (flat_map row_line rows) (length rows)) (gains-both old mid new (flat_map row_line rows) (end_line n) a b)
+listing : (old mid new : Option (List ℕ)) (rows : List Row) (n : ℕ) → n ≡ length rows → Gains old mid (flat_map row_line rows) → Gains mid new (end_line n) → Gains old new (reply_text (listed rows))
+listing old mid new rows n is a b = subst (Gains old new) (ap (λ k. flat_map row_line rows ++ end_line k) is) (gains-both old mid new (flat_map row_line rows) (end_line n) a b)
 
 pub returns-in_ok-write_end-in-Ok-clause-ok : goal.returns-in_ok-write_end-in-Ok-clause-ok
 returns-in_ok-write_end-in-Ok-clause-ok g c =
     let taken = g.W.Sink.taken in
     let some = c.in-Ok.ensures.ok in
     record {
-      reply = listed some.0;
-      step = lists some.0 refl refl some.1 refl;
+      answer = answer_of (listed some.0);
+      answers = by_engine ask_rows (listed some.0) refl (lists some.0 refl refl some.1 refl) refl;
       written = listing (taken c.args.sink.now) (taken c.write_listing.new.sink) (taken c.write_end.new.sink) some.0 c.in-Ok.rows some.2 some.3 c.in_ok-write_end-in-Ok.ensures.ok;
       is = refl;
     }
@@ -29,8 +27,8 @@ returns-in_ok-write_no_memory-in-Err-Memory-clause-ok g c =
     let taken = g.W.Sink.taken in
     let same : taken c.write_listing.new.sink ≡ taken c.args.sink.now = c.in-Err-Memory.ensures.memory (ap Err c.in-Err-Memory.field-0-is) in
     record {
-      reply = refused for_memory;
-      step = out_of_memory refl refl;
+      answer = answer_of (refused for_memory);
+      answers = by_engine ask_rows (refused for_memory) refl (out_of_memory refl refl) refl;
       written = subst (λ t. Gains t (taken c.write_no_memory.new.sink) (refusal_line for_memory)) same c.in_ok-write_no_memory-in-Err-Memory.ensures.ok;
       is = refl;
     }

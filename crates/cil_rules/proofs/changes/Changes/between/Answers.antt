@@ -1,46 +1,59 @@
-use Rattle.cil_rules.proofs.ChangesLemmas.{ranked-within, filtered-are, old-are, new-are, changes-are}
+use Rattle.std.proofs.Common.{◌∙◌, map, sym, subst}
+use Rattle.std.proofs.lemmas.Result.{IfOk-weaker}
+use Rattle.cil_specs.specs.Report.{AreAtoms}
+use Rattle.cil_rules.specs.Atoms.{atom_at}
+use Rattle.cil_rules.proofs.ChangesLemmas.{places-rise, ranked-within, renumbered-are, same-renumbered}
 use Rattle.cil_rules.proofs.changes.Changes.between.Goals as goal
 
-pub rank-requires-clause-first_ordered : goal.rank-requires-clause-first_ordered
-rank-requires-clause-first_ordered g c = rw c.as_slice.ensures c.old.invariant.names_ordered
+pub by-requires-clause-old : goal.by-requires-clause-old
+by-requires-clause-old g c = rw (c.in_ok-shared.ensures, c.is_same.ensures.0 c.if-is_same.true) c.old.invariant
 
-pub rank-requires-clause-second_ordered : goal.rank-requires-clause-second_ordered
-rank-requires-clause-second_ordered g c = rw c.as_slice-2.ensures c.new.invariant.names_ordered
+pub returns-then-is_same : goal.returns-then-is_same
+returns-then-is_same g c =
+    let olds = (λ i. map (atom_at ((c.in_ok-shared.ensures ∙ c.is_same.ensures.0 c.if-is_same.true) i)) c.old.inside.accesses) ∙ c.old.view_is in
+    let news = (λ i. map (atom_at (c.in_ok-shared.ensures i)) c.new.inside.accesses) ∙ c.new.view_is in
+    IfOk-weaker c.by.result _ _ (λ changes are p q p_are q_are. are p q (subst (AreAtoms p) (sym olds) p_are) (subst (AreAtoms q) (sym news) q_are)) c.by.ensures
 
-pub compare-requires-clause-old_ordered : goal.compare-requires-clause-old_ordered
-compare-requires-clause-old_ordered g c =
-    let (names, merged) = rw (c.as_slice.ensures, c.as_slice-2.ensures) at c.in_ok-ranks.ensures in
-    let firsts = c.in_ok-ranks.ranks.first.items in
-    let seconds = c.in_ok-ranks.ranks.second.items in
-    rw (c.deref.ensures.value, c.deref-2.ensures.value) (record {
-      within = ranked-within names c.old.inside.names firsts merged.first_places c.old.inside.atoms.items c.old.invariant;
-      ordered = (old-are names c.old.inside.names c.new.inside.names firsts seconds c.old.inside.atoms.items c.new.inside.atoms.items merged c.old.invariant c.new.invariant).ordered;
-    })
+pub renumbered-requires-clause-within : goal.renumbered-requires-clause-within
+renumbered-requires-clause-within g c =
+    let merged = rw (c.as_slice.ensures, c.as_slice-2.ensures) at c.in_ok-ranks.ensures in
+    rw c.deref.ensures.value (ranked-within c.in_ok-ranks.ranks.names.items c.old.inside.names c.in_ok-ranks.ranks.first.items merged.first_places c.old.inside.accesses c.old.invariant)
 
-pub compare-requires-clause-new_ordered : goal.compare-requires-clause-new_ordered
-compare-requires-clause-new_ordered g c =
-    let (names, merged) = rw (c.as_slice.ensures, c.as_slice-2.ensures) at c.in_ok-ranks.ensures in
-    let firsts = c.in_ok-ranks.ranks.first.items in
-    let seconds = c.in_ok-ranks.ranks.second.items in
-    rw (c.deref-3.ensures.value, c.deref-4.ensures.value) (record {
-      within = ranked-within names c.new.inside.names seconds merged.second_places c.new.inside.atoms.items c.new.invariant;
-      ordered = (new-are names c.old.inside.names c.new.inside.names firsts seconds c.old.inside.atoms.items c.new.inside.atoms.items merged c.old.invariant c.new.invariant).ordered;
-    })
+pub renumbered-requires-clause-rising : goal.renumbered-requires-clause-rising
+renumbered-requires-clause-rising g c =
+    let merged = rw (c.as_slice.ensures, c.as_slice-2.ensures) at c.in_ok-ranks.ensures in
+    rw c.deref.ensures.value (places-rise c.in_ok-ranks.ranks.names.items c.old.inside.names c.in_ok-ranks.ranks.first.items merged.first_places merged.ordered c.old.invariant.names_ordered)
 
-pub invariant_of-result : goal.invariant_of-result
-invariant_of-result g c =
-    let added = rw (c.deref.ensures.value, c.deref-2.ensures.value, c.deref-3.ensures.value, c.deref-4.ensures.value) at c.in_ok-difference.ensures.added in
-    let removed = rw (c.deref.ensures.value, c.deref-2.ensures.value, c.deref-3.ensures.value, c.deref-4.ensures.value) at c.in_ok-difference.ensures.removed in (
-      rw (c.in_ok-shared-2.ensures, added) (filtered-are c.new.inside.names _ c.new.inside.atoms.items c.new.invariant),
-      rw (c.in_ok-shared.ensures, removed) (filtered-are c.old.inside.names _ c.old.inside.atoms.items c.old.invariant),
-    )
+pub renumbered-requires-2-clause-within : goal.renumbered-requires-2-clause-within
+renumbered-requires-2-clause-within g c =
+    let merged = rw (c.as_slice.ensures, c.as_slice-2.ensures) at c.in_ok-ranks.ensures in
+    rw c.deref-2.ensures.value (ranked-within c.in_ok-ranks.ranks.names.items c.new.inside.names c.in_ok-ranks.ranks.second.items merged.second_places c.new.inside.accesses c.new.invariant)
+
+pub renumbered-requires-2-clause-rising : goal.renumbered-requires-2-clause-rising
+renumbered-requires-2-clause-rising g c =
+    let merged = rw (c.as_slice.ensures, c.as_slice-2.ensures) at c.in_ok-ranks.ensures in
+    rw c.deref-2.ensures.value (places-rise c.in_ok-ranks.ranks.names.items c.new.inside.names c.in_ok-ranks.ranks.second.items merged.second_places merged.ordered c.new.invariant.names_ordered)
+
+pub by-requires-2-clause-old : goal.by-requires-2-clause-old
+by-requires-2-clause-old g c =
+    let merged = rw (c.as_slice.ensures, c.as_slice-2.ensures) at c.in_ok-ranks.ensures in
+    let e = rw c.deref.ensures.value at c.in_ok-old_accesses.ensures in
+    rw (c.in_ok-of.ensures, e) (renumbered-are c.in_ok-ranks.ranks.names.items c.old.inside.names c.in_ok-ranks.ranks.first.items merged.first_places c.old.inside.accesses merged.ordered c.old.invariant)
+
+pub by-requires-2-clause-new : goal.by-requires-2-clause-new
+by-requires-2-clause-new g c =
+    let merged = rw (c.as_slice.ensures, c.as_slice-2.ensures) at c.in_ok-ranks.ensures in
+    let e = rw c.deref-2.ensures.value at c.in_ok-new_accesses.ensures in
+    rw (c.in_ok-of.ensures, e) (renumbered-are c.in_ok-ranks.ranks.names.items c.new.inside.names c.in_ok-ranks.ranks.second.items merged.second_places c.new.inside.accesses merged.ordered c.new.invariant)
 
 pub returns : goal.returns
 returns g c =
-    let (names, merged) = rw (c.as_slice.ensures, c.as_slice-2.ensures) at c.in_ok-ranks.ensures in
-    let added = rw (c.deref.ensures.value, c.deref-2.ensures.value, c.deref-3.ensures.value, c.deref-4.ensures.value) at c.in_ok-difference.ensures.added in
-    let removed = rw (c.deref.ensures.value, c.deref-2.ensures.value, c.deref-3.ensures.value, c.deref-4.ensures.value) at c.in_ok-difference.ensures.removed in
-    λ p q old_are new_are.
-    rw (c.in_ok-shared.ensures, c.in_ok-shared-2.ensures)
-    (changes-are names c.old.inside.names c.new.inside.names c.in_ok-ranks.ranks.first.items c.in_ok-ranks.ranks.second.items c.old.inside.atoms.items c.new.inside.atoms.items merged c.old.invariant c.new.invariant
-    c.in_ok-difference.difference.added.items c.in_ok-difference.difference.removed.items added removed p q (rw (← c.old.view_is) at old_are) (rw (← c.new.view_is) at new_are))
+    let merged = rw (c.as_slice.ensures, c.as_slice-2.ensures) at c.in_ok-ranks.ensures in
+    let names = c.in_ok-ranks.ranks.names.items in
+    let o = rw c.deref.ensures.value at c.in_ok-old_accesses.ensures in
+    let n = rw c.deref-2.ensures.value at c.in_ok-new_accesses.ensures in
+    let olds =
+    (λ i. map (atom_at (c.in_ok-of.ensures i)) (o i)) ∙ same-renumbered names c.old.inside.names c.in_ok-ranks.ranks.first.items merged.first_places c.old.inside.accesses c.old.invariant ∙ c.old.view_is in
+    let news =
+    (λ i. map (atom_at (c.in_ok-of.ensures i)) (n i)) ∙ same-renumbered names c.new.inside.names c.in_ok-ranks.ranks.second.items merged.second_places c.new.inside.accesses c.new.invariant ∙ c.new.view_is in
+    IfOk-weaker c.by-2.result _ _ (λ changes are p q p_are q_are. are p q (subst (AreAtoms p) (sym olds) p_are) (subst (AreAtoms q) (sym news) q_are)) c.by-2.ensures

@@ -8,7 +8,7 @@ use Rattle.cil_rules.proofs.table.Table.rows.Goals as goal
 
 pub returns : goal.returns
 returns g c =
-    let written = map (atom_at c.in_ok-shared.field-0) c.deref.result.now in
-    let is = (λ i. map (atom_at (c.in_ok-shared.ensures i)) (c.deref.ensures.value i)) ∙ c.self.view_is in
+    let written = map (atom_at c.in_ok-shared.field-0) c.self.inside.accesses in
+    let is = (λ i. map (atom_at (c.in_ok-shared.ensures i)) c.self.inside.accesses) ∙ c.self.view_is in
     IfOk-weaker c.of.result (λ rows. rows ≡ rows_of written) _
     (λ rows e p are. subst (AreRows p) (sym e) (are-rows p written (subst (AreAtoms p) (sym is) are))) c.of.ensures

@@ -1,0 +1,2 @@
+pub mod Dirty
+pub mod Work

@@ -1,9 +1,0 @@
-pub mod AtomLemmas
-pub mod ChangesLemmas
-pub mod CollectLemmas
-pub mod GroupLemmas
-pub mod ListingLemmas
-pub mod NumberedRowLemmas
-pub mod RankLemmas
-pub mod RowLemmas
-pub mod TableLemmas

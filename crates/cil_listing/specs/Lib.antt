@@ -1,6 +1,0 @@
-pub mod Atoms
-pub mod Collected
-pub mod NameList
-pub mod NumberedRows
-pub mod Ranks
-pub mod Rows

@@ -1,0 +1,65 @@
+-- The steps of edits that are refused, and what a store means.
+use Rattle.std.proofs.Common.{◌≡◌, inl, inr, ℕ, List, Some, None, Result, Ok, Err, IfErr, refl, ap, sym, ◌∙◌}
+use Rattle.cil_specs.specs.Joined.{Module, joined}
+use Rattle.cil_specs.specs.Meaning.{Means, Meaning}
+use Rattle.cil_specs.specs.Kept.{Optionals, IsFirstFault}
+use Rattle.cil_specs.specs.ModuleText.{IsTextFault}
+use Rattle.cil_store_specs.specs.Store.{Store, active}
+use Rattle.cil_store_specs.specs.Next.{AreModules, IsMeaningOf, Edit, install, Refusal, HasGoodText, changed, store_refusal, by_itself, by_its_text, not_taken, bad_policy}
+use Rattle.cil_store_specs.specs.Run.{an_edit, refused, rejected, out_of_memory, Step}
+use Rattle.cil_text.specs.Image.{FaultIs, kind_of, place_of, shown}
+use Rattle.cil_text.specs.declared.fault.TextFault.{TextFault}
+use Rattle.cil_text.specs.declared.fault.TextFault.TheVariants as texts
+use Rattle.cil_check.specs.Image.{PolicyFaultIs}
+use Rattle.cil_check.specs.declared.fault.PolicyFault.{PolicyFault}
+use Rattle.cil_check.specs.declared.fault.PolicyFault.TheVariants.{Memory, Found}
+use Rattle.cil_store.specs.Admitted.{admitted_edit, IsAdmitted}
+use Rattle.cil_store.specs.Refusing.{IsRefusalOf, IsRefusalOfText, IsRefusalOfPolicy, IsRefusedText, IsRefusedPolicy}
+use Rattle.cil_store.specs.Edits.{refusal_of}
+use Rattle.cil_store.specs.declared.refusal.Refusal as code
+use Rattle.cil_store.specs.declared.admitted.Admitted.{Admitted}
+use Rattle.cil_store.specs.declared.admitted.Admitted.TheVariants.{Install, Remove, Enable, Disable}
+
+-- the text of an admitted edit, if it brings one, spells a module
+pub admitted-text : {A : Type 0} (edit : Admitted A) → IsAdmitted edit → HasGoodText (admitted_edit edit)
+admitted-text (Install entry parsed) is = (is.statements, is.is_text)
+admitted-text (Remove name priority) is = tt
+admitted-text (Enable name) is = tt
+admitted-text (Disable name) is = tt
+
+pub policy-refused : (fault : PolicyFault) (refusal : Refusal) (store : Store) (edit : Edit) (modules : List Module) → AreModules (active (changed store edit)) modules → PolicyFaultIs fault (IsFirstFault (joined modules))
+    → IsRefusalOfPolicy fault refusal → IsRefusedPolicy store edit refusal
+policy-refused Memory refusal store edit modules are first is = inl is
+policy-refused (Found kind module_name at word) refusal store edit modules are first (inl is) = inl is
+policy-refused (Found kind module_name at word) refusal store edit modules are first (inr is) = inr (joined modules, _, (modules, are, refl), first, is)
+
+-- what a store means, by the policy that the modules of its active entries resolve to
+pub store-meaning : (store : Store) (modules : List Module) (meaning : Meaning) → AreModules (active store) modules → (kept : Optionals) × Means (joined modules) kept meaning → IsMeaningOf store meaning
+store-meaning store modules meaning are means = record { policy = joined modules; kept = means.0; is_policy = (modules, are, refl); means = means.1 }
+
+-- an edit that the store refuses
+pub store-step : (store : Store) (edit : Edit) (refusal meant : Refusal) → store_refusal store edit ≡ Some meant → IsRefusalOf refusal meant → Step store (an_edit edit) (refused refusal) store
+store-step store edit refusal meant is (inl memory) = out_of_memory (ap refused memory) refl
+store-step store edit refusal meant is (inr same) = rejected edit refusal refl refl (not_taken refusal (by_itself (is ∙ ap Some (sym same))) refl) refl
+
+-- a refusal for the fault of a text
+pub text-refused : (name text : List ℕ) (priority : ℕ) (fault : TextFault) (refusal : Refusal) → FaultIs fault (IsTextFault text) → IsRefusalOfText fault name refusal → IsRefusedText (install name priority text) refusal
+text-refused name text priority texts.Memory refusal bad is = inl is
+text-refused name text priority (texts.Found kind at word) refusal bad (inl is) = inl is
+text-refused name text priority (texts.Found kind at word) refusal bad (inr is) = inr (record { kind = kind_of kind; at = place_of at; word = shown word }, bad, is)
+
+-- an edit that is refused for its text
+pub text-step : (store : Store) (edit : Edit) (refusal : Refusal) → store_refusal store edit ≡ None → IsRefusedText edit refusal → Step store (an_edit edit) (refused refusal) store
+text-step store edit refusal taken (inl is) = out_of_memory (ap refused is) refl
+text-step store edit refusal taken (inr is) = rejected edit refusal refl refl (not_taken refusal (by_its_text taken is) refl) refl
+
+pub text-steps : {A T : Type 0} (r : Result T (code.Refusal A)) (store : Store) (edit : Edit) → store_refusal store edit ≡ None → IfErr r (λ refusal. IsRefusedText edit (refusal_of refusal))
+    → IfErr r (λ refusal. Step store (an_edit edit) (refused (refusal_of refusal)) store)
+text-steps (Ok x) store edit taken is = tt
+text-steps (Err refusal) store edit taken is = text-step store edit (refusal_of refusal) taken is
+
+-- an edit that is refused for the policy
+pub policy-step : (store : Store) (edit : Edit) (refusal : Refusal) → store_refusal store edit ≡ None → HasGoodText edit → IsRefusedPolicy store edit refusal → Step store (an_edit edit) (refused refusal) store
+policy-step store edit refusal taken good_text (inl memory) = out_of_memory (ap refused memory) refl
+policy-step store edit refusal taken good_text (inr policy) =
+    rejected edit refusal refl refl (bad_policy (changed store edit) refusal (record { not_refused = taken; good_text = good_text; is = refl }) policy refl) refl

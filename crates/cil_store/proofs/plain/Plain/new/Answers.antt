@@ -1,7 +1,0 @@
-use Rattle.std.proofs.Common.{None, refl, subst, sym}
-use Rattle.cil_store.specs.Plain.{IsKept}
-use Rattle.cil_store.proofs.PlainLemmas.{kept-empty}
-use Rattle.cil_store.proofs.plain.Plain.new.Goals as goal
-
-pub invariant_of-result : goal.invariant_of-result
-invariant_of-result g c = subst (λ s. IsKept s None c.empty.result c.empty-2.result) (sym c.new.ensures) (kept-empty None c.empty.result c.empty-2.result refl c.empty.ensures c.empty-2.ensures)

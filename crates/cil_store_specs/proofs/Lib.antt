@@ -1,0 +1,10 @@
+pub mod PolicyOf
+pub mod OneFault
+pub mod OneStore
+pub mod StoreOrder
+pub mod RunLemmas
+pub mod PutLemmas
+pub mod ActiveLemmas
+pub mod WordLemmas
+pub mod LineLemmas
+pub mod OneScript

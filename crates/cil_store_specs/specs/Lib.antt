@@ -1,0 +1,6 @@
+pub mod Store
+pub mod Next
+pub mod Run
+pub mod StoreReport
+pub mod Script
+pub mod Session

@@ -1,0 +1,64 @@
+-- Calls of an engine that is seen as its store, and their replies.
+use Rattle.std.specs.Prelude.{◌≡◌, ℕ, List, [], ◌∷◌, flat_map}
+use Rattle.cil_specs.specs.Rule.{Declared}
+use Rattle.cil_specs.specs.Meaning.{Meaning, is_in_table}
+use Rattle.cil_specs.specs.Report.{Changes, AreChanges, Row, AreRows, row_line}
+use Rattle.cil_specs.specs.Violations.{Violation, AreViolations}
+use Rattle.cil_store_specs.specs.Store.{Store}
+use Rattle.cil_store_specs.specs.Next.{Edit, Refusal, for_memory, accepts, refuses, Next, IsMeaningOf}
+
+-- an edit, or the question for the rows of the listing, for its bytes, for the violations or for the optionals that drop
+pub data Call : Type 0 where
+  an_edit : Edit → Call
+  ask_rows : Call
+  ask_listing : Call
+  ask_violations : Call
+  ask_dropped : Call
+
+pub data Reply : Type 0 where
+  changed_by : Changes → Reply
+  refused : Refusal → Reply
+  listed : List Row → Reply
+  printed : List ℕ → Reply
+  violated : List Violation → Reply
+  dropped_optionals : List Declared → Reply
+
+-- The accepted edit moves to the next store, and the reply is the difference of the two tables.
+pub record IsAccepted (old : Store) (edit : Edit) (changes : Changes) (new : Store) : Type 0 where
+  pub next : Next old edit (accepts new)
+  pub before : Meaning
+  pub after : Meaning
+  pub meant : IsMeaningOf old before
+  pub means : IsMeaningOf new after
+  pub are_changes : AreChanges (is_in_table before) (is_in_table after) changes
+
+-- the rows list the accesses that a store allows
+abbrev pub AreRowsOf : Store → List Row → Type 0
+AreRowsOf store rows = (meaning : Meaning) × IsMeaningOf store meaning × AreRows (is_in_table meaning) rows
+
+-- the violations of a store
+abbrev pub AreViolationsOf : Store → List Violation → Type 0
+AreViolationsOf store violations = (meaning : Meaning) × IsMeaningOf store meaning × AreViolations meaning violations
+
+-- the optionals of a store that drop
+abbrev pub AreDroppedOf : Store → List Declared → Type 0
+AreDroppedOf store dropped = (meaning : Meaning) × IsMeaningOf store meaning × (dropped ≡ meaning.dropped)
+
+-- The reply to a call, and the store after it: an edit is accepted or refused; the rows of the table are listed, or their lines
+-- printed; the violations are told, or the optionals that drop; or memory runs out, at any call. All but an accepted edit keep the
+-- store.
+pub data Step (old : Store) (call : Call) (reply : Reply) (new : Store) : Type 0 where
+  accepted : (edit : Edit) (changes : Changes) → call ≡ an_edit edit → reply ≡ changed_by changes → IsAccepted old edit changes new → Step old call reply new
+  rejected : (edit : Edit) (refusal : Refusal) → call ≡ an_edit edit → reply ≡ refused refusal → Next old edit (refuses refusal) → new ≡ old → Step old call reply new
+  lists : (rows : List Row) → call ≡ ask_rows → reply ≡ listed rows → AreRowsOf old rows → new ≡ old → Step old call reply new
+  prints : (rows : List Row) → call ≡ ask_listing → reply ≡ printed (flat_map row_line rows) → AreRowsOf old rows → new ≡ old → Step old call reply new
+  tells_violations : (violations : List Violation) → call ≡ ask_violations → reply ≡ violated violations → AreViolationsOf old violations → new ≡ old → Step old call reply new
+  tells_dropped : (dropped : List Declared) → call ≡ ask_dropped → reply ≡ dropped_optionals dropped → AreDroppedOf old dropped → new ≡ old → Step old call reply new
+  out_of_memory : reply ≡ refused for_memory → new ≡ old → Step old call reply new
+
+-- the replies to the calls, one step after another
+abbrev pub Run : Store → List Call → List Reply → Store → Type 0
+Run old [] [] new = new ≡ old
+Run old (call ∷ calls) (reply ∷ replies) new = (mid : Store) × Step old call reply mid × Run mid calls replies new
+Run old [] (reply ∷ replies) new = ⊥
+Run old (call ∷ calls) [] new = ⊥

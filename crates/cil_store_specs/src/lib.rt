@@ -1,0 +1,2 @@
+//! The definitions of the store, its edits, scripts and sessions, over those of the language.
+#![tactic(auto)]
