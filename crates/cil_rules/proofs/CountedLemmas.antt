@@ -1,7 +1,6 @@
 -- How often an access is counted, by its names.
-use Rattle.std.proofs.Common.{◌≡◌, ℕ, ◌<◌, ◌≤◌, ◌-◌, ◌^◌, Bool, true, false, List, [], Some, length, map, min, bytes_eq, nat_lt, slice_get, refl, sym, ap, ◌∙◌, subst, true≢false, arith}
+use Rattle.std.proofs.Common.{◌≡◌, ℕ, zero, suc, ◌<◌, ◌-◌, ◌^◌, true, false, List, [], Some, length, min, bytes_eq, slice_get, refl, sym, ap, ◌∙◌, true≢false, arith}
 use Rattle.std.proofs.lemmas.Bool.{lt-ltb}
-use Rattle.std.proofs.lemmas.List.{length-map}
 use Rattle.std.proofs.lemmas.List.Folds.{list_any_at}
 use Rattle.std.proofs.lemmas.List.Sums.{count_by-le-length}
 use Rattle.std.proofs.lemmas.Option.{slice_get_within, get_or_from_slice_get}
@@ -9,7 +8,7 @@ use Rattle.std.proofs.lemmas.Slice.Eq.{bytes_eq-Decides}
 use Rattle.std.proofs.Math.Nat.{min-eq_left}
 use Rattle.cil_specs.specs.Lookup.{has_name}
 use Rattle.cil_specs.specs.Rule as spec
-use Rattle.cil_specs.specs.Meaning.{count_of, gives, is_in_table}
+use Rattle.cil_specs.specs.Meaning.{count_of, gives}
 use Rattle.cil_text.specs.Image.{rule_kind_of}
 use Rattle.cil_text.specs.declared.statement.RuleKind.{RuleKind}
 use Rattle.cil_resolve.specs.Resolved.{meaning_in}
@@ -30,22 +29,22 @@ none-of : {A : Type 0} (r : Resolved A) (a : spec.Atom) (name : List ℕ) → (I
 none-of r a name named none = by (count_of (meaning_in r) a) refl
   where
     by : (n : ℕ) → count_of (meaning_in r) a ≡ n → count_of (meaning_in r) a ≡ 0
-    by 0 is = is
+    by zero is = is
     by (suc n) is =
         absurd (true≢false (sym (there r.names.items name (named (table-numbered r a (lt-ltb 0 (count_of (meaning_in r) a) (omega (arith, is)))))) ∙ none))
 
 module _ {A : Type 0} (r : Resolved A) (a : spec.Atom) where
   pub none-of_class : has_name r.names.items a.the_class ≡ false → count_of (meaning_in r) a ≡ 0
-  none-of_class = none-of r a a.the_class (λ (n, within, same). (n.class, within.the_class, ap (λ b. b.the_class) same))
+  none-of_class = none-of r a a.the_class (λ k. (k.0.class, k.1.the_class, ap (λ b. b.the_class) k.2))
 
   pub none-of_permission : has_name r.names.items a.permission ≡ false → count_of (meaning_in r) a ≡ 0
-  none-of_permission = none-of r a a.permission (λ (n, within, same). (n.permission, within.permission, ap (λ b. b.permission) same))
+  none-of_permission = none-of r a a.permission (λ k. (k.0.permission, k.1.permission, ap (λ b. b.permission) k.2))
 
   pub none-of_source : has_name r.names.items a.source ≡ false → count_of (meaning_in r) a ≡ 0
-  none-of_source = none-of r a a.source (λ (n, within, same). (n.source, within.source, ap (λ b. b.source) same))
+  none-of_source = none-of r a a.source (λ k. (k.0.source, k.1.source, ap (λ b. b.source) k.2))
 
   pub none-of_target : has_name r.names.items a.target ≡ false → count_of (meaning_in r) a ≡ 0
-  none-of_target = none-of r a a.target (λ (n, within, same). (n.target, within.target, ap (λ b. b.target) same))
+  none-of_target = none-of r a a.target (λ k. (k.0.target, k.1.target, ap (λ b. b.target) k.2))
 
 -- by the numbers of its names it is counted as often as rules give it
 pub count-at : {A B : Type 0} (r : Resolved A) (stored : Tables B) (kind : RuleKind) (a : spec.Atom) (key : LineKey) (t : ℕ) → AreTables r stored → rule_kind_of kind ≡ a.kind → IsKeyOf r.names.items a key
