@@ -1,5 +1,4 @@
-use Rattle.std.proofs.Common.{◌<◌, ◌^◌, refl, sym, ◌∙◌, arith}
-use Rattle.cil_resolve.specs.Resolved.{meaning_in}
+use Rattle.std.proofs.Common.{refl, sym, ◌∙◌, arith}
 use Rattle.cil_rules.specs.Atoms.{atom_of}
 use Rattle.cil_rules.proofs.CountedLemmas.{count-at, none-of_target}
 use Rattle.cil_rules.proofs.counted.count.Goals as goal
