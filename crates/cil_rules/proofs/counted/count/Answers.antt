@@ -3,9 +3,6 @@ use Rattle.cil_rules.specs.Atoms.{atom_of}
 use Rattle.cil_rules.proofs.CountedLemmas.{count-at, none-of_target}
 use Rattle.cil_rules.proofs.counted.count.Goals as goal
 
-pub returns-in_default : goal.returns-in_default
-returns-in_default g c = sym c.in_default.ensures.none
-
 pub returns-in_default-number : goal.returns-in_default-number
 returns-in_default-number g c = sym (none-of_target c.args.resolved.now (atom_of c.args.access.now) c.in_default-number.ensures.none)
 
