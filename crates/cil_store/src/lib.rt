@@ -12,6 +12,8 @@ mod entry;
 mod join;
 mod laws;
 mod modules;
+mod plain;
+mod policy;
 mod refusal;
 mod refusing;
 mod runs;
@@ -26,5 +28,6 @@ pub use laws::{
     policies_are_apart, stores_are_in_order,
 };
 pub use modules::{State, Store};
+pub use plain::Plain;
 pub use refusal::{FaultKind, Refusal, StoreFault};
 pub use runs::run;

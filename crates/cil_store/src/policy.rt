@@ -63,7 +63,7 @@ impl<A: Allocator + Copy> Policy<A> {
     pub fn table(&self, alloc: A) -> Result<Table<A>, AllocError>
         ensures { IfOk result (λ table. AreAtoms (is_in_table (policy_meaning self.now)) table) }
     {
-        Table::of(alloc, &self.resolved, &self.members)
+        Table::of(alloc, &self.resolved, &self.counters)
     }
 
     /// The optionals that drop.
