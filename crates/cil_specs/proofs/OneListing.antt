@@ -1,6 +1,5 @@
 -- A table has one list of accesses and one of rows, and there is one list of changes from it to another.
-use Rattle.std.proofs.Common.{◌≡◌, ◌≢◌, ◌⊎◌, inl, inr, ℕ, Bool, not, ◌&&◌, List, [], ◌∷◌, Contains, refl, sym, ap, ◌∙◌, subst}
-use Rattle.std.specs.Bool.{IsTrue}
+use Rattle.std.proofs.Common.{◌≡◌, ◌≢◌, inl, inr, ℕ, Bool, not, ◌&&◌, List, [], ◌∷◌, Contains, refl, sym, ap, ◌∙◌, subst}
 use Rattle.std.specs.List.{AllByRecursion}
 use Rattle.std.specs.List.Sorted.{IsStrictlySortedBy}
 use Rattle.std.specs.Cmp.{IsTotalOrder}

@@ -1,10 +1,10 @@
 -- Runs of the same calls agree where memory doesn't run out.
-use Rattle.std.proofs.Common.{◌≡◌, Bool, true, false, List, [], ◌∷◌, flat_map, refl, sym, ap, ◌∙◌, subst, true≢false}
+use Rattle.std.proofs.Common.{◌≡◌, List, [], ◌∷◌, flat_map, refl, sym, ap, ◌∙◌, subst, true≢false}
 use Rattle.std.specs.Bool.{IsTrue}
 use Rattle.std.specs.List.{list_all}
 use Rattle.std.proofs.lemmas.Bool.{and_parts}
 use Rattle.cil_specs.specs.Rule.{Declared}
-use Rattle.cil_specs.specs.Meaning.{Meaning, is_in_table}
+use Rattle.cil_specs.specs.Meaning.{is_in_table}
 use Rattle.cil_specs.specs.Report.{Changes, AreChanges, Row, AreRows, row_line}
 use Rattle.cil_specs.specs.Violations.{Violation, AreViolations}
 use Rattle.cil_specs.proofs.ViolationLemmas.{one-violations}
