@@ -7,10 +7,10 @@ ghost use Rattle.cil_specs.specs.Meaning.{count_of, is_in_table, meaning_of};
 ghost use Rattle.cil_specs.specs.Members.{is_member};
 ghost use Rattle.cil_specs.specs.Report.{AreAtoms};
 ghost use Rattle.cil_specs.specs.Violations.{Violation, AreViolations, violations_text};
+ghost use Rattle.cil_resolve.specs.Resolved.{meaning_in};
 ghost use Rattle.cil_rules.specs.Atoms.{atom_of};
 ghost use Rattle.cil_sets.specs.Members.{AreMembers};
 ghost use Rattle.cil_tables.specs.Tables.{AreTables};
-ghost use Rattle.cil_store.specs.Policy.{policy_meaning};
 
 use crate::compiled::WriteFault;
 use crate::dropped::Dropped;
@@ -50,7 +50,7 @@ impl<A: Allocator + Copy> Policy<A> {
 
     /// The policy of no statement.
     pub fn empty(alloc: A) -> Result<Self, AllocError>
-        ensures { IfOk result (λ policy. policy_meaning policy ≡ meaning_of [] []) }
+        ensures { IfOk result (λ policy. meaning_in (rc_value policy.resolved) ≡ meaning_of [] []) }
     {
         let joined = join(Vec::new(alloc));
         match resolve(alloc, &joined) {
@@ -61,30 +61,30 @@ impl<A: Allocator + Copy> Policy<A> {
 
     /// The accesses that its rules give.
     pub fn table(&self, alloc: A) -> Result<Table<A>, AllocError>
-        ensures { IfOk result (λ table. AreAtoms (is_in_table (policy_meaning self.now)) table) }
+        ensures { IfOk result (λ table. AreAtoms (is_in_table (meaning_in (rc_value self.now.resolved))) table) }
     {
         Table::of(alloc, &self.resolved, &self.counters)
     }
 
     /// The optionals that drop.
     pub fn dropped(&self, alloc: A) -> Result<Dropped<A>, AllocError>
-        ensures { IfOk result (λ dropped. dropped ≡ (policy_meaning self.now).dropped) }
+        ensures { IfOk result (λ dropped. dropped ≡ (meaning_in (rc_value self.now.resolved)).dropped) }
     {
         Dropped::of(alloc, &self.resolved)
     }
 
     /// Its violations.
     pub fn violations(&self, alloc: A) -> Result<Violations<A>, AllocError>
-        ensures { IfOk result (AreViolations (policy_meaning self.now)) }
+        ensures { IfOk result (AreViolations (meaning_in (rc_value self.now.resolved))) }
     {
         Violations::of(alloc, &self.resolved, &self.members)
     }
 
     /// Writes its violations, a line for each, and tells how many there are.
     pub fn write_violations<W: Sink>(&self, alloc: A, sink: &mut W) -> Result<usize, WriteFault>
-        ensures ok { IfOk result (λ n. (violations : List Violation) × AreViolations (policy_meaning self.now) violations
+        ensures ok { IfOk result (λ n. (violations : List Violation) × AreViolations (meaning_in (rc_value self.now.resolved)) violations
             × (n ≡ length violations) × Gains (W.taken sink.old) (W.taken sink.new) (violations_text violations)) }
-        ensures err { IsErrOf result WriteFault.Sink → (violations : List Violation) × AreViolations (policy_meaning self.now) violations
+        ensures err { IsErrOf result WriteFault.Sink → (violations : List Violation) × AreViolations (meaning_in (rc_value self.now.resolved)) violations
             × GainsFront (W.taken sink.old) (W.taken sink.new) (violations_text violations) }
         ensures memory { IsErrOf result WriteFault.Memory → W.taken sink.new ≡ W.taken sink.old }
         ensures failed { IsErrOf result WriteFault.Sink → HasFailed (W.failures sink.old) (W.failures sink.new) }
@@ -103,14 +103,14 @@ impl<A: Allocator + Copy> Policy<A> {
 impl<A: Allocator> Policy<A> {
     /// Whether a type is a member of an attribute, by full names.
     pub fn has(&self, attribute: &[u8], ty: &[u8]) -> bool
-        ensures { result ≡ is_member (policy_meaning self.now) attribute.now ty.now }
+        ensures { result ≡ is_member (meaning_in (rc_value self.now.resolved)) attribute.now ty.now }
     {
         self.members.has_named(&self.resolved, attribute, ty)
     }
 
     /// How many of its rules give an access.
     pub fn count(&self, access: &Atom<'_>) -> u64
-        ensures { result ≡ count_of (policy_meaning self.now) (atom_of access.now) }
+        ensures { result ≡ count_of (meaning_in (rc_value self.now.resolved)) (atom_of access.now) }
     {
         count(&self.counters, &self.resolved, access)
     }
