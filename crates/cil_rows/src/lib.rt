@@ -40,6 +40,8 @@ mod sets;
 #[cfg(test)]
 mod shapes;
 #[cfg(test)]
+mod states;
+#[cfg(test)]
 mod statuses;
 #[cfg(test)]
 mod stores;
@@ -49,6 +51,8 @@ mod streams;
 mod tables;
 #[cfg(test)]
 mod texts;
+#[cfg(test)]
+mod unchanged;
 #[cfg(test)]
 mod violations;
 #[cfg(test)]
