@@ -20,13 +20,25 @@ pub const FIRST_ANSWER: &str = "ok 2 0\nallow a b:file { read write };\nend 1\n"
 pub const FIRST_TEXT: &[u8] =
     b"(class file (read write))(type a)(type b)(allow a b (file (write read)))";
 
-/// Asserts what a session with an empty store answers to a script, and how it ends.
-pub fn assert_answer(rt: &impl Abort, alloc: Global, script: &[u8], want: &str, status: Status) {
+/// Asserts what a session with an engine answers to a script, and how it ends.
+pub fn assert_session(
+    rt: &impl Abort,
+    alloc: Global,
+    engine: &mut Plain,
+    script: &[u8],
+    want: &str,
+    status: Status,
+) {
     let mut source = MemorySource::new(script);
     let mut sink = MemorySink::new(alloc);
-    let mut engine = Plain::new(alloc);
-    let end = session(alloc, &mut source, &mut sink, &mut engine);
+    let end = session(alloc, &mut source, &mut sink, engine);
     assert_eq!(rt; (shown(sink.bytes()), end), (want, Ok(status)));
+}
+
+/// Asserts what a session with an empty store answers to a script, and how it ends.
+pub fn assert_answer(rt: &impl Abort, alloc: Global, script: &[u8], want: &str, status: Status) {
+    let mut engine = Plain::new(alloc);
+    assert_session(rt, alloc, &mut engine, script, want, status);
 }
 
 /// Asserts what a session with an empty store answers to each script of a table, and that each ends so.

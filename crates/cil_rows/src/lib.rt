@@ -18,6 +18,8 @@ mod engines;
 #[cfg(test)]
 mod faults;
 #[cfg(test)]
+mod full;
+#[cfg(test)]
 mod limits;
 #[cfg(test)]
 mod lines;
