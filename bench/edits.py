@@ -102,7 +102,7 @@ def main():
     session = Session(program)
     load(session, as_one_text(folder, small) if order == "-" else one_by_one(folder, order))
     texts = {
-        "one more rule": b"(allow unconfined_t kernel_t (file (read)))",
+        "one more rule": b"(allow bin_t lib_t (file (read)))",
         "one more type": b"(type one_more_t)",
         "one more of domain": b"(type one_more_t)(typeattributeset domain (one_more_t))",
     }

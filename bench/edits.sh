@@ -13,10 +13,10 @@ small=${4:-aide}
 cd "$(dirname "$0")/.."
 . bench/session.sh
 
-python3 bench/edits.py "$program" "$slice" "$order" "$small" "${ROUNDS:-3}" > "$folder/figures"
+python3 bench/edits.py "$program" "$slice" "$order" "$small" "${ROUNDS:-3}" > "$folder/edits"
 if command -v secilc > "$folder/found"; then
-    /usr/bin/time -f '%e %U %S %M' -o "$folder/secilc" secilc -o "$folder/policy" -f /dev/null "$prologue" "$slice"/*.cil > "$folder/told"
-    awk '{ printf "secilc\t%s\t%s\t%s KiB at the peak\n", $1, $2 + $3, $4 }' "$folder/secilc" >> "$folder/figures"
+    measure secilc -o "$folder/policy" -f /dev/null "$prologue" "$slice"/*.cil > "$folder/told"
+    awk '{ printf "secilc\t%s\t%s\t%.1f MiB at the peak\n", $1, $2 + $3, $4 / 1024 }' "$folder/figures" >> "$folder/edits"
 fi
 # The times by the clock, and of the processor alone, which other work on the machine doesn't lengthen much.
 awk -F '\t' '
@@ -24,4 +24,4 @@ awk -F '\t' '
     { printf "%-20s %9.3f s %9.3f s of the processor", $1, $2, $3 }
     $1 != "secilc" && clock { printf "   %5.2f and %5.2f of secilc", $2 / clock, $3 / processor }
     { print "   " $4 }
-' "$folder/figures" "$folder/figures"
+' "$folder/edits" "$folder/edits"
