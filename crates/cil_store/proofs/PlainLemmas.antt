@@ -1,17 +1,20 @@
 -- What the plain engine keeps, and what its steps lead to.
-use Rattle.std.proofs.Common.{◌≡◌, ◌++◌, List, [], ◌∷◌, length, Bool, false, Option, Some, None, Result, Ok, Err, IfOk, ℕ, Contains, refl, ap, sym, ◌∙◌, subst, true≢false, length-append, arith}
+use Rattle.std.proofs.Common.{◌≡◌, ◌++◌, List, [], ◌∷◌, length, map, Bool, false, Option, Some, None, Result, Ok, Err, IfOk, ℕ, Contains, refl, ap, sym, ◌∙◌, subst, true≢false, length-append, arith}
 use Rattle.std.specs.List.Sorted.{IsStrictlySortedBy}
 use Rattle.cil_specs.specs.Joined.{Module, joined}
 use Rattle.cil_specs.specs.PolicyFault.{PolicyFaultKind, twice}
 use Rattle.cil_specs.specs.Rule.{Rule, Atom, Declared}
 use Rattle.cil_specs.specs.Meaning.{Meaning, Means, meaning_of, is_in_table}
-use Rattle.cil_specs.specs.Report.{AreAtoms, Changes, AreChanges, Row, AreRows}
+use Rattle.cil_specs.specs.Members.{is_member}
+use Rattle.cil_specs.specs.Report.{AreAtoms, Changes, AreChanges, Row, AreRows, name_cmp}
 use Rattle.cil_specs.specs.Violations.{Violation, AreViolations}
 use Rattle.cil_specs.specs.Kept.{Optionals, AreKept, judged, Compiles}
 use Rattle.cil_store_specs.specs.Store.{Store, empty, active}
 use Rattle.cil_store_specs.specs.Next.{AreModules, IsMeaningOf, Edit, HasGoodText, changed, store_refusal, good}
 use Rattle.cil_store_specs.specs.Run.{an_edit, changed_by, AreRowsOf, AreViolationsOf, accepted, Step}
 use Rattle.cil_store_specs.proofs.OneStore.{meaning-same}
+use Rattle.cil_bind.specs.declared.joined.NamedModule.{NamedModule}
+use Rattle.cil_resolve.specs.Modules.{AreParsedFrom}
 use Rattle.cil_store.specs.Plain.{meaning_by, IsCompiledTo}
 use Rattle.cil_store.specs.Policy.{policy_meaning}
 use Rattle.cil_store.specs.declared.policy.Policy.{Policy}
@@ -104,3 +107,20 @@ pub violations-of : {X E A : Type 0} (listing : X → List Violation) (r : Resul
     → meaning ≡ meaning_by policy → IfOk r (λ found. AreViolations meaning (listing found)) → IfOk r (λ found. AreViolationsOf store (listing found))
 violations-of listing (Err _) store policy table dropped meaning kept same are = tt
 violations-of listing (Ok found) store policy table dropped meaning kept same are = (meaning_by policy, kept.is_meaning, subst (λ m. AreViolations m (listing found)) same are)
+
+-- no statements hold no type
+pub none-held : (attribute t : List ℕ) → false ≡ is_member (meaning_of [] []) attribute t
+unfolding is_member
+none-held attribute t = refl
+
+-- no modules are in order
+pub none-sorted : {X : Type 0} (f : X → List ℕ) (xs : List X) → xs ≡ [] → IsStrictlySortedBy name_cmp (map f xs)
+none-sorted f xs none = subst (λ l. IsStrictlySortedBy name_cmp (map f l)) (sym none) nothing
+  where
+    nothing : IsStrictlySortedBy name_cmp []
+    unfolding IsStrictlySortedBy
+    nothing = tt
+
+-- and stand for no modules
+pub none-parsed : {A : Type 0} (parsed : List (NamedModule A)) → parsed ≡ [] → AreParsedFrom parsed []
+none-parsed parsed none = subst (λ l. AreParsedFrom l []) (sym none) (record { spelt = tt; written = tt })
