@@ -3,4 +3,3 @@ pub mod CommandLemmas
 pub mod EndLemmas
 pub mod SessionLemmas
 pub mod ReplyLemmas
-pub mod OutcomeLemmas

@@ -1,4 +1,4 @@
-use Rattle.std.proofs.Common.{◌≡◌, ◌∙◌, ◌≤◌, ◌<◌, ℕ, List, [], length, get_or, sym, subst, arith}
+use Rattle.std.proofs.Common.{◌≡◌, ◌∙◌, ◌<◌, ℕ, List, [], length, get_or, subst, arith}
 use Rattle.cil_stream.specs.Device.{Gains, GainsFront}
 use Rattle.cil_stream.proofs.Gaining.{on_err, gains-pieces_more, gains-pieces_front}
 use Rattle.cil_store_specs.specs.Store.{Entry, Store}

@@ -3,7 +3,6 @@ use Rattle.cil_store_specs.specs.Next.{remove, enable, disable}
 use Rattle.cil_store_specs.specs.Script.{makes, asks_rules, asks_violations, asks_dropped, asks_modules}
 use Rattle.cil_program.specs.Session.{Moment, Standing}
 use Rattle.cil_program.proofs.SessionLemmas.{line-outcome}
-use Rattle.cil_program.proofs.OutcomeLemmas.{none-outcome, long-outcome, last-outcome, install-outcome}
 use Rattle.cil_program.proofs.script.session.answer_line.Goals as goal
 
 pub returns-in_ok-answer_rows-in-Rules-clause-ok : goal.returns-in_ok-answer_rows-in-Rules-clause-ok

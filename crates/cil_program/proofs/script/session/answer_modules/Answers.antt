@@ -1,4 +1,4 @@
-use Rattle.std.proofs.Common.{◌≡◌, ◌++◌, false, List, Option, ℕ, length, refl, ap, sym, subst}
+use Rattle.std.proofs.Common.{◌++◌, false, List, ℕ, length, refl, subst}
 use Rattle.cil_stream.specs.Device.{Gains}
 use Rattle.cil_store_specs.specs.Store.{Store}
 use Rattle.cil_store_specs.specs.StoreReport.{modules_text}
