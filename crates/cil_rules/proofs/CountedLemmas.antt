@@ -17,12 +17,13 @@ use Rattle.cil_tables.specs.Tables as tables
 use Rattle.cil_tables.specs.Tables.{count_now, AreTables}
 use Rattle.cil_tables.specs.declared.lines.LineKey.{LineKey}
 use Rattle.cil_tables.specs.declared.tables.Tables.{Tables}
+use Rattle.cil_rules.specs.Atoms.{name_at}
 use Rattle.cil_rules.specs.Counted.{IsKeyOf}
 use Rattle.cil_rules.proofs.TableLemmas.{table-numbered, IsNamed, IsNumbered}
 
 -- a name with a number is there
 there : (names : List (List ℕ)) (name : List ℕ) → IsNamed names name → has_name names name ≡ true
-there names name (i, within, is) = list_any_at (bytes_eq name) names i [] within ((bytes_eq-Decides name _).1 (sym is))
+there names name (i, within, is) = list_any_at (bytes_eq name) names i [] within ((bytes_eq-Decides name (name_at names i)).1 (sym is))
 
 -- where a name of each access that rules give is there, but not that of this one, none gives it
 none-of : {A : Type 0} (r : Resolved A) (a : spec.Atom) (name : List ℕ) → (IsNumbered r.names.items a → IsNamed r.names.items name) → has_name r.names.items name ≡ false → count_of (meaning_in r) a ≡ 0

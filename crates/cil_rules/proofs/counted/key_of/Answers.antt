@@ -10,3 +10,10 @@ returns-in_err-permission-clause-none g c = none-of_permission c.args.resolved.n
 
 pub returns-in_err-source-clause-none : goal.returns-in_err-source-clause-none
 returns-in_err-source-clause-none g c = none-of_source c.args.resolved.now (atom_of c.args.access.now) c.in_err-source.ensures.none
+
+pub returns-clause-some : goal.returns-clause-some
+returns-clause-some g c = record {
+  the_class = c.in_ok-class.ensures.some;
+  permission = c.in_ok-permission.ensures.some;
+  source = c.in_ok-source.ensures.some;
+}
