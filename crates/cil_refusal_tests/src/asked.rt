@@ -3,7 +3,7 @@
 use cil_program::script::reply;
 use cil_program::script::session::session;
 use cil_store::{Call, Compiled, Edit, Plain, Reply, run};
-use cil_stream::{MemorySink, MemorySource};
+use cil_stream::{MemorySink, MemorySource, write_all};
 use refusing::Refusing;
 use std::alloc::Global;
 use std::process::Abort;
@@ -18,6 +18,7 @@ pub type Engine<'h> = Plain<&'h Heap>;
 pub enum Asked<'a> {
     Edit(Edit<'a>),
     Rows,
+    Listing,
     Violations,
     Dropped,
     Run(&'a [Call<'a>]),
@@ -25,14 +26,19 @@ pub enum Asked<'a> {
     Session(&'a [&'a str]),
 }
 
-/// A module that compiles to nothing. To install it compiles the store anew.
-const EMPTY: Edit<'static> = Edit::Install {
+/// A module that compiles to nothing comes, and goes again. Each compiles the store anew.
+const PROBE: Edit<'static> = Edit::Install {
     name: b"probe",
     priority: 400,
     text: b"",
 };
 
-/// An install at the priority that the store takes.
+const NO_PROBE: Edit<'static> = Edit::Remove {
+    name: b"probe",
+    priority: 400,
+};
+
+/// An install at the priority of most modules.
 pub fn install<'a>(name: &'a str, text: &'a str) -> Edit<'a> {
     Edit::Install {
         name: name.as_bytes(),
@@ -53,15 +59,21 @@ fn write_rows(rt: &impl Abort, sink: &mut MemorySink, engine: &Engine<'_>) {
     match engine.rows() {
         Ok(rows) => {
             let count = rows.write(sink).expect(rt, "a sink");
-            reply::write_end(sink, count).expect(rt, "a sink");
+            reply::write_end(sink, count as u128).expect(rt, "a sink");
         }
         Err(_) => reply::write_no_memory(sink).expect(rt, "a sink"),
     }
 }
 
+fn write_listing(rt: &impl Abort, sink: &mut MemorySink, engine: &Engine<'_>) {
+    if engine.write_listing(sink).is_err() {
+        reply::write_no_memory(sink).expect(rt, "a sink");
+    }
+}
+
 fn write_violations(rt: &impl Abort, sink: &mut MemorySink, engine: &Engine<'_>) {
     match engine.write_violations(sink) {
-        Ok(count) => reply::write_end(sink, count).expect(rt, "a sink"),
+        Ok(count) => reply::write_end(sink, count as u128).expect(rt, "a sink"),
         Err(_) => reply::write_no_memory(sink).expect(rt, "a sink"),
     }
 }
@@ -78,8 +90,13 @@ fn write_reply(rt: &impl Abort, sink: &mut MemorySink, reply: &Reply<&Heap>) {
         Reply::Changes(changes) => reply::write_changes(sink, changes),
         Reply::Refused(refusal) => reply::write_refusal(sink, refusal),
         Reply::Dropped(dropped) => reply::write_dropped(sink, dropped),
+        Reply::Listing(text) => write_all(sink, text.as_slice()),
+        Reply::Violations(violations) => match violations.write(sink) {
+            Ok(count) => reply::write_end(sink, count as u128),
+            Err(fault) => Err(fault),
+        },
         Reply::Rows(rows) => match rows.write(sink) {
-            Ok(count) => reply::write_end(sink, count),
+            Ok(count) => reply::write_end(sink, count as u128),
             Err(fault) => Err(fault),
         },
     };
@@ -131,6 +148,7 @@ pub fn answer<'h>(
     match asked {
         Asked::Edit(edit) => write_edit(rt, &mut sink, engine, edit),
         Asked::Rows => write_rows(rt, &mut sink, engine),
+        Asked::Listing => write_listing(rt, &mut sink, engine),
         Asked::Violations => write_violations(rt, &mut sink, engine),
         Asked::Dropped => write_dropped(rt, &mut sink, engine),
         Asked::Run(calls) => write_run(rt, &mut sink, heap, engine, calls),
@@ -139,7 +157,7 @@ pub fn answer<'h>(
     sink
 }
 
-/// What stands compiled and what the store compiles to, with memory for it.
+/// What stands compiled, what is stored and what that compiles to, with memory for it.
 pub fn state<'h>(
     rt: &impl Abort,
     alloc: Global,
@@ -151,7 +169,9 @@ pub fn state<'h>(
     write_rows(rt, &mut sink, engine);
     write_violations(rt, &mut sink, engine);
     write_dropped(rt, &mut sink, engine);
-    write_edit(rt, &mut sink, engine, EMPTY);
+    reply::write_modules(&mut sink, engine.store()).expect(rt, "a sink");
+    write_edit(rt, &mut sink, engine, PROBE);
     write_dropped(rt, &mut sink, engine);
+    write_edit(rt, &mut sink, engine, NO_PROBE);
     sink
 }

@@ -89,10 +89,95 @@ const BAD_NAMES: &[Edit<'static>] = &[
     },
 ];
 
+/// A store with a module at two priorities, of which the lower declares what an optional needs, and with a disabled module.
+pub const LAYERED: &[Edit<'static>] = &[
+    Edit::Install {
+        name: b"base",
+        priority: 400,
+        text: b"(class p (use see))(type a)(type b)(optional o (allow a late (p (use))))(neverallow a b (p (see)))",
+    },
+    Edit::Install {
+        name: b"m",
+        priority: 300,
+        text: b"(type late)(allow late a (p (use)))",
+    },
+    Edit::Install {
+        name: b"m",
+        priority: 400,
+        text: b"(allow a b (p (use see)))",
+    },
+    Edit::Install {
+        name: b"off",
+        priority: 400,
+        text: b"(allow b b (p (see)))",
+    },
+    Edit::Disable { name: b"off" },
+];
+
+// Removals: of the active one, of a shadowed one, and of the last of a disabled name.
+const REMOVED: &[Edit<'static>] = &[
+    Edit::Remove {
+        name: b"m",
+        priority: 400,
+    },
+    Edit::Remove {
+        name: b"m",
+        priority: 300,
+    },
+    Edit::Remove {
+        name: b"off",
+        priority: 400,
+    },
+];
+
+const STATES: &[Edit<'static>] = &[
+    Edit::Enable { name: b"off" },
+    Edit::Disable { name: b"m" },
+    // These change nothing.
+    Edit::Enable { name: b"m" },
+    Edit::Disable { name: b"off" },
+];
+
+// Edits of the store that it refuses, and one that others need.
+const BAD_STATES: &[Edit<'static>] = &[
+    Edit::Remove {
+        name: b"m",
+        priority: 500,
+    },
+    Edit::Enable { name: b"q" },
+    Edit::Disable { name: b"-q" },
+    Edit::Remove {
+        name: b"base",
+        priority: 400,
+    },
+    Edit::Disable { name: b"base" },
+];
+
 fn assert_edits(rt: &impl Abort, alloc: Global, edits: &[Edit<'_>]) {
     for edit in edits {
         assert_each_growth(rt, alloc, BASE, Asked::Edit(*edit));
     }
+}
+
+fn assert_layered(rt: &impl Abort, alloc: Global, edits: &[Edit<'_>]) {
+    for edit in edits {
+        assert_each_growth(rt, alloc, LAYERED, Asked::Edit(*edit));
+    }
+}
+
+#[test]
+fn removals(rt: HostRuntime) {
+    assert_layered(&rt, rt.alloc(), REMOVED);
+}
+
+#[test]
+fn changes_of_state(rt: HostRuntime) {
+    assert_layered(&rt, rt.alloc(), STATES);
+}
+
+#[test]
+fn bad_removals_and_changes_of_state(rt: HostRuntime) {
+    assert_layered(&rt, rt.alloc(), BAD_STATES);
 }
 
 #[test]

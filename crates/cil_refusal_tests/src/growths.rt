@@ -94,6 +94,8 @@ fn assert_steps(rt: &impl Abort, alloc: Global, case: Case<'_>, found: &str, now
                 let step = match *call {
                     Call::Edit(edit) => Asked::Edit(edit),
                     Call::Rows => Asked::Rows,
+                    Call::Listing => Asked::Listing,
+                    Call::Violations => Asked::Violations,
                     Call::Dropped => Asked::Dropped,
                 };
                 rest = behind_step(rt, alloc, &heap, &mut engine, rest, step);

@@ -12,6 +12,21 @@ const NO_COMMANDS: &[&[u8]] = &[
     b"rules\r\n",
     b"Rules\n",
     b"rulesrules\n",
+    // An edit has a name, and a removal has a priority too.
+    b"remove m\n",
+    b"remove m 400 \n",
+    b"remove m 400 1\n",
+    b"remove m 0400\n",
+    b"remove m 1000000000\n",
+    b"remove  400\n",
+    b"enable\n",
+    b"enable \n",
+    b"enable m \n",
+    b"enable m 400\n",
+    b"disable\n",
+    b"disable m n\n",
+    b"disable \xe9\n",
+    b"modules m\n",
     b"install\n",
     b"install m 400\n",
     b"install m 400 0 0\n\n",
@@ -52,17 +67,15 @@ const LINES: &[(&[u8], &str)] = &[
         b"install m 400 4\n\n\n\n\n\nrules\nfrob\n",
         "ok 0 0\nend 0\nscript 8\n",
     ),
-    // Commands that are not there yet.
-    (b"rules\nremove m 400\n", "end 0\nscript 2\n"),
     (b"rules\nremove m 007\n", "end 0\nscript 2\n"),
-    (b"rules\nenable m\n", "end 0\nscript 2\n"),
     (
         b"rules\ndisable m\nremove m 400\nfrob\nrules\n",
-        "end 0\nscript 2\n",
+        "end 0\nrefused 32 m\nrefused 32 m\nscript 4\n",
     ),
     (b"rules\nviolation\n", "end 0\nscript 2\n"),
     (b"dropped\ndropped \n", "end 0\nscript 2\n"),
-    (b"rules\nmodules\n", "end 0\nscript 2\n"),
+    (b"rules\nmodule\n", "end 0\nscript 2\n"),
+    // Commands that are not there yet.
     (b"rules\ndump\n", "end 0\nscript 2\n"),
     (b"rules\nbegin\n", "end 0\nscript 2\n"),
 ];
@@ -72,10 +85,42 @@ fn the_line_of_what_is_no_command(rt: HostRuntime) {
     assert_answers(&rt, rt.alloc(), LINES, Status::Script);
 }
 
+// Edits of a module that isn't there.
+const MISSING: &[(&[u8], &str)] = &[
+    (b"rules\nremove m 400\n", "end 0\nrefused 32 m\n"),
+    (b"rules\nenable m\n", "end 0\nrefused 32 m\n"),
+    (b"rules\ndisable m\n", "end 0\nrefused 32 m\n"),
+    (b"remove m 400", "refused 32 m\n"),
+    (b"enable m", "refused 32 m\n"),
+    (b"disable m", "refused 32 m\n"),
+    // The name is judged before the priority, and both before the store.
+    (
+        b"remove -m 0\nremove m 0\nremove m 1000\nenable -m\ndisable .\n",
+        "refused 30 -m\nrefused 31 0\nrefused 31 1000\nrefused 30 -m\nrefused 30 .\n",
+    ),
+];
+
+#[test]
+fn edits_of_a_module_that_is_not_there(rt: HostRuntime) {
+    assert_answers(&rt, rt.alloc(), MISSING, Status::Refused);
+}
+
 // The last line may lack its line feed, but not if it is that of an install.
 const LAST_LINES: &[(&[u8], &str)] = &[
     (b"rules", "end 0\n"),
     (b"dropped", "end 0\n"),
+    (b"violations", "end 0\n"),
+    (b"modules", "end 0\n"),
+    (b"rules\nmodules\n", "end 0\nend 0\n"),
+    (
+        b"install m 400 8\n(type a)\ndisable m\nenable m",
+        "ok 0 0\nok 0 0\nok 0 0\n",
+    ),
+    (b"install m 400 8\n(type a)\ndisable m", "ok 0 0\nok 0 0\n"),
+    (
+        b"install m 400 8\n(type a)\nremove m 400",
+        "ok 0 0\nok 0 0\n",
+    ),
     (
         b"install m 400 8\n(type a)\nrules\nrules",
         "ok 0 0\nend 0\nend 0\n",

@@ -235,7 +235,7 @@ fn a_sink_that_fails(rt: HostRuntime) {
 // Scripts whose first answer is that of a refused edit, of a line that is no command, or of a question.
 const OTHERS: &[(&str, &str)] = &[
     ("install -m 400 0\n\nrules\n", "refused 30 -m\n"),
-    ("install m 401 0\n\nrules\n", "refused 31 401\n"),
+    ("install m 1000 0\n\nrules\n", "refused 31 1000\n"),
     ("install m 400 2\n()\nrules\n", "refused 21 m:1:1 (\n"),
     (
         "install m 400 16\n(type a)(type a)\nrules\n",

@@ -123,9 +123,9 @@ const DIALOGUES: &[Dialogue<'static>] = &[
     ),
     // A text that is left aside.
     (
-        &[b"rules\ninstall m 401 8\n(type", b" a)\nrules\n"],
-        &[0, 6, 27],
-        (27, 2),
+        &[b"rules\ninstall m 1000 8\n(type", b" a)\nrules\n"],
+        &[0, 6, 28],
+        (28, 2),
         Status::Refused,
     ),
     // A line that is no command.

@@ -2,29 +2,12 @@
 
 use crate::answers::{FIRST_TEXT, assert_same, shown};
 use cil_resolve::Text;
-use cil_store::{
-    Call, Compiled, Dropped, Edit, FaultKind, Plain, Refusal, Reply, StoreFault, WriteFault,
-    check_install, run,
-};
+use cil_rules::Atom;
+use cil_store::{Call, Compiled, Dropped, Edit, FaultKind, Plain, Refusal, Reply, WriteFault, run};
 use cil_stream::MemorySink;
-use cil_text::Place;
+use cil_text::{Place, RuleKind};
 use std::alloc::Global;
 use std::process::Abort;
-
-// The line of an install, and what the store has against it.
-const LINES: &[(&str, u32, usize, Result<(), StoreFault>)] = &[
-    ("m", 400, 16_777_216, Ok(())),
-    ("", 400, 0, Err(StoreFault::BadModuleName)),
-    ("m", 399, 0, Err(StoreFault::BadPriority)),
-    ("m", 400, 16_777_217, Err(StoreFault::TextTooLong)),
-];
-
-#[test]
-fn what_the_store_refuses_by_the_line(rt: HostRuntime) {
-    for (name, priority, len, want) in LINES {
-        assert_same(&rt, check_install(name.as_bytes(), *priority, *len), *want);
-    }
-}
 
 // An install of the module m.
 fn install(text: &[u8]) -> Edit<'_> {
@@ -41,7 +24,7 @@ fn assert_listing(
     alloc: Global,
     engine: &Plain,
     limit: usize,
-    want: (Result<usize, WriteFault>, &str),
+    want: (Result<u128, WriteFault>, &str),
 ) {
     let mut sink = MemorySink::with_limits(alloc, 1000, limit);
     let found = engine.write_listing(&mut sink);
@@ -155,7 +138,7 @@ fn refused(refusal: &Refusal) -> Refused<'_> {
 // Installs of the module m that are refused: the priority and the text.
 const REFUSED: &[(u32, &str, Refused<'static>)] = &[
     // A refusal by the store has its word.
-    (7, "", ("store", "", 31, (0, 0, 0), "7")),
+    (1007, "", ("store", "", 31, (0, 0, 0), "1007")),
     // A refusal of a text has its place, and so has one of a policy.
     (400, "(type a)\n\x0c", ("text", "m", 10, (9, 2, 1), "0c")),
     (
@@ -181,14 +164,16 @@ fn refusals_of_edits(rt: HostRuntime) {
     }
 }
 
-// A reply: its form; the rows, the optionals that drop, the accesses that came, or the code of a refusal; and the accesses that
-// went.
-fn seen(reply: &Reply) -> (&'static str, usize, usize) {
+// A reply: its form; the rows, the bytes of a listing, the violations, the optionals that drop, the accesses that came, or the
+// code of a refusal; and the accesses that went.
+fn seen(reply: &Reply) -> (&'static str, u128, u128) {
     match reply {
         Reply::Changes(changes) => ("changes", changes.added_len(), changes.removed_len()),
-        Reply::Rows(rows) => ("rows", rows.len(), 0),
-        Reply::Dropped(dropped) => ("dropped", dropped.len(), 0),
-        Reply::Refused(refusal) => ("refused", usize::from(refused(refusal).2), 0),
+        Reply::Rows(rows) => ("rows", rows.len() as u128, 0),
+        Reply::Listing(text) => ("listing", text.as_slice().len() as u128, 0),
+        Reply::Violations(violations) => ("violations", violations.len() as u128, 0),
+        Reply::Dropped(dropped) => ("dropped", dropped.len() as u128, 0),
+        Reply::Refused(refusal) => ("refused", u128::from(refused(refusal).2), 0),
     }
 }
 
@@ -213,10 +198,31 @@ const CALLS: &[Call<'static>] = &[
     }),
     Call::Rows,
     Call::Dropped,
+    Call::Edit(Edit::Install {
+        name: b"n",
+        priority: 500,
+        text: b"(class p (use))(type a)(allow a a (p (use)))(neverallow a self (p (use)))",
+    }),
+    Call::Listing,
+    Call::Violations,
+    Call::Edit(Edit::Disable { name: b"n" }),
+    Call::Edit(Edit::Disable { name: b"n" }),
+    Call::Violations,
+    Call::Edit(Edit::Enable { name: b"n" }),
+    Call::Edit(Edit::Remove {
+        name: b"n",
+        priority: 400,
+    }),
+    Call::Edit(Edit::Remove {
+        name: b"n",
+        priority: 500,
+    }),
+    Call::Listing,
 ];
 
-// An edit that is accepted, one that is refused, and the listing, of which the refused edit changed nothing.
-const REPLIES: &[(&str, usize, usize)] = &[
+// An edit that is accepted, one that is refused, and the listing, of which the refused edit changed nothing. Then each of the
+// other edits and questions.
+const REPLIES: &[(&str, u128, u128)] = &[
     ("rows", 0, 0),
     ("dropped", 0, 0),
     ("changes", 2, 0),
@@ -225,6 +231,16 @@ const REPLIES: &[(&str, usize, usize)] = &[
     ("changes", 0, 2),
     ("rows", 0, 0),
     ("dropped", 2, 0),
+    ("changes", 2, 0),
+    ("listing", 21, 0),
+    ("violations", 1, 0),
+    ("changes", 0, 2),
+    ("changes", 0, 0),
+    ("violations", 0, 0),
+    ("changes", 2, 0),
+    ("refused", 32, 0),
+    ("changes", 0, 2),
+    ("listing", 0, 0),
 ];
 
 #[test]
@@ -237,6 +253,86 @@ fn runs_of_calls(rt: HostRuntime) {
             assert_same(&rt, seen(reply), *want);
         }
     }
+}
+
+// A class, two types, an attribute of one of them, and rules of which two give one access.
+const COUNTED: &[u8] =
+    b"(class p (use see))(type a)(type b)(typeattribute s)(typeattributeset s (a))\
+(allow a b (p (use)))(allow s b (p (use see)))(dontaudit a b (p (see)))";
+
+// An access, and how many rules give it.
+const COUNTS: &[(RuleKind, &str, &str, &str, &str, u64)] = &[
+    (RuleKind::Allow, "a", "b", "p", "use", 2),
+    (RuleKind::Allow, "a", "b", "p", "see", 1),
+    (RuleKind::DontAudit, "a", "b", "p", "see", 1),
+    (RuleKind::AuditAllow, "a", "b", "p", "see", 0),
+    (RuleKind::Allow, "b", "a", "p", "use", 0),
+    (RuleKind::Allow, "s", "b", "p", "use", 0),
+    (RuleKind::Allow, "q", "b", "p", "use", 0),
+    (RuleKind::Allow, "a", "q", "p", "use", 0),
+    (RuleKind::Allow, "a", "b", "q", "use", 0),
+    (RuleKind::Allow, "a", "b", "p", "q", 0),
+];
+
+// Asserts the count of each access, all 0 where there is no policy yet.
+fn assert_counts(rt: &impl Abort, engine: &Plain, is_empty: bool) {
+    for (kind, source, target, class, permission, want) in COUNTS {
+        let access = Atom {
+            kind: *kind,
+            source: source.as_bytes(),
+            target: target.as_bytes(),
+            class: class.as_bytes(),
+            permission: permission.as_bytes(),
+        };
+        let want = if is_empty { 0 } else { *want };
+        assert_same(rt, engine.count(&access), want);
+    }
+}
+
+#[test]
+fn counts_of_accesses_by_names(rt: HostRuntime) {
+    let mut engine = Plain::new(rt.alloc());
+    assert_counts(&rt, &engine, true);
+    engine.edit(install(COUNTED)).expect(&rt, "an edit");
+    assert_counts(&rt, &engine, false);
+}
+
+// An attribute and a type, and whether the type is its member.
+const MEMBERS: &[(&str, &str, bool)] = &[
+    ("s", "a", true),
+    ("s", "b", false),
+    ("s", "s", false),
+    ("a", "a", false),
+    ("s", "q", false),
+    ("q", "a", false),
+];
+
+#[test]
+fn members_by_names(rt: HostRuntime) {
+    let mut engine = Plain::new(rt.alloc());
+    assert_same(&rt, engine.has(b"s", b"a"), false);
+    engine.edit(install(COUNTED)).expect(&rt, "an edit");
+    for (attribute, ty, want) in MEMBERS {
+        let found = engine.has(attribute.as_bytes(), ty.as_bytes());
+        assert_same(&rt, found, *want);
+    }
+}
+
+// The lines of what is violated, written from what a call gave.
+#[test]
+fn violations_that_are_kept(rt: HostRuntime) {
+    let mut engine = Plain::new(rt.alloc());
+    let none = engine.violations().expect(&rt, "memory");
+    assert_same(&rt, (none.len(), none.is_empty()), (0, true));
+    let text = b"(class p (use))(type a)(allow a a (p (use)))(neverallow a self (p (use)))";
+    engine.edit(install(text)).expect(&rt, "an edit");
+    let one = engine.violations().expect(&rt, "memory");
+    assert_same(&rt, (one.len(), one.is_empty()), (1, false));
+    let mut sink = MemorySink::new(rt.alloc());
+    assert_same(&rt, one.write(&mut sink), Ok(1));
+    let bytes = sink.into_bytes();
+    let line = "neverallow m:1:45 allow m:1:24 a a:p { use };\n";
+    assert_same(&rt, shown(bytes.as_slice()), line);
 }
 
 #[test]

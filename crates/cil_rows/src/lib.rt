@@ -18,6 +18,8 @@ mod engines;
 #[cfg(test)]
 mod faults;
 #[cfg(test)]
+mod full;
+#[cfg(test)]
 mod limits;
 #[cfg(test)]
 mod lines;
@@ -40,6 +42,8 @@ mod sets;
 #[cfg(test)]
 mod shapes;
 #[cfg(test)]
+mod states;
+#[cfg(test)]
 mod statuses;
 #[cfg(test)]
 mod stores;
@@ -49,6 +53,8 @@ mod streams;
 mod tables;
 #[cfg(test)]
 mod texts;
+#[cfg(test)]
+mod unchanged;
 #[cfg(test)]
 mod violations;
 #[cfg(test)]

@@ -163,11 +163,11 @@ const TOO_LONG_UNDER_A_BAD_NAME: &[(Pieces, Pieces)] = &[
     ),
     (
         &[
-            Text("install m 401 16777217\n;"),
+            Text("install m 1000 16777217\n;"),
             Run(b'x', 16_777_216),
             Text("\nrules\n"),
         ],
-        &[Text("refused 31 401\nend 0\n")],
+        &[Text("refused 31 1000\nend 0\n")],
     ),
 ];
 

@@ -12,9 +12,10 @@ use cil_resolve::{
     ClassView, Element, ElementView, Joined, Meter, NameView, NamedModule, PolicyFault, Resolved,
     RuleView, SetView, TargetView, join, resolve,
 };
-use cil_rules::{Atom, Changes, Table};
+use cil_rules::{Atom, Changes, Table, count};
 use cil_sets::Members;
 use cil_stream::MemorySink;
+use cil_tables::Tables;
 use cil_text::RuleKind;
 use std::alloc::{AllocError, Global};
 use std::process::Abort;
@@ -240,6 +241,40 @@ fn set_statements_in_the_order_of_dependence(rt: HostRuntime) {
 }
 
 #[test]
+fn numbers_of_names(rt: HostRuntime) {
+    let policy = with_sets(&rt, rt.alloc());
+    let numbers = [
+        policy.number(b"a"),
+        policy.number(b"use"),
+        policy.number(b"us"),
+        policy.number(b"z"),
+    ];
+    assert_same(&rt, numbers, [Some(0), Some(5), None, None]);
+}
+
+// An attribute and a type, and whether the type is its member.
+const MEMBERS: &[(&str, &str, bool)] = &[
+    ("s", "a", true),
+    ("s", "b", false),
+    ("n", "a", false),
+    ("n", "b", true),
+    ("n", "n", false),
+    ("a", "a", false),
+    ("n", "q", false),
+    ("q", "b", false),
+];
+
+#[test]
+fn members_by_names(rt: HostRuntime) {
+    let policy = with_sets(&rt, rt.alloc());
+    let members = Members::plain(rt.alloc(), &policy).expect(&rt, "memory");
+    for (attribute, ty, want) in MEMBERS {
+        let found = members.has_named(&policy, attribute.as_bytes(), ty.as_bytes());
+        assert_same(&rt, found, *want);
+    }
+}
+
+#[test]
 fn set_statements_are_evaluated_and_counted(rt: HostRuntime) {
     let policy = with_sets(&rt, rt.alloc());
     let mut meter = Meter::new();
@@ -312,6 +347,35 @@ const ACCESS: Atom<'static> = Atom {
     class: b"p",
     permission: b"use",
 };
+
+#[test]
+fn rules_that_give_an_access(rt: HostRuntime) {
+    let policy = resolved(&rt, rt.alloc());
+    let members = Members::plain(rt.alloc(), &policy).expect(&rt, "memory");
+    let tables = Tables::plain(rt.alloc(), &policy, &members).expect(&rt, "memory");
+    let kind = RuleKind::DontAudit;
+    let found = [
+        count(&tables, &policy, &ACCESS),
+        count(&tables, &policy, &Atom { kind, ..ACCESS }),
+        count(
+            &tables,
+            &policy,
+            &Atom {
+                target: b"p",
+                ..ACCESS
+            },
+        ),
+        count(
+            &tables,
+            &policy,
+            &Atom {
+                class: b"q",
+                ..ACCESS
+            },
+        ),
+    ];
+    assert_same(&rt, found, [1, 0, 0, 0]);
+}
 
 #[test]
 fn the_table_of_a_rule_to_self(rt: HostRuntime) {

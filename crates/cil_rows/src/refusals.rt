@@ -10,7 +10,8 @@ const LINES: &[(&[u8], &str)] = &[
     (b"install .a 400 0\n\n", "refused 30 .a\n"),
     (b"install (\";~ 400 0\n\n", "refused 30 (\";~\n"),
     (b"install m 0 0\n\n", "refused 31 0\n"),
-    (b"install m 399 1\na\n", "refused 31 399\n"),
+    (b"install m 399 1\na\n", "refused 15 m:1:1 a\n"),
+    (b"install m 1001 1\na\n", "refused 31 1001\n"),
     (b"install m 1000 0\n\n", "refused 31 1000\n"),
     (b"install m 999999999 0\n\n", "refused 31 999999999\n"),
     // The name is judged before the priority, and both before the text.

@@ -46,7 +46,7 @@ fn atom(access: Option<&Access>) -> Option<Atom<'static>> {
 /// Asserts which accesses came and went, and that there are no more.
 pub fn assert_changes(rt: &impl Abort, changes: &Changes, added: &[Access], removed: &[Access]) {
     let found = (changes.added_len(), changes.removed_len());
-    assert_same(rt, found, (added.len(), removed.len()));
+    assert_same(rt, found, (added.len() as u128, removed.len() as u128));
     for i in 0..4 {
         let found = (changes.added(i), changes.removed(i));
         assert_same(rt, found, (atom(added.get(i)), atom(removed.get(i))));

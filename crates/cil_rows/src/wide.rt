@@ -21,13 +21,7 @@ fn text_of(rt: &impl Abort, alloc: Global, types: usize, more: &str) -> String {
 }
 
 // Asserts how many accesses an install of a text brings, what is listed behind it and what is violated.
-fn assert_wide(
-    rt: &impl Abort,
-    alloc: Global,
-    types: usize,
-    more: &str,
-    want: (usize, &str, &str),
-) {
+fn assert_wide(rt: &impl Abort, alloc: Global, types: usize, more: &str, want: (u128, &str, &str)) {
     let mut engine = Plain::new(alloc);
     let text = text_of(rt, alloc, types, more);
     let edit = Edit::Install {
@@ -64,7 +58,11 @@ fn a_rule_to_as_many_types(rt: HostRuntime) {
         let changes = engine.edit(edit).expect(&rt, "an edit");
         let rows = engine.rows().expect(&rt, "memory");
         let last = changes.added(*types - 1).expect(&rt, "an access");
-        assert_same(&rt, (changes.added_len(), rows.len()), (*types, *types));
+        assert_same(
+            &rt,
+            (changes.added_len(), rows.len()),
+            (*types as u128, *types),
+        );
         let number = *types - 1;
         let name = format!(in rt.alloc(); "t{}{}{}", number / 100, number / 10 % 10, number % 10);
         assert_same(&rt, shown(last.target), name.expect(&rt, "memory").as_str());

@@ -30,6 +30,32 @@ const CLEAN: &[(&[u8], &str)] = &[
         b"install m 400 41\n(class p (use))(type a)(allow a a (p ()))\nrules\n",
         "ok 0 0\nend 0\n",
     ),
+    // Two modules give one access: the second adds none, and the access stays when the first goes.
+    (
+        b"install base 400 31\n(class p (use))(type a)(type b)\n\
+          install x 400 21\n(allow a b (p (use)))\n\
+          install y 400 21\n(allow a b (p (use)))\n\
+          rules\nremove x 400\nrules\n",
+        "ok 0 0\nok 1 0\nok 0 0\nallow a b:p { use };\nend 1\nok 0 0\nallow a b:p { use };\nend 1\n",
+    ),
+    // A module that comes and goes: with it an optional drops, and a rule of another module leads elsewhere.
+    (
+        b"install g 400 105\n(class p (use))(type t)(type a)\
+          (block k (optional o (type t)(allow t w (p (use))))(allow .a t (p (use))))\n\
+          install w 400 8\n(type w)\nrules\nremove w 400\nrules\n",
+        "ok 1 0\nok 2 1\nallow a k.t:p { use };\nallow k.t w:p { use };\nend 2\n\
+         ok 1 2\nallow a t:p { use };\nend 1\n",
+    ),
+    // A disabled module violates nothing.
+    (
+        b"install base 400 57\n(class p (use))(type a)(type b)(neverallow a b (p (use)))\n\
+          install x 400 21\n(allow a b (p (use)))\n\
+          install y 400 21\n(allow a b (p (use)))\n\
+          violations\ndisable y\nviolations\n",
+        "ok 1 0\nok 1 0\nok 0 0\n\
+         neverallow base:1:32 allow x:1:1 a b:p { use };\nneverallow base:1:32 allow y:1:1 a b:p { use };\nend 2\n\
+         ok 0 0\nneverallow base:1:32 allow x:1:1 a b:p { use };\nend 1\n",
+    ),
 ];
 
 #[test]
@@ -38,6 +64,31 @@ fn scripts_that_end_clean(rt: HostRuntime) {
 }
 
 const REFUSED: &[(&[u8], &str)] = &[
+    // A truncated text is refused, and the script goes on.
+    (
+        b"install m 400 7\n(type a\nrules\nmodules\n",
+        "refused 12 m:1:1 (\nend 0\nend 0\n",
+    ),
+    // Rules of two modules, and the type of one of them, which can't go.
+    (
+        b"install base 400 23\n(class p (use))(type a)\n\
+          install t 400 8\n(type b)\n\
+          install x 400 21\n(allow a b (p (use)))\n\
+          install y 400 21\n(allow b a (p (use)))\n\
+          rules\nremove t 400\nmodules\n",
+        "ok 0 0\nok 0 0\nok 1 0\nok 1 0\n\
+         allow a b:p { use };\nallow b a:p { use };\nend 2\nrefused 42 x:1:10 b\n\
+         base 400 23 active\nt 400 8 active\nx 400 21 active\ny 400 21 active\nend 4\n",
+    ),
+    // The highest priority is the one that counts, and the next when it is gone.
+    (
+        b"install m 400 44\n(class p (use))(type a)(allow a a (p (use)))\n\
+          install m 300 44\n(class p (use))(type b)(allow b b (p (use)))\n\
+          remove m 400\nrules\ninstall m 0 8\n(type a)\ninstall m 1000 8\n(type a)\n\
+          install m 1 8\n(type a)\ninstall m 999 8\n(type a)\nmodules\n",
+        "ok 1 0\nok 0 0\nok 1 1\nallow b b:p { use };\nend 1\nrefused 31 0\nrefused 31 1000\n\
+         ok 0 0\nok 0 1\nm 999 8 active\nm 300 44 shadowed\nm 1 8 shadowed\nend 3\n",
+    ),
     // A module is replaced by one with a permission less; a second module names a type that isn't there.
     (
         b"install m 400 72\n(class file (read write))(type a)(type b)(allow a b (file (write read)))\nrules\n\
@@ -62,30 +113,12 @@ fn scripts_with_a_refused_edit(rt: HostRuntime) {
 }
 
 const NO_COMMAND: &[(&[u8], &str)] = &[
-    // A truncated text is refused and the script goes on. The last line is none of a command yet.
-    (
-        b"install m 400 7\n(type a\nrules\nmodules\n",
-        "refused 12 m:1:1 (\nend 0\nscript 4\n",
-    ),
     // A text short of its length is no command.
     (b"install m 400 10\n(type a) ", "script 1\n"),
-    // Two modules give one access: the second adds none.
+    // Two edits of a module that isn't there, and a line that is none.
     (
-        b"install base 400 31\n(class p (use))(type a)(type b)\n\
-          install x 400 21\n(allow a b (p (use)))\n\
-          install y 400 21\n(allow a b (p (use)))\n\
-          rules\nremove x 400\nrules\n",
-        "ok 0 0\nok 1 0\nok 0 0\nallow a b:p { use };\nend 1\nscript 8\n",
-    ),
-    // Rules of two modules.
-    (
-        b"install base 400 23\n(class p (use))(type a)\n\
-          install t 400 8\n(type b)\n\
-          install x 400 21\n(allow a b (p (use)))\n\
-          install y 400 21\n(allow b a (p (use)))\n\
-          rules\nremove t 400\n",
-        "ok 0 0\nok 0 0\nok 1 0\nok 1 0\n\
-         allow a b:p { use };\nallow b a:p { use };\nend 2\nscript 10\n",
+        b"disable m\nremove m 400\nfrob\nrules\n",
+        "refused 32 m\nrefused 32 m\nscript 3\n",
     ),
 ];
 
