@@ -35,3 +35,13 @@ peak_memory() {
     /usr/bin/time -f %M -o "$folder/peak" "$program" session < "$folder/script" > "$folder/answer" || true
     tail -n 1 "$folder/peak"
 }
+
+# Runs a command once, and notes its seconds by the clock, those of the processor for itself and for the system, and its peak in KiB.
+measure() {
+    /usr/bin/time -f '%e %U %S %M' -o "$folder/figures" "$@"
+}
+
+# The same for a session over a script, whose answer stays in the folder.
+measure_session() {
+    measure "$program" session < "$1" > "$folder/answer"
+}

@@ -6,8 +6,7 @@ use Rattle.std.proofs.lemmas.Option.{slice_get_within, get_or_from_slice_get}
 use Rattle.cil_stream.specs.Device.{Gains, GainsFront}
 use Rattle.cil_specs.specs.Report.{dropped_line}
 use Rattle.cil_specs.specs.Rule.{Declared}
-use Rattle.cil_store_specs.specs.Run.{dropped_optionals}
-use Rattle.cil_store_specs.specs.Script.{reply_text, end_line}
+use Rattle.cil_store_specs.specs.Script.{end_line}
 use Rattle.cil_stream.proofs.Gaining.{gains-then_front, gains-pieces_more, gains-pieces_front}
 use Rattle.cil_store.proofs.DroppedLemmas.{past-end}
 
@@ -25,12 +24,10 @@ optional-front old mid new xs i d is so_far front =
 pub some-optional : (xs : List Declared) (i : ℕ) → i < length xs → None ≡ slice_get xs i → ⊥
 some-optional xs i within none = omega (arith, within, past-end xs i none)
 
--- the lines and a beginning of the last line
-pub dropped-front : {E : Type 0} (r : Result (Unit {0}) E) (old mid new : Option (List ℕ)) (xs : List Declared) (n : ℕ) → n ≡ length xs → Gains old mid (flat_map dropped_line xs) → OnErr r (GainsFront mid new (end_line n))
-    → OnErr r (GainsFront old new (reply_text (dropped_optionals xs)))
-dropped-front (Ok _) old mid new xs n is lines front = tt
-dropped-front (Err _) old mid new xs n is lines front =
-    subst (GainsFront old new) (ap (λ k. flat_map dropped_line xs ++ end_line k) is) (gains-then_front old mid new (flat_map dropped_line xs) (end_line n) lines front)
+-- the lines of a report and a beginning of its last line
+pub report-front : {E : Type 0} (r : Result (Unit {0}) E) (old mid new : Option (List ℕ)) (lines : List ℕ) (n size : ℕ) → n ≡ size → Gains old mid lines → OnErr r (GainsFront mid new (end_line n)) → OnErr r (GainsFront old new (lines ++ end_line size))
+report-front (Ok _) old mid new lines n size is gains front = tt
+report-front (Err _) old mid new lines n size is gains front = subst (GainsFront old new) (ap (λ k. lines ++ end_line k) is) (gains-then_front old mid new lines (end_line n) gains front)
 
 -- a text that was taken, or a beginning of it, is a beginning of it
 pub gains-some : {T E : Type 0} (r : Result T E) (old new : Option (List ℕ)) (text : List ℕ) → OnOk r (Gains old new text) → OnErr r (GainsFront old new text) → GainsFront old new text

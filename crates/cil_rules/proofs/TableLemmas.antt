@@ -28,11 +28,11 @@ use Rattle.cil_rules.specs.Collected.{key_of}
 use Rattle.cil_rules.proofs.AtomLemmas.{atoms-ordered}
 
 -- a number of a name
-abbrev IsNamed : List (List ℕ) → List ℕ → Type 0
+abbrev pub IsNamed : List (List ℕ) → List ℕ → Type 0
 IsNamed names name = (i : ℕ) × (i < length names) × (name_at names i ≡ name)
 
 -- an access by numbers
-abbrev IsNumbered : List (List ℕ) → spec.Atom → Type 0
+abbrev pub IsNumbered : List (List ℕ) → spec.Atom → Type 0
 IsNumbered names a = (n : AccessNumbers) × IsWithin (length names) n × (atom_at names n ≡ a)
 
 -- one of some numbers has the name
@@ -94,7 +94,7 @@ module _ {A : Type 0} (r : Resolved A) where
   one-numbered (rule ∷ rules) a below (inr later) = one-numbered rules a (and_parts (is_rule_below (length names) rule) _ below).1 later
 
   -- so has each access of the table
-  table-numbered : (a : spec.Atom) → IsTrue (is_in_table (meaning_in r) a) → IsNumbered names a
+  pub table-numbered : (a : spec.Atom) → IsTrue (is_in_table (meaning_in r) a) → IsNumbered names a
   table-numbered a there =
       one-numbered r.rules.items a r.rules_within
       (any_from_map (rule_of r.modules.items names) (λ rule. IsTrue (gives (meaning_in r) rule a)) r.rules.items (any_from_counted (λ rule. gives (meaning_in r) rule a) (meaning_in r).rules there))

@@ -1,5 +1,6 @@
 pub mod Atoms
 pub mod Collected
+pub mod Counted
 pub mod NameList
 pub mod NumberedRows
 pub mod Ranks

@@ -7,9 +7,8 @@ ghost use Rattle.cil_specs.specs.Report.{AreAtoms};
 ghost use Rattle.cil_accesses.specs.Chunks.{IsGiven};
 ghost use Rattle.cil_accesses.specs.declared.access.AccessNumbers.{AccessNumbers};
 ghost use Rattle.cil_resolve.specs.Resolved.{meaning_in};
-ghost use Rattle.cil_sets.specs.Members.{AreMembers};
 ghost use Rattle.cil_lines.specs.Line.{count_of};
-ghost use Rattle.cil_tables.specs.Tables.{count_now};
+ghost use Rattle.cil_tables.specs.Tables.{count_now, AreTables};
 ghost use Rattle.cil_rules.specs.Atoms.{atom_at, AreNumbered};
 ghost use Rattle.cil_rules.specs.Collected.{chunk_of, head_at, key_of, AreGained, IsCounted, IsShort, IsTo};
 
@@ -17,7 +16,6 @@ use crate::numbers::number;
 use cil_accesses::{Accesses, Chunk};
 use cil_lines::Line;
 use cil_resolve::Resolved;
-use cil_sets::Members;
 use cil_tables::{LineKey, Tables};
 use cil_text::RuleKind;
 use std::alloc::{AllocError, Allocator};
@@ -75,6 +73,40 @@ fn word_number(n: usize) -> Result<u32, AllocError>
     }
 }
 
+/// How many words of a line have an access.
+fn words_len<A: Allocator>(line: &Line<A>) -> usize {
+    let mut words: usize = 0;
+    let mut from: usize = 0;
+    while let Some(word) = line.next_present_word(from) {
+        words = words.saturating_add(1);
+        let Some(next) = word.checked_add(1) else {
+            return words;
+        };
+        from = next;
+    }
+    words
+}
+
+/// How many chunks the accesses take that the table of a kind counts.
+fn kind_len<A: Allocator>(tables: &Tables<A>, kind: RuleKind) -> usize {
+    let lines = tables.lines(kind);
+    let mut chunks: usize = 0;
+    for i in 0..lines.len() {
+        if let Some(found) = lines.at(i) {
+            chunks = chunks.saturating_add(words_len(found.line));
+        }
+    }
+    chunks
+}
+
+/// How many chunks the accesses take that tables count: a list of them that grew would take twice the room.
+fn chunks_len<A: Allocator>(tables: &Tables<A>) -> usize {
+    kind_len(tables, RuleKind::Allow)
+        .saturating_add(kind_len(tables, RuleKind::AuditAllow))
+        .saturating_add(kind_len(tables, RuleKind::DontAudit))
+        .saturating_add(kind_len(tables, RuleKind::NeverAllow))
+}
+
 /// Appends the accesses to the targets that a line counts, a chunk a word.
 fn push_line<A: Allocator>(
     chunks: &mut Vec<Chunk, A>,
@@ -113,7 +145,7 @@ fn collect<A: Allocator + Copy>(alloc: A, tables: &Tables<A>) -> Result<Vec<Chun
     ensures given { IfOk result (λ chunks. (a : AccessNumbers) → IsGiven chunks.items a ↔ (0 < count_now tables.now a.kind (key_of a) a.target)) }
     ensures short { IfOk result (λ chunks. All IsShort chunks.items) }
 {
-    let mut chunks = Vec::new(alloc);
+    let mut chunks = Vec::with_capacity(alloc, chunks_len(tables))?;
     push_kind(&mut chunks, tables, RuleKind::Allow)?;
     push_kind(&mut chunks, tables, RuleKind::AuditAllow)?;
     push_kind(&mut chunks, tables, RuleKind::DontAudit)?;
@@ -121,16 +153,15 @@ fn collect<A: Allocator + Copy>(alloc: A, tables: &Tables<A>) -> Result<Vec<Chun
     Ok(chunks)
 }
 
-/// The accesses that the rules of a policy give, by the numbers of its names.
+/// The accesses that the rules of a policy give, by the numbers of its names. The tables are those of the policy.
 pub fn accesses_of<A: Allocator + Copy>(
     alloc: A,
     resolved: &Resolved<A>,
-    members: &Members<A>,
+    tables: &Tables<A>,
 ) -> Result<Accesses<A>, AllocError>
-    requires { AreMembers resolved.now members.now }
+    requires { AreTables resolved.now tables.now }
     ensures numbered { IfOk result (λ accesses. AreNumbered resolved.now.names.items accesses) }
     ensures exact { IfOk result (λ accesses. AreAtoms (is_in_table (meaning_in resolved.now)) (map (atom_at resolved.now.names.items) accesses)) }
 {
-    let tables = Tables::plain(alloc, resolved, members)?;
-    Ok(Accesses::of(collect(alloc, &tables)?))
+    Ok(Accesses::of(collect(alloc, tables)?))
 }

@@ -4,6 +4,7 @@
 mod atom;
 mod changes;
 mod collect;
+mod counted;
 mod listing;
 mod name_list;
 mod numbers;
@@ -14,6 +15,7 @@ mod table;
 
 pub use atom::Atom;
 pub use changes::Changes;
+pub use counted::count;
 pub use listing::write_row_line;
 pub use row::{Names, Row};
 pub use rows::Rows;

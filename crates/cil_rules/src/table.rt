@@ -6,7 +6,7 @@ ghost use Rattle.cil_specs.specs.Rule as spec;
 ghost use Rattle.cil_specs.specs.Meaning.{is_in_table};
 ghost use Rattle.cil_specs.specs.Report.{AreAtoms, Row, AreRows, row_line};
 ghost use Rattle.cil_resolve.specs.Resolved.{meaning_in};
-ghost use Rattle.cil_sets.specs.Members.{AreMembers};
+ghost use Rattle.cil_tables.specs.Tables.{AreTables};
 ghost use Rattle.cil_stream.specs.Device.{HasFailed, Gains, GainsFront};
 ghost use Rattle.cil_rules.specs.Atoms.{atom_of};
 
@@ -18,8 +18,8 @@ use crate::numbers::named;
 use crate::rows::Rows;
 use cil_accesses::Accesses;
 use cil_resolve::Resolved;
-use cil_sets::Members;
 use cil_stream::{Sink, SinkFault};
+use cil_tables::Tables;
 use std::alloc::{AllocError, Allocator, Global};
 use std::marker::Model;
 
@@ -54,12 +54,12 @@ impl<A: Allocator + Copy> Table<A> {
         }
     }
 
-    /// The table of the rules of a resolved policy with these members of its attributes. It has names of its own.
-    pub fn of(alloc: A, resolved: &Resolved<A>, members: &Members<A>) -> Result<Self, AllocError>
-        requires { AreMembers resolved.now members.now }
+    /// The table of the rules of a resolved policy, which these tables count. It has names of its own.
+    pub fn of(alloc: A, resolved: &Resolved<A>, tables: &Tables<A>) -> Result<Self, AllocError>
+        requires { AreTables resolved.now tables.now }
         ensures { IfOk result (λ table. AreAtoms (is_in_table (meaning_in resolved.now)) table) }
     {
-        let accesses = accesses_of(alloc, resolved, members)?;
+        let accesses = accesses_of(alloc, resolved, tables)?;
         Ok(Table {
             names: NameList::of(names_of(alloc, resolved)?)?,
             accesses,

@@ -17,6 +17,7 @@ pub mod FaultSame
 pub mod ReportLemmasMembers
 pub mod ReportLemmas
 pub mod ViolationLemmas
+pub mod OneListing
 pub mod ApartLemmas
 pub mod LeadsLemmas
 pub mod RestrictedLemmas

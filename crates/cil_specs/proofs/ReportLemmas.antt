@@ -1,4 +1,4 @@
--- The orders of names and accesses.
+-- The orders of names, accesses and rows.
 use Rattle.std.proofs.Common.{◌≡◌, ℕ, zero, suc, List, [], ◌∷◌, true, refl, sym, ap, ◌∙◌}
 use Rattle.std.specs.Bool.{IsTrue}
 use Rattle.std.specs.List.Sorted.{IsStrictlySortedBy}
@@ -11,7 +11,7 @@ use Rattle.std.proofs.lemmas.Cmp.{nat_cmp_total, on_total, then_total, nat_list_
 use Rattle.std.proofs.lemmas.Map.Lookups.{CmpEqualImpliesEq, exact_unsigned, exact_bytes}
 use Rattle.cil_specs.specs.Statements.{RuleKind, allow, auditallow, dontaudit, neverallow}
 use Rattle.cil_specs.specs.Rule.{kind_index}
-use Rattle.cil_specs.specs.Report.{name_cmp, atom_cmp, names_rise}
+use Rattle.cil_specs.specs.Report.{name_cmp, atom_cmp, row_cmp, names_rise}
 use Rattle.cil_specs.proofs.ReportLemmasMembers.{all_weaker}
 
 pub name_total : IsTotalOrder name_cmp
@@ -22,6 +22,11 @@ atom_total =
     then_total (on_total (λ a. kind_index a.kind) nat_cmp_total)
     (then_total (on_total (λ a. a.source) name_total) (then_total (on_total (λ a. a.target) name_total)
     (then_total (on_total (λ a. a.the_class) name_total) (on_total (λ a. a.permission) name_total))))
+
+pub row_total : IsTotalOrder row_cmp
+row_total =
+    then_total (on_total (λ r. kind_index r.kind) nat_cmp_total)
+    (then_total (on_total (λ r. r.source) name_total) (then_total (on_total (λ r. r.target) name_total) (on_total (λ r. r.the_class) name_total)))
 
 -- a kind by its place in the order
 kind_at : ℕ → RuleKind

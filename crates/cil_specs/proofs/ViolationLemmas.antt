@@ -23,7 +23,7 @@ violation_total =
     (then_total (on_total (λ v. v.target) name_total) (on_total (λ v. v.the_class) name_total))))
 
 -- what stands in a list whose elements are all above x, is above it
-above : {X : Type 0} (R : X → X → Ordering) (x y : X) (ys : List X) → AllByRecursion (λ z. R x z ≡ Less) ys → AnyByRecursion (λ z. z ≡ y) ys → R x y ≡ Less
+pub above : {X : Type 0} (R : X → X → Ordering) (x y : X) (ys : List X) → AllByRecursion (λ z. R x z ≡ Less) ys → AnyByRecursion (λ z. z ≡ y) ys → R x y ≡ Less
 above R x y [] all none = absurd none
 above R x y (z ∷ ys) all (inl is) = subst (λ w. R x w ≡ Less) is all.0
 above R x y (z ∷ ys) all (inr later) = above R x y ys all.1 later
@@ -37,7 +37,7 @@ not-both-below : {X : Type 0} {R : X → X → Ordering} (o : IsTotalOrder R) (x
 not-both-below o x y less more = not-below-itself o x (o.trans x y x less more)
 
 -- strictly ascending lists of the same elements are one
-one-sorted : {X : Type 0} (R : X → X → Ordering) (o : IsTotalOrder R) (xs ys : List X) → IsStrictlySortedBy R xs → IsStrictlySortedBy R ys
+pub one-sorted : {X : Type 0} (R : X → X → Ordering) (o : IsTotalOrder R) (xs ys : List X) → IsStrictlySortedBy R xs → IsStrictlySortedBy R ys
     → ((z : X) → AnyByRecursion (λ x. x ≡ z) xs → AnyByRecursion (λ y. y ≡ z) ys) → ((z : X) → AnyByRecursion (λ y. y ≡ z) ys → AnyByRecursion (λ x. x ≡ z) xs) → xs ≡ ys
 unfolding IsStrictlySortedBy
 one-sorted R o [] [] ascends rises to from = refl

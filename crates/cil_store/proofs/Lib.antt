@@ -6,3 +6,4 @@ pub mod StateLemmas
 pub mod StepLemmas
 pub mod JoinLemmas
 pub mod DroppedLemmas
+pub mod PlainLemmas

@@ -1,11 +1,12 @@
 //! Laws of the definitions, which make the contracts of engines exact. They have no code.
 
-ghost use Rattle.std.specs.Prelude.{◌≡◌, List};
+ghost use Rattle.std.specs.Prelude.{◌≡◌, List, IsTrue};
+ghost use Rattle.std.specs.List.{list_all};
 ghost use Rattle.cil_specs.specs.Joined.{Placed};
 ghost use Rattle.cil_specs.specs.Kept.{AreApart};
 ghost use Rattle.cil_specs.specs.Meaning.{Meaning};
 ghost use Rattle.cil_store_specs.specs.Next.{Edit, Refusal, Judgement, IsMeaningOf, IsPolicyOf, IsPolicyRefusal, IsTaken, Next};
-ghost use Rattle.cil_store_specs.specs.Run.{Call, Reply, Run};
+ghost use Rattle.cil_store_specs.specs.Run.{Call, Reply, Run, is_answered};
 ghost use Rattle.cil_store_specs.specs.Store.{Store, IsStore, empty};
 
 /// A store in which no module stands is in order, and edits and runs of calls lead from one in order to another.
@@ -39,4 +40,10 @@ pub fn no_meaning_beside_a_refusal()
 /// Of an edit of a store in order one thing is judged.
 pub fn one_judgement()
     ensures { (store : Store) (edit : Edit) (judgement other : Judgement) → IsStore store → Next store edit judgement → Next store edit other → judgement ≡ other }
+{}
+
+/// Two runs of the same calls from a store in order, in which no reply is out of memory, agree in every reply and in the store.
+pub fn one_run()
+    ensures { (old new other : Store) (calls : List Call) (replies others : List Reply) → IsStore old → Run old calls replies new → Run old calls others other
+        → IsTrue (list_all is_answered replies) → IsTrue (list_all is_answered others) → (replies ≡ others) × (new ≡ other) }
 {}

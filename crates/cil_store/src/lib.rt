@@ -12,6 +12,8 @@ mod entry;
 mod join;
 mod laws;
 mod modules;
+mod plain;
+mod policy;
 mod refusal;
 mod refusing;
 mod runs;
@@ -22,9 +24,10 @@ pub use dropped::Dropped;
 pub use edit::Edit;
 pub use entry::Entry;
 pub use laws::{
-    no_meaning_beside_a_refusal, one_judgement, one_meaning, one_policy_refusal,
+    no_meaning_beside_a_refusal, one_judgement, one_meaning, one_policy_refusal, one_run,
     policies_are_apart, stores_are_in_order,
 };
 pub use modules::{State, Store};
+pub use plain::Plain;
 pub use refusal::{FaultKind, Refusal, StoreFault};
 pub use runs::run;

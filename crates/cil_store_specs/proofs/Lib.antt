@@ -8,3 +8,4 @@ pub mod ActiveLemmas
 pub mod WordLemmas
 pub mod LineLemmas
 pub mod OneScript
+pub mod OneRun

@@ -41,7 +41,7 @@ next-ordered store new edit is (not_taken refusal a same) = absurd cc
 next-ordered store new edit is (bad_policy other refusal a refused same) = absurd cc
 next-ordered store new edit is (good other meaning a means same) = let e : new ≡ other = cc in subst IsStore (sym e) (taken-ordered store other edit is a)
 
-step-ordered : (old new : Store) (call : Call) (reply : Reply) → IsStore old → Step old call reply new → IsStore new
+pub step-ordered : (old new : Store) (call : Call) (reply : Reply) → IsStore old → Step old call reply new → IsStore new
 step-ordered old new call reply is (accepted edit changes asked told made) = next-ordered old new edit is made.next
 step-ordered old new call reply is (rejected edit refusal asked told next same) = subst IsStore (sym same) is
 step-ordered old new call reply is (lists rows asked told are same) = subst IsStore (sym same) is

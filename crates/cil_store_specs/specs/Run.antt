@@ -1,11 +1,11 @@
 -- Calls of an engine that is seen as its store, and their replies.
-use Rattle.std.specs.Prelude.{◌≡◌, ℕ, List, [], ◌∷◌, flat_map}
+use Rattle.std.specs.Prelude.{◌≡◌, ℕ, Bool, true, false, List, [], ◌∷◌, flat_map}
 use Rattle.cil_specs.specs.Rule.{Declared}
 use Rattle.cil_specs.specs.Meaning.{Meaning, is_in_table}
 use Rattle.cil_specs.specs.Report.{Changes, AreChanges, Row, AreRows, row_line}
 use Rattle.cil_specs.specs.Violations.{Violation, AreViolations}
 use Rattle.cil_store_specs.specs.Store.{Store}
-use Rattle.cil_store_specs.specs.Next.{Edit, Refusal, for_memory, accepts, refuses, Next, IsMeaningOf}
+use Rattle.cil_store_specs.specs.Next.{Edit, Refusal, by_store, at_place, for_memory, accepts, refuses, Next, IsMeaningOf}
 
 -- an edit, or the question for the rows of the listing, for its bytes, for the violations or for the optionals that drop
 pub data Call : Type 0 where
@@ -22,6 +22,17 @@ pub data Reply : Type 0 where
   printed : List ℕ → Reply
   violated : List Violation → Reply
   dropped_optionals : List Declared → Reply
+
+-- whether a call is answered, that is, its reply isn't that memory ran out
+abbrev pub is_answered : Reply → Bool
+is_answered (changed_by changes) = true
+is_answered (refused (by_store code word)) = true
+is_answered (refused (at_place code module_name at word)) = true
+is_answered (refused for_memory) = false
+is_answered (listed rows) = true
+is_answered (printed bytes) = true
+is_answered (violated violations) = true
+is_answered (dropped_optionals dropped) = true
 
 -- The accepted edit moves to the next store, and the reply is the difference of the two tables.
 pub record IsAccepted (old : Store) (edit : Edit) (changes : Changes) (new : Store) : Type 0 where

@@ -4,10 +4,10 @@ use Rattle.cil_rules.proofs.collect.accesses_of.Goals as goal
 
 pub returns-clause-numbered : goal.returns-clause-numbered
 returns-clause-numbered g c =
-    are-numbered c.args.resolved.now c.in_ok-tables.tables c.in_ok-tables.ensures c.of.result c.of.ensures.ordered
+    are-numbered c.args.resolved.now c.args.tables.now c.requires c.of.result c.of.ensures.ordered
     (λ n. alike-trans (c.of.ensures.same n) (c.in_ok-collect.ensures.given n))
 
 pub returns-clause-exact : goal.returns-clause-exact
 returns-clause-exact g c =
-    are-atoms c.args.resolved.now c.in_ok-tables.tables c.in_ok-tables.ensures c.of.result c.of.ensures.ordered
+    are-atoms c.args.resolved.now c.args.tables.now c.requires c.of.result c.of.ensures.ordered
     (λ n. alike-trans (c.of.ensures.same n) (c.in_ok-collect.ensures.given n))

@@ -1,0 +1,126 @@
+-- What the plain engine keeps, and what its steps lead to.
+use Rattle.std.proofs.Common.{◌≡◌, ◌++◌, List, [], ◌∷◌, length, map, Bool, false, Option, Some, None, Result, Ok, Err, IfOk, ℕ, Contains, refl, ap, sym, ◌∙◌, subst, true≢false, length-append, arith}
+use Rattle.std.specs.List.Sorted.{IsStrictlySortedBy}
+use Rattle.cil_specs.specs.Joined.{Module, joined}
+use Rattle.cil_specs.specs.PolicyFault.{PolicyFaultKind, twice}
+use Rattle.cil_specs.specs.Rule.{Rule, Atom, Declared}
+use Rattle.cil_specs.specs.Meaning.{Meaning, Means, meaning_of, is_in_table}
+use Rattle.cil_specs.specs.Members.{is_member}
+use Rattle.cil_specs.specs.Report.{AreAtoms, Changes, AreChanges, Row, AreRows, name_cmp}
+use Rattle.cil_specs.specs.Violations.{Violation, AreViolations}
+use Rattle.cil_specs.specs.Kept.{Optionals, AreKept, judged, Compiles}
+use Rattle.cil_store_specs.specs.Store.{Store, empty, active}
+use Rattle.cil_store_specs.specs.Next.{AreModules, IsMeaningOf, Edit, HasGoodText, changed, store_refusal, good}
+use Rattle.cil_store_specs.specs.Run.{an_edit, changed_by, AreRowsOf, AreViolationsOf, accepted, Step}
+use Rattle.cil_store_specs.proofs.OneStore.{meaning-same}
+use Rattle.cil_bind.specs.declared.joined.NamedModule.{NamedModule}
+use Rattle.cil_resolve.specs.Modules.{AreParsedFrom}
+use Rattle.cil_store.specs.Plain.{meaning_by, IsCompiledTo}
+use Rattle.cil_store.specs.Policy.{policy_meaning}
+use Rattle.cil_store.specs.declared.policy.Policy.{Policy}
+use Rattle.cil_store.proofs.StepLemmas.{store-meaning}
+
+-- the set of no optional
+abbrev no_optional : Optionals
+no_optional name at = false
+
+-- a policy of no statements keeps none
+none-kept : AreKept [] no_optional
+none-kept name at = (λ kept. absurd (true≢false (sym kept)), λ is. is.1.of_policy name at is.2)
+
+none-judged : (kind : PolicyFaultKind) → judged kind no_optional [] ≡ []
+none-judged twice = refl
+none-judged _ = refl
+
+-- a policy of no statements has no fault
+none-wrong : Compiles no_optional []
+none-wrong fault h = absurd (omega (arith, ap length (sym h.split ∙ none-judged fault.kind), length-append h.before (h.s ∷ h.after)))
+
+-- an empty store means what no statements do
+none-meant : IsMeaningOf empty (meaning_of [] [])
+none-meant = record { policy = []; kept = no_optional; is_policy = ([], tt, refl); means = record { are_kept = none-kept; compiles = none-wrong; is = refl } }
+
+-- no statements mean nothing else
+pub none-means : (meaning : Meaning) → (kept : Optionals) × Means (joined []) kept meaning → meaning ≡ meaning_of [] []
+none-means meaning means = meaning-same empty meaning (meaning_of [] []) (store-meaning empty [] meaning tt means) none-meant
+
+-- no access is in their table
+no-atoms : AreAtoms (is_in_table (meaning_of [] [])) []
+unfolding IsStrictlySortedBy
+no-atoms = record { ordered = tt; exact = λ a. ((λ has. absurd (omega (arith, has.1))), λ e. absurd (true≢false (sym e))) }
+
+not-in-none : (r : Rule) → Contains [] r → ⊥
+not-in-none r has = omega (arith, has.1)
+
+-- no violation is in their report
+no-violations : AreViolations (meaning_of [] []) []
+unfolding IsStrictlySortedBy
+no-violations = record { ordered = tt; exact = λ v. ((λ has. absurd (omega (arith, has.1))), λ is. absurd (not-in-none v.never is.never)) }
+
+-- where no policy is kept the store has no violation
+pub none-violated : {A : Type 0} (store : Store) (policy : Option (Policy A)) (table : List Atom) (dropped : List Declared) → policy ≡ None → IsCompiledTo store policy table dropped → AreViolationsOf store []
+none-violated store policy table dropped none compiled = (meaning_by policy, compiled.is_meaning, subst (λ p. AreViolations (meaning_by p) []) (sym none) no-violations)
+
+-- what a new engine keeps
+pub kept-empty : {A : Type 0} (policy : Option (Policy A)) (table : List Atom) (dropped : List Declared) → policy ≡ None → table ≡ [] → dropped ≡ [] → IsCompiledTo empty policy table dropped
+kept-empty policy table dropped no_policy none nothing = subst (λ p. IsCompiledTo empty p table dropped) (sym no_policy) (record {
+  is_meaning = none-meant;
+  are_atoms = subst (AreAtoms (is_in_table (meaning_of [] []))) (sym none) no-atoms;
+  are_dropped = nothing;
+})
+
+-- what a store compiles to, by the policy that the modules of its active entries resolve to
+pub compiled-to : {A : Type 0} (store : Store) (atoms : List Atom) (dropped : List Declared) (modules : List Module) (meaning : Meaning) (policy : Policy A) → AreModules (active store) modules
+    → (kept : Optionals) × Means (joined modules) kept meaning → policy_meaning policy ≡ meaning → AreAtoms (is_in_table (policy_meaning policy)) atoms → dropped ≡ (policy_meaning policy).dropped → IsCompiledTo store (Some policy) atoms dropped
+compiled-to store atoms dropped modules meaning policy are means same are_atoms are_dropped = record {
+  is_meaning = store-meaning store modules (policy_meaning policy) are (means.0, subst (Means (joined modules) means.0) (sym same) means.1);
+  are_atoms = are_atoms;
+  are_dropped = are_dropped;
+}
+
+-- the step of an edit that was made
+pub accepted-step : {A : Type 0} (store : Store) (edit : Edit) (first second : Option (Policy A)) (old atoms : List Atom) (dropped others : List Declared) (changes : Changes) → store_refusal store edit ≡ None → HasGoodText edit
+    → IsCompiledTo store first old dropped → IsCompiledTo (changed store edit) second atoms others → ((p q : Atom → Bool) → AreAtoms p old → AreAtoms q atoms → AreChanges p q changes) → Step store (an_edit edit) (changed_by changes) (changed store edit)
+accepted-step store edit first second old atoms dropped others changes taken good_text was made between =
+    accepted edit changes refl refl (record {
+      next = good (changed store edit) (meaning_by second) (record { not_refused = taken; good_text = good_text; is = refl }) made.is_meaning refl;
+      before = meaning_by first;
+      after = meaning_by second;
+      meant = was.is_meaning;
+      means = made.is_meaning;
+      are_changes = between (is_in_table (meaning_by first)) (is_in_table (meaning_by second)) was.are_atoms made.are_atoms;
+    })
+
+-- what is so of the meaning of what is kept is so of each meaning of the store
+pub of-meaning : {A : Type 0} (store : Store) (policy : Option (Policy A)) (table : List Atom) (dropped : List Declared) (P : Meaning → Type 0) → IsCompiledTo store policy table dropped → P (meaning_by policy)
+    → (meaning : Meaning) → IsMeaningOf store meaning → P meaning
+of-meaning store policy table dropped P compiled is meaning meant = subst P (meaning-same store (meaning_by policy) meaning compiled.is_meaning meant) is
+
+-- the rows of a table are those of the store that it is of
+pub rows-of : {X E A : Type 0} (listing : X → List Row) (r : Result X E) (store : Store) (policy : Option (Policy A)) (table : List Atom) (dropped : List Declared) → IsCompiledTo store policy table dropped
+    → IfOk r (λ rows. (p : Atom → Bool) → AreAtoms p table → AreRows p (listing rows)) → IfOk r (λ rows. AreRowsOf store (listing rows))
+rows-of listing (Err _) store policy table dropped kept are = tt
+rows-of listing (Ok rows) store policy table dropped kept are = (meaning_by policy, kept.is_meaning, are (is_in_table (meaning_by policy)) kept.are_atoms)
+
+-- the violations of a policy are those of the store that it is of
+pub violations-of : {X E A : Type 0} (listing : X → List Violation) (r : Result X E) (store : Store) (policy : Option (Policy A)) (table : List Atom) (dropped : List Declared) (meaning : Meaning) → IsCompiledTo store policy table dropped
+    → meaning ≡ meaning_by policy → IfOk r (λ found. AreViolations meaning (listing found)) → IfOk r (λ found. AreViolationsOf store (listing found))
+violations-of listing (Err _) store policy table dropped meaning kept same are = tt
+violations-of listing (Ok found) store policy table dropped meaning kept same are = (meaning_by policy, kept.is_meaning, subst (λ m. AreViolations m (listing found)) same are)
+
+-- no statements hold no type
+pub none-held : (attribute t : List ℕ) → false ≡ is_member (meaning_of [] []) attribute t
+unfolding is_member
+none-held attribute t = refl
+
+-- no modules are in order
+pub none-sorted : {X : Type 0} (f : X → List ℕ) (xs : List X) → xs ≡ [] → IsStrictlySortedBy name_cmp (map f xs)
+none-sorted f xs none = subst (λ l. IsStrictlySortedBy name_cmp (map f l)) (sym none) nothing
+  where
+    nothing : IsStrictlySortedBy name_cmp []
+    unfolding IsStrictlySortedBy
+    nothing = tt
+
+-- and stand for no modules
+pub none-parsed : {A : Type 0} (parsed : List (NamedModule A)) → parsed ≡ [] → AreParsedFrom parsed []
+none-parsed parsed none = subst (λ l. AreParsedFrom l []) (sym none) (record { spelt = tt; written = tt })

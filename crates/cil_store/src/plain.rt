@@ -1,0 +1,192 @@
+//! The plain engine, which compiles its store anew at each edit.
+
+ghost use Rattle.std.specs.Prelude.{◌≡◌, Bool, None, Some, IfOk, IfErr, OnOk, OnErr};
+ghost use Rattle.std.specs.Rc.{rc_value};
+ghost use Rattle.cil_store_specs.specs.Next.{changed, store_refusal};
+ghost use Rattle.cil_store_specs.specs.Run.{Step, an_edit, changed_by};
+ghost use Rattle.cil_store_specs.specs.Store.{empty};
+ghost use Rattle.cil_specs.specs.Rule.{Atom as access};
+ghost use Rattle.cil_specs.specs.Meaning.{is_in_table};
+ghost use Rattle.cil_specs.specs.Report.{AreAtoms, AreChanges};
+ghost use Rattle.cil_resolve.specs.Resolved.{meaning_in};
+ghost use Rattle.cil_store.specs.Admitted.{admitted_edit, IsAdmitted};
+ghost use Rattle.cil_store.specs.Edits.{refusal_of};
+ghost use Rattle.cil_store.specs.Plain.{IsCompiledTo};
+ghost use Rattle.cil_store.specs.Policy.{policy_meaning};
+ghost use Rattle.cil_store.specs.Refusing.{IsRefusedPolicy};
+
+use crate::admitted::{Admitted, admit};
+use crate::compiled::{Compiled, WriteFault};
+use crate::dropped::Dropped;
+use crate::edit::Edit;
+use crate::join::join;
+use crate::modules::Store;
+use crate::policy::Policy;
+use crate::refusal::Refusal;
+use crate::refusing::refuse_policy;
+use cil_resolve::{Resolved, resolve};
+use cil_rules::{Atom, Changes, Rows, Table};
+use cil_stream::Sink;
+use cil_violations::Violations;
+use std::alloc::{AllocError, Allocator, Global};
+use std::marker::Model;
+
+/// What a changed store compiles to, and how its table differs from the one before.
+#[derive(Drop)]
+struct Made<A: Allocator> {
+    policy: Policy<A>,
+    table: Table<A>,
+    dropped: Dropped<A>,
+    changes: Changes<A>,
+}
+
+/// A policy with its table and the optionals that drop, and how the table differs from another.
+fn tabulate<A: Allocator + Copy>(
+    alloc: A,
+    old: &Table<A>,
+    resolved: Resolved<A>,
+) -> Result<Made<A>, AllocError>
+    ensures policy { IfOk result (λ made. policy_meaning made.policy ≡ meaning_in resolved) }
+    ensures table { IfOk result (λ made. AreAtoms (is_in_table (policy_meaning made.policy)) made.table) }
+    ensures dropped { IfOk result (λ made. made.dropped ≡ (policy_meaning made.policy).dropped) }
+    ensures changes { IfOk result (λ made. (p q : access → Bool) → AreAtoms p old.now → AreAtoms q made.table → AreChanges p q made.changes) }
+{
+    let policy = Policy::of(alloc, resolved)?;
+    let dropped = policy.dropped(alloc)?;
+    let table = policy.table(alloc)?;
+    let changes = Changes::between(alloc, old, &table)?;
+    Ok(Made {
+        policy,
+        table,
+        dropped,
+        changes,
+    })
+}
+
+/// A store and what it compiles to: its policy, which a new store has none of, the table of its accesses, and the optionals
+/// that drop. At an edit the text that it brings is parsed, the changed store is compiled anew from its parsed modules, and what it
+/// compiles to put in place of the old where nothing is against it.
+#[derive(Drop)]
+pub struct Plain<A: Allocator = Global> {
+    alloc: A,
+    store: Store<A>,
+    policy: Option<Policy<A>>,
+    table: Table<A>,
+    dropped: Dropped<A>,
+}
+
+impl<A: Allocator> Model for Plain<A> {
+    ghost use Rattle.cil_store_specs.specs.Store.{Store};
+    ghost use Rattle.cil_store.specs.Plain.{IsCompiledTo};
+
+    ghost Value = { Store };
+
+    ghost view = { λ p. p.store };
+
+    ghost invariant = { λ p. IsCompiledTo p.store p.policy p.table p.dropped };
+}
+
+impl<A: Allocator + Copy> Plain<A> {
+    /// An engine of an empty store. It takes no memory.
+    pub fn new(alloc: A) -> Self
+        ensures { result ≡ empty }
+    {
+        Plain {
+            alloc,
+            store: Store::new(alloc),
+            policy: None,
+            table: Table::empty(alloc),
+            dropped: Dropped::empty(alloc),
+        }
+    }
+
+    /// What the store compiles to after an edit.
+    fn compile(&self, edit: &Admitted<'_, A>) -> Result<Made<A>, Refusal<A>>
+        requires { IsAdmitted edit.now }
+        ensures ok { IfOk result (λ made. IsCompiledTo (changed self.now (admitted_edit edit.now)) (Some made.policy) made.table made.dropped) }
+        ensures changes { IfOk result (λ made. store_refusal self.now (admitted_edit edit.now) ≡ None
+            → Step self.now (an_edit (admitted_edit edit.now)) (changed_by made.changes) (changed self.now (admitted_edit edit.now))) }
+        ensures err { IfErr result (λ refusal. IsRefusedPolicy self.now (admitted_edit edit.now) (refusal_of refusal)) }
+    {
+        let joined = join(self.alloc, &self.store, edit)?;
+        let resolved = match resolve(self.alloc, &joined) {
+            Ok(resolved) => resolved,
+            Err(fault) => return Err(refuse_policy(self.alloc, fault)),
+        };
+        let made = tabulate(self.alloc, &self.table, resolved)?;
+        Ok(made)
+    }
+
+    /// Makes an edit, and puts what the store compiles to after it in place.
+    fn replace(&mut self, edit: Admitted<'_, A>, made: Made<A>) -> Result<Changes<A>, AllocError>
+        requires admitted { IsAdmitted edit }
+        requires made { IsCompiledTo (changed self.old (admitted_edit edit)) (Some made.policy) made.table made.dropped }
+        ensures ok { OnOk result (self.new ≡ changed self.old (admitted_edit edit.entry)) }
+        ensures changes { IfOk result (λ changes. changes ≡ made.changes) }
+        ensures err { OnErr result (self.new ≡ self.old) }
+    {
+        self.store.make(self.alloc, edit)?;
+        self.policy = Some(made.policy);
+        self.table = made.table;
+        self.dropped = made.dropped;
+        Ok(made.changes)
+    }
+}
+
+impl<A: Allocator + Copy> Compiled<A> for Plain<A> {
+    ghost store = { λ p. p };
+
+    fn store(&self) -> &Store<A> {
+        &self.store
+    }
+
+    fn has(&self, attribute: &[u8], ty: &[u8]) -> bool {
+        match &self.policy {
+            Some(policy) => policy.has(attribute, ty),
+            None => false,
+        }
+    }
+
+    fn count(&self, access: &Atom<'_>) -> u64 {
+        match &self.policy {
+            Some(policy) => policy.count(access),
+            None => 0,
+        }
+    }
+
+    fn edit(&mut self, edit: Edit<'_>) -> Result<Changes<A>, Refusal<A>> {
+        let admitted = admit(self.alloc, &self.store, edit)?;
+        let made = self.compile(&admitted)?;
+        let changes = self.replace(admitted, made)?;
+        Ok(changes)
+    }
+
+    fn rows(&self) -> Result<Rows<A>, AllocError> {
+        self.table.rows(self.alloc)
+    }
+
+    fn violations(&self) -> Result<Violations<A>, AllocError> {
+        match &self.policy {
+            Some(policy) => policy.violations(self.alloc),
+            None => Policy::empty(self.alloc)?.violations(self.alloc),
+        }
+    }
+
+    fn dropped(&self) -> Result<Dropped<A>, AllocError> {
+        self.dropped.copied(self.alloc)
+    }
+
+    fn write_listing<W: Sink>(&self, sink: &mut W) -> Result<u128, WriteFault> {
+        match self.table.write_listing(sink) {
+            Ok(rows) => Ok(rows),
+            Err(_) => Err(WriteFault::Sink),
+        }
+    }
+
+    fn write_violations<W: Sink>(&self, sink: &mut W) -> Result<usize, WriteFault> {
+        match &self.policy {
+            Some(policy) => policy.write_violations(self.alloc, sink),
+            None => Ok(0),
+        }
+    }
+}
