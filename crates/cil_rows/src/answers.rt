@@ -63,7 +63,11 @@ pub fn assert_install(rt: &impl Abort, alloc: Global, text: &[u8], want: &str) {
         Status::Refused
     };
     let mut script = Vec::new(alloc);
-    push_install(rt, alloc, &mut script, "m", 400, text);
+    let len = text.len();
+    let line = format!(in alloc; "install m 400 {len}\n").expect(rt, "memory");
+    push(rt, &mut script, line.as_bytes());
+    push(rt, &mut script, text);
+    push(rt, &mut script, b"\n");
     assert_answer(rt, alloc, script.as_slice(), want, status);
 }
 
@@ -74,108 +78,8 @@ pub fn assert_installs(rt: &impl Abort, alloc: Global, cases: &[(&[u8], &str)]) 
     }
 }
 
-fn push_install(
-    rt: &impl Abort,
-    alloc: Global,
-    script: &mut Vec<u8>,
-    name: &str,
-    priority: u32,
-    text: &[u8],
-) {
-    let len = text.len();
-    let line = format!(in alloc; "install {name} {priority} {len}\n").expect(rt, "memory");
-    push(rt, script, line.as_bytes());
-    push(rt, script, text);
-    push(rt, script, b"\n");
-}
-
 fn push(rt: &impl Abort, script: &mut Vec<u8>, piece: &[u8]) {
     script.extend_from_slice(piece).expect(rt, "memory");
-}
-
-/// A command of a script: an install of a module with a text, at 400 or at another priority; the line of another edit; or a
-/// question.
-#[derive(Clone, Copy)]
-pub enum Command<'a> {
-    Install(&'a str, &'a str),
-    At(u32, &'a str, &'a str),
-    Edit(&'a str),
-    Modules,
-    Rules,
-    Violations,
-    Dropped,
-}
-
-/// The commands of a script, each with its answer.
-pub type Dialogue<'a> = &'a [(Command<'a>, &'a str)];
-
-// Adds commands to a script, and their answers to what it is to answer.
-fn push_commands(
-    rt: &impl Abort,
-    alloc: Global,
-    script: &mut Vec<u8>,
-    want: &mut String,
-    dialogue: Dialogue<'_>,
-) {
-    for (command, answer) in dialogue {
-        match *command {
-            Command::Install(name, text) => {
-                push_install(rt, alloc, script, name, 400, text.as_bytes());
-            }
-            Command::At(priority, name, text) => {
-                push_install(rt, alloc, script, name, priority, text.as_bytes());
-            }
-            Command::Edit(line) => {
-                push(rt, script, line.as_bytes());
-                push(rt, script, b"\n");
-            }
-            Command::Modules => push(rt, script, b"modules\n"),
-            Command::Rules => push(rt, script, b"rules\n"),
-            Command::Violations => push(rt, script, b"violations\n"),
-            Command::Dropped => push(rt, script, b"dropped\n"),
-        }
-        want.push_str(answer).expect(rt, "memory");
-    }
-}
-
-// Asserts what a session with an empty store answers to each of the commands.
-fn assert_dialogue(rt: &impl Abort, alloc: Global, dialogue: Dialogue<'_>, status: Status) {
-    let mut script = Vec::new(alloc);
-    let mut want = String::new(alloc);
-    push_commands(rt, alloc, &mut script, &mut want, dialogue);
-    assert_answer(rt, alloc, script.as_slice(), want.as_str(), status);
-}
-
-/// Asserts what a session with an empty store answers to the commands of a store, and then to each edit, of which one at least
-/// is refused, with the questions behind it: their answers are the same each time.
-pub fn assert_unchanged(
-    rt: &impl Abort,
-    alloc: Global,
-    store: Dialogue<'_>,
-    edits: Dialogue<'_>,
-    questions: Dialogue<'_>,
-) {
-    let mut script = Vec::new(alloc);
-    let mut want = String::new(alloc);
-    push_commands(rt, alloc, &mut script, &mut want, store);
-    for edit in edits.chunks(1) {
-        push_commands(rt, alloc, &mut script, &mut want, edit);
-        push_commands(rt, alloc, &mut script, &mut want, questions);
-    }
-    let script = script.as_slice();
-    assert_answer(rt, alloc, script, want.as_str(), Status::Refused);
-}
-
-/// Asserts what a session with an empty store answers to each of the commands, for each dialogue of a table.
-pub fn assert_dialogues(
-    rt: &impl Abort,
-    alloc: Global,
-    dialogues: &[Dialogue<'_>],
-    status: Status,
-) {
-    for dialogue in dialogues {
-        assert_dialogue(rt, alloc, dialogue, status);
-    }
 }
 
 /// A piece of a long text: a text, or one byte so many times.

@@ -6,6 +6,8 @@ mod answers;
 #[cfg(test)]
 mod bound;
 #[cfg(test)]
+mod cases;
+#[cfg(test)]
 mod commands;
 #[cfg(test)]
 mod cuts;

@@ -1,231 +1,230 @@
 //! Names in blocks, aliases, commons and classes: what an install of such modules answers.
 
-use crate::answers::Command::{Install, Rules};
-use crate::answers::{Dialogue, assert_answers, assert_dialogues, assert_installs};
-use cil_program::script::session::Status;
+use crate::cases::assert_cases;
 
 // The first fault of one module, by its code, its place and its word.
-const FAULTS: &[(&[u8], &str)] = &[
-    // Types, aliases and attributes share a table, and blocks another.
-    (
-        b"(type a)(block a)(typeattribute a)",
-        "refused 41 m:1:33 a\n",
-    ),
-    (b"(type a)(typealias a)", "refused 41 m:1:20 a\n"),
-    (b"(block a)(block b)(block a)", "refused 41 m:1:26 a\n"),
-    (
-        b"(block b (type a))(type a)(block c (type a)(type a))",
-        "refused 41 m:1:50 a\n",
-    ),
-    (b"(classorder (j))", "refused 42 m:1:14 j\n"),
-    (b"(typealiasactual x a)", "refused 42 m:1:18 x\n"),
-    (
-        b"(typealias x)(typealiasactual x q)",
-        "refused 42 m:1:33 q\n",
-    ),
-    (b"(class k ())(classcommon k c)", "refused 42 m:1:28 c\n"),
-    (b"(common c ())(classcommon k c)", "refused 42 m:1:27 k\n"),
-    // A permission of another class is none of this one's.
-    (
-        b"(class k ())(class l (q))(type a)(allow a a (k (q)))",
-        "refused 42 m:1:49 q\n",
-    ),
-    // There is no way back outward once a block is found.
-    (
-        b"(class p (use))(block k (type t))(block j (block k)(allow k.t .k.t (p (use))))",
-        "refused 42 m:1:59 k.t\n",
-    ),
-    (b"(type a)(typealiasactual a a)", "refused 43 m:1:26 a\n"),
-    (
-        b"(typealias x)(typealias y)(typealiasactual x y)",
-        "refused 43 m:1:46 y\n",
-    ),
-    (
-        b"(type a)(typeattribute s)(typealias x)(typealiasactual x s)",
-        "refused 43 m:1:58 s\n",
-    ),
-    (
-        b"(typeattribute s)(class p (use))(type a)(typeattributeset a (s))",
-        "refused 43 m:1:59 a\n",
-    ),
-    (
-        b"(type a)(typealias x)(typealiasactual x a)(typealiasactual x a)",
-        "refused 44 m:1:60 x\n",
-    ),
-    (
-        b"(class p (use))(type a)(typealias x)(allow x a (p (use)))",
-        "refused 45 m:1:44 x\n",
-    ),
-    (
-        b"(common c (u))(class k ())(classcommon k c)(classcommon k c)",
-        "refused 46 m:1:57 k\n",
-    ),
-];
+const FAULTS: &str = "\
+# Types, aliases and attributes share a table, and blocks another.
+install m 400
+(type a)(block a)(typeattribute a)
+= refused 41 m:1:33 a
+#
+install m 400
+(type a)(typealias a)
+= refused 41 m:1:20 a
+#
+install m 400
+(block a)(block b)(block a)
+= refused 41 m:1:26 a
+#
+install m 400
+(block b (type a))(type a)(block c (type a)(type a))
+= refused 41 m:1:50 a
+#
+install m 400
+(classorder (j))
+= refused 42 m:1:14 j
+#
+install m 400
+(typealiasactual x a)
+= refused 42 m:1:18 x
+#
+install m 400
+(typealias x)(typealiasactual x q)
+= refused 42 m:1:33 q
+#
+install m 400
+(class k ())(classcommon k c)
+= refused 42 m:1:28 c
+#
+install m 400
+(common c ())(classcommon k c)
+= refused 42 m:1:27 k
+# A permission of another class is none of this one's.
+install m 400
+(class k ())(class l (q))(type a)(allow a a (k (q)))
+= refused 42 m:1:49 q
+# There is no way back outward once a block is found.
+install m 400
+(class p (use))(block k (type t))(block j (block k)(allow k.t .k.t (p (use))))
+= refused 42 m:1:59 k.t
+#
+install m 400
+(type a)(typealiasactual a a)
+= refused 43 m:1:26 a
+#
+install m 400
+(typealias x)(typealias y)(typealiasactual x y)
+= refused 43 m:1:46 y
+#
+install m 400
+(type a)(typeattribute s)(typealias x)(typealiasactual x s)
+= refused 43 m:1:58 s
+#
+install m 400
+(typeattribute s)(class p (use))(type a)(typeattributeset a (s))
+= refused 43 m:1:59 a
+#
+install m 400
+(type a)(typealias x)(typealiasactual x a)(typealiasactual x a)
+= refused 44 m:1:60 x
+#
+install m 400
+(class p (use))(type a)(typealias x)(allow x a (p (use)))
+= refused 45 m:1:44 x
+#
+install m 400
+(common c (u))(class k ())(classcommon k c)(classcommon k c)
+= refused 46 m:1:57 k
+";
 
-#[test]
-fn faults_of_one_policy(rt: HostRuntime) {
-    assert_installs(&rt, rt.alloc(), FAULTS);
-}
-
-const COMPILING: &[(&[u8], &str)] = &[
-    (b"(type a)(block a)(class a ())(common a ())", "ok 0 0\n"),
-    (b"(block b (block b (block b)))", "ok 0 0\n"),
-    (b"(class k ())(classorder (unordered k))", "ok 0 0\n"),
-    (b"(typealias x)", "ok 0 0\n"),
-    (
-        b"(class k (a b))(common c (b d))(classcommon k c)",
-        "ok 0 0\n",
-    ),
-];
-
-#[test]
-fn policies_that_compile(rt: HostRuntime) {
-    assert_installs(&rt, rt.alloc(), COMPILING);
-}
+const COMPILING: &str = "\
+#
+install m 400
+(type a)(block a)(class a ())(common a ())
+= ok 0 0
+#
+install m 400
+(block b (block b (block b)))
+= ok 0 0
+#
+install m 400
+(class k ())(classorder (unordered k))
+= ok 0 0
+#
+install m 400
+(typealias x)
+= ok 0 0
+#
+install m 400
+(class k (a b))(common c (b d))(classcommon k c)
+= ok 0 0
+";
 
 // A class has 32 permissions at the most, its common's included, each counted once.
-const MOST_PERMISSIONS: &[(&[u8], &str)] = &[(
-    b"install m 400 157\n(common c (p1 p2 p3 p4 p5 p6 p7 p8 p9 p10 p11 p12 p13 p14 p15 p16 p17 p18 p19 p20 p21 p22 p23 p24 p25 p26 p27 p28 p29 p30 p31))(class k (q))(classcommon k c)\n",
-    "ok 0 0\n",
-)];
+const MOST_PERMISSIONS: &str = "\
+#
+install m 400
+(common c (p1 p2 p3 p4 p5 p6 p7 p8 p9 p10 p11 p12 p13 p14 p15 p16 p17 p18 p19 p20 p21 p22 p23 p24 p25 p26 p27 p28 p29 p30 p31))(class k (q))(classcommon k c)
+= ok 0 0
+";
 
-const TOO_MANY: &[(&[u8], &str)] = &[(
-    b"install m 400 161\n(common c (p1 p2 p3 p4 p5 p6 p7 p8 p9 p10 p11 p12 p13 p14 p15 p16 p17 p18 p19 p20 p21 p22 p23 p24 p25 p26 p27 p28 p29 p30 p31 p32))(class k (q))(classcommon k c)\n",
-    "refused 47 m:1:139 k\n",
-)];
-
-#[test]
-fn classes_of_32_and_of_33_permissions(rt: HostRuntime) {
-    assert_answers(&rt, rt.alloc(), MOST_PERMISSIONS, Status::Clean);
-    assert_answers(&rt, rt.alloc(), TOO_MANY, Status::Refused);
-}
+const TOO_MANY: &str = "\
+#
+install m 400
+(common c (p1 p2 p3 p4 p5 p6 p7 p8 p9 p10 p11 p12 p13 p14 p15 p16 p17 p18 p19 p20 p21 p22 p23 p24 p25 p26 p27 p28 p29 p30 p31 p32))(class k (q))(classcommon k c)
+= refused 47 m:1:139 k
+";
 
 // Rules in blocks and by other names.
-const RULES: &[Dialogue<'static>] = &[
-    // A block's names from outside, from inside and from the global namespace.
-    &[
-        (
-            Install(
-                "m",
-                "(class p (use))(block b (type t)(block c (type u)(allow t u (p (use)))))(allow b.t b.c.u (p (use)))(allow .b.t .b.c.u (p (use)))",
-            ),
-            "ok 1 0\n",
-        ),
-        (Rules, "allow b.t b.c.u:p { use };\nend 1\n"),
-    ],
-    // A nearer declaration hides one further out.
-    &[
-        (
-            Install(
-                "m",
-                "(class p (use))(type t)(block b (type t)(allow t .t (p (use)))(block c (allow t t (p (use)))))",
-            ),
-            "ok 2 0\n",
-        ),
-        (
-            Rules,
-            "allow b.t b.t:p { use };\nallow b.t t:p { use };\nend 2\n",
-        ),
-    ],
-    // The first name of several is the nearest block outward.
-    &[
-        (
-            Install(
-                "m",
-                "(class p (use))(block a (type x)(block b (type y)(allow a.x b.y (p (use)))))",
-            ),
-            "ok 1 0\n",
-        ),
-        (Rules, "allow a.x a.b.y:p { use };\nend 1\n"),
-    ],
-    // A class and a common in a block, and the permissions of both.
-    &[
-        (
-            Install(
-                "m",
-                "(block b (common c (u))(class k (q))(classcommon k c))(type a)(allow a a (b.k (q u)))",
-            ),
-            "ok 2 0\n",
-        ),
-        (Rules, "allow a a:b.k { q u };\nend 1\n"),
-    ],
-    // An alias stands for its type.
-    &[
-        (
-            Install(
-                "m",
-                "(class p (use))(type a)(typealias x)(typealiasactual x a)(allow x x (p (use)))",
-            ),
-            "ok 1 0\n",
-        ),
-        (Rules, "allow a a:p { use };\nend 1\n"),
-    ],
-];
+const RULES: &str = "\
+# A block's names from outside, from inside and from the global namespace.
+install m 400
+(class p (use))(block b (type t)(block c (type u)(allow t u (p (use)))))(allow b.t b.c.u (p (use)))(allow .b.t .b.c.u (p (use)))
+= ok 1 0
+rules
+= allow b.t b.c.u:p { use };
+= end 1
+# A nearer declaration hides one further out.
+install m 400
+(class p (use))(type t)(block b (type t)(allow t .t (p (use)))(block c (allow t t (p (use)))))
+= ok 2 0
+rules
+= allow b.t b.t:p { use };
+= allow b.t t:p { use };
+= end 2
+# The first name of several is the nearest block outward.
+install m 400
+(class p (use))(block a (type x)(block b (type y)(allow a.x b.y (p (use)))))
+= ok 1 0
+rules
+= allow a.x a.b.y:p { use };
+= end 1
+# A class and a common in a block, and the permissions of both.
+install m 400
+(block b (common c (u))(class k (q))(classcommon k c))(type a)(allow a a (b.k (q u)))
+= ok 2 0
+rules
+= allow a a:b.k { q u };
+= end 1
+# An alias stands for its type.
+install m 400
+(class p (use))(type a)(typealias x)(typealiasactual x a)(allow x x (p (use)))
+= ok 1 0
+rules
+= allow a a:p { use };
+= end 1
+";
+
+const SEVERAL_MODULES: &str = "\
+# Several modules: the least code comes first, then the least module name, whatever was installed last.
+install m 400
+(class p (use))(type a)
+= ok 0 0
+install z 400
+(type y)
+= ok 0 0
+install b 400
+(allow a y (p (use)))
+= ok 1 0
+install z 400
+(class w ())
+= refused 42 b:1:10 y
+install c 400
+(typealias x)(typealiasactual a x)(allow x q (p (use)))
+= refused 42 c:1:44 q
+install c 400
+(typealias x)(typealiasactual a x)(allow x a (p (use)))
+= refused 43 c:1:31 a
+install c 400
+(typealias x)(allow x a (p (use)))
+= refused 45 c:1:21 x
+install c 400
+(typealias x)(typealiasactual x y)
+= ok 0 0
+// An alias of a later module is seen.
+install a 400
+(allow a x (p (use)))
+= ok 0 0
+install a 400
+(allow x a (p (use)))
+= ok 1 0
+install d 400
+(typealiasactual x a)
+= refused 44 d:1:18 x
+rules
+= allow a y:p { use };
+= allow y a:p { use };
+= end 2
+";
+
+const OF_ATTRIBUTES: &str = "\
+# Until tables take in the members of attributes, a rule of one is refused behind all other faults.
+install m 400
+(class p (use))(typeattribute s)(type a)
+= ok 0 0
+install n 400
+(allow a s (p (use)))(allow s q (p (use)))
+= refused 42 n:1:31 q
+install n 400
+(allow a a (p (use)))(allow a s (p (use)))
+= ok 1 0
+rules
+= allow a a:p { use };
+= end 1
+";
 
 #[test]
-fn rules_in_blocks_and_by_other_names(rt: HostRuntime) {
-    assert_dialogues(&rt, rt.alloc(), RULES, Status::Clean);
-}
-
-const BASE: &str = "(class p (use))(type a)";
-
-// Several modules: the least code comes first, then the least module name, whatever was installed last.
-const SEVERAL_MODULES: Dialogue<'static> = &[
-    (Install("m", BASE), "ok 0 0\n"),
-    (Install("z", "(type y)"), "ok 0 0\n"),
-    (Install("b", "(allow a y (p (use)))"), "ok 1 0\n"),
-    (Install("z", "(class w ())"), "refused 42 b:1:10 y\n"),
-    (
-        Install(
-            "c",
-            "(typealias x)(typealiasactual a x)(allow x q (p (use)))",
-        ),
-        "refused 42 c:1:44 q\n",
-    ),
-    (
-        Install(
-            "c",
-            "(typealias x)(typealiasactual a x)(allow x a (p (use)))",
-        ),
-        "refused 43 c:1:31 a\n",
-    ),
-    (
-        Install("c", "(typealias x)(allow x a (p (use)))"),
-        "refused 45 c:1:21 x\n",
-    ),
-    (
-        Install("c", "(typealias x)(typealiasactual x y)"),
-        "ok 0 0\n",
-    ),
-    // An alias of a later module is seen.
-    (Install("a", "(allow a x (p (use)))"), "ok 0 0\n"),
-    (Install("a", "(allow x a (p (use)))"), "ok 1 0\n"),
-    (
-        Install("d", "(typealiasactual x a)"),
-        "refused 44 d:1:18 x\n",
-    ),
-    (Rules, "allow a y:p { use };\nallow y a:p { use };\nend 2\n"),
-];
-
-// Until tables take in the members of attributes, a rule of one is refused behind all other faults.
-const OF_ATTRIBUTES: Dialogue<'static> = &[
-    (
-        Install("m", "(class p (use))(typeattribute s)(type a)"),
-        "ok 0 0\n",
-    ),
-    (
-        Install("n", "(allow a s (p (use)))(allow s q (p (use)))"),
-        "refused 42 n:1:31 q\n",
-    ),
-    (
-        Install("n", "(allow a a (p (use)))(allow a s (p (use)))"),
-        "ok 1 0\n",
-    ),
-    (Rules, "allow a a:p { use };\nend 1\n"),
-];
-
-#[test]
-fn policies_with_refused_edits(rt: HostRuntime) {
-    let dialogues = [SEVERAL_MODULES, OF_ATTRIBUTES];
-    assert_dialogues(&rt, rt.alloc(), &dialogues, Status::Refused);
+fn names_and_faults_of_policies(rt: HostRuntime) {
+    for cases in [
+        FAULTS,
+        COMPILING,
+        MOST_PERMISSIONS,
+        TOO_MANY,
+        RULES,
+        SEVERAL_MODULES,
+        OF_ATTRIBUTES,
+    ] {
+        assert_cases(&rt, rt.alloc(), cases);
+    }
 }

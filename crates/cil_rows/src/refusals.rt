@@ -1,7 +1,7 @@
 //! Refused edits: their answers, and the store behind them.
 
-use crate::answers::Command::{Install, Rules};
-use crate::answers::{Dialogue, assert_answers, assert_dialogues, assert_each};
+use crate::answers::{assert_answers, assert_each};
+use crate::cases::assert_cases;
 use cil_program::script::session::Status;
 
 // Refusals by the line of an install.
@@ -56,138 +56,184 @@ fn names_of_modules(rt: HostRuntime) {
     assert_each(&rt, rt.alloc(), NAMED, "ok 0 0\n", Status::Clean);
 }
 
-const ONE: &str = "(class p (use see))(type a)(type b)(allow a b (p (use)))";
+const NOTHING_CHANGED: &str = "\
+# A refused edit changes nothing.
+install m 400
+(class p (use see))(type a)(type b)(allow a b (p (use)))
+= ok 1 0
+rules
+= allow a b:p { use };
+= end 1
+install m 400
+(type a)(type a)
+= refused 41 m:1:15 a
+rules
+= allow a b:p { use };
+= end 1
+install m 400
+(allow a b (p (use)))
+= refused 42 m:1:8 a
+install m 400
+(type a
+= refused 12 m:1:1 (
+install -m 400
+(class p (use see))(type a)(type b)(allow a b (p (use)))
+= refused 30 -m
+install m 400
+(type a b)
+= refused 21 m:1:2 type
+install m 400
+(dontaudits a b (p (use)))
+= refused 20 m:1:2 dontaudits
+install n 400
+(class p (use))
+= refused 41 n:1:8 p
+install n 400
+(allow a q (p (use)))
+= refused 42 n:1:10 q
+install n 400
+(type a)
+= refused 41 n:1:7 a
+rules
+= allow a b:p { use };
+= end 1
+install m 400
+(class p (use see))(type a)(type b)(allow a b (p (use)))
+= ok 0 0
+";
 
-// A refused edit changes nothing.
-const NOTHING_CHANGED: Dialogue<'static> = &[
-    (Install("m", ONE), "ok 1 0\n"),
-    (Rules, "allow a b:p { use };\nend 1\n"),
-    (Install("m", "(type a)(type a)"), "refused 41 m:1:15 a\n"),
-    (Rules, "allow a b:p { use };\nend 1\n"),
-    (
-        Install("m", "(allow a b (p (use)))"),
-        "refused 42 m:1:8 a\n",
-    ),
-    (Install("m", "(type a"), "refused 12 m:1:1 (\n"),
-    (Install("-m", ONE), "refused 30 -m\n"),
-    (Install("m", "(type a b)"), "refused 21 m:1:2 type\n"),
-    (
-        Install("m", "(dontaudits a b (p (use)))"),
-        "refused 20 m:1:2 dontaudits\n",
-    ),
-    (Install("n", "(class p (use))"), "refused 41 n:1:8 p\n"),
-    (
-        Install("n", "(allow a q (p (use)))"),
-        "refused 42 n:1:10 q\n",
-    ),
-    (Install("n", "(type a)"), "refused 41 n:1:7 a\n"),
-    (Rules, "allow a b:p { use };\nend 1\n"),
-    (Install("m", ONE), "ok 0 0\n"),
-];
+const REPLACED: &str = "\
+# What comes and goes with a replaced module.
+install m 400
+(class p (use see))(type a)(type b)(allow a b (p (use)))
+= ok 1 0
+install m 400
+(class p (use see))(type a)(type b)(allow b a (p (use see)))(allow a a (p (use)))
+= ok 3 1
+rules
+= allow a a:p { use };
+= allow b a:p { see use };
+= end 2
+install m 400
+(class p (use see))(type a)(type b)
+= ok 0 3
+rules
+= end 0
+install m 400
+= ok 0 0
+";
 
-const FRONT: &str = "(class p (use see))(type a)(type b)";
+const STAYING: &str = "\
+# An access stays while a rule gives it.
+install c 400
+(class p (use see))(type a)(type b)
+= ok 0 0
+install m 400
+(allow a b (p (see)))(allow a b (p (use)))
+= ok 2 0
+install n 400
+(allow a b (p (use)))(allow b b (p (use)))
+= ok 1 0
+install m 400
+(allow b b (p (use)))
+= ok 0 1
+rules
+= allow a b:p { use };
+= allow b b:p { use };
+= end 2
+install n 400
+= ok 0 1
+rules
+= allow b b:p { use };
+= end 1
+";
 
-const THREE: &str =
-    "(class p (use see))(type a)(type b)(allow b a (p (use see)))(allow a a (p (use)))";
+const FIRST_FAULTS: &str = "\
+# The first fault of two modules: the least code comes first, then the least module, then the least place.
+install b 400
+(type x)(class p ())
+= ok 0 0
+install a 400
+(allow q x (p ()))(type x)
+= refused 41 b:1:7 x
+install a 400
+(class p ())
+= refused 41 b:1:16 p
+install c 400
+(allow q x (p ()))
+= refused 42 c:1:8 q
+install c 400
+(allow q x (p ()))(type x)
+= refused 41 c:1:25 x
+install c 400
+(type y)(type x)(class p ())
+= refused 41 c:1:15 x
+install c 400
+(class p ())(type x)
+= refused 41 c:1:8 p
+// A class and a type may share a name.
+install a 400
+(type p)(class x ())
+= ok 0 0
+";
 
-// What comes and goes with a replaced module.
-const REPLACED: Dialogue<'static> = &[
-    (Install("m", ONE), "ok 1 0\n"),
-    (Install("m", THREE), "ok 3 1\n"),
-    (
-        Rules,
-        "allow a a:p { use };\nallow b a:p { see use };\nend 2\n",
-    ),
-    (Install("m", FRONT), "ok 0 3\n"),
-    (Rules, "end 0\n"),
-    (Install("m", ""), "ok 0 0\n"),
-];
+const MISSED: &str = "\
+# A module is refused for the fault that another has without it.
+install base 400
+(class p (use see))(type a)(type b)
+= ok 0 0
+install y 400
+(allow b a (p (see)))
+= ok 1 0
+install x 400
+(allow a b (p (use)))
+= ok 1 0
+install base 400
+(class p (use see))(type a)
+= refused 42 x:1:10 b
+install base 400
+(class p (see))(type a)(type b)
+= refused 42 x:1:16 use
+install base 400
+(class p (use))(type a)(type b)
+= refused 42 y:1:16 see
+install base 400
+(type a)(type b)
+= refused 42 x:1:13 p
+install base 400
+= refused 42 x:1:8 a
+rules
+= allow a b:p { use };
+= allow b a:p { see };
+= end 2
+";
 
-// An access stays while a rule gives it.
-const STAYING: Dialogue<'static> = &[
-    (
-        Install("c", "(class p (use see))(type a)(type b)"),
-        "ok 0 0\n",
-    ),
-    (
-        Install("m", "(allow a b (p (see)))(allow a b (p (use)))"),
-        "ok 2 0\n",
-    ),
-    (
-        Install("n", "(allow a b (p (use)))(allow b b (p (use)))"),
-        "ok 1 0\n",
-    ),
-    (Install("m", "(allow b b (p (use)))"), "ok 0 1\n"),
-    (Rules, "allow a b:p { use };\nallow b b:p { use };\nend 2\n"),
-    (Install("n", ""), "ok 0 1\n"),
-    (Rules, "allow b b:p { use };\nend 1\n"),
-];
-
-// The first fault of two modules: the least code comes first, then the least module, then the least place.
-const FIRST_FAULTS: Dialogue<'static> = &[
-    (Install("b", "(type x)(class p ())"), "ok 0 0\n"),
-    (
-        Install("a", "(allow q x (p ()))(type x)"),
-        "refused 41 b:1:7 x\n",
-    ),
-    (Install("a", "(class p ())"), "refused 41 b:1:16 p\n"),
-    (Install("c", "(allow q x (p ()))"), "refused 42 c:1:8 q\n"),
-    (
-        Install("c", "(allow q x (p ()))(type x)"),
-        "refused 41 c:1:25 x\n",
-    ),
-    (
-        Install("c", "(type y)(type x)(class p ())"),
-        "refused 41 c:1:15 x\n",
-    ),
-    (Install("c", "(class p ())(type x)"), "refused 41 c:1:8 p\n"),
-    // A class and a type may share a name.
-    (Install("a", "(type p)(class x ())"), "ok 0 0\n"),
-];
-
-// A module is refused for the fault that another has without it.
-const MISSED: Dialogue<'static> = &[
-    (
-        Install("base", "(class p (use see))(type a)(type b)"),
-        "ok 0 0\n",
-    ),
-    (Install("y", "(allow b a (p (see)))"), "ok 1 0\n"),
-    (Install("x", "(allow a b (p (use)))"), "ok 1 0\n"),
-    (
-        Install("base", "(class p (use see))(type a)"),
-        "refused 42 x:1:10 b\n",
-    ),
-    (
-        Install("base", "(class p (see))(type a)(type b)"),
-        "refused 42 x:1:16 use\n",
-    ),
-    (
-        Install("base", "(class p (use))(type a)(type b)"),
-        "refused 42 y:1:16 see\n",
-    ),
-    (Install("base", "(type a)(type b)"), "refused 42 x:1:13 p\n"),
-    (Install("base", ""), "refused 42 x:1:8 a\n"),
-    (Rules, "allow a b:p { use };\nallow b a:p { see };\nend 2\n"),
-];
-
-// A module comes after the one that it needs.
-const TOO_EARLY: Dialogue<'static> = &[
-    (
-        Install("a", "(allow a a (p (use)))"),
-        "refused 42 a:1:8 a\n",
-    ),
-    (Install("b", "(class p (use))(type a)"), "ok 0 0\n"),
-    (Install("a", "(allow a a (p (use)))"), "ok 1 0\n"),
-    (Rules, "allow a a:p { use };\nend 1\n"),
-];
+const TOO_EARLY: &str = "\
+# A module comes after the one that it needs.
+install a 400
+(allow a a (p (use)))
+= refused 42 a:1:8 a
+install b 400
+(class p (use))(type a)
+= ok 0 0
+install a 400
+(allow a a (p (use)))
+= ok 1 0
+rules
+= allow a a:p { use };
+= end 1
+";
 
 #[test]
-fn a_store_behind_accepted_edits(rt: HostRuntime) {
-    assert_dialogues(&rt, rt.alloc(), &[REPLACED, STAYING], Status::Clean);
-}
-
-#[test]
-fn a_store_behind_refused_edits(rt: HostRuntime) {
-    let dialogues = [NOTHING_CHANGED, FIRST_FAULTS, MISSED, TOO_EARLY];
-    assert_dialogues(&rt, rt.alloc(), &dialogues, Status::Refused);
+fn a_store_behind_accepted_and_refused_edits(rt: HostRuntime) {
+    for cases in [
+        NOTHING_CHANGED,
+        REPLACED,
+        STAYING,
+        FIRST_FAULTS,
+        MISSED,
+        TOO_EARLY,
+    ] {
+        assert_cases(&rt, rt.alloc(), cases);
+    }
 }
