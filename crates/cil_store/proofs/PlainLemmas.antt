@@ -115,10 +115,10 @@ none-held attribute t = refl
 
 -- no modules are in order
 pub none-sorted : {X : Type 0} (f : X → List ℕ) (xs : List X) → xs ≡ [] → IsStrictlySortedBy name_cmp (map f xs)
+unfolding IsStrictlySortedBy
 none-sorted f xs none = subst (λ l. IsStrictlySortedBy name_cmp (map f l)) (sym none) nothing
   where
     nothing : IsStrictlySortedBy name_cmp []
-    unfolding IsStrictlySortedBy
     nothing = tt
 
 -- and stand for no modules
