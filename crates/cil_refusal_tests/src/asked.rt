@@ -26,6 +26,9 @@ pub enum Asked<'a> {
     Session(&'a [&'a str]),
 }
 
+/// What stands behind the lines of a listing, so that one without lines is told from none.
+const LISTED: &[u8] = b"listed\n";
+
 /// A module that compiles to nothing comes, and goes again. Each compiles the store anew.
 const PROBE: Edit<'static> = Edit::Install {
     name: b"probe",
@@ -66,8 +69,9 @@ fn write_rows(rt: &impl Abort, sink: &mut MemorySink, engine: &Engine<'_>) {
 }
 
 fn write_listing(rt: &impl Abort, sink: &mut MemorySink, engine: &Engine<'_>) {
-    if engine.write_listing(sink).is_err() {
-        reply::write_no_memory(sink).expect(rt, "a sink");
+    match engine.write_listing(sink) {
+        Ok(_) => write_all(sink, LISTED).expect(rt, "a sink"),
+        Err(_) => reply::write_no_memory(sink).expect(rt, "a sink"),
     }
 }
 
@@ -90,7 +94,10 @@ fn write_reply(rt: &impl Abort, sink: &mut MemorySink, reply: &Reply<&Heap>) {
         Reply::Changes(changes) => reply::write_changes(sink, changes),
         Reply::Refused(refusal) => reply::write_refusal(sink, refusal),
         Reply::Dropped(dropped) => reply::write_dropped(sink, dropped),
-        Reply::Listing(text) => write_all(sink, text.as_slice()),
+        Reply::Listing(text) => match write_all(sink, text.as_slice()) {
+            Ok(()) => write_all(sink, LISTED),
+            Err(fault) => Err(fault),
+        },
         Reply::Violations(violations) => match violations.write(sink) {
             Ok(count) => reply::write_end(sink, count as u128),
             Err(fault) => Err(fault),

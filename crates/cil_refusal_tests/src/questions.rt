@@ -1,11 +1,11 @@
 //! Questions whose growths are refused in turn.
 
 use crate::asked::{Asked, answer};
-use crate::edits::{BASE, LAYERED};
+use crate::edits::BASE;
 use crate::growths::assert_each_growth;
 use cil_program::script::reply;
 use cil_rules::Atom;
-use cil_store::{Call, Compiled, Plain};
+use cil_store::{Call, Compiled, Edit, Plain};
 use cil_stream::MemorySink;
 use cil_text::RuleKind;
 use refusing::Refusing;
@@ -30,10 +30,20 @@ fn violations_that_are_kept(rt: HostRuntime) {
 const ACCESS: Atom<'static> = Atom {
     kind: RuleKind::Allow,
     source: b"a",
-    target: b"b",
-    class: b"p",
-    permission: b"use",
+    target: b"a",
+    class: b"file",
+    permission: b"read",
 };
+
+// A module that is disabled.
+const OFF: &[Edit<'static>] = &[
+    Edit::Install {
+        name: b"off",
+        priority: 400,
+        text: b"(type off)",
+    },
+    Edit::Disable { name: b"off" },
+];
 
 // Of the store, of members and of counts is told without memory.
 #[test]
@@ -44,12 +54,12 @@ fn questions_without_growths(rt: HostRuntime) {
     heap.refuse_from(1);
     assert!(&rt; !engine.has(b"s", b"a") && engine.count(&ACCESS) == 0);
     heap.refuse(0);
-    for edit in BASE.iter().chain(LAYERED) {
+    for edit in BASE.iter().chain(OFF) {
         let _made = answer(&rt, rt.alloc(), &heap, &mut engine, Asked::Edit(*edit));
     }
     heap.refuse_from(1);
     assert!(&rt; engine.has(b"s", b"k.t") && !engine.has(b"s", b"l"));
-    assert!(&rt; engine.count(&ACCESS) == 0 && engine.store().is_disabled(b"off"));
+    assert!(&rt; engine.count(&ACCESS) == 2 && engine.store().is_disabled(b"off"));
     reply::write_modules(&mut sink, engine.store()).expect(&rt, "a sink");
     assert!(&rt; engine.store().active(b"off").is_none() && heap.refused() == 0);
 }

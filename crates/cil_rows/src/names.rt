@@ -146,7 +146,8 @@ fn table(rt: &impl Abort, alloc: Global, rule: &[u8]) -> Table {
     let joined = joined(alloc, &m, &n).expect(rt, "memory");
     let policy = resolve(alloc, &joined).expect(rt, "a policy");
     let members = Members::plain(alloc, &policy).expect(rt, "memory");
-    Table::of(alloc, &policy, &members).expect(rt, "memory")
+    let tables = Tables::plain(alloc, &policy, &members).expect(rt, "memory");
+    Table::of(alloc, &policy, &tables).expect(rt, "memory")
 }
 
 // A class and a type, and a rule of these.
