@@ -7,3 +7,4 @@ pub mod StepLemmas
 pub mod JoinLemmas
 pub mod DroppedLemmas
 pub mod PlainLemmas
+pub mod MeantLemmas

@@ -37,7 +37,7 @@ none-wrong : Compiles no_optional []
 none-wrong fault h = absurd (omega (arith, ap length (sym h.split ∙ none-judged fault.kind), length-append h.before (h.s ∷ h.after)))
 
 -- an empty store means what no statements do
-none-meant : IsMeaningOf empty (meaning_of [] [])
+pub none-meant : IsMeaningOf empty (meaning_of [] [])
 none-meant = record { policy = []; kept = no_optional; is_policy = ([], tt, refl); means = record { are_kept = none-kept; compiles = none-wrong; is = refl } }
 
 -- no statements mean nothing else

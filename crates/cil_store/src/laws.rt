@@ -1,10 +1,10 @@
 //! Laws of the definitions, which make the contracts of engines exact. They have no code.
 
-ghost use Rattle.std.specs.Prelude.{◌≡◌, List, IsTrue};
+ghost use Rattle.std.specs.Prelude.{◌≡◌, [], List, IsTrue};
 ghost use Rattle.std.specs.List.{list_all};
 ghost use Rattle.cil_specs.specs.Joined.{Placed};
 ghost use Rattle.cil_specs.specs.Kept.{AreApart};
-ghost use Rattle.cil_specs.specs.Meaning.{Meaning};
+ghost use Rattle.cil_specs.specs.Meaning.{Meaning, meaning_of};
 ghost use Rattle.cil_store_specs.specs.Next.{Edit, Refusal, Judgement, IsMeaningOf, IsPolicyOf, IsPolicyRefusal, IsTaken, Next};
 ghost use Rattle.cil_store_specs.specs.Run.{Call, Reply, Run, is_answered};
 ghost use Rattle.cil_store_specs.specs.Store.{Store, IsStore, empty};
@@ -14,6 +14,14 @@ pub fn stores_are_in_order()
     ensures empty { IsStore empty }
     ensures taken { (old new : Store) (edit : Edit) → IsStore old → IsTaken old edit new → IsStore new }
     ensures run { (old new : Store) (calls : List Call) (replies : List Reply) → IsStore old → Run old calls replies new → IsStore new }
+{}
+
+/// A store in which no module stands means what no statements do, and a run leads from a store that means something to one that
+/// does.
+pub fn stores_mean_something()
+    ensures empty { IsMeaningOf empty (meaning_of [] []) }
+    ensures run { (old new : Store) (calls : List Call) (replies : List Reply) (meaning : Meaning) → IsMeaningOf old meaning → Run old calls replies new
+        → (other : Meaning) × IsMeaningOf new other }
 {}
 
 /// In the policy of a store blocks, classes, commons and what is said of them stand in no optional, so that `kept_exists` and

@@ -25,7 +25,7 @@ pub use edit::Edit;
 pub use entry::Entry;
 pub use laws::{
     no_meaning_beside_a_refusal, one_judgement, one_meaning, one_policy_refusal, one_run,
-    policies_are_apart, stores_are_in_order,
+    policies_are_apart, stores_are_in_order, stores_mean_something,
 };
 pub use modules::{State, Store};
 pub use plain::Plain;
