@@ -1,5 +1,5 @@
 -- Words whose bits move up together.
-use Rattle.std.proofs.Common.{◌≡◌, ◌↔◌, ◌⊎◌, inl, inr, ℕ, zero, suc, ◌<◌, ◌≤◌, ◌+◌, ◌-◌, ◌*◌, ◌/◌, ◌%◌, ◌^◌, true, List, length, get_or, w64, refl, sym, ap, ◌∙◌, subst, arith, eq-eqb, eqb-true}
+use Rattle.std.proofs.Common.{◌≡◌, ◌↔◌, ◌⊎◌, inl, inr, ℕ, zero, suc, ◌<◌, ◌≤◌, ◌+◌, ◌-◌, ◌*◌, ◌/◌, ◌%◌, ◌^◌, List, length, get_or, w64, refl, sym, ap, ◌∙◌, subst, arith, eq-eqb, eqb-true}
 use Rattle.std.specs.Int.{bit_at, trailing_zeros, leading_zeros}
 use Rattle.std.specs.List.Sorted.{IsStrictlyIncreasing}
 use Rattle.std.proofs.lemmas.Bool.{cases_lt}
@@ -9,8 +9,8 @@ use Rattle.std.proofs.lemmas.Nat.Bits.{bit_at-zero, bit_at_above, bit_at_cat_low
 use Rattle.cil_accesses.specs.declared.access.AccessNumbers.{AccessNumbers}
 use Rattle.cil_accesses.specs.declared.chunk.Chunk.{Chunk}
 use Rattle.cil_accesses.specs.Chunks.{IsAccessOf, IsGiven}
-use Rattle.cil_accesses.specs.Renumbered.{IsWithin, IsMoved, IsTarget, IsRenumbered, IsRenumberedIn, MovesUp, renumbered}
-use Rattle.cil_accesses.specs.View.{has_bit, access_at}
+use Rattle.cil_accesses.specs.Renumbered.{IsWithin, IsMoved, IsTarget, IsRenumbered, IsRenumberedIn, MovesUp}
+use Rattle.cil_accesses.specs.View.{access_at}
 use Rattle.cil_accesses.proofs.Members.{access-of}
 
 -- ---- the bits of two words
@@ -175,13 +175,6 @@ module _ (numbers : List ℕ) (c : Chunk) (within : (a : AccessNumbers) → IsAc
         let low = lowest-below c.bits some fits b is in
         let high = highest-above c.bits some fits b is in
         between numbers rising first (64 * c.word + b) last (omega (arith, low)) (omega (arith, high)) last-within same
-
--- a chunk without a bit
-pub none-moves : (numbers : List ℕ) (c : Chunk) (up : ℕ) → c.bits ≡ 0 → MovesUp numbers c up
-none-moves numbers c up none b small set =
-    let is = eqb-true (bit_at c.bits b) 1 set in
-    let clear = ap (λ k. bit_at k b) none ∙ bit_at-zero b in
-    absurd (omega (arith, is, clear))
 
 -- ---- the accesses of a chunk whose targets stand in a word
 

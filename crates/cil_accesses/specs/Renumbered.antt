@@ -45,11 +45,11 @@ pub record IsTarget (numbers : List ℕ) (c : Chunk) (t : ℕ) : Type 0 where
   pub set : has_bit bit c ≡ true
   pub is : slice_index numbers (64 * c.word + bit) ≡ t
 
--- the numbers of all targets of a chunk are higher than their own by as much
+-- all targets of a chunk get numbers that are higher by as much
 abbrev pub MovesUp : List ℕ → Chunk → ℕ → Type 0
 MovesUp numbers c up = (b : ℕ) → b < 64 → has_bit b c ≡ true → slice_index numbers (64 * c.word + b) ≡ 64 * c.word + b + up
 
--- some bit that is set comes to a place where it stands so many higher
+-- a bit that is set comes to a place if it moves so many up
 pub record IsMoved (bits up place : ℕ) : Type 0 where
   pub bit : ℕ
   pub set : bit_at bits bit ≡ 1

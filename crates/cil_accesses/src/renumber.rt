@@ -79,7 +79,7 @@ fn push_bits<A: Allocator>(
     Ok(())
 }
 
-/// The bits of two words, one behind the other, where those of the first stand so many places higher.
+/// The bits of a word so many places higher: those that stay in it, and those that come to the next one.
 fn moved_up(bits: u64, up: u32) -> (u64, u64)
     requires { up < 64 }
     ensures low { (j : _) → j < 64 → (bit_at result.0 j ≡ 1) ↔ IsMoved bits up j }
@@ -91,7 +91,7 @@ fn moved_up(bits: u64, up: u32) -> (u64, u64)
     (bits << up, bits >> (64 - up))
 }
 
-/// Adds those accesses of a chunk, with the numbers at the places of their own, whose targets stand in a word then: at these bits.
+/// Adds the accesses of a chunk, with the numbers at the places of their own, whose targets are those of a word's bits then.
 fn push_word<A: Allocator>(
     made: &mut Vec<Chunk, A>,
     chunk: &Chunk,
@@ -119,7 +119,7 @@ fn push_word<A: Allocator>(
     push_chunk(made, moved)
 }
 
-/// Adds the accesses of a chunk, with the numbers at the places of their own, where those of the targets are all higher by as much.
+/// Adds the accesses of a chunk, with the numbers at the places of their own, where all targets move up by as much.
 fn push_moved<A: Allocator>(
     made: &mut Vec<Chunk, A>,
     chunk: &Chunk,
@@ -139,7 +139,7 @@ fn push_moved<A: Allocator>(
     push_word(made, chunk, numbers, word + 1, high)
 }
 
-/// By how much the numbers of all targets of a chunk are higher than their own, where they are by as much.
+/// By how much the targets of a chunk move up, where it's as much for all: numbers rise, so for all if for the first and the last.
 fn move_of(chunk: &Chunk, numbers: &[u32]) -> Option<u32>
     requires within { (a : _) → IsAccessOf chunk.now a → IsWithin (length numbers.now) a }
     requires word { chunk.now.word < 2 ^ 26 }

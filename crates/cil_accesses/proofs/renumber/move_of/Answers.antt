@@ -1,5 +1,5 @@
 use Rattle.std.proofs.Common.{arith}
-use Rattle.cil_accesses.proofs.Shifts.{first-within, last-within, moves-up, none-moves, not-lower}
+use Rattle.cil_accesses.proofs.Shifts.{first-within, last-within, moves-up, not-lower}
 use Rattle.cil_accesses.proofs.renumber.move_of.Goals as goal
 
 pub bounds-numbers-first : goal.bounds-numbers-first
