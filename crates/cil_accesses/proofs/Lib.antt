@@ -7,6 +7,7 @@ pub mod Ascending
 pub mod Merging
 pub mod Made
 pub mod Renumbering
+pub mod Shifts
 pub mod Counts
 pub mod Beyond
 pub mod Walk

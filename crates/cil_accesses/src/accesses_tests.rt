@@ -329,3 +329,82 @@ fn words_that_join_where_numbers_change(rt: HostRuntime) {
         ],
     );
 }
+
+#[test]
+fn targets_that_move_together_over_the_edge_of_a_word(rt: HostRuntime) {
+    let alloc = rt.alloc();
+    let higher = numbers(&rt, alloc, 128, 63, 1);
+    let old = accesses(
+        &rt,
+        alloc,
+        &[
+            chunk(1, 0, 1, 1, 1 << 63 | 0b0111),
+            chunk(1, 1, 1, 1, 1 << 63 | 1),
+        ],
+    );
+    assert_listed(
+        &rt,
+        &renumbered(&rt, alloc, &old, &higher),
+        &[
+            allowed(64, 63, 64, 64),
+            allowed(64, 64, 64, 64),
+            allowed(64, 65, 64, 64),
+            allowed(64, 126, 64, 64),
+            allowed(64, 127, 64, 64),
+            allowed(64, 190, 64, 64),
+        ],
+    );
+    let to_next = numbers(&rt, alloc, 128, 64, 1);
+    assert_listed(
+        &rt,
+        &renumbered(&rt, alloc, &old, &to_next),
+        &[
+            allowed(65, 64, 65, 65),
+            allowed(65, 65, 65, 65),
+            allowed(65, 66, 65, 65),
+            allowed(65, 127, 65, 65),
+            allowed(65, 128, 65, 65),
+            allowed(65, 191, 65, 65),
+        ],
+    );
+}
+
+#[test]
+fn targets_that_move_apart(rt: HostRuntime) {
+    let alloc = rt.alloc();
+    let mut one_between = numbers(&rt, alloc, 2, 62, 1);
+    for number in [65, 66, 67] {
+        one_between.push(number).expect(&rt, "memory");
+    }
+    let old = accesses(
+        &rt,
+        alloc,
+        &[chunk(1, 0, 1, 1, 0b0111), chunk(1, 0, 1, 2, 0b11100)],
+    );
+    assert_listed(
+        &rt,
+        &renumbered(&rt, alloc, &old, &one_between),
+        &[
+            allowed(63, 62, 63, 63),
+            allowed(63, 63, 63, 63),
+            allowed(63, 65, 63, 63),
+            allowed(63, 65, 63, 65),
+            allowed(63, 66, 63, 65),
+            allowed(63, 67, 63, 65),
+        ],
+    );
+}
+
+#[test]
+fn targets_that_stay_in_their_word(rt: HostRuntime) {
+    let alloc = rt.alloc();
+    let same = numbers(&rt, alloc, 64, 0, 1);
+    let chunks = [chunk(1, 0, 1, 1, ALL), chunk(1, 0, 2, 1, 0)];
+    let old = accesses(&rt, alloc, &chunks);
+    let new = renumbered(&rt, alloc, &old, &same);
+    assert!(&rt; new.len() == 64);
+    for bit in 0..64u32 {
+        let found = new.get(bit as usize) == Some(allowed(1, bit, 1, 1));
+        assert!(&rt; found);
+    }
+}

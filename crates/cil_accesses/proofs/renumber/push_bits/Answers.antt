@@ -2,7 +2,7 @@ use Rattle.std.proofs.Common.{◌≡◌, ◌↔◌, ◌⊎◌, subst, arith}
 use Rattle.cil_accesses.specs.Chunks.{IsGiven}
 use Rattle.cil_accesses.specs.Renumbered.{IsRenumbered}
 use Rattle.cil_accesses.proofs.Renumbering.{bit-added}
-use Rattle.cil_accesses.proofs.renumber.push_renumbered.Goals as goal
+use Rattle.cil_accesses.proofs.renumber.push_bits.Goals as goal
 
 pub loop-bit-preserved : goal.loop-bit-preserved
 loop-bit-preserved g c = record {

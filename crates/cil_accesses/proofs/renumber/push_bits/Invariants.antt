@@ -3,7 +3,7 @@ use Rattle.std.specs.List.{All}
 use Rattle.cil_accesses.specs.declared.access.AccessNumbers.{AccessNumbers}
 use Rattle.cil_accesses.specs.Chunks.{IsGiven}
 use Rattle.cil_accesses.specs.Renumbered.{IsRenumbered}
-use Rattle.cil_accesses.proofs.renumber.push_renumbered.Given as goal
+use Rattle.cil_accesses.proofs.renumber.push_bits.Given as goal
 
 abbrev pub invariant-loop-bit : goal.invariant-loop-bit
 invariant-loop-bit g l = record {
