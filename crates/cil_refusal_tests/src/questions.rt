@@ -45,7 +45,7 @@ const OFF: &[Edit<'static>] = &[
     Edit::Disable { name: b"off" },
 ];
 
-// Of the store, of members and of counts is told without memory.
+// The store, members and counts are told without memory.
 #[test]
 fn questions_without_growths(rt: HostRuntime) {
     let heap = Refusing::new(rt.alloc());
@@ -60,7 +60,10 @@ fn questions_without_growths(rt: HostRuntime) {
     heap.refuse_from(1);
     assert!(&rt; engine.has(b"s", b"k.t") && !engine.has(b"s", b"l"));
     assert!(&rt; engine.count(&ACCESS) == 2 && engine.store().is_disabled(b"off"));
-    reply::write_modules(&mut sink, engine.store()).expect(&rt, "a sink");
+    let store = engine.store();
+    assert!(&rt; store.entry(0).is_some() && store.disabled(0).is_some());
+    assert!(&rt; store.check_install(b"off", 1, 0).is_ok());
+    reply::write_modules(&mut sink, store).expect(&rt, "a sink");
     assert!(&rt; engine.store().active(b"off").is_none() && heap.refused() == 0);
 }
 

@@ -1,10 +1,11 @@
 //! The plain engine and its store, by calls.
 
 use crate::answers::{FIRST_TEXT, assert_same, shown};
+use cil_program::script::reply::{write_changes, write_dropped, write_refusal};
 use cil_resolve::Text;
 use cil_rules::Atom;
 use cil_store::{Call, Compiled, Dropped, Edit, FaultKind, Plain, Refusal, Reply, WriteFault, run};
-use cil_stream::MemorySink;
+use cil_stream::{MemorySink, write_all};
 use cil_text::{Place, RuleKind};
 use std::alloc::Global;
 use std::process::Abort;
@@ -253,6 +254,56 @@ fn runs_of_calls(rt: HostRuntime) {
             assert_same(&rt, seen(reply), *want);
         }
     }
+}
+
+// A neverallow rule, two allow rules of two modules, of which one is disabled, and each question.
+const BOTH_RULES: &[Call<'static>] = &[
+    Call::Edit(Edit::Install {
+        name: b"base",
+        priority: 400,
+        text: b"(class p (use))(type a)(type b)(neverallow a b (p (use)))",
+    }),
+    Call::Edit(Edit::Install {
+        name: b"x",
+        priority: 400,
+        text: b"(allow a b (p (use)))(optional o (allow a q (p (use))))",
+    }),
+    Call::Edit(Edit::Install {
+        name: b"y",
+        priority: 400,
+        text: b"(allow a b (p (use)))",
+    }),
+    Call::Edit(Edit::Disable { name: b"y" }),
+    Call::Rows,
+    Call::Listing,
+    Call::Violations,
+    Call::Dropped,
+];
+
+const BOTH_ANSWERS: &str = "ok 1 0\nok 1 0\nok 0 0\nok 0 0\nallow a b:p { use };\nallow a b:p { use };\n\
+    neverallow base:1:32 allow x:1:1 a b:p { use };\nx:1:22 o\nend 1\n";
+
+// Writes what a reply tells.
+fn tell(sink: &mut MemorySink, reply: &Reply) -> bool {
+    match reply {
+        Reply::Changes(changes) => write_changes(sink, changes).is_ok(),
+        Reply::Rows(rows) => rows.write(sink).is_ok(),
+        Reply::Listing(text) => write_all(sink, text.as_slice()).is_ok(),
+        Reply::Violations(violations) => violations.write(sink).is_ok(),
+        Reply::Dropped(dropped) => write_dropped(sink, dropped).is_ok(),
+        Reply::Refused(refusal) => write_refusal(sink, refusal).is_ok(),
+    }
+}
+
+#[test]
+fn a_run_and_what_its_replies_tell(rt: HostRuntime) {
+    let mut engine = Plain::new(rt.alloc());
+    let mut sink = MemorySink::new(rt.alloc());
+    let replies = run(rt.alloc(), &mut engine, BOTH_RULES).expect(&rt, "memory");
+    for reply in &replies {
+        assert!(&rt; tell(&mut sink, reply));
+    }
+    assert_same(&rt, shown(sink.bytes()), BOTH_ANSWERS);
 }
 
 // A class, two types, an attribute of one of them, and rules of which two give one access.

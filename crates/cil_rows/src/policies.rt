@@ -199,7 +199,7 @@ rules
 ";
 
 const OF_ATTRIBUTES: &str = "\
-# Until tables take in the members of attributes, a rule of one is refused behind all other faults.
+# A rule of an attribute without members gives nothing; a name that isn't there is 42.
 install m 400
 (class p (use))(typeattribute s)(type a)
 = ok 0 0

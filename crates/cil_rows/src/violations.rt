@@ -4,6 +4,21 @@ use crate::cases::assert_cases;
 
 // Violations, with the places of both rules.
 const NEVERS: &str = "\
+# Both rules in one module, and the listing beside.
+install first 400
+(class file (read write))
+(type a)
+(type b)
+(allow a b (file (read write)))
+(neverallow a b (file (write)))
+
+= ok 3 0
+rules
+= allow a b:file { read write };
+= end 1
+violations
+= neverallow first:5:1 allow first:4:1 a b:file { write };
+= end 1
 #
 install base 400
 (class p (use see))(type a)(type b)(type c)(typeattribute s)(typeattributeset s (a b))(neverallow a b (p (use)))

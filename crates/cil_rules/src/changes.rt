@@ -76,12 +76,14 @@ impl<A: Allocator + Copy> Changes<A> {
 }
 
 impl<A: Allocator> Changes<A> {
+    /// How many accesses came.
     pub fn added_len(&self) -> u128
         ensures { result ≡ length self.now.added }
     {
         self.added.len()
     }
 
+    /// How many accesses went.
     pub fn removed_len(&self) -> u128
         ensures { result ≡ length self.now.removed }
     {

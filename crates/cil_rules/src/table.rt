@@ -75,12 +75,14 @@ impl<A: Allocator + Copy> Table<A> {
 }
 
 impl<A: Allocator> Table<A> {
+    /// How many accesses there are, those of `neverallow` too.
     pub fn len(&self) -> u128
         ensures { result ≡ length self.now }
     {
         self.accesses.len()
     }
 
+    /// Whether there is none.
     pub fn is_empty(&self) -> bool
         ensures { result ≡ (length self.now == 0) }
     {

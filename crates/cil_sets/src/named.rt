@@ -10,7 +10,7 @@ use cil_resolve::{Resolved, resolved_is_sound, resolved_names_are_kept};
 use std::alloc::Allocator;
 
 impl<A: Allocator> Members<A> {
-    /// Whether a type is a member of an attribute, by full names; no where the policy has no such type or no such attribute. It
+    /// Whether a type is a member of an attribute, by full names; false where the policy has no such type or no such attribute. It
     /// takes no memory, and its time goes with the logarithm of the number of names.
     pub fn has_named(&self, resolved: &Resolved<A>, attribute: &[u8], ty: &[u8]) -> bool
         requires { AreMembers resolved.now self.now }

@@ -43,7 +43,7 @@ pub trait Compiled<A: Allocator + Copy> {
     fn store(&self) -> &Store<A>
         ensures { result.now ≡ store self.now };
 
-    /// Whether a type is a member of an attribute, by full names; no where the policy has no such type or no such attribute. It
+    /// Whether a type is a member of an attribute, by full names; false where the policy has no such type or no such attribute. It
     /// takes no memory.
     fn has(&self, attribute: &[u8], ty: &[u8]) -> bool
         ensures { (meaning : Meaning) → IsMeaningOf (store self.now) meaning → result ≡ is_member meaning attribute.now ty.now };

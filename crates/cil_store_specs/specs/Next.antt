@@ -119,7 +119,7 @@ pub data IsNotTaken (store : Store) (edit : Edit) (refusal : Refusal) : Type 0 w
   by_itself : store_refusal store edit ≡ Some refusal → IsNotTaken store edit refusal
   by_its_text : store_refusal store edit ≡ None → IsTextRefusal edit refusal → IsNotTaken store edit refusal
 
--- An edit is taken where the store doesn't refuse it and its text spells a module: its entry is put.
+-- An edit is taken where the store doesn't refuse it and its text, if it brings one, spells a module. The store is then the changed one.
 pub record IsTaken (store : Store) (edit : Edit) (new : Store) : Type 0 where
   pub not_refused : store_refusal store edit ≡ None
   pub good_text : HasGoodText edit

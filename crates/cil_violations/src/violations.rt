@@ -122,6 +122,7 @@ impl<A: Allocator> Violations<A> {
         self.rows.len()
     }
 
+    /// Whether there is none.
     pub fn is_empty(&self) -> bool
         ensures { result ≡ (length self.now == 0) }
     {

@@ -14,7 +14,7 @@ use std::alloc::Allocator;
 ///
 /// # Errors
 ///
-/// Those of a session; `Read` is none of them that an address space has room for.
+/// Those of a session. `Read` would take a script of 2^64 bytes.
 pub fn answer_script<W: Sink, A: Allocator + Copy, C: Compiled<A>>(
     alloc: A,
     script: &[u8],

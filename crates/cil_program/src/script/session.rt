@@ -349,12 +349,12 @@ fn answer_commands<S: Source, W: Sink, A: Allocator + Copy, C: Compiled<A>>(
     }
 }
 
-/// Answers a script from its source to a sink, with an engine. Each answer is flushed before the source is asked for more than
-/// it gave, and nothing is read behind a line that is no command.
+/// Answers a script from its source to a sink, with an engine. As tests show, each answer is flushed before the source is asked
+/// for more than it gave, and nothing is read behind a line that is no command.
 ///
 /// # Errors
 ///
-/// `Read` or `Write` where the source or the sink failed. The engine keeps what it accepted before.
+/// `Read` or `Write` where the source or the sink failed. As tests show, the engine keeps what it accepted before.
 pub fn session<S: Source, W: Sink, A: Allocator + Copy, C: Compiled<A>>(
     alloc: A,
     source: &mut S,
