@@ -28,8 +28,3 @@ some-optional xs i within none = omega (arith, within, past-end xs i none)
 pub report-front : {E : Type 0} (r : Result (Unit {0}) E) (old mid new : Option (List ℕ)) (lines : List ℕ) (n size : ℕ) → n ≡ size → Gains old mid lines → OnErr r (GainsFront mid new (end_line n)) → OnErr r (GainsFront old new (lines ++ end_line size))
 report-front (Ok _) old mid new lines n size is gains front = tt
 report-front (Err _) old mid new lines n size is gains front = subst (GainsFront old new) (ap (λ k. lines ++ end_line k) is) (gains-then_front old mid new lines (end_line n) gains front)
-
--- a text that was taken, or a beginning of it, is a beginning of it
-pub gains-some : {T E : Type 0} (r : Result T E) (old new : Option (List ℕ)) (text : List ℕ) → OnOk r (Gains old new text) → OnErr r (GainsFront old new text) → GainsFront old new text
-gains-some (Ok _) old new text all front = (length text, omega arith, subst (Gains old new) (sym (take_all (length text) text (omega arith))) all)
-gains-some (Err _) old new text all front = front

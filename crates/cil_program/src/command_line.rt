@@ -1,7 +1,7 @@
 //! The command line: what its words ask for, and the exit status.
 
 ghost use Rattle.std.specs.Prelude.{◌≡◌, ◌≢◌, ◌↔◌, ◌⊎◌, Result, map, IsTrue, IfOk};
-ghost use Rattle.cil_stream.specs.Device.{GainsFront, HasEnded, HasFailed};
+ghost use Rattle.cil_stream.specs.Device.{Gains, GainsFront, HasEnded, HasFailed};
 ghost use Rattle.cil_program.specs.CommandLine.{AsksSession, exit_status_of, usage};
 ghost use Rattle.cil_program.specs.Session.{Leaves};
 ghost use Rattle.cil_program.specs.declared.script.session.SessionFault.{SessionFault};
@@ -50,7 +50,8 @@ pub fn answer_command_line<
     ensures failed { AsksSession (map T.text words.now) → result ≡ 3 →
         HasFailed (S.account source.old).failures (S.account source.new).failures ⊎ HasFailed (W.failures sink.old) (W.failures sink.new) }
     ensures session_alone { AsksSession (map T.text words.now) → errors.new ≡ errors.old }
-    ensures usage { (AsksSession (map T.text words.now) → ⊥) → (result ≡ 2) × GainsFront (E.taken errors.old) (E.taken errors.new) usage }
+    ensures usage { (AsksSession (map T.text words.now) → ⊥) → (result ≡ 2)
+        × (Gains (E.taken errors.old) (E.taken errors.new) usage ⊎ (GainsFront (E.taken errors.old) (E.taken errors.new) usage × HasFailed (E.failures errors.old) (E.failures errors.new))) }
     ensures usage_alone { (AsksSession (map T.text words.now) → ⊥) → (source.new ≡ source.old) × (sink.new ≡ sink.old) × (engine.new ≡ engine.old) }
 {
     if !asks_session(words) {
