@@ -45,9 +45,10 @@ pub is-at : {read names : List (List ℕ)} {i : ℕ} {here other name : List ℕ
     → (same ≡ true → slice_get names i ≡ Some name) × (slice_get names i ≡ Some name → same ≡ true)
 is-at {read = read} {names = names} {i = i} {here = here} {other = other} {name = name} {same = same} as_read within get is equal =
     let there : slice_get names i ≡ Some here = subst (λ l. slice_get l i ≡ Some here) as_read (slice_get_read read (length read) i here refl within get) in
-    let decides = bytes_eq-Decides other name in
-    (λ yes. there ∙ ap Some (sym is ∙ decides.0 (sym equal ∙ yes)),
-    λ at. equal ∙ decides.1 (is ∙ same_Some here name (sym there ∙ at)))
+    let decides = bytes_eq-Decides other name in (
+      λ yes. there ∙ ap Some (sym is ∙ decides.0 (sym equal ∙ yes)),
+      λ at. equal ∙ decides.1 (is ∙ same_Some here name (sym there ∙ at)),
+    )
 
 -- past the end stands no name
 pub past-end : {read names : List (List ℕ)} {i : ℕ} {name : List ℕ} → read ≡ names → length read ≤ i → (false ≡ true → slice_get names i ≡ Some name) × (slice_get names i ≡ Some name → false ≡ true)

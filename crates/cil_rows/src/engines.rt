@@ -280,7 +280,8 @@ const BOTH_RULES: &[Call<'static>] = &[
     Call::Dropped,
 ];
 
-const BOTH_ANSWERS: &str = "ok 1 0\nok 1 0\nok 0 0\nok 0 0\nallow a b:p { use };\nallow a b:p { use };\n\
+const BOTH_ANSWERS: &str =
+    "ok 1 0\nok 1 0\nok 0 0\nok 0 0\nallow a b:p { use };\nallow a b:p { use };\n\
     neverallow base:1:32 allow x:1:1 a b:p { use };\nx:1:22 o\nend 1\n";
 
 // Writes what a reply tells.

@@ -14,11 +14,18 @@ pub enum Edit<'a> {
     },
     /// Takes away what stands at a name and a priority (`semodule -r`, `-X`). With the last priority of a name its state is
     /// cleared.
-    Remove { name: &'a [u8], priority: u32 },
+    Remove {
+        name: &'a [u8],
+        priority: u32,
+    },
     /// Lets a name be compiled (`semodule -e`).
-    Enable { name: &'a [u8] },
+    Enable {
+        name: &'a [u8],
+    },
     /// Leaves a name out of what is compiled (`semodule -d`).
-    Disable { name: &'a [u8] },
+    Disable {
+        name: &'a [u8],
+    },
 }
 
 impl<'a> Edit<'a> {

@@ -98,11 +98,7 @@ fn entries_after<'s, A: Allocator + Copy>(
 }
 
 /// Whether an installed name is disabled after an edit.
-fn is_disabled_after<A: Allocator>(
-    store: &Store<A>,
-    edit: &Admitted<'_, A>,
-    name: &[u8],
-) -> bool
+fn is_disabled_after<A: Allocator>(store: &Store<A>, edit: &Admitted<'_, A>, name: &[u8]) -> bool
     ensures { result ≡ is_disabled_after (admitted_edit edit.now) store.now name.now }
 {
     match edit {

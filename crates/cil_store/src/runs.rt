@@ -13,10 +13,7 @@ use cil_stream::MemorySink;
 use std::alloc::{AllocError, Allocator};
 
 /// The lines of the listing.
-fn listing<A: Allocator + Copy, C: Compiled<A>>(
-    alloc: A,
-    engine: &C,
-) -> Result<Text<A>, AllocError>
+fn listing<A: Allocator + Copy, C: Compiled<A>>(alloc: A, engine: &C) -> Result<Text<A>, AllocError>
     ensures { IfOk result (λ text. (rows : List Row) × (text ≡ flat_map row_line rows) × AreRowsOf (C.store engine.now) rows) }
 {
     let mut sink = MemorySink::new(alloc);
@@ -27,11 +24,7 @@ fn listing<A: Allocator + Copy, C: Compiled<A>>(
 }
 
 /// Makes one call.
-fn answer<A: Allocator + Copy, C: Compiled<A>>(
-    alloc: A,
-    engine: &mut C,
-    call: Call<'_>,
-) -> Reply<A>
+fn answer<A: Allocator + Copy, C: Compiled<A>>(alloc: A, engine: &mut C, call: Call<'_>) -> Reply<A>
     ensures { Step (C.store engine.old) (call_of call.entry) (reply_of result) (C.store engine.new) }
 {
     match call {

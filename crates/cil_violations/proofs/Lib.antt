@@ -6,6 +6,5 @@ pub mod IndexLemmas
 pub mod OrderLemmas
 pub mod FoundLemmas
 pub mod MeaningLemmas
-pub mod OneSorted
 pub mod ViolatesLemmas
 pub mod LineLemmas

@@ -38,8 +38,7 @@ use Rattle.cil_violations.specs.Rows.{rules_in, permissions_at, takes_source, ta
 use Rattle.cil_violations.specs.Lines.{rule_in, no_rule, violation_by, IsRow, AreRows}
 use Rattle.cil_violations.specs.declared.row.RowNumbers.{RowNumbers}
 use Rattle.cil_violations.specs.declared.search.Search.{Search}
-use Rattle.cil_specs.proofs.ViolationLemmas.{rule_total}
-use Rattle.cil_violations.proofs.OneSorted.{one-sorted}
+use Rattle.cil_specs.proofs.ViolationLemmas.{one-sorted, rule_total}
 use Rattle.cil_violations.proofs.OrderLemmas.{ranked, row_cmp, rows-sorted, less, greater}
 use Rattle.cil_violations.proofs.TestLemmas.{is-there, if-at}
 use Rattle.cil_violations.proofs.FoundLemmas.{Passes, found, passed}

@@ -136,10 +136,7 @@ fn write_module<W: Sink>(sink: &mut W, entry: Entry<'_>, state: &[u8]) -> Result
 }
 
 /// Writes the lines of the entries of a store.
-fn write_entries<W: Sink, A: Allocator>(
-    sink: &mut W,
-    store: &Store<A>,
-) -> Result<(), SinkFault>
+fn write_entries<W: Sink, A: Allocator>(sink: &mut W, store: &Store<A>) -> Result<(), SinkFault>
     ensures ok { OnOk result (Gains (W.taken sink.old) (W.taken sink.new) (modules_text store.now)) }
     ensures err { OnErr result (GainsFront (W.taken sink.old) (W.taken sink.new) (modules_text store.now)) }
     ensures failed { OnErr result (HasFailed (W.failures sink.old) (W.failures sink.new)) }
@@ -152,10 +149,7 @@ fn write_entries<W: Sink, A: Allocator>(
 }
 
 /// Writes the modules of a store (`semodule -lfull`, in a form of this project's own). It takes no memory.
-pub fn write_modules<W: Sink, A: Allocator>(
-    sink: &mut W,
-    store: &Store<A>,
-) -> Result<(), SinkFault>
+pub fn write_modules<W: Sink, A: Allocator>(sink: &mut W, store: &Store<A>) -> Result<(), SinkFault>
     ensures ok { OnOk result (Gains (W.taken sink.old) (W.taken sink.new) (modules_text store.now ++ end_line (length store.now.entries))) }
     ensures err { OnErr result (GainsFront (W.taken sink.old) (W.taken sink.new) (modules_text store.now ++ end_line (length store.now.entries))) }
     ensures failed { OnErr result (HasFailed (W.failures sink.old) (W.failures sink.new)) }
