@@ -3,3 +3,4 @@ pub mod Permissions
 pub mod Index
 pub mod Rows
 pub mod Lines
+pub mod Views

@@ -7,8 +7,10 @@ mod permissions;
 mod row;
 mod search;
 mod shared;
+mod violation;
 #[cfg(test)]
 mod violation_tests;
 mod violations;
 
+pub use violation::{Permissions, Violation};
 pub use violations::Violations;

@@ -141,7 +141,7 @@ fn write_permissions<W: Sink, A: Allocator>(
 }
 
 /// The rule at a place.
-fn rule_at<A: Allocator>(resolved: &Resolved<A>, i: usize) -> RuleView<'_>
+pub fn rule_at<A: Allocator>(resolved: &Resolved<A>, i: usize) -> RuleView<'_>
     requires { i < length (meaning_in resolved.now).rules }
     ensures { rule_seen result ≡ rule_head (rule_in resolved.now i) }
 {

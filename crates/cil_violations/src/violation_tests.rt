@@ -5,13 +5,15 @@ ghost use Rattle.cil_specs.specs.Joined.{Module};
 ghost use Rattle.cil_parse.specs.Parsed.{IsParsed};
 ghost use Rattle.cil_resolve.specs.Modules.{AreParsedFrom};
 
-use crate::Violations;
+use crate::{Violation, Violations};
 use cil_parse::{ParsedModule, parse};
-use cil_resolve::{Joined, NamedModule, Resolved, resolve};
+use cil_resolve::{Joined, NamedModule, Resolved, RuleView, resolve};
 use cil_sets::Members;
 use cil_stream::MemorySink;
+use cil_text::RuleKind;
 use std::alloc::{AllocError, Global};
 use std::process::Abort;
+use std::rc::Rc;
 
 const START: &[u8] =
     b"(class p (use see))(class q (use))(type a)(type b)(typeattribute s)(typeattributeset s (a b))(typealias x)(typealiasactual x a)";
@@ -50,11 +52,16 @@ fn policy(rt: &impl Abort, alloc: Global, statements: &[&[u8]]) -> Resolved {
     resolve(alloc, &joined).expect(rt, "a policy")
 }
 
-// Asserts the report of a policy, and that a sink that fails has a beginning of it.
-fn assert_violations(rt: &impl Abort, alloc: Global, statements: &[&[u8]], want: &[u8]) {
+// The violations of the policy of these statements.
+fn violations_of(rt: &impl Abort, alloc: Global, statements: &[&[u8]]) -> Violations {
     let resolved = Rc::new(alloc, policy(rt, alloc, statements)).expect(rt, "memory");
     let members = Members::plain(alloc, &resolved).expect(rt, "memory");
-    let violations = Violations::of(alloc, &resolved, &members).expect(rt, "memory");
+    Violations::of(alloc, &resolved, &members).expect(rt, "memory")
+}
+
+// Asserts the report of a policy, and that a sink that fails has a beginning of it.
+fn assert_violations(rt: &impl Abort, alloc: Global, statements: &[&[u8]], want: &[u8]) {
+    let violations = violations_of(rt, alloc, statements);
     let mut sink = MemorySink::new(alloc);
     let written = violations.write(&mut sink).expect(rt, "a sink");
     let whole = sink.bytes() == want && written == violations.len();
@@ -148,4 +155,44 @@ fn types_past_the_first_word(rt: HostRuntime) {
         ],
         b"neverallow m:1:875 allow m:1:904 t63 t63:p { use };\nneverallow m:1:875 allow m:1:929 t64 t64:p { use };\n",
     );
+}
+
+// Asserts the kind and the place of a rule of the module m.
+fn assert_rule(rt: &impl Abort, rule: &RuleView<'_>, kind: RuleKind, line: u32, column: u32) {
+    let same = rule.kind == kind
+        && rule.module == b"m".as_slice()
+        && rule.at.line == line
+        && rule.at.column == column;
+    assert!(rt; same);
+}
+
+// Asserts the names of a violation at see and use of the class p.
+fn assert_names(rt: &impl Abort, found: &Violation<'_>, source: &[u8], target: &[u8]) {
+    let named = found.source == source && found.target == target && found.class == b"p".as_slice();
+    assert!(rt; named);
+    let permissions = &found.permissions;
+    let shared = permissions.get(0) == Some(b"see".as_slice())
+        && permissions.get(1) == Some(b"use".as_slice())
+        && permissions.get(2).is_none();
+    assert!(rt; shared);
+    assert!(rt; permissions.len() == 2 && !permissions.is_empty());
+}
+
+#[test]
+fn violations_by_place(rt: HostRuntime) {
+    let violations = violations_of(
+        &rt,
+        rt.alloc(),
+        &[
+            START,
+            b"(neverallow s b (p (use see)))\n (allow s s (p (see use)))",
+        ],
+    );
+    let first = violations.get(0).expect(&rt, "a first violation");
+    let second = violations.get(1).expect(&rt, "a second violation");
+    assert_rule(&rt, &first.never, RuleKind::NeverAllow, 1, 128);
+    assert_rule(&rt, &first.allowed, RuleKind::Allow, 2, 2);
+    assert_names(&rt, &first, b"a", b"b");
+    assert_names(&rt, &second, b"b", b"b");
+    assert!(&rt; violations.get(2).is_none() && !violations.is_empty());
 }

@@ -1,6 +1,6 @@
 //! The violations of a policy.
 
-ghost use Rattle.std.specs.Prelude.{◌≡◌, ◌≤◌, ◌==◌, length, map, IfOk, OnOk, OnErr};
+ghost use Rattle.std.specs.Prelude.{◌≡◌, ◌≤◌, ◌==◌, length, map, slice_get, option_map, IfOk, OnOk, OnErr};
 ghost use Rattle.std.specs.List.{flat_map};
 ghost use Rattle.std.specs.Rc.{rc_value};
 ghost use Rattle.cil_stream.specs.Device.{HasFailed, Gains, GainsFront};
@@ -8,12 +8,14 @@ ghost use Rattle.cil_resolve.specs.Resolved.{meaning_in};
 ghost use Rattle.cil_sets.specs.Members.{AreMembers};
 ghost use Rattle.cil_specs.specs.Violations.{AreViolations, violation_line, violations_text};
 ghost use Rattle.cil_violations.specs.Lines.{line_by, violation_by, AreRows};
+ghost use Rattle.cil_violations.specs.Views.{violation_seen, violation_head};
 
 use crate::index::ClassIndex;
 use crate::line::write_line;
 use crate::permissions::ordered_permissions;
 use crate::row::RowNumbers;
 use crate::search::Search;
+use crate::violation::Violation;
 use cil_parse::Lists;
 use cil_resolve::{Resolved, resolved_rules_are_in_order};
 use cil_sets::Members;
@@ -127,6 +129,14 @@ impl<A: Allocator> Violations<A> {
         ensures { result ≡ (length self.now == 0) }
     {
         self.rows.is_empty()
+    }
+
+    /// The violation at a place of the order.
+    pub fn get(&self, i: usize) -> Option<Violation<'_, A>>
+        ensures { option_map violation_seen result ≡ option_map violation_head (slice_get self.now i) }
+    {
+        let row = self.rows.get(i)?;
+        Some(Violation::of(&self.resolved, &self.permissions, *row))
     }
 
     /// Writes their lines, and tells how many there are.
