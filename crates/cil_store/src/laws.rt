@@ -45,7 +45,7 @@ pub fn no_meaning_beside_a_refusal()
     ensures { (store : Store) (meaning : Meaning) (refusal : Refusal) → IsMeaningOf store meaning → IsPolicyRefusal store refusal → ⊥ }
 {}
 
-/// Of an edit of a store in order at most one thing is judged.
+/// An edit of a store in order has at most one judgement.
 pub fn one_judgement()
     ensures { (store : Store) (edit : Edit) (judgement other : Judgement) → IsStore store → Next store edit judgement → Next store edit other → judgement ≡ other }
 {}
