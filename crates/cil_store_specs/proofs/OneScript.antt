@@ -4,7 +4,7 @@ use Rattle.std.proofs.lemmas.List.{take_all, take-append-le}
 use Rattle.std.specs.List.{list_all, AllByRecursion}
 use Rattle.cil_specs.proofs.NamesLemmas.{all-first, all-second}
 use Rattle.cil_store_specs.specs.Next.{install, remove, enable, disable}
-use Rattle.cil_store_specs.specs.Script.{Command, makes, asks_rules, asks_violations, asks_dropped, asks_modules, words_of, line_of, behind, command_bytes, HasGoodWords, IsCommand, MayLackItsEnd, End, ends, stops, IsEnd, Commands, whole, without_end}
+use Rattle.cil_store_specs.specs.Script.{Command, makes, asks_rules, asks_violations, asks_dropped, asks_modules, asks_dump, words_of, line_of, behind, command_bytes, HasGoodWords, IsCommand, MayLackItsEnd, End, ends, stops, IsEnd, Commands, whole, without_end}
 use Rattle.cil_store_specs.proofs.WordLemmas.{stays, line-stays, lines-same, commands-same, text_of, text-length, kind_of_word, number_of, first_word}
 use Rattle.cil_store_specs.proofs.LineLemmas.{same-lines, has-feed, command-line}
 
@@ -32,6 +32,7 @@ length-behind asks_rules = refl
 length-behind asks_violations = refl
 length-behind asks_dropped = refl
 length-behind asks_modules = refl
+length-behind asks_dump = refl
 
 -- the text is what stands there, but for a line feed
 text-behind : (command : Command) → text_of command ≡ take (length (text_of command)) (behind command)
@@ -43,6 +44,7 @@ text-behind asks_rules = refl
 text-behind asks_violations = refl
 text-behind asks_dropped = refl
 text-behind asks_modules = refl
+text-behind asks_dump = refl
 
 -- what commands of one line, and what stands behind it, are
 same-behind : (c d : Command) (rest more : List ℕ) → HasGoodWords c → HasGoodWords d → line_of c ≡ line_of d → behind c ++ rest ≡ behind d ++ more → (c ≡ d) × (rest ≡ more)
@@ -70,6 +72,7 @@ no-text asks_rules may = refl
 no-text asks_violations may = refl
 no-text asks_dropped may = refl
 no-text asks_modules may = refl
+no-text asks_dump may = refl
 
 -- and so is a line that lacks its line feed
 same-last : (c d : Command) → HasGoodWords c → HasGoodWords d → MayLackItsEnd c → MayLackItsEnd d → line_of c ≡ line_of d → c ≡ d
@@ -85,6 +88,7 @@ some-line asks_rules = omega arith
 some-line asks_violations = omega arith
 some-line asks_dropped = omega arith
 some-line asks_modules = omega arith
+some-line asks_dump = omega arith
 
 -- no command stands at the front of the bytes
 HasNoFront : List ℕ → Type 0

@@ -6,7 +6,7 @@ use Rattle.std.proofs.lemmas.Fmt.{decimal_by_steps}
 use Rattle.std.proofs.lemmas.List.Folds.{list_all-append}
 use Rattle.cil_specs.proofs.Runs.{both_true, first_true, second_true, same_run}
 use Rattle.cil_store_specs.specs.Next.{Edit, install, remove, enable, disable}
-use Rattle.cil_store_specs.specs.Script.{Command, makes, asks_rules, asks_violations, asks_dropped, asks_modules, words_of, line_of, is_shown, HasGoodWords}
+use Rattle.cil_store_specs.specs.Script.{Command, makes, asks_rules, asks_violations, asks_dropped, asks_modules, asks_dump, words_of, line_of, is_shown, HasGoodWords}
 
 -- a byte that is neither a space nor a line feed
 abbrev pub is_plain : ℕ → Bool
@@ -60,6 +60,7 @@ words-plain asks_rules good = (refl, tt)
 words-plain asks_violations good = (refl, tt)
 words-plain asks_dropped good = (refl, tt)
 words-plain asks_modules good = (refl, tt)
+words-plain asks_dump good = (refl, tt)
 
 weaker : (p q : ℕ → Bool) → ((b : ℕ) → p b ≡ true → q b ≡ true) → (xs : List ℕ) → list_all p xs ≡ true → list_all q xs ≡ true
 weaker p q f [] all = refl
@@ -118,6 +119,7 @@ words-split asks_rules = refl
 words-split asks_violations = refl
 words-split asks_dropped = refl
 words-split asks_modules = refl
+words-split asks_dump = refl
 
 pub lines-same : (c d : Command) → HasGoodWords c → HasGoodWords d → line_of c ≡ line_of d → words_of c ≡ words_of d
 lines-same c d a b e =
@@ -132,12 +134,12 @@ lines-same c d a b e =
 abbrev pub kind_of_word : List ℕ → ℕ
 kind_of_word w =
     if bytes_eq w (codes "install") then 0 else if bytes_eq w (codes "remove") then 1 else if bytes_eq w (codes "enable") then 2 else if bytes_eq w (codes "disable") then 3
-    else if bytes_eq w (codes "rules") then 4 else if bytes_eq w (codes "violations") then 5 else if bytes_eq w (codes "dropped") then 6 else 7
+    else if bytes_eq w (codes "rules") then 4 else if bytes_eq w (codes "violations") then 5 else if bytes_eq w (codes "dropped") then 6 else if bytes_eq w (codes "modules") then 7 else 8
 
 abbrev pub command_by : ℕ → List ℕ → ℕ → List ℕ → Command
 command_by kind name priority text =
     if kind == 0 then makes (install name priority text) else if kind == 1 then makes (remove name priority) else if kind == 2 then makes (enable name) else if kind == 3 then makes (disable name)
-    else if kind == 4 then asks_rules else if kind == 5 then asks_violations else if kind == 6 then asks_dropped else asks_modules
+    else if kind == 4 then asks_rules else if kind == 5 then asks_violations else if kind == 6 then asks_dropped else if kind == 7 then asks_modules else asks_dump
 
 -- the number that digits denote
 abbrev number_from : ℕ → List ℕ → ℕ
@@ -169,6 +171,7 @@ command-is asks_rules good = refl
 command-is asks_violations good = refl
 command-is asks_dropped good = refl
 command-is asks_modules good = refl
+command-is asks_dump good = refl
 
 -- commands of the same words and the same text are one
 pub commands-same : (c d : Command) → HasGoodWords c → HasGoodWords d → words_of c ≡ words_of d → text_of c ≡ text_of d → c ≡ d
@@ -187,6 +190,7 @@ text-length asks_rules good = refl
 text-length asks_violations good = refl
 text-length asks_dropped good = refl
 text-length asks_modules good = refl
+text-length asks_dump good = refl
 
 -- the first word of a command whose line has others, and those
 pub first-is : (w rest : List ℕ) (command : Command) → HasGoodWords command → list_all is_no_space w ≡ true → w ++ 32 ∷ rest ≡ line_of command
@@ -217,15 +221,17 @@ known-first asks_rules some a b c d = some refl
 known-first asks_violations some a b c d = some refl
 known-first asks_dropped some a b c d = some refl
 known-first asks_modules some a b c d = some refl
+known-first asks_dump some a b c d = some refl
 
 -- a line of one word is one of these
 pub known-word : (word : List ℕ) (command : Command) → list_all is_no_space word ≡ true → word ≡ line_of command
-    → word ≢ codes "rules" → word ≢ codes "violations" → word ≢ codes "dropped" → word ≢ codes "modules" → ⊥
-known-word word (makes (install name priority text)) all is a b c d = has-space (codes "install") (join_with_byte 32 (name ∷ decimal priority ∷ decimal (length text) ∷ [])) (sym (ap (list_all is_no_space) is) ∙ all)
-known-word word (makes (remove name priority)) all is a b c d = has-space (codes "remove") (join_with_byte 32 (name ∷ decimal priority ∷ [])) (sym (ap (list_all is_no_space) is) ∙ all)
-known-word word (makes (enable name)) all is a b c d = has-space (codes "enable") name (sym (ap (list_all is_no_space) is) ∙ all)
-known-word word (makes (disable name)) all is a b c d = has-space (codes "disable") name (sym (ap (list_all is_no_space) is) ∙ all)
-known-word word asks_rules all is a b c d = a is
-known-word word asks_violations all is a b c d = b is
-known-word word asks_dropped all is a b c d = c is
-known-word word asks_modules all is a b c d = d is
+    → word ≢ codes "rules" → word ≢ codes "violations" → word ≢ codes "dropped" → word ≢ codes "modules" → word ≢ codes "dump" → ⊥
+known-word word (makes (install name priority text)) all is a b c d f = has-space (codes "install") (join_with_byte 32 (name ∷ decimal priority ∷ decimal (length text) ∷ [])) (sym (ap (list_all is_no_space) is) ∙ all)
+known-word word (makes (remove name priority)) all is a b c d f = has-space (codes "remove") (join_with_byte 32 (name ∷ decimal priority ∷ [])) (sym (ap (list_all is_no_space) is) ∙ all)
+known-word word (makes (enable name)) all is a b c d f = has-space (codes "enable") name (sym (ap (list_all is_no_space) is) ∙ all)
+known-word word (makes (disable name)) all is a b c d f = has-space (codes "disable") name (sym (ap (list_all is_no_space) is) ∙ all)
+known-word word asks_rules all is a b c d f = a is
+known-word word asks_violations all is a b c d f = b is
+known-word word asks_dropped all is a b c d f = c is
+known-word word asks_modules all is a b c d f = d is
+known-word word asks_dump all is a b c d f = f is

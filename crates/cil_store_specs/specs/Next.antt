@@ -1,5 +1,5 @@
 -- What an edit of the store leads to.
-use Rattle.std.specs.Prelude.{◌≡◌, ℕ, Bool, false, not, ◌&&◌, ◌||◌, ◌==◌, nat_le, nat_lt, List, [], ◌∷◌, length, decimal, Option, Some, None, if◌then◌else◌}
+use Rattle.std.specs.Prelude.{◌≡◌, ℕ, Bool, false, not, ◌&&◌, ◌||◌, ◌==◌, nat_le, nat_lt, List, [], ◌∷◌, ◌++◌, map, length, decimal, Option, Some, None, if◌then◌else◌}
 use Rattle.std.specs.List.{list_all}
 use Rattle.cil_specs.specs.Place.{Place}
 use Rattle.cil_specs.specs.TextFault.{TextFault}
@@ -12,7 +12,7 @@ use Rattle.cil_specs.specs.PolicyFault.{PolicyFault}
 use Rattle.cil_specs.specs.PolicyFault as policy_fault
 use Rattle.cil_specs.specs.Kept.{Optionals, IsFirstFault}
 use Rattle.cil_specs.specs.Meaning.{Meaning, Means}
-use Rattle.cil_store_specs.specs.Store.{Entry, Store, put, put_name, without, without_name, has_entry, is_installed, has_room, active}
+use Rattle.cil_store_specs.specs.Store.{Entry, Store, empty, put, put_name, without, without_name, has_entry, is_installed, has_room, active}
 
 -- the modules of entries, by the entries' names and texts
 abbrev pub AreModules : List Entry → List Module → Type 0
@@ -141,3 +141,24 @@ pub data Next (store : Store) (edit : Edit) (judgement : Judgement) : Type 0 whe
   not_taken : (refusal : Refusal) → IsNotTaken store edit refusal → judgement ≡ refuses refusal → Next store edit judgement
   bad_policy : (new : Store) (refusal : Refusal) → IsTaken store edit new → IsPolicyRefusal new refusal → judgement ≡ refuses refusal → Next store edit judgement
   good : (new : Store) (meaning : Meaning) → IsTaken store edit new → IsMeaningOf new meaning → judgement ≡ accepts new → Next store edit judgement
+
+-- Edits are taken in turn, each by the store that those before it lead to. Nothing is asked of the policies in between.
+abbrev pub AreTaken : Store → List Edit → Store → Type 0
+AreTaken store [] new = new ≡ store
+AreTaken store (edit ∷ edits) new = (mid : Store) × IsTaken store edit mid × AreTaken mid edits new
+
+-- What is judged of edits that are made at once: the first one that is not taken refuses them; or else the policy of the store that
+-- they lead to does; or else that store, which has a meaning, is accepted.
+pub data NextOfAll (store : Store) (edits : List Edit) (judgement : Judgement) : Type 0 where
+  one_not_taken : (before : List Edit) (edit : Edit) (after : List Edit) (mid : Store) (refusal : Refusal) → edits ≡ before ++ edit ∷ after → AreTaken store before mid
+      → IsNotTaken mid edit refusal → judgement ≡ refuses refusal → NextOfAll store edits judgement
+  bad_policy_of_all : (new : Store) (refusal : Refusal) → AreTaken store edits new → IsPolicyRefusal new refusal → judgement ≡ refuses refusal → NextOfAll store edits judgement
+  all_good : (new : Store) (meaning : Meaning) → AreTaken store edits new → IsMeaningOf new meaning → judgement ≡ accepts new → NextOfAll store edits judgement
+
+-- an install of an entry
+abbrev pub install_of : Entry → Edit
+install_of e = install e.name e.priority e.text
+
+-- What a list of entries leads to that are installed at once on the empty store.
+abbrev pub Of : List Entry → Judgement → Type 0
+Of entries judgement = NextOfAll empty (map install_of entries) judgement

@@ -1,20 +1,21 @@
 -- Scripts: their commands, and the answers.
-use Rattle.std.specs.Prelude.{◌≡◌, ◌≢◌, ℕ, ◌+◌, ◌<◌, ◌≤◌, Bool, true, false, ◌&&◌, ◌==◌, nat_le, List, [], ◌∷◌, ◌++◌, flat_map, length, codes, decimal, count_by, IsTrue, Option, Some, None}
+use Rattle.std.specs.Prelude.{◌≡◌, ◌≢◌, ℕ, ◌+◌, ◌<◌, ◌≤◌, Bool, true, false, ◌&&◌, ◌==◌, nat_le, List, [], ◌∷◌, ◌++◌, map, flat_map, length, codes, decimal, count_by, IsTrue, Option, Some, None}
 use Rattle.std.specs.List.{list_all, join_with_byte, AllByRecursion}
 use Rattle.cil_specs.specs.Report.{row_line, dropped_line}
 use Rattle.cil_specs.specs.Violations.{violation_line}
 use Rattle.cil_store_specs.specs.Store.{Store}
 use Rattle.cil_store_specs.specs.StoreReport.{modules_text}
-use Rattle.cil_store_specs.specs.Next.{Edit, install, remove, enable, disable, Refusal, by_store, at_place, for_memory}
+use Rattle.cil_store_specs.specs.Next.{Edit, install, remove, enable, disable, install_of, Refusal, by_store, at_place, for_memory}
 use Rattle.cil_store_specs.specs.Run.{Call, an_edit, ask_rows, ask_violations, ask_dropped, Reply, changed_by, refused, listed, printed, violated, dropped_optionals, Step}
 
--- a command: an edit, or a question for the listing, the violations, the optionals that drop, or the modules
+-- a command: an edit, or a question for the listing, the violations, the optionals that drop, the modules, or a script for the store
 pub data Command : Type 0 where
   makes : Edit → Command
   asks_rules : Command
   asks_violations : Command
   asks_dropped : Command
   asks_modules : Command
+  asks_dump : Command
 
 -- the words of a command's line; of an install the last one is the length of its text
 abbrev pub words_of : Command → List (List ℕ)
@@ -26,6 +27,7 @@ words_of asks_rules = codes "rules" ∷ []
 words_of asks_violations = codes "violations" ∷ []
 words_of asks_dropped = codes "dropped" ∷ []
 words_of asks_modules = codes "modules" ∷ []
+words_of asks_dump = codes "dump" ∷ []
 
 -- the line of a command, without its line feed: its words, with one space between two
 abbrev pub line_of : Command → List ℕ
@@ -130,12 +132,22 @@ call_of asks_rules = Some ask_rows
 call_of asks_violations = Some ask_violations
 call_of asks_dropped = Some ask_dropped
 call_of asks_modules = None
+call_of asks_dump = None
 
--- What a command does to a store, and what answers it: the reply to its call of an engine; or, of a command that makes none, the
+-- the edits that build a store (dump): an install of each entry, in the order of the store, and then a disable of each disabled name
+abbrev pub dump_edits : Store → List Edit
+dump_edits store = map install_of store.entries ++ map disable store.disabled
+
+-- and the script of them
+abbrev pub dump_text : Store → List ℕ
+dump_text store = flat_map (λ edit. command_bytes (makes edit)) (dump_edits store)
+
+-- What a command does to a store, and what answers it: the reply to its call of an engine; or, of a command that makes none, a
 -- report of the store, which stays.
 pub data Answers (old : Store) (command : Command) (answer : Answer) (new : Store) : Type 0 where
   by_engine : (call : Call) (reply : Reply) → call_of command ≡ Some call → Step old call reply new → answer ≡ answer_of reply → Answers old command answer new
   by_modules : command ≡ asks_modules → answer ≡ record { bytes = modules_text old ++ end_line (length old.entries); refuses = false } → new ≡ old → Answers old command answer new
+  by_dump : command ≡ asks_dump → answer ≡ record { bytes = dump_text old ++ end_line (length (dump_edits old)); refuses = false } → new ≡ old → Answers old command answer new
 
 -- the answers to commands, one after another
 abbrev pub AnswersAll : Store → List Command → List Answer → Store → Type 0
