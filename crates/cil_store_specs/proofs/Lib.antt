@@ -3,6 +3,7 @@ pub mod OneFault
 pub mod OneStore
 pub mod StoreOrder
 pub mod RunLemmas
+pub mod LimitLemmas
 pub mod PutLemmas
 pub mod ActiveLemmas
 pub mod WordLemmas
