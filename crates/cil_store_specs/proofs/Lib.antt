@@ -10,3 +10,4 @@ pub mod WordLemmas
 pub mod LineLemmas
 pub mod OneScript
 pub mod OneRun
+pub mod DumpLemmas
