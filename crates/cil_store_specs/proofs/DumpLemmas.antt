@@ -1,12 +1,13 @@
 -- What a dump of a store builds.
-use Rattle.std.proofs.Common.{◌≡◌, ◌∷◌, ◌++◌, [], ℕ, List, Bool, true, false, ◌||◌, map, fold, refl, ap, sym, ◌∙◌, subst, true≢false}
+use Rattle.std.proofs.Common.{◌≡◌, ◌∷◌, [], ℕ, List, false, map, fold, refl, ap, sym, ◌∙◌, true≢false}
 use Rattle.std.specs.List.{list_any}
+use Rattle.std.proofs.lemmas.Bool.{or_parts}
 use Rattle.std.proofs.lemmas.Cmp.{nat_list_cmp_total}
 use Rattle.std.proofs.lemmas.List.Sums.{fold-append}
 use Rattle.cil_specs.specs.Report.{Changes, name_cmp}
 use Rattle.cil_store_specs.specs.Store.{Entry, Store, IsStore, empty, entry_cmp, put, put_name}
 use Rattle.cil_store_specs.specs.Next.{Edit, disable, install_of, changed, accepts, Next, not_taken, bad_policy, good}
-use Rattle.cil_store_specs.specs.Run.{Call, an_edit, ask_rows, ask_listing, ask_violations, ask_dropped, Reply, changed_by, refused, accepted, rejected, lists, prints, tells_violations, tells_dropped, out_of_memory, Step, Run}
+use Rattle.cil_store_specs.specs.Run.{Call, an_edit, ask_rows, ask_listing, ask_violations, ask_dropped, Reply, changed_by, accepted, rejected, lists, prints, tells_violations, tells_dropped, out_of_memory, Step, Run}
 use Rattle.cil_store_specs.specs.Script.{makes, is_refusal, Answer, Answers, by_engine, by_modules, by_dump, AnswersAll, dump_edits}
 use Rattle.cil_store_specs.proofs.StoreOrder.{entry_total}
 use Rattle.cil_store_specs.proofs.PutLemmas.{put-all}
@@ -53,18 +54,14 @@ run-changed old new (e ∷ edits) [] run = absurd run
 run-changed old new (e ∷ edits) (c ∷ changes) (mid, step, run) =
     run-changed mid new edits changes run ∙ ap (λ s. fold changed s edits) (step-changed old mid e (an_edit e) (changed_by c) refl refl step)
 
-answers-changed : (old new : Store) (edits : List Edit) (answers : List Answer) → AnswersAll old (map makes edits) answers new → list_any (λ a. a.refuses) answers ≡ false → new ≡ fold changed old edits
+pub answers-changed : (old new : Store) (edits : List Edit) (answers : List Answer) → AnswersAll old (map makes edits) answers new → list_any (λ a. a.refuses) answers ≡ false → new ≡ fold changed old edits
 answers-changed old new [] [] all none = all
 answers-changed old new [] (a ∷ answers) all none = absurd all
 answers-changed old new (e ∷ edits) [] all none = absurd all
 answers-changed old new (e ∷ edits) (a ∷ answers) (mid, step, all) none =
-    let both = neither a.refuses (list_any (λ a. a.refuses) answers) none in
+    let both = or_parts a.refuses (list_any (λ a. a.refuses) answers) none in
     answers-changed mid new edits answers all both.1 ∙ ap (λ s. fold changed s edits) (by step both.0)
   where
-    neither : (b c : Bool) → (b || c) ≡ false → (b ≡ false) × (c ≡ false)
-    neither true c is = absurd (true≢false is)
-    neither false c is = (refl, is)
-
     by : Answers old (makes e) a mid → a.refuses ≡ false → mid ≡ changed old e
     by (by_engine call reply asked made told) taken =
         let is : call ≡ an_edit e = cc in

@@ -11,3 +11,4 @@ pub mod LineLemmas
 pub mod OneScript
 pub mod OneRun
 pub mod DumpLemmas
+pub mod DumpScript

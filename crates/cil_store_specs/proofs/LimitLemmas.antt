@@ -1,10 +1,11 @@
 -- An edit leaves a store within its limits.
-use Rattle.std.proofs.Common.{◌≡◌, ◌≢◌, ◌∷◌, ◌++◌, [], ℕ, ◌+◌, ◌≤◌, ◌==◌, ◌&&◌, ◌||◌, List, Bool, true, false, not, cond, filter, length, bytes_eq, nat_le, nat_lt, Option, Some, None, if◌then◌else◌, refl, ap, sym, ◌∙◌, subst, true≢false, arith, length-append}
+use Rattle.std.proofs.Common.{◌≡◌, ◌≢◌, ◌∷◌, [], ℕ, ◌+◌, ◌≤◌, ◌==◌, ◌&&◌, ◌||◌, List, Bool, true, false, not, cond, filter, length, bytes_eq, nat_le, nat_lt, Option, Some, None, if◌then◌else◌, refl, ap, sym, ◌∙◌, subst, true≢false, arith}
 use Rattle.std.specs.List.{list_any, sum_by, AllByRecursion}
 use Rattle.std.specs.Ordering.{nat_cmp, ordering_then, is_lt}
 use Rattle.std.specs.declared.cmp.Ordering.{Ordering}
 use Rattle.std.specs.declared.cmp.Ordering.TheVariants.{Less, Equal, Greater}
-use Rattle.std.proofs.lemmas.Bool.{and_parts, eqb-true, leb-true, ltb-false}
+use Rattle.std.proofs.Math.Bool.{or-true}
+use Rattle.std.proofs.lemmas.Bool.{and_parts, eqb-true, leb-true, ltb-false, not-true}
 use Rattle.std.proofs.lemmas.Cmp.{nat_list_cmp_total, tied_itself}
 use Rattle.std.proofs.lemmas.List.Folds.{list_any-append}
 use Rattle.std.proofs.lemmas.List.Sums.{sum_by-append, sum_by-cons}
@@ -109,10 +110,6 @@ installed-put e entries name there =
     behind : Entry → Bool
     behind = λ o. is_lt (entry_cmp e o)
 
-    or-true : (b : Bool) → (b || true) ≡ true
-    or-true true = refl
-    or-true false = refl
-
     by : (c : Ordering) → name_cmp name e.name ≡ c → (list_any named (filter before entries) || (named e || list_any named (filter behind entries))) ≡ true
     by Less is =
         ap (λ b. b || (named e || list_any named (filter behind entries)))
@@ -194,11 +191,7 @@ remove-within store name priority is = record {
         same : (other : List ℕ) → Was other → (b : Bool) → bytes_eq other name ≡ b → Stays other
         same other was true e = ap (λ n. is_installed n (without name priority store.entries)) ((bytes_eq-Decides other name).0 e) ∙ there
         same other was false e = installed-without name priority store.entries other e was
-    by false gone = all-kept Was Stays (λ o. not (bytes_eq o name)) (λ other was apart. installed-without name priority store.entries other (is_false (bytes_eq other name) apart) was) store.disabled is.disabled
-      where
-        is_false : (b : Bool) → not b ≡ true → b ≡ false
-        is_false true e = absurd (true≢false (sym e))
-        is_false false e = refl
+    by false gone = all-kept Was Stays (λ o. not (bytes_eq o name)) (λ other was apart. installed-without name priority store.entries other (not-true (bytes_eq other name) apart) was) store.disabled is.disabled
 
 pub changed-within : (store : Store) (edit : Edit) → IsWithinLimits store → store_refusal store edit ≡ None → IsWithinLimits (changed store edit)
 changed-within store (install name priority text) is none = let e : Entry = record { name = name; priority = priority; text = text } in install-within store e is (fits store e none)

@@ -1,5 +1,5 @@
 -- The limits of a store, which the edits keep.
-use Rattle.std.specs.Prelude.{ℕ, ◌≤◌, length, IsTrue}
+use Rattle.std.specs.Prelude.{◌≤◌, length, IsTrue}
 use Rattle.std.specs.List.{AllByRecursion}
 use Rattle.cil_store_specs.specs.Store.{Entry, Store, is_installed, text_bytes}
 use Rattle.cil_store_specs.specs.Next.{is_module_name, is_priority}
