@@ -1,4 +1,4 @@
--- An edit leaves a store within its limits.
+-- An edit leaves a store within its limits, and its texts spell modules.
 use Rattle.std.proofs.Common.{◌≡◌, ◌≢◌, ◌∷◌, [], ℕ, ◌+◌, ◌≤◌, ◌==◌, ◌&&◌, ◌||◌, List, Bool, true, false, not, cond, filter, length, bytes_eq, nat_le, nat_lt, Option, Some, None, if◌then◌else◌, refl, ap, sym, ◌∙◌, subst, true≢false, arith}
 use Rattle.std.specs.List.{list_any, sum_by, AllByRecursion}
 use Rattle.std.specs.Ordering.{nat_cmp, ordering_then, is_lt}
@@ -16,9 +16,10 @@ use Rattle.cil_specs.specs.Report.{name_cmp}
 use Rattle.cil_specs.proofs.NamesLemmas.{all-weaker, all-append}
 use Rattle.cil_specs.proofs.SearchLemmas.{less-is, reversed}
 use Rattle.cil_store_specs.specs.Store.{Entry, Store, empty, entry_cmp, put_by, put, is_entry, is_installed, has_room, text_bytes, without, without_name}
-use Rattle.cil_store_specs.specs.Next.{Edit, install, remove, enable, disable, Refusal, changed, store_refusal, is_module_name, is_priority, IsTaken, accepts, Next, not_taken, bad_policy, good}
-use Rattle.cil_store_specs.specs.Limits.{IsEntryWithinLimits, IsWithinLimits}
-use Rattle.cil_store_specs.specs.Run.{Call, Reply, accepted, rejected, lists, prints, tells_violations, tells_dropped, out_of_memory, Step, Run}
+use Rattle.cil_store_specs.specs.Next.{Edit, install, remove, enable, disable, Refusal, changed, store_refusal, is_module_name, is_priority, HasGoodText, IsTaken, install_of}
+use Rattle.cil_store_specs.specs.Limits.{IsEntryWithinLimits, IsWithinLimits, HasGoodTexts}
+use Rattle.cil_store_specs.specs.Run.{Call, Reply, Step, Run}
+use Rattle.cil_store_specs.proofs.RunLemmas.{step-keeps, run-keeps}
 use Rattle.cil_store_specs.proofs.StoreOrder.{entry_total}
 
 -- What holds of each item, of what is left and of what is put in.
@@ -216,21 +217,27 @@ pub taken-within : (store new : Store) (edit : Edit) → IsWithinLimits store �
 taken-within store new edit is taken = subst IsWithinLimits (sym taken.is) (changed-within store edit is taken.not_refused)
 
 pub step-within : (old new : Store) (call : Call) (reply : Reply) → IsWithinLimits old → Step old call reply new → IsWithinLimits new
-step-within old new call reply is (accepted edit changes asked told made) = by made.next
-  where
-    by : Next old edit (accepts new) → IsWithinLimits new
-    by (not_taken refusal a same) = absurd cc
-    by (bad_policy other refusal a refused same) = absurd cc
-    by (good other meaning a means same) = let e : new ≡ other = cc in subst IsWithinLimits (sym e) (taken-within old other edit is a)
-step-within old new call reply is (rejected edit refusal asked told next same) = subst IsWithinLimits (sym same) is
-step-within old new call reply is (lists rows asked told are same) = subst IsWithinLimits (sym same) is
-step-within old new call reply is (prints rows asked told are same) = subst IsWithinLimits (sym same) is
-step-within old new call reply is (tells_violations violations asked told are same) = subst IsWithinLimits (sym same) is
-step-within old new call reply is (tells_dropped dropped asked told are same) = subst IsWithinLimits (sym same) is
-step-within old new call reply is (out_of_memory told same) = subst IsWithinLimits (sym same) is
+step-within = step-keeps IsWithinLimits taken-within
 
 pub run-within : (old new : Store) (calls : List Call) (replies : List Reply) → IsWithinLimits old → Run old calls replies new → IsWithinLimits new
-run-within old new [] [] is run = subst IsWithinLimits (sym run) is
-run-within old new [] (r ∷ replies) is run = absurd run
-run-within old new (c ∷ calls) [] is run = absurd run
-run-within old new (c ∷ calls) (r ∷ replies) is run = run-within run.0 new calls replies (step-within old run.0 c r is run.1) run.2
+run-within = run-keeps IsWithinLimits taken-within
+
+-- And each text spells a module.
+
+pub empty-texts : HasGoodTexts empty
+empty-texts = tt
+
+pub taken-texts : (store new : Store) (edit : Edit) → HasGoodTexts store → IsTaken store edit new → HasGoodTexts new
+taken-texts store new edit are taken = subst HasGoodTexts (sym taken.is) (by edit taken.good_text)
+  where
+    Has : Entry → Type 0
+    Has = λ e. HasGoodText (install_of e)
+
+    by : (e : Edit) → HasGoodText e → HasGoodTexts (changed store e)
+    by (install name priority text) good = all-put Has entry_cmp (record { name = name; priority = priority; text = text }) store.entries good are
+    by (remove name priority) good = all-kept Has Has (λ o. not (is_entry name priority o)) (λ o h passes. h) store.entries are
+    by (enable name) good = are
+    by (disable name) good = are
+
+pub run-texts : (old new : Store) (calls : List Call) (replies : List Reply) → HasGoodTexts old → Run old calls replies new → HasGoodTexts new
+run-texts = run-keeps HasGoodTexts taken-texts

@@ -1,8 +1,8 @@
--- The limits of a store, which the edits keep.
+-- The limits of a store and its texts, which the edits keep.
 use Rattle.std.specs.Prelude.{◌≤◌, length, IsTrue}
 use Rattle.std.specs.List.{AllByRecursion}
 use Rattle.cil_store_specs.specs.Store.{Entry, Store, is_installed, text_bytes}
-use Rattle.cil_store_specs.specs.Next.{is_module_name, is_priority}
+use Rattle.cil_store_specs.specs.Next.{is_module_name, is_priority, HasGoodText, install_of}
 
 -- an entry has the name of a module, a priority, and a text of at most 2 ^ 24 bytes
 pub record IsEntryWithinLimits (e : Entry) : Type 0 where
@@ -17,3 +17,7 @@ pub record IsWithinLimits (store : Store) : Type 0 where
   pub count : length store.entries ≤ 4096
   pub bytes : text_bytes store.entries ≤ 67108864
   pub disabled : AllByRecursion (λ name. IsTrue (is_installed name store.entries)) store.disabled
+
+-- the texts of all entries spell modules, also of those that aren't compiled
+abbrev pub HasGoodTexts : Store → Type 0
+HasGoodTexts store = AllByRecursion (λ e. HasGoodText (install_of e)) store.entries
