@@ -57,7 +57,7 @@ disable-command name is =
     (word.0, omega (arith, length-append (codes "disable") (32 ∷ name), word.1))
 
 -- a name of which an entry is installed is that of a module
-installed-name : (entries : List Entry) (name : List ℕ) → AllByRecursion IsEntryWithinLimits entries → is_installed name entries ≡ true → is_module_name name ≡ true
+pub installed-name : (entries : List Entry) (name : List ℕ) → AllByRecursion IsEntryWithinLimits entries → is_installed name entries ≡ true → is_module_name name ≡ true
 installed-name [] name all there = absurd (true≢false (sym there))
 installed-name (e ∷ entries) name all there = elim (or_cases (bytes_eq e.name name) (is_installed name entries) there) [
   | inl same ↦ subst (λ n. is_module_name n ≡ true) ((bytes_eq-Decides e.name name).0 same) all.0.name

@@ -12,3 +12,4 @@ pub mod OneScript
 pub mod OneRun
 pub mod DumpLemmas
 pub mod DumpScript
+pub mod DumpAtOnce

@@ -1,5 +1,5 @@
 -- An edit leaves a store within its limits, and its texts spell modules.
-use Rattle.std.proofs.Common.{◌≡◌, ◌≢◌, ◌∷◌, [], ℕ, ◌+◌, ◌≤◌, ◌==◌, ◌&&◌, ◌||◌, List, Bool, true, false, not, cond, filter, length, bytes_eq, nat_le, nat_lt, Option, Some, None, if◌then◌else◌, refl, ap, sym, ◌∙◌, subst, true≢false, arith}
+use Rattle.std.proofs.Common.{◌≡◌, ◌≢◌, ◌∷◌, [], ℕ, ◌+◌, ◌≤◌, ◌==◌, ◌&&◌, ◌||◌, List, Bool, true, false, not, cond, filter, length, bytes_eq, decimal, nat_le, nat_lt, Option, Some, None, if◌then◌else◌, refl, ap, sym, ◌∙◌, subst, true≢false, arith}
 use Rattle.std.specs.List.{list_any, sum_by, AllByRecursion}
 use Rattle.std.specs.Ordering.{nat_cmp, ordering_then, is_lt}
 use Rattle.std.specs.declared.cmp.Ordering.{Ordering}
@@ -16,7 +16,7 @@ use Rattle.cil_specs.specs.Report.{name_cmp}
 use Rattle.cil_specs.proofs.NamesLemmas.{all-weaker, all-append}
 use Rattle.cil_specs.proofs.SearchLemmas.{less-is, reversed}
 use Rattle.cil_store_specs.specs.Store.{Entry, Store, empty, entry_cmp, put_by, put, is_entry, is_installed, has_room, text_bytes, without, without_name}
-use Rattle.cil_store_specs.specs.Next.{Edit, install, remove, enable, disable, Refusal, changed, store_refusal, is_module_name, is_priority, HasGoodText, IsTaken, install_of}
+use Rattle.cil_store_specs.specs.Next.{Edit, install, remove, enable, disable, Refusal, by_store, changed, store_refusal, is_module_name, is_priority, HasGoodText, IsTaken, install_of}
 use Rattle.cil_store_specs.specs.Limits.{IsEntryWithinLimits, IsWithinLimits, HasGoodTexts}
 use Rattle.cil_store_specs.specs.Run.{Call, Reply, Step, Run}
 use Rattle.cil_store_specs.proofs.RunLemmas.{step-keeps, run-keeps}
@@ -53,11 +53,11 @@ sums-apart p q r f first second apart (x ∷ xs) = by (p x) (q x) (r x) refl ref
     by false false true d e g more = omega (arith, more, sum_by-cons f x (filter r xs))
     by false false false d e g more = more
 
-length-by : {X : Type 0} (xs : List X) → length xs ≡ sum_by (λ x. 1) xs
+pub length-by : {X : Type 0} (xs : List X) → length xs ≡ sum_by (λ x. 1) xs
 length-by [] = refl
 length-by (x ∷ xs) = omega (arith, length-by xs, sum_by-cons (λ x. 1) x xs)
 
-less-filtered : {X : Type 0} (p : X → Bool) (f : X → ℕ) (xs : List X) → sum_by f (filter p xs) ≤ sum_by f xs
+pub less-filtered : {X : Type 0} (p : X → Bool) (f : X → ℕ) (xs : List X) → sum_by f (filter p xs) ≤ sum_by f xs
 less-filtered p f [] = omega arith
 less-filtered p f (x ∷ xs) = by (p x) (less-filtered p f xs)
   where
@@ -154,6 +154,12 @@ fits store e none =
     let priority = passes (is_priority e.priority) _ _ name.1 in
     let text = fails (nat_lt 16777216 (length e.text)) _ _ priority.1 in
     record { name = name.0; priority = priority.0; text = text.0; room = (passes (has_room e.name e.priority (length e.text) store.entries) None _ text.1).0 }
+
+-- and one that fulfils it isn't
+pub not-refused : (store : Store) (e : Entry) → Fits store e → store_refusal store (install e.name e.priority e.text) ≡ None
+not-refused store e fits = λ i.
+    if fits.name i then (if fits.priority i then (if fits.text i then Some (by_store 34 e.name) else if fits.room i then None else Some (by_store 33 e.name)) else Some (by_store 31 (decimal e.priority)))
+    else Some (by_store 30 e.name)
 
 -- a disable that isn't refused
 pub names-installed : (store : Store) (name : List ℕ) → store_refusal store (disable name) ≡ None → is_installed name store.entries ≡ true

@@ -79,7 +79,8 @@ module _ {X : Type 0} (cmp : X → X → Ordering) (order : IsTotalOrder cmp) wh
     sorted-around xs ys x first.1 second before.1 behind,
   )
 
-  all-before : (xs : List X) (x : X) (ys : List X) → IsStrictlySortedBy cmp (xs ++ x ∷ ys) → AllByRecursion (λ y. cmp y x ≡ Less) xs
+  -- in order an item stands behind those before it
+  pub all-before : (xs : List X) (x : X) (ys : List X) → IsStrictlySortedBy cmp (xs ++ x ∷ ys) → AllByRecursion (λ y. cmp y x ≡ Less) xs
   unfolding IsStrictlySortedBy
   all-before [] x ys sorted = tt
   all-before (y ∷ xs) x ys sorted = ((all-second (λ z. cmp y z ≡ Less) xs (x ∷ ys) sorted.0).0, all-before xs x ys sorted.1)

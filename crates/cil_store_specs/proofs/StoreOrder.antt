@@ -1,5 +1,5 @@
 -- An edit leaves a store in order.
-use Rattle.std.proofs.Common.{◌≡◌, ◌∷◌, [], ℕ, List, Bool, true, false, not, bytes_eq, if◌then◌else◌, sym, subst}
+use Rattle.std.proofs.Common.{ℕ, List, Bool, true, false, not, bytes_eq, if◌then◌else◌, sym, subst}
 use Rattle.std.specs.Cmp.{IsTotalOrder}
 use Rattle.std.specs.List.Sorted.{IsStrictlySortedBy}
 use Rattle.std.proofs.lemmas.Cmp.{nat_cmp_total, nat_list_cmp_total, on_total, then_total, back_total}
