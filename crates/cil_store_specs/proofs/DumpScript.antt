@@ -13,7 +13,7 @@ use Rattle.cil_specs.proofs.Runs.{both_true}
 use Rattle.cil_store_specs.specs.Store.{Entry, Store, IsStore, empty, is_installed}
 use Rattle.cil_store_specs.specs.Limits.{IsEntryWithinLimits, IsWithinLimits}
 use Rattle.cil_store_specs.specs.Next.{disable, install_of, begins_module_name, is_module_name}
-use Rattle.cil_store_specs.specs.Script.{makes, is_shown, command_bytes, IsGoodName, IsCommand, ends, Commands, whole, AnswersAll, dump_edits, dump_text}
+use Rattle.cil_store_specs.specs.Script.{Command, makes, is_shown, command_bytes, IsGoodName, IsCommand, End, ends, Commands, whole, AnswersAll, dump_edits, dump_text}
 use Rattle.cil_store_specs.specs.Session.{IsSession, all_accepted, some_refused, status_of}
 use Rattle.cil_store_specs.proofs.OneScript.{one-script}
 use Rattle.cil_store_specs.proofs.DumpLemmas.{answers-changed, dump-builds}
@@ -78,11 +78,15 @@ all-commands store is =
 pub commands-of-dump : (store : Store) → IsWithinLimits store → Commands (dump_text store) (map makes (dump_edits store)) ends
 commands-of-dump store is = whole (all-commands store is) [] (sym (append-nil _ ∙ flat_map-map command_bytes makes (dump_edits store))) refl
 
+-- And nothing else.
+pub dump-alone : (store : Store) (commands : List Command) (end : End) → IsWithinLimits store → Commands (dump_text store) commands end → (commands ≡ map makes (dump_edits store)) × (end ≡ ends)
+dump-alone store commands end is read = one-script (dump_text store) commands (map makes (dump_edits store)) end ends read (commands-of-dump store is)
+
 -- A session over a dump, all of whose commands are accepted, leaves the store that was dumped.
 pub session-of-dump : (store new : Store) (written : List ℕ) → IsStore store → IsWithinLimits store → IsSession (dump_text store) true empty new written all_accepted → new ≡ store
 session-of-dump store new written is within made =
     let dump = subst (λ text. Commands text made.commands made.end) (append-nil (dump_text store)) (made.are_commands [] (λ over. refl)) in
-    let same = one-script (dump_text store) made.commands (map makes (dump_edits store)) made.end ends dump (commands-of-dump store within) in
+    let same = dump-alone store made.commands made.end within dump in
     answers-changed empty new (dump_edits store) made.answers (subst (λ commands. AnswersAll empty commands made.answers new) same.0 made.answered)
     (by (list_any (λ a. a.refuses) made.answers) refl (made.status_is ∙ ap (status_of made.answers) same.1))
     ∙ dump-builds store is
