@@ -37,7 +37,7 @@ all-put P cmp x xs here all =
     all-append P (filter (λ o. is_lt (cmp o x)) xs) (x ∷ filter (λ o. is_lt (cmp x o)) xs) (all-kept P P (λ o. is_lt (cmp o x)) (λ o h passes. h) xs all)
     (here, all-kept P P (λ o. is_lt (cmp x o)) (λ o h passes. h) xs all)
 
--- Two tests that no item passes both, and each of which asks for more than a third, let through no more than the third does.
+-- Where no item passes two tests, and what passes one of them passes a third test, both let through no more than the third.
 sums-apart : {X : Type 0} (p q r : X → Bool) (f : X → ℕ) → ((x : X) → p x ≡ true → r x ≡ true) → ((x : X) → q x ≡ true → r x ≡ true) → ((x : X) → p x ≡ true → q x ≡ true → ⊥)
     → (xs : List X) → sum_by f (filter p xs) + sum_by f (filter q xs) ≤ sum_by f (filter r xs)
 sums-apart p q r f first second apart [] = omega arith
