@@ -45,7 +45,7 @@ taken-installs before (e ∷ more) sorted within good count bytes =
         is = ap (λ es. record { entries = es; disabled = [] }) (sym (put-last entry_cmp entry_total e before (all-before entry_cmp entry_total before e more sorted)));
       },
       subst (λ es. AreTaken (record { entries = before ++ e ∷ []; disabled = [] }) (map install_of more) (record { entries = es; disabled = [] })) next
-      (taken-installs (before ++ e ∷ []) more (subst (IsStrictlySortedBy entry_cmp) (sym next) sorted) within.1 good.1 (subst (λ es. length es ≤ 4096) (sym next) count) (subst (λ es. text_bytes es ≤ 67108864) (sym next) bytes)),
+          (taken-installs (before ++ e ∷ []) more (subst (IsStrictlySortedBy entry_cmp) (sym next) sorted) within.1 good.1 (subst (λ es. length es ≤ 4096) (sym next) count) (subst (λ es. text_bytes es ≤ 67108864) (sym next) bytes)),
     )
 
 -- what is asked of a name that is disabled
@@ -64,7 +64,7 @@ taken-disables entries before (name ∷ more) sorted may =
         is = ap (λ ns. record { entries = entries; disabled = ns }) (sym (put-last name_cmp nat_list_cmp_total name before (all-before name_cmp nat_list_cmp_total before name more sorted)));
       },
       subst (λ ns. AreTaken (record { entries = entries; disabled = before ++ name ∷ [] }) (map disable more) (record { entries = entries; disabled = ns })) next
-      (taken-disables entries (before ++ name ∷ []) more (subst (IsStrictlySortedBy name_cmp) (sym next) sorted) may.1),
+          (taken-disables entries (before ++ name ∷ []) more (subst (IsStrictlySortedBy name_cmp) (sym next) sorted) may.1),
     )
 
 taken-both : (old mid new : Store) (first second : List Edit) → AreTaken old first mid → AreTaken mid second new → AreTaken old (first ++ second) new

@@ -29,8 +29,7 @@ word-of-name : (name : List ℕ) → is_module_name name ≡ true → IsGoodName
 word-of-name [] is = absurd (true≢false (sym is))
 word-of-name (b ∷ bytes) is =
     let first = and_parts (begins_module_name b) _ is in
-    let more = and_parts (list_all (λ c. begins_module_name c || (c == 45 || c == 46)) bytes) (nat_le (length (b ∷ bytes)) 255) first.1 in
-    (
+    let more = and_parts (list_all (λ c. begins_module_name c || (c == 45 || c == 46)) bytes) (nat_le (length (b ∷ bytes)) 255) first.1 in (
       record {
         some = λ none. omega (arith, ap length none);
         shown = both_true (is_shown b) (list_all is_shown bytes) (shown-first b first.0) (all-grows (λ c. begins_module_name c || (c == 45 || c == 46)) is_shown shown-byte bytes more.0);
@@ -45,8 +44,7 @@ install-command e is =
     let name = word-of-name e.name is.name in
     let least = leb-true e.priority 999 (and_parts (nat_le 1 e.priority) (nat_le e.priority 999) is.priority).1 in
     let number = length-decimal-le 3 e.priority (omega arith) (omega (arith, least)) (omega (arith, least)) in
-    let size = length-decimal-le 8 (length e.text) (omega arith) (omega (arith, is.text)) (omega (arith, is.text)) in
-    (
+    let size = length-decimal-le 8 (length e.text) (omega arith) (omega (arith, is.text)) (omega (arith, is.text)) in (
       (name.0, omega (arith, least), omega (arith, is.text)),
       omega (arith, length-append (codes "install") (32 ∷ (e.name ++ 32 ∷ (decimal e.priority ++ 32 ∷ decimal (length e.text)))), length-append e.name (32 ∷ (decimal e.priority ++ 32 ∷ decimal (length e.text))), length-append (decimal e.priority) (32 ∷ decimal (length e.text)), name.1, number, size),
     )
