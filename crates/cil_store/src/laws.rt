@@ -68,6 +68,11 @@ pub fn one_judgement()
     ensures { (store : Store) (edit : Edit) (judgement other : Judgement) → IsStore store → Next store edit judgement → Next store edit other → judgement ≡ other }
 {}
 
+/// Edits that are made at once on a store in order have at most one judgement.
+pub fn one_judgement_at_once()
+    ensures { (store : Store) (edits : List Edit) (judgement other : Judgement) → IsStore store → NextOfAll store edits judgement → NextOfAll store edits other → judgement ≡ other }
+{}
+
 /// Two runs of the same calls from a store in order, in which no reply is out of memory, agree in every reply and in the store.
 pub fn one_run()
     ensures { (old new other : Store) (calls : List Call) (replies others : List Reply) → IsStore old → Run old calls replies new → Run old calls others other

@@ -12,4 +12,5 @@ pub mod OneScript
 pub mod OneRun
 pub mod DumpLemmas
 pub mod DumpScript
+pub mod OneAtOnce
 pub mod DumpAtOnce
