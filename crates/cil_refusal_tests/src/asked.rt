@@ -177,7 +177,6 @@ pub fn state<'h>(
     write_violations(rt, &mut sink, engine);
     write_dropped(rt, &mut sink, engine);
     reply::write_modules(&mut sink, engine.store()).expect(rt, "a sink");
-    reply::write_dump(&mut sink, engine.store()).expect(rt, "a sink");
     write_edit(rt, &mut sink, engine, PROBE);
     write_dropped(rt, &mut sink, engine);
     write_edit(rt, &mut sink, engine, NO_PROBE);
