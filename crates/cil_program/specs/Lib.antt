@@ -1,4 +1,5 @@
 pub mod Input
 pub mod Command
+pub mod Dump
 pub mod Session
 pub mod CommandLine

@@ -16,6 +16,8 @@ mod devices;
 #[cfg(test)]
 mod dialogues;
 #[cfg(test)]
+mod dumps;
+#[cfg(test)]
 mod engines;
 #[cfg(test)]
 mod faults;

@@ -92,6 +92,13 @@ impl<A: Allocator> Store<A> {
         self.disabled.get(i)
     }
 
+    /// How many names are disabled.
+    pub fn disabled_len(&self) -> usize
+        ensures { result ≡ length self.now.disabled }
+    {
+        self.disabled.len()
+    }
+
     /// Whether a name is disabled. There may be such a name only where something of it is installed.
     pub fn is_disabled(&self, name: &[u8]) -> bool
         ensures { result ≡ is_disabled self.now name.now }
