@@ -176,6 +176,21 @@ impl<A: Allocator> Digit<A> {
         }
     }
 
+    /// A word from which on none has a place.
+    pub fn end(&self) -> usize
+        ensures { (w : ℕ) → result ≤ w → bits_of self.now w ≡ 0 }
+    {
+        if self.sparse.is_empty() {
+            return self.dense.len();
+        }
+        self.sparse[self.sparse.len() - 1].word + 1
+    }
+
+    /// How many words have a place.
+    pub fn places_len(&self) -> usize {
+        self.dense.len().saturating_add(self.sparse.len())
+    }
+
     /// The first word from one on that has a place. It need not have a bit.
     pub fn next_place(&self, from: usize) -> Option<usize>
         ensures { IsNext (bits_of self.now) from result }
