@@ -1,6 +1,6 @@
 //! The higher binary digits of the counters of a line, the lowest of them first.
 
-ghost use Rattle.std.specs.Prelude.{◌≡◌, ◌≢◌, ◌+◌, ◌-◌, ◌<◌, ◌^◌, ◌++◌, ℕ, List, length, min, IfOk, OnOk};
+ghost use Rattle.std.specs.Prelude.{◌≡◌, ◌≢◌, ◌+◌, ◌-◌, ◌<◌, ◌≤◌, ◌^◌, ◌++◌, ℕ, List, length, min, IfOk, OnOk};
 ghost use Rattle.std.specs.Int.{bit_at};
 ghost use Rattle.cil_lines.specs.Digit.{Words, IsNext};
 ghost use Rattle.cil_lines.specs.Line.{total, value, HasRoom};
@@ -47,6 +47,19 @@ pub fn next_place<A: Allocator>(digits: &[Digit<A>], from: usize) -> Option<usiz
         next = earlier(digits[i].next_place(from), next);
     }
     next
+}
+
+/// A word from which on none has a place in any digit.
+pub fn end<A: Allocator>(digits: &[Digit<A>]) -> usize
+    ensures { (w : ℕ) → result ≤ w → total digits.now w ≡ 0 }
+{
+    let mut end = 0;
+    let mut i = digits.len();
+    while i > 0 {
+        i -= 1;
+        end = digits[i].end().max(end);
+    }
+    end
 }
 
 /// The lower of two words, where there are two.
