@@ -14,7 +14,7 @@ use Rattle.cil_check.specs.Image.{PolicyFaultIs}
 use Rattle.cil_check.specs.declared.fault.PolicyFault.{PolicyFault}
 use Rattle.cil_check.specs.declared.fault.PolicyFault.TheVariants.{Memory, Found}
 use Rattle.cil_store.specs.Admitted.{admitted_edit, IsAdmitted}
-use Rattle.cil_store.specs.Refusing.{IsRefusalOf, IsRefusalOfText, IsRefusalOfPolicy, IsRefusedText, IsRefusedPolicy}
+use Rattle.cil_store.specs.Refusing.{IsRefusalOf, IsRefusalOfText, IsRefusalOfPolicy, IsRefusedEdit, IsRefusedText, IsRefusedPolicy}
 use Rattle.cil_store.specs.Edits.{refusal_of}
 use Rattle.cil_store.specs.declared.refusal.Refusal as code
 use Rattle.cil_store.specs.declared.admitted.Admitted.{Admitted}
@@ -38,9 +38,9 @@ pub store-meaning : (store : Store) (modules : List Module) (meaning : Meaning) 
 store-meaning store modules meaning are means = record { policy = joined modules; kept = means.0; is_policy = (modules, are, refl); means = means.1 }
 
 -- an edit that the store refuses
-pub store-step : (store : Store) (edit : Edit) (refusal meant : Refusal) → store_refusal store edit ≡ Some meant → IsRefusalOf refusal meant → Step store (an_edit edit) (refused refusal) store
-store-step store edit refusal meant is (inl memory) = out_of_memory (ap refused memory) refl
-store-step store edit refusal meant is (inr same) = rejected edit refusal refl refl (not_taken refusal (by_itself (is ∙ ap Some (sym same))) refl) refl
+pub store-refused : (store : Store) (edit : Edit) (refusal meant : Refusal) → store_refusal store edit ≡ Some meant → IsRefusalOf refusal meant → IsRefusedEdit store edit refusal
+store-refused store edit refusal meant is (inl memory) = inl memory
+store-refused store edit refusal meant is (inr same) = inr (by_itself (is ∙ ap Some (sym same)))
 
 -- a refusal for the fault of a text
 pub text-refused : (name text : List ℕ) (priority : ℕ) (fault : TextFault) (refusal : Refusal) → FaultIs fault (IsTextFault text) → IsRefusalOfText fault name refusal → IsRefusedText (install name priority text) refusal
@@ -49,14 +49,16 @@ text-refused name text priority (texts.Found kind at word) refusal bad (inl is) 
 text-refused name text priority (texts.Found kind at word) refusal bad (inr is) = inr (record { kind = kind_of kind; at = place_of at; word = shown word }, bad, is)
 
 -- an edit that is refused for its text
-pub text-step : (store : Store) (edit : Edit) (refusal : Refusal) → store_refusal store edit ≡ None → IsRefusedText edit refusal → Step store (an_edit edit) (refused refusal) store
-text-step store edit refusal taken (inl is) = out_of_memory (ap refused is) refl
-text-step store edit refusal taken (inr is) = rejected edit refusal refl refl (not_taken refusal (by_its_text taken is) refl) refl
+pub edit-refused : {A T : Type 0} (r : Result T (code.Refusal A)) (store : Store) (edit : Edit) → store_refusal store edit ≡ None → IfErr r (λ refusal. IsRefusedText edit (refusal_of refusal))
+    → IfErr r (λ refusal. IsRefusedEdit store edit (refusal_of refusal))
+edit-refused (Ok x) store edit taken is = tt
+edit-refused (Err refusal) store edit taken (inl memory) = inl memory
+edit-refused (Err refusal) store edit taken (inr is) = inr (by_its_text taken is)
 
-pub text-steps : {A T : Type 0} (r : Result T (code.Refusal A)) (store : Store) (edit : Edit) → store_refusal store edit ≡ None → IfErr r (λ refusal. IsRefusedText edit (refusal_of refusal))
-    → IfErr r (λ refusal. Step store (an_edit edit) (refused (refusal_of refusal)) store)
-text-steps (Ok x) store edit taken is = tt
-text-steps (Err refusal) store edit taken is = text-step store edit (refusal_of refusal) taken is
+-- the step of an edit that is not taken
+pub refused-step : (store : Store) (edit : Edit) (refusal : Refusal) → IsRefusedEdit store edit refusal → Step store (an_edit edit) (refused refusal) store
+refused-step store edit refusal (inl memory) = out_of_memory (ap refused memory) refl
+refused-step store edit refusal (inr is) = rejected edit refusal refl refl (not_taken refusal is refl) refl
 
 -- an edit that is refused for the policy
 pub policy-step : (store : Store) (edit : Edit) (refusal : Refusal) → store_refusal store edit ≡ None → HasGoodText edit → IsRefusedPolicy store edit refusal → Step store (an_edit edit) (refused refusal) store
