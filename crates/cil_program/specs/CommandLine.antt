@@ -1,5 +1,6 @@
 -- The words of a command line, what answers them, and exit statuses.
-use Rattle.std.specs.Prelude.{◌≡◌, ◌≢◌, ℕ, List, [], ◌∷◌, flat_map, drop, codes, Option, Result, Ok, Err, IfOk, ◌⊎◌}
+use Rattle.std.specs.Prelude.{◌≡◌, ◌≢◌, ℕ, ◌<◌, List, [], ◌∷◌, ◌++◌, flat_map, length, drop, codes, slice_index, Contains, Option, Result, Ok, Err, IfOk, ◌⊎◌}
+use Rattle.std.specs.List.{AllZip}
 use Rattle.cil_specs.specs.Report.{Row, row_line}
 use Rattle.cil_specs.specs.Violations.{Violation, violations_text}
 use Rattle.cil_stream.specs.Device.{Account, Gains, HasEnded, HasFailed}
@@ -62,3 +63,32 @@ pub data Compiles (entries : List Entry) (report : Report) (printed told : List 
       → printed ≡ violations_text violations → told ≡ [] → status ≡ status_of_violations violations → Compiles entries report printed told status
   is_refused : (refusal : Refusal) → Of entries (refuses refusal) → printed ≡ [] → told ≡ refusal_line refusal → status ≡ 1 → Compiles entries report printed told status
   lacks_memory : printed ≡ [] → told ≡ refusal_line for_memory → status ≡ 1 → Compiles entries report printed told status
+
+-- what stands behind the last slash of a path; all of it where there is none
+pub record IsBaseName (path base : List ℕ) : Type 0 where
+  pub no_slash : (i : ℕ) → i < length base → slice_index base i ≢ 47
+  pub ends : (path ≡ base) ⊎ ((folder : List ℕ) × (path ≡ folder ++ 47 ∷ base))
+
+-- the base name of a file less a final `.cil`
+abbrev pub IsStem : List ℕ → List ℕ → Type 0
+IsStem base name = (base ≡ name ++ codes ".cil") ⊎ ((base ≡ name) × ((front : List ℕ) → base ≢ front ++ codes ".cil"))
+
+-- what a module is named in a file at a path
+abbrev pub NamesModule : List ℕ → List ℕ → Type 0
+NamesModule path name = (base : List ℕ) × IsBaseName path base × IsStem base name
+
+-- an entry for a file at a path: the text is what was read of it
+pub record IsEntryAt (path : List ℕ) (entry : Entry) : Type 0 where
+  pub named : NamesModule path entry.name
+  pub priority : entry.priority ≡ 400
+
+-- the line of a file that can't be read
+abbrev pub unreadable_line : List ℕ → List ℕ
+unreadable_line path = codes "unreadable " ++ (path ++ codes "\n")
+
+-- What is printed and told of files that are compiled at once, and the exit status: what is of the texts that were read; or that
+-- one of the files can't be read, or that memory ran out, and nothing is printed.
+pub data CompilesFiles (paths : List (List ℕ)) (report : Report) (printed told : List ℕ) (status : ℕ) : Type 0 where
+  compiles : (entries : List Entry) → AllZip IsEntryAt paths entries → Compiles entries report printed told status → CompilesFiles paths report printed told status
+  is_unreadable : (path : List ℕ) → Contains paths path → printed ≡ [] → told ≡ unreadable_line path → status ≡ 3 → CompilesFiles paths report printed told status
+  is_not_held : printed ≡ [] → told ≡ refusal_line for_memory → status ≡ 1 → CompilesFiles paths report printed told status

@@ -1,12 +1,13 @@
 //! The command line: what its words ask for, and the exit status.
 
-ghost use Rattle.std.specs.Prelude.{◌≡◌, ◌≢◌, ◌⊎◌, ◌≤◌, [], Result, map, IfOk, OnErr, OnOk};
+ghost use Rattle.std.specs.Prelude.{◌≡◌, ◌≢◌, ◌⊎◌, ◌≤◌, ℕ, List, Result, map, IfOk, OnErr, OnOk};
 ghost use Rattle.clap.specs.Words.{kind_of};
 ghost use Rattle.clap.specs.declared.error.kind.ErrorKind.TheVariants.{OutOfMemory};
 ghost use Rattle.cil_stream.specs.Device.{Gains, HasFailed};
 ghost use Rattle.cil_store_specs.specs.Next.{for_memory};
 ghost use Rattle.cil_store_specs.specs.Script.{refusal_line};
-ghost use Rattle.cil_program.specs.CommandLine.{AsksSession, AnswersSession, LacksMemory, exit_status_of};
+ghost use Rattle.cil_program.specs.CommandLine.{AsksSession, AnswersSession, CompilesFiles, LacksMemory, exit_status_of, unreadable_line};
+ghost use Rattle.cil_program.specs.declared.command_line.compile.Report.{Report};
 ghost use Rattle.cil_program.specs.declared.script.session.SessionFault.{SessionFault};
 ghost use Rattle.cil_program.specs.declared.script.session.Status.{Status};
 
@@ -83,8 +84,9 @@ fn tell<W: Sink, E: Sink>(
 
 /// Writes which file can't be read, and gives the exit status.
 fn tell_unreadable<E: Sink>(err: &mut E, path: &str) -> Result<u8, SinkFault>
-    ensures status { IfOk result (λ status. status ≡ 3) }
+    ensures ok { IfOk result (λ status. (status ≡ 3) × Gains (E.taken err.old) (E.taken err.new) (unreadable_line path.now)) }
     ensures failed { OnErr result (HasFailed (E.failures err.old) (E.failures err.new)) }
+    ensures counted { E.failures err.old ≤ E.failures err.new }
 {
     write_pieces(err, &[b"unreadable ", path.as_bytes(), b"\n"])?;
     Ok(3)
@@ -100,6 +102,11 @@ fn compile_files<'a, R: Files, W: Sink, E: Sink>(
     err: &mut E,
 ) -> Result<u8, SinkFault>
     ensures status { IfOk result (λ status. status ≤ 3) }
+    ensures ok { IfOk result (λ status. (printed : List ℕ) × (told : List ℕ) × Gains (W.taken out.old) (W.taken out.new) printed
+        × Gains (E.taken err.old) (E.taken err.new) told × CompilesFiles (map (λ path. path.now) paths.now) report printed told status) }
+    ensures failed { OnErr result (HasFailed (W.failures out.old) (W.failures out.new) ⊎ HasFailed (E.failures err.old) (E.failures err.new)) }
+    ensures out_counted { W.failures out.old ≤ W.failures out.new }
+    ensures err_counted { E.failures err.old ≤ E.failures err.new }
 {
     let files = match read_files(rt, alloc, paths) {
         Ok(files) => files,
@@ -121,6 +128,8 @@ fn answer_compile<R: Files, W: Sink, E: Sink>(
     err: &mut E,
 ) -> Result<u8, SinkFault>
     ensures status { IfOk result (λ status. status ≤ 3) }
+    ensures ok { IfOk result (λ status. (paths : List (List ℕ)) × (report : Report) × (printed : List ℕ) × (told : List ℕ)
+        × Gains (W.taken out.old) (W.taken out.new) printed × Gains (E.taken err.old) (E.taken err.new) told × CompilesFiles paths report printed told status) }
 {
     let report = if asked.get_flag(VIOLATIONS) {
         Report::Violations
@@ -185,6 +194,7 @@ pub fn command<R: Files, T: AsStr, S: Source, W: Sink, E: Sink>(
             (record { taken = E.taken err.old; flushed = E.flushed err.old; failures = E.failures err.old })
             (record { taken = E.taken err.new; flushed = E.flushed err.new; failures = E.failures err.new }) result }
     ensures flushed { result ≢ 3 → W.flushed out.new ≡ W.taken out.new }
+    ensures either { (err.new ≡ err.old) ⊎ (source.new ≡ source.old) }
 {
     let answered = match matches_of(alloc, words) {
         Ok(matches) => match matches.subcommand_matches(COMPILE) {
