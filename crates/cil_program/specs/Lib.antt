@@ -3,3 +3,4 @@ pub mod Command
 pub mod Dump
 pub mod Session
 pub mod CommandLine
+pub mod Program
