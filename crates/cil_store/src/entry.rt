@@ -4,7 +4,7 @@ ghost use Rattle.std.specs.Prelude.{◌≡◌, IfOk, bytes_eq, length};
 ghost use Rattle.std.specs.Ordering.{is_lt};
 ghost use Rattle.cil_parse.specs.Parsed.{IsParsed};
 ghost use Rattle.cil_store_specs.specs.Store.{entry_cmp, is_entry};
-ghost use Rattle.cil_store_specs.proofs.ActiveLemmas.{entry_at};
+ghost use Rattle.cil_store_specs.specs.Store.{entry_at};
 
 use crate::edit::Edit;
 use cil_parse::ParsedModule;

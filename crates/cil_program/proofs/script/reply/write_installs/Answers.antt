@@ -2,7 +2,7 @@ use Rattle.std.proofs.Common.{◌≡◌, ◌<◌, [], length, get_or, ap, subst,
 use Rattle.cil_stream.specs.Device.{Gains, GainsFront}
 use Rattle.cil_stream.proofs.Gaining.{on_err, gains-pieces_more, gains-pieces_front}
 use Rattle.cil_store_specs.specs.Store.{Entry}
-use Rattle.cil_store_specs.proofs.ActiveLemmas.{entry_at}
+use Rattle.cil_store_specs.specs.Store.{entry_at}
 use Rattle.cil_program.specs.Dump.{install_command}
 use Rattle.cil_program.proofs.script.reply.write_installs.Goals as goal
 
