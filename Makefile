@@ -15,9 +15,10 @@ run:
 try:
 	cd crates/cilsem && rt try -- session < ../../examples/first.session
 
-# The gate: every proof from nothing, the must-fail edits, the tests and the programs.
+# The gate: every proof from nothing, the must-fail edits, the tests and the programs, and then the examples.
 test:
 	rt ci
+	examples/check.sh
 
 # Tries the wrong bodies of bench/wrong_bodies one by one; it takes some hours.
 wrong-bodies:
