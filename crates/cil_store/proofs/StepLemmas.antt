@@ -1,11 +1,11 @@
 -- The steps of edits that are refused, and what a store means.
-use Rattle.std.proofs.Common.{◌≡◌, inl, inr, ℕ, List, Some, None, Result, Ok, Err, IfErr, refl, ap, sym, ◌∙◌}
+use Rattle.std.proofs.Common.{◌≡◌, inl, inr, ℕ, List, Some, None, Result, Ok, Err, IfErr, refl, ap, sym, ◌∙◌, subst}
 use Rattle.cil_specs.specs.Joined.{Module, joined}
 use Rattle.cil_specs.specs.Meaning.{Means, Meaning}
 use Rattle.cil_specs.specs.Kept.{Optionals, IsFirstFault}
 use Rattle.cil_specs.specs.ModuleText.{IsTextFault}
 use Rattle.cil_store_specs.specs.Store.{Store, active}
-use Rattle.cil_store_specs.specs.Next.{AreModules, IsMeaningOf, Edit, install, Refusal, HasGoodText, changed, store_refusal, by_itself, by_its_text, not_taken, bad_policy}
+use Rattle.cil_store_specs.specs.Next.{AreModules, IsMeaningOf, Edit, install, Refusal, HasGoodText, IsTaken, changed, store_refusal, by_itself, by_its_text, not_taken, bad_policy}
 use Rattle.cil_store_specs.specs.Run.{an_edit, refused, rejected, out_of_memory, Step}
 use Rattle.cil_text.specs.Image.{FaultIs, kind_of, place_of, shown}
 use Rattle.cil_text.specs.declared.fault.TextFault.{TextFault}
@@ -26,6 +26,12 @@ admitted-text (Install entry parsed) is = (is.statements, is.is_text)
 admitted-text (Remove name priority) is = tt
 admitted-text (Enable name) is = tt
 admitted-text (Disable name) is = tt
+
+-- and it is taken, as what it is made of
+pub admitted-taken : {A : Type 0} (store new : Store) (admitted : Admitted A) (edit other : Edit) → IsAdmitted admitted → admitted_edit admitted ≡ edit → edit ≡ other → store_refusal store edit ≡ None
+    → new ≡ changed store (admitted_edit admitted) → IsTaken store other new
+admitted-taken store new admitted edit other is same also taken made =
+    subst (λ e. IsTaken store e new) (same ∙ also) (record { not_refused = subst (λ e. store_refusal store e ≡ None) (sym same) taken; good_text = admitted-text admitted is; is = made })
 
 pub policy-refused : (fault : PolicyFault) (refusal : Refusal) (store : Store) (edit : Edit) (modules : List Module) → AreModules (active (changed store edit)) modules → PolicyFaultIs fault (IsFirstFault (joined modules))
     → IsRefusalOfPolicy fault refusal → IsRefusedPolicy store edit refusal
