@@ -1,7 +1,7 @@
 //! The words of the command line, as `clap` reads them.
 
-ghost use Rattle.std.specs.Prelude.{◌≡◌, Some, false, map, codes, IfErr, IfOk};
-ghost use Rattle.clap.specs.Words.{app_of, kind_of, subcommand_name_of};
+ghost use Rattle.std.specs.Prelude.{◌≡◌, Some, true, false, map, codes, IfErr, IfOk};
+ghost use Rattle.clap.specs.Words.{app_of, kind_of, subcommand_name_of, subcommand_of, subcommand_rows_of, takes};
 ghost use Rattle.clap.specs.declared.builder.command.Command.TheViews.{out-Command};
 ghost use Rattle.clap.specs.declared.error.kind.ErrorKind.TheVariants.{OutOfMemory};
 ghost use Rattle.cil_program.specs.CommandLine.{AsksSession};
@@ -64,6 +64,8 @@ fn program<'a>(alloc: Global) -> Result<Command<'a>, AllocError>
 pub fn matches_of<'a, T: AsStr>(alloc: Global, words: &'a [T]) -> Result<ArgMatches<'a>, Error>
     ensures session { AsksSession (map T.text words.entry.now) → IfOk result (λ m. subcommand_name_of m ≡ Some (codes "session")) }
     ensures memory { AsksSession (map T.text words.entry.now) → IfErr result (λ e. kind_of e ≡ OutOfMemory) }
+    ensures found { IfOk result (λ m. subcommand_rows_of m ≡ subcommand_of program_app (map T.text words.entry.now)) }
+    ensures taken { takes program_app (map T.text words.entry.now) ≡ true → IfErr result (λ e. kind_of e ≡ OutOfMemory) }
 {
     program(alloc)?.try_get_matches_from(words)
 }
