@@ -2,6 +2,7 @@ pub mod PolicyOf
 pub mod OneFault
 pub mod OneStore
 pub mod StoreOrder
+pub mod TakenLemmas
 pub mod RunLemmas
 pub mod PutLemmas
 pub mod ActiveLemmas
