@@ -44,5 +44,5 @@ IsReportAsked rows report = IsReportFor (one_of (codes "violations") rows) repor
 abbrev pub AnswersCompile : List Row → Written → Written → Written → Written → ℕ → Type 0
 AnswersCompile rows out new_out err new_err status =
     ((report : Report) × (printed : List ℕ) × (told : List ℕ) × IsReportAsked rows report × Gains out.taken new_out.taken printed × Gains err.taken new_err.taken told
-        × CompilesFiles (files_asked rows) report printed told status)
+    × CompilesFiles (files_asked rows) report printed told status)
     ⊎ ((status ≡ 3) × (HasFailed out.failures new_out.failures ⊎ HasFailed err.failures new_err.failures))

@@ -190,26 +190,26 @@ pub fn command<R: Files, T: AsStr, S: Source, W: Sink, E: Sink>(
     ensures status { result ≤ 3 }
     ensures session { AsksSession (map T.text words.now) →
         (AnswersSession (S.account source.old) (S.account source.new)
-            (record { taken = W.taken out.old; flushed = W.flushed out.old; failures = W.failures out.old })
-            (record { taken = W.taken out.new; flushed = W.flushed out.new; failures = W.failures out.new }) result
-            × (err.new ≡ err.old))
+        (record { taken = W.taken out.old; flushed = W.flushed out.old; failures = W.failures out.old })
+        (record { taken = W.taken out.new; flushed = W.flushed out.new; failures = W.failures out.new }) result
+        × (err.new ≡ err.old))
         ⊎ LacksMemory
-            (record { taken = W.taken out.old; flushed = W.flushed out.old; failures = W.failures out.old })
-            (record { taken = W.taken out.new; flushed = W.flushed out.new; failures = W.failures out.new })
-            (record { taken = E.taken err.old; flushed = E.flushed err.old; failures = E.failures err.old })
-            (record { taken = E.taken err.new; flushed = E.flushed err.new; failures = E.failures err.new }) result }
+        (record { taken = W.taken out.old; flushed = W.flushed out.old; failures = W.failures out.old })
+        (record { taken = W.taken out.new; flushed = W.flushed out.new; failures = W.failures out.new })
+        (record { taken = E.taken err.old; flushed = E.flushed err.old; failures = E.failures err.old })
+        (record { taken = E.taken err.new; flushed = E.flushed err.new; failures = E.failures err.new }) result }
     ensures compile { (rows : List Row) → takes program_app (map T.text words.now) ≡ true
         → subcommand_of program_app (map T.text words.now) ≡ Some (codes "compile", rows) →
         AnswersCompile rows
-            (record { taken = W.taken out.old; flushed = W.flushed out.old; failures = W.failures out.old })
-            (record { taken = W.taken out.new; flushed = W.flushed out.new; failures = W.failures out.new })
-            (record { taken = E.taken err.old; flushed = E.flushed err.old; failures = E.failures err.old })
-            (record { taken = E.taken err.new; flushed = E.flushed err.new; failures = E.failures err.new }) result
+        (record { taken = W.taken out.old; flushed = W.flushed out.old; failures = W.failures out.old })
+        (record { taken = W.taken out.new; flushed = W.flushed out.new; failures = W.failures out.new })
+        (record { taken = E.taken err.old; flushed = E.flushed err.old; failures = E.failures err.old })
+        (record { taken = E.taken err.new; flushed = E.flushed err.new; failures = E.failures err.new }) result
         ⊎ LacksMemory
-            (record { taken = W.taken out.old; flushed = W.flushed out.old; failures = W.failures out.old })
-            (record { taken = W.taken out.new; flushed = W.flushed out.new; failures = W.failures out.new })
-            (record { taken = E.taken err.old; flushed = E.flushed err.old; failures = E.failures err.old })
-            (record { taken = E.taken err.new; flushed = E.flushed err.new; failures = E.failures err.new }) result }
+        (record { taken = W.taken out.old; flushed = W.flushed out.old; failures = W.failures out.old })
+        (record { taken = W.taken out.new; flushed = W.flushed out.new; failures = W.failures out.new })
+        (record { taken = E.taken err.old; flushed = E.flushed err.old; failures = E.failures err.old })
+        (record { taken = E.taken err.new; flushed = E.flushed err.new; failures = E.failures err.new }) result }
     ensures flushed { result ≢ 3 → W.flushed out.new ≡ W.taken out.new }
     ensures either { (err.new ≡ err.old) ⊎ (source.new ≡ source.old) }
 {

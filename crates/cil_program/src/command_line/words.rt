@@ -16,7 +16,9 @@ const VERSION: &str = "0.1.0";
 
 /// The subcommand that compiles files, its option and its files.
 pub const COMPILE: &str = "compile";
+
 pub const VIOLATIONS: &str = "violations";
+
 pub const FILES: &str = "FILE";
 
 /// The subcommand `session`.
@@ -42,8 +44,9 @@ fn compile_command<'a>(alloc: Global) -> Result<Command<'a>, AllocError>
         .num_args(1..)
         .action(ArgAction::Append)
         .help("CIL files, each a module named by the file's base name less a final .cil");
-    let compile = Command::new(alloc, COMPILE)
-        .about("Compile CIL files together, and print the access rules of their policy");
+    let compile = Command::new(alloc, COMPILE).about(
+        "Compile CIL files together, and print the access rules of their policy",
+    );
     compile.arg(violations)?.arg(files)
 }
 

@@ -26,7 +26,7 @@ returns-in-Some-clause-ok g c =
       | else-get_flag w ↦ inr (w.if-get_flag.false, w.report-is)
     ]) in
     IfOk-weaker c.compile_files.result _ _ (λ status made.
-      (c.if-get_flag.report, made.0, made.1, report_is, made.2, made.3, subst (λ paths. CompilesFiles paths c.if-get_flag.report made.0 made.1 status) files_are made.4))
+    (c.if-get_flag.report, made.0, made.1, report_is, made.2, made.3, subst (λ paths. CompilesFiles paths c.if-get_flag.report made.0 made.1 status) files_are made.4))
     c.compile_files.ensures.ok
 
 pub returns-in-None-clause-ok : goal.returns-in-None-clause-ok
@@ -40,5 +40,5 @@ returns-in-None-clause-ok g c =
       | else-get_flag w ↦ inr (w.if-get_flag.false, w.report-is)
     ]) in
     IfOk-weaker c.compile_files-in-None.result _ _ (λ status made.
-      (c.if-get_flag.report, made.0, made.1, report_is, made.2, made.3, subst (λ paths. CompilesFiles paths c.if-get_flag.report made.0 made.1 status) files_are made.4))
+    (c.if-get_flag.report, made.0, made.1, report_is, made.2, made.3, subst (λ paths. CompilesFiles paths c.if-get_flag.report made.0 made.1 status) files_are made.4))
     c.compile_files-in-None.ensures.ok

@@ -40,16 +40,15 @@ on-err (Err e) P Q f h = f h
 
 -- what was written is as before what was flushed behind it
 written : (rows found : List Row) (s : ℕ) (out mid new err err-mid err-new : Option (List ℕ)) → found ≡ rows → new ≡ mid → err-new ≡ err-mid → Written-of found s out mid err err-mid → Written-of rows s out new err err-new
-written rows found s out mid new err err-mid err-new rows_are same same_err made =
-    (
-      made.0,
-      made.1,
-      made.2,
-      subst (λ r. IsReportAsked r made.0) rows_are made.3,
-      subst (λ t. Gains out t made.1) (sym same) made.4,
-      subst (λ t. Gains err t made.2) (sym same_err) made.5,
-      subst (λ r. CompilesFiles (files_asked r) made.0 made.1 made.2 s) rows_are made.6,
-    )
+written rows found s out mid new err err-mid err-new rows_are same same_err made = (
+  made.0,
+  made.1,
+  made.2,
+  subst (λ r. IsReportAsked r made.0) rows_are made.3,
+  subst (λ t. Gains out t made.1) (sym same) made.4,
+  subst (λ t. Gains err t made.2) (sym same_err) made.5,
+  subst (λ r. CompilesFiles (files_asked r) made.0 made.1 made.2 s) rows_are made.6,
+)
 
 pub returns-clause-compile : goal.returns-clause-compile
 returns-clause-compile g c = λ rows takes is.

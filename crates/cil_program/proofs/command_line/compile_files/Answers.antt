@@ -26,8 +26,8 @@ returns-in-Err-Unreadable-clause-ok g c =
     let taken = g.E.Sink.taken in
     let given = contains-map (λ path. path.now) c.args.paths.now path (c.in-Err-Unreadable.ensures.err path c.in-Err-Unreadable.field-0-is) in
     IfOk-weaker c.tell_unreadable.result _ _ (λ status written.
-      let told = subst (λ p. Gains (taken c.args.err.now) (taken c.tell_unreadable.new.err) (unreadable_line p.now)) c.in-Err-Unreadable.path-is written.1 in
-      ([], unreadable_line path.now, gains-none (g.W.Sink.taken c.args.out.now), told, is_unreadable path.now given refl refl written.0))
+    let told = subst (λ p. Gains (taken c.args.err.now) (taken c.tell_unreadable.new.err) (unreadable_line p.now)) c.in-Err-Unreadable.path-is written.1 in
+    ([], unreadable_line path.now, gains-none (g.W.Sink.taken c.args.out.now), told, is_unreadable path.now given refl refl written.0))
     c.tell_unreadable.ensures.ok
 
 pub returns-in_default-clause-ok : goal.returns-in_default-clause-ok

@@ -30,7 +30,7 @@ returns-clause-session g c = λ asks.
     let words = with_name _ asks in
     let app_is = c.in_ok-program.ensures in
     IfOk-weaker c.try_get_matches_from.result _ _ (λ m h.
-      sym (map-twice (λ p. p.0) _ (out-ArgMatches m).subcommand) ∙ ap (option_map (λ p. p.0)) ((h (ap is_simple app_is)).1 ∙ ap₂ subcommand_of app_is words.1) ∙ is_named words.0)
+    sym (map-twice (λ p. p.0) _ (out-ArgMatches m).subcommand) ∙ ap (option_map (λ p. p.0)) ((h (ap is_simple app_is)).1 ∙ ap₂ subcommand_of app_is words.1) ∙ is_named words.0)
     c.try_get_matches_from.ensures.matches
 
 pub returns-clause-memory : goal.returns-clause-memory
