@@ -5,9 +5,13 @@ use std::fs;
 use std::test::Fail;
 
 const RULE: &[u8] = b"(allow a a (p (use)))";
+
 const TYPES: &[u8] = b"(class p (use))(type a)";
+
 const BASE: &[u8] = b"(class p (use))(type a)(type b)(neverallow a b (p (use)))";
+
 const OTHER_RULE: &[u8] = b"(allow a b (p (use)))";
+
 const ALL: &[u8] = b"(class p (use))(type a)(allow a a (p (use)))";
 
 const FILES: &[(&str, &[u8])] = &[
@@ -52,11 +56,19 @@ const CASES: &[(&[&str], Done<'static>)] = &[
         (0, "allow a b:p { use };\n", ""),
     ),
     (
-        &["--violations", "compiled_files/base.cil", "compiled_files/x.cil"],
+        &[
+            "--violations",
+            "compiled_files/base.cil",
+            "compiled_files/x.cil",
+        ],
         (1, "neverallow base:1:32 allow x:1:1 a b:p { use };\n", ""),
     ),
     (
-        &["compiled_files/base.cil", "compiled_files/x.cil", "--violations"],
+        &[
+            "compiled_files/base.cil",
+            "compiled_files/x.cil",
+            "--violations",
+        ],
         (1, "neverallow base:1:32 allow x:1:1 a b:p { use };\n", ""),
     ),
     (&["--violations", "compiled_files/base.cil"], (0, "", "")),
@@ -71,7 +83,11 @@ const CASES: &[(&[&str], Done<'static>)] = &[
         (3, "", "unreadable compiled_files/q.cil\n"),
     ),
     (
-        &["compiled_files/a.cil", "compiled_files/q.cil", "compiled_files/r.cil"],
+        &[
+            "compiled_files/a.cil",
+            "compiled_files/q.cil",
+            "compiled_files/r.cil",
+        ],
         (3, "", "unreadable compiled_files/q.cil\n"),
     ),
     (
@@ -113,11 +129,19 @@ const CASES: &[(&[&str], Done<'static>)] = &[
         (0, "", ""),
     ),
     (
-        &["compiled_files/a.cil", "compiled_files/b.cil", "compiled_files/./a.cil"],
+        &[
+            "compiled_files/a.cil",
+            "compiled_files/b.cil",
+            "compiled_files/./a.cil",
+        ],
         (0, "allow a a:p { use };\n", ""),
     ),
     (
-        &["compiled_files/inner/a.cil", "compiled_files/b.cil", "compiled_files/a.cil"],
+        &[
+            "compiled_files/inner/a.cil",
+            "compiled_files/b.cil",
+            "compiled_files/a.cil",
+        ],
         (1, "", "refused 12 a:1:1 (\n"),
     ),
     // Each text is judged before the policy of all.

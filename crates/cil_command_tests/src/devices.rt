@@ -7,18 +7,51 @@ use std::fs;
 use std::test::Fail;
 
 const FILES: &[(&str, &[u8])] = &[
-    ("failing_devices/a.cil", b"(class p (use))(type a)(allow a a (p (use)))(neverallow a a (p (use)))"),
+    (
+        "failing_devices/a.cil",
+        b"(class p (use))(type a)(allow a a (p (use)))(neverallow a a (p (use)))",
+    ),
     ("failing_devices/bad.cil", b"(type"),
 ];
 
 // Words, how many bytes the sinks take, and what comes of them.
 const CASES: &[(&[&str], usize, usize, Done<'static>)] = &[
-    (&["cilsem", "compile", "failing_devices/a.cil"], 1000, 0, (0, "allow a a:p { use };\n", "")),
-    (&["cilsem", "compile", "failing_devices/a.cil"], 7, 1000, (3, "allow a", "")),
-    (&["cilsem", "compile", "--violations", "failing_devices/a.cil"], 10, 1000, (3, "neverallow", "")),
-    (&["cilsem", "compile", "failing_devices/bad.cil"], 0, 1000, (1, "", "refused 12 bad:1:1 (\n")),
-    (&["cilsem", "compile", "failing_devices/bad.cil"], 1000, 4, (3, "", "refu")),
-    (&["cilsem", "compile", "failing_devices/q.cil"], 0, 5, (3, "", "unrea")),
+    (
+        &["cilsem", "compile", "failing_devices/a.cil"],
+        1000,
+        0,
+        (0, "allow a a:p { use };\n", ""),
+    ),
+    (
+        &["cilsem", "compile", "failing_devices/a.cil"],
+        7,
+        1000,
+        (3, "allow a", ""),
+    ),
+    (
+        &["cilsem", "compile", "--violations", "failing_devices/a.cil"],
+        10,
+        1000,
+        (3, "neverallow", ""),
+    ),
+    (
+        &["cilsem", "compile", "failing_devices/bad.cil"],
+        0,
+        1000,
+        (1, "", "refused 12 bad:1:1 (\n"),
+    ),
+    (
+        &["cilsem", "compile", "failing_devices/bad.cil"],
+        1000,
+        4,
+        (3, "", "refu"),
+    ),
+    (
+        &["cilsem", "compile", "failing_devices/q.cil"],
+        0,
+        5,
+        (3, "", "unrea"),
+    ),
     (&["cilsem", "--version"], 6, 1000, (3, "cilsem", "")),
     (&["cilsem"], 1000, 6, (3, "", "error:")),
 ];

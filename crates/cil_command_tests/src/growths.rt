@@ -11,7 +11,10 @@ use std::test::Fail;
 
 const FILES: &[(&str, &[u8])] = &[
     ("refused_growths/a.cil", b"(allow a a (p (use)))"),
-    ("refused_growths/b.cil", b"(class p (use))(type a)(neverallow a a (p (use)))"),
+    (
+        "refused_growths/b.cil",
+        b"(class p (use))(type a)(neverallow a a (p (use)))",
+    ),
 ];
 
 const PATHS: &[&str] = &["refused_growths/a.cil", "refused_growths/b.cil"];

@@ -30,9 +30,16 @@ fn words_that_are_refused(rt: HostRuntime) {
         let mut out = MemorySink::new(rt.alloc());
         let mut err = MemorySink::new(rt.alloc());
         let status = command(&rt, rt.alloc(), *words, &mut source, &mut out, &mut err);
-        assert_eq!(rt; (status, shown(out.bytes()), source.given()), (2, "", 0), "at {words:?}");
+        assert_eq!(rt;
+            (status, shown(out.bytes()), source.given()),
+            (2, "", 0),
+            "at {words:?}"
+        );
         let told = shown(err.bytes());
-        assert!(rt; told.starts_with("error: ") && told.contains("\nUsage: cilsem"), "at {words:?}");
+        assert!(rt;
+            told.starts_with("error: ") && told.contains("\nUsage: cilsem"),
+            "at {words:?}"
+        );
     }
 }
 
@@ -56,6 +63,12 @@ const SESSIONS: &[(&[u8], Done<'static>)] = &[
 fn words_that_ask_for_a_session(rt: HostRuntime) {
     for (script, want) in SESSIONS {
         assert_answered(&rt, rt.alloc(), &["cilsem", "session"], script, *want);
-        assert_answered(&rt, rt.alloc(), &["/usr/bin/cilsem", "session", "--"], script, *want);
+        assert_answered(
+            &rt,
+            rt.alloc(),
+            &["/usr/bin/cilsem", "session", "--"],
+            script,
+            *want,
+        );
     }
 }

@@ -1,12 +1,13 @@
 //! The command line: what its words ask for, and the exit status.
 
-ghost use Rattle.std.specs.Prelude.{◌≡◌, ◌≢◌, ◌⊎◌, ◌≤◌, ℕ, List, Result, map, IfOk, OnErr, OnOk};
-ghost use Rattle.clap.specs.Words.{kind_of};
+ghost use Rattle.std.specs.Prelude.{◌≡◌, ◌≢◌, ◌⊎◌, ◌≤◌, ℕ, true, List, Result, Some, codes, map, IfOk, OnErr, OnOk};
+ghost use Rattle.clap.specs.Words.{Row, found_of, kind_of, rows_of, subcommand_of, takes};
 ghost use Rattle.clap.specs.declared.error.kind.ErrorKind.TheVariants.{OutOfMemory};
 ghost use Rattle.cil_stream.specs.Device.{Gains, HasFailed};
 ghost use Rattle.cil_store_specs.specs.Next.{for_memory};
 ghost use Rattle.cil_store_specs.specs.Script.{refusal_line};
 ghost use Rattle.cil_program.specs.CommandLine.{AsksSession, AnswersSession, CompilesFiles, LacksMemory, exit_status_of, unreadable_line};
+ghost use Rattle.cil_program.specs.Program.{AnswersCompile, IsReportAsked, files_asked, program_app};
 ghost use Rattle.cil_program.specs.declared.command_line.compile.Report.{Report};
 ghost use Rattle.cil_program.specs.declared.script.session.SessionFault.{SessionFault};
 ghost use Rattle.cil_program.specs.declared.script.session.Status.{Status};
@@ -128,8 +129,12 @@ fn answer_compile<R: Files, W: Sink, E: Sink>(
     err: &mut E,
 ) -> Result<u8, SinkFault>
     ensures status { IfOk result (λ status. status ≤ 3) }
-    ensures ok { IfOk result (λ status. (paths : List (List ℕ)) × (report : Report) × (printed : List ℕ) × (told : List ℕ)
-        × Gains (W.taken out.old) (W.taken out.new) printed × Gains (E.taken err.old) (E.taken err.new) told × CompilesFiles paths report printed told status) }
+    ensures ok { IfOk result (λ status. (report : Report) × (printed : List ℕ) × (told : List ℕ) × IsReportAsked (rows_of (found_of asked.now)) report
+        × Gains (W.taken out.old) (W.taken out.new) printed × Gains (E.taken err.old) (E.taken err.new) told
+        × CompilesFiles (files_asked (rows_of (found_of asked.now))) report printed told status) }
+    ensures failed { OnErr result (HasFailed (W.failures out.old) (W.failures out.new) ⊎ HasFailed (E.failures err.old) (E.failures err.new)) }
+    ensures out_counted { W.failures out.old ≤ W.failures out.new }
+    ensures err_counted { E.failures err.old ≤ E.failures err.new }
 {
     let report = if asked.get_flag(VIOLATIONS) {
         Report::Violations
@@ -185,23 +190,39 @@ pub fn command<R: Files, T: AsStr, S: Source, W: Sink, E: Sink>(
     ensures status { result ≤ 3 }
     ensures session { AsksSession (map T.text words.now) →
         (AnswersSession (S.account source.old) (S.account source.new)
-            (record { taken = W.taken out.old; flushed = W.flushed out.old; failures = W.failures out.old })
-            (record { taken = W.taken out.new; flushed = W.flushed out.new; failures = W.failures out.new }) result
-            × (err.new ≡ err.old))
+        (record { taken = W.taken out.old; flushed = W.flushed out.old; failures = W.failures out.old })
+        (record { taken = W.taken out.new; flushed = W.flushed out.new; failures = W.failures out.new }) result
+        × (err.new ≡ err.old))
         ⊎ LacksMemory
-            (record { taken = W.taken out.old; flushed = W.flushed out.old; failures = W.failures out.old })
-            (record { taken = W.taken out.new; flushed = W.flushed out.new; failures = W.failures out.new })
-            (record { taken = E.taken err.old; flushed = E.flushed err.old; failures = E.failures err.old })
-            (record { taken = E.taken err.new; flushed = E.flushed err.new; failures = E.failures err.new }) result }
+        (record { taken = W.taken out.old; flushed = W.flushed out.old; failures = W.failures out.old })
+        (record { taken = W.taken out.new; flushed = W.flushed out.new; failures = W.failures out.new })
+        (record { taken = E.taken err.old; flushed = E.flushed err.old; failures = E.failures err.old })
+        (record { taken = E.taken err.new; flushed = E.flushed err.new; failures = E.failures err.new }) result }
+    ensures compile { (rows : List Row) → takes program_app (map T.text words.now) ≡ true
+        → subcommand_of program_app (map T.text words.now) ≡ Some (codes "compile", rows) →
+        AnswersCompile rows
+        (record { taken = W.taken out.old; flushed = W.flushed out.old; failures = W.failures out.old })
+        (record { taken = W.taken out.new; flushed = W.flushed out.new; failures = W.failures out.new })
+        (record { taken = E.taken err.old; flushed = E.flushed err.old; failures = E.failures err.old })
+        (record { taken = E.taken err.new; flushed = E.flushed err.new; failures = E.failures err.new }) result
+        ⊎ LacksMemory
+        (record { taken = W.taken out.old; flushed = W.flushed out.old; failures = W.failures out.old })
+        (record { taken = W.taken out.new; flushed = W.flushed out.new; failures = W.failures out.new })
+        (record { taken = E.taken err.old; flushed = E.flushed err.old; failures = E.failures err.old })
+        (record { taken = E.taken err.new; flushed = E.flushed err.new; failures = E.failures err.new }) result }
     ensures flushed { result ≢ 3 → W.flushed out.new ≡ W.taken out.new }
     ensures either { (err.new ≡ err.old) ⊎ (source.new ≡ source.old) }
 {
-    let answered = match matches_of(alloc, words) {
-        Ok(matches) => match matches.subcommand_matches(COMPILE) {
-            Some(asked) => answer_compile(rt, alloc, asked, out, err),
-            None => return answer_session(alloc, source, out),
-        },
-        Err(error) => tell(alloc, &error, out, err),
+    let matches = match matches_of(alloc, words) {
+        Ok(matches) => matches,
+        Err(error) => {
+            let told = tell(alloc, &error, out, err);
+            return finish(told, out, err);
+        }
     };
+    let Some(asked) = matches.subcommand_matches(COMPILE) else {
+        return answer_session(alloc, source, out);
+    };
+    let answered = answer_compile(rt, alloc, asked, out, err);
     finish(answered, out, err)
 }

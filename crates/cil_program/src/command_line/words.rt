@@ -1,7 +1,7 @@
 //! The words of the command line, as `clap` reads them.
 
-ghost use Rattle.std.specs.Prelude.{◌≡◌, Some, false, map, codes, IfErr, IfOk};
-ghost use Rattle.clap.specs.Words.{app_of, kind_of, subcommand_name_of};
+ghost use Rattle.std.specs.Prelude.{◌≡◌, Some, true, false, map, codes, IfErr, IfOk};
+ghost use Rattle.clap.specs.Words.{app_of, kind_of, subcommand_name_of, subcommand_of, subcommand_rows_of, takes};
 ghost use Rattle.clap.specs.declared.builder.command.Command.TheViews.{out-Command};
 ghost use Rattle.clap.specs.declared.error.kind.ErrorKind.TheVariants.{OutOfMemory};
 ghost use Rattle.cil_program.specs.CommandLine.{AsksSession};
@@ -16,7 +16,9 @@ const VERSION: &str = "0.1.0";
 
 /// The subcommand that compiles files, its option and its files.
 pub const COMPILE: &str = "compile";
+
 pub const VIOLATIONS: &str = "violations";
+
 pub const FILES: &str = "FILE";
 
 /// The subcommand `session`.
@@ -42,8 +44,9 @@ fn compile_command<'a>(alloc: Global) -> Result<Command<'a>, AllocError>
         .num_args(1..)
         .action(ArgAction::Append)
         .help("CIL files, each a module named by the file's base name less a final .cil");
-    let compile = Command::new(alloc, COMPILE)
-        .about("Compile CIL files together, and print the access rules of their policy");
+    let compile = Command::new(alloc, COMPILE).about(
+        "Compile CIL files together, and print the access rules of their policy",
+    );
     compile.arg(violations)?.arg(files)
 }
 
@@ -64,6 +67,8 @@ fn program<'a>(alloc: Global) -> Result<Command<'a>, AllocError>
 pub fn matches_of<'a, T: AsStr>(alloc: Global, words: &'a [T]) -> Result<ArgMatches<'a>, Error>
     ensures session { AsksSession (map T.text words.entry.now) → IfOk result (λ m. subcommand_name_of m ≡ Some (codes "session")) }
     ensures memory { AsksSession (map T.text words.entry.now) → IfErr result (λ e. kind_of e ≡ OutOfMemory) }
+    ensures found { IfOk result (λ m. subcommand_rows_of m ≡ subcommand_of program_app (map T.text words.entry.now)) }
+    ensures taken { takes program_app (map T.text words.entry.now) ≡ true → IfErr result (λ e. kind_of e ≡ OutOfMemory) }
 {
     program(alloc)?.try_get_matches_from(words)
 }

@@ -2,6 +2,7 @@ use Rattle.std.proofs.Common.{◌∙◌, List, [], ◌∷◌, map, ap, refl, sym
 use Rattle.std.specs.List.{AllZip}
 use Rattle.std.proofs.lemmas.Result.{IfOk-weaker}
 use Rattle.cil_specs.proofs.NamesLemmas.{contains-map}
+use Rattle.cil_stream.specs.Device.{Gains}
 use Rattle.cil_stream.proofs.Gaining.{gains-none}
 use Rattle.cil_store_specs.specs.Next.{for_memory}
 use Rattle.cil_store_specs.specs.Script.{refusal_line}
@@ -22,9 +23,11 @@ returns-in-Err-Memory-clause-ok g c =
 pub returns-in-Err-Unreadable-clause-ok : goal.returns-in-Err-Unreadable-clause-ok
 returns-in-Err-Unreadable-clause-ok g c =
     let path = c.in-Err-Unreadable.path in
+    let taken = g.E.Sink.taken in
     let given = contains-map (λ path. path.now) c.args.paths.now path (c.in-Err-Unreadable.ensures.err path c.in-Err-Unreadable.field-0-is) in
-    IfOk-weaker c.tell_unreadable.result _ _ (λ status told.
-      ([], unreadable_line path.now, gains-none (g.W.Sink.taken c.args.out.now), told.1, is_unreadable path.now given refl refl told.0))
+    IfOk-weaker c.tell_unreadable.result _ _ (λ status written.
+    let told = subst (λ p. Gains (taken c.args.err.now) (taken c.tell_unreadable.new.err) (unreadable_line p.now)) c.in-Err-Unreadable.path-is written.1 in
+    ([], unreadable_line path.now, gains-none (g.W.Sink.taken c.args.out.now), told, is_unreadable path.now given refl refl written.0))
     c.tell_unreadable.ensures.ok
 
 pub returns-in_default-clause-ok : goal.returns-in_default-clause-ok

@@ -18,8 +18,7 @@ refusing entries report refusal (inr of) = is_refused refusal of refl refl refl
 
 pub returns-in-Err-clause-ok : goal.returns-in-Err-clause-ok
 returns-in-Err-clause-ok g c =
-    let refusal = refusal_of c.in-Err.refusal in
-    (
+    let refusal = refusal_of c.in-Err.refusal in (
       [],
       refusal_line refusal,
       gains-none (g.W.Sink.taken c.args.out.now),
@@ -37,5 +36,5 @@ returns-in-Err-Memory-clause-ok g c =
     let taken = g.W.Sink.taken in
     let same : taken c.write_report.new.out ≡ taken c.args.out.now = c.in-Err-Memory.ensures.memory (ap Err c.in-Err-Memory.field-0-is) in
     IfOk-weaker c.refuse_for_memory.result _ _ (λ status told.
-      ([], refusal_line for_memory, subst (λ t. Gains (taken c.args.out.now) t []) (sym same) (gains-none (taken c.args.out.now)), told.1, lacks_memory refl refl told.0))
+    ([], refusal_line for_memory, subst (λ t. Gains (taken c.args.out.now) t []) (sym same) (gains-none (taken c.args.out.now)), told.1, lacks_memory refl refl told.0))
     c.refuse_for_memory.ensures.ok

@@ -19,8 +19,7 @@ some n (v ∷ violations) is other = refl
 
 pub returns-then-violations-eq0-clause-ok : goal.returns-then-violations-eq0-clause-ok
 returns-then-violations-eq0-clause-ok g c = λ entries of.
-    let written = c.in_ok-violations-in-Violations.ensures.ok in
-    (
+    let written = c.in_ok-violations-in-Violations.ensures.ok in (
       violations_text written.0,
       written.3,
       tells (g.C.Compiled.store c.args.engine.now) written.0 c.in-Violations.is of written.1 refl refl (none c.in_ok-violations-in-Violations.violations written.0 written.2 c.if-violations-eq0.true),
@@ -28,8 +27,7 @@ returns-then-violations-eq0-clause-ok g c = λ entries of.
 
 pub returns-else-violations-eq0-clause-ok : goal.returns-else-violations-eq0-clause-ok
 returns-else-violations-eq0-clause-ok g c = λ entries of.
-    let written = c.in_ok-violations-in-Violations.ensures.ok in
-    (
+    let written = c.in_ok-violations-in-Violations.ensures.ok in (
       violations_text written.0,
       written.3,
       tells (g.C.Compiled.store c.args.engine.now) written.0 c.in-Violations.is of written.1 refl refl (some c.in_ok-violations-in-Violations.violations written.0 written.2 c.if-violations-eq0.false),

@@ -13,6 +13,7 @@ behind path s within is others = subst (IsBaseName path) (sym (take_all (length 
   where
     rest : List ℕ
     rest = drop (s + 1) path
+
     long : length rest ≡ length path - (s + 1)
     long = length-drop (s + 1) path
 

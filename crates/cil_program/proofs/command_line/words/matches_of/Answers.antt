@@ -1,4 +1,4 @@
-use Rattle.std.proofs.Common.{◌≡◌, ◌∙◌, ℕ, List, [], ◌∷◌, codes, drop, length, Option, Some, None, option_map, true, ap, ap₂, sym, refl, arith}
+use Rattle.std.proofs.Common.{◌≡◌, ◌∙◌, ℕ, List, [], ◌∷◌, codes, drop, length, map, Option, Some, None, option_map, true, ap, ap₂, sym, refl, arith}
 use Rattle.std.proofs.lemmas.Result.{IfErr-weaker, IfOk-weaker}
 use Rattle.clap.specs.Walk.{Text}
 use Rattle.clap.specs.Simple.{is_simple, subcommand_of}
@@ -30,10 +30,19 @@ returns-clause-session g c = λ asks.
     let words = with_name _ asks in
     let app_is = c.in_ok-program.ensures in
     IfOk-weaker c.try_get_matches_from.result _ _ (λ m h.
-      sym (map-twice (λ p. p.0) _ (out-ArgMatches m).subcommand) ∙ ap (option_map (λ p. p.0)) ((h (ap is_simple app_is)).1 ∙ ap₂ subcommand_of app_is words.1) ∙ is_named words.0)
+    sym (map-twice (λ p. p.0) _ (out-ArgMatches m).subcommand) ∙ ap (option_map (λ p. p.0)) ((h (ap is_simple app_is)).1 ∙ ap₂ subcommand_of app_is words.1) ∙ is_named words.0)
     c.try_get_matches_from.ensures.matches
 
 pub returns-clause-memory : goal.returns-clause-memory
 returns-clause-memory g c = λ asks.
     let words = with_name _ asks in
     IfErr-weaker c.try_get_matches_from.result _ _ (λ e h. h (ap₂ takes c.in_ok-program.ensures words.1 ∙ is_taken words.0)) c.try_get_matches_from.ensures.passes
+
+pub returns-clause-found : goal.returns-clause-found
+returns-clause-found g c =
+    let app_is = c.in_ok-program.ensures in
+    IfOk-weaker c.try_get_matches_from.result _ _ (λ m h. (h (ap is_simple app_is)).1 ∙ ap (λ app. subcommand_of app (map g.T.AsStr.text c.args.words.now)) app_is) c.try_get_matches_from.ensures.matches
+
+pub returns-clause-taken : goal.returns-clause-taken
+returns-clause-taken g c = λ taken.
+    IfErr-weaker c.try_get_matches_from.result _ _ (λ e h. h (ap (λ app. takes app (map g.T.AsStr.text c.args.words.now)) c.in_ok-program.ensures ∙ taken)) c.try_get_matches_from.ensures.passes

@@ -1,4 +1,5 @@
 use Rattle.std.proofs.Common.{◌∙◌, Some, sym, subst}
+use Rattle.std.proofs.lemmas.Result.{err_from_is_err_and}
 use Rattle.cil_stream.proofs.Gaining.{on_err}
 use Rattle.cil_store_specs.specs.Next.{changed}
 use Rattle.cil_store_specs.specs.Store.{Store}
@@ -18,3 +19,8 @@ returns-clause-ok g c = c.in_ok-make.ensures.ok ∙ (λ i. changed (c.self.view_
 
 pub returns-in_err-make-clause-err : goal.returns-in_err-make-clause-err
 returns-in_err-make-clause-err g c = on_err c.from_residual.result (c.in_err-make.ensures.err ∙ c.self.view_is)
+
+pub returns-in_err-make-clause-ok : goal.returns-in_err-make-clause-ok
+returns-in_err-make-clause-ok g c =
+    let made = err_from_is_err_and c.from_residual.result c.from_residual.ensures.1 in
+    rw made.1 tt
