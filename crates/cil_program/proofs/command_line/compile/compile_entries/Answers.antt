@@ -1,4 +1,4 @@
-use Rattle.std.proofs.Common.{Err, ◌≡◌, inl, inr, List, [], map, refl, ap, sym, subst}
+use Rattle.std.proofs.Common.{Result, Ok, Err, OnErr, ◌≡◌, ◌⊎◌, inl, inr, List, [], map, refl, ap, sym, subst}
 use Rattle.std.proofs.lemmas.Result.{IfOk-weaker}
 use Rattle.cil_stream.specs.Device.{Gains}
 use Rattle.cil_stream.proofs.Gaining.{gains-none}
@@ -38,3 +38,14 @@ returns-in-Err-Memory-clause-ok g c =
     IfOk-weaker c.refuse_for_memory.result _ _ (λ status told.
     ([], refusal_line for_memory, subst (λ t. Gains (taken c.args.out.now) t []) (sym same) (gains-none (taken c.args.out.now)), told.1, lacks_memory refl refl told.0))
     c.refuse_for_memory.ensures.ok
+
+-- a failure of one sink is one of either
+of-either : {T E : Type 0} (P Q : Type 0) (r : Result T E) → OnErr r Q → OnErr r (P ⊎ Q)
+of-either P Q (Ok x) failed = tt
+of-either P Q (Err e) failed = inr failed
+
+pub returns-in-Err-Memory-clause-failed : goal.returns-in-Err-Memory-clause-failed
+returns-in-Err-Memory-clause-failed g c = of-either _ _ c.refuse_for_memory.result c.refuse_for_memory.ensures.failed
+
+pub returns-clause-failed : goal.returns-clause-failed
+returns-clause-failed g c = inl (c.in-Err-Sink.ensures.failed (ap Err c.in-Err-Sink.field-0-is))
