@@ -5,7 +5,7 @@ DESTDIR ?=
 BIN = $(DESTDIR)$(PREFIX)/bin
 SHARE = $(DESTDIR)$(PREFIX)/share
 
-.PHONY: run try test wrong-bodies install uninstall
+.PHONY: run try test examples wrong-bodies install uninstall
 
 # Proves and builds the program, and has it answer a first session.
 run:
@@ -15,9 +15,12 @@ run:
 try:
 	cd crates/cilsem && rt try -- session < ../../examples/first.session
 
-# The gate: every proof from nothing, the must-fail edits, the tests and the programs, and then the examples.
+# The gate: every proof from nothing, the must-fail edits, the tests and the programs.
 test:
 	rt ci
+
+# Has the program that `make run` built answer the examples, and compares what it prints.
+examples:
 	examples/check.sh
 
 # Tries the wrong bodies of bench/wrong_bodies one by one; it takes some hours.
