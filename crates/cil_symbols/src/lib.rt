@@ -1,6 +1,8 @@
 //! Names with numbers that stay from one policy to the next.
 #![tactic(auto)]
 
+mod numbering;
 mod symbols;
 
+pub use numbering::Numbering;
 pub use symbols::Symbols;
