@@ -1,8 +1,12 @@
 //! The symbols of a policy's names.
 
-ghost use Rattle.std.specs.Prelude.{◌≡◌, ◌↔◌, ◌<◌, ℕ, length, slice_get, Some, IfOk, IfSome, IsTrue};
+ghost use Rattle.std.specs.Prelude.{◌≡◌, ◌++◌, ◌↔◌, ◌<◌, ℕ, List, fold, length, slice_get, Some, IfOk, IfSome, IsTrue, OnOk};
+ghost use Rattle.cil_specs.specs.Lookup.{with_name};
+ghost use Rattle.cil_parse.specs.Lexicon.{AreNumbersOf};
 ghost use Rattle.cil_symbols.specs.Numbered.{AreApart, IsSparse};
 
+use crate::symbols::Symbols;
+use cil_resolve::Resolved;
 use std::alloc::{AllocError, Allocator, Global};
 use std::marker::Model;
 
@@ -26,9 +30,46 @@ impl<A: Allocator> Model for Numbering<A> {
     ghost invariant = { λ n. AreInverse n.symbols.items n.locals.items };
 }
 
+/// The symbols of a policy's names, in the order of the policy's numbers.
+fn symbols_of<A: Allocator + Copy>(
+    alloc: A,
+    symbols: &mut Symbols<A>,
+    resolved: &Resolved<A>,
+) -> Result<Vec<usize, A>, AllocError>
+    ensures grown { (more : List (List ℕ)) × (symbols.new ≡ symbols.old ++ more) }
+    ensures ok { OnOk result (symbols.new ≡ fold with_name symbols.old resolved.now.names.items) }
+    ensures numbers { IfOk result (λ numbers. AreNumbersOf symbols.new numbers.items resolved.now.names.items) }
+{
+    let mut numbers = Vec::with_capacity(alloc, resolved.names_len())?;
+    for i in 0..resolved.names_len() {
+        numbers.push(symbols.number(alloc, resolved.name(i))?)?;
+    }
+    Ok(numbers)
+}
+
 impl<A: Allocator + Copy> Numbering<A> {
+    /// The numbering of a policy among the symbols. A name of it that has no symbol becomes the last of them, and all others keep
+    /// their numbers, also where memory runs out.
+    pub fn of(
+        alloc: A,
+        symbols: &mut Symbols<A>,
+        resolved: &Resolved<A>,
+    ) -> Result<Self, AllocError>
+        ensures grown { (more : List (List ℕ)) × (symbols.new ≡ symbols.old ++ more) }
+        ensures ok { OnOk result (symbols.new ≡ fold with_name symbols.old resolved.now.names.items) }
+        ensures symbols { IfOk result (λ n. AreNumbersOf symbols.new n.symbols resolved.now.names.items) }
+        ensures count { IfOk result (λ n. n.count ≡ length symbols.new) }
+    {
+        let numbers = symbols_of(alloc, symbols, resolved)?;
+        Self::with_symbols(alloc, numbers, symbols.len())
+    }
+
     /// The numbering with these symbols, of so many.
-    pub(crate) fn of(alloc: A, symbols: Vec<usize, A>, count: usize) -> Result<Self, AllocError>
+    fn with_symbols(
+        alloc: A,
+        symbols: Vec<usize, A>,
+        count: usize,
+    ) -> Result<Self, AllocError>
         requires apart { AreApart symbols.items }
         requires below { (k s : ℕ) → slice_get symbols.items k ≡ Some s → s < count }
         ensures symbols { IfOk result (λ n. n.symbols ≡ symbols.items) }

@@ -1,6 +1,6 @@
 use Rattle.std.proofs.Common.{◌≡◌, length, take}
 use Rattle.cil_symbols.specs.Numbered.{AreInverse}
-use Rattle.cil_symbols.proofs.numbering.Numbering.of.Given as goal
+use Rattle.cil_symbols.proofs.numbering.Numbering.with_symbols.Given as goal
 
 -- so many symbols have their numbers
 abbrev pub invariant-loop-local : goal.invariant-loop-local
