@@ -2,6 +2,8 @@
 #![tactic(auto)]
 
 mod numbering;
+#[cfg(test)]
+mod symbol_tests;
 mod symbols;
 
 pub use numbering::Numbering;

@@ -65,11 +65,7 @@ impl<A: Allocator + Copy> Numbering<A> {
     }
 
     /// The numbering with these symbols, of so many.
-    fn with_symbols(
-        alloc: A,
-        symbols: Vec<usize, A>,
-        count: usize,
-    ) -> Result<Self, AllocError>
+    fn with_symbols(alloc: A, symbols: Vec<usize, A>, count: usize) -> Result<Self, AllocError>
         requires apart { AreApart symbols.items }
         requires below { (k s : ℕ) → slice_get symbols.items k ≡ Some s → s < count }
         ensures symbols { IfOk result (λ n. n.symbols ≡ symbols.items) }
