@@ -1,5 +1,5 @@
 -- Lists of numbers, and the places of each.
-use Rattle.std.proofs.Common.{◌≡◌, ℕ, zero, suc, ◌+◌, ◌-◌, ◌<◌, ◌≤◌, ◌⊎◌, inl, inr, Bool, true, false, true≢false, not, ◌||◌, nat_eq, ◌↔◌, List, [], ◌∷◌, ◌++◌, length, take, drop, set, replicate, get_or, cond, slice_get, Option, None, Some, is_some, refl, sym, ap, subst, ◌∙◌, arith, eq-eqb}
+use Rattle.std.proofs.Common.{◌≡◌, ℕ, zero, suc, ◌+◌, ◌-◌, ◌<◌, ◌≤◌, inl, inr, Bool, true, false, true≢false, not, ◌||◌, nat_eq, ◌↔◌, List, [], ◌∷◌, ◌++◌, length, take, drop, set, replicate, get_or, cond, slice_get, Option, None, Some, refl, sym, ap, subst, ◌∙◌, arith, eq-eqb}
 use Rattle.std.specs.List.{count_by, list_any, range_with_len}
 use Rattle.std.specs.Option.{is_none}
 use Rattle.std.proofs.lemmas.Bool.{cases_eq, eqb-true}

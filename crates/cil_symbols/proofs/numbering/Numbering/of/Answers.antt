@@ -1,4 +1,4 @@
-use Rattle.std.proofs.Common.{◌<◌, length, subst, sym}
+use Rattle.std.proofs.Common.{◌<◌, subst, sym}
 use Rattle.cil_symbols.proofs.NumberLemmas.{number-below, numbers-apart}
 use Rattle.cil_symbols.proofs.numbering.Numbering.of.Goals as goal
 

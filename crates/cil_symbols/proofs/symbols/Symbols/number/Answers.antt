@@ -1,4 +1,4 @@
-use Rattle.std.proofs.Common.{◌≡◌, ◌∙◌, ap, sym, Some, slice_get}
+use Rattle.std.proofs.Common.{◌∙◌, ap, sym, Some}
 use Rattle.cil_specs.specs.Lookup.{with_name}
 use Rattle.cil_symbols.proofs.NameLemmas.{texts, distinct-texts, found-name, known-name, stored-text, with_name-texts}
 use Rattle.cil_symbols.proofs.symbols.Symbols.number.Goals as goal
