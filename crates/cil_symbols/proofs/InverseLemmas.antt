@@ -119,7 +119,7 @@ count-by-places q a (l ∷ ls) same =
     ∙ ap (λ n. cond (q a) 1 0 + n) rest ∙ sym (sum_by-cons (λ k. cond (q k) 1 0) a (range_with_len (a + 1) (length ls)))
 
 -- what is listed stands somewhere
-any-stands : (s : ℕ) (xs : List ℕ) → list_any (nat_eq s) xs ≡ true → (k : ℕ) × (slice_get xs k ≡ Some s)
+pub any-stands : (s : ℕ) (xs : List ℕ) → list_any (nat_eq s) xs ≡ true → (k : ℕ) × (slice_get xs k ≡ Some s)
 any-stands s [] e = absurd (true≢false (sym e))
 any-stands s (x ∷ xs) e = by (nat_eq s x) refl (λ b is. sym (ap (λ c. c || list_any (nat_eq s) xs) is) ∙ e) (any-stands s xs)
   where
@@ -127,14 +127,15 @@ any-stands s (x ∷ xs) e = by (nat_eq s x) refl (λ b is. sym (ap (λ c. c || l
     by true is found more = (0, ap Some (sym (eqb-true s x is)))
     by false is found more = let (k, at) = more (found false is) in (suc k, at)
 
+-- and what stands somewhere is listed
+pub listed : (symbols : List ℕ) (t k : ℕ) → slice_get symbols k ≡ Some t → list_any (nat_eq t) symbols ≡ true
+listed symbols t k at = list_any_at (nat_eq t) symbols k t (slice_get_within symbols k t at) (eq-eqb t (get_or symbols k t) (sym (get_or_from_slice_get symbols k t t at)))
+
 pub unused-none : (symbols : List ℕ) (locals : List (Option ℕ)) → AreInverse symbols locals → count_by is_none locals ≡ unused (record { symbols = symbols; count = length locals })
 unused-none symbols locals inverse = count-by-places (λ s. not (is_used n s)) 0 locals (λ s t l at is. let here : t ≡ s = omega (arith, is) in same t l (ap (slice_get locals) here ∙ at))
   where
     n : Numbered
     n = record { symbols = symbols; count = length locals }
-
-    listed : (t k : ℕ) → slice_get symbols k ≡ Some t → is_used n t ≡ true
-    listed t k at = list_any_at (nat_eq t) symbols k t (slice_get_within symbols k t at) (eq-eqb t (get_or symbols k t) (sym (get_or_from_slice_get symbols k t t at)))
 
     same : (t : ℕ) (l : Option ℕ) → slice_get locals t ≡ Some l → is_none l ≡ not (is_used n t)
     same t None at = by (is_used n t) refl
@@ -142,7 +143,7 @@ unused-none symbols locals inverse = count-by-places (λ s. not (is_used n s)) 0
         by : (b : Bool) → is_used n t ≡ b → true ≡ not (is_used n t)
         by false e = ap not (sym e)
         by true e = let (k, found) = any-stands t symbols e in absurd (cc (inverse.forth k t found))
-    same t (Some k) at = ap not (sym (listed t k (inverse.back t k at)))
+    same t (Some k) at = ap not (sym (listed symbols t k (inverse.back t k at)))
 
 -- So more than half of them have none where those are more than are listed.
 pub sparse-by : (symbols : List ℕ) (locals : List (Option ℕ)) → AreInverse symbols locals → (length symbols < length locals - length symbols) ↔ IsSparse (record { symbols = symbols; count = length locals })

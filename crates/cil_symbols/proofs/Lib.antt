@@ -1,3 +1,4 @@
 pub mod NameLemmas
 pub mod InverseLemmas
 pub mod NumberLemmas
+pub mod KeptLemmas

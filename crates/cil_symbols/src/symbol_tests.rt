@@ -5,7 +5,7 @@ ghost use Rattle.cil_specs.specs.Joined.{Module};
 ghost use Rattle.cil_parse.specs.Parsed.{IsParsed};
 ghost use Rattle.cil_resolve.specs.Modules.{AreParsedFrom};
 
-use crate::{Numbering, Symbols};
+use crate::{Kept, Numbering, Symbols};
 use cil_parse::{ParsedModule, parse};
 use cil_resolve::{Joined, NamedModule, Resolved, resolve};
 use std::alloc::{AllocError, Global};
@@ -101,6 +101,20 @@ fn numbers_stay_from_policy_to_policy(rt: HostRuntime) {
     assert!(&rt; !numbering.is_sparse());
     let again = Numbering::of(rt.alloc(), &mut symbols, &first).expect(&rt, "memory");
     assert_numbering(&rt, &again, 5, &[0, 1, 2, 3]);
+}
+
+#[test]
+fn names_in_use_are_numbered_anew(rt: HostRuntime) {
+    let mut symbols = Symbols::new(rt.alloc());
+    let first = policy(&rt, rt.alloc(), FIRST);
+    Numbering::of(rt.alloc(), &mut symbols, &first).expect(&rt, "memory");
+    let second = policy(&rt, rt.alloc(), SECOND);
+    let numbering = Numbering::of(rt.alloc(), &mut symbols, &second).expect(&rt, "memory");
+    let kept = Kept::of(rt.alloc(), &symbols, &numbering).expect(&rt, "memory");
+    assert_names(&rt, &kept.symbols, &[b"d", b"p", b"use", b"a"]);
+    let numbers = [None, Some(0), Some(1), Some(2), Some(3)];
+    let as_wanted = kept.numbers.as_slice() == numbers.as_slice();
+    assert!(&rt; as_wanted);
 }
 
 #[test]
