@@ -1,0 +1,4 @@
+pub mod NameLemmas
+pub mod InverseLemmas
+pub mod NumberLemmas
+pub mod KeptLemmas

@@ -1,0 +1,12 @@
+//! Names with numbers that stay from one policy to the next.
+#![tactic(auto)]
+
+mod kept;
+mod numbering;
+#[cfg(test)]
+mod symbol_tests;
+mod symbols;
+
+pub use kept::Kept;
+pub use numbering::Numbering;
+pub use symbols::Symbols;

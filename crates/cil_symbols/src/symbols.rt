@@ -1,0 +1,77 @@
+//! Distinct names by numbers that stay.
+
+ghost use Rattle.std.specs.Prelude.{◌≡◌, [], bytes_eq, length, option_map, position, slice_get, Some, IfOk, OnErr, OnOk};
+ghost use Rattle.std.specs.List.{IsDistinct};
+ghost use Rattle.cil_specs.specs.Lookup.{with_name};
+
+use indexmap::IndexSet;
+use std::alloc::{AllocError, Allocator, Global};
+use std::hash::{BuildHasherDefault, FoldHasher};
+use std::marker::Model;
+
+/// Distinct names, which it owns. The number of a name is its place, and stays while other names come. Contracts see it as the list
+/// of its names.
+#[derive(Drop)]
+pub struct Symbols<A: Allocator = Global> {
+    names: IndexSet<Vec<u8, A>, BuildHasherDefault<FoldHasher>, A>,
+}
+
+impl<A: Allocator> Model for Symbols<A> {
+    ghost use Rattle.std.specs.Prelude.{List, ℕ, map, bytes_eq};
+    ghost use Rattle.std.specs.List.{IsDistinct};
+
+    ghost Value = { List (List ℕ) };
+
+    ghost view = { λ s. map (λ name. name.items) s.names.keys };
+
+    ghost invariant = { λ s. IsDistinct bytes_eq (map (λ name. name.items) s.names.keys) };
+}
+
+impl<A: Allocator + Copy> Symbols<A> {
+    /// No names. It takes no memory.
+    pub fn new(alloc: A) -> Self
+        ensures { result ≡ [] }
+    {
+        Symbols {
+            names: IndexSet::new(alloc),
+        }
+    }
+
+    /// The number of a name: its own, or the next one where it is new. Only a new name is copied.
+    pub fn number(&mut self, alloc: A, name: &[u8]) -> Result<usize, AllocError>
+        ensures number { IfOk result (λ n. slice_get self.new n ≡ Some name.now) }
+        ensures ok { OnOk result (self.new ≡ with_name self.old name.now) }
+        ensures err { OnErr result (self.new ≡ self.old) }
+    {
+        if let Some(n) = self.find(name) {
+            return Ok(n);
+        }
+        let (n, _new) = self.names.insert_full(Vec::from_slice(alloc, name)?)?;
+        Ok(n)
+    }
+}
+
+impl<A: Allocator> Symbols<A> {
+    /// How many names there are.
+    pub fn len(&self) -> usize
+        ensures len { result ≡ length self.now }
+        ensures distinct { IsDistinct bytes_eq self.now }
+    {
+        self.names.len()
+    }
+
+    /// The name of a number.
+    pub fn name(&self, n: usize) -> Option<&[u8]>
+        ensures { option_map (λ name. name.now) result ≡ slice_get self.now n }
+    {
+        let name = self.names.get_index(n)?;
+        Some(name.as_slice())
+    }
+
+    /// The number of a name, if it has one. It takes no memory.
+    pub fn find(&self, name: &[u8]) -> Option<usize>
+        ensures { result ≡ position (bytes_eq name.now) self.now }
+    {
+        self.names.get_index_of(name)
+    }
+}
