@@ -38,9 +38,11 @@ returns g c = record {
   end = c.session.result;
   is = c.exit_status.ensures;
   leaves = IfOk-weaker c.session.result _ _ (λ s left.
-    let store : Store = c.session.new.engine in
-    (store, subst (λ (first : Store). Leaves (g.S.Source.account c.args.source.now) (g.S.Source.account c.session.new.source) (record { store = first; taken = g.W.Sink.taken c.args.out.now })
-      (record { store = store; taken = g.W.Sink.taken c.session.new.sink }) s) c.new-engine.ensures left)) c.session.ensures.ok;
+      let store : Store = c.session.new.engine in (
+        store,
+        subst (λ (first : Store). Leaves (g.S.Source.account c.args.source.now) (g.S.Source.account c.session.new.source) (record { store = first; taken = g.W.Sink.taken c.args.out.now })
+            (record { store = store; taken = g.W.Sink.taken c.session.new.sink }) s) c.new-engine.ensures left,
+      )) c.session.ensures.ok;
   flushed = λ other. no-failure c.session.result _ c.session.ensures.flushed (λ e. other (c.exit_status.ensures ∙ e));
   ended = λ is. ending c.session.result _ c.session.ensures.ended (by is);
   failed = λ is. failing c.session.result _ _ c.session.ensures.read c.session.ensures.write (sym c.exit_status.ensures ∙ is);
