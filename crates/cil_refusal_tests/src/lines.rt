@@ -96,3 +96,37 @@ fn each_growth_of_a_line(rt: HostRuntime) {
     assert!(&rt; growths > 10);
     assert!(&rt; growths < 99);
 }
+
+// Makes room for each addition before it, with the nth growth refused. A refused call leaves each counter as it was, and
+// what there is room for is raised without memory. Says whether any was refused.
+fn was_room_refused(rt: &impl Abort, alloc: Global, all: &[Added], nth: u64) -> bool {
+    let heap = Refusing::new(alloc);
+    let mut line = Line::new(&heap);
+    heap.refuse(nth);
+    for (n, added) in all.iter().enumerate() {
+        let word = added.word as usize;
+        let before = heap.refused();
+        if line.make_room(&heap, word, added.mask).is_err() {
+            assert!(rt; heap.refused() > before);
+            assert_counts(rt, &line, all, n);
+        }
+        line.make_room(&heap, word, added.mask).expect(rt, "memory");
+        line.raise(word, added.mask);
+    }
+    assert_counts(rt, &line, all, all.len());
+    heap.refused() > 0
+}
+
+#[test]
+fn each_growth_of_room_in_a_line(rt: HostRuntime) {
+    let all = additions();
+    let mut growths = 0;
+    for nth in 1..100u64 {
+        if was_room_refused(&rt, rt.alloc(), &all, nth) {
+            assert!(&rt; growths == nth - 1);
+            growths = nth;
+        }
+    }
+    assert!(&rt; growths > 10);
+    assert!(&rt; growths < 99);
+}
