@@ -1,6 +1,11 @@
 # `rt` is the command of the Rattle kit; it has to be on the PATH.
 
-.PHONY: run try test wrong-bodies
+PREFIX ?= /usr/local
+DESTDIR ?=
+BIN = $(DESTDIR)$(PREFIX)/bin
+SHARE = $(DESTDIR)$(PREFIX)/share
+
+.PHONY: run try test wrong-bodies install uninstall
 
 # Proves and builds the program, and has it answer a first session.
 run:
@@ -10,10 +15,25 @@ run:
 try:
 	cd crates/cilsem && rt try -- session < ../../examples/first.session
 
-# The gate: every proof from nothing, the must-fail edits, the tests and the programs.
+# The gate: every proof from nothing, the must-fail edits, the tests and the programs, and then the examples.
 test:
 	rt ci
+	examples/check.sh
 
 # Tries the wrong bodies of bench/wrong_bodies one by one; it takes some hours.
 wrong-bodies:
 	bench/wrong_bodies.sh
+
+# Installs the program that `make run` built, its manual page and its completions.
+install:
+	test -x crates/cilsem/out/cilsem || { echo 'make run builds the program first' >&2; exit 1; }
+	install -d $(BIN) $(SHARE)/man/man1 $(SHARE)/bash-completion/completions $(SHARE)/zsh/site-functions $(SHARE)/fish/vendor_completions.d
+	install -m 755 crates/cilsem/out/cilsem $(BIN)/cilsem
+	install -m 644 man/cilsem.1 $(SHARE)/man/man1/cilsem.1
+	install -m 644 completions/cilsem.bash $(SHARE)/bash-completion/completions/cilsem
+	install -m 644 completions/_cilsem $(SHARE)/zsh/site-functions/_cilsem
+	install -m 644 completions/cilsem.fish $(SHARE)/fish/vendor_completions.d/cilsem.fish
+
+# Removes what `make install` put there.
+uninstall:
+	rm -f $(BIN)/cilsem $(SHARE)/man/man1/cilsem.1 $(SHARE)/bash-completion/completions/cilsem $(SHARE)/zsh/site-functions/_cilsem $(SHARE)/fish/vendor_completions.d/cilsem.fish

@@ -29,7 +29,8 @@ sorted-are xs ys zs moved sorted is words = subst AreChunks (sym is) (record {
       (all-merged (λ c. c.word < 2 ^ 26) (λ c bits h. h) ys (recursion_from_All (λ c. c.word < 2 ^ 26) ys (All-permutation (λ c. c.word < 2 ^ 26) xs ys moved words)));
 })
 
-given-moved : (xs ys : List Chunk) → IsPermutation xs ys → (a : AccessNumbers) → IsGiven xs a → IsGiven ys a
+-- an access stays given where chunks are put in another order
+pub given-moved : (xs ys : List Chunk) → IsPermutation xs ys → (a : AccessNumbers) → IsGiven xs a → IsGiven ys a
 given-moved xs ys moved a (k, c, within, is, of) =
     let (j, inside, there) = Contains-permutation xs ys c moved (k, within, is) in
     (j, c, inside, there, of)

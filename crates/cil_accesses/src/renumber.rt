@@ -191,7 +191,7 @@ pub fn renumbered_chunks<A: Allocator>(
     ensures words { IfOk result (λ made. All (λ c. c.word < 2 ^ 26) made.items) }
     ensures same { IfOk result (λ made. (a : _) → IsGiven made.items a ↔ Any (λ c. IsRenumbered numbers.now c 64 a) chunks.now) }
 {
-    let mut made = Vec::new(alloc);
+    let mut made = Vec::with_capacity(alloc, chunks.len())?;
     for chunk in chunks {
         push_renumbered(&mut made, chunk, numbers)?;
     }

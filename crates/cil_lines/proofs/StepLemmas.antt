@@ -1,12 +1,12 @@
 -- Steps of the counters of a word within their limits.
-use Rattle.std.proofs.Common.{zero, suc, ◌≡◌, ◌≢◌, ℕ, ◌+◌, ◌-◌, ◌*◌, ◌/◌, ◌%◌, ◌^◌, ◌<◌, ◌≤◌, List, [], ◌∷◌, length, get_or, drop, set, min, refl, sym, ap, subst, ◌∙◌, arith, eq-eqb, if◌then◌else◌, bit_xor, bit_and, inl, inr, pow-suc, w64}
+use Rattle.std.proofs.Common.{suc, ◌≡◌, ◌≢◌, ℕ, ◌+◌, ◌-◌, ◌*◌, ◌/◌, ◌%◌, ◌^◌, ◌<◌, ◌≤◌, List, [], ◌∷◌, length, get_or, drop, set, min, refl, sym, ap, subst, ◌∙◌, arith, eq-eqb, if◌then◌else◌, bit_xor, bit_and, inl, inr, pow-suc, w64}
 use Rattle.std.proofs.Math.Seq.{drop-cons}
 use Rattle.std.proofs.lemmas.Bool.{cases_eq, cases_lt, ne_eqb}
 use Rattle.std.proofs.lemmas.Nat.{and_le_l, and_le_r}
 use Rattle.std.proofs.lemmas.Nat.Bits.{bit_at_xor, bit_at_and, bit_at_not, bit_at_above, bit_at-lt, bit_at-zero}
 use Rattle.std.specs.Int.{bit_at, bit_not}
 use Rattle.cil_lines.specs.Digit.{Words, bits_of, HasPlace}
-use Rattle.cil_lines.specs.Line.{Counters, value, count_of, hit, HasRoom, IsPresence}
+use Rattle.cil_lines.specs.Line.{Counters, value, count_of, hit, HasRoom}
 use Rattle.cil_lines.specs.Limit.{limit, limit_of, AreBelow, CanRaise, CanLower}
 use Rattle.cil_lines.proofs.LineLemmas.{value-set, half_add, some_bit}
 use Rattle.cil_lines.proofs.PlaceLemmas.{limit-end, limit-some, limit-here, limit-more, place-limit}
@@ -268,17 +268,6 @@ module _ (d d' : Words) (h h' : List Words) (kept : (w : ℕ) → HasPlace d w �
 
       pub lowered_room : CanRaise (count_of (line d' h')) (limit_of (line d' h')) word mask
       lowered_room t one = omega (arith, one, lowered_now t, count_below d h below t, limits_now (t / 64))
-
--- targets that are present can be lowered
-pub lower_present : (counts : ℕ → ℕ) (word mask present : ℕ) → IsPresence counts word present → bit_and present mask ≡ mask → CanLower counts word mask
-lower_present counts word mask present is all t =
-    let b = t % 64 in
-    elim (cases_eq (t / 64) word) [
-      | inl e ↦
-          let place : 64 * word + b ≡ t = omega (arith, e) in
-          omega (arith, hit-here word mask t e, is b (omega arith), ap counts place, bit_at_and present mask b, ap (λ n. bit_at n b) all)
-      | inr n ↦ omega (arith, hit-there word mask t n)
-    ]
 
 -- the counters that are 1 have the lowest digit alone
 pub single_is : (d : Words) (h : List Words) (word b low high : ℕ) → b < 64 → high < 2 ^ 64 → low ≡ bits_of d word → bit_at high b ≡ min 1 (value h word b)

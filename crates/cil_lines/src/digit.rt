@@ -10,6 +10,9 @@ use std::marker::Model;
 // size of two words.
 const SPAN: usize = 4;
 
+// A word is below this number: so many words have all targets.
+const WORDS: usize = 1 << 58;
+
 // Where a list grows it gets room for one item in so many to spare: it seldom moves, and little of it stays unused.
 const SPARE: usize = 8;
 
@@ -76,6 +79,17 @@ fn last_word(entries: &[Entry], word: usize) -> usize
     }
 }
 
+/// Where so many dense words end once the last word with a place is dense too. Where they grow they grow by some to spare, so that
+/// words which come one behind the other seldom make them grow.
+fn dense_end(len: usize, last: usize) -> usize
+    requires { last < 2 ^ 58 }
+    ensures behind { last < result }
+    ensures below { result ≤ 2 ^ 58 }
+{
+    let spare = len / SPARE;
+    spare.min(WORDS - 1 - last) + last + 1
+}
+
 /// Writes the bits of entries at their words.
 fn fill(words: &mut [u64], entries: &[Entry])
     requires { Rises 0 (length words.old) entries.now }
@@ -126,7 +140,8 @@ impl<A: Allocator + Copy> Digit<A> {
     {
         let last = last_word(&self.sparse, word);
         if (last - self.dense.len()) / SPAN <= self.sparse.len() {
-            self.spread(alloc, last + 1)
+            let end = dense_end(self.dense.len(), last);
+            self.spread(alloc, end)
         } else {
             let len = self.sparse.len() + 1;
             reserve(&mut self.sparse, len)?;
@@ -178,6 +193,21 @@ impl<A: Allocator> Digit<A> {
         } else if let Ok(place) = search(&self.sparse, word) {
             self.sparse[place] = Entry { word, bits };
         }
+    }
+
+    /// A word from which on none has a place.
+    pub fn end(&self) -> usize
+        ensures { (w : ℕ) → result ≤ w → bits_of self.now w ≡ 0 }
+    {
+        if self.sparse.is_empty() {
+            return self.dense.len();
+        }
+        self.sparse[self.sparse.len() - 1].word + 1
+    }
+
+    /// How many words have a place.
+    pub fn places_len(&self) -> usize {
+        self.dense.len().saturating_add(self.sparse.len())
     }
 
     /// The first word from one on that has a place. It need not have a bit.

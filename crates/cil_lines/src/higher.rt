@@ -50,6 +50,19 @@ pub fn next_place<A: Allocator>(digits: &[Digit<A>], from: usize) -> Option<usiz
     next
 }
 
+/// A word from which on none has a place in any digit.
+pub fn end<A: Allocator>(digits: &[Digit<A>]) -> usize
+    ensures { (w : ℕ) → result ≤ w → total digits.now w ≡ 0 }
+{
+    let mut end = 0;
+    let mut i = digits.len();
+    while i > 0 {
+        i -= 1;
+        end = digits[i].end().max(end);
+    }
+    end
+}
+
 /// The lower of two words, where there are two.
 pub fn earlier(first: Option<usize>, second: Option<usize>) -> Option<usize>
     ensures { (f g : ℕ → ℕ) (from : ℕ) → IsNext f from first → IsNext g from second → IsNext (λ w. f w + g w) from result }

@@ -94,6 +94,18 @@ impl<A: Allocator> Line<A> {
         None
     }
 
+    /// A word from which on no counter is at least 1.
+    pub fn end(&self) -> usize
+        ensures { NonePresent (count_of self.now) result }
+    {
+        self.lowest.end().max(higher::end(&self.higher))
+    }
+
+    /// For how many words it has taken memory: those that were added to, and some between them.
+    pub fn places_len(&self) -> usize {
+        self.lowest.places_len()
+    }
+
     /// The first word from one on that has a place in some digit.
     fn next_place(&self, from: usize) -> Option<usize>
         ensures { IsNext (total (self.now.lowest ∷ self.now.higher)) from result }

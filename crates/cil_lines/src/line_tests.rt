@@ -189,30 +189,6 @@ fn entries_become_dense(rt: HostRuntime) {
     }
 }
 
-// Raises targets, with room made before.
-fn raise(rt: &impl Abort, alloc: Global, line: &mut Line, word: u32, mask: u64) {
-    let word = word as usize;
-    line.make_room(alloc, word, mask).expect(rt, "memory");
-    line.raise(word, mask);
-}
-
-// Lowers targets that are present.
-fn lower(rt: &impl Abort, line: &mut Line, word: usize, mask: u64) {
-    let present = line.present(word);
-    if present & mask == mask {
-        line.lower(word, mask);
-    } else {
-        panic!(rt; "a target isn't present");
-    }
-}
-
-// Asserts the counters of the first targets of a word.
-fn assert_counts(rt: &impl Abort, line: &Line, word: usize, wanted: &[u64]) {
-    for (bit, count) in wanted.iter().enumerate() {
-        assert!(rt; line.count(64 * word + bit) == *count);
-    }
-}
-
 #[test]
 fn room_changes_no_counter(rt: HostRuntime) {
     let alloc = rt.alloc();
@@ -225,55 +201,30 @@ fn room_changes_no_counter(rt: HostRuntime) {
         adding(90, 1),
         adding(4_000_000, 1 << 63),
     ];
-    for room in rooms {
-        line.make_room(alloc, room.word as usize, room.mask)
-            .expect(&rt, "memory");
-    }
+    make_rooms(&rt, alloc, &mut line, &rooms);
     assert_line(&rt, &line, &steps, 92);
     assert!(&rt; line.present(4_000_000) == 0);
 }
 
-#[test]
-fn targets_are_raised(rt: HostRuntime) {
-    let mut line = Line::new(rt.alloc());
-    for mask in [0b1111, 0b1110, 0b1100, 0b1000, 0b1000] {
-        raise(&rt, rt.alloc(), &mut line, 2, mask);
+// Makes room for these steps, and makes none.
+fn make_rooms(rt: &impl Abort, alloc: Global, line: &mut Line, steps: &[Step]) {
+    for step in steps {
+        line.make_room(alloc, step.word as usize, step.mask)
+            .expect(rt, "memory");
     }
-    raise(&rt, rt.alloc(), &mut line, 70, 1 << 63);
-    assert_counts(&rt, &line, 2, &[1, 2, 3, 5, 0]);
-    assert_counts(&rt, &line, 1, &[0, 0, 0, 0, 0]);
-    assert!(&rt; line.count(64 * 70 + 63) == 1);
-}
-
-#[test]
-fn targets_are_lowered(rt: HostRuntime) {
-    let alloc = rt.alloc();
-    let mut line = line(&rt, alloc, &[adding(1, 0b11); 4]);
-    line.add(alloc, 1, 0b110).expect(&rt, "memory");
-    assert_counts(&rt, &line, 1, &[4, 5, 1]);
-    lower(&rt, &mut line, 1, 0b111);
-    assert_counts(&rt, &line, 1, &[3, 4, 0]);
-    lower(&rt, &mut line, 1, 0b010);
-    assert_counts(&rt, &line, 1, &[3, 3, 0]);
-    raise(&rt, alloc, &mut line, 1, 0b010);
-    assert_counts(&rt, &line, 1, &[3, 4, 0]);
-    lower(&rt, &mut line, 1, 0);
-    lower(&rt, &mut line, 7, 0);
-    lower(&rt, &mut line, 1, 0b001);
-    lower(&rt, &mut line, 1, 0b011);
-    lower(&rt, &mut line, 1, 0b011);
-    lower(&rt, &mut line, 1, 0b010);
-    assert_counts(&rt, &line, 1, &[0, 1, 0]);
 }
 
 #[test]
 fn targets_counted_once(rt: HostRuntime) {
-    let alloc = rt.alloc();
-    let mut line = line(&rt, alloc, &[adding(2, 0b1111), adding(2, 0b0110)]);
+    let steps = [
+        adding(2, 0b1111),
+        adding(2, 0b0110),
+        adding(2, 0b0010),
+        adding(5, ALL),
+    ];
+    let line = line(&rt, rt.alloc(), &steps);
     assert!(&rt; line.single(2) == 0b1001);
-    line.add(alloc, 2, 0b0010).expect(&rt, "memory");
-    lower(&rt, &mut line, 2, 0b0101);
-    assert!(&rt; line.single(2) == 0b1100);
+    assert!(&rt; line.single(5) == ALL);
     assert!(&rt; line.single(1) == 0);
     assert!(&rt; line.single(1 << 40) == 0);
 }

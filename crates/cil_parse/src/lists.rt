@@ -10,7 +10,7 @@ use std::marker::Model;
 #[derive(Debug, Drop)]
 pub struct Lists<T: Copy, A: Allocator = Global> {
     items: Vec<T, A>,
-    ends: Vec<u32, A>,
+    ends: Vec<usize, A>,
 }
 
 impl<T: Copy, A: Allocator> Model for Lists<T, A> {
@@ -53,15 +53,12 @@ impl<T: Copy, A: Allocator + Copy> Lists<T, A> {
         Ok(())
     }
 
-    /// Closes the open list. More than 4294967295 items are answered as out of memory.
+    /// Closes the open list.
     pub fn close(&mut self) -> Result<(), AllocError>
         ensures ok { OnOk result (self.new ≡ (self.old.0 ++ self.old.1 ∷ [], [])) }
         ensures err { OnErr result (self.new ≡ self.old) }
     {
-        let Ok(end) = u32::try_from(self.items.len()) else {
-            return Err(AllocError);
-        };
-        self.ends.push(end)?;
+        self.ends.push(self.items.len())?;
         Ok(())
     }
 }
@@ -81,20 +78,20 @@ impl<T: Copy, A: Allocator> Lists<T, A> {
     {
         let ends = self.ends.as_slice();
         let start = start_at(ends, n);
-        let end = ends[n] as usize;
+        let end = ends[n];
         part(self.items.as_slice(), start, end)
     }
 }
 
 /// Where the list of a number starts, by the ends of the lists.
-fn start_at(ends: &[u32], n: usize) -> usize
+fn start_at(ends: &[usize], n: usize) -> usize
     requires { n < length ends.now }
     ensures { result ≡ start_of 0 ends.now n }
 {
     if n == 0 {
         return 0;
     }
-    ends[n - 1] as usize
+    ends[n - 1]
 }
 
 /// The items from one offset up to another.

@@ -3,7 +3,7 @@ use Rattle.std.specs.Prelude.{◌≡◌, ℕ, List, [], ◌∷◌, codes, decima
 use Rattle.std.specs.List.{join_with_byte}
 use Rattle.cil_store_specs.specs.Script.{IsGoodName, IsShortNumber}
 use Rattle.cil_program.specs.declared.script.command.ScriptLine.{ScriptLine}
-use Rattle.cil_program.specs.declared.script.command.ScriptLine.TheVariants.{Install, Remove, Enable, Disable, Rules, Violations, Dropped, Modules}
+use Rattle.cil_program.specs.declared.script.command.ScriptLine.TheVariants.{Install, Remove, Enable, Disable, Rules, Violations, Dropped, Modules, Dump}
 
 -- the words of the line that asks for it
 abbrev pub words_asked : ScriptLine → List (List ℕ)
@@ -15,6 +15,7 @@ words_asked Rules = codes "rules" ∷ []
 words_asked Violations = codes "violations" ∷ []
 words_asked Dropped = codes "dropped" ∷ []
 words_asked Modules = codes "modules" ∷ []
+words_asked Dump = codes "dump" ∷ []
 
 -- its name and its numbers are those of a command
 abbrev pub HasGoodParts : ScriptLine → Type 0

@@ -1,5 +1,16 @@
--- The words of a command line, and exit statuses.
-use Rattle.std.specs.Prelude.{◌≡◌, ℕ, List, [], ◌∷◌, drop, codes, Result, Ok, Err}
+-- The words of a command line, what answers them, and exit statuses.
+use Rattle.std.specs.Prelude.{◌≡◌, ◌≢◌, ℕ, ◌<◌, List, [], ◌∷◌, ◌++◌, flat_map, length, drop, codes, slice_index, Contains, Option, Result, Ok, Err, IfOk, ◌⊎◌}
+use Rattle.std.specs.List.{AllZip}
+use Rattle.cil_specs.specs.Report.{Row, row_line}
+use Rattle.cil_specs.specs.Violations.{Violation, violations_text}
+use Rattle.cil_stream.specs.Device.{Account, Gains, HasEnded, HasFailed}
+use Rattle.cil_store_specs.specs.Store.{Entry, Store, empty}
+use Rattle.cil_store_specs.specs.Next.{Refusal, accepts, refuses, for_memory, Of}
+use Rattle.cil_store_specs.specs.Run.{AreRowsOf, AreViolationsOf}
+use Rattle.cil_store_specs.specs.Script.{refusal_line}
+use Rattle.cil_program.specs.Session.{Leaves}
+use Rattle.cil_program.specs.declared.command_line.compile.Report.{Report}
+use Rattle.cil_program.specs.declared.command_line.compile.Report.TheVariants.{Listing, Violations}
 use Rattle.cil_program.specs.declared.script.session.SessionFault.{SessionFault}
 use Rattle.cil_program.specs.declared.script.session.SessionFault.TheVariants.{Read, Write}
 use Rattle.cil_program.specs.declared.script.session.Status.{Status}
@@ -9,9 +20,6 @@ use Rattle.cil_program.specs.declared.script.session.Status.TheVariants.{Clean, 
 abbrev pub AsksSession : List (List ℕ) → Type 0
 AsksSession words = drop 1 words ≡ codes "session" ∷ []
 
-abbrev pub usage : List ℕ
-usage = codes "usage: cilsem session\n"
-
 -- 0 where each command was accepted, 1 where one was refused, 2 at a line that is no command, 3 where a read or a write failed
 abbrev pub exit_status_of : Result Status SessionFault → ℕ
 exit_status_of (Ok Clean) = 0
@@ -19,3 +27,68 @@ exit_status_of (Ok Refused) = 1
 exit_status_of (Ok Script) = 2
 exit_status_of (Err Read) = 3
 exit_status_of (Err Write) = 3
+
+-- a sink by what it tells
+pub record Written : Type 0 where
+  pub taken : Option (List ℕ)
+  pub flushed : Option (List ℕ)
+  pub failures : ℕ
+
+-- A session over an empty store was answered: what it left of its source and its sink, and the exit status.
+pub record AnswersSession (first now : Account) (before after : Written) (status : ℕ) : Type 0 where
+  pub end : Result Status SessionFault
+  pub is : status ≡ exit_status_of end
+  pub leaves : IfOk end (λ s. (store : Store) × Leaves first now (record { store = empty; taken = before.taken }) (record { store = store; taken = after.taken }) s)
+  pub flushed : status ≢ 3 → after.flushed ≡ after.taken
+  pub ended : (status ≡ 0) ⊎ (status ≡ 1) → HasEnded first now
+  pub failed : status ≡ 3 → HasFailed first.failures now.failures ⊎ HasFailed before.failures after.failures
+
+-- memory ran out, which was told on the second sink alone; or a sink failed
+abbrev pub LacksMemory : Written → Written → Written → Written → ℕ → Type 0
+LacksMemory out new_out err new_err status =
+    ((status ≡ 1) × (new_out.taken ≡ out.taken) × Gains err.taken new_err.taken (refusal_line for_memory))
+    ⊎ ((status ≡ 3) × (HasFailed out.failures new_out.failures ⊎ HasFailed err.failures new_err.failures))
+
+-- 1 where there is a violation
+abbrev pub status_of_violations : List Violation → ℕ
+status_of_violations [] = 0
+status_of_violations (violation ∷ violations) = 1
+
+-- What is printed and told of entries that are compiled at once, and the exit status: the listing or the violations of their store
+-- are printed; or their refusal is told, or that memory ran out, and nothing is printed.
+pub data Compiles (entries : List Entry) (report : Report) (printed told : List ℕ) (status : ℕ) : Type 0 where
+  lists : (store : Store) (rows : List Row) → report ≡ Listing → Of entries (accepts store) → AreRowsOf store rows
+      → printed ≡ flat_map row_line rows → told ≡ [] → status ≡ 0 → Compiles entries report printed told status
+  tells : (store : Store) (violations : List Violation) → report ≡ Violations → Of entries (accepts store) → AreViolationsOf store violations
+      → printed ≡ violations_text violations → told ≡ [] → status ≡ status_of_violations violations → Compiles entries report printed told status
+  is_refused : (refusal : Refusal) → Of entries (refuses refusal) → printed ≡ [] → told ≡ refusal_line refusal → status ≡ 1 → Compiles entries report printed told status
+  lacks_memory : printed ≡ [] → told ≡ refusal_line for_memory → status ≡ 1 → Compiles entries report printed told status
+
+-- what stands behind the last slash of a path; all of it where there is none
+pub record IsBaseName (path base : List ℕ) : Type 0 where
+  pub no_slash : (i : ℕ) → i < length base → slice_index base i ≢ 47
+  pub ends : (path ≡ base) ⊎ ((folder : List ℕ) × (path ≡ folder ++ 47 ∷ base))
+
+-- the base name of a file less a final `.cil`
+abbrev pub IsStem : List ℕ → List ℕ → Type 0
+IsStem base name = (base ≡ name ++ codes ".cil") ⊎ ((base ≡ name) × ((front : List ℕ) → base ≢ front ++ codes ".cil"))
+
+-- what a module is named in a file at a path
+abbrev pub NamesModule : List ℕ → List ℕ → Type 0
+NamesModule path name = (base : List ℕ) × IsBaseName path base × IsStem base name
+
+-- an entry for a file at a path: the text is what was read of it
+pub record IsEntryAt (path : List ℕ) (entry : Entry) : Type 0 where
+  pub named : NamesModule path entry.name
+  pub priority : entry.priority ≡ 400
+
+-- the line of a file that can't be read
+abbrev pub unreadable_line : List ℕ → List ℕ
+unreadable_line path = codes "unreadable " ++ (path ++ codes "\n")
+
+-- What is printed and told of files that are compiled at once, and the exit status: what is of the texts that were read; or that
+-- one of the files can't be read, or that memory ran out, and nothing is printed.
+pub data CompilesFiles (paths : List (List ℕ)) (report : Report) (printed told : List ℕ) (status : ℕ) : Type 0 where
+  compiles : (entries : List Entry) → AllZip IsEntryAt paths entries → Compiles entries report printed told status → CompilesFiles paths report printed told status
+  is_unreadable : (path : List ℕ) → Contains paths path → printed ≡ [] → told ≡ unreadable_line path → status ≡ 3 → CompilesFiles paths report printed told status
+  is_not_held : printed ≡ [] → told ≡ refusal_line for_memory → status ≡ 1 → CompilesFiles paths report printed told status

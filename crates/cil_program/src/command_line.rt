@@ -1,17 +1,32 @@
 //! The command line: what its words ask for, and the exit status.
 
-ghost use Rattle.std.specs.Prelude.{◌≡◌, ◌≢◌, ◌↔◌, ◌⊎◌, Result, map, IsTrue, IfOk};
-ghost use Rattle.cil_stream.specs.Device.{Gains, GainsFront, HasEnded, HasFailed};
-ghost use Rattle.cil_program.specs.CommandLine.{AsksSession, exit_status_of, usage};
-ghost use Rattle.cil_program.specs.Session.{Leaves};
+ghost use Rattle.std.specs.Prelude.{◌≡◌, ◌≢◌, ◌⊎◌, ◌≤◌, ℕ, true, List, Result, Some, codes, map, IfOk, OnErr, OnOk};
+ghost use Rattle.clap.specs.Words.{Row, found_of, kind_of, rows_of, subcommand_of, takes};
+ghost use Rattle.clap.specs.declared.error.kind.ErrorKind.TheVariants.{OutOfMemory};
+ghost use Rattle.cil_stream.specs.Device.{Gains, HasFailed};
+ghost use Rattle.cil_store_specs.specs.Next.{for_memory};
+ghost use Rattle.cil_store_specs.specs.Script.{refusal_line};
+ghost use Rattle.cil_program.specs.CommandLine.{AsksSession, AnswersSession, CompilesFiles, LacksMemory, exit_status_of, unreadable_line};
+ghost use Rattle.cil_program.specs.Program.{AnswersCompile, IsReportAsked, files_asked, program_app};
+ghost use Rattle.cil_program.specs.declared.command_line.compile.Report.{Report};
 ghost use Rattle.cil_program.specs.declared.script.session.SessionFault.{SessionFault};
 ghost use Rattle.cil_program.specs.declared.script.session.Status.{Status};
 
+pub mod compile;
+pub mod files;
+mod words;
+
+use crate::command_line::compile::{Report, compile_entries, refuse_for_memory};
+use crate::command_line::files::{ReadFault, entries_of, read_files};
+use crate::command_line::words::{COMPILE, FILES, VIOLATIONS, matches_of};
 use crate::script::session::{SessionFault, Status, session};
-use cil_store::Compiled;
-use cil_stream::{Sink, Source, write_all};
-use std::alloc::Allocator;
+use cil_store::Plain;
+use cil_stream::{Sink, SinkFault, Source, write_all, write_pieces};
+use clap::error::ErrorKind;
+use clap::{ArgMatches, Error};
+use std::alloc::{Allocator, Global};
 use std::convert::AsStr;
+use std::rt::Files;
 
 /// The exit status of a session.
 pub fn exit_status(end: Result<Status, SessionFault>) -> u8
@@ -25,38 +40,189 @@ pub fn exit_status(end: Result<Status, SessionFault>) -> u8
     }
 }
 
-/// Whether the words, of which the first is the program's name, ask for a session.
-fn asks_session<T: AsStr>(words: &[T]) -> bool
-    ensures { IsTrue result ↔ AsksSession (map T.text words.now) }
+/// Answers the script of a source, with an empty store at its start, and gives the exit status.
+pub fn answer_session<S: Source, W: Sink, A: Allocator + Copy>(
+    alloc: A,
+    source: &mut S,
+    out: &mut W,
+) -> u8
+    ensures { AnswersSession (S.account source.old) (S.account source.new)
+        (record { taken = W.taken out.old; flushed = W.flushed out.old; failures = W.failures out.old })
+        (record { taken = W.taken out.new; flushed = W.flushed out.new; failures = W.failures out.new }) result }
 {
-    words.len() == 2 && words[1].as_str() == "session"
+    let mut engine = Plain::new(alloc);
+    exit_status(session(alloc, source, out, &mut engine))
 }
 
-/// Answers the words of a command line, and gives the exit status: `session` has the script of the source answered, and any
-/// other words have the usage told.
-pub fn answer_command_line<
-    T: AsStr,
-    S: Source,
-    W: Sink,
-    E: Sink,
-    A: Allocator + Copy,
-    C: Compiled<A>,
->(alloc: A, words: &[T], source: &mut S, sink: &mut W, errors: &mut E, engine: &mut C) -> u8
-    ensures session { AsksSession (map T.text words.now) → (end : Result Status SessionFault) × (result ≡ exit_status_of end)
-        × IfOk end (λ status. Leaves (S.account source.old) (S.account source.new)
-        (record { store = C.store engine.old; taken = W.taken sink.old }) (record { store = C.store engine.new; taken = W.taken sink.new }) status) }
-    ensures flushed { AsksSession (map T.text words.now) → result ≢ 3 → W.flushed sink.new ≡ W.taken sink.new }
-    ensures ended { AsksSession (map T.text words.now) → (result ≡ 0) ⊎ (result ≡ 1) → HasEnded (S.account source.old) (S.account source.new) }
-    ensures failed { AsksSession (map T.text words.now) → result ≡ 3 →
-        HasFailed (S.account source.old).failures (S.account source.new).failures ⊎ HasFailed (W.failures sink.old) (W.failures sink.new) }
-    ensures session_alone { AsksSession (map T.text words.now) → errors.new ≡ errors.old }
-    ensures usage { (AsksSession (map T.text words.now) → ⊥) → (result ≡ 2)
-        × (Gains (E.taken errors.old) (E.taken errors.new) usage ⊎ (GainsFront (E.taken errors.old) (E.taken errors.new) usage × HasFailed (E.failures errors.old) (E.failures errors.new))) }
-    ensures usage_alone { (AsksSession (map T.text words.now) → ⊥) → (source.new ≡ source.old) × (sink.new ≡ sink.old) × (engine.new ≡ engine.old) }
+/// Writes what `clap` answers in place of matches, and gives the exit status: help and the version that were asked for go to
+/// `out`, and why the words are refused goes to `err`.
+fn tell<W: Sink, E: Sink>(
+    alloc: Global,
+    error: &Error,
+    out: &mut W,
+    err: &mut E,
+) -> Result<u8, SinkFault>
+    ensures status { IfOk result (λ status. status ≤ 3) }
+    ensures memory { kind_of error.now ≡ OutOfMemory → IfOk result (λ status. (status ≡ 1) × (W.taken out.new ≡ W.taken out.old)
+        × Gains (E.taken err.old) (E.taken err.new) (refusal_line for_memory)) }
+    ensures failed { OnErr result (HasFailed (W.failures out.old) (W.failures out.new) ⊎ HasFailed (E.failures err.old) (E.failures err.new)) }
+    ensures out_counted { W.failures out.old ≤ W.failures out.new }
+    ensures err_counted { E.failures err.old ≤ E.failures err.new }
 {
-    if !asks_session(words) {
-        let _told = write_all(errors, b"usage: cilsem session\n");
-        return 2;
+    if matches!(error.kind(), ErrorKind::OutOfMemory) {
+        return refuse_for_memory(err);
     }
-    exit_status(session(alloc, source, sink, engine))
+    let Ok(text) = error.to_string(alloc) else {
+        return refuse_for_memory(err);
+    };
+    if error.use_stderr() {
+        write_all(err, text.as_bytes())?;
+        return Ok(2);
+    }
+    write_all(out, text.as_bytes())?;
+    Ok(0)
+}
+
+/// Writes which file can't be read, and gives the exit status.
+fn tell_unreadable<E: Sink>(err: &mut E, path: &str) -> Result<u8, SinkFault>
+    ensures ok { IfOk result (λ status. (status ≡ 3) × Gains (E.taken err.old) (E.taken err.new) (unreadable_line path.now)) }
+    ensures failed { OnErr result (HasFailed (E.failures err.old) (E.failures err.new)) }
+    ensures counted { E.failures err.old ≤ E.failures err.new }
+{
+    write_pieces(err, &[b"unreadable ", path.as_bytes(), b"\n"])?;
+    Ok(3)
+}
+
+/// Compiles files and writes the report, and gives the exit status. All are read first.
+fn compile_files<'a, R: Files, W: Sink, E: Sink>(
+    rt: &R,
+    alloc: Global,
+    paths: &[&'a str],
+    report: Report,
+    out: &mut W,
+    err: &mut E,
+) -> Result<u8, SinkFault>
+    ensures status { IfOk result (λ status. status ≤ 3) }
+    ensures ok { IfOk result (λ status. (printed : List ℕ) × (told : List ℕ) × Gains (W.taken out.old) (W.taken out.new) printed
+        × Gains (E.taken err.old) (E.taken err.new) told × CompilesFiles (map (λ path. path.now) paths.now) report printed told status) }
+    ensures failed { OnErr result (HasFailed (W.failures out.old) (W.failures out.new) ⊎ HasFailed (E.failures err.old) (E.failures err.new)) }
+    ensures out_counted { W.failures out.old ≤ W.failures out.new }
+    ensures err_counted { E.failures err.old ≤ E.failures err.new }
+{
+    let files = match read_files(rt, alloc, paths) {
+        Ok(files) => files,
+        Err(ReadFault::Memory) => return refuse_for_memory(err),
+        Err(ReadFault::Unreadable(path)) => return tell_unreadable(err, path),
+    };
+    let Ok(entries) = entries_of(alloc, files.as_slice()) else {
+        return refuse_for_memory(err);
+    };
+    compile_entries(alloc, entries.as_slice(), report, out, err)
+}
+
+/// Does what is asked of `compile`, and gives the exit status.
+fn answer_compile<R: Files, W: Sink, E: Sink>(
+    rt: &R,
+    alloc: Global,
+    asked: &ArgMatches<'_>,
+    out: &mut W,
+    err: &mut E,
+) -> Result<u8, SinkFault>
+    ensures status { IfOk result (λ status. status ≤ 3) }
+    ensures ok { IfOk result (λ status. (report : Report) × (printed : List ℕ) × (told : List ℕ) × IsReportAsked (rows_of (found_of asked.now)) report
+        × Gains (W.taken out.old) (W.taken out.new) printed × Gains (E.taken err.old) (E.taken err.new) told
+        × CompilesFiles (files_asked (rows_of (found_of asked.now))) report printed told status) }
+    ensures failed { OnErr result (HasFailed (W.failures out.old) (W.failures out.new) ⊎ HasFailed (E.failures err.old) (E.failures err.new)) }
+    ensures out_counted { W.failures out.old ≤ W.failures out.new }
+    ensures err_counted { E.failures err.old ≤ E.failures err.new }
+{
+    let report = if asked.get_flag(VIOLATIONS) {
+        Report::Violations
+    } else {
+        Report::Listing
+    };
+    match asked.get_strs(FILES) {
+        Some(paths) => compile_files(rt, alloc, paths, report, out, err),
+        None => compile_files(rt, alloc, &[], report, out, err),
+    }
+}
+
+fn flush_both<W: Sink, E: Sink>(out: &mut W, err: &mut E) -> Result<(), SinkFault>
+    ensures same_out { W.taken out.new ≡ W.taken out.old }
+    ensures same_err { E.taken err.new ≡ E.taken err.old }
+    ensures ok { OnOk result ((W.flushed out.new ≡ W.taken out.new) × (E.flushed err.new ≡ E.taken err.new)) }
+    ensures failed { OnErr result (HasFailed (W.failures out.old) (W.failures out.new) ⊎ HasFailed (E.failures err.old) (E.failures err.new)) }
+    ensures out_counted { W.failures out.old ≤ W.failures out.new }
+    ensures err_counted { E.failures err.old ≤ E.failures err.new }
+{
+    let out_flushed = out.flush();
+    err.flush()?;
+    out_flushed
+}
+
+/// Flushes what was written in an answer, and gives the exit status, which is 3 where a write failed.
+fn finish<W: Sink, E: Sink>(answered: Result<u8, SinkFault>, out: &mut W, err: &mut E) -> u8
+    ensures same_out { W.taken out.new ≡ W.taken out.old }
+    ensures same_err { E.taken err.new ≡ E.taken err.old }
+    ensures ok { IfOk answered (λ status. (result ≡ status)
+        ⊎ ((result ≡ 3) × (HasFailed (W.failures out.old) (W.failures out.new) ⊎ HasFailed (E.failures err.old) (E.failures err.new)))) }
+    ensures err { OnErr answered (result ≡ 3) }
+    ensures flushed { result ≢ 3 → (W.flushed out.new ≡ W.taken out.new) × (E.flushed err.new ≡ E.taken err.new) }
+    ensures out_counted { W.failures out.old ≤ W.failures out.new }
+    ensures err_counted { E.failures err.old ≤ E.failures err.new }
+{
+    let flushed = flush_both(out, err);
+    match answered {
+        Ok(status) if flushed.is_ok() => status,
+        _ => 3,
+    }
+}
+
+/// Does what the words of a command line ask for, of which the first is the program's name, and gives the exit status.
+pub fn command<R: Files, T: AsStr, S: Source, W: Sink, E: Sink>(
+    rt: &R,
+    alloc: Global,
+    words: &[T],
+    source: &mut S,
+    out: &mut W,
+    err: &mut E,
+) -> u8
+    ensures status { result ≤ 3 }
+    ensures session { AsksSession (map T.text words.now) →
+        (AnswersSession (S.account source.old) (S.account source.new)
+        (record { taken = W.taken out.old; flushed = W.flushed out.old; failures = W.failures out.old })
+        (record { taken = W.taken out.new; flushed = W.flushed out.new; failures = W.failures out.new }) result
+        × (err.new ≡ err.old))
+        ⊎ LacksMemory
+        (record { taken = W.taken out.old; flushed = W.flushed out.old; failures = W.failures out.old })
+        (record { taken = W.taken out.new; flushed = W.flushed out.new; failures = W.failures out.new })
+        (record { taken = E.taken err.old; flushed = E.flushed err.old; failures = E.failures err.old })
+        (record { taken = E.taken err.new; flushed = E.flushed err.new; failures = E.failures err.new }) result }
+    ensures compile { (rows : List Row) → takes program_app (map T.text words.now) ≡ true
+        → subcommand_of program_app (map T.text words.now) ≡ Some (codes "compile", rows) →
+        AnswersCompile rows
+        (record { taken = W.taken out.old; flushed = W.flushed out.old; failures = W.failures out.old })
+        (record { taken = W.taken out.new; flushed = W.flushed out.new; failures = W.failures out.new })
+        (record { taken = E.taken err.old; flushed = E.flushed err.old; failures = E.failures err.old })
+        (record { taken = E.taken err.new; flushed = E.flushed err.new; failures = E.failures err.new }) result
+        ⊎ LacksMemory
+        (record { taken = W.taken out.old; flushed = W.flushed out.old; failures = W.failures out.old })
+        (record { taken = W.taken out.new; flushed = W.flushed out.new; failures = W.failures out.new })
+        (record { taken = E.taken err.old; flushed = E.flushed err.old; failures = E.failures err.old })
+        (record { taken = E.taken err.new; flushed = E.flushed err.new; failures = E.failures err.new }) result }
+    ensures flushed { result ≢ 3 → W.flushed out.new ≡ W.taken out.new }
+    ensures either { (err.new ≡ err.old) ⊎ (source.new ≡ source.old) }
+{
+    let matches = match matches_of(alloc, words) {
+        Ok(matches) => matches,
+        Err(error) => {
+            let told = tell(alloc, &error, out, err);
+            return finish(told, out, err);
+        }
+    };
+    let Some(asked) = matches.subcommand_matches(COMPILE) else {
+        return answer_session(alloc, source, out);
+    };
+    let answered = answer_compile(rt, alloc, asked, out, err);
+    finish(answered, out, err)
 }

@@ -6,6 +6,8 @@ mod ample;
 #[cfg(test)]
 mod asked;
 #[cfg(test)]
+mod at_once;
+#[cfg(test)]
 mod edits;
 #[cfg(test)]
 mod growths;

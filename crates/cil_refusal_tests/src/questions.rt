@@ -64,6 +64,7 @@ fn questions_without_growths(rt: HostRuntime) {
     assert!(&rt; store.entry(0).is_some() && store.disabled(0).is_some());
     assert!(&rt; store.check_install(b"off", 1, 0).is_ok());
     reply::write_modules(&mut sink, store).expect(&rt, "a sink");
+    reply::write_dump(&mut sink, store).expect(&rt, "a sink");
     assert!(&rt; engine.store().active(b"off").is_none() && heap.refused() == 0);
 }
 

@@ -49,6 +49,7 @@ const OTHER_COMMANDS: &[&str] = &[
     "install m 1000 6\nrules\n\n",
     "enable off\n",
     "modules\n",
+    "dump\n",
     "disable base\n",
     "violations\n",
 ];

@@ -68,6 +68,8 @@ impl<'t> Case<'t> {
     fn add(&mut self, rt: &impl Abort, alloc: Global, line: &'t str) {
         if let Some(answer) = line.strip_prefix("= ") {
             self.add_answer(rt, alloc, answer);
+        } else if line == "=" {
+            self.add_answer(rt, alloc, "");
         } else if line.starts_with("// ") {
             self.end_command(rt, alloc);
         } else if self.line.is_none() {
@@ -91,8 +93,8 @@ impl<'t> Case<'t> {
 }
 
 /// Asserts what sessions with empty stores answer. A line `# ..` begins a case and says what it is about, and a line `// ..` says
-/// more. A line `= ..` is one of the answer to the command above it. The other lines are those of commands; an install stands
-/// without its length, with its text behind it.
+/// more. A line `= ..`, or `=` where nothing stands on it, is one of the answer to the command above it. The other lines are those
+/// of commands; an install stands without its length, with its text behind it.
 pub fn assert_cases(rt: &impl Abort, alloc: Global, told: &str) {
     let mut case = Case::new(alloc);
     for line in told.lines() {

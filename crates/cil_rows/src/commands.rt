@@ -27,6 +27,8 @@ const NO_COMMANDS: &[&[u8]] = &[
     b"disable m n\n",
     b"disable \xe9\n",
     b"modules m\n",
+    b"dump m\n",
+    b"dump \n",
     b"install\n",
     b"install m 400\n",
     b"install m 400 0 0\n\n",
@@ -75,8 +77,8 @@ const LINES: &[(&[u8], &str)] = &[
     (b"rules\nviolation\n", "end 0\nscript 2\n"),
     (b"dropped\ndropped \n", "end 0\nscript 2\n"),
     (b"rules\nmodule\n", "end 0\nscript 2\n"),
-    // Commands that are not there yet.
-    (b"rules\ndump\n", "end 0\nscript 2\n"),
+    (b"dump\ndumps\n", "end 0\nscript 2\n"),
+    // A command that is not there yet.
     (b"rules\nbegin\n", "end 0\nscript 2\n"),
 ];
 
@@ -111,6 +113,7 @@ const LAST_LINES: &[(&[u8], &str)] = &[
     (b"dropped", "end 0\n"),
     (b"violations", "end 0\n"),
     (b"modules", "end 0\n"),
+    (b"dump", "end 0\n"),
     (b"rules\nmodules\n", "end 0\nend 0\n"),
     (
         b"install m 400 8\n(type a)\ndisable m\nenable m",

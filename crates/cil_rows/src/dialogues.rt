@@ -1,7 +1,7 @@
 //! Sessions with a peer that sends on only once it has the answers so far.
 
 use crate::answers::{FIRST_SCRIPT, assert_same};
-use cil_program::command_line::answer_command_line;
+use cil_program::command_line::answer_session;
 use cil_program::script::session::{Status, session};
 use cil_store::Plain;
 use cil_stream::{MemorySink, MemorySource, ReaderSource, Sink, WriterSink, write_all};
@@ -211,16 +211,7 @@ fn a_flush_that_fails(rt: HostRuntime) {
     for (flushes, want) in STATUSES {
         let mut source = MemorySource::new(FIRST_SCRIPT);
         let mut sink = WriterSink::new(Clogged { flushes: *flushes });
-        let mut errors = MemorySink::new(rt.alloc());
-        let mut engine = Plain::new(rt.alloc());
-        let status = answer_command_line(
-            rt.alloc(),
-            &["cilsem", "session"],
-            &mut source,
-            &mut sink,
-            &mut errors,
-            &mut engine,
-        );
-        assert_same(&rt, (status, errors.bytes().len()), (*want, 0));
+        let status = answer_session(rt.alloc(), &mut source, &mut sink);
+        assert_same(&rt, status, *want);
     }
 }

@@ -4,6 +4,8 @@
 #[cfg(test)]
 mod answers;
 #[cfg(test)]
+mod at_once;
+#[cfg(test)]
 mod bound;
 #[cfg(test)]
 mod cases;
@@ -15,6 +17,8 @@ mod cuts;
 mod devices;
 #[cfg(test)]
 mod dialogues;
+#[cfg(test)]
+mod dumps;
 #[cfg(test)]
 mod engines;
 #[cfg(test)]

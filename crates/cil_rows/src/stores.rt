@@ -90,6 +90,7 @@ fn entries_stand_in_the_order_of_their_names_and_priorities(rt: HostRuntime) {
 
 // Asserts the disabled names.
 fn assert_disabled(rt: &impl Abort, store: &Store, want: &[&str]) {
+    assert_same(rt, store.disabled_len(), want.len());
     for i in 0..3 {
         let found = store.disabled(i).map(shown);
         assert_same(rt, found, want.get(i).copied());

@@ -33,6 +33,24 @@ filtered-are names test atoms are = record {
   within = All-filter test (IsWithin (length names)) atoms are.within;
 }
 
+-- accesses stay the same where each number is that of its own place
+module _ (numbers : List ℕ) (same : (k : ℕ) → k < length numbers → get_or numbers k 0 ≡ k) where
+  same-access : (a : AccessNumbers) → IsWithin (length numbers) a → renumbered numbers a ≡ a
+  same-access a within = λ i. record {
+    kind = a.kind;
+    source = same a.source within.source i;
+    target = same a.target within.target i;
+    class = same a.class within.the_class i;
+    permission = same a.permission within.permission i;
+  }
+
+  same-each : (atoms : List AccessNumbers) → AllByRecursion (IsWithin (length numbers)) atoms → map (renumbered numbers) atoms ≡ atoms
+  same-each [] within = refl
+  same-each (a ∷ atoms) within = λ i. same-access a within.0 i ∷ same-each atoms within.1 i
+
+  pub same-accesses : (atoms : List AccessNumbers) → All (IsWithin (length numbers)) atoms → map (renumbered numbers) atoms ≡ atoms
+  same-accesses atoms within = same-each atoms (recursion_from_All (IsWithin (length numbers)) atoms within)
+
 module _ (names some : List (List ℕ)) (numbers : List ℕ) (places : ArePlaces names numbers some) where
   pub places-length : length numbers ≡ length some
   places-length = sym (length-map numbers (name_at names)) ∙ ap length places.named

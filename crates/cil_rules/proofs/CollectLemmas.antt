@@ -1,10 +1,13 @@
 -- What is collected, bit by bit, word by word and line by line.
-use Rattle.std.proofs.Common.{◌≡◌, ◌⊎◌, ◌↔◌, ℕ, ◌+◌, ◌*◌, ◌/◌, ◌%◌, ◌<◌, ◌≤◌, ◌^◌, ◌++◌, ◌∷◌, List, [], Some, length, min, slice_get, refl, sym, ap, subst, ◌∙◌, inl, inr, arith}
+use Rattle.std.proofs.Common.{◌≡◌, ◌⊎◌, ◌↔◌, ℕ, ◌+◌, ◌*◌, ◌/◌, ◌%◌, ◌<◌, ◌≤◌, ◌^◌, ◌++◌, ◌∷◌, List, [], Some, length, max, min, slice_get, refl, sym, ap, subst, ◌∙◌, inl, inr, arith, IsPermutation}
+use Rattle.std.specs.Bool.{⊤}
 use Rattle.std.specs.Int.{bit_at}
 use Rattle.std.specs.List.{All}
 use Rattle.std.proofs.lemmas.Bool.{cases_lt}
 use Rattle.std.proofs.lemmas.List.Elements.{All-push}
 use Rattle.std.proofs.lemmas.List.Quantifiers.{Any-push}
+use Rattle.std.proofs.lemmas.List.Sorted.{All-permutation, IsPermutation-sym}
+use Rattle.std.proofs.lemmas.Nat.Bits.{bit_at-zero}
 use Rattle.cil_specs.proofs.ReportLemmasMembers.{any_from, any_to, any-append_cases, any-append_left}
 use Rattle.std.proofs.lemmas.Option.{same_Some, slice_get_within}
 use Rattle.cil_lines.specs.Line.{count_of, Counters, IsNextPresent, IsPresence, NonePresent}
@@ -20,7 +23,12 @@ use Rattle.cil_rules.specs.declared.collect.LineHead.{LineHead}
 use Rattle.cil_accesses.specs.declared.access.AccessNumbers.{AccessNumbers}
 use Rattle.cil_accesses.specs.declared.chunk.Chunk.{Chunk}
 use Rattle.cil_accesses.specs.Chunks.{IsAccessOf, IsGiven}
-use Rattle.cil_rules.specs.Collected.{access_of, chunk_of, head_at, key_of, AreGained, IsCounted, IsMarked, IsShort, IsTo}
+use Rattle.cil_accesses.proofs.Made.{given-moved}
+use Rattle.cil_rules.specs.Collected.{access_of, chunk_of, head_at, key_of, AreGained, AreWithin, IsBetween, IsCounted, IsMarked, IsShort, IsTo}
+
+-- where a count stops
+pub is-end : (end i : ℕ) → end ≤ i → i ≤ end → i ≡ end
+is-end end i low high = omega (arith, low, high)
 
 -- one of two that follow from each other, and a third
 pub alike-trans : {X Y Z : Type 0} → X ↔ Y → Y ↔ Z → X ↔ Z
@@ -60,6 +68,13 @@ gained-alike told other old new gained to from = record {
   short = gained.short;
 }
 
+-- what is gained stays gained in another order
+pub gained-moved : (told : AccessNumbers → Type 0) (old mid new : List Chunk) → AreGained told old mid → IsPermutation mid new → AreGained told old new
+gained-moved told old mid new gained moved = record {
+  are = λ a. (λ h. (gained.are a).0 (given-moved new mid (IsPermutation-sym mid new moved) a h), λ some. given-moved mid new moved a ((gained.are a).1 some));
+  short = λ h. All-permutation IsShort mid new moved (gained.short h);
+}
+
 -- the accesses of a chunk are those to the targets of its mask
 pub gained-chunk : (h : LineHead) (word mask : ℕ) (old : List Chunk) → word < 2 ^ 26 → AreGained (IsTo h (IsMarked word mask)) old (old ++ chunk_of h word mask ∷ [])
 gained-chunk h word mask old low = record { are = λ a. (to a, from a); short = λ all. All-push IsShort old (chunk_of h word mask) all low }
@@ -96,6 +111,25 @@ gained-chunk h word mask old low = record { are = λ a. (to a, from a); short = 
         any_from (λ c. IsAccessOf c a) (old ++ chunk_of h word mask ∷ []) (any-append_left (λ c. IsAccessOf c a) old (chunk_of h word mask ∷ []) (any_to (λ c. IsAccessOf c a) old before))
     from a (inr is) = Any-push (λ c. IsAccessOf c a) old (chunk_of h word mask) (one-of a is)
 
+-- an empty mask has none
+pub gained-no_mask : (h : LineHead) (word mask : ℕ) (old : List Chunk) → mask ≡ 0 → AreGained (IsTo h (IsMarked word mask)) old old
+gained-no_mask h word mask old empty = gained-none (IsTo h (IsMarked word mask)) old none
+  where
+    none : (a : AccessNumbers) → IsTo h (IsMarked word mask) a → ⊥
+    none a (t, (b, low, set, at), same) = let zero = ap (λ m. bit_at m b) empty in omega (arith, set, zero, bit_at-zero b)
+
+-- the targets of the mask of a word are those that are counted
+pub marked-counts : (counts : ℕ → ℕ) (word mask : ℕ) → IsPresence counts word mask → (t : ℕ) → IsMarked word mask t → (t / 64 ≡ word) × (0 < counts t)
+marked-counts counts word mask present t (b, low, set, at) =
+    let one : min 1 (counts t) ≡ 1 = ap (λ k. min 1 (counts k)) at ∙ sym (present b low) ∙ set in
+    (omega (arith, at, low), omega (arith, one))
+
+pub counts-marked : (counts : ℕ → ℕ) (word mask : ℕ) → IsPresence counts word mask → (t : ℕ) → t / 64 ≡ word → 0 < counts t → IsMarked word mask t
+counts-marked counts word mask present t here some =
+    let at : t ≡ 64 * word + t % 64 = omega (arith, here) in
+    let low : t % 64 < 64 = omega arith in
+    (t % 64, low, present (t % 64) low ∙ ap (λ k. min 1 (counts k)) (sym at) ∙ omega (arith, some), at)
+
 -- a target that a line counts, in a word before one
 abbrev pub IsBefore : (ℕ → ℕ) → ℕ → ℕ → Type 0
 IsBefore counts from t = (0 < counts t) × (t / 64 < from)
@@ -121,11 +155,7 @@ words-more h counts from word mask old mid new next present was gained =
           | inr behind ↦
               elim (cases_lt (t / 64) word) [
                 | inl between ↦ let none = next.first t behind between in absurd (omega (arith, none, some))
-                | inr here ↦
-                    let at : t ≡ 64 * word + t % 64 = omega (arith, here, before) in
-                    let low : t % 64 < 64 = omega arith in
-                    let marked : bit_at mask (t % 64) ≡ 1 = present (t % 64) low ∙ ap (λ k. min 1 (counts k)) (sym at) ∙ omega (arith, some) in
-                    inr (t, (t % 64, low, marked, at), same)
+                | inr here ↦ inr (t, counts-marked counts word mask present t (omega (arith, here, before)) some, same)
               ]
         ]
 
@@ -133,9 +163,9 @@ words-more h counts from word mask old mid new next present was gained =
     earlier a (t, (some, before), same) = (t, (some, omega (arith, before, from_on)), same)
 
     here : (a : AccessNumbers) → IsTo h (IsMarked word mask) a → IsTo h (IsBefore counts (word + 1)) a
-    here a (t, (b, low, set, at), same) =
-        let one : min 1 (counts t) ≡ 1 = ap (λ k. min 1 (counts k)) at ∙ sym (present b low) ∙ set in
-        (t, (omega (arith, one), omega (arith, at, low)), same)
+    here a (t, marked, same) =
+        let (at, some) = marked-counts counts word mask present t marked in
+        (t, (some, omega (arith, at)), same)
 
 pub words-all : (h : LineHead) (counts : ℕ → ℕ) (from : ℕ) (old new : List Chunk) → NonePresent counts from → AreGained (IsTo h (IsBefore counts from)) old new → AreGained (IsTo h (λ t. 0 < counts t)) old new
 words-all h counts from old new none was = gained-alike (IsTo h (IsBefore counts from)) (IsTo h (λ t. 0 < counts t)) old new was to back
@@ -150,53 +180,192 @@ words-all h counts from old new none was = gained-alike (IsTo h (IsBefore counts
           | inr behind ↦ absurd (let absent = none t behind in omega (arith, absent, some))
         ]
 
--- an access that one of the first lines counts
-abbrev pub IsAmong : Stored → RuleKind → ℕ → AccessNumbers → Type 0
-IsAmong stored kind i a = (k : ℕ) × (k < i) × (key : LineKey) × (place : ℕ) × (slice_get stored.places k ≡ Some (key, place)) × (t : ℕ) × (0 < counter stored key t) × (a ≡ access_of (head_at kind key) t)
+module _ (stored : Stored) (kind : RuleKind) where
+  -- the same line's access, by other places and targets
+  between-of : (from to : ℕ) (targets : ℕ → Type 0) (from_then to_then : ℕ) (others : ℕ → Type 0) (a : AccessNumbers) (b : IsBetween stored kind from to targets a) → from_then ≤ b.at → b.at < to_then → others a.target
+      → IsBetween stored kind from_then to_then others a
+  between-of from to targets from_then to_then others a b on upto among = record {
+    at = b.at;
+    from_on = on;
+    before = upto;
+    key = b.key;
+    place = b.place;
+    line = b.line;
+    among = among;
+    counted = b.counted;
+    same = b.same;
+  }
 
-pub lines-none : (stored : Stored) (kind : RuleKind) (old : List Chunk) → AreGained (IsAmong stored kind 0) old old
-lines-none stored kind old = gained-none (IsAmong stored kind 0) old none
-  where
-    none : (a : AccessNumbers) → IsAmong stored kind 0 a → ⊥
-    none a (k, low, key, place, at, t, some, same) = omega (arith, low)
+  -- no line stands from a place of the order up to the same
+  pub between-none : (n : ℕ) (targets : ℕ → Type 0) (old : List Chunk) → AreGained (IsBetween stored kind n n targets) old old
+  between-none n targets old = gained-none (IsBetween stored kind n n targets) old none
+    where
+      none : (a : AccessNumbers) → IsBetween stored kind n n targets a → ⊥
+      none a b = omega (arith, b.from_on, b.before)
 
-pub lines-more : (stored : Stored) (kind : RuleKind) (i : ℕ) (key : LineKey) (line : Counters) (h : LineHead) (old mid new : List Chunk) → IsLineAt stored i key line → h ≡ head_at kind key
-    → AreGained (IsAmong stored kind i) old mid → AreGained (IsTo h (λ t. 0 < count_of line t)) mid new → AreGained (IsAmong stored kind (i + 1)) old new
-lines-more stored kind i key line h old mid new is head was gained =
-    gained-more (IsAmong stored kind i) (IsTo h (λ t. 0 < count_of line t)) (IsAmong stored kind (i + 1)) old mid new was gained split earlier here
-  where
-    split : (a : AccessNumbers) → IsAmong stored kind (i + 1) a → IsAmong stored kind i a ⊎ IsTo h (λ t. 0 < count_of line t) a
-    split a (k, low, other, place, at, t, some, same) =
-        elim (cases_lt k i) [
-          | inl before ↦ inl (k, before, other, place, at, t, some, same)
-          | inr behind ↦
-              let one : k ≡ i = omega (arith, low, behind) in
-              let keys : other ≡ key = ap (λ p. p.0) (same_Some (other, place) (key, is.at.0) (sym at ∙ ap (slice_get stored.places) one ∙ is.at.1)) in
-              inr (t, subst (λ n. 0 < n) (ap (λ q. counter stored q t) keys ∙ sym (is.counts t)) some, same ∙ ap (λ q. access_of (head_at kind q) t) keys ∙ ap (λ g. access_of g t) (sym head))
-        ]
+  module _ (from i : ℕ) (targets : ℕ → Type 0) (old : List Chunk) where
+    -- one line more, of which those targets are told that it counts
+    pub between-more : (here : ℕ → Type 0) (key : LineKey) (line : Counters) (h : LineHead) (mid new : List Chunk) → from ≤ i → IsLineAt stored i key line → h ≡ head_at kind key
+        → ((t : ℕ) → here t → targets t × (0 < count_of line t)) → ((t : ℕ) → targets t → 0 < count_of line t → here t)
+        → AreGained (IsBetween stored kind from i targets) old mid → AreGained (IsTo h here) mid new → AreGained (IsBetween stored kind from (i + 1) targets) old new
+    between-more here key line h mid new order is head counted told was gained =
+        gained-more (IsBetween stored kind from i targets) (IsTo h here) (IsBetween stored kind from (i + 1) targets) old mid new was gained split earlier last
+      where
+        split : (a : AccessNumbers) → IsBetween stored kind from (i + 1) targets a → IsBetween stored kind from i targets a ⊎ IsTo h here a
+        split a b =
+            let upto = b.before in
+            elim (cases_lt b.at i) [
+              | inl before ↦ inl (between-of from (i + 1) targets from i targets a b b.from_on before b.among)
+              | inr behind ↦
+                  let one : b.at ≡ i = omega (arith, upto, behind) in
+                  let keys : b.key ≡ key = ap (λ p. p.0) (same_Some (b.key, b.place) (key, is.at.0) (sym b.line ∙ ap (slice_get stored.places) one ∙ is.at.1)) in
+                  inr (
+                    a.target,
+                    told a.target b.among (subst (λ n. 0 < n) (ap (λ q. counter stored q a.target) keys ∙ sym (is.counts a.target)) b.counted),
+                    b.same ∙ ap (λ q. access_of (head_at kind q) a.target) keys ∙ ap (λ g. access_of g a.target) (sym head),
+                  )
+            ]
 
-    earlier : (a : AccessNumbers) → IsAmong stored kind i a → IsAmong stored kind (i + 1) a
-    earlier a (k, low, other, place, at, t, some, same) = (k, omega (arith, low), other, place, at, t, some, same)
+        earlier : (a : AccessNumbers) → IsBetween stored kind from i targets a → IsBetween stored kind from (i + 1) targets a
+        earlier a b = let upto = b.before in between-of from i targets from (i + 1) targets a b b.from_on (omega (arith, upto)) b.among
 
-    here : (a : AccessNumbers) → IsTo h (λ t. 0 < count_of line t) a → IsAmong stored kind (i + 1) a
-    here a (t, some, same) = (i, omega arith, key, is.at.0, is.at.1, t, subst (λ n. 0 < n) (is.counts t) some, same ∙ ap (λ g. access_of g t) head)
+        last : (a : AccessNumbers) → IsTo h here a → IsBetween stored kind from (i + 1) targets a
+        last a (t, marked, same) =
+            let target : a.target ≡ t = ap (λ x. x.target) same in
+            let now : here a.target = subst here (sym target) marked in
+            record {
+              at = i;
+              from_on = order;
+              before = omega arith;
+              key = key;
+              place = is.at.0;
+              line = is.at.1;
+              among = (counted a.target now).0;
+              counted = subst (λ n. 0 < n) (is.counts a.target) (counted a.target now).1;
+              same = same ∙ ap (access_of h) (sym target) ∙ ap (λ g. access_of g a.target) head;
+            }
 
-pub lines-all : {A : Type 0} (tables : Tables A) (kind : RuleKind) (i : ℕ) (old new : List Chunk) → length (lines_of tables kind).places ≤ i
-    → AreGained (IsAmong (lines_of tables kind) kind i) old new → AreGained (IsCounted tables kind) old new
+    -- past the last line there is none
+    pub between-past : (new : List Chunk) → length stored.places ≤ i → AreGained (IsBetween stored kind from i targets) old new → AreGained (IsBetween stored kind from (i + 1) targets) old new
+    between-past new past was = gained-alike (IsBetween stored kind from i targets) (IsBetween stored kind from (i + 1) targets) old new was to back
+      where
+        to : (a : AccessNumbers) → IsBetween stored kind from i targets a → IsBetween stored kind from (i + 1) targets a
+        to a b = let upto = b.before in between-of from i targets from (i + 1) targets a b b.from_on (omega (arith, upto)) b.among
+
+        back : (a : AccessNumbers) → IsBetween stored kind from (i + 1) targets a → IsBetween stored kind from i targets a
+        back a b =
+            let within : b.at < length stored.places = slice_get_within stored.places b.at (b.key, b.place) b.line in
+            between-of from (i + 1) targets from i targets a b b.from_on (omega (arith, within, past)) b.among
+
+  -- those up to one place, and those from it on
+  pub between-join : (from split_at to : ℕ) (targets : ℕ → Type 0) (old mid new : List Chunk) → from ≤ split_at → split_at ≤ to
+      → AreGained (IsBetween stored kind from split_at targets) old mid → AreGained (IsBetween stored kind split_at to targets) mid new → AreGained (IsBetween stored kind from to targets) old new
+  between-join from split_at to targets old mid new below above was gained =
+      gained-more (IsBetween stored kind from split_at targets) (IsBetween stored kind split_at to targets) (IsBetween stored kind from to targets) old mid new was gained split earlier later
+    where
+      split : (a : AccessNumbers) → IsBetween stored kind from to targets a → IsBetween stored kind from split_at targets a ⊎ IsBetween stored kind split_at to targets a
+      split a b =
+          elim (cases_lt b.at split_at) [
+            | inl before ↦ inl (between-of from to targets from split_at targets a b b.from_on before b.among)
+            | inr behind ↦ inr (between-of from to targets split_at to targets a b behind b.before b.among)
+          ]
+
+      earlier : (a : AccessNumbers) → IsBetween stored kind from split_at targets a → IsBetween stored kind from to targets a
+      earlier a b = let upto = b.before in between-of from split_at targets from to targets a b b.from_on (omega (arith, upto, above)) b.among
+
+      later : (a : AccessNumbers) → IsBetween stored kind split_at to targets a → IsBetween stored kind from to targets a
+      later a b = let on = b.from_on in between-of split_at to targets from to targets a b (omega (arith, on, below)) b.before b.among
+
+  module _ (from to : ℕ) (old : List Chunk) where
+    -- the same lines' accesses to other targets
+    between-to : (targets others : ℕ → Type 0) (a : AccessNumbers) (b : IsBetween stored kind from to targets a) → others a.target → IsBetween stored kind from to others a
+    between-to targets others a b among = between-of from to targets from to others a b b.from_on b.before among
+
+    -- no word is before the first
+    pub between-no_words : AreGained (IsBetween stored kind from to (λ t. t / 64 < 0)) old old
+    between-no_words = gained-none (IsBetween stored kind from to (λ t. t / 64 < 0)) old none
+      where
+        none : (a : AccessNumbers) → IsBetween stored kind from to (λ t. t / 64 < 0) a → ⊥
+        none a b = let before = b.among in omega (arith, before)
+
+    -- one word more
+    pub between-word : (word : ℕ) (mid new : List Chunk) → AreGained (IsBetween stored kind from to (λ t. t / 64 < word)) old mid → AreGained (IsBetween stored kind from to (λ t. t / 64 ≡ word)) mid new
+        → AreGained (IsBetween stored kind from to (λ t. t / 64 < word + 1)) old new
+    between-word word mid new was gained =
+        gained-more (IsBetween stored kind from to (λ t. t / 64 < word)) (IsBetween stored kind from to (λ t. t / 64 ≡ word)) (IsBetween stored kind from to (λ t. t / 64 < word + 1)) old mid new was gained split earlier here
+      where
+        split : (a : AccessNumbers) → IsBetween stored kind from to (λ t. t / 64 < word + 1) a → IsBetween stored kind from to (λ t. t / 64 < word) a ⊎ IsBetween stored kind from to (λ t. t / 64 ≡ word) a
+        split a b =
+            let upto : a.target / 64 < word + 1 = b.among in
+            elim (cases_lt (a.target / 64) word) [
+              | inl before ↦ inl (between-to (λ t. t / 64 < word + 1) (λ t. t / 64 < word) a b before)
+              | inr behind ↦ inr (between-to (λ t. t / 64 < word + 1) (λ t. t / 64 ≡ word) a b (omega (arith, upto, behind)))
+            ]
+
+        earlier : (a : AccessNumbers) → IsBetween stored kind from to (λ t. t / 64 < word) a → IsBetween stored kind from to (λ t. t / 64 < word + 1) a
+        earlier a b = let before : a.target / 64 < word = b.among in between-to (λ t. t / 64 < word) (λ t. t / 64 < word + 1) a b (omega (arith, before))
+
+        here : (a : AccessNumbers) → IsBetween stored kind from to (λ t. t / 64 ≡ word) a → IsBetween stored kind from to (λ t. t / 64 < word + 1) a
+        here a b = let is : a.target / 64 ≡ word = b.among in between-to (λ t. t / 64 ≡ word) (λ t. t / 64 < word + 1) a b (omega (arith, is))
+
+    -- all words that have any
+    pub between-words : (words : ℕ) (new : List Chunk) → AreWithin stored from to words → AreGained (IsBetween stored kind from to (λ t. t / 64 < words)) old new → AreGained (IsBetween stored kind from to (λ _. ⊤)) old new
+    between-words words new within was = gained-alike (IsBetween stored kind from to (λ t. t / 64 < words)) (IsBetween stored kind from to (λ _. ⊤)) old new was told back
+      where
+        told : (a : AccessNumbers) → IsBetween stored kind from to (λ t. t / 64 < words) a → IsBetween stored kind from to (λ _. ⊤) a
+        told a b = between-to (λ t. t / 64 < words) (λ _. ⊤) a b tt
+
+        back : (a : AccessNumbers) → IsBetween stored kind from to (λ _. ⊤) a → IsBetween stored kind from to (λ t. t / 64 < words) a
+        back a b =
+            let counted = b.counted in
+            elim (cases_lt (a.target / 64) words) [
+              | inl before ↦ between-to (λ _. ⊤) (λ t. t / 64 < words) a b before
+              | inr behind ↦ absurd (let none = within b.at b.key b.place b.from_on b.before b.line a.target behind in omega (arith, none, counted))
+            ]
+
+-- where words end, for one line more
+pub within-more : (stored : Stored) (from i words end next : ℕ) (key : LineKey) (line : Counters) → AreWithin stored from i words → IsLineAt stored i key line → NonePresent (count_of line) end → next ≡ max end words
+    → AreWithin stored from (i + 1) next
+within-more stored from i words end next key line before is none most k other place on low at t past =
+    elim (cases_lt k i) [
+      | inl earlier ↦ before k other place on earlier at t (omega (arith, most, past))
+      | inr behind ↦
+          let one : k ≡ i = omega (arith, low, behind) in
+          let keys : other ≡ key = ap (λ p. p.0) (same_Some (other, place) (key, is.at.0) (sym at ∙ ap (slice_get stored.places) one ∙ is.at.1)) in
+          ap (λ q. counter stored q t) keys ∙ sym (is.counts t) ∙ none t (omega (arith, most, past))
+    ]
+
+pub within-past : (stored : Stored) (from i words : ℕ) → length stored.places ≤ i → AreWithin stored from i words → AreWithin stored from (i + 1) words
+within-past stored from i words past before k key place on low at =
+    let within : k < length stored.places = slice_get_within stored.places k (key, place) at in
+    before k key place on (omega (arith, within, past)) at
+
+-- all lines of the table of a kind
+pub between-all : {A : Type 0} (tables : Tables A) (kind : RuleKind) (i : ℕ) (old new : List Chunk) → length (lines_of tables kind).places ≤ i
+    → AreGained (IsBetween (lines_of tables kind) kind 0 i (λ _. ⊤)) old new → AreGained (IsCounted tables kind) old new
 unfolding count_now
-lines-all tables kind i old new past was = gained-alike (IsAmong (lines_of tables kind) kind i) (IsCounted tables kind) old new was to from
+between-all tables kind i old new past was = gained-alike (IsBetween (lines_of tables kind) kind 0 i (λ _. ⊤)) (IsCounted tables kind) old new was to from
   where
-    to : (a : AccessNumbers) → IsAmong (lines_of tables kind) kind i a → IsCounted tables kind a
-    to a (k, low, key, place, at, t, some, same) =
-        (ap (λ x. x.kind) same, subst (λ x. 0 < counter (lines_of tables kind) (key_of x) x.target) (sym same) some)
+    to : (a : AccessNumbers) → IsBetween (lines_of tables kind) kind 0 i (λ _. ⊤) a → IsCounted tables kind a
+    to a b =
+        (ap (λ x. x.kind) b.same, subst (λ q. 0 < counter (lines_of tables kind) q a.target) (ap key_of (sym b.same)) b.counted)
 
-    from : (a : AccessNumbers) → IsCounted tables kind a → IsAmong (lines_of tables kind) kind i a
+    from : (a : AccessNumbers) → IsCounted tables kind a → IsBetween (lines_of tables kind) kind 0 i (λ _. ⊤) a
     from a (same, some) =
         let (k, key, place, at, is) = line-of_counter (lines_of tables kind) (key_of a) a.target some in
         let one : key_of a ≡ key = same-key (key_of a) key is in
         let within : k < length (lines_of tables kind).places = slice_get_within (lines_of tables kind).places k (key, place) at in
-        let access : a ≡ access_of (head_at kind key) a.target = λ j. record { kind = same j; source = (one j).source; target = a.target; class = (one j).class; permission = (one j).permission } in
-        (k, omega (arith, within, past), key, place, at, a.target, subst (λ q. 0 < counter (lines_of tables kind) q a.target) one some, access)
+        record {
+          at = k;
+          from_on = omega arith;
+          before = omega (arith, within, past);
+          key = key;
+          place = place;
+          line = at;
+          among = tt;
+          counted = subst (λ q. 0 < counter (lines_of tables kind) q a.target) one some;
+          same = λ j. record { kind = same j; source = (one j).source; target = a.target; class = (one j).class; permission = (one j).permission };
+        }
 
 -- what the tables of the four kinds count
 pub collected : {A : Type 0} (tables : Tables A) (none first second third fourth : List Chunk) → none ≡ [] → AreGained (IsCounted tables Allow) none first → AreGained (IsCounted tables AuditAllow) first second

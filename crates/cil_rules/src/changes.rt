@@ -8,6 +8,7 @@ ghost use Rattle.cil_rules.specs.Atoms.{atom_of, atom_at, AreNumbered};
 use crate::atom::Atom;
 use crate::name_list::NameList;
 use crate::numbers::named;
+use crate::ranked::rank_accesses;
 use crate::ranks::rank;
 use crate::table::Table;
 use cil_accesses::{Accesses, Difference};
@@ -45,13 +46,13 @@ impl<A: Allocator + Copy> Changes<A> {
             return Changes::by(alloc, new.names.shared()?, &old.accesses, &new.accesses);
         }
         let ranks = rank(alloc, old.names.as_slice(), new.names.as_slice())?;
-        let old_accesses = old.accesses.renumbered(alloc, &ranks.first)?;
-        let new_accesses = new.accesses.renumbered(alloc, &ranks.second)?;
+        let old_accesses = rank_accesses(alloc, &old.accesses, &ranks.first)?;
+        let new_accesses = rank_accesses(alloc, &new.accesses, &ranks.second)?;
         Changes::by(
             alloc,
             NameList::of(ranks.names)?,
-            &old_accesses,
-            &new_accesses,
+            old_accesses.as_accesses(),
+            new_accesses.as_accesses(),
         )
     }
 

@@ -37,8 +37,8 @@ fn key_of<A: Allocator>(resolved: &Resolved<A>, access: &Atom<'_>) -> Option<Lin
     let permission = resolved.number(access.permission)?;
     let source = resolved.number(access.source)?;
     Some(LineKey {
+        source,
         class,
         permission,
-        source,
     })
 }

@@ -8,6 +8,7 @@ mod counted;
 mod listing;
 mod name_list;
 mod numbers;
+mod ranked;
 mod ranks;
 mod row;
 mod rows;

@@ -19,7 +19,7 @@ use Rattle.cil_specs.proofs.Runs.{both_true}
 use Rattle.cil_specs.proofs.SearchLemmas.{IsTiedAt, leaves, partitioned, prefix-of-point}
 use Rattle.cil_store_specs.specs.Store.{Entry, entry_cmp, is_entry, put_by}
 use Rattle.cil_store_specs.proofs.PutLemmas.{puts}
-use Rattle.cil_store_specs.proofs.ActiveLemmas.{entry_at}
+use Rattle.cil_store_specs.specs.Store.{entry_at}
 
 -- the place before which the lesser items stand
 pub place-is : {X : Type 0} (cmp : X → X → Ordering) (order : IsTotalOrder cmp) (x : X) (xs : List X) (k : ℕ) → IsStrictlySortedBy cmp xs → k ≤ length xs

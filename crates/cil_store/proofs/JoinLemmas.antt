@@ -14,7 +14,8 @@ use Rattle.std.proofs.lemmas.Slice.Eq.{bytes_eq-Decides}
 use Rattle.cil_specs.specs.Report.{name_cmp, names_rise}
 use Rattle.cil_store_specs.specs.Store.{Entry, Store, IsStore, is_active, is_installed}
 use Rattle.cil_store_specs.specs.Next.{Edit, changed}
-use Rattle.cil_store_specs.proofs.ActiveLemmas.{entry_at, is_disabled_after, is_first_at, disabled-after, highest-at}
+use Rattle.cil_store_specs.specs.Store.{entry_at}
+use Rattle.cil_store_specs.proofs.ActiveLemmas.{is_disabled_after, is_first_at, disabled-after, highest-at}
 use Rattle.cil_store_specs.proofs.StoreOrder.{changed-ordered}
 use Rattle.cil_specs.proofs.ReportLemmas.{name_total, sorted_from_names_rise}
 use Rattle.cil_specs.proofs.ReportLemmasMembers.{AnyByRecursion, contains_to, contains_from}

@@ -1,11 +1,11 @@
 -- The steps of edits that are refused, and what a store means.
-use Rattle.std.proofs.Common.{◌≡◌, inl, inr, ℕ, List, Some, None, Result, Ok, Err, IfErr, refl, ap, sym, ◌∙◌}
+use Rattle.std.proofs.Common.{◌≡◌, inl, inr, ℕ, List, Some, None, Result, Ok, Err, IfErr, refl, ap, sym, ◌∙◌, subst}
 use Rattle.cil_specs.specs.Joined.{Module, joined}
 use Rattle.cil_specs.specs.Meaning.{Means, Meaning}
 use Rattle.cil_specs.specs.Kept.{Optionals, IsFirstFault}
 use Rattle.cil_specs.specs.ModuleText.{IsTextFault}
 use Rattle.cil_store_specs.specs.Store.{Store, active}
-use Rattle.cil_store_specs.specs.Next.{AreModules, IsMeaningOf, Edit, install, Refusal, HasGoodText, changed, store_refusal, by_itself, by_its_text, not_taken, bad_policy}
+use Rattle.cil_store_specs.specs.Next.{AreModules, IsMeaningOf, Edit, install, Refusal, HasGoodText, IsTaken, changed, store_refusal, by_itself, by_its_text, not_taken, bad_policy}
 use Rattle.cil_store_specs.specs.Run.{an_edit, refused, rejected, out_of_memory, Step}
 use Rattle.cil_text.specs.Image.{FaultIs, kind_of, place_of, shown}
 use Rattle.cil_text.specs.declared.fault.TextFault.{TextFault}
@@ -14,7 +14,7 @@ use Rattle.cil_check.specs.Image.{PolicyFaultIs}
 use Rattle.cil_check.specs.declared.fault.PolicyFault.{PolicyFault}
 use Rattle.cil_check.specs.declared.fault.PolicyFault.TheVariants.{Memory, Found}
 use Rattle.cil_store.specs.Admitted.{admitted_edit, IsAdmitted}
-use Rattle.cil_store.specs.Refusing.{IsRefusalOf, IsRefusalOfText, IsRefusalOfPolicy, IsRefusedText, IsRefusedPolicy}
+use Rattle.cil_store.specs.Refusing.{IsRefusalOf, IsRefusalOfText, IsRefusalOfPolicy, IsRefusedEdit, IsRefusedText, IsRefusedPolicy}
 use Rattle.cil_store.specs.Edits.{refusal_of}
 use Rattle.cil_store.specs.declared.refusal.Refusal as code
 use Rattle.cil_store.specs.declared.admitted.Admitted.{Admitted}
@@ -27,6 +27,12 @@ admitted-text (Remove name priority) is = tt
 admitted-text (Enable name) is = tt
 admitted-text (Disable name) is = tt
 
+-- and it is taken, as what it is made of
+pub admitted-taken : {A : Type 0} (store new : Store) (admitted : Admitted A) (edit other : Edit) → IsAdmitted admitted → admitted_edit admitted ≡ edit → edit ≡ other → store_refusal store edit ≡ None
+    → new ≡ changed store (admitted_edit admitted) → IsTaken store other new
+admitted-taken store new admitted edit other is same also taken made =
+    subst (λ e. IsTaken store e new) (same ∙ also) (record { not_refused = subst (λ e. store_refusal store e ≡ None) (sym same) taken; good_text = admitted-text admitted is; is = made })
+
 pub policy-refused : (fault : PolicyFault) (refusal : Refusal) (store : Store) (edit : Edit) (modules : List Module) → AreModules (active (changed store edit)) modules → PolicyFaultIs fault (IsFirstFault (joined modules))
     → IsRefusalOfPolicy fault refusal → IsRefusedPolicy store edit refusal
 policy-refused Memory refusal store edit modules are first is = inl is
@@ -38,9 +44,9 @@ pub store-meaning : (store : Store) (modules : List Module) (meaning : Meaning) 
 store-meaning store modules meaning are means = record { policy = joined modules; kept = means.0; is_policy = (modules, are, refl); means = means.1 }
 
 -- an edit that the store refuses
-pub store-step : (store : Store) (edit : Edit) (refusal meant : Refusal) → store_refusal store edit ≡ Some meant → IsRefusalOf refusal meant → Step store (an_edit edit) (refused refusal) store
-store-step store edit refusal meant is (inl memory) = out_of_memory (ap refused memory) refl
-store-step store edit refusal meant is (inr same) = rejected edit refusal refl refl (not_taken refusal (by_itself (is ∙ ap Some (sym same))) refl) refl
+pub store-refused : (store : Store) (edit : Edit) (refusal meant : Refusal) → store_refusal store edit ≡ Some meant → IsRefusalOf refusal meant → IsRefusedEdit store edit refusal
+store-refused store edit refusal meant is (inl memory) = inl memory
+store-refused store edit refusal meant is (inr same) = inr (by_itself (is ∙ ap Some (sym same)))
 
 -- a refusal for the fault of a text
 pub text-refused : (name text : List ℕ) (priority : ℕ) (fault : TextFault) (refusal : Refusal) → FaultIs fault (IsTextFault text) → IsRefusalOfText fault name refusal → IsRefusedText (install name priority text) refusal
@@ -49,14 +55,16 @@ text-refused name text priority (texts.Found kind at word) refusal bad (inl is) 
 text-refused name text priority (texts.Found kind at word) refusal bad (inr is) = inr (record { kind = kind_of kind; at = place_of at; word = shown word }, bad, is)
 
 -- an edit that is refused for its text
-pub text-step : (store : Store) (edit : Edit) (refusal : Refusal) → store_refusal store edit ≡ None → IsRefusedText edit refusal → Step store (an_edit edit) (refused refusal) store
-text-step store edit refusal taken (inl is) = out_of_memory (ap refused is) refl
-text-step store edit refusal taken (inr is) = rejected edit refusal refl refl (not_taken refusal (by_its_text taken is) refl) refl
+pub edit-refused : {A T : Type 0} (r : Result T (code.Refusal A)) (store : Store) (edit : Edit) → store_refusal store edit ≡ None → IfErr r (λ refusal. IsRefusedText edit (refusal_of refusal))
+    → IfErr r (λ refusal. IsRefusedEdit store edit (refusal_of refusal))
+edit-refused (Ok x) store edit taken is = tt
+edit-refused (Err refusal) store edit taken (inl memory) = inl memory
+edit-refused (Err refusal) store edit taken (inr is) = inr (by_its_text taken is)
 
-pub text-steps : {A T : Type 0} (r : Result T (code.Refusal A)) (store : Store) (edit : Edit) → store_refusal store edit ≡ None → IfErr r (λ refusal. IsRefusedText edit (refusal_of refusal))
-    → IfErr r (λ refusal. Step store (an_edit edit) (refused (refusal_of refusal)) store)
-text-steps (Ok x) store edit taken is = tt
-text-steps (Err refusal) store edit taken is = text-step store edit (refusal_of refusal) taken is
+-- the step of an edit that is not taken
+pub refused-step : (store : Store) (edit : Edit) (refusal : Refusal) → IsRefusedEdit store edit refusal → Step store (an_edit edit) (refused refusal) store
+refused-step store edit refusal (inl memory) = out_of_memory (ap refused memory) refl
+refused-step store edit refusal (inr is) = rejected edit refusal refl refl (not_taken refusal is refl) refl
 
 -- an edit that is refused for the policy
 pub policy-step : (store : Store) (edit : Edit) (refusal : Refusal) → store_refusal store edit ≡ None → HasGoodText edit → IsRefusedPolicy store edit refusal → Step store (an_edit edit) (refused refusal) store

@@ -2,10 +2,9 @@
 
 ghost use Rattle.std.specs.Prelude.{◌≡◌, ◌≤◌, None, length, IfErr, IfOk, OnOk};
 ghost use Rattle.cil_store_specs.specs.Next.{install, store_refusal};
-ghost use Rattle.cil_store_specs.specs.Run.{an_edit, refused, Step};
 ghost use Rattle.cil_store.specs.Admitted.{admitted_edit, IsAdmitted};
 ghost use Rattle.cil_store.specs.Edits.{edit_of, refusal_of};
-ghost use Rattle.cil_store.specs.Refusing.{IsRefusedText};
+ghost use Rattle.cil_store.specs.Refusing.{IsRefusedEdit, IsRefusedText};
 
 use crate::edit::Edit;
 use crate::entry::Entry;
@@ -57,7 +56,7 @@ pub fn admit<'e, A: Allocator + Copy>(
 ) -> Result<Admitted<'e, A>, Refusal<A>>
     ensures taken { OnOk result (store_refusal store.now (edit_of edit.entry) ≡ None) }
     ensures ok { IfOk result (λ admitted. IsAdmitted admitted × (admitted_edit admitted ≡ edit_of edit.entry)) }
-    ensures err { IfErr result (λ refusal. Step store.now (an_edit (edit_of edit.entry)) (refused (refusal_of refusal)) store.now) }
+    ensures err { IfErr result (λ refusal. IsRefusedEdit store.now (edit_of edit.entry) (refusal_of refusal)) }
 {
     if let Err(fault) = store.check(edit) {
         return Err(refuse_edit(alloc, fault, edit.name(), edit.priority()));

@@ -39,6 +39,12 @@ impl<A: Allocator> Disabled<A> {
         }
     }
 
+    pub fn len(&self) -> usize
+        ensures { result ≡ length self.now }
+    {
+        self.names.len()
+    }
+
     /// The name at a place of the order.
     pub fn get(&self, i: usize) -> Option<&[u8]>
         ensures { option_map (λ name. name.now) result ≡ slice_get self.now i }

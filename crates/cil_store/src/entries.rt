@@ -6,7 +6,7 @@ ghost use Rattle.std.specs.Ordering.{is_lt};
 ghost use Rattle.cil_parse.specs.Parsed.{IsParsed};
 ghost use Rattle.cil_store_specs.specs.Store.{entry_cmp, has_entry, has_room, is_installed, put, text_bytes, without};
 ghost use Rattle.cil_specs.proofs.SearchLemmas.{IsTiedAt};
-ghost use Rattle.cil_store_specs.proofs.ActiveLemmas.{entry_at};
+ghost use Rattle.cil_store_specs.specs.Store.{entry_at};
 ghost use Rattle.cil_store.specs.Stored.{entry_for, entry_of};
 
 use crate::entry::{Entry, StoredEntry};

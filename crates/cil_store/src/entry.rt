@@ -4,8 +4,9 @@ ghost use Rattle.std.specs.Prelude.{◌≡◌, IfOk, bytes_eq, length};
 ghost use Rattle.std.specs.Ordering.{is_lt};
 ghost use Rattle.cil_parse.specs.Parsed.{IsParsed};
 ghost use Rattle.cil_store_specs.specs.Store.{entry_cmp, is_entry};
-ghost use Rattle.cil_store_specs.proofs.ActiveLemmas.{entry_at};
+ghost use Rattle.cil_store_specs.specs.Store.{entry_at};
 
+use crate::edit::Edit;
 use cil_parse::ParsedModule;
 use cil_resolve::{NamedModule, Text};
 use std::alloc::{AllocError, Allocator, Global};
@@ -17,6 +18,23 @@ pub struct Entry<'a> {
     pub name: &'a [u8],
     pub priority: u32,
     pub text: &'a [u8],
+}
+
+impl<'a> Entry<'a> {
+    ghost use Rattle.cil_store_specs.specs.Next.{install_of};
+    ghost use Rattle.cil_store.specs.Edits.{edit_of};
+    ghost use Rattle.cil_store.specs.Stored.{entry_of};
+
+    /// The edit that installs it.
+    pub fn as_install(self) -> Edit<'a>
+        ensures { edit_of result ≡ install_of (entry_of self.entry) }
+    {
+        Edit::Install {
+            name: self.name,
+            priority: self.priority,
+            text: self.text,
+        }
+    }
 }
 
 /// A module's text under its name and priority, with the parsed module of the text.

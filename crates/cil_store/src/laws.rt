@@ -1,12 +1,16 @@
 //! Laws of the definitions, which make the contracts of engines exact. They have no code.
 
-ghost use Rattle.std.specs.Prelude.{◌≡◌, [], List, IsTrue};
+ghost use Rattle.std.specs.Prelude.{◌≡◌, [], ℕ, List, map, true, IsTrue};
 ghost use Rattle.std.specs.List.{list_all};
 ghost use Rattle.cil_specs.specs.Joined.{Placed};
 ghost use Rattle.cil_specs.specs.Kept.{AreApart};
 ghost use Rattle.cil_specs.specs.Meaning.{Meaning, meaning_of};
-ghost use Rattle.cil_store_specs.specs.Next.{Edit, Refusal, Judgement, IsMeaningOf, IsPolicyOf, IsPolicyRefusal, IsTaken, Next};
-ghost use Rattle.cil_store_specs.specs.Run.{Call, Reply, Run, is_answered};
+ghost use Rattle.cil_specs.specs.Report.{Changes};
+ghost use Rattle.cil_store_specs.specs.Limits.{IsWithinLimits, HasGoodTexts};
+ghost use Rattle.cil_store_specs.specs.Next.{Edit, Refusal, Judgement, IsMeaningOf, IsPolicyOf, IsPolicyRefusal, IsTaken, accepts, Next, NextOfAll};
+ghost use Rattle.cil_store_specs.specs.Run.{Call, an_edit, Reply, changed_by, Run, is_answered};
+ghost use Rattle.cil_store_specs.specs.Script.{Command, makes, Commands, End, ends, dump_edits, dump_text};
+ghost use Rattle.cil_store_specs.specs.Session.{IsSession, all_accepted};
 ghost use Rattle.cil_store_specs.specs.Store.{Store, IsStore, empty};
 
 /// A store in which no module stands is in order, and edits and runs of calls lead from one in order to another.
@@ -14,6 +18,20 @@ pub fn stores_are_in_order()
     ensures empty { IsStore empty }
     ensures taken { (old new : Store) (edit : Edit) → IsStore old → IsTaken old edit new → IsStore new }
     ensures run { (old new : Store) (calls : List Call) (replies : List Reply) → IsStore old → Run old calls replies new → IsStore new }
+{}
+
+/// A store in which no module stands is within the limits, and edits and runs of calls lead from one within them to another.
+pub fn stores_are_within_limits()
+    ensures empty { IsWithinLimits empty }
+    ensures taken { (old new : Store) (edit : Edit) → IsWithinLimits old → IsTaken old edit new → IsWithinLimits new }
+    ensures run { (old new : Store) (calls : List Call) (replies : List Reply) → IsWithinLimits old → Run old calls replies new → IsWithinLimits new }
+{}
+
+/// Each text of a store spells a module, also one that isn't compiled: edits and runs of calls keep it so.
+pub fn texts_spell_modules()
+    ensures empty { HasGoodTexts empty }
+    ensures taken { (old new : Store) (edit : Edit) → HasGoodTexts old → IsTaken old edit new → HasGoodTexts new }
+    ensures run { (old new : Store) (calls : List Call) (replies : List Reply) → HasGoodTexts old → Run old calls replies new → HasGoodTexts new }
 {}
 
 /// A store in which no module stands means what no statements do, and a run leads from a store that means something to one that
@@ -50,8 +68,30 @@ pub fn one_judgement()
     ensures { (store : Store) (edit : Edit) (judgement other : Judgement) → IsStore store → Next store edit judgement → Next store edit other → judgement ≡ other }
 {}
 
+/// Edits that are made at once on a store in order have at most one judgement.
+pub fn one_judgement_at_once()
+    ensures { (store : Store) (edits : List Edit) (judgement other : Judgement) → IsStore store → NextOfAll store edits judgement → NextOfAll store edits other → judgement ≡ other }
+{}
+
 /// Two runs of the same calls from a store in order, in which no reply is out of memory, agree in every reply and in the store.
 pub fn one_run()
     ensures { (old new other : Store) (calls : List Call) (replies others : List Reply) → IsStore old → Run old calls replies new → Run old calls others other
         → IsTrue (list_all is_answered replies) → IsTrue (list_all is_answered others) → (replies ≡ others) × (new ≡ other) }
+{}
+
+/// The edits of a dump lead from a store in which no module stands to the one that was dumped: where all of them are accepted one
+/// after another, in a run or in a session over the dump; and where they are made at once, which a store that means something
+/// accepts.
+pub fn dumps_are_faithful()
+    ensures run { (store new : Store) (changes : List Changes) → IsStore store → Run empty (map an_edit (dump_edits store)) (map changed_by changes) new → new ≡ store }
+    ensures session { (store new : Store) (written : List ℕ) → IsStore store → IsWithinLimits store → IsSession (dump_text store) true empty new written all_accepted → new ≡ store }
+    ensures at_once { (store : Store) (meaning : Meaning) → IsStore store → IsWithinLimits store → HasGoodTexts store → IsMeaningOf store meaning
+        → NextOfAll empty (dump_edits store) (accepts store) }
+{}
+
+/// The dump of a store within the limits is a script of the edits of the dump, and of nothing else.
+pub fn dumps_are_scripts()
+    ensures commands { (store : Store) → IsWithinLimits store → Commands (dump_text store) (map makes (dump_edits store)) ends }
+    ensures alone { (store : Store) (commands : List Command) (end : End) → IsWithinLimits store → Commands (dump_text store) commands end
+        → (commands ≡ map makes (dump_edits store)) × (end ≡ ends) }
 {}

@@ -9,6 +9,7 @@ mod dropped;
 mod edit;
 mod entries;
 mod entry;
+mod install;
 mod join;
 mod laws;
 mod modules;

@@ -7,7 +7,8 @@ ghost use Rattle.cil_store_specs.specs.StoreReport.{is_disabled, state_word};
 ghost use Rattle.cil_store.specs.Edits.{edit_of, name_of, priority_of, store_refusal_of};
 ghost use Rattle.cil_store.specs.Admitted.{admitted_edit, IsAdmitted};
 ghost use Rattle.cil_store.specs.States.{word_of};
-ghost use Rattle.cil_store_specs.proofs.ActiveLemmas.{entry_at, is_first_at};
+ghost use Rattle.cil_store_specs.specs.Store.{entry_at};
+ghost use Rattle.cil_store_specs.proofs.ActiveLemmas.{is_first_at};
 ghost use Rattle.cil_store.specs.Stored.{entry_of};
 
 use crate::admitted::Admitted;
@@ -90,6 +91,13 @@ impl<A: Allocator> Store<A> {
         ensures { option_map (λ name. name.now) result ≡ slice_get self.now.disabled i }
     {
         self.disabled.get(i)
+    }
+
+    /// How many names are disabled.
+    pub fn disabled_len(&self) -> usize
+        ensures { result ≡ length self.now.disabled }
+    {
+        self.disabled.len()
     }
 
     /// Whether a name is disabled. There may be such a name only where something of it is installed.

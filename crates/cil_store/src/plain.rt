@@ -1,24 +1,25 @@
 //! The plain engine, which compiles its store anew at each edit.
 
-ghost use Rattle.std.specs.Prelude.{◌≡◌, Bool, None, Some, IfOk, IfErr, OnOk, OnErr};
+ghost use Rattle.std.specs.Prelude.{◌≡◌, Some, IfOk, IfErr, OnOk, OnErr, map};
 ghost use Rattle.std.specs.Rc.{rc_value};
-ghost use Rattle.cil_store_specs.specs.Next.{changed, store_refusal};
-ghost use Rattle.cil_store_specs.specs.Run.{Step, an_edit, changed_by};
+ghost use Rattle.cil_store_specs.specs.Next.{Of, accepts, changed};
 ghost use Rattle.cil_store_specs.specs.Store.{empty};
-ghost use Rattle.cil_specs.specs.Rule.{Atom as access};
 ghost use Rattle.cil_specs.specs.Meaning.{is_in_table};
-ghost use Rattle.cil_specs.specs.Report.{AreAtoms, AreChanges};
+ghost use Rattle.cil_specs.specs.Report.{AreAtoms};
 ghost use Rattle.cil_resolve.specs.Resolved.{meaning_in};
 ghost use Rattle.cil_store.specs.Admitted.{admitted_edit, IsAdmitted};
 ghost use Rattle.cil_store.specs.Edits.{refusal_of};
 ghost use Rattle.cil_store.specs.Plain.{IsCompiledTo};
 ghost use Rattle.cil_store.specs.Policy.{policy_meaning};
-ghost use Rattle.cil_store.specs.Refusing.{IsRefusedPolicy};
+ghost use Rattle.cil_store.specs.Refusing.{AreRefused, IsRefusedPolicy};
+ghost use Rattle.cil_store.specs.Stored.{entry_of};
 
 use crate::admitted::{Admitted, admit};
 use crate::compiled::{Compiled, WriteFault};
 use crate::dropped::Dropped;
 use crate::edit::Edit;
+use crate::entry::Entry;
+use crate::install::install_all;
 use crate::join::join;
 use crate::modules::Store;
 use crate::policy::Policy;
@@ -31,36 +32,47 @@ use cil_violations::Violations;
 use std::alloc::{AllocError, Allocator, Global};
 use std::marker::Model;
 
-/// What a changed store compiles to, and how its table differs from the one before.
+/// What a store compiles to.
 #[derive(Drop)]
 struct Made<A: Allocator> {
     policy: Policy<A>,
     table: Table<A>,
     dropped: Dropped<A>,
-    changes: Changes<A>,
 }
 
-/// A policy with its table and the optionals that drop, and how the table differs from another.
-fn tabulate<A: Allocator + Copy>(
-    alloc: A,
-    old: &Table<A>,
-    resolved: Resolved<A>,
-) -> Result<Made<A>, AllocError>
+/// A policy with its table and the optionals that drop.
+fn tabulate<A: Allocator + Copy>(alloc: A, resolved: Resolved<A>) -> Result<Made<A>, AllocError>
     ensures policy { IfOk result (λ made. policy_meaning made.policy ≡ meaning_in resolved) }
     ensures table { IfOk result (λ made. AreAtoms (is_in_table (policy_meaning made.policy)) made.table) }
     ensures dropped { IfOk result (λ made. made.dropped ≡ (policy_meaning made.policy).dropped) }
-    ensures changes { IfOk result (λ made. (p q : access → Bool) → AreAtoms p old.now → AreAtoms q made.table → AreChanges p q made.changes) }
 {
     let policy = Policy::of(alloc, resolved)?;
     let dropped = policy.dropped(alloc)?;
     let table = policy.table(alloc)?;
-    let changes = Changes::between(alloc, old, &table)?;
     Ok(Made {
         policy,
         table,
         dropped,
-        changes,
     })
+}
+
+/// What a store compiles to after an edit.
+fn compile<A: Allocator + Copy>(
+    alloc: A,
+    store: &Store<A>,
+    edit: &Admitted<'_, A>,
+) -> Result<Made<A>, Refusal<A>>
+    requires { IsAdmitted edit.now }
+    ensures ok { IfOk result (λ made. IsCompiledTo (changed store.now (admitted_edit edit.now)) (Some made.policy) made.table made.dropped) }
+    ensures err { IfErr result (λ refusal. IsRefusedPolicy store.now (admitted_edit edit.now) (refusal_of refusal)) }
+{
+    let joined = join(alloc, store, edit)?;
+    let resolved = match resolve(alloc, &joined) {
+        Ok(resolved) => resolved,
+        Err(fault) => return Err(refuse_policy(alloc, fault)),
+    };
+    let made = tabulate(alloc, resolved)?;
+    Ok(made)
 }
 
 /// A store and what it compiles to: its policy, which a new store has none of, the table of its accesses, and the optionals
@@ -100,36 +112,39 @@ impl<A: Allocator + Copy> Plain<A> {
         }
     }
 
-    /// What the store compiles to after an edit.
-    fn compile(&self, edit: &Admitted<'_, A>) -> Result<Made<A>, Refusal<A>>
-        requires { IsAdmitted edit.now }
-        ensures ok { IfOk result (λ made. IsCompiledTo (changed self.now (admitted_edit edit.now)) (Some made.policy) made.table made.dropped) }
-        ensures changes { IfOk result (λ made. store_refusal self.now (admitted_edit edit.now) ≡ None
-            → Step self.now (an_edit (admitted_edit edit.now)) (changed_by made.changes) (changed self.now (admitted_edit edit.now))) }
-        ensures err { IfErr result (λ refusal. IsRefusedPolicy self.now (admitted_edit edit.now) (refusal_of refusal)) }
+    /// Compiles a list of entries at once: each is installed in turn in an empty store, and the policy is judged once, at the end.
+    pub fn of(alloc: A, entries: &[Entry<'_>]) -> Result<Self, Refusal<A>>
+        ensures ok { IfOk result (λ plain. Of (map entry_of entries.now) (accepts plain)) }
+        ensures err { IfErr result (λ refusal. AreRefused (map entry_of entries.now) (refusal_of refusal)) }
     {
-        let joined = join(self.alloc, &self.store, edit)?;
-        let resolved = match resolve(self.alloc, &joined) {
-            Ok(resolved) => resolved,
-            Err(fault) => return Err(refuse_policy(self.alloc, fault)),
+        let Some((last, before)) = entries.split_last() else {
+            return Ok(Plain::new(alloc));
         };
-        let made = tabulate(self.alloc, &self.table, resolved)?;
-        Ok(made)
+        let mut store = install_all(alloc, before)?;
+        let admitted = admit(alloc, &store, last.as_install())?;
+        let made = compile(alloc, &store, &admitted)?;
+        store.make(alloc, admitted)?;
+        Ok(Plain {
+            alloc,
+            store,
+            policy: Some(made.policy),
+            table: made.table,
+            dropped: made.dropped,
+        })
     }
 
     /// Makes an edit, and puts what the store compiles to after it in place.
-    fn replace(&mut self, edit: Admitted<'_, A>, made: Made<A>) -> Result<Changes<A>, AllocError>
+    fn replace(&mut self, edit: Admitted<'_, A>, made: Made<A>) -> Result<(), AllocError>
         requires admitted { IsAdmitted edit }
         requires made { IsCompiledTo (changed self.old (admitted_edit edit)) (Some made.policy) made.table made.dropped }
         ensures ok { OnOk result (self.new ≡ changed self.old (admitted_edit edit.entry)) }
-        ensures changes { IfOk result (λ changes. changes ≡ made.changes) }
         ensures err { OnErr result (self.new ≡ self.old) }
     {
         self.store.make(self.alloc, edit)?;
         self.policy = Some(made.policy);
         self.table = made.table;
         self.dropped = made.dropped;
-        Ok(made.changes)
+        Ok(())
     }
 }
 
@@ -156,8 +171,9 @@ impl<A: Allocator + Copy> Compiled<A> for Plain<A> {
 
     fn edit(&mut self, edit: Edit<'_>) -> Result<Changes<A>, Refusal<A>> {
         let admitted = admit(self.alloc, &self.store, edit)?;
-        let made = self.compile(&admitted)?;
-        let changes = self.replace(admitted, made)?;
+        let made = compile(self.alloc, &self.store, &admitted)?;
+        let changes = Changes::between(self.alloc, &self.table, &made.table)?;
+        self.replace(admitted, made)?;
         Ok(changes)
     }
 

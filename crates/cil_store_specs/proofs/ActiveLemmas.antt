@@ -18,15 +18,11 @@ use Rattle.cil_specs.proofs.NamesLemmas.{all-weaker, contains-first, contains-ot
 use Rattle.cil_specs.proofs.FaultWords.{contains-filtered}
 use Rattle.cil_specs.proofs.SearchLemmas.{ascends-at, less-or-same}
 use Rattle.cil_specs.proofs.Runs.{both_true, first_true, second_true}
-use Rattle.cil_store_specs.specs.Store.{Entry, Store, entry_cmp, is_highest, active, active_text, is_installed, put_name, without, without_name}
+use Rattle.cil_store_specs.specs.Store.{entry_at, Entry, Store, entry_cmp, is_highest, active, active_text, is_installed, put_name, without, without_name}
 use Rattle.cil_store_specs.specs.StoreReport.{is_disabled}
 use Rattle.cil_store_specs.specs.Next.{Edit, install, remove, enable, disable, changed}
 use Rattle.cil_store_specs.proofs.OneFault.{highest-of}
 use Rattle.cil_store_specs.proofs.StoreOrder.{entry_total}
-
--- an entry of a name and a priority, whose text doesn't matter
-abbrev pub entry_at : List ℕ → ℕ → Entry
-entry_at name priority = record { name = name; priority = priority; text = [] }
 
 -- whether the entry at a place is the first of its name
 abbrev pub is_first_at : List Entry → ℕ → Bool

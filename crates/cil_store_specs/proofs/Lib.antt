@@ -2,10 +2,16 @@ pub mod PolicyOf
 pub mod OneFault
 pub mod OneStore
 pub mod StoreOrder
+pub mod TakenLemmas
 pub mod RunLemmas
+pub mod LimitLemmas
 pub mod PutLemmas
 pub mod ActiveLemmas
 pub mod WordLemmas
 pub mod LineLemmas
 pub mod OneScript
 pub mod OneRun
+pub mod DumpLemmas
+pub mod DumpScript
+pub mod OneAtOnce
+pub mod DumpAtOnce

@@ -159,17 +159,17 @@ some-none r o a b = true≢false (ap is_some (sym a ∙ b))
 refusal-same : (o : Option Refusal) (r s : Refusal) → o ≡ Some r → o ≡ Some s → r ≡ s
 refusal-same o r s a b = cc (sym a ∙ b)
 
-not-taken-same : (store : Store) (edit : Edit) (r s : Refusal) → IsNotTaken store edit r → IsNotTaken store edit s → r ≡ s
+pub not-taken-same : (store : Store) (edit : Edit) (r s : Refusal) → IsNotTaken store edit r → IsNotTaken store edit s → r ≡ s
 not-taken-same store edit r s (by_itself a) (by_itself b) = refusal-same (store_refusal store edit) r s a b
 not-taken-same store edit r s (by_itself a) (by_its_text none b) = absurd (some-none r (store_refusal store edit) a none)
 not-taken-same store edit r s (by_its_text none a) (by_itself b) = absurd (some-none s (store_refusal store edit) b none)
 not-taken-same store edit r s (by_its_text none a) (by_its_text other b) = text-refusal-same edit r s a b
 
-taken-or-not : (store new : Store) (edit : Edit) (r : Refusal) → IsTaken store edit new → IsNotTaken store edit r → ⊥
+pub taken-or-not : (store new : Store) (edit : Edit) (r : Refusal) → IsTaken store edit new → IsNotTaken store edit r → ⊥
 taken-or-not store new edit r taken (by_itself a) = some-none r (store_refusal store edit) a taken.not_refused
 taken-or-not store new edit r taken (by_its_text none a) = no-good-text edit r taken.good_text a
 
-taken-same : (store new other : Store) (edit : Edit) → IsTaken store edit new → IsTaken store edit other → new ≡ other
+pub taken-same : (store new other : Store) (edit : Edit) → IsTaken store edit new → IsTaken store edit other → new ≡ other
 taken-same store new other edit a b = a.is ∙ sym b.is
 
 -- What is judged of an edit of a store in order is one.

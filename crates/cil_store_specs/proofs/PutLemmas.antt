@@ -1,13 +1,14 @@
 -- Lists in an order: where an item is put in, and what is left without it.
-use Rattle.std.proofs.Common.{◌≡◌, ℕ, suc, cond, Bool, true, false, List, [], ◌∷◌, ◌++◌, filter, take, drop, refl, sym, ap, ◌∙◌, subst}
+use Rattle.std.proofs.Common.{◌≡◌, suc, cond, Bool, true, false, List, [], ◌∷◌, ◌++◌, filter, take, drop, fold, refl, sym, ap, ◌∙◌, subst, append_assoc}
 use Rattle.std.specs.Cmp.{IsTotalOrder}
 use Rattle.std.specs.List.{insert, AllByRecursion}
 use Rattle.std.specs.List.Sorted.{IsStrictlySortedBy}
 use Rattle.std.specs.Ordering.{is_lt}
 use Rattle.std.specs.declared.cmp.Ordering.{Ordering}
 use Rattle.std.specs.declared.cmp.Ordering.TheVariants.{Less, Equal, Greater}
+use Rattle.std.proofs.lemmas.List.{append-nil}
 use Rattle.std.proofs.lemmas.List.Kept.{IsStrictlySortedBy-filter}
-use Rattle.cil_specs.proofs.NamesLemmas.{all-weaker, all-append}
+use Rattle.cil_specs.proofs.NamesLemmas.{all-weaker, all-append, all-second}
 use Rattle.cil_specs.proofs.SearchLemmas.{IsTiedAt, less-is, place, AllBehind, reversed, behind-same, behind-greater, keep, skip, none-before, all-after, place-later, place-here}
 use Rattle.cil_store_specs.specs.Store.{put_by}
 
@@ -22,6 +23,11 @@ module _ {X : Type 0} (cmp : X → X → Ordering) (order : IsTotalOrder cmp) wh
 
   put-later : (x y : X) (xs : List X) → cmp y x ≡ Less → put_by cmp x (y ∷ xs) ≡ y ∷ put_by cmp x xs
   put-later x y xs less = λ i. keep cmp order (λ z. is_lt (cmp z x)) y xs (ap is_lt less) i ++ x ∷ skip cmp order (λ z. is_lt (cmp x z)) y xs (ap is_lt (reversed cmp order y x Less less)) i
+
+  -- one behind all others is put in at the end
+  pub put-last : (x : X) (xs : List X) → AllByRecursion (λ y. cmp y x ≡ Less) xs → put_by cmp x xs ≡ xs ++ x ∷ []
+  put-last x [] before = refl
+  put-last x (y ∷ xs) before = put-later x y xs before.0 ∙ ap (λ l. y ∷ l) (put-last x xs before.1)
 
   put-tied : (x y : X) (xs : List X) → cmp y x ≡ Equal → AllBehind cmp order y xs → put_by cmp x (y ∷ xs) ≡ x ∷ xs
   put-tied x y xs tied behind =
@@ -72,6 +78,20 @@ module _ {X : Type 0} (cmp : X → X → Ordering) (order : IsTotalOrder cmp) wh
     all-append (λ z. cmp y z ≡ Less) xs (x ∷ ys) first.0 (before.0, all-weaker (λ z. cmp x z ≡ Less) (λ z. cmp y z ≡ Less) (λ z less. order.trans y x z before.0 less) ys behind),
     sorted-around xs ys x first.1 second before.1 behind,
   )
+
+  -- in order an item stands behind those before it
+  pub all-before : (xs : List X) (x : X) (ys : List X) → IsStrictlySortedBy cmp (xs ++ x ∷ ys) → AllByRecursion (λ y. cmp y x ≡ Less) xs
+  unfolding IsStrictlySortedBy
+  all-before [] x ys sorted = tt
+  all-before (y ∷ xs) x ys sorted = ((all-second (λ z. cmp y z ≡ Less) xs (x ∷ ys) sorted.0).0, all-before xs x ys sorted.1)
+
+  -- items that ascend are put in one after another behind those before them
+  pub put-all : (xs ys : List X) → IsStrictlySortedBy cmp (xs ++ ys) → fold (λ zs z. put_by cmp z zs) xs ys ≡ xs ++ ys
+  put-all xs [] sorted = sym (append-nil xs)
+  put-all xs (y ∷ ys) sorted =
+      ap (λ zs. fold (λ zs z. put_by cmp z zs) zs ys) (put-last y xs (all-before xs y ys sorted))
+      ∙ put-all (xs ++ y ∷ []) ys (subst (IsStrictlySortedBy cmp) (sym (append_assoc xs (y ∷ []) ys)) sorted)
+      ∙ append_assoc xs (y ∷ []) ys
 
   -- with one item more a list is in order
   pub put-ordered : (x : X) (xs : List X) → IsStrictlySortedBy cmp xs → IsStrictlySortedBy cmp (put_by cmp x xs)

@@ -1,5 +1,6 @@
 pub mod Store
 pub mod Next
+pub mod Limits
 pub mod Run
 pub mod StoreReport
 pub mod Script

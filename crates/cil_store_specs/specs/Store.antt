@@ -29,6 +29,10 @@ pub record IsStore (store : Store) : Type 0 where
   pub entries : IsStrictlySortedBy entry_cmp store.entries
   pub disabled : IsStrictlySortedBy name_cmp store.disabled
 
+-- an entry of a name and a priority, whose text doesn't matter
+abbrev pub entry_at : List ℕ → ℕ → Entry
+entry_at name priority = record { name = name; priority = priority; text = [] }
+
 -- a list in an order with one item more, in its place and in place of one that the order takes for the same
 abbrev pub put_by : {X : Type 0} → (X → X → Ordering) → X → List X → List X
 put_by cmp x xs = filter (λ o. is_lt (cmp o x)) xs ++ x ∷ filter (λ o. is_lt (cmp x o)) xs

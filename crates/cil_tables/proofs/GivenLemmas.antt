@@ -15,12 +15,7 @@ use Rattle.cil_tables.specs.declared.lines.LineKey.{LineKey}
 abbrev pub covers_below : {A B : Type 0} → Members B → NumberedRule A → ℕ → ℕ → LineKey → ℕ → Bool
 covers_below members rule permission from key t = nat_lt key.source from && covers_with members rule (permission == key.permission) key t
 
-other-source : (c p a : Bool) → ((c && (p && false)) && a) ≡ false
-other-source true true a = refl
-other-source true false a = refl
-other-source false p a = refl
-
-same-source : (c p a : Bool) → ((c && (p && true)) && a) ≡ (a && (c && p))
+same-source : (c p a : Bool) → ((c && p) && a) ≡ (a && (c && p))
 same-source true true true = refl
 same-source true true false = refl
 same-source true false true = refl
@@ -30,20 +25,19 @@ same-source false p false = refl
 
 -- the sources of a rule below the one behind a source, from those below the source's search
 pub source-more : (held : ℕ → Bool) (from source s : ℕ) (aimed : ℕ → Bool) (c p : Bool) → IsFirstFrom held from source
-    → one_if (nat_lt s from && (held s && (aimed s && (c && p)))) + one_if ((c && (p && (source == s))) && aimed source) ≡ one_if (nat_lt s (source + 1) && (held s && (aimed s && (c && p))))
+    → one_if (nat_lt s from && (held s && (aimed s && (c && p)))) + one_if (((source == s) && (c && p)) && aimed source) ≡ one_if (nat_lt s (source + 1) && (held s && (aimed s && (c && p))))
 source-more held from source s aimed c p is =
     let from_on = is.from_on in
     elim (cases_eq source s) [
       | inl same ↦
-          ap (λ b. one_if (b && (held s && (aimed s && (c && p)))) + one_if ((c && (p && (source == s))) && aimed source)) (le-ltb s from (omega (arith, from_on, same)))
-          ∙ zero-add (one_if ((c && (p && (source == s))) && aimed source))
-          ∙ ap (λ b. one_if ((c && (p && b)) && aimed source)) (eq-eqb source s same)
+          ap (λ b. one_if (b && (held s && (aimed s && (c && p)))) + one_if (((source == s) && (c && p)) && aimed source)) (le-ltb s from (omega (arith, from_on, same)))
+          ∙ zero-add (one_if (((source == s) && (c && p)) && aimed source))
+          ∙ ap (λ b. one_if ((b && (c && p)) && aimed source)) (eq-eqb source s same)
           ∙ ap one_if (same-source c p (aimed source) ∙ ap (λ k. aimed k && (c && p)) same)
           ∙ sym (ap (λ b. one_if (b && (held s && (aimed s && (c && p))))) (lt-ltb s (source + 1) (omega (arith, same)))
           ∙ ap (λ b. one_if (b && (aimed s && (c && p)))) (subst (λ k. held k ≡ true) same is.holds))
       | inr other ↦
-          ap (λ b. one_if (nat_lt s from && (held s && (aimed s && (c && p)))) + one_if ((c && (p && b)) && aimed source)) (ne_eqb source s other)
-          ∙ ap (λ b. one_if (nat_lt s from && (held s && (aimed s && (c && p)))) + one_if b) (other-source c p (aimed source))
+          ap (λ b. one_if (nat_lt s from && (held s && (aimed s && (c && p)))) + one_if ((b && (c && p)) && aimed source)) (ne_eqb source s other)
           ∙ add-zero (one_if (nat_lt s from && (held s && (aimed s && (c && p)))))
           ∙ elim (cases_lt s from) [
             | inl before ↦ ap (λ b. one_if (b && (held s && (aimed s && (c && p))))) (lt-ltb s from before ∙ sym (lt-ltb s (source + 1) (omega (arith, from_on, before))))

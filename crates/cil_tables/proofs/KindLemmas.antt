@@ -60,3 +60,15 @@ module _ {A B C : Type 0} (members : Members B) (rule : NumberedRule A) (old : T
 pub counted-at : {A : Type 0} (tables : Tables A) (kind other : RuleKind) (key : LineKey) (t : ℕ) → kind ≡ other → counter (lines_of tables other) key t ≡ count_now tables kind key t
 unfolding count_now
 counted-at tables kind other key t is = ap (λ k. counter (lines_of tables k) key t) (sym is)
+
+-- counters stay where those of each kind do
+abbrev IsAlike : Stored → Stored → Type 0
+IsAlike old new = (key : LineKey) (t : ℕ) → counter new key t ≡ counter old key t
+
+pub alike-now : {A : Type 0} (old new : Tables A) → IsAlike old.allow new.allow → IsAlike old.auditallow new.auditallow → IsAlike old.dontaudit new.dontaudit → IsAlike old.neverallow new.neverallow
+    → (kind : RuleKind) (key : LineKey) (t : ℕ) → count_now new kind key t ≡ count_now old kind key t
+unfolding count_now
+alike-now old new allow auditallow dontaudit neverallow Allow key t = allow key t
+alike-now old new allow auditallow dontaudit neverallow AuditAllow key t = auditallow key t
+alike-now old new allow auditallow dontaudit neverallow DontAudit key t = dontaudit key t
+alike-now old new allow auditallow dontaudit neverallow NeverAllow key t = neverallow key t

@@ -16,16 +16,16 @@ derived-key key = refl
 -- keys that are the same are one
 pub same-key : (key other : LineKey) → is_key key other ≡ true → key ≡ other
 same-key key other is =
-    let rest = second_true (key.class == other.class) (key.permission == other.permission && key.source == other.source) is in
-    let class = eqb-true key.class other.class (first_true (key.class == other.class) (key.permission == other.permission && key.source == other.source) is) in
-    let permission = eqb-true key.permission other.permission (first_true (key.permission == other.permission) (key.source == other.source) rest) in
-    let source = eqb-true key.source other.source (second_true (key.permission == other.permission) (key.source == other.source) rest) in
-    λ i. record { class = class i; permission = permission i; source = source i }
+    let rest = second_true (key.source == other.source) (key.class == other.class && key.permission == other.permission) is in
+    let source = eqb-true key.source other.source (first_true (key.source == other.source) (key.class == other.class && key.permission == other.permission) is) in
+    let class = eqb-true key.class other.class (first_true (key.class == other.class) (key.permission == other.permission) rest) in
+    let permission = eqb-true key.permission other.permission (second_true (key.class == other.class) (key.permission == other.permission) rest) in
+    λ i. record { source = source i; class = class i; permission = permission i }
 
 pub key-itself : (key : LineKey) → is_key key key ≡ true
 key-itself key =
-    ap (λ b. b && (key.permission == key.permission && key.source == key.source)) (eq-eqb key.class key.class refl)
-    ∙ ap (λ b. b && (key.source == key.source)) (eq-eqb key.permission key.permission refl) ∙ eq-eqb key.source key.source refl
+    ap (λ b. b && (key.class == key.class && key.permission == key.permission)) (eq-eqb key.source key.source refl)
+    ∙ ap (λ b. b && (key.permission == key.permission)) (eq-eqb key.class key.class refl) ∙ eq-eqb key.permission key.permission refl
 
 -- a place that is found is one
 one-place : {i j : ℕ} → ◌≡◌ {A = Option ℕ} (Some i) (Some j) → i ≡ j
@@ -177,3 +177,15 @@ set-elsewhere (l ∷ lines) (suc place) (suc i) m other = set-elsewhere lines pl
 
 pub placed-longer : (places : List (LineKey × ℕ)) (count more : ℕ) → count ≤ more → ArePlaced places count → ArePlaced places more
 placed-longer places count more le placed = record { within = λ key i at. let low = placed.within key i at in omega (arith, low, le); apart = placed.apart }
+
+-- keys keep their places and counters in another order
+module _ (places news : List (LineKey × ℕ)) (same : (k : LineKey) → place_of news k ≡ place_of places k) where
+  pub placed-reordered : (count : ℕ) → ArePlaced places count → ArePlaced news count
+  placed-reordered count placed = record {
+    within = λ k i at. placed.within k i (sym (same k) ∙ at);
+    apart = λ k l i at also. placed.apart k l i (sym (same k) ∙ at) (sym (same l) ∙ also);
+  }
+
+  pub counters-reordered : (lines : List Counters) (k : LineKey) (t : ℕ) → counter (record { places = news; lines = lines }) k t ≡ counter (record { places = places; lines = lines }) k t
+  unfolding counter
+  counters-reordered lines k t = ap (λ o. option_map_or (λ i. counter_at lines i t) o 0) (same k)

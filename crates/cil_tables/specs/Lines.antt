@@ -13,7 +13,7 @@ pub record Stored : Type 0 where
 
 -- whether two keys are the same
 abbrev pub is_key : LineKey → LineKey → Bool
-is_key key other = (key.class == other.class) && (key.permission == other.permission && key.source == other.source)
+is_key key other = (key.source == other.source) && (key.class == other.class && key.permission == other.permission)
 
 -- the place of a key's line
 abbrev pub place_of : List (LineKey × ℕ) → LineKey → Option ℕ

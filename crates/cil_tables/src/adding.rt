@@ -55,9 +55,9 @@ fn add_permission<A: Allocator + Copy>(
     let mut from = 0;
     while let Some(source) = sources.next(from) {
         let key = LineKey {
+            source,
             class: rule.class,
             permission,
-            source,
         };
         lines.add(alloc, key, &targets_of(members, rule.target, source))?;
         from = source + 1;

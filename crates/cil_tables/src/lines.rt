@@ -12,12 +12,13 @@ use std::alloc::{AllocError, Allocator, Global};
 use std::hash::{BuildHasherDefault, FoldHasher};
 use std::marker::Model;
 
-/// What a line is of: a class, a permission of it, and the type that is the source, by the numbers of their names.
-#[derive(Clone, Copy, Debug, PartialEq, Eq, Hash)]
+/// What a line is of: the type that is the source, a class, and a permission of it, by the numbers of their names. Keys are ordered
+/// in this order, so the lines of a source stand together where lines are sorted.
+#[derive(Clone, Copy, Debug, PartialEq, Eq, PartialOrd, Ord, Hash)]
 pub struct LineKey {
+    pub source: usize,
     pub class: usize,
     pub permission: usize,
-    pub source: usize,
 }
 
 /// A line with what it is of.
@@ -97,6 +98,13 @@ impl<A: Allocator + Copy> Lines<A> {
         add_set(&mut self.lines[place], alloc, types)
     }
 
+    /// Puts the lines in the order of their keys.
+    pub(super) fn sort(&mut self) -> Result<(), AllocError>
+        ensures { (key : LineKey) (t : ℕ) → counter self.new key t ≡ counter self.old key t }
+    {
+        self.places.sort_unstable_keys()
+    }
+
     /// Adds 1 to the counter of each type of a set in the line of a key.
     pub fn add(&mut self, alloc: A, key: LineKey, types: &TypeSet<'_, A>) -> Result<(), AllocError>
         requires { (t : ℕ) → 2 ^ 64 ≤ t → is_of types.now t ≡ false }
@@ -122,7 +130,7 @@ impl<A: Allocator> Lines<A> {
         self.places.is_empty()
     }
 
-    /// The line at a place of their order, in which they were made.
+    /// The line at a place of their order.
     pub fn at(&self, i: usize) -> Option<KeyedLine<'_, A>>
         ensures { MatchOption result (length self.now.places ≤ i) (λ l. IsLineAt self.now i l.key l.line.now) }
     {

@@ -99,9 +99,9 @@ fn assert_counts(
     let tables = Tables::plain(alloc, &resolved, &members).expect(rt, "memory");
     for want in wanted {
         let key = LineKey {
+            source: number(&resolved, want.source),
             class: number(&resolved, want.class),
             permission: number(&resolved, want.permission),
-            source: number(&resolved, want.source),
         };
         let count = tables.count_at(kind, key, number(&resolved, want.target));
         assert!(rt; count == want.count);
@@ -143,45 +143,51 @@ fn itself_is_each_source_alone(rt: HostRuntime) {
     );
 }
 
-// Asserts that the line at a place of its order is that of a source's use of p, and has some counter of b.
-fn assert_line(
-    rt: &impl Abort,
-    resolved: &Resolved,
-    found: Option<KeyedLine<'_>>,
-    source: &'static [u8],
-    count: u64,
-) {
+// Asserts that a line is that of an access, and counts its target as often.
+fn assert_line(rt: &impl Abort, resolved: &Resolved, found: Option<KeyedLine<'_>>, want: &Counted) {
     let keyed = found.expect(rt, "a line");
     let key = LineKey {
-        class: number(resolved, b"p"),
-        permission: number(resolved, b"use"),
-        source: number(resolved, source),
+        source: number(resolved, want.source),
+        class: number(resolved, want.class),
+        permission: number(resolved, want.permission),
     };
     let same = keyed.key == key;
     assert!(rt; same);
-    let counted = keyed.line.count(number(resolved, b"b"));
-    assert!(rt; counted == count);
+    let counted = keyed.line.count(number(resolved, want.target));
+    assert!(rt; counted == want.count);
 }
 
 #[test]
-fn lines_stand_in_the_order_in_which_they_were_made(rt: HostRuntime) {
+fn lines_stand_in_the_order_of_source_class_and_permission(rt: HostRuntime) {
     let alloc = rt.alloc();
     let resolved = policy(
         &rt,
         alloc,
-        b"(allow b c (p (use)))(allow a b (p (use)))(allow a b (p (use)))(auditallow c b (p (use)))",
+        b"(allow b c (p (use)))(allow a b (q (use)))(allow a b (p (use)))(allow a b (p (use see)))(auditallow c b (p (use)))",
     );
     let members = Members::plain(alloc, &resolved).expect(&rt, "memory");
     let tables = Tables::plain(alloc, &resolved, &members).expect(&rt, "memory");
     let allowed = tables.lines(RuleKind::Allow);
-    assert!(&rt; allowed.len() == 2);
-    assert_line(&rt, &resolved, allowed.at(0), b"b", 0);
-    assert_line(&rt, &resolved, allowed.at(1), b"a", 2);
-    let ended = allowed.at(2).is_none();
+    let wanted = [
+        access(b"a", b"b", b"p", b"see", 1),
+        access(b"a", b"b", b"p", b"use", 2),
+        access(b"a", b"b", b"q", b"use", 1),
+        access(b"b", b"b", b"p", b"use", 0),
+    ];
+    assert!(&rt; allowed.len() == wanted.len());
+    for i in 0..wanted.len() {
+        assert_line(&rt, &resolved, allowed.at(i), &wanted[i]);
+    }
+    let ended = allowed.at(wanted.len()).is_none();
     assert!(&rt; ended);
     let audited = tables.lines(RuleKind::AuditAllow);
     assert!(&rt; audited.len() == 1);
-    assert_line(&rt, &resolved, audited.at(0), b"c", 1);
+    assert_line(
+        &rt,
+        &resolved,
+        audited.at(0),
+        &access(b"c", b"b", b"p", b"use", 1),
+    );
     let none = !audited.is_empty() && tables.lines(RuleKind::DontAudit).is_empty();
     assert!(&rt; none);
 }

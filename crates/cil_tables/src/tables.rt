@@ -23,7 +23,7 @@ impl<A: Allocator + Copy> Tables<A> {
     ghost use Rattle.cil_tables.specs.Lines.{one_if};
     ghost use Rattle.cil_tables.specs.Tables.{count_now, gives_at, AreTables, IsShort};
 
-    /// The tables of a resolved policy.
+    /// The tables of a resolved policy. Their lines stand in the order of their keys.
     pub fn plain(alloc: A, resolved: &Resolved<A>, members: &Members<A>) -> Result<Self, AllocError>
         requires { AreMembers resolved.now members.now }
         ensures { IfOk result (AreTables resolved.now) }
@@ -35,6 +35,7 @@ impl<A: Allocator + Copy> Tables<A> {
         for rule in resolved.rules() {
             tables.add(alloc, members, rule)?;
         }
+        tables.sort()?;
         Ok(tables)
     }
 
@@ -66,6 +67,17 @@ impl<A: Allocator + Copy> Tables<A> {
             RuleKind::DontAudit => add_rule(&mut self.dontaudit, alloc, members, rule),
             RuleKind::NeverAllow => add_rule(&mut self.neverallow, alloc, members, rule),
         }
+    }
+
+    /// Puts the lines of each kind in the order of their keys.
+    fn sort(&mut self) -> Result<(), AllocError>
+        ensures { OnOk result ((kind : RuleKind) (key : LineKey) (t : ℕ) → count_now self.new kind key t ≡ count_now self.old kind key t) }
+    {
+        self.allow.sort()?;
+        self.auditallow.sort()?;
+        self.dontaudit.sort()?;
+        self.neverallow.sort()?;
+        Ok(())
     }
 }
 

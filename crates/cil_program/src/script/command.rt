@@ -34,6 +34,7 @@ pub enum ScriptLine<'a> {
     Violations,
     Dropped,
     Modules,
+    Dump,
 }
 
 /// What std reads as a number, leading zeros and a plus too.
@@ -209,6 +210,9 @@ fn question<'a>(word: &'a [u8]) -> Option<ScriptLine<'a>>
     }
     if is_word(word, b"modules") {
         return Some(ScriptLine::Modules);
+    }
+    if is_word(word, b"dump") {
+        return Some(ScriptLine::Dump);
     }
     None
 }

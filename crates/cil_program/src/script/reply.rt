@@ -4,13 +4,14 @@ ghost use Rattle.std.specs.Prelude.{◌≡◌, ◌+◌, ◌++◌, ◌≤◌, fla
 ghost use Rattle.cil_stream.specs.Device.{HasFailed, Gains, GainsFront};
 ghost use Rattle.cil_store_specs.specs.Next.{by_store, at_place, for_memory};
 ghost use Rattle.cil_specs.specs.Report.{dropped_line};
-ghost use Rattle.cil_store_specs.specs.Script.{refusal_line, reply_text, end_line, last_line, stops};
+ghost use Rattle.cil_store_specs.specs.Script.{refusal_line, reply_text, end_line, last_line, stops, dump_edits, dump_text};
 ghost use Rattle.cil_store_specs.specs.Run.{changed_by, dropped_optionals};
 ghost use Rattle.cil_text.specs.Image.{place_of};
 ghost use Rattle.cil_resolve.specs.Views.{declared_seen};
 ghost use Rattle.cil_store_specs.specs.StoreReport.{entry_text, modules_text};
 ghost use Rattle.cil_store.specs.Edits.{refusal_of};
 ghost use Rattle.cil_store.specs.Stored.{entry_of};
+ghost use Rattle.cil_program.specs.Dump.{install_command, disable_command};
 
 use cil_resolve::NameView;
 use cil_rules::Changes;
@@ -157,6 +158,81 @@ pub fn write_modules<W: Sink, A: Allocator>(sink: &mut W, store: &Store<A>) -> R
 {
     write_entries(sink, store)?;
     write_end(sink, store.len() as u128)
+}
+
+/// Writes the command that installs an entry.
+fn write_install<W: Sink>(sink: &mut W, entry: Entry<'_>) -> Result<(), SinkFault>
+    ensures ok { OnOk result (Gains (W.taken sink.old) (W.taken sink.new) (install_command (entry_of entry.entry))) }
+    ensures err { OnErr result (GainsFront (W.taken sink.old) (W.taken sink.new) (install_command (entry_of entry.entry))) }
+    ensures failed { OnErr result (HasFailed (W.failures sink.old) (W.failures sink.new)) }
+    ensures counted { W.failures sink.old ≤ W.failures sink.new }
+{
+    let mut priority_digits = Buffer::new();
+    let mut length_digits = Buffer::new();
+    write_pieces(
+        sink,
+        &[
+            b"install ",
+            entry.name,
+            b" ",
+            priority_digits.format(entry.priority).as_bytes(),
+            b" ",
+            length_digits.format(entry.text.len()).as_bytes(),
+            b"\n",
+            entry.text,
+            b"\n",
+        ],
+    )
+}
+
+/// Writes the commands that install the entries of a store.
+fn write_installs<W: Sink, A: Allocator>(sink: &mut W, store: &Store<A>) -> Result<(), SinkFault>
+    ensures ok { OnOk result (Gains (W.taken sink.old) (W.taken sink.new) (flat_map install_command store.now.entries)) }
+    ensures err { OnErr result (GainsFront (W.taken sink.old) (W.taken sink.new) (flat_map install_command store.now.entries)) }
+    ensures failed { OnErr result (HasFailed (W.failures sink.old) (W.failures sink.new)) }
+    ensures counted { W.failures sink.old ≤ W.failures sink.new }
+{
+    for i in 0..store.len() {
+        write_install(sink, store.at(i))?;
+    }
+    Ok(())
+}
+
+/// Writes the command that disables a name.
+fn write_disable<W: Sink>(sink: &mut W, name: &[u8]) -> Result<(), SinkFault>
+    ensures ok { OnOk result (Gains (W.taken sink.old) (W.taken sink.new) (disable_command name.now)) }
+    ensures err { OnErr result (GainsFront (W.taken sink.old) (W.taken sink.new) (disable_command name.now)) }
+    ensures failed { OnErr result (HasFailed (W.failures sink.old) (W.failures sink.new)) }
+    ensures counted { W.failures sink.old ≤ W.failures sink.new }
+{
+    write_pieces(sink, &[b"disable ", name, b"\n"])
+}
+
+/// Writes the commands that disable the disabled names of a store.
+fn write_disables<W: Sink, A: Allocator>(sink: &mut W, store: &Store<A>) -> Result<(), SinkFault>
+    ensures ok { OnOk result (Gains (W.taken sink.old) (W.taken sink.new) (flat_map disable_command store.now.disabled)) }
+    ensures err { OnErr result (GainsFront (W.taken sink.old) (W.taken sink.new) (flat_map disable_command store.now.disabled)) }
+    ensures failed { OnErr result (HasFailed (W.failures sink.old) (W.failures sink.new)) }
+    ensures counted { W.failures sink.old ≤ W.failures sink.new }
+{
+    for i in 0..store.disabled_len() {
+        if let Some(name) = store.disabled(i) {
+            write_disable(sink, name)?;
+        }
+    }
+    Ok(())
+}
+
+/// Writes a script that builds a store, and the number of its commands. It takes no memory.
+pub fn write_dump<W: Sink, A: Allocator>(sink: &mut W, store: &Store<A>) -> Result<(), SinkFault>
+    ensures ok { OnOk result (Gains (W.taken sink.old) (W.taken sink.new) (dump_text store.now ++ end_line (length (dump_edits store.now)))) }
+    ensures err { OnErr result (GainsFront (W.taken sink.old) (W.taken sink.new) (dump_text store.now ++ end_line (length (dump_edits store.now)))) }
+    ensures failed { OnErr result (HasFailed (W.failures sink.old) (W.failures sink.new)) }
+    ensures counted { W.failures sink.old ≤ W.failures sink.new }
+{
+    write_installs(sink, store)?;
+    write_disables(sink, store)?;
+    write_end(sink, store.len() as u128 + store.disabled_len() as u128)
 }
 
 /// Writes that a script is none from the line behind so many line feeds.

@@ -2,7 +2,7 @@
 
 ghost use Rattle.std.specs.Prelude.{◌≡◌, ◌≢◌, ◌≤◌, [], List, ℕ, IfOk, OnOk, OnErr, IsErrOf, IsTrue};
 ghost use Rattle.cil_stream.specs.Device.{HasFailed, HasEnded, Gains, has_ended};
-ghost use Rattle.cil_store_specs.specs.Script.{makes, asks_rules, asks_violations, asks_dropped, asks_modules, refusal_line};
+ghost use Rattle.cil_store_specs.specs.Script.{makes, asks_rules, asks_violations, asks_dropped, asks_modules, asks_dump, refusal_line};
 ghost use Rattle.cil_store.specs.Edits.{edit_of, store_refusal_of};
 ghost use Rattle.cil_program.specs.Input.{Fits};
 ghost use Rattle.cil_program.specs.Session.{Moment, Standing, HasAnswered, IsOutcome, IsInstallOutcome, Leaves};
@@ -152,6 +152,20 @@ fn answer_modules<W: Sink, A: Allocator + Copy, C: Compiled<A>>(
     Ok(Outcome::Accepted)
 }
 
+/// Answers the question for a script that builds the store.
+fn answer_dump<W: Sink, A: Allocator + Copy, C: Compiled<A>>(
+    sink: &mut W,
+    engine: &C,
+) -> Result<Outcome, SinkFault>
+    ensures ok { IfOk result (λ outcome. HasAnswered asks_dump outcome (record { store = C.store engine.now; taken = W.taken sink.old })
+        (record { store = C.store engine.now; taken = W.taken sink.new })) }
+    ensures failed { OnErr result (HasFailed (W.failures sink.old) (W.failures sink.new)) }
+    ensures counted { W.failures sink.old ≤ W.failures sink.new }
+{
+    reply::write_dump(sink, engine.store())?;
+    Ok(Outcome::Accepted)
+}
+
 /// Makes an edit and answers it.
 fn answer_edit<W: Sink, A: Allocator + Copy, C: Compiled<A>>(
     sink: &mut W,
@@ -290,6 +304,7 @@ fn answer_line<S: Source, W: Sink, A: Allocator + Copy, C: Compiled<A>>(
         ScriptLine::Violations => Ok(answer_violations(sink, engine)?),
         ScriptLine::Dropped => Ok(answer_dropped(sink, engine)?),
         ScriptLine::Modules => Ok(answer_modules(sink, engine)?),
+        ScriptLine::Dump => Ok(answer_dump(sink, engine)?),
         ScriptLine::Remove { name, priority } => {
             Ok(answer_edit(sink, engine, Edit::Remove { name, priority })?)
         }

@@ -2,7 +2,7 @@ use Rattle.std.proofs.Common.{◌≡◌, ◌≤◌, ◌<◌, ◌+◌, ◌^◌, s
 use Rattle.std.proofs.Math.ListN.{drop_of_length-le}
 use Rattle.std.proofs.lemmas.Nat.Bits.{bit_at-zero}
 use Rattle.std.specs.Int.{bit_at}
-use Rattle.cil_lines.specs.Digit.{bits_of, HasPlace}
+use Rattle.cil_lines.specs.Digit.{bits_of}
 use Rattle.cil_lines.specs.Limit.{limit}
 use Rattle.cil_lines.specs.Line.{value}
 use Rattle.cil_lines.proofs.LineLemmas.{value-set_same, drop-set}

@@ -4,7 +4,7 @@ use Rattle.cil_bind.specs.declared.joined.NamedModule.{NamedModule}
 use Rattle.cil_parse.specs.Parsed.{IsParsed}
 use Rattle.cil_store_specs.specs.Next.{changed}
 use Rattle.cil_store_specs.specs.Store.{is_active}
-use Rattle.cil_store_specs.proofs.ActiveLemmas.{entry_at}
+use Rattle.cil_store_specs.specs.Store.{entry_at}
 use Rattle.cil_store.specs.Admitted.{admitted_edit}
 use Rattle.cil_store.specs.Stored.{AreParsedOf}
 use Rattle.cil_store.proofs.JoinLemmas.{active-more, active-same, name-at, parsed-at, parsed-length}

@@ -15,16 +15,24 @@ overflow_sub-last g c =
     let same : c.len.result ≡ length c.self.inside.dense.items = search rules in
     omega (arith, same, behind, this)
 
-pub spread-requires-clause-end : goal.spread-requires-clause-end
-spread-requires-clause-end g c =
+pub dense_end-end-requires : goal.dense_end-end-requires
+dense_end-end-requires g c =
     let last : IsLast c.self.inside.sparse.items c.args.word c.last_word-last.result = rw c.deref.ensures.value at c.last_word-last.ensures in
     let less = last.below (2 ^ 58) c.requires.word (Rises-below _ _ c.self.inside.sparse.items c.self.invariant.1) in
     omega (arith, less)
 
+pub spread-requires-clause-behind : goal.spread-requires-clause-behind
+spread-requires-clause-behind g c =
+    let this = c.last_word-last.ensures.this in
+    let behind : length c.self.inside.dense.items ≤ c.args.word = rw (← c.self.view_is) at c.requires.behind in
+    let end = c.dense_end-end.ensures.behind in
+    rw (← c.self.view_is) (omega (arith, this, behind, end))
+
 pub spread-requires-clause-rises : goal.spread-requires-clause-rises
 spread-requires-clause-rises g c =
     let last : IsLast c.self.inside.sparse.items c.args.word c.last_word-last.result = rw c.deref.ensures.value at c.last_word-last.ensures in
-    rw (← c.self.view_is) (Rises-to _ _ _ c.self.inside.sparse.items (λ k d upto. let le = last.all k d upto in omega (arith, le)) c.self.invariant.1)
+    let end = c.dense_end-end.ensures.behind in
+    rw (← c.self.view_is) (Rises-to _ _ _ c.self.inside.sparse.items (λ k d upto. let le = last.all k d upto in omega (arith, le, end)) c.self.invariant.1)
 
 pub invariant_of-self-else-last-len : goal.invariant_of-self-else-last-len
 invariant_of-self-else-last-len g c =
@@ -35,7 +43,8 @@ invariant_of-self-else-last-len g c =
 pub returns-then-last-len-clause-place : goal.returns-then-last-len-clause-place
 returns-then-last-len-clause-place g c =
     let this = c.last_word-last.ensures.this in
-    OnOk-map c.spread.result (λ long. place-dense c.spread.new.self c.args.word (omega (arith, long, this))) c.spread.ensures.len
+    let end = c.dense_end-end.ensures.behind in
+    OnOk-map c.spread.result (λ long. place-dense c.spread.new.self c.args.word (omega (arith, long, this, end))) c.spread.ensures.len
 
 pub returns-in_ok-insert-clause-place : goal.returns-in_ok-insert-clause-place
 returns-in_ok-insert-clause-place g c =

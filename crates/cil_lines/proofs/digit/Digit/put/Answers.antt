@@ -1,7 +1,6 @@
 use Rattle.std.proofs.Common.{◌<◌, ◌≤◌, length, arith, rules}
 use Rattle.cil_lines.proofs.EntryLemmas.{Rises-from, Rises-set}
 use Rattle.cil_lines.proofs.DigitLemmas.{bits-dense_here, bits-dense_other, bits-sparse_here, bits-sparse_other, place-none}
-use Rattle.cil_lines.specs.declared.digit.Entry.{Entry}
 use Rattle.cil_lines.specs.Digit.{IsEntry}
 use Rattle.cil_lines.proofs.PlaceLemmas.{kept-dense, kept-sparse}
 use Rattle.cil_lines.proofs.digit.Digit.put.Goals as goal

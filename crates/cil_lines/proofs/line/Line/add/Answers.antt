@@ -1,9 +1,7 @@
-use Rattle.std.proofs.Common.{ℕ, ◌+◌, ◌≤◌, ◌∙◌, ap, refl, arith}
+use Rattle.std.proofs.Common.{◌+◌, ◌∙◌, ap, refl, arith}
 use Rattle.std.proofs.lemmas.List.{with_items_is}
 use Rattle.cil_lines.specs.Line.{hit}
 use Rattle.cil_lines.proofs.LineLemmas.{same_now, add_now, OnErr-any}
-use Rattle.cil_lines.specs.Digit.{HasPlace}
-use Rattle.cil_lines.specs.Limit.{limit}
 use Rattle.cil_lines.proofs.StepLemmas.{same_below, raised_below}
 use Rattle.cil_lines.proofs.line.Line.add.Goals as goal
 

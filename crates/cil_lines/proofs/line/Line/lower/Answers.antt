@@ -1,6 +1,5 @@
-use Rattle.std.proofs.Common.{◌≡◌, ◌<◌, ◌+◌, ◌^◌, ◌∙◌, ap, refl, bit_xor, arith, rules}
+use Rattle.std.proofs.Common.{◌<◌, ◌^◌, ◌∙◌, arith, rules}
 use Rattle.std.proofs.lemmas.List.{with_items_is}
-use Rattle.cil_lines.specs.Line.{hit}
 use Rattle.cil_lines.proofs.StepLemmas.{hit-none, limits_now, lower_place, lower_above, lower_below, lowered_below, lowered_now, lowered_room}
 use Rattle.cil_lines.proofs.line.Line.lower.Goals as goal
 

@@ -1,4 +1,4 @@
-use Rattle.std.proofs.Common.{◌∙◌, refl, arith}
+use Rattle.std.proofs.Common.{refl, arith}
 use Rattle.cil_lines.proofs.DigitLemmas.{OnOk-map}
 use Rattle.cil_lines.proofs.LineLemmas.{same_now}
 use Rattle.cil_lines.proofs.StepLemmas.{same_below, limits_now, room_now}

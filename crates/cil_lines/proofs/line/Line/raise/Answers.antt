@@ -1,6 +1,5 @@
-use Rattle.std.proofs.Common.{◌≡◌, ◌<◌, ◌+◌, ◌^◌, ◌∙◌, refl, arith, rules}
+use Rattle.std.proofs.Common.{◌<◌, ◌^◌, ◌∙◌, arith, rules}
 use Rattle.std.proofs.lemmas.List.{with_items_is}
-use Rattle.cil_lines.specs.Line.{hit}
 use Rattle.cil_lines.proofs.LineLemmas.{add_now}
 use Rattle.cil_lines.proofs.StepLemmas.{hit-none, limits_now, raise_place, raise_room, raised_below}
 use Rattle.cil_lines.proofs.line.Line.raise.Goals as goal

@@ -1,4 +1,3 @@
-use Rattle.std.proofs.Common.{rules}
 use Rattle.cil_lines.proofs.StepLemmas.{single_is}
 use Rattle.cil_lines.proofs.line.Line.single.Goals as goal
 

@@ -3,7 +3,7 @@ use Rattle.cil_stream.specs.Device.{Gains, GainsFront}
 use Rattle.cil_stream.proofs.Gaining.{on_err, gains-pieces_more, gains-pieces_front}
 use Rattle.cil_store_specs.specs.Store.{Entry, Store}
 use Rattle.cil_store_specs.specs.StoreReport.{entry_text, state_word, module_line}
-use Rattle.cil_store_specs.proofs.ActiveLemmas.{entry_at}
+use Rattle.cil_store_specs.specs.Store.{entry_at}
 use Rattle.cil_store.specs.Stored.{entry_of}
 use Rattle.cil_program.proofs.script.reply.write_entries.Goals as goal
 

@@ -1,6 +1,6 @@
 use Rattle.std.proofs.Common.{◌∙◌, refl, sym, true≢false}
 use Rattle.cil_store_specs.specs.Next.{remove, enable, disable}
-use Rattle.cil_store_specs.specs.Script.{makes, asks_rules, asks_violations, asks_dropped, asks_modules}
+use Rattle.cil_store_specs.specs.Script.{makes, asks_rules, asks_violations, asks_dropped, asks_modules, asks_dump}
 use Rattle.cil_program.specs.Session.{Moment, Standing}
 use Rattle.cil_program.proofs.SessionLemmas.{line-outcome}
 use Rattle.cil_program.proofs.script.session.answer_line.Goals as goal
@@ -40,6 +40,15 @@ returns-in_ok-answer_modules-in-Modules-clause-ok g c =
     let asked = rw c.in-Modules.is at c.in-Some.ensures.some in
     line-outcome asks_modules c.in_ok-answer_modules-in-Modules.field-0 c.args.end c.args.line.now now before after tt tt refl c.requires.fits (λ e. true≢false (sym (c.is_too_long.ensures.1 e) ∙ c.if-is_too_long.false)) c.requires.last asked.is
     c.in_ok-answer_modules-in-Modules.ensures.ok
+
+pub returns-in_ok-answer_dump-in-Dump-clause-ok : goal.returns-in_ok-answer_dump-in-Dump-clause-ok
+returns-in_ok-answer_dump-in-Dump-clause-ok g c =
+    let now : Moment = record { account = g.S.Source.account c.args.source.now; held = c.args.input.now } in
+    let before : Standing = record { store = g.C.Compiled.store c.args.engine.now; taken = g.W.Sink.taken c.args.sink.now } in
+    let after : Standing = record { store = g.C.Compiled.store c.args.engine.now; taken = g.W.Sink.taken c.answer_dump.new.sink } in
+    let asked = rw c.in-Dump.is at c.in-Some.ensures.some in
+    line-outcome asks_dump c.in_ok-answer_dump-in-Dump.field-0 c.args.end c.args.line.now now before after tt tt refl c.requires.fits (λ e. true≢false (sym (c.is_too_long.ensures.1 e) ∙ c.if-is_too_long.false)) c.requires.last asked.is
+    c.in_ok-answer_dump-in-Dump.ensures.ok
 
 pub returns-in_ok-answer_edit-in-Remove-clause-ok : goal.returns-in_ok-answer_edit-in-Remove-clause-ok
 returns-in_ok-answer_edit-in-Remove-clause-ok g c =

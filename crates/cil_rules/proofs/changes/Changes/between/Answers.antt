@@ -14,44 +14,44 @@ returns-then-is_same g c =
     let news = (λ i. map (atom_at (c.in_ok-shared.ensures i)) c.new.inside.accesses) ∙ c.new.view_is in
     IfOk-weaker c.by.result _ _ (λ changes are p q p_are q_are. are p q (subst (AreAtoms p) (sym olds) p_are) (subst (AreAtoms q) (sym news) q_are)) c.by.ensures
 
-pub renumbered-requires-clause-within : goal.renumbered-requires-clause-within
-renumbered-requires-clause-within g c =
+pub rank_accesses-requires-clause-within : goal.rank_accesses-requires-clause-within
+rank_accesses-requires-clause-within g c =
     let merged = rw (c.as_slice.ensures, c.as_slice-2.ensures) at c.in_ok-ranks.ensures in
     rw c.deref.ensures.value (ranked-within c.in_ok-ranks.ranks.names.items c.old.inside.names c.in_ok-ranks.ranks.first.items merged.first_places c.old.inside.accesses c.old.invariant)
 
-pub renumbered-requires-clause-rising : goal.renumbered-requires-clause-rising
-renumbered-requires-clause-rising g c =
+pub rank_accesses-requires-clause-rising : goal.rank_accesses-requires-clause-rising
+rank_accesses-requires-clause-rising g c =
     let merged = rw (c.as_slice.ensures, c.as_slice-2.ensures) at c.in_ok-ranks.ensures in
     rw c.deref.ensures.value (places-rise c.in_ok-ranks.ranks.names.items c.old.inside.names c.in_ok-ranks.ranks.first.items merged.first_places merged.ordered c.old.invariant.names_ordered)
 
-pub renumbered-requires-2-clause-within : goal.renumbered-requires-2-clause-within
-renumbered-requires-2-clause-within g c =
+pub rank_accesses-requires-2-clause-within : goal.rank_accesses-requires-2-clause-within
+rank_accesses-requires-2-clause-within g c =
     let merged = rw (c.as_slice.ensures, c.as_slice-2.ensures) at c.in_ok-ranks.ensures in
     rw c.deref-2.ensures.value (ranked-within c.in_ok-ranks.ranks.names.items c.new.inside.names c.in_ok-ranks.ranks.second.items merged.second_places c.new.inside.accesses c.new.invariant)
 
-pub renumbered-requires-2-clause-rising : goal.renumbered-requires-2-clause-rising
-renumbered-requires-2-clause-rising g c =
+pub rank_accesses-requires-2-clause-rising : goal.rank_accesses-requires-2-clause-rising
+rank_accesses-requires-2-clause-rising g c =
     let merged = rw (c.as_slice.ensures, c.as_slice-2.ensures) at c.in_ok-ranks.ensures in
     rw c.deref-2.ensures.value (places-rise c.in_ok-ranks.ranks.names.items c.new.inside.names c.in_ok-ranks.ranks.second.items merged.second_places merged.ordered c.new.invariant.names_ordered)
 
 pub by-requires-2-clause-old : goal.by-requires-2-clause-old
 by-requires-2-clause-old g c =
     let merged = rw (c.as_slice.ensures, c.as_slice-2.ensures) at c.in_ok-ranks.ensures in
-    let e = rw c.deref.ensures.value at c.in_ok-old_accesses.ensures in
+    let e = c.as_accesses.ensures ∙ rw c.deref.ensures.value at c.in_ok-old_accesses.ensures in
     rw (c.in_ok-of.ensures, e) (renumbered-are c.in_ok-ranks.ranks.names.items c.old.inside.names c.in_ok-ranks.ranks.first.items merged.first_places c.old.inside.accesses merged.ordered c.old.invariant)
 
 pub by-requires-2-clause-new : goal.by-requires-2-clause-new
 by-requires-2-clause-new g c =
     let merged = rw (c.as_slice.ensures, c.as_slice-2.ensures) at c.in_ok-ranks.ensures in
-    let e = rw c.deref-2.ensures.value at c.in_ok-new_accesses.ensures in
+    let e = c.as_accesses-2.ensures ∙ rw c.deref-2.ensures.value at c.in_ok-new_accesses.ensures in
     rw (c.in_ok-of.ensures, e) (renumbered-are c.in_ok-ranks.ranks.names.items c.new.inside.names c.in_ok-ranks.ranks.second.items merged.second_places c.new.inside.accesses merged.ordered c.new.invariant)
 
 pub returns : goal.returns
 returns g c =
     let merged = rw (c.as_slice.ensures, c.as_slice-2.ensures) at c.in_ok-ranks.ensures in
     let names = c.in_ok-ranks.ranks.names.items in
-    let o = rw c.deref.ensures.value at c.in_ok-old_accesses.ensures in
-    let n = rw c.deref-2.ensures.value at c.in_ok-new_accesses.ensures in
+    let o = c.as_accesses.ensures ∙ rw c.deref.ensures.value at c.in_ok-old_accesses.ensures in
+    let n = c.as_accesses-2.ensures ∙ rw c.deref-2.ensures.value at c.in_ok-new_accesses.ensures in
     let olds =
     (λ i. map (atom_at (c.in_ok-of.ensures i)) (o i)) ∙ same-renumbered names c.old.inside.names c.in_ok-ranks.ranks.first.items merged.first_places c.old.inside.accesses c.old.invariant ∙ c.old.view_is in
     let news =

@@ -2,7 +2,7 @@ use Rattle.std.proofs.Common.{◌≡◌, ◌∙◌, ap, sym, subst, remove, filt
 use Rattle.std.specs.List.Sorted.{IsStrictlySortedBy}
 use Rattle.std.proofs.lemmas.List.Kept.{IsStrictlySortedBy-filter}
 use Rattle.cil_store_specs.specs.Store.{entry_cmp, is_entry}
-use Rattle.cil_store_specs.proofs.ActiveLemmas.{entry_at}
+use Rattle.cil_store_specs.specs.Store.{entry_at}
 use Rattle.cil_store_specs.proofs.StoreOrder.{entry_total}
 use Rattle.cil_store.proofs.EntryLemmas.{entry-tied, tied-entry, without-tied, without-absent, is-not}
 use Rattle.cil_store.proofs.entries.Entries.remove.Goals as goal

@@ -2,7 +2,7 @@ use Rattle.std.proofs.Common.{◌≡◌, ◌∙◌, ◌-◌, ◌∷◌, ◌++◌
 use Rattle.std.proofs.lemmas.List.{take-append-drop}
 use Rattle.std.specs.List.Sorted.{IsStrictlySortedBy}
 use Rattle.cil_store_specs.specs.Store.{entry_cmp, is_entry}
-use Rattle.cil_store_specs.proofs.ActiveLemmas.{entry_at}
+use Rattle.cil_store_specs.specs.Store.{entry_at}
 use Rattle.cil_store_specs.proofs.StoreOrder.{entry_total}
 use Rattle.cil_store.specs.Stored.{entry_for}
 use Rattle.cil_store.proofs.EntryLemmas.{entry-tied, tied-entry, put-tied, put-new, without-tied, without-absent, remove-parts, rest-from, all-from, is-not}

@@ -17,10 +17,10 @@ invariant_of-self-2 g c =
 pub returns-clause-ok : goal.returns-clause-ok
 returns-clause-ok g c = c.in_ok-make.ensures.ok ∙ (λ i. changed (c.self.view_is i) (admitted_edit c.args.edit))
 
+pub returns-in_err-make-clause-err : goal.returns-in_err-make-clause-err
+returns-in_err-make-clause-err g c = on_err c.from_residual.result (c.in_err-make.ensures.err ∙ c.self.view_is)
+
 pub returns-in_err-make-clause-ok : goal.returns-in_err-make-clause-ok
 returns-in_err-make-clause-ok g c =
     let made = err_from_is_err_and c.from_residual.result c.from_residual.ensures.1 in
     rw made.1 tt
-
-pub returns-in_err-make-clause-err : goal.returns-in_err-make-clause-err
-returns-in_err-make-clause-err g c = on_err c.from_residual.result (c.in_err-make.ensures.err ∙ c.self.view_is)

@@ -18,7 +18,7 @@ loop-rule-preserved g c kind key t =
 
 pub returns : goal.returns
 returns g c =
-    are-tables c.args.resolved.now c.args.members.now c.elements_hold_by_numbers.ensures c.loop-rule.tables c.resolved_is_consistent.ensures
+    are-tables c.args.resolved.now c.args.members.now c.elements_hold_by_numbers.ensures c.sort.new.self c.resolved_is_consistent.ensures
     (λ kind key t.
-    c.loop-rule.invariant kind key t
+    c.in_ok-sort.ensures kind key t ∙ c.loop-rule.invariant kind key t
     ∙ ap (count_by (gives_at c.args.members.now kind key t)) (take_all c.loop-rule.rule-index c.rules-rule-items.result.now c.loop-rule-test.false ∙ c.rules-rule-items.ensures.rules))

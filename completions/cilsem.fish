@@ -1,0 +1,11 @@
+# Completions of cilsem for fish.
+
+complete -c cilsem -f
+complete -c cilsem -n __fish_use_subcommand -a session -d 'Answer the script on standard input'
+complete -c cilsem -n __fish_use_subcommand -a compile -d 'Compile CIL files together'
+complete -c cilsem -n __fish_use_subcommand -a help -d 'Print help'
+complete -c cilsem -n __fish_use_subcommand -s V -l version -d 'Print the version'
+complete -c cilsem -s h -l help -d 'Print help'
+complete -c cilsem -n '__fish_seen_subcommand_from compile' -l violations -d 'Print the violations of neverallow rules'
+complete -c cilsem -n '__fish_seen_subcommand_from compile' -k -a '(__fish_complete_suffix .cil)'
+complete -c cilsem -n '__fish_seen_subcommand_from help' -a 'session compile'

@@ -1,0 +1,40 @@
+use Rattle.std.proofs.Common.{Err, ◌≡◌, inl, inr, List, [], map, refl, ap, sym, subst}
+use Rattle.std.proofs.lemmas.Result.{IfOk-weaker}
+use Rattle.cil_stream.specs.Device.{Gains}
+use Rattle.cil_stream.proofs.Gaining.{gains-none}
+use Rattle.cil_store_specs.specs.Store.{Entry}
+use Rattle.cil_store_specs.specs.Next.{Refusal, for_memory}
+use Rattle.cil_store_specs.specs.Script.{refusal_line}
+use Rattle.cil_store.specs.Refusing.{AreRefused}
+use Rattle.cil_store.specs.Stored.{entry_of}
+use Rattle.cil_store.specs.Edits.{refusal_of}
+use Rattle.cil_program.specs.CommandLine.{Compiles, is_refused, lacks_memory}
+use Rattle.cil_program.specs.declared.command_line.compile.Report.{Report}
+use Rattle.cil_program.proofs.command_line.compile.compile_entries.Goals as goal
+
+refusing : (entries : List Entry) (report : Report) (refusal : Refusal) → AreRefused entries refusal → Compiles entries report [] (refusal_line refusal) 1
+refusing entries report refusal (inl memory) = lacks_memory refl (ap refusal_line memory) refl
+refusing entries report refusal (inr of) = is_refused refusal of refl refl refl
+
+pub returns-in-Err-clause-ok : goal.returns-in-Err-clause-ok
+returns-in-Err-clause-ok g c =
+    let refusal = refusal_of c.in-Err.refusal in (
+      [],
+      refusal_line refusal,
+      gains-none (g.W.Sink.taken c.args.out.now),
+      c.in_ok-write_refusal-in-Err.ensures.ok,
+      refusing (map entry_of c.args.entries.now) c.args.report refusal c.in-Err.ensures.err,
+    )
+
+pub returns-in-Ok-write_report-clause-ok : goal.returns-in-Ok-write_report-clause-ok
+returns-in-Ok-write_report-clause-ok g c =
+    let written = c.in-Ok-write_report.ensures.ok (map entry_of c.args.entries.now) c.in-Ok.ensures.ok in
+    (written.0, [], written.1, gains-none (g.E.Sink.taken c.args.err.now), written.2)
+
+pub returns-in-Err-Memory-clause-ok : goal.returns-in-Err-Memory-clause-ok
+returns-in-Err-Memory-clause-ok g c =
+    let taken = g.W.Sink.taken in
+    let same : taken c.write_report.new.out ≡ taken c.args.out.now = c.in-Err-Memory.ensures.memory (ap Err c.in-Err-Memory.field-0-is) in
+    IfOk-weaker c.refuse_for_memory.result _ _ (λ status told.
+    ([], refusal_line for_memory, subst (λ t. Gains (taken c.args.out.now) t []) (sym same) (gains-none (taken c.args.out.now)), told.1, lacks_memory refl refl told.0))
+    c.refuse_for_memory.ensures.ok

@@ -1,0 +1,34 @@
+use Rattle.std.proofs.Common.{◌≡◌, ◌≢◌, ℕ, List, [], ◌∷◌, length, flat_map, refl, arith}
+use Rattle.cil_specs.specs.Report.{row_line}
+use Rattle.cil_specs.specs.Violations.{Violation, violations_text}
+use Rattle.cil_program.specs.CommandLine.{lists, tells, status_of_violations}
+use Rattle.cil_program.proofs.command_line.compile.write_report.Goals as goal
+
+pub returns-in_ok-write_listing-in-Listing-clause-ok : goal.returns-in_ok-write_listing-in-Listing-clause-ok
+returns-in_ok-write_listing-in-Listing-clause-ok g c = λ entries of.
+    let written = c.in_ok-write_listing-in-Listing.ensures.ok in
+    (flat_map row_line written.0, written.3, lists (g.C.Compiled.store c.args.engine.now) written.0 c.in-Listing.is of written.1 refl refl refl)
+
+none : (n : ℕ) (violations : List Violation) → n ≡ length violations → n ≡ 0 → 0 ≡ status_of_violations violations
+none n [] is zero = refl
+none n (v ∷ violations) is zero = absurd (omega (arith, is, zero))
+
+some : (n : ℕ) (violations : List Violation) → n ≡ length violations → n ≢ 0 → 1 ≡ status_of_violations violations
+some n [] is other = absurd (other is)
+some n (v ∷ violations) is other = refl
+
+pub returns-then-violations-eq0-clause-ok : goal.returns-then-violations-eq0-clause-ok
+returns-then-violations-eq0-clause-ok g c = λ entries of.
+    let written = c.in_ok-violations-in-Violations.ensures.ok in (
+      violations_text written.0,
+      written.3,
+      tells (g.C.Compiled.store c.args.engine.now) written.0 c.in-Violations.is of written.1 refl refl (none c.in_ok-violations-in-Violations.violations written.0 written.2 c.if-violations-eq0.true),
+    )
+
+pub returns-else-violations-eq0-clause-ok : goal.returns-else-violations-eq0-clause-ok
+returns-else-violations-eq0-clause-ok g c = λ entries of.
+    let written = c.in_ok-violations-in-Violations.ensures.ok in (
+      violations_text written.0,
+      written.3,
+      tells (g.C.Compiled.store c.args.engine.now) written.0 c.in-Violations.is of written.1 refl refl (some c.in_ok-violations-in-Violations.violations written.0 written.2 c.if-violations-eq0.false),
+    )

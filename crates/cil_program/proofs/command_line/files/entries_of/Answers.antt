@@ -1,0 +1,21 @@
+use Rattle.std.proofs.Common.{◌∙◌, List, [], ◌∷◌, ◌++◌, take, ap, sym, subst}
+use Rattle.std.specs.List.{AllZip}
+use Rattle.std.proofs.lemmas.List.{take_more}
+use Rattle.cil_store.specs.Stored.{entry_of}
+use Rattle.cil_program.specs.CommandLine.{IsEntryAt}
+use Rattle.cil_program.proofs.command_line.files.entries_of.Goals as goal
+
+-- one place more
+one_more : {X Y : Type 0} (R : X → Y → Type 0) (xs : List X) (ys : List Y) (x : X) (y : Y) → AllZip R xs ys → R x y → AllZip R (xs ++ x ∷ []) (ys ++ y ∷ [])
+one_more R [] [] x y all r = (r, tt)
+one_more R [] (b ∷ ys) x y all r = absurd all
+one_more R (a ∷ xs) [] x y all r = absurd all
+one_more R (a ∷ xs) (b ∷ ys) x y all r = (all.0, one_more R xs ys x y all.1 r)
+
+pub loop-file-preserved : goal.loop-file-preserved
+loop-file-preserved g c =
+    let files = c.args.files.now in
+    let i = c.loop-file.file-index in
+    let taken = ap (λ file. take i files ++ file ∷ []) c.file-item.is ∙ sym (take_more files i _ c.loop-file-test.true) in
+    rw c.in_ok-push.ensures.items (subst (λ l. AllZip (λ file entry. IsEntryAt file.path.now (entry_of entry)) l (c.loop-file.entries.items ++ c.as_entry.result ∷ [])) taken
+    (one_more (λ file entry. IsEntryAt file.path.now (entry_of entry)) (take i files) c.loop-file.entries.items c.file-item.result c.as_entry.result c.loop-file.invariant c.as_entry.ensures))

@@ -1,0 +1,5 @@
+use Rattle.std.proofs.Common.{◌≡◌, map, take}
+use Rattle.cil_program.proofs.command_line.files.read_files.Given as goal
+
+abbrev pub invariant-loop-path : goal.invariant-loop-path
+invariant-loop-path g l = map (λ file. file.path.now) l.files.items ≡ map (λ path. path.now) (take l.path-index l.paths)

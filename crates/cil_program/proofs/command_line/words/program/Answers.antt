@@ -1,0 +1,14 @@
+use Rattle.std.proofs.Common.{true, ap, ap₂, ◌≡◌, ◌∙◌}
+use Rattle.std.proofs.lemmas.Result.{IfOk-weaker}
+use Rattle.clap.specs.Simple.{App, app_of, app_of_fields, on_top, with_subcommand}
+use Rattle.cil_program.specs.Program.{bare_program}
+use Rattle.cil_program.proofs.command_line.words.program.Goals as goal
+
+pub returns : goal.returns
+returns c =
+    let with_version = ap app_of_fields c.version.ensures ∙ ap (on_top (λ s. record s { has_version = true })) c.new.ensures.app in
+    let bare : app_of c.subcommand_required-program.result ≡ bare_program =
+    ap app_of_fields c.subcommand_required-program.ensures ∙ ap (on_top (λ s. record s { subcommand_required = true })) (ap app_of_fields c.about.ensures ∙ with_version) in
+    let with_session =
+    c.in_ok-subcommand.ensures.shape c.session_command-session.ensures.local ∙ ap₂ with_subcommand bare (ap (λ (a : App). a.top) c.session_command-session.ensures.app) in
+    IfOk-weaker c.subcommand-2.result _ _ (λ r a. a.shape c.in_ok-compile.ensures.local ∙ ap₂ with_subcommand with_session (ap (λ (a : App). a.top) c.in_ok-compile.ensures.app)) c.subcommand-2.ensures

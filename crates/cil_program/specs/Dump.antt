@@ -1,0 +1,13 @@
+-- The commands of a dump.
+use Rattle.std.specs.Prelude.{ℕ, List}
+use Rattle.cil_store_specs.specs.Store.{Entry}
+use Rattle.cil_store_specs.specs.Next.{install_of, disable}
+use Rattle.cil_store_specs.specs.Script.{makes, command_bytes}
+
+-- the command that installs an entry
+abbrev pub install_command : Entry → List ℕ
+install_command e = command_bytes (makes (install_of e))
+
+-- the command that disables a name
+abbrev pub disable_command : List ℕ → List ℕ
+disable_command name = command_bytes (makes (disable name))

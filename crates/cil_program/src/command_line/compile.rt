@@ -1,0 +1,89 @@
+//! The compilation of entries at once.
+
+ghost use Rattle.std.specs.Prelude.{◌≡◌, ◌⊎◌, ◌≤◌, [], List, ℕ, map, length, IfOk, IsErrOf, OnErr};
+ghost use Rattle.cil_stream.specs.Device.{Gains, HasFailed};
+ghost use Rattle.cil_store_specs.specs.Next.{for_memory, Of, accepts};
+ghost use Rattle.cil_store_specs.specs.Script.{refusal_line};
+ghost use Rattle.cil_store.specs.Stored.{entry_of};
+ghost use Rattle.cil_program.specs.CommandLine.{Compiles};
+
+use crate::script::reply;
+use cil_store::{Compiled, Entry, Plain, WriteFault};
+use cil_stream::{Sink, SinkFault};
+use std::alloc::Allocator;
+
+/// What is written of a compiled policy.
+#[derive(Clone, Copy, Debug, PartialEq, Eq)]
+pub enum Report {
+    /// The listing of its accesses.
+    Listing,
+    /// The violations of its neverallow rules.
+    Violations,
+}
+
+/// Writes that memory ran out, and gives the exit status.
+pub fn refuse_for_memory<E: Sink>(err: &mut E) -> Result<u8, SinkFault>
+    ensures ok { IfOk result (λ status. (status ≡ 1) × Gains (E.taken err.old) (E.taken err.new) (refusal_line for_memory)) }
+    ensures failed { OnErr result (HasFailed (E.failures err.old) (E.failures err.new)) }
+    ensures counted { E.failures err.old ≤ E.failures err.new }
+{
+    reply::write_no_memory(err)?;
+    Ok(1)
+}
+
+/// Writes a report, and gives the exit status.
+fn write_report<W: Sink, A: Allocator + Copy, C: Compiled<A>>(
+    engine: &C,
+    report: Report,
+    out: &mut W,
+) -> Result<u8, WriteFault>
+    ensures ok { (entries : _) → Of entries (accepts (C.store engine.now)) → IfOk result (λ status. (printed : List ℕ)
+        × Gains (W.taken out.old) (W.taken out.new) printed × Compiles entries report printed [] status) }
+    ensures memory { IsErrOf result WriteFault.Memory → W.taken out.new ≡ W.taken out.old }
+    ensures failed { IsErrOf result WriteFault.Sink → HasFailed (W.failures out.old) (W.failures out.new) }
+    ensures counted { W.failures out.old ≤ W.failures out.new }
+{
+    match report {
+        Report::Listing => {
+            engine.write_listing(out)?;
+            Ok(0)
+        }
+        Report::Violations => {
+            let violations = engine.write_violations(out)?;
+            if violations == 0 { Ok(0) } else { Ok(1) }
+        }
+    }
+}
+
+/// Compiles entries at once and writes the report, and gives the exit status. A refusal is written to `err`, and then nothing to
+/// `out`.
+///
+/// # Errors
+///
+/// Where a sink failed.
+pub fn compile_entries<W: Sink, E: Sink, A: Allocator + Copy>(
+    alloc: A,
+    entries: &[Entry<'_>],
+    report: Report,
+    out: &mut W,
+    err: &mut E,
+) -> Result<u8, SinkFault>
+    ensures ok { IfOk result (λ status. (printed : List ℕ) × (told : List ℕ) × Gains (W.taken out.old) (W.taken out.new) printed
+        × Gains (E.taken err.old) (E.taken err.new) told × Compiles (map entry_of entries.now) report printed told status) }
+    ensures failed { OnErr result (HasFailed (W.failures out.old) (W.failures out.new) ⊎ HasFailed (E.failures err.old) (E.failures err.new)) }
+    ensures out_counted { W.failures out.old ≤ W.failures out.new }
+    ensures err_counted { E.failures err.old ≤ E.failures err.new }
+{
+    let engine = match Plain::of(alloc, entries) {
+        Ok(engine) => engine,
+        Err(refusal) => {
+            reply::write_refusal(err, &refusal)?;
+            return Ok(1);
+        }
+    };
+    match write_report(&engine, report, out) {
+        Ok(status) => Ok(status),
+        Err(WriteFault::Memory) => refuse_for_memory(err),
+        Err(WriteFault::Sink) => Err(SinkFault),
+    }
+}

@@ -1,5 +1,0 @@
-use Rattle.std.proofs.Common.{◌-◌, ◌^◌}
-use Rattle.cil_rules.proofs.collect.words_len.Given as goal
-
-abbrev pub decreases-loop-word : goal.decreases-loop-word
-decreases-loop-word g l = 2 ^ 64 - l.from
