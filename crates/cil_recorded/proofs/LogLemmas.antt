@@ -340,3 +340,25 @@ module _ (line word mask : ℕ) (old new : ℕ → ℕ → ℕ) (fits : mask < 2
 
   pub moved_down : ((l t : ℕ) → new l t + hit_at line word mask l t ≡ old l t) → count_ones mask ≡ moved (old line) (new line) word
   moved_down fell = moved_by (old line) (new line) word mask fits (λ b within. omega (arith, fell line (64 * word + b), own b within))
+
+-- ---- lowered where present
+
+-- targets that are present can be lowered
+pub lower_present : (counts : ℕ → ℕ) (word mask present : ℕ) → IsPresence counts word present → bit_and present mask ≡ mask → CanLower counts word mask
+lower_present counts word mask present is all t =
+    let b = t % 64 in
+    let within : b < 64 = omega arith in
+    elim (cases_eq (t / 64) word) [
+      | inl e ↦
+          let place : 64 * word + b ≡ t = omega arith in
+          omega (
+            arith,
+            hit-here word mask t e,
+            is b within,
+            ap counts place,
+            bit_at_and present mask b,
+            ap (λ n. bit_at n b) all,
+            bit_at-lt mask b,
+          )
+      | inr n ↦ omega (arith, hit-there word mask t n)
+    ]

@@ -7,3 +7,6 @@ mod turn;
 mod word_steps;
 
 pub use recorded_lines::{Change, RecordedLines};
+
+#[cfg(test)]
+mod recorded_tests;

@@ -1,4 +1,4 @@
-use Rattle.cil_lines.proofs.StepLemmas.{lower_present}
+use Rattle.cil_recorded.proofs.LogLemmas.{lower_present}
 use Rattle.cil_recorded.specs.Recorded.{count_now}
 use Rattle.cil_recorded.proofs.recorded_tests.lower.Goals as goal
 

@@ -1,4 +1,4 @@
-use Rattle.std.proofs.Common.{◌≡◌, ◌∙◌, ◌<◌, ◌^◌, length, bit_and, arith, rules}
+use Rattle.std.proofs.Common.{◌≡◌, ◌<◌, ◌^◌, length, bit_and, arith, rules}
 use Rattle.cil_lines.specs.Line.{IsSingle}
 use Rattle.cil_recorded.proofs.LogLemmas.{before_down, moved_down, sound_down}
 use Rattle.cil_recorded.specs.Recorded.{count_in}
@@ -16,7 +16,7 @@ invariant_of-self g c =
 
 pub returns-clause-moved : goal.returns-clause-moved
 returns-clause-moved g c =
-    rw (← c.self.view_is) (c.count_ones.ensures ∙ moved_down c.args.line c.args.word c.args.mask (count_in c.self.inside.lines.items) (count_in c.lower.new.lines.items) (search rules) c.lower.ensures.now)
+    rw (← c.self.view_is) (moved_down c.args.line c.args.word c.args.mask (count_in c.self.inside.lines.items) (count_in c.lower.new.lines.items) (search rules) c.lower.ensures.now)
 
 pub returns-clause-before : goal.returns-clause-before
 returns-clause-before g c l t =

@@ -1,4 +1,4 @@
-use Rattle.std.proofs.Common.{◌≡◌, ◌∙◌, ◌<◌, ◌^◌, length, bit_and, w64, arith, rules}
+use Rattle.std.proofs.Common.{◌≡◌, ◌<◌, ◌^◌, length, bit_and, w64, arith, rules}
 use Rattle.std.specs.Int.{bit_not}
 use Rattle.cil_lines.specs.Line.{IsPresence}
 use Rattle.cil_recorded.proofs.LogLemmas.{before_up, moved_up, sound_up}
@@ -17,7 +17,7 @@ invariant_of-self g c =
 
 pub returns-clause-moved : goal.returns-clause-moved
 returns-clause-moved g c =
-    rw (← c.self.view_is) (c.count_ones.ensures ∙ moved_up c.args.line c.args.word c.args.mask (count_in c.self.inside.lines.items) (count_in c.raise.new.lines.items) (search rules) c.raise.ensures.now)
+    rw (← c.self.view_is) (moved_up c.args.line c.args.word c.args.mask (count_in c.self.inside.lines.items) (count_in c.raise.new.lines.items) (search rules) c.raise.ensures.now)
 
 pub returns-clause-before : goal.returns-clause-before
 returns-clause-before g c l t =
