@@ -15,8 +15,8 @@ use Rattle.cil_lines.proofs.StepLemmas.{hit-here, hit-there, hit-none}
 use Rattle.cil_lines.specs.Line.{Counters, count_of, hit, IsPresence, IsSingle}
 use Rattle.cil_lines.specs.Limit.{has_place, limit, limit_of, CanRaise, CanLower}
 use Rattle.cil_recorded.specs.declared.step.Step.{Step}
-use Rattle.cil_recorded.specs.Log.{hit_at, taken_back, undone, CanTakeBack, CanUndo, turned_in, IsTurned}
-use Rattle.cil_recorded.specs.Recorded.{line_of, count_in, limit_in, IsSound, sum_below, moved}
+use Rattle.cil_recorded.specs.Log.{hit_at, taken_back, undone, CanUndo}
+use Rattle.cil_recorded.specs.Recorded.{count_in, limit_in, IsSound, sum_below, moved}
 
 -- ---- targets of a line
 
@@ -139,7 +139,7 @@ module _ (lines lines' : List Counters) (log : List Step) (sound : IsSound lines
   sound_same longer same =
       record {
         can = subst (λ h. CanUndo (length lines') (reverse log) h (limit_in lines')) (sym (same_counts (count_in lines') (count_in lines) same))
-          (can_more (length lines) (length lines') (reverse log) (count_in lines) (limit_in lines) (limit_in lines') longer more sound.can);
+            (can_more (length lines) (length lines') (reverse log) (count_in lines) (limit_in lines) (limit_in lines') longer more sound.can);
         turned = λ l t. omega (arith, sound.turned l t, same l t, undone_same (reverse log) (count_in lines) (count_in lines') same l t);
       }
 
@@ -158,7 +158,7 @@ module _ (lines lines' : List Counters) (log : List Step) (sound : IsSound lines
       can_up turned = (
         (omega (arith, len, within), λ t. omega (arith, rose line t, hit_in line word mask line t refl)),
         subst (λ h. CanUndo (length lines') (reverse log) h (limit_in lines')) (sym (back_up turned))
-        (can_more (length lines) (length lines') (reverse log) (count_in lines) (limit_in lines) (limit_in lines') (le_of_eq (sym len)) more sound.can),
+            (can_more (length lines) (length lines') (reverse log) (count_in lines) (limit_in lines) (limit_in lines') (le_of_eq (sym len)) more sound.can),
       )
 
       pub sound_up : (present : ℕ) → present < 2 ^ 64 → IsPresence (count_in lines line) word present → IsSound lines' (log ++ up (bit_and mask (bit_not w64 present)) ∷ [])
@@ -190,7 +190,7 @@ module _ (lines lines' : List Counters) (log : List Step) (sound : IsSound lines
       can_down turned room = (
         (omega (arith, len, within), room),
         subst (λ h. CanUndo (length lines') (reverse log) h (limit_in lines')) (sym (back_down turned))
-        (can_more (length lines) (length lines') (reverse log) (count_in lines) (limit_in lines) (limit_in lines') (le_of_eq (sym len)) more sound.can),
+            (can_more (length lines) (length lines') (reverse log) (count_in lines) (limit_in lines) (limit_in lines') (le_of_eq (sym len)) more sound.can),
       )
 
       pub sound_down : (single : ℕ) → IsSingle (count_in lines line) word single → CanRaise (count_in lines' line) (limit_in lines' line) word mask

@@ -1,9 +1,9 @@
 -- Turns and changes in the order of their words.
-use Rattle.std.proofs.Common.{zero, suc, ◌≡◌, ◌≢◌, ℕ, ◌+◌, ◌-◌, ◌*◌, ◌/◌, ◌%◌, ◌^◌, ◌<◌, ◌≤◌, List, [], ◌∷◌, ◌++◌, sum_by, bit_xor, bit_and, w64, min, refl, sym, ap, ◌∙◌, arith, inl, inr, Result, Ok, Err, IfOk}
+use Rattle.std.proofs.Common.{zero, suc, ◌≡◌, ◌≢◌, ℕ, ◌+◌, ◌-◌, ◌*◌, ◌/◌, ◌%◌, ◌^◌, ◌<◌, ◌≤◌, List, [], ◌∷◌, ◌++◌, bit_xor, bit_and, w64, min, refl, sym, ◌∙◌, arith, inl, inr, Result, Ok, Err, IfOk}
 use Rattle.std.proofs.lemmas.Bool.{cases_eq}
 use Rattle.std.proofs.lemmas.List.Sums.{sum_by-cons}
 use Rattle.std.proofs.lemmas.Nat.Bits.{bit_at_xor, bit_at_and, bit_at_not, bit_at-lt}
-use Rattle.std.specs.Int.{bit_at, bit_not}
+use Rattle.std.specs.Int.{bit_not}
 use Rattle.cil_lines.specs.Line.{IsPresence}
 use Rattle.cil_recorded.proofs.LogLemmas.{hit_on, hit_off, hit_out}
 use Rattle.cil_recorded.specs.declared.recorded_lines.changes.Change.{Change}

@@ -1,5 +1,5 @@
 -- Lines of counters and the log of their steps.
-use Rattle.std.specs.Prelude.{◌≡◌, ℕ, zero, suc, ◌+◌, ◌-◌, ◌*◌, List, [], ◌∷◌, length, reverse, slice_index_or}
+use Rattle.std.specs.Prelude.{ℕ, zero, suc, ◌+◌, ◌-◌, ◌*◌, List, [], length, reverse, slice_index_or}
 use Rattle.cil_lines.specs.Line.{Counters, count_of}
 use Rattle.cil_lines.specs.Limit.{limit_of}
 use Rattle.cil_recorded.specs.declared.step.Step.{Step}

@@ -8,10 +8,9 @@ ghost use Rattle.cil_recorded.specs.Recorded.{count_before, count_now, limit_now
 
 mod changes;
 
-pub use changes::Change;
-
 use crate::step::{Step, log_step};
 use crate::word_steps;
+pub use changes::Change;
 use cil_lines::Line;
 use std::alloc::{AllocError, Allocator, Global};
 use std::marker::Model;

@@ -32,13 +32,7 @@ fn raise(
     lines.raise(line, word, mask)
 }
 
-fn lower(
-    rt: &impl Abort,
-    lines: &mut RecordedLines,
-    line: usize,
-    word: usize,
-    mask: u64,
-) -> u32 {
+fn lower(rt: &impl Abort, lines: &mut RecordedLines, line: usize, word: usize, mask: u64) -> u32 {
     assert!(rt; line < lines.len());
     lines.reserve(1).expect(rt, "memory");
     let present = lines.present(line, word);

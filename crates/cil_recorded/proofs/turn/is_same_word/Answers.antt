@@ -1,4 +1,4 @@
-use Rattle.std.proofs.Common.{◌<◌, ◌^◌, arith, rules}
+use Rattle.std.proofs.Common.{◌<◌, ◌^◌, rules}
 use Rattle.std.proofs.lemmas.Bool.{eqb-false}
 use Rattle.cil_recorded.proofs.TurnLemmas.{key_is}
 use Rattle.cil_recorded.proofs.turn.is_same_word.Goals as goal

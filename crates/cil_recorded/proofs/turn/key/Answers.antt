@@ -1,4 +1,4 @@
-use Rattle.std.proofs.Common.{arith, rules}
+use Rattle.std.proofs.Common.{rules}
 use Rattle.cil_recorded.specs.Differences.{key_of}
 use Rattle.cil_recorded.proofs.turn.key.Goals as goal
 

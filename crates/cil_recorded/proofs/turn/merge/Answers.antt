@@ -1,10 +1,10 @@
-use Rattle.std.proofs.Common.{◌≡◌, ◌≢◌, ◌∙◌, ◌+◌, ◌*◌, ◌%◌, ◌<◌, ◌≤◌, ℕ, length, refl, ap, get_or, take, take_all, bit_xor, arith, rules}
+use Rattle.std.proofs.Common.{◌≡◌, ◌≤◌, ℕ, length, refl, ap, get_or, take_all, arith}
 use Rattle.std.proofs.lemmas.List.{get_or_default}
 use Rattle.std.proofs.lemmas.List.Sums.{sum_by_more, sum_by_push}
 use Rattle.cil_recorded.proofs.LogLemmas.{hit_nothing}
-use Rattle.cil_recorded.proofs.TurnLemmas.{next, ascends-push, next-push, two_turns}
+use Rattle.cil_recorded.proofs.TurnLemmas.{ascends-push, next-push, two_turns}
 use Rattle.cil_recorded.specs.declared.turn.Turn.{Turn}
-use Rattle.cil_recorded.specs.Differences.{Ascends, turned_at, turn_key, key_of}
+use Rattle.cil_recorded.specs.Differences.{turn_key, key_of}
 use Rattle.cil_recorded.specs.Log.{hit_at}
 use Rattle.cil_recorded.proofs.turn.merge.Goals as goal
 use Rattle.cil_recorded.proofs.turn.merge.Goals.{then-is_same_word, else-is_same_word+in_ok-push}

@@ -1,9 +1,9 @@
-use Rattle.std.proofs.Common.{◌≡◌, ◌+◌, ◌≤◌, ℕ, length, ap, get_or, take, take_all, false, arith, rules}
+use Rattle.std.proofs.Common.{◌≤◌, ℕ, length, ap, get_or, take_all, false, arith}
 use Rattle.std.proofs.lemmas.List.Sums.{sum_by_more, sum_by_push}
 use Rattle.cil_recorded.proofs.LogLemmas.{hit_nothing}
 use Rattle.cil_recorded.specs.declared.step.Step.{Step}
 use Rattle.cil_recorded.specs.declared.turn.Turn.{Turn}
-use Rattle.cil_recorded.specs.Log.{hit_at, turned_in}
+use Rattle.cil_recorded.specs.Log.{hit_at}
 use Rattle.cil_recorded.proofs.turn.turns_of.Goals as goal
 use Rattle.cil_recorded.proofs.turn.turns_of.Goals.{then-step-ne0+in_ok-push, else-step-ne0}
 
@@ -23,7 +23,7 @@ loop-step-preserved g c =
           (λ l t. omega (arith, c.loop-step.invariant l t, more l t, sum_by_push (λ s. hit_at s.line s.word s.mask l t) c.loop-step.turns.items turn))
       | else-step-ne0 w ↦
           rw w.turns-is (λ l t. let nothing = ap (λ m. hit_at s.line s.word m l t) w.if-step-ne0.false in
-            omega (arith, c.loop-step.invariant l t, more l t, nothing, hit_nothing s.line s.word l t))
+          omega (arith, c.loop-step.invariant l t, more l t, nothing, hit_nothing s.line s.word l t))
     ]
 
 pub returns : goal.returns

@@ -1,4 +1,4 @@
-use Rattle.std.proofs.Common.{◌+◌, ◌∙◌, [], ap}
+use Rattle.std.proofs.Common.{◌∙◌, [], ap}
 use Rattle.std.proofs.lemmas.List.{get_or_default}
 use Rattle.cil_lines.specs.Line.{Counters, count_of}
 use Rattle.cil_recorded.proofs.LogLemmas.{set_lowered}

@@ -13,8 +13,8 @@ returns-clause-appeared g c =
     let odd = rw c.deref.ensures.value at c.in_ok-turns.ensures.turned in
     rw (← c.self.view_is)
     (IfOk-both c.split.result
-      (λ v some every l t. (split_changes c.in_ok-turns.turns.items (turned_in log) (count_in lines) (undone (reverse log) (count_in lines)) c.in_ok-turns.ensures.order odd c.self.invariant.turned v.items some every l t).0)
-      appeared all)
+    (λ v some every l t. (split_changes c.in_ok-turns.turns.items (turned_in log) (count_in lines) (undone (reverse log) (count_in lines)) c.in_ok-turns.ensures.order odd c.self.invariant.turned v.items some every l t).0)
+    appeared all)
 
 pub returns-clause-gone : goal.returns-clause-gone
 returns-clause-gone g c =
@@ -25,5 +25,5 @@ returns-clause-gone g c =
     let odd = rw c.deref.ensures.value at c.in_ok-turns.ensures.turned in
     rw (← c.self.view_is)
     (IfOk-both c.split.result
-      (λ v some every l t. (split_changes c.in_ok-turns.turns.items (turned_in log) (count_in lines) (undone (reverse log) (count_in lines)) c.in_ok-turns.ensures.order odd c.self.invariant.turned v.items some every l t).1)
-      appeared all)
+    (λ v some every l t. (split_changes c.in_ok-turns.turns.items (turned_in log) (count_in lines) (undone (reverse log) (count_in lines)) c.in_ok-turns.ensures.order odd c.self.invariant.turned v.items some every l t).1)
+    appeared all)

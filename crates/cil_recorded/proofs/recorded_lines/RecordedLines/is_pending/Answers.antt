@@ -1,4 +1,4 @@
-use Rattle.std.proofs.Common.{◌≡◌, length, arith, rules}
+use Rattle.std.proofs.Common.{◌≡◌, length, rules}
 use Rattle.cil_recorded.proofs.LogLemmas.{before_none}
 use Rattle.cil_recorded.proofs.recorded_lines.RecordedLines.is_pending.Goals as goal
 

@@ -1,4 +1,4 @@
-use Rattle.std.proofs.Common.{◌≡◌, ◌<◌, ◌^◌, length, bit_and, arith, rules}
+use Rattle.std.proofs.Common.{◌<◌, length, bit_and, rules}
 use Rattle.cil_lines.specs.Line.{IsSingle}
 use Rattle.cil_recorded.proofs.LogLemmas.{before_down, moved_down, sound_down}
 use Rattle.cil_recorded.specs.Recorded.{count_in}

@@ -1,4 +1,4 @@
-use Rattle.std.proofs.Common.{◌≡◌, ◌<◌, ◌^◌, length, bit_and, w64, arith, rules}
+use Rattle.std.proofs.Common.{◌<◌, length, bit_and, w64, rules}
 use Rattle.std.specs.Int.{bit_not}
 use Rattle.cil_lines.specs.Line.{IsPresence}
 use Rattle.cil_recorded.proofs.LogLemmas.{before_up, moved_up, sound_up}

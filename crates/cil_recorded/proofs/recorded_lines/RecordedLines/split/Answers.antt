@@ -1,11 +1,11 @@
-use Rattle.std.proofs.Common.{◌≡◌, ◌+◌, ◌-◌, ◌*◌, ◌<◌, ◌≤◌, ◌^◌, ℕ, suc, List, min, ap, sym, subst, get_or, take, drop, drop-cons, bit_and, w64, arith, rules}
+use Rattle.std.proofs.Common.{◌≡◌, ◌+◌, ◌*◌, ℕ, suc, min, ap, subst, get_or, drop, drop-cons, bit_and, w64, arith, rules}
 use Rattle.std.proofs.lemmas.List.Sums.{sum_by_more, sum_by_push}
 use Rattle.std.specs.Int.{bit_not}
 use Rattle.cil_recorded.proofs.LogLemmas.{hit_nothing}
 use Rattle.cil_recorded.proofs.TurnLemmas.{next, ascends-push, ascends-less, next-push, hit_present, hit_both}
 use Rattle.cil_recorded.specs.declared.recorded_lines.changes.Change.{Change}
 use Rattle.cil_recorded.specs.declared.turn.Turn.{Turn}
-use Rattle.cil_recorded.specs.Differences.{Ascends, appeared_at, change_key, gone_at, turned_at, turn_key}
+use Rattle.cil_recorded.specs.Differences.{Ascends, change_key, turn_key}
 use Rattle.cil_recorded.specs.Log.{hit_at}
 use Rattle.cil_recorded.specs.Recorded.{count_now}
 use Rattle.cil_recorded.proofs.recorded_lines.RecordedLines.split.Goals as goal

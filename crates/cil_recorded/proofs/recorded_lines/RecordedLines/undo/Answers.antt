@@ -1,4 +1,4 @@
-use Rattle.std.proofs.Common.{◌≡◌, ◌≤◌, ◌-◌, ◌∙◌, ℕ, length, vec_len, vec_capacity, arith, rules}
+use Rattle.std.proofs.Common.{◌≡◌, ◌∙◌, length, arith, rules}
 use Rattle.cil_recorded.proofs.LogLemmas.{empty_log, left_over, took_up, took_down, sound_settled}
 use Rattle.cil_recorded.specs.Recorded.{count_in, limit_in}
 use Rattle.cil_recorded.proofs.recorded_lines.RecordedLines.undo.Goals as goal
