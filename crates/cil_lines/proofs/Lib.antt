@@ -1,4 +1,6 @@
 pub mod EntryLemmas
 pub mod SearchLemmas
 pub mod DigitLemmas
+pub mod PlaceLemmas
 pub mod LineLemmas
+pub mod StepLemmas

@@ -1,5 +1,5 @@
 -- Counters of a line, by the number of a target.
-use Rattle.std.specs.Prelude.{◌≡◌, ℕ, ◌+◌, ◌*◌, ◌/◌, ◌%◌, ◌<◌, ◌≤◌, ◌==◌, if◌then◌else◌, min, bit_and, ◌⊎◌, List, [], ◌∷◌}
+use Rattle.std.specs.Prelude.{◌≡◌, ℕ, ◌+◌, ◌-◌, ◌*◌, ◌/◌, ◌%◌, ◌<◌, ◌≤◌, ◌==◌, if◌then◌else◌, min, bit_and, ◌⊎◌, List, [], ◌∷◌}
 use Rattle.std.specs.Int.{bit_at}
 use Rattle.cil_lines.specs.Digit.{Words, bits_of, HasPlace}
 
@@ -34,6 +34,10 @@ HasRoom (d ∷ ds) w carry = (carry ≡ 0) ⊎ (HasPlace d w × HasRoom ds w (bi
 -- the mask of the targets of a word whose counters are at least 1
 abbrev pub IsPresence : (ℕ → ℕ) → ℕ → ℕ → Type 0
 IsPresence counts word mask = (b : ℕ) → b < 64 → bit_at mask b ≡ min 1 (counts (64 * word + b))
+
+-- the mask of the targets of a word whose counters are exactly 1
+abbrev pub IsSingle : (ℕ → ℕ) → ℕ → ℕ → Type 0
+IsSingle counts word mask = (b : ℕ) → b < 64 → bit_at mask b ≡ min 1 (counts (64 * word + b)) - min 1 (counts (64 * word + b) - 1)
 
 -- no counter from a word on is at least 1
 abbrev pub NonePresent : (ℕ → ℕ) → ℕ → Type 0

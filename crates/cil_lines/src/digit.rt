@@ -117,6 +117,7 @@ impl<A: Allocator + Copy> Digit<A> {
     pub fn make_place(&mut self, alloc: A, word: usize) -> Result<(), AllocError>
         requires { word < 2 ^ 58 }
         ensures place { OnOk result (HasPlace self.new word) }
+        ensures kept { (w : ℕ) → HasPlace self.old w → HasPlace self.new w }
         ensures bits { (w : ℕ) → bits_of self.new w ≡ bits_of self.old w }
     {
         if word < self.dense.len() {
@@ -134,6 +135,7 @@ impl<A: Allocator + Copy> Digit<A> {
         requires behind { length self.old.dense ≤ word }
         requires gap { IsGap self.old.sparse word place }
         ensures place { OnOk result (HasPlace self.new word) }
+        ensures kept { (w : ℕ) → HasPlace self.old w → HasPlace self.new w }
         ensures bits { (w : ℕ) → bits_of self.new w ≡ bits_of self.old w }
     {
         let last = last_word(&self.sparse, word);
@@ -154,6 +156,7 @@ impl<A: Allocator + Copy> Digit<A> {
         requires behind { length self.old.dense ≤ end }
         requires rises { Rises (length self.old.dense) end self.old.sparse }
         ensures len { OnOk result (length self.new.dense ≡ end) }
+        ensures kept { (w : ℕ) → HasPlace self.old w → HasPlace self.new w }
         ensures bits { (w : ℕ) → bits_of self.new w ≡ bits_of self.old w }
     {
         reserve(&mut self.dense, end)?;
@@ -183,6 +186,7 @@ impl<A: Allocator> Digit<A> {
         requires { HasPlace self.old word }
         ensures here { bits_of self.new word ≡ bits }
         ensures others { (w : ℕ) → w ≢ word → bits_of self.new w ≡ bits_of self.old w }
+        ensures kept { (w : ℕ) → HasPlace self.old w → HasPlace self.new w }
     {
         if word < self.dense.len() {
             self.dense[word] = bits;

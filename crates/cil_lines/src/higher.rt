@@ -3,6 +3,7 @@
 ghost use Rattle.std.specs.Prelude.{◌≡◌, ◌≢◌, ◌+◌, ◌-◌, ◌<◌, ◌≤◌, ◌^◌, ◌++◌, ℕ, List, length, min, IfOk, OnOk};
 ghost use Rattle.std.specs.Int.{bit_at};
 ghost use Rattle.cil_lines.specs.Digit.{Words, IsNext};
+ghost use Rattle.cil_lines.specs.Limit.{limit};
 ghost use Rattle.cil_lines.specs.Line.{total, value, HasRoom};
 
 use crate::digit::Digit;
@@ -84,6 +85,7 @@ fn make_places<A: Allocator + Copy>(
     ensures len { length digits.new ≡ length digits.old }
     ensures room { IfOk result (λ carry. (rest : List Words) → HasRoom rest word carry → HasRoom (digits.new ++ rest) word mask) }
     ensures now { (w b : ℕ) → value digits.new w b ≡ value digits.old w b }
+    ensures limits { (w : ℕ) → limit digits.old w ≤ limit digits.new w }
 {
     let mut carry = mask;
     for i in 0..digits.len() {
@@ -107,6 +109,7 @@ pub fn make_room<A: Allocator + Copy>(
     requires { word < 2 ^ 58 }
     ensures room { OnOk result (HasRoom digits.new.items word mask) }
     ensures now { (w b : ℕ) → value digits.new.items w b ≡ value digits.old.items w b }
+    ensures limits { (w : ℕ) → limit digits.old.items w ≤ limit digits.new.items w }
 {
     let carry = make_places(digits, alloc, word, mask)?;
     if carry != 0 {
@@ -124,6 +127,7 @@ pub fn add<A: Allocator>(digits: &mut [Digit<A>], word: usize, mask: u64)
     ensures len { length digits.new ≡ length digits.old }
     ensures sum { (b : ℕ) → value digits.new word b ≡ value digits.old word b + bit_at mask b }
     ensures others { (w b : ℕ) → w ≢ word → value digits.new w b ≡ value digits.old w b }
+    ensures limits { (w : ℕ) → limit digits.old w ≤ limit digits.new w }
 {
     let mut carry = mask;
     for i in 0..digits.len() {
@@ -134,5 +138,26 @@ pub fn add<A: Allocator>(digits: &mut [Digit<A>], word: usize, mask: u64)
         let bits = digit.bits(word);
         digit.put(word, bits ^ carry);
         carry &= bits;
+    }
+}
+
+/// Takes 1 away at each bit of a mask.
+pub fn subtract<A: Allocator>(digits: &mut [Digit<A>], word: usize, mask: u64)
+    requires above { (b : ℕ) → bit_at mask b ≤ value digits.old word b }
+    requires below { (b : ℕ) → value digits.old word b < limit digits.old word }
+    ensures len { length digits.new ≡ length digits.old }
+    ensures difference { (b : ℕ) → value digits.new word b + bit_at mask b ≡ value digits.old word b }
+    ensures others { (w b : ℕ) → w ≢ word → value digits.new w b ≡ value digits.old w b }
+    ensures limits { (w : ℕ) → limit digits.old w ≤ limit digits.new w }
+{
+    let mut borrow = mask;
+    for i in 0..digits.len() {
+        if borrow == 0 {
+            return;
+        }
+        let digit = &mut digits[i];
+        let bits = digit.bits(word) ^ borrow;
+        digit.put(word, bits);
+        borrow &= bits;
     }
 }

@@ -4,6 +4,8 @@ ghost use Rattle.std.specs.Prelude.{◌≡◌, ◌+◌, ◌-◌, ◌<◌, ◌^�
 ghost use Rattle.cil_lines.specs.Digit.{IsNext};
 ghost use Rattle.cil_lines.specs.Line.{count_of, hit, total, IsPresence, IsNextPresent, NonePresent};
 
+mod steps;
+
 use crate::digit::Digit;
 use crate::higher;
 use std::alloc::{AllocError, Allocator, Global};
@@ -22,11 +24,14 @@ pub struct Line<A: Allocator = Global> {
 }
 
 impl<A: Allocator> Model for Line<A> {
+    ghost use Rattle.cil_lines.specs.Limit.{AreBelow};
     ghost use Rattle.cil_lines.specs.Line.{Counters};
 
     ghost Value = { Counters };
 
     ghost view = { λ l. record { lowest = l.lowest; higher = l.higher.items } };
+
+    ghost invariant = { λ l. AreBelow (record { lowest = l.lowest; higher = l.higher.items }) };
 }
 
 impl<A: Allocator + Copy> Line<A> {

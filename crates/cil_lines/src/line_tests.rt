@@ -188,3 +188,43 @@ fn entries_become_dense(rt: HostRuntime) {
         assert_steps(&rt, rt.alloc(), &steps[..n], 48);
     }
 }
+
+#[test]
+fn room_changes_no_counter(rt: HostRuntime) {
+    let alloc = rt.alloc();
+    let steps = [adding(3, 0b111), adding(3, 0b110), adding(90, 1)];
+    let mut line = line(&rt, alloc, &steps);
+    let rooms = [
+        adding(3, ALL),
+        adding(3, 0),
+        adding(5, ALL),
+        adding(90, 1),
+        adding(4_000_000, 1 << 63),
+    ];
+    make_rooms(&rt, alloc, &mut line, &rooms);
+    assert_line(&rt, &line, &steps, 92);
+    assert!(&rt; line.present(4_000_000) == 0);
+}
+
+// Makes room for these steps, and makes none.
+fn make_rooms(rt: &impl Abort, alloc: Global, line: &mut Line, steps: &[Step]) {
+    for step in steps {
+        line.make_room(alloc, step.word as usize, step.mask)
+            .expect(rt, "memory");
+    }
+}
+
+#[test]
+fn targets_counted_once(rt: HostRuntime) {
+    let steps = [
+        adding(2, 0b1111),
+        adding(2, 0b0110),
+        adding(2, 0b0010),
+        adding(5, ALL),
+    ];
+    let line = line(&rt, rt.alloc(), &steps);
+    assert!(&rt; line.single(2) == 0b1001);
+    assert!(&rt; line.single(5) == ALL);
+    assert!(&rt; line.single(1) == 0);
+    assert!(&rt; line.single(1 << 40) == 0);
+}

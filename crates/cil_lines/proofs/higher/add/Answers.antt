@@ -2,6 +2,7 @@ use Rattle.std.proofs.Common.{◌≡◌, ◌+◌, suc, ◌∙◌, ap, sym, subst
 use Rattle.cil_lines.specs.Digit.{bits_of}
 use Rattle.cil_lines.specs.Line.{HasRoom}
 use Rattle.cil_lines.proofs.LineLemmas.{add_step, value-set_same, drop-set, room-next}
+use Rattle.cil_lines.proofs.PlaceLemmas.{limit-set}
 use Rattle.cil_lines.proofs.higher.add.Goals as goal
 
 pub loop-i-preserved : goal.loop-i-preserved
@@ -18,4 +19,5 @@ loop-i-preserved g c =
       room = subst (λ l. HasRoom l c.args.word (bit_and c.loop-i.carry (bits_of (get_or ds i d) c.args.word))) (sym (ap (λ k. drop k (set ds i c.put.new.self)) next ∙ drop-set ds i c.put.new.self)) room.1;
       sum = λ b. add_step ds i c.args.word c.loop-i.carry b _ d c.put.new.self within turned (was.sum b);
       others = λ w b other. value-set_same ds i w b d c.put.new.self within (c.put.ensures.others w other) ∙ was.others w b other;
+      limits = λ w. omega (arith, was.limits w, limit-set ds i w d c.put.new.self within (c.put.ensures.kept w));
     })

@@ -1,5 +1,6 @@
-use Rattle.std.proofs.Common.{◌≡◌, ◌≢◌, ℕ, ◌+◌, ◌*◌, ◌^◌, drop}
+use Rattle.std.proofs.Common.{◌≡◌, ◌≤◌, ◌≢◌, ℕ, ◌+◌, ◌*◌, ◌^◌, drop}
 use Rattle.std.specs.Int.{bit_at}
+use Rattle.cil_lines.specs.Limit.{limit}
 use Rattle.cil_lines.specs.Line.{value, HasRoom}
 use Rattle.cil_lines.proofs.higher.add.Given as goal
 
@@ -9,4 +10,5 @@ invariant-loop-i g l = record {
   room : HasRoom (drop l.i l.digits) l.word l.carry;
   sum : (b : ℕ) → value l.digits l.word b + 2 ^ l.i * bit_at l.carry b ≡ value l.fn.digits l.word b + bit_at l.mask b;
   others : (w b : ℕ) → w ≢ l.word → value l.digits w b ≡ value l.fn.digits w b;
+  limits : (w : ℕ) → limit l.fn.digits w ≤ limit l.digits w;
 }

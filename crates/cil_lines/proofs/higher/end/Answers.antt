@@ -1,4 +1,4 @@
-use Rattle.std.proofs.Common.{◌≡◌, ◌-◌, ◌∙◌, suc, ap, drop, arith}
+use Rattle.std.proofs.Common.{◌≡◌, ◌-◌, suc, ap, drop, arith}
 use Rattle.cil_lines.specs.Digit.{Words, bits_of}
 use Rattle.cil_lines.specs.Line.{total}
 use Rattle.cil_lines.proofs.LineLemmas.{total-drop}

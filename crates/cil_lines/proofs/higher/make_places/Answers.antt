@@ -1,6 +1,7 @@
 use Rattle.std.proofs.Common.{◌≡◌, ◌+◌, ◌<◌, ◌++◌, suc, ◌∙◌, ap, sym, subst, length, take, drop, take-append-drop, append_assoc, arith}
 use Rattle.cil_lines.specs.Line.{HasRoom}
 use Rattle.cil_lines.proofs.LineLemmas.{value-set_same, room-none, room-more}
+use Rattle.cil_lines.proofs.PlaceLemmas.{limit-set}
 use Rattle.cil_lines.proofs.higher.make_places.Goals as goal
 
 pub returns-then-carry-eq0-clause-room : goal.returns-then-carry-eq0-clause-room
@@ -16,6 +17,12 @@ returns-in_err-make_place-clause-now g c w b =
     let within : c.loop-i.i < length ds = let same = c.loop-i.auto.digits in let test = c.loop-i-test.true in omega (arith, same, test) in
     value-set_same ds c.loop-i.i w b c.index-digits-i.result c.make_place.new.self within (c.make_place.ensures.bits w) ∙ c.loop-i.invariant.now w b
 
+pub returns-in_err-make_place-clause-limits : goal.returns-in_err-make_place-clause-limits
+returns-in_err-make_place-clause-limits g c w =
+    let ds = c.loop-i.digits in
+    let within : c.loop-i.i < length ds = let same = c.loop-i.auto.digits in let test = c.loop-i-test.true in omega (arith, same, test) in
+    omega (arith, c.loop-i.invariant.limits w, limit-set ds c.loop-i.i w c.index-digits-i.result c.make_place.new.self within (c.make_place.ensures.kept w))
+
 pub loop-i-preserved : goal.loop-i-preserved
 loop-i-preserved g c =
     let ds = c.loop-i.digits in
@@ -28,4 +35,5 @@ loop-i-preserved g c =
     rw (c.bits-carry.ensures, next) (record {
       now = λ w b. value-set_same ds i w b d e within (c.in_ok-make_place.ensures.bits w) ∙ was.now w b;
       room = λ rest room. room-more ds rest i c.args.word c.loop-i.carry c.args.mask e within c.in_ok-make_place.ensures.place was.room room;
+      limits = λ w. omega (arith, was.limits w, limit-set ds i w d e within (c.in_ok-make_place.ensures.kept w));
     })

@@ -1,5 +1,6 @@
-use Rattle.std.proofs.Common.{◌≡◌, ℕ, ◌++◌, List, take}
+use Rattle.std.proofs.Common.{◌≡◌, ◌≤◌, ℕ, ◌++◌, List, take}
 use Rattle.cil_lines.specs.Digit.{Words}
+use Rattle.cil_lines.specs.Limit.{limit}
 use Rattle.cil_lines.specs.Line.{value, HasRoom}
 use Rattle.cil_lines.proofs.higher.make_places.Given as goal
 
@@ -8,4 +9,5 @@ abbrev pub invariant-loop-i : goal.invariant-loop-i
 invariant-loop-i g l = record {
   now : (w b : ℕ) → value l.digits w b ≡ value l.fn.digits w b;
   room : (rest : List Words) → HasRoom rest l.word l.carry → HasRoom (take l.i l.digits ++ rest) l.word l.mask;
+  limits : (w : ℕ) → limit l.fn.digits w ≤ limit l.digits w;
 }

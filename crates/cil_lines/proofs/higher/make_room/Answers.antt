@@ -1,6 +1,7 @@
-use Rattle.std.proofs.Common.{◌∙◌, ◌∷◌, []}
+use Rattle.std.proofs.Common.{◌∙◌, ◌∷◌, [], arith}
 use Rattle.std.proofs.lemmas.List.{with_items_is}
 use Rattle.cil_lines.proofs.LineLemmas.{room-last, value-append}
+use Rattle.cil_lines.proofs.PlaceLemmas.{limit-append}
 use Rattle.cil_lines.proofs.higher.make_room.Goals as goal
 
 pub returns-in_ok-push-clause-room : goal.returns-in_ok-push-clause-room
@@ -17,3 +18,10 @@ returns-in_ok-push-clause-now g c w b =
     let stored = with_items_is c.args.digits.now c.make_places.new.digits (c.make_places.ensures.len ∙ c.deref_mut.ensures.len) in
     let before = rw c.deref_mut.ensures.value at (c.in_ok-carry.ensures.now w b) in
     rw (c.in_ok-push.ensures.items, c.reserve_exact.ensures.items, stored) (value-append c.make_places.new.digits d w b none ∙ before)
+
+pub returns-in_ok-push-clause-limits : goal.returns-in_ok-push-clause-limits
+returns-in_ok-push-clause-limits g c w =
+    let d = c.make_place.new.self in
+    let stored = with_items_is c.args.digits.now c.make_places.new.digits (c.make_places.ensures.len ∙ c.deref_mut.ensures.len) in
+    let before = rw c.deref_mut.ensures.value at (c.in_ok-carry.ensures.limits w) in
+    rw (c.in_ok-push.ensures.items, c.reserve_exact.ensures.items, stored) (omega (arith, before, limit-append c.make_places.new.digits d w))

@@ -2,6 +2,7 @@ use Rattle.std.proofs.Common.{◌≡◌, ◌≤◌, ◌^◌, length, arith, rule
 use Rattle.cil_lines.specs.Digit.{IsGap, IsLast}
 use Rattle.cil_lines.proofs.EntryLemmas.{Rises-from, Rises-below, Rises-to, Rises-insert}
 use Rattle.cil_lines.proofs.DigitLemmas.{OnOk-map, place-dense, place-insert, bits-insert}
+use Rattle.cil_lines.proofs.PlaceLemmas.{kept-insert}
 use Rattle.cil_lines.proofs.digit.Digit.open.Goals as goal
 
 pub last_word-last-requires : goal.last_word-last-requires
@@ -54,3 +55,8 @@ pub returns-in_ok-insert-clause-bits : goal.returns-in_ok-insert-clause-bits
 returns-in_ok-insert-clause-bits g c w =
     let gap : IsGap c.self.inside.sparse.items c.args.word c.args.place = rw (← c.self.view_is) at c.requires.gap in
     rw (← c.self.view_is, c.in_ok-insert.ensures.items, c.reserve.ensures.same) (bits-insert c.self.inside.dense.items c.self.inside.sparse.items c.args.word c.args.place gap w)
+
+pub returns-in_ok-insert-clause-kept : goal.returns-in_ok-insert-clause-kept
+returns-in_ok-insert-clause-kept g c w place =
+    let before = rw (← c.self.view_is) at place in
+    rw (c.in_ok-insert.ensures.items, c.reserve.ensures.same) (kept-insert c.self.inside.dense.items c.self.inside.sparse.items c.args.word c.args.place w before)

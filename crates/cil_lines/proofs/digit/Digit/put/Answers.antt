@@ -1,6 +1,8 @@
 use Rattle.std.proofs.Common.{◌<◌, ◌≤◌, length, arith, rules}
 use Rattle.cil_lines.proofs.EntryLemmas.{Rises-from, Rises-set}
 use Rattle.cil_lines.proofs.DigitLemmas.{bits-dense_here, bits-dense_other, bits-sparse_here, bits-sparse_other, place-none}
+use Rattle.cil_lines.specs.Digit.{IsEntry}
+use Rattle.cil_lines.proofs.PlaceLemmas.{kept-dense, kept-sparse}
 use Rattle.cil_lines.proofs.digit.Digit.put.Goals as goal
 
 pub search-requires : goal.search-requires
@@ -37,3 +39,14 @@ returns-in_default-clause-here g c =
     let gap = rw c.deref.ensures.value at c.in_default.ensures in
     let has = rw (← c.self.view_is) at c.requires in
     absurd (place-none c.self.inside.dense.items c.self.inside.sparse.items c.args.word _ past gap has)
+
+pub returns-then-word-len-clause-kept : goal.returns-then-word-len-clause-kept
+returns-then-word-len-clause-kept g c w place =
+    let before = rw (← c.self.view_is) at place in
+    kept-dense c.self.inside.dense.items c.self.inside.sparse.items c.args.word c.args.bits w before
+
+pub returns-in-Ok-clause-kept : goal.returns-in-Ok-clause-kept
+returns-in-Ok-clause-kept g c w place =
+    let before = rw (← c.self.view_is) at place in
+    let entry : IsEntry c.self.inside.sparse.items c.args.word c.in-Ok.place = rw c.deref.ensures.value at c.in-Ok.ensures in
+    kept-sparse c.self.inside.dense.items c.self.inside.sparse.items c.args.word c.args.bits c.in-Ok.place w entry.at before

@@ -5,6 +5,7 @@ use Rattle.std.proofs.Math.ListN.{get_or-eq_default}
 use Rattle.cil_lines.specs.Digit.{Rises}
 use Rattle.cil_lines.proofs.EntryLemmas.{Rises-from}
 use Rattle.cil_lines.proofs.DigitLemmas.{bits-spread}
+use Rattle.cil_lines.proofs.PlaceLemmas.{kept-spread}
 use Rattle.cil_lines.proofs.digit.Digit.spread.Goals as goal
 
 pub fill-requires : goal.fill-requires
@@ -31,3 +32,14 @@ returns-clause-bits g c w =
     let filled = rw c.deref.ensures.value at (c.fill.ensures.words (length l) (rw (c.deref.ensures.value, long) rises) none) in
     let stored = with_items_is c.resize.new.self c.fill.new.words (c.fill.ensures.len ∙ c.deref_mut.ensures.len) in
     rw (← c.self.view_is, stored, c.new.ensures.items) (bits-spread l l' c.fill.new.words es c.args.end longer rises kept filled behind w)
+
+pub returns-clause-kept : goal.returns-clause-kept
+returns-clause-kept g c w place =
+    let l = c.self.inside.dense.items in
+    let es = c.self.inside.sparse.items in
+    let longer : length c.fill.new.words ≡ c.args.end = c.fill.ensures.len ∙ c.deref_mut.ensures.len ∙ c.in_ok-resize.ensures.len in
+    let rises : Rises (length l) c.args.end es = rw (← c.self.view_is) at c.requires.rises in
+    let behind : length l ≤ c.args.end = rw (← c.self.view_is) at c.requires.behind in
+    let before = rw (← c.self.view_is) at place in
+    let stored = with_items_is c.resize.new.self c.fill.new.words (c.fill.ensures.len ∙ c.deref_mut.ensures.len) in
+    rw (stored, c.new.ensures.items) (kept-spread l es c.fill.new.words c.args.end w longer rises behind before)

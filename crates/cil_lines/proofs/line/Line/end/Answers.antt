@@ -1,6 +1,4 @@
-use Rattle.std.proofs.Common.{◌≡◌, ◌+◌, ◌/◌, arith}
-use Rattle.cil_lines.specs.Digit.{bits_of}
-use Rattle.cil_lines.specs.Line.{Counters, total, count_of}
+use Rattle.std.proofs.Common.{◌/◌, arith}
 use Rattle.cil_lines.proofs.LineLemmas.{none_counted}
 use Rattle.cil_lines.proofs.line.Line.end.Goals as goal
 

@@ -1,0 +1,28 @@
+use Rattle.std.proofs.Common.{◌<◌, length, bit_and, rules}
+use Rattle.cil_lines.specs.Line.{IsSingle}
+use Rattle.cil_recorded.proofs.LogLemmas.{before_down, moved_down, sound_down}
+use Rattle.cil_recorded.specs.Recorded.{count_in}
+use Rattle.cil_recorded.proofs.recorded_lines.RecordedLines.lower.Goals as goal
+
+pub invariant_of-self : goal.invariant_of-self
+invariant_of-self g c =
+    let old = c.self.inside.lines.items in
+    let log = c.self.inside.log.items in
+    let step = c.lower.ensures in
+    let within : c.args.line < length old = rw (← c.self.view_is) at c.requires.line in
+    let is : IsSingle (count_in old c.args.line) c.args.word c.single.result = rw (← c.self.view_is) at c.single.ensures in
+    rw c.log_step.ensures.items
+    (sound_down old c.lower.new.lines.items log c.self.invariant step.limits step.len c.args.line c.args.word c.args.mask within step.now c.single.result is step.room)
+
+pub returns-clause-moved : goal.returns-clause-moved
+returns-clause-moved g c =
+    rw (← c.self.view_is) (moved_down c.args.line c.args.word c.args.mask (count_in c.self.inside.lines.items) (count_in c.lower.new.lines.items) (search rules) c.lower.ensures.now)
+
+pub returns-clause-before : goal.returns-clause-before
+returns-clause-before g c l t =
+    let old = c.self.inside.lines.items in
+    let log = c.self.inside.log.items in
+    let step = c.lower.ensures in
+    let within : c.args.line < length old = rw (← c.self.view_is) at c.requires.line in
+    rw (c.log_step.ensures.items, ← c.self.view_is)
+    (before_down old c.lower.new.lines.items log c.self.invariant step.limits step.len c.args.line c.args.word c.args.mask within step.now (bit_and c.args.mask c.single.result) l t)

@@ -1,0 +1,29 @@
+use Rattle.std.proofs.Common.{◌<◌, length, bit_and, w64, rules}
+use Rattle.std.specs.Int.{bit_not}
+use Rattle.cil_lines.specs.Line.{IsPresence}
+use Rattle.cil_recorded.proofs.LogLemmas.{before_up, moved_up, sound_up}
+use Rattle.cil_recorded.specs.Recorded.{count_in}
+use Rattle.cil_recorded.proofs.recorded_lines.RecordedLines.raise.Goals as goal
+
+pub invariant_of-self : goal.invariant_of-self
+invariant_of-self g c =
+    let old = c.self.inside.lines.items in
+    let log = c.self.inside.log.items in
+    let step = c.raise.ensures in
+    let within : c.args.line < length old = rw (← c.self.view_is) at c.requires.line in
+    let is : IsPresence (count_in old c.args.line) c.args.word c.present.result = rw (← c.self.view_is) at c.present.ensures in
+    rw c.log_step.ensures.items
+    (sound_up old c.raise.new.lines.items log c.self.invariant step.limits step.len c.args.line c.args.word c.args.mask within step.now c.present.result (search rules) is)
+
+pub returns-clause-moved : goal.returns-clause-moved
+returns-clause-moved g c =
+    rw (← c.self.view_is) (moved_up c.args.line c.args.word c.args.mask (count_in c.self.inside.lines.items) (count_in c.raise.new.lines.items) (search rules) c.raise.ensures.now)
+
+pub returns-clause-before : goal.returns-clause-before
+returns-clause-before g c l t =
+    let old = c.self.inside.lines.items in
+    let log = c.self.inside.log.items in
+    let step = c.raise.ensures in
+    let within : c.args.line < length old = rw (← c.self.view_is) at c.requires.line in
+    rw (c.log_step.ensures.items, ← c.self.view_is)
+    (before_up old c.raise.new.lines.items log c.self.invariant step.limits step.len c.args.line c.args.word c.args.mask within step.now (bit_and c.args.mask (bit_not w64 c.present.result)) l t)

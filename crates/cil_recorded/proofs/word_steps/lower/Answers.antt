@@ -1,0 +1,12 @@
+use Rattle.std.proofs.Common.{◌∙◌, [], ap}
+use Rattle.std.proofs.lemmas.List.{get_or_default}
+use Rattle.cil_lines.specs.Line.{Counters, count_of}
+use Rattle.cil_recorded.proofs.LogLemmas.{set_lowered}
+use Rattle.cil_recorded.proofs.word_steps.lower.Goals as goal
+
+pub returns-clause-now : goal.returns-clause-now
+returns-clause-now g c =
+    let lines = c.args.lines.now.items in
+    let is = c.index_mut-at.ensures.value ∙ get_or_default lines c.args.line _ (record { lowest = record { dense = []; sparse = [] }; higher = [] }) c.requires.line in
+    set_lowered lines c.args.line c.args.word c.args.mask c.lower.new.self c.requires.line
+    (λ t. c.lower.ensures.now t ∙ ap (λ (at : Counters). count_of at t) is)

@@ -1,0 +1,35 @@
+-- What a log of steps says of the counters before them, by line and target.
+use Rattle.std.specs.Prelude.{◌≡◌, ℕ, ◌+◌, ◌-◌, ◌%◌, ◌<◌, ◌==◌, List, [], ◌∷◌, if◌then◌else◌, min, sum_by, MatchBool}
+use Rattle.cil_lines.specs.Line.{hit}
+use Rattle.cil_lines.specs.Limit.{CanRaise, CanLower}
+use Rattle.cil_recorded.specs.declared.step.Step.{Step}
+
+-- 1 for a target of the mask of a word in a line, and 0 for any other
+unfoldable pub hit_at : ℕ → ℕ → ℕ → ℕ → ℕ → ℕ
+hit_at line word mask l t = if l == line then hit word mask t else 0
+
+-- the counters without a step
+abbrev pub taken_back : Step → (ℕ → ℕ → ℕ) → ℕ → ℕ → ℕ
+taken_back s f l t = if s.up then f l t - hit_at s.line s.word s.mask l t else f l t + hit_at s.line s.word s.mask l t
+
+-- the counters before the steps of a log, the newest step first
+abbrev pub undone : List Step → (ℕ → ℕ → ℕ) → ℕ → ℕ → ℕ
+undone [] f = f
+undone (s ∷ ss) f = undone ss (taken_back s f)
+
+-- a step of one of n lines can be taken back without memory
+abbrev pub CanTakeBack : ℕ → Step → (ℕ → ℕ → ℕ) → (ℕ → ℕ → ℕ) → Type 0
+CanTakeBack n s f limits = (s.line < n) × MatchBool s.up (CanLower (f s.line) s.word s.mask) (CanRaise (f s.line) (limits s.line) s.word s.mask)
+
+-- each step can be taken back without memory, from the newest on
+abbrev pub CanUndo : ℕ → List Step → (ℕ → ℕ → ℕ) → (ℕ → ℕ → ℕ) → Type 0
+CanUndo n [] f limits = Unit {0}
+CanUndo n (s ∷ ss) f limits = CanTakeBack n s f limits × CanUndo n ss (taken_back s f) limits
+
+-- how many steps let a target of a line appear or go
+abbrev pub turned_in : List Step → ℕ → ℕ → ℕ
+turned_in ss l t = sum_by (λ s. hit_at s.line s.word s.turned l t) ss
+
+-- a target was turned an odd number of times exactly where it is present now or was before, and not both
+abbrev pub IsTurned : (ℕ → ℕ → ℕ) → (ℕ → ℕ → ℕ) → (ℕ → ℕ → ℕ) → Type 0
+IsTurned turns now before = (l t : ℕ) → (turns l t + (min 1 (now l t) + min 1 (before l t))) % 2 ≡ 0
