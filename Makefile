@@ -15,11 +15,13 @@ run:
 try:
 	cd crates/cilsem && rt try -- session < ../../examples/first.session
 
-# The gate: every proof from nothing, the must-fail edits, the tests and the programs.
+# The gate: every proof from nothing, the must-fail edits, the tests and the programs; and what the built program prints of the
+# examples.
 test:
 	rt ci
+	examples/check.sh
 
-# Has the program that `make run` built answer the examples, and compares what it prints.
+# Has the program that `make run` or `make test` built answer the examples, and compares what it prints.
 examples:
 	examples/check.sh
 

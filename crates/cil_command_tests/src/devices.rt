@@ -24,6 +24,12 @@ const CASES: &[(&[&str], usize, usize, Done<'static>)] = &[
     ),
     (
         &["cilsem", "compile", "failing_devices/a.cil"],
+        0,
+        1000,
+        (3, "", ""),
+    ),
+    (
+        &["cilsem", "compile", "failing_devices/a.cil"],
         7,
         1000,
         (3, "allow a", ""),

@@ -12,6 +12,8 @@ mod helps;
 #[cfg(test)]
 mod long;
 #[cfg(test)]
+mod many;
+#[cfg(test)]
 mod program;
 #[cfg(test)]
 mod words;

@@ -70,7 +70,8 @@ pub fn one_judgement()
 
 /// Edits that are made at once on a store in order have at most one judgement.
 pub fn one_judgement_at_once()
-    ensures { (store : Store) (edits : List Edit) (judgement other : Judgement) → IsStore store → NextOfAll store edits judgement → NextOfAll store edits other → judgement ≡ other }
+    ensures { (store : Store) (edits : List Edit) (judgement other : Judgement) → IsStore store → NextOfAll store edits judgement → NextOfAll store edits other
+        → judgement ≡ other }
 {}
 
 /// Two runs of the same calls from a store in order, in which no reply is out of memory, agree in every reply and in the store.
@@ -84,7 +85,8 @@ pub fn one_run()
 /// accepts.
 pub fn dumps_are_faithful()
     ensures run { (store new : Store) (changes : List Changes) → IsStore store → Run empty (map an_edit (dump_edits store)) (map changed_by changes) new → new ≡ store }
-    ensures session { (store new : Store) (written : List ℕ) → IsStore store → IsWithinLimits store → IsSession (dump_text store) true empty new written all_accepted → new ≡ store }
+    ensures session { (store new : Store) (written : List ℕ) → IsStore store → IsWithinLimits store → IsSession (dump_text store) true empty new written all_accepted
+        → new ≡ store }
     ensures at_once { (store : Store) (meaning : Meaning) → IsStore store → IsWithinLimits store → HasGoodTexts store → IsMeaningOf store meaning
         → NextOfAll empty (dump_edits store) (accepts store) }
 {}
