@@ -1,0 +1,9 @@
+//! Lines of counters found by a key and changed in steps that can be taken back.
+#![tactic(auto)]
+
+mod keyed_lines;
+mod line_steps;
+mod symbol_key;
+
+pub use keyed_lines::KeyedLines;
+pub use symbol_key::SymbolKey;
