@@ -1,19 +1,26 @@
 -- The counters of keys, by the places of their lines.
-use Rattle.std.proofs.Common.{◌≡◌, ◌≢◌, ℕ, ◌+◌, ◌<◌, ◌≤◌, ◌==◌, ◌&&◌, Bool, true, false, cond, if◌then◌else◌, nat_lt, List, [], ◌∷◌, ◌++◌, length, get_or, position, slice_get, Option, None, Some, refl, sym, ap, subst, ◌∙◌, true≢false, inl, inr, arith}
+use Rattle.std.proofs.Common.{zero, suc, ◌≡◌, ◌≢◌, ◌⊎◌, ℕ, ◌+◌, ◌/◌, ◌%◌, ◌^◌, ◌<◌, ◌≤◌, ◌==◌, ◌&&◌, Bool, true, false, cond, if◌then◌else◌, nat_lt, List, [], ◌∷◌, ◌++◌, length, get_or, position, slice_get, bit_and, w64, Option, None, Some, Result, Ok, Err, MatchOption, OnOk, OnErr, refl, sym, ap, subst, ◌∙◌, true≢false, inl, inr, arith}
+use Rattle.std.specs.Int.{bit_at, bit_not}
 use Rattle.std.specs.List.{list_any, position_or_len, IsDistinct}
 use Rattle.std.specs.Option.{option_map_or}
-use Rattle.std.proofs.lemmas.Bool.{cases_eq, eqb-true, eq-eqb, ne_eqb, ltb-true, ltb-false, lt-ltb}
+use Rattle.std.proofs.lemmas.Bool.{cases_eq, cases_lt, eqb-true, eq-eqb, ne_eqb, ltb-true, ltb-false, lt-ltb}
 use Rattle.std.proofs.lemmas.List.{length-append}
 use Rattle.std.proofs.lemmas.List.Folds.{position_or_len_push}
 use Rattle.std.proofs.lemmas.List.Quantifiers.{position-Some}
 use Rattle.std.proofs.lemmas.List.Sums.{position_or_len_is}
 use Rattle.std.proofs.lemmas.Map.Keys.{apart_from_distinct}
-use Rattle.std.proofs.lemmas.Option.{slice_get_within, get_or_from_slice_get}
+use Rattle.std.proofs.lemmas.Option.{none-some, slice_get_within, get_or_from_slice_get, slice_get-get_or}
+use Rattle.std.proofs.lemmas.Nat.{and-not, and_comm}
+use Rattle.std.specs.Int.Bits.{and_self}
+use Rattle.std.proofs.lemmas.Nat.Bits.{bit_at_and, bit_at_not, bit_at-lt}
+use Rattle.cil_lines.proofs.StepLemmas.{hit-here, hit-there}
 use Rattle.cil_lines.specs.Line.{hit}
 use Rattle.cil_recorded.specs.Log.{hit_at}
+use Rattle.cil_recorded.specs.Recorded as recorded
+use Rattle.cil_recorded.specs.Recorded.{State, lines_in}
 use Rattle.cil_recorded.proofs.LogLemmas.{hit_in, hit_off, same_counts}
 use Rattle.cil_keyed_lines.specs.declared.symbol_key.SymbolKey.{SymbolKey}
-use Rattle.cil_keyed_lines.specs.Keyed.{count_by, hit_of, is_key, with_key}
+use Rattle.cil_keyed_lines.specs.Keyed.{Keyed, AreKeyed, IsLineOf, IsNoLine, before_at, count_by, hit_of, is_key, now_at, with_key}
 
 -- ---- keys
 
@@ -168,3 +175,98 @@ module _ (f g : ℕ → ℕ → ℕ) (keys : List SymbolKey) (key : SymbolKey) (
         hit_key keys key place word gone at k t,
         hit_key keys key place word come at k t,
       )
+
+-- the memory that a shift took or lacks
+module _ {E : Type 0} (keys : List SymbolKey) (old new : State) (key : SymbolKey) (place word gone come : ℕ) (at : position (is_key key) keys ≡ Some place) (keyed : AreKeyed keys old)
+    (r : Result (Unit {0}) E) (shifted : OnOk r ((l t : ℕ) → recorded.count_now new l t + hit_at place word gone l t ≡ recorded.count_now old l t + hit_at place word come l t))
+    (kept : OnErr r ((l t : ℕ) → recorded.count_now new l t ≡ recorded.count_now old l t)) where
+  pub keyed_shifted : lines_in new ≡ lines_in old → ((l t : ℕ) → recorded.count_before new l t ≡ recorded.count_before old l t) → AreKeyed keys new
+  keyed_shifted len before = record {
+    distinct = keyed.distinct;
+    within = omega (arith, len, keyed.within);
+    now = by r shifted kept;
+    before = λ l t behind. before l t ∙ keyed.before l t behind;
+  }
+    where
+      by : (q : Result (Unit {0}) E) → OnOk q ((l t : ℕ) → recorded.count_now new l t + hit_at place word gone l t ≡ recorded.count_now old l t + hit_at place word come l t)
+          → OnErr q ((l t : ℕ) → recorded.count_now new l t ≡ recorded.count_now old l t) → (l t : ℕ) → length keys ≤ l → recorded.count_now new l t ≡ 0
+      by (Ok x) ok err l t behind = past_shifted (recorded.count_now old) (recorded.count_now new) keys key place word gone come at keyed.now ok l t behind
+      by (Err e) ok err l t behind = err l t ∙ keyed.now l t behind
+
+-- ---- the targets that go and those that come
+
+-- they differ as those before and after do
+swap : (word was is t : ℕ) → was < 2 ^ 64 → is < 2 ^ 64
+    → hit word (bit_and was (bit_not w64 is)) t + hit word is t ≡ hit word (bit_and is (bit_not w64 was)) t + hit word was t
+swap word was is t was_fits is_fits =
+    let gone = bit_and was (bit_not w64 is) in
+    let come = bit_and is (bit_not w64 was) in
+    let b = t % 64 in
+    let within : b < 64 = omega arith in
+    elim (cases_eq (t / 64) word) [
+      | inl e ↦
+          omega (
+            arith,
+            hit-here word was t e,
+            hit-here word is t e,
+            hit-here word gone t e,
+            hit-here word come t e,
+            bit_at_and was (bit_not w64 is) b,
+            bit_at_and is (bit_not w64 was) b,
+            bit_at_not w64 is b is_fits within,
+            bit_at_not w64 was b was_fits within,
+            bit_at-lt was b,
+            bit_at-lt is b,
+          )
+      | inr n ↦ omega (arith, hit-there word was t n, hit-there word is t n, hit-there word gone t n, hit-there word come t n)
+    ]
+
+pub swap_of : (key : SymbolKey) (word was is : ℕ) (k : SymbolKey) (t : ℕ) → was < 2 ^ 64 → is < 2 ^ 64
+    → hit_of key word (bit_and was (bit_not w64 is)) k t + hit_of key word is k t ≡ hit_of key word (bit_and is (bit_not w64 was)) k t + hit_of key word was k t
+unfolding hit_of
+swap_of key word was is k t was_fits is_fits = by (is_key key k)
+  where
+    gone : ℕ
+    gone = bit_and was (bit_not w64 is)
+
+    come : ℕ
+    come = bit_and is (bit_not w64 was)
+
+    by : (b : Bool) → (if b then hit word gone t else 0) + (if b then hit word is t else 0) ≡ (if b then hit word come t else 0) + (if b then hit word was t else 0)
+    by true = swap word was is t was_fits is_fits
+    by false = refl
+
+-- none go where all stay
+pub none_gone : (was is : ℕ) → was ≡ is → is < 2 ^ 64 → bit_and was (bit_not w64 is) ≡ 0
+none_gone was is same fits = ap (λ n. bit_and n (bit_not w64 is)) same ∙ and_comm is (bit_not w64 is) ∙ omega (arith, and-not 64 is is fits fits, and_self is)
+
+-- ---- listing
+
+-- keys keep their places
+pub places_grown : (keys : List SymbolKey) (key : SymbolKey) (i : ℕ) (k : SymbolKey) → slice_get keys i ≡ Some k → slice_get (with_key keys key) i ≡ Some k
+places_grown keys key i k at = by (list_any (is_key key) keys)
+  where
+    push : (ks : List SymbolKey) (j : ℕ) → slice_get ks j ≡ Some k → slice_get (ks ++ key ∷ []) j ≡ Some k
+    push [] j is = absurd (none-some k is)
+    push (x ∷ ks) zero is = is
+    push (x ∷ ks) (suc j) is = push ks j is
+
+    by : (b : Bool) → slice_get (if b then keys else keys ++ key ∷ []) i ≡ Some k
+    by true = at
+    by false = push keys i at
+
+pub line_of_place : (k : Keyed) (i : ℕ) (o : Option SymbolKey) → AreKeyed k.keys k.lines → o ≡ slice_get k.keys i → MatchOption o (IsNoLine k i) (IsLineOf k i)
+line_of_place k i None keyed is =
+    let behind : length k.keys ≤ i = by (cases_lt i (length k.keys)) in
+    record { behind = behind; now = λ t. keyed.now i t behind; before = λ t. keyed.before i t behind }
+  where
+    no_key : SymbolKey
+    no_key = record { source = 0; class = 0; permission = 0 }
+
+    by : (i < length k.keys) ⊎ (length k.keys ≤ i) → length k.keys ≤ i
+    by (inl less) = absurd (none-some (get_or k.keys i no_key) (is ∙ slice_get-get_or k.keys i no_key less))
+    by (inr behind) = behind
+line_of_place k i (Some key) keyed is =
+    let at = sym is in
+    let place = placed_at k.keys i key keyed.distinct at in
+    record { at = at; now = λ t. sym (count_placed (now_at k) k.keys key i t place); before = λ t. sym (count_placed (before_at k) k.keys key i t place) }

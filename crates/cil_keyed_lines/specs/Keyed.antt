@@ -58,3 +58,9 @@ pub record IsLineOf (k : Keyed) (i : ℕ) (key : SymbolKey) : Type 0 where
   pub at : slice_get k.keys i ≡ Some key
   pub now : (t : ℕ) → now_at k i t ≡ count_now k key t
   pub before : (t : ℕ) → before_at k i t ≡ count_before k key t
+
+-- the place is behind the lines of all keys
+pub record IsNoLine (k : Keyed) (i : ℕ) : Type 0 where
+  pub behind : length k.keys ≤ i
+  pub now : (t : ℕ) → now_at k i t ≡ 0
+  pub before : (t : ℕ) → before_at k i t ≡ 0

@@ -5,7 +5,7 @@ ghost use Rattle.std.specs.Int.{bit_not, w64};
 ghost use Rattle.cil_lines.specs.Line.{IsPresence, IsNextPresent, NonePresent};
 ghost use Rattle.cil_lines.specs.Limit.{CanLower};
 ghost use Rattle.cil_recorded.specs.Differences.{appeared_at, change_key, gone_at, Ascends};
-ghost use Rattle.cil_keyed_lines.specs.Keyed.{before_at, count_before, count_now, hit_of, is_key, now_at, steps_in, with_key, IsLineOf};
+ghost use Rattle.cil_keyed_lines.specs.Keyed.{before_at, count_before, count_now, hit_of, is_key, now_at, steps_in, with_key, IsLineOf, IsNoLine};
 
 use crate::line_steps;
 use crate::symbol_key::SymbolKey;
@@ -62,5 +62,143 @@ impl<A: Allocator + Copy> KeyedLines<A> {
         line_steps::reach(&mut self.lines, alloc, self.keys.len())?;
         let (place, _new) = self.keys.insert_full(key)?;
         Ok(place)
+    }
+
+    /// The targets of a word in the line of a key that were given, and those that are given now. It takes 1 from the counter of
+    /// each target that goes and adds 1 to that of each that comes, and answers how many counters moved. All memory is taken
+    /// before a counter changes.
+    pub fn shift(
+        &mut self,
+        alloc: A,
+        key: SymbolKey,
+        word: usize,
+        was: u64,
+        is: u64,
+    ) -> Result<u32, AllocError>
+        requires word { word < 2 ^ 58 }
+        requires above { CanLower (count_now self.old key) word (bit_and was (bit_not w64 is)) }
+        ensures moved { IfOk result (λ n. n ≡ count_ones (bit_xor was is)) }
+        ensures now { OnOk result ((k : SymbolKey) (t : ℕ) → count_now self.new k t + hit_of key word was k t ≡ count_now self.old k t + hit_of key word is k t) }
+        ensures steps { OnOk result (steps_in self.new ≡ steps_in self.old + min 1 (bit_and was (bit_not w64 is)) + min 1 (bit_and is (bit_not w64 was))) }
+        ensures keys { OnOk result (self.new.keys ≡ (if was == is then self.old.keys else with_key self.old.keys key)) }
+        ensures kept { OnErr result ((k : SymbolKey) (t : ℕ) → count_now self.new k t ≡ count_now self.old k t) }
+        ensures kept_steps { OnErr result (steps_in self.new ≡ steps_in self.old) }
+        ensures places { (i : ℕ) (k : SymbolKey) → slice_get self.old.keys i ≡ Some k → slice_get self.new.keys i ≡ Some k }
+        ensures before { (k : SymbolKey) (t : ℕ) → count_before self.new k t ≡ count_before self.old k t }
+    {
+        if was == is {
+            return Ok(0);
+        }
+        let place = self.reach(alloc, key)?;
+        self.shift_at(alloc, place, key, word, was & !is, is & !was)?;
+        Ok((was ^ is).count_ones())
+    }
+
+    /// Takes 1 from the counter of each target that goes in the line of a place, and adds 1 to that of each that comes.
+    fn shift_at(
+        &mut self,
+        alloc: A,
+        place: usize,
+        key: SymbolKey,
+        word: usize,
+        gone: u64,
+        come: u64,
+    ) -> Result<(), AllocError>
+        requires place { position (is_key key) self.old.keys ≡ Some place }
+        requires word { word < 2 ^ 58 }
+        requires above { CanLower (count_now self.old key) word gone }
+        ensures now { OnOk result ((k : SymbolKey) (t : ℕ) → count_now self.new k t + hit_of key word gone k t ≡ count_now self.old k t + hit_of key word come k t) }
+        ensures steps { OnOk result (steps_in self.new ≡ steps_in self.old + min 1 gone + min 1 come) }
+        ensures kept { OnErr result ((k : SymbolKey) (t : ℕ) → count_now self.new k t ≡ count_now self.old k t) }
+        ensures kept_steps { OnErr result (steps_in self.new ≡ steps_in self.old) }
+        ensures keys { self.new.keys ≡ self.old.keys }
+        ensures before { (k : SymbolKey) (t : ℕ) → count_before self.new k t ≡ count_before self.old k t }
+    {
+        line_steps::shift(&mut self.lines, alloc, place, word, gone, come)
+    }
+
+    /// Which targets appeared and which went since the last settling, by the place of the line and by word. A word where none
+    /// did is left out.
+    pub fn changes(&self, alloc: A) -> Result<Vec<Change, A>, AllocError>
+        ensures order { IfOk result (λ v. Ascends change_key 0 v.items) }
+        ensures appeared { IfOk result (λ v. (i t : ℕ) → appeared_at v.items i t ≡ min 1 (now_at self.now i t) - min 1 (before_at self.now i t)) }
+        ensures gone { IfOk result (λ v. (i t : ℕ) → gone_at v.items i t ≡ min 1 (before_at self.now i t) - min 1 (now_at self.now i t)) }
+    {
+        self.lines.changes(alloc)
+    }
+}
+
+impl<A: Allocator> KeyedLines<A> {
+    /// How many keys have a line.
+    pub fn len(&self) -> usize
+        ensures { result ≡ length self.now.keys }
+    {
+        self.keys.len()
+    }
+
+    /// Whether no key has a line.
+    pub fn is_empty(&self) -> bool
+        ensures { IsTrue result ↔ (length self.now.keys ≡ 0) }
+    {
+        self.keys.is_empty()
+    }
+
+    /// The key whose line has a place.
+    pub fn at(&self, place: usize) -> Option<SymbolKey>
+        ensures { MatchOption result (IsNoLine self.now place) (IsLineOf self.now place) }
+    {
+        self.keys.get_index(place).copied()
+    }
+
+    /// The counter of a target in the line of a key, or the greatest `u64` where it is greater.
+    pub fn count(&self, key: SymbolKey, target: usize) -> u64
+        ensures { result ≡ min (count_now self.now key target) (2 ^ 64 - 1) }
+    {
+        match self.keys.get_index_of(&key) {
+            Some(place) => self.lines.count(place, target),
+            None => 0,
+        }
+    }
+
+    /// The targets of a word in the line of a place whose counters are at least 1.
+    pub fn present(&self, place: usize, word: usize) -> u64
+        ensures { IsPresence (now_at self.now place) word result }
+    {
+        self.lines.present(place, word)
+    }
+
+    /// The first word of the line of a place, from one on, with a target whose counter is at least 1.
+    pub fn next_present_word(&self, place: usize, from: usize) -> Option<usize>
+        ensures { MatchOption result (NonePresent (now_at self.now place) from) (IsNextPresent (now_at self.now place) from) }
+    {
+        self.lines.next_present_word(place, from)
+    }
+
+    /// Whether there are steps that `undo` would take back.
+    pub fn is_pending(&self) -> bool
+        ensures steps { IsTrue result ↔ (0 < steps_in self.now) }
+        ensures none { result ≡ false → (k : SymbolKey) (t : ℕ) → count_before self.now k t ≡ count_now self.now k t }
+    {
+        self.lines.is_pending()
+    }
+
+    /// Takes the steps back. Keys that came keep their lines. It takes no memory.
+    pub fn undo(&mut self)
+        ensures keys { self.new.keys ≡ self.old.keys }
+        ensures steps { steps_in self.new ≡ 0 }
+        ensures now { (k : SymbolKey) (t : ℕ) → count_now self.new k t ≡ count_before self.old k t }
+        ensures before { (k : SymbolKey) (t : ℕ) → count_before self.new k t ≡ count_before self.old k t }
+    {
+        self.lines.undo();
+    }
+
+    /// Keeps the steps, so that they can't be taken back any more.
+    pub fn settle(&mut self)
+        ensures keys { self.new.keys ≡ self.old.keys }
+        ensures steps { steps_in self.new ≡ 0 }
+        ensures now { (k : SymbolKey) (t : ℕ) → count_now self.new k t ≡ count_now self.old k t }
+        ensures before { (k : SymbolKey) (t : ℕ) → count_before self.new k t ≡ count_now self.old k t }
+    {
+        self.lines.settle();
     }
 }
