@@ -20,7 +20,7 @@ use Rattle.cil_recorded.specs.Recorded as recorded
 use Rattle.cil_recorded.specs.Recorded.{State, lines_in}
 use Rattle.cil_recorded.proofs.LogLemmas.{hit_in, hit_off, same_counts}
 use Rattle.cil_keyed_lines.specs.declared.symbol_key.SymbolKey.{SymbolKey}
-use Rattle.cil_keyed_lines.specs.Keyed.{Keyed, AreKeyed, IsLineOf, IsNoLine, before_at, count_by, hit_of, is_key, now_at, with_key}
+use Rattle.cil_keyed_lines.specs.Keyed.{Keyed, AreKeyed, IsLineOf, IsNoLine, NoneCounted, before_at, count_by, hit_of, is_key, now_at, with_key}
 
 -- ---- keys
 
@@ -98,6 +98,12 @@ placed_at keys i key distinct at =
         position_or_len_is (is_key key) keys i key (omega (arith, within))
         (λ k less. other_key (get_or keys k key) key (ap (is_key (get_or keys k key)) (sym (here key)) ∙ apart_from_distinct is_key keys k i key distinct less within))
         (λ _. ap (is_key key) (here key) ∙ key_itself key)
+
+-- a key stands at its place
+pub key_placed : (keys : List SymbolKey) (key : SymbolKey) (place : ℕ) → position (is_key key) keys ≡ Some place → slice_get keys place ≡ Some key
+key_placed keys key place at =
+    let (within, equal, _) = position-Some (is_key key) keys place key at in
+    slice_get-get_or keys place key within ∙ ap (λ k. Some k) (sym (one_key key (get_or keys place key) equal))
 
 -- ---- counters
 
@@ -270,3 +276,9 @@ line_of_place k i (Some key) keyed is =
     let at = sym is in
     let place = placed_at k.keys i key keyed.distinct at in
     record { at = at; now = λ t. sym (count_placed (now_at k) k.keys key i t place); before = λ t. sym (count_placed (before_at k) k.keys key i t place) }
+
+pub line_of_key : (k : Keyed) (key : SymbolKey) (o : Option ℕ) → o ≡ position (is_key key) k.keys → MatchOption o (NoneCounted k key) (λ i. IsLineOf k i key)
+line_of_key k key None is = λ t. (count_absent (now_at k) k.keys key t (sym is), count_absent (before_at k) k.keys key t (sym is))
+line_of_key k key (Some i) is =
+    let at = sym is in
+    record { at = key_placed k.keys key i at; now = λ t. sym (count_placed (now_at k) k.keys key i t at); before = λ t. sym (count_placed (before_at k) k.keys key i t at) }

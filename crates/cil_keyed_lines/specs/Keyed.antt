@@ -64,3 +64,7 @@ pub record IsNoLine (k : Keyed) (i : ℕ) : Type 0 where
   pub behind : length k.keys ≤ i
   pub now : (t : ℕ) → now_at k i t ≡ 0
   pub before : (t : ℕ) → before_at k i t ≡ 0
+
+-- no counter of the key is above 0
+abbrev pub NoneCounted : Keyed → SymbolKey → Type 0
+NoneCounted k key = (t : ℕ) → (count_now k key t ≡ 0) × (count_before k key t ≡ 0)

@@ -5,7 +5,7 @@ ghost use Rattle.std.specs.Int.{bit_not, w64};
 ghost use Rattle.cil_lines.specs.Line.{IsPresence, IsNextPresent, NonePresent};
 ghost use Rattle.cil_lines.specs.Limit.{CanLower};
 ghost use Rattle.cil_recorded.specs.Differences.{appeared_at, change_key, gone_at, Ascends};
-ghost use Rattle.cil_keyed_lines.specs.Keyed.{before_at, count_before, count_now, hit_of, is_key, now_at, steps_in, with_key, IsLineOf, IsNoLine};
+ghost use Rattle.cil_keyed_lines.specs.Keyed.{before_at, count_before, count_now, hit_of, is_key, now_at, steps_in, with_key, IsLineOf, IsNoLine, NoneCounted};
 
 use crate::line_steps;
 use crate::symbol_key::SymbolKey;
@@ -143,6 +143,14 @@ impl<A: Allocator> KeyedLines<A> {
         self.keys.is_empty()
     }
 
+    /// The place of a key's line.
+    pub fn find(&self, key: SymbolKey) -> Option<usize>
+        ensures place { result ≡ position (is_key key) self.now.keys }
+        ensures line { MatchOption result (NoneCounted self.now key) (λ i. IsLineOf self.now i key) }
+    {
+        self.keys.get_index_of(&key)
+    }
+
     /// The key whose line has a place.
     pub fn at(&self, place: usize) -> Option<SymbolKey>
         ensures { MatchOption result (IsNoLine self.now place) (IsLineOf self.now place) }
@@ -154,7 +162,7 @@ impl<A: Allocator> KeyedLines<A> {
     pub fn count(&self, key: SymbolKey, target: usize) -> u64
         ensures { result ≡ min (count_now self.now key target) (2 ^ 64 - 1) }
     {
-        match self.keys.get_index_of(&key) {
+        match self.find(key) {
             Some(place) => self.lines.count(place, target),
             None => 0,
         }

@@ -2,6 +2,8 @@
 #![tactic(auto)]
 
 mod keyed_lines;
+#[cfg(test)]
+mod keyed_tests;
 mod line_steps;
 mod symbol_key;
 

@@ -1,14 +1,10 @@
 use Rattle.std.proofs.Common.{◌∙◌, ap, sym, min, ◌^◌, ◌-◌}
-use Rattle.cil_keyed_lines.proofs.KeyedLemmas.{count_placed, count_absent}
-use Rattle.cil_recorded.specs.Recorded as recorded
+use Rattle.cil_keyed_lines.specs.Keyed.{Keyed, now_at}
 use Rattle.cil_keyed_lines.proofs.keyed_lines.KeyedLines.count.Goals as goal
 
 pub returns-in-Some : goal.returns-in-Some
 returns-in-Some g c =
-    let old = c.self.inside in
-    rw (← c.self.view_is) (c.count.ensures ∙ ap (λ n. min n (2 ^ 64 - 1)) (sym (count_placed (recorded.count_now old.lines) old.keys.keys c.args.key c.in-Some.place c.args.target (sym c.in-Some.ensures.index))))
+    c.count.ensures ∙ ap (λ n. min n (2 ^ 64 - 1)) (ap (λ (k : Keyed). now_at k c.in-Some.place c.args.target) c.self.view_is ∙ c.in-Some.ensures.line.now c.args.target)
 
 pub returns-in-None : goal.returns-in-None
-returns-in-None g c =
-    let old = c.self.inside in
-    rw (← c.self.view_is) (ap (λ n. min n (2 ^ 64 - 1)) (sym (count_absent (recorded.count_now old.lines) old.keys.keys c.args.key c.args.target (sym c.in-None.ensures.index))))
+returns-in-None g c = ap (λ n. min n (2 ^ 64 - 1)) (sym (c.in-None.ensures.line c.args.target).0)
