@@ -3,6 +3,8 @@
 
 mod reach;
 mod shift;
+#[cfg(test)]
+mod shift_tests;
 mod targets;
 mod words;
 
