@@ -1,11 +1,11 @@
 -- What rules reach, word by word and source by source.
-use Rattle.std.proofs.Common.{◌≡◌, ◌≢◌, ℕ, zero, suc, ◌+◌, ◌-◌, ◌*◌, ◌/◌, ◌%◌, ◌^◌, ◌<◌, ◌≤◌, ◌==◌, ◌&&◌, ◌||◌, Bool, true, false, cond, nat_lt, nat_eq, Option, None, Some, MatchOption, w64, refl, sym, ap, ◌∙◌, subst, inl, inr, arith, true≢false, min, bit_and, add-zero, zero-add, div-add-mod', div-le_self, mod-lt, pow_pos}
+use Rattle.std.proofs.Common.{◌≡◌, ◌≢◌, ℕ, ◌+◌, ◌-◌, ◌*◌, ◌/◌, ◌%◌, ◌^◌, ◌<◌, ◌≤◌, ◌==◌, ◌&&◌, ◌||◌, Bool, true, false, cond, nat_lt, Option, None, Some, MatchOption, w64, refl, sym, ap, ◌∙◌, subst, inl, inr, arith, true≢false, min, add-zero, zero-add, div-add-mod', div-le_self, mod-lt, pow_pos}
 use Rattle.std.specs.Bool.{then_some}
 use Rattle.std.specs.Int.{bit_at, trailing_zeros}
 use Rattle.std.proofs.Math.Bool.{and-false}
 use Rattle.std.proofs.Math.Dec.{leb}
-use Rattle.std.proofs.lemmas.Bool.{cases_eq, cases_lt, eq-eqb, ne_eqb, eqb-true, lt-ltb, le-ltb, ltb-true, ltb-false, leb-true, leb-false}
-use Rattle.std.proofs.lemmas.Nat.Bits.{bit_at-pow_same, bit_at-pow_other, bit_at_cat_high, bit_at-trailing_zeros, bit_at_above, bit_at_and, bit_at-zero}
+use Rattle.std.proofs.lemmas.Bool.{cases_eq, cases_lt, eq-eqb, ne_eqb, lt-ltb, le-ltb, ltb-true, leb-true, leb-false}
+use Rattle.std.proofs.lemmas.Nat.Bits.{bit_at-pow_same, bit_at-pow_other, bit_at_cat_high, bit_at-trailing_zeros, bit_at_above, bit_at-zero}
 use Rattle.cil_lines.specs.Line.{Counters, count_of, hit, IsPresence, NonePresent, IsNextPresent}
 use Rattle.cil_lines.proofs.StepLemmas.{hit-here, hit-there, hit-none}
 use Rattle.cil_rule_shifts.specs.Reach.{one_if, is_present, takes, IsNext, NoneFrom, IsNextWord, NoneFromWord}

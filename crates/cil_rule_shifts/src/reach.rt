@@ -51,7 +51,10 @@ pub fn next_source<A: Allocator>(was: &Reach<A>, is: &Reach<A>, from: usize) -> 
     requires is { IsShort is.now }
     ensures { MatchOption result (NoneFrom (λ s. has_source was.now s || has_source is.now s) from) (IsNext (λ s. has_source was.now s || has_source is.now s) from) }
 {
-    match (next_present(&was.sources, from), next_present(&is.sources, from)) {
+    match (
+        next_present(&was.sources, from),
+        next_present(&is.sources, from),
+    ) {
         (Some(first), Some(second)) => Some(first.min(second)),
         (Some(first), None) => Some(first),
         (None, second) => second,

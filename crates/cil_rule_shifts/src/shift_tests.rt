@@ -12,6 +12,7 @@ use std::process::Abort;
 
 // The class and the permissions of all rules here.
 const CLASS: usize = 7;
+
 const PERMISSIONS: &[usize] = &[3, 5];
 
 // A line with a counter above 0 for each of some symbols.

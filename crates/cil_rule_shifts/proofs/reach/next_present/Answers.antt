@@ -1,4 +1,4 @@
-use Rattle.std.proofs.Common.{◌+◌, ◌*◌, ◌/◌, ◌%◌, ◌^◌, ◌<◌, w64, arith, subst, sym, MatchOption}
+use Rattle.std.proofs.Common.{◌+◌, ◌*◌, ◌^◌, ◌<◌, w64, arith, subst, sym, MatchOption}
 use Rattle.std.specs.Int.{trailing_zeros}
 use Rattle.cil_rule_shifts.specs.Reach.{is_present, IsNext, NoneFrom}
 use Rattle.cil_rule_shifts.proofs.ReachLemmas.{fits-next, next-here, next-there, none-here, none-there}

@@ -1,4 +1,4 @@
-use Rattle.std.proofs.Common.{◌/◌, ◌==◌, ◌∙◌, arith}
+use Rattle.std.proofs.Common.{◌∙◌, arith}
 use Rattle.std.specs.Int.{bit_not}
 use Rattle.std.proofs.Common.{w64}
 use Rattle.cil_keyed_lines.specs.Keyed.{count_now, is_key}
@@ -16,17 +16,17 @@ shift-requires-clause-above g c t =
 pub loop-word-preserved : goal.loop-word-preserved
 loop-word-preserved g c = (
   λ k t.
-  let key = c.args.key in
-  let word = c.in-Some.word in
-  let next = c.in-Some.ensures in
-  let was = takes c.args.was.now key.source in
-  let is = takes c.args.is.now key.source in
-  let was_more = word-more (is_key key k) was c.loop-word.from word c.word-gone.result t next.from_on (λ low high. no-first (was t) (is t) (next.first t low high)) (c.word-gone.ensures t) in
-  let is_more = word-more (is_key key k) is c.loop-word.from word c.word-come.result t next.from_on (λ low high. no-second (was t) (is t) (next.first t low high)) (c.word-come.ensures t) in
-  let gone = hit-keyed key word c.word-gone.result k t in
-  let come = hit-keyed key word c.word-come.result k t in
-  let step = c.in_ok-shift.ensures.now k t in
-  let moved = c.loop-word.invariant.0 k t in
-  omega (arith, was_more, is_more, gone, come, step, moved),
+      let key = c.args.key in
+      let word = c.in-Some.word in
+      let next = c.in-Some.ensures in
+      let was = takes c.args.was.now key.source in
+      let is = takes c.args.is.now key.source in
+      let was_more = word-more (is_key key k) was c.loop-word.from word c.word-gone.result t next.from_on (λ low high. no-first (was t) (is t) (next.first t low high)) (c.word-gone.ensures t) in
+      let is_more = word-more (is_key key k) is c.loop-word.from word c.word-come.result t next.from_on (λ low high. no-second (was t) (is t) (next.first t low high)) (c.word-come.ensures t) in
+      let gone = hit-keyed key word c.word-gone.result k t in
+      let come = hit-keyed key word c.word-come.result k t in
+      let step = c.in_ok-shift.ensures.now k t in
+      let moved = c.loop-word.invariant.0 k t in
+      omega (arith, was_more, is_more, gone, come, step, moved),
   λ k t. c.in_ok-shift.ensures.before k t ∙ c.loop-word.invariant.1 k t,
 )

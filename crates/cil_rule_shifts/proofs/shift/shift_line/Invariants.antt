@@ -8,7 +8,7 @@ use Rattle.cil_rule_shifts.proofs.shift.shift_line.Given as goal
 abbrev pub invariant-loop-word : goal.invariant-loop-word
 invariant-loop-word g l =
     ((k : SymbolKey) (t : ℕ) → count_now l.lines k t + one_if (is_key l.key k && (nat_lt (t / 64) l.from && takes l.was l.key.source t))
-        ≡ count_now l.fn.lines k t + one_if (is_key l.key k && (nat_lt (t / 64) l.from && takes l.is l.key.source t)))
+    ≡ count_now l.fn.lines k t + one_if (is_key l.key k && (nat_lt (t / 64) l.from && takes l.is l.key.source t)))
     × ((k : SymbolKey) (t : ℕ) → count_before l.lines k t ≡ count_before l.fn.lines k t)
 
 abbrev pub decreases-loop-word : goal.decreases-loop-word

@@ -17,12 +17,12 @@ shift_line-requires-clause-counted g c t =
 pub loop-permission-preserved : goal.loop-permission-preserved
 loop-permission-preserved g c = (
   λ k t.
-  let xs = c.args.permissions.now in
-  let i = c.loop-permission.permission-index in
-  let was_more = line-more xs c.requires.permissions i (slice_index_or xs i 0) c.loop-permission-test.true refl (c.args.source == k.source) (c.args.class == k.class) (takes c.args.was.now c.args.source t) k.permission in
-  let is_more = line-more xs c.requires.permissions i (slice_index_or xs i 0) c.loop-permission-test.true refl (c.args.source == k.source) (c.args.class == k.class) (takes c.args.is.now c.args.source t) k.permission in
-  let step = c.in_ok-shift_line.ensures.now k t in
-  let moved = c.loop-permission.invariant.0 k t in
-  omega (arith, was_more, is_more, step, moved),
+      let xs = c.args.permissions.now in
+      let i = c.loop-permission.permission-index in
+      let was_more = line-more xs c.requires.permissions i (slice_index_or xs i 0) c.loop-permission-test.true refl (c.args.source == k.source) (c.args.class == k.class) (takes c.args.was.now c.args.source t) k.permission in
+      let is_more = line-more xs c.requires.permissions i (slice_index_or xs i 0) c.loop-permission-test.true refl (c.args.source == k.source) (c.args.class == k.class) (takes c.args.is.now c.args.source t) k.permission in
+      let step = c.in_ok-shift_line.ensures.now k t in
+      let moved = c.loop-permission.invariant.0 k t in
+      omega (arith, was_more, is_more, step, moved),
   λ k t. c.in_ok-shift_line.ensures.before k t ∙ c.loop-permission.invariant.1 k t,
 )

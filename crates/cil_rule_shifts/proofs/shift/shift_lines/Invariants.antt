@@ -8,5 +8,5 @@ use Rattle.cil_rule_shifts.proofs.shift.shift_lines.Given as goal
 abbrev pub invariant-loop-permission : goal.invariant-loop-permission
 invariant-loop-permission g l =
     ((k : SymbolKey) (t : ℕ) → count_now l.lines k t + one_if (is_line l.source l.class (take l.permission-index l.permissions) k && takes l.was l.source t)
-        ≡ count_now l.fn.lines k t + one_if (is_line l.source l.class (take l.permission-index l.permissions) k && takes l.is l.source t))
+    ≡ count_now l.fn.lines k t + one_if (is_line l.source l.class (take l.permission-index l.permissions) k && takes l.is l.source t))
     × ((k : SymbolKey) (t : ℕ) → count_before l.lines k t ≡ count_before l.fn.lines k t)

@@ -1,6 +1,4 @@
-use Rattle.std.proofs.Common.{◌==◌, ◌∙◌, arith}
-use Rattle.cil_keyed_lines.specs.Keyed.{count_now}
-use Rattle.cil_rule_shifts.specs.Reach.{gives}
+use Rattle.std.proofs.Common.{arith}
 use Rattle.cil_rule_shifts.proofs.ShiftLemmas.{short-source}
 use Rattle.cil_rule_shifts.proofs.shift.shift_rule.Goals as goal
 

@@ -8,7 +8,7 @@ use Rattle.cil_rule_shifts.proofs.shift.shift_rule.Given as goal
 abbrev pub invariant-loop-source : goal.invariant-loop-source
 invariant-loop-source g l =
     ((k : SymbolKey) (t : ℕ) → count_now l.lines k t + one_if (nat_lt k.source l.from && gives l.was l.class l.permissions k t)
-        ≡ count_now l.fn.lines k t + one_if (nat_lt k.source l.from && gives l.is l.class l.permissions k t))
+    ≡ count_now l.fn.lines k t + one_if (nat_lt k.source l.from && gives l.is l.class l.permissions k t))
     × ((k : SymbolKey) (t : ℕ) → count_before l.lines k t ≡ count_before l.fn.lines k t)
 
 abbrev pub decreases-loop-source : goal.decreases-loop-source

@@ -1,4 +1,4 @@
-use Rattle.std.proofs.Common.{◌+◌, ◌≡◌, ◌≤◌, ap, refl, subst, sym}
+use Rattle.std.proofs.Common.{◌≤◌, refl, subst, sym}
 use Rattle.cil_keyed_lines.specs.Keyed.{count_now}
 use Rattle.cil_rule_shifts.specs.Reach.{one_if}
 use Rattle.cil_rule_shifts.proofs.ReachLemmas.{takes-nothing}

@@ -1,5 +1,5 @@
-use Rattle.std.proofs.Common.{ℕ, ◌≡◌, ◌≢◌, ◌+◌, ◌*◌, ◌/◌, ◌%◌, ◌^◌, ◌∙◌, add-zero, ap, arith, slice_index_or}
-use Rattle.cil_lines.specs.Line.{count_of, hit}
+use Rattle.std.proofs.Common.{◌≢◌, ◌+◌, ◌*◌, ◌/◌, ◌%◌, ◌^◌, ◌∙◌, add-zero, ap, arith, slice_index_or}
+use Rattle.cil_lines.specs.Line.{count_of}
 use Rattle.cil_lines.proofs.StepLemmas.{hit-there}
 use Rattle.cil_rule_shifts.proofs.ReachLemmas.{present-none}
 use Rattle.cil_rule_shifts.proofs.shift_tests.line_of.Goals as goal
