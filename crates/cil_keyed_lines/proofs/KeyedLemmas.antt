@@ -1,9 +1,9 @@
 -- The counters of keys, by the places of their lines.
-use Rattle.std.proofs.Common.{zero, suc, ◌≡◌, ◌≢◌, ◌⊎◌, ℕ, ◌+◌, ◌/◌, ◌%◌, ◌^◌, ◌<◌, ◌≤◌, ◌==◌, ◌&&◌, Bool, true, false, cond, if◌then◌else◌, nat_lt, List, [], ◌∷◌, ◌++◌, length, get_or, position, slice_get, bit_and, w64, Option, None, Some, Result, Ok, Err, MatchOption, OnOk, OnErr, refl, sym, ap, subst, ◌∙◌, true≢false, inl, inr, arith}
-use Rattle.std.specs.Int.{bit_at, bit_not}
+use Rattle.std.proofs.Common.{zero, suc, ◌≡◌, ◌≢◌, ◌⊎◌, ℕ, ◌+◌, ◌/◌, ◌%◌, ◌^◌, ◌<◌, ◌≤◌, ◌==◌, ◌&&◌, Bool, true, false, cond, if◌then◌else◌, nat_lt, List, [], ◌∷◌, ◌++◌, length, get_or, position, slice_get, bit_and, w64, Option, None, Some, Result, Ok, Err, MatchOption, OnOk, OnErr, refl, sym, ap, ◌∙◌, true≢false, inl, inr, arith}
+use Rattle.std.specs.Int.{bit_not}
 use Rattle.std.specs.List.{list_any, position_or_len, IsDistinct}
 use Rattle.std.specs.Option.{option_map_or}
-use Rattle.std.proofs.lemmas.Bool.{cases_eq, cases_lt, eqb-true, eq-eqb, ne_eqb, ltb-true, ltb-false, lt-ltb}
+use Rattle.std.proofs.lemmas.Bool.{cases_eq, cases_lt, eqb-true, eq-eqb, ltb-false, lt-ltb}
 use Rattle.std.proofs.lemmas.List.{length-append}
 use Rattle.std.proofs.lemmas.List.Folds.{position_or_len_push}
 use Rattle.std.proofs.lemmas.List.Quantifiers.{position-Some}

@@ -64,9 +64,9 @@ impl<A: Allocator + Copy> KeyedLines<A> {
         Ok(place)
     }
 
-    /// The targets of a word in the line of a key that were given, and those that are given now. It takes 1 from the counter of
-    /// each target that goes and adds 1 to that of each that comes, and answers how many counters moved. All memory is taken
-    /// before a counter changes.
+    /// A rule gave the targets `was` of a word in the line of a key, and gives those of `is` now: takes 1 from the counter of each
+    /// that goes, adds 1 to that of each that comes, and answers how many counters moved. All memory is taken before a counter
+    /// changes.
     pub fn shift(
         &mut self,
         alloc: A,

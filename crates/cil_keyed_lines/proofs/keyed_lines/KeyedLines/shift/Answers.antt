@@ -1,4 +1,4 @@
-use Rattle.std.proofs.Common.{◌+◌, arith, sym}
+use Rattle.std.proofs.Common.{arith, sym}
 use Rattle.cil_keyed_lines.proofs.KeyedLemmas.{none_gone, places_grown, swap_of}
 use Rattle.cil_keyed_lines.proofs.keyed_lines.KeyedLines.shift.Goals as goal
 

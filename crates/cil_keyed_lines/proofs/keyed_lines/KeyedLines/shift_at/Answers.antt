@@ -1,7 +1,7 @@
-use Rattle.std.proofs.Common.{◌≡◌, ◌+◌, ◌≤◌, ℕ, Some, position}
-use Rattle.std.proofs.lemmas.Result.{on_ok_weaker, on_err_weaker}
+use Rattle.std.proofs.Common.{◌≡◌, Some, position}
+use Rattle.std.proofs.lemmas.Result.{on_ok_weaker}
 use Rattle.cil_keyed_lines.proofs.KeyedLemmas.{count_placed, count_shifted, keyed_shifted}
-use Rattle.cil_keyed_lines.specs.Keyed.{count_by, is_key}
+use Rattle.cil_keyed_lines.specs.Keyed.{is_key}
 use Rattle.cil_recorded.specs.Recorded as recorded
 use Rattle.cil_keyed_lines.proofs.keyed_lines.KeyedLines.shift_at.Goals as goal
 
