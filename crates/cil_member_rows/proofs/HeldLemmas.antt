@@ -1,5 +1,5 @@
 -- The bits of who was a member, when counters move.
-use Rattle.std.proofs.Common.{zero, suc, ◌≡◌, ◌≢◌, ℕ, ◌+◌, ◌*◌, ◌/◌, ◌%◌, ◌<◌, ◌≤◌, List, [], length, min, refl, sym, ap, ◌∙◌, arith, inl, inr}
+use Rattle.std.proofs.Common.{◌≡◌, ◌≢◌, ℕ, ◌+◌, ◌*◌, ◌/◌, ◌%◌, ◌<◌, ◌≤◌, List, length, min, refl, sym, ap, ◌∙◌, arith, inl, inr}
 use Rattle.std.proofs.lemmas.Bool.{cases_eq}
 use Rattle.std.proofs.lemmas.Nat.Bits.{bit_at-zero}
 use Rattle.std.specs.Int.{bit_at}
@@ -7,7 +7,7 @@ use Rattle.cil_lines.specs.Line.{IsPresence}
 use Rattle.cil_recorded.specs.Log.{hit_at}
 use Rattle.cil_recorded.specs.Recorded.{State}
 use Rattle.cil_recorded.proofs.LogLemmas.{hit_off, hit_out}
-use Rattle.cil_member_rows.specs.Held.{row_of, bits_at, words_of}
+use Rattle.cil_member_rows.specs.Held.{bits_at, words_of}
 use Rattle.cil_member_rows.specs.Rows.{rows_in, count_before, count_now, IsHeld}
 use Rattle.cil_member_rows.proofs.BitLemmas.{none_behind}
 

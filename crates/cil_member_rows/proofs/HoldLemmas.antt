@@ -1,5 +1,5 @@
 -- The bits at a settling, word by word.
-use Rattle.std.proofs.Common.{zero, suc, ◌≡◌, ◌≢◌, ℕ, ◌+◌, ◌*◌, ◌/◌, ◌<◌, ◌≤◌, List, length, refl, sym, ap, subst, ◌∙◌, arith, inl, inr}
+use Rattle.std.proofs.Common.{◌≡◌, ℕ, ◌+◌, ◌*◌, ◌/◌, ◌<◌, ◌≤◌, List, length, refl, sym, ap, subst, ◌∙◌, arith, inl, inr}
 use Rattle.std.proofs.lemmas.Bool.{cases_eq, cases_lt}
 use Rattle.cil_lines.specs.Line.{IsPresence}
 use Rattle.cil_recorded.specs.Places.{step_at, IsUntouched}
@@ -55,11 +55,11 @@ module _ (held : List (List ℕ)) (s : State) (is : IsHeld held s) where
         kept : (r w : ℕ) → IsUntouched s (step + 1) r w → (r ≡ line → w ≡ word → ⊥) → IsPresence (count_now s r) w (bits_at now' r w)
         kept r w none not =
             let from : IsUntouched s step r w =
-              λ k on within in_line in_word.
-                elim (cases_eq k step) [
-                  | inl same ↦ not (sym in_line ∙ ap (λ j. (step_at s j).line) same ∙ sym at_line) (sym in_word ∙ ap (λ j. (step_at s j).word) same ∙ sym at_word)
-                  | inr later ↦ none k (omega (arith, on, later)) within in_line in_word
-                ]
+            λ k on within in_line in_word.
+            elim (cases_eq k step) [
+              | inl same ↦ not (sym in_line ∙ ap (λ j. (step_at s j).line) same ∙ sym at_line) (sym in_word ∙ ap (λ j. (step_at s j).word) same ∙ sym at_word)
+              | inr later ↦ none k (omega (arith, on, later)) within in_line in_word
+            ]
             in
             presence_same (count_now s r) (count_now s r) w (bits_at now r w) (bits_at now' r w) (was.done r w from) (others r w not) (λ b _. refl)
 

@@ -65,7 +65,8 @@ impl<A: Allocator + Copy> MemberRows<A> {
         self.rows.put_in(alloc)
     }
 
-    /// A set statement of the attribute of a row held some types of a word before, and holds others now.
+    /// A set statement of the attribute of a row held some types of a word before, and holds others now. This is at most
+    /// two steps.
     pub fn shift(
         &mut self,
         alloc: A,
@@ -81,6 +82,8 @@ impl<A: Allocator + Copy> MemberRows<A> {
         ensures err { OnErr result ((r t : ℕ) → count_now self.new r t ≡ count_now self.old r t) }
         ensures before { (r t : ℕ) → count_before self.new r t ≡ count_before self.old r t }
         ensures rows { rows_in self.new ≡ rows_in self.old }
+        ensures steps { steps_in self.new ≤ steps_in self.old + 2 }
+        ensures none { OnErr result (steps_in self.new ≡ steps_in self.old) }
     {
         let come = is & !was;
         shifting::make_room(&mut self.rows, &mut self.held, alloc, row, word, come)?;

@@ -139,5 +139,5 @@ fn changes_stand_in_order_and_once(rt: HostRuntime) {
         },
     ];
     let changes = rows.changes(alloc).expect(&rt, "memory");
-    assert!(&rt; changes.as_slice() == &wanted);
+    assert!(&rt; changes.as_slice() == wanted.as_slice());
 }

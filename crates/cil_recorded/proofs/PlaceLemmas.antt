@@ -1,5 +1,5 @@
 -- Counters of a word that no step is of are as they were.
-use Rattle.std.proofs.Common.{zero, suc, ◌≡◌, ◌≢◌, ℕ, ◌+◌, ◌-◌, ◌/◌, ◌<◌, ◌≤◌, List, [], ◌∷◌, length, get_or, reverse, Bool, true, false, if◌then◌else◌, refl, sym, ap, ◌∙◌, arith, inl, inr}
+use Rattle.std.proofs.Common.{suc, ◌≡◌, ℕ, ◌+◌, ◌-◌, ◌/◌, ◌<◌, ◌≤◌, List, [], ◌∷◌, length, get_or, reverse, Bool, true, false, if◌then◌else◌, refl, sym, ap, ◌∙◌, arith, inl, inr}
 use Rattle.std.proofs.lemmas.Bool.{cases_eq}
 use Rattle.std.proofs.lemmas.List.{get_or-reverse, length-reverse}
 use Rattle.cil_recorded.specs.declared.step.Step.{Step}
@@ -42,6 +42,6 @@ pub untouched : (log : List Step) (f : ℕ → ℕ → ℕ) (l t : ℕ)
     → f l t ≡ undone (reverse log) f l t
 untouched log f l t none =
     sym (undone_none (reverse log) f l t (λ k within line word.
-      let long : k < length log = omega (arith, length-reverse log, within) in
-      let is = get_or-reverse log k no_step long in
-      none (length log - 1 - k) (omega arith) (omega arith) (sym (ap (λ (s : Step). s.line) is) ∙ line) (sym (ap (λ (s : Step). s.word) is) ∙ word)))
+    let long : k < length log = omega (arith, length-reverse log, within) in
+    let is = get_or-reverse log k no_step long in
+    none (length log - 1 - k) (omega arith) (omega arith) (sym (ap (λ (s : Step). s.line) is) ∙ line) (sym (ap (λ (s : Step). s.word) is) ∙ word)))

@@ -12,8 +12,8 @@ mod places;
 use crate::step::{Step, log_step};
 use crate::word_steps;
 pub use changes::Change;
-pub use places::Place;
 use cil_lines::Line;
+pub use places::Place;
 use std::alloc::{AllocError, Allocator, Global};
 use std::marker::Model;
 

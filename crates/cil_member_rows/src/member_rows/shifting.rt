@@ -3,7 +3,7 @@
 ghost use Rattle.std.specs.Prelude.{◌≡◌, ℕ, ◌+◌, ◌<◌, ◌≤◌, ◌^◌, length, OnOk};
 ghost use Rattle.cil_lines.specs.Limit.{CanLower, CanRaise};
 ghost use Rattle.cil_recorded.specs.Log.{hit_at};
-ghost use Rattle.cil_recorded.specs.Recorded.{count_before, count_now, limit_now, lines_in, spare};
+ghost use Rattle.cil_recorded.specs.Recorded.{count_before, count_now, limit_now, lines_in, spare, steps_in};
 ghost use Rattle.cil_member_rows.specs.Held.{bits_at, words_of};
 
 use crate::bit_row::BitRow;
@@ -27,6 +27,7 @@ pub fn make_room<A: Allocator + Copy>(
     ensures room { OnOk result (CanRaise (count_now rows.new row) (limit_now rows.new row) word mask) }
     ensures reach { OnOk result (word < words_of held.new.items row) }
     ensures lines { lines_in rows.new ≡ lines_in rows.old }
+    ensures steps { steps_in rows.new ≡ steps_in rows.old }
     ensures now { (r t : ℕ) → count_now rows.new r t ≡ count_now rows.old r t }
     ensures before { (r t : ℕ) → count_before rows.new r t ≡ count_before rows.old r t }
     ensures rows { length held.new.items ≡ length held.old.items }
@@ -44,6 +45,7 @@ pub fn lower<A: Allocator>(rows: &mut RecordedLines<A>, row: usize, word: usize,
     requires log { 0 < spare rows.old }
     requires above { CanLower (count_now rows.old row) word mask }
     ensures lines { lines_in rows.new ≡ lines_in rows.old }
+    ensures steps { steps_in rows.new ≤ steps_in rows.old + 1 }
     ensures spare { spare rows.old ≤ spare rows.new + 1 }
     ensures now { (r t : ℕ) → count_now rows.new r t + hit_at row word mask r t ≡ count_now rows.old r t }
     ensures before { (r t : ℕ) → count_before rows.new r t ≡ count_before rows.old r t }
@@ -60,6 +62,7 @@ pub fn raise<A: Allocator>(rows: &mut RecordedLines<A>, row: usize, word: usize,
     requires log { 0 < spare rows.old }
     requires room { CanRaise (count_now rows.old row) (limit_now rows.old row) word mask }
     ensures lines { lines_in rows.new ≡ lines_in rows.old }
+    ensures steps { steps_in rows.new ≤ steps_in rows.old + 1 }
     ensures now { (r t : ℕ) → count_now rows.new r t ≡ count_now rows.old r t + hit_at row word mask r t }
     ensures before { (r t : ℕ) → count_before rows.new r t ≡ count_before rows.old r t }
 {

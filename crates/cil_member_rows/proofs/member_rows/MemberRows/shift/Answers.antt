@@ -1,7 +1,6 @@
-use Rattle.std.proofs.Common.{◌≡◌, ◌+◌, ◌-◌, ◌^◌, ◌<◌, ◌≤◌, ℕ, bit_and, arith, rules, w64}
+use Rattle.std.proofs.Common.{◌^◌, ◌<◌, bit_and, arith, rules, w64}
 use Rattle.std.specs.Int.{bit_not}
-use Rattle.cil_lines.specs.Line.{hit}
-use Rattle.cil_member_rows.specs.Rows.{count_before, count_now}
+use Rattle.cil_member_rows.specs.Rows.{count_now}
 use Rattle.cil_member_rows.proofs.HeldLemmas.{held_shifted}
 use Rattle.cil_member_rows.proofs.ShiftLemmas.{hit_without, hit_at_without}
 use Rattle.cil_member_rows.proofs.member_rows.MemberRows.shift.Goals as goal
