@@ -35,9 +35,9 @@ module _ {S : Type 0} (IsSame : S → S → Type 0) (old new : List S) where
     long = let all = length-append ahead (place ∷ []) in let long = are.long in omega (arith, all, long);
     exact = λ i j low. elim (cases_lt i count) [
       | inl before ↦ (
-          λ at. (are.exact i j before).0 (earlier i j before at),
-          λ same. get-append ahead (place ∷ []) i (Some j) ((are.exact i j before).1 same),
-        )
+        λ at. (are.exact i j before).0 (earlier i j before at),
+        λ same. get-append ahead (place ∷ []) i (Some j) ((are.exact i j before).1 same),
+      )
       | inr last ↦
           let here : count ≡ i = omega (arith, low, last) in
           subst (λ k. (slice_get (ahead ++ place ∷ []) k ≡ Some (Some j)) ↔ AreSameAt IsSame old new k j) here (

@@ -38,19 +38,11 @@ element-is (a_type x) (an_attribute y) e = absurd (true≢false (sym e))
 element-is (an_attribute x) (a_type y) e = absurd (true≢false (sym e))
 element-is (an_attribute x) (an_attribute y) e = ap an_attribute ((bytes_eq-Decides x y).0 e)
 
-element-itself : (x : Element) → same_element x x ≡ true
-element-itself (a_type x) = (bytes_eq-Decides x x).1 refl
-element-itself (an_attribute x) = (bytes_eq-Decides x x).1 refl
-
 target-is : (x y : ResolvedTarget) → same_target x y ≡ true → x ≡ y
 target-is at_itself at_itself e = refl
 target-is at_itself (at_element y) e = absurd (true≢false (sym e))
 target-is (at_element x) at_itself e = absurd (true≢false (sym e))
 target-is (at_element x) (at_element y) e = ap at_element (element-is x y e)
-
-target-itself : (x : ResolvedTarget) → same_target x x ≡ true
-target-itself at_itself = refl
-target-itself (at_element x) = element-itself x
 
 -- what the test of two heads says
 record AreAlike (r s : RuleHead) : Type 0 where
@@ -85,20 +77,6 @@ heads-alike r s e =
       permissions = eqb-true r.permissions s.permissions (second_true class_too (r.permissions == s.permissions) e);
     }
 
-alike-heads : (r s : RuleHead) → AreAlike r s → same_head r s ≡ true
-alike-heads r s are =
-    both_true _ (r.permissions == s.permissions)
-    (both_true _ (bytes_eq r.the_class s.the_class)
-    (both_true _ (same_target r.target s.target)
-    (both_true _ (same_element r.source s.source)
-    (both_true _ (kind_index r.kind == kind_index s.kind)
-    (both_true (bytes_eq r.module_name s.module_name) (r.at.offset == s.at.offset) ((bytes_eq-Decides r.module_name s.module_name).1 are.module_name) (eq-eqb r.at.offset s.at.offset are.offset))
-    (eq-eqb (kind_index r.kind) (kind_index s.kind) (ap kind_index are.kind)))
-    (ap (same_element r.source) (sym are.source) ∙ element-itself r.source))
-    (ap (same_target r.target) (sym are.target) ∙ target-itself r.target))
-    ((bytes_eq-Decides r.the_class s.the_class).1 are.the_class))
-    (eq-eqb r.permissions s.permissions are.permissions)
-
 -- Lists of one length are one where their elements are.
 lists-same : {X : Type 0} (xs ys : List X) → length xs ≡ length ys → ((k : ℕ) → k < length xs → slice_get xs k ≡ slice_get ys k) → xs ≡ ys
 lists-same [] [] long each = refl
@@ -108,18 +86,6 @@ lists-same (x ∷ xs) (y ∷ ys) long each =
     let first = same_Some x y (each 0 (omega arith)) in
     let rest = lists-same xs ys (omega (arith, long)) (λ k low. each (suc k) (omega (arith, low))) in
     λ i. first i ∷ rest i
-
--- Rules that are the same have heads alike.
-alike : (r s : Rule) → IsSameRule r s → AreAlike (rule_head r) (rule_head s)
-alike r s (module_is, offset, content) = record {
-  module_name = module_is;
-  offset = offset;
-  kind = ap (λ (x : RuleContent). x.kind) content;
-  source = ap (λ (x : RuleContent). x.source) content;
-  target = ap (λ (x : RuleContent). x.target) content;
-  the_class = ap (λ (x : RuleContent). x.the_class) content;
-  permissions = ap (λ (x : RuleContent). length x.permissions) content;
-}
 
 -- Rules are the same where their heads and their permissions are.
 pub rules-same : (r s : Rule) → same_head (rule_head r) (rule_head s) ≡ true → ((k : ℕ) → k < length r.permissions → slice_get r.permissions k ≡ slice_get s.permissions k) → IsSameRule r s

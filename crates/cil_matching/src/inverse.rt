@@ -41,4 +41,3 @@ pub fn place_at(places: &[Option<usize>], i: usize) -> Option<usize>
         None => None,
     }
 }
-

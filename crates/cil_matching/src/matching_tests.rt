@@ -12,10 +12,12 @@ use std::alloc::{AllocError, Global};
 use std::process::Abort;
 
 // Two classes of the same permissions, two types, an alias of a, and two attributes.
-const START: &[u8] = b"(class p (see use))(class q (see use))(type a)(type b)(typealias c)(typealiasactual c a)(typeattribute s)(typeattribute n)";
+const START: &[u8] =
+    b"(class p (see use))(class q (see use))(type a)(type b)(typealias c)(typealiasactual c a)(typeattribute s)(typeattribute n)";
 
 // The same, but that the alias is one of b.
-const OTHER: &[u8] = b"(class p (see use))(class q (see use))(type a)(type b)(typealias c)(typealiasactual c b)(typeattribute s)(typeattribute n)";
+const OTHER: &[u8] =
+    b"(class p (see use))(class q (see use))(type a)(type b)(typealias c)(typealiasactual c b)(typeattribute s)(typeattribute n)";
 
 // The parsed module of a text.
 fn module_of(rt: &impl Abort, alloc: Global, text: &[u8]) -> ParsedModule
@@ -64,14 +66,38 @@ fn assert_first_rule(rt: &impl Abort, alloc: Global, old: &Resolved, new: &Resol
 
 // Two set statements behind the start, and whether they are the same.
 const SETS: &[(&[u8], &[u8], bool)] = &[
-    (b"(typeattributeset s (a))", b"(typeattributeset s (a))", true),
-    (b"(typeattributeset s (a))", b"(typeattributeset s (b))", false),
-    (b"(typeattributeset s (a))", b"(typeattributeset n (a))", false),
-    (b"(typeattributeset s (a))", b" (typeattributeset s (a))", false),
+    (
+        b"(typeattributeset s (a))",
+        b"(typeattributeset s (a))",
+        true,
+    ),
+    (
+        b"(typeattributeset s (a))",
+        b"(typeattributeset s (b))",
+        false,
+    ),
+    (
+        b"(typeattributeset s (a))",
+        b"(typeattributeset n (a))",
+        false,
+    ),
+    (
+        b"(typeattributeset s (a))",
+        b" (typeattributeset s (a))",
+        false,
+    ),
     // The same offset on another line.
-    (b" (typeattributeset s (a))", b"\n(typeattributeset s (a))", true),
+    (
+        b" (typeattributeset s (a))",
+        b"\n(typeattributeset s (a))",
+        true,
+    ),
     // An alias leads to its type.
-    (b"(typeattributeset s (a))", b"(typeattributeset s (c))", true),
+    (
+        b"(typeattributeset s (a))",
+        b"(typeattributeset s (c))",
+        true,
+    ),
     (b"(typeattributeset s (a))", b"", false),
     (b"", b"(typeattributeset s (a))", false),
 ];
@@ -99,23 +125,75 @@ fn a_set_statement_whose_alias_leads_elsewhere(rt: HostRuntime) {
 
 // Two rules behind the start, and whether they are the same.
 const RULES: &[(&[u8], &[u8], bool)] = &[
-    (b"(allow a b (p (see use)))", b"(allow a b (p (see use)))", true),
-    (b"(allow a b (p (see use)))", b"(auditallow a b (p (see use)))", false),
-    (b"(allow a b (p (see use)))", b"(allow b b (p (see use)))", false),
-    (b"(allow a b (p (see use)))", b"(allow s b (p (see use)))", false),
-    (b"(allow a b (p (see use)))", b"(allow a a (p (see use)))", false),
-    (b"(allow a b (p (see use)))", b"(allow a self (p (see use)))", false),
-    (b"(allow a self (p (see use)))", b"(allow a self (p (see use)))", true),
-    (b"(allow a b (p (see use)))", b"(allow a b (q (see use)))", false),
-    (b"(allow a b (p (see use)))", b"(allow a b (p (see)))", false),
+    (
+        b"(allow a b (p (see use)))",
+        b"(allow a b (p (see use)))",
+        true,
+    ),
+    (
+        b"(allow a b (p (see use)))",
+        b"(auditallow a b (p (see use)))",
+        false,
+    ),
+    (
+        b"(allow a b (p (see use)))",
+        b"(allow b b (p (see use)))",
+        false,
+    ),
+    (
+        b"(allow a b (p (see use)))",
+        b"(allow s b (p (see use)))",
+        false,
+    ),
+    (
+        b"(allow a b (p (see use)))",
+        b"(allow a a (p (see use)))",
+        false,
+    ),
+    (
+        b"(allow a b (p (see use)))",
+        b"(allow a self (p (see use)))",
+        false,
+    ),
+    (
+        b"(allow a self (p (see use)))",
+        b"(allow a self (p (see use)))",
+        true,
+    ),
+    (
+        b"(allow a b (p (see use)))",
+        b"(allow a b (q (see use)))",
+        false,
+    ),
+    (
+        b"(allow a b (p (see use)))",
+        b"(allow a b (p (see)))",
+        false,
+    ),
     (b"(allow a b (p (see)))", b"(allow a b (p (use)))", false),
     // The order of the permissions counts.
-    (b"(allow a b (p (see use)))", b"(allow a b (p (use see)))", false),
-    (b"(allow a b (p (see use)))", b" (allow a b (p (see use)))", false),
+    (
+        b"(allow a b (p (see use)))",
+        b"(allow a b (p (use see)))",
+        false,
+    ),
+    (
+        b"(allow a b (p (see use)))",
+        b" (allow a b (p (see use)))",
+        false,
+    ),
     // The same offset on another line.
-    (b" (allow a b (p (see use)))", b"\n(allow a b (p (see use)))", true),
+    (
+        b" (allow a b (p (see use)))",
+        b"\n(allow a b (p (see use)))",
+        true,
+    ),
     // An alias leads to its type.
-    (b"(allow a b (p (see use)))", b"(allow c b (p (see use)))", true),
+    (
+        b"(allow a b (p (see use)))",
+        b"(allow c b (p (see use)))",
+        true,
+    ),
     (b"(allow a b (p (see use)))", b"", false),
     (b"", b"(allow a b (p (see use)))", false),
 ];
@@ -160,13 +238,19 @@ fn a_rule_that_comes_in(rt: HostRuntime) {
         &rt,
         rt.alloc(),
         b"m",
-        &[START, b"(allow a a (p (use)))                     (allow b b (p (use)))"],
+        &[
+            START,
+            b"(allow a a (p (use)))                     (allow b b (p (use)))",
+        ],
     );
     let new = policy(
         &rt,
         rt.alloc(),
         b"m",
-        &[START, b"(allow a a (p (use)))(allow a b (p (use)))(allow b b (p (use)))"],
+        &[
+            START,
+            b"(allow a a (p (use)))(allow a b (p (use)))(allow b b (p (use)))",
+        ],
     );
     let matching = RuleMatching::of(rt.alloc(), &old, &new).expect(&rt, "memory");
     for (i, place) in [Some(0), Some(2), None].iter().enumerate() {

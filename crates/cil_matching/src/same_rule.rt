@@ -83,12 +83,7 @@ fn are_same_permissions<A: Allocator>(
 
 /// Whether the rule at a place is the same as resolved as that at a place of another policy: its module, its offset and what it says
 /// are, with its permissions in their order. No is the answer where there is no rule at one of the places.
-pub fn is_same_rule<A: Allocator>(
-    old: &Resolved<A>,
-    i: usize,
-    new: &Resolved<A>,
-    j: usize,
-) -> bool
+pub fn is_same_rule<A: Allocator>(old: &Resolved<A>, i: usize, new: &Resolved<A>, j: usize) -> bool
     ensures same { (r s : Rule) → slice_get (meaning_in old.now).rules i ≡ Some r → slice_get (meaning_in new.now).rules j ≡ Some s
         → IsTrue result ↔ IsSameRule r s }
     ensures none { slice_get (meaning_in old.now).rules i ≡ None → result ≡ false }
