@@ -294,7 +294,10 @@ fn a_set_statement_that_comes_in(rt: HostRuntime) {
     }
     for attribute in [b"n", b"s"] {
         let want = place(&old, attribute);
-        let found = place(&new, attribute).and_then(|j| matching.old_place(j));
+        let found = match place(&new, attribute) {
+            Some(j) => matching.old_place(j),
+            None => None,
+        };
         assert!(&rt; found == want);
     }
 }
