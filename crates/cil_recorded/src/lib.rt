@@ -6,7 +6,7 @@ mod step;
 mod turn;
 mod word_steps;
 
-pub use recorded_lines::{Change, RecordedLines};
+pub use recorded_lines::{Change, Place, RecordedLines};
 
 #[cfg(test)]
 mod recorded_tests;

@@ -7,11 +7,13 @@ ghost use Rattle.cil_recorded.specs.Log.{hit_at};
 ghost use Rattle.cil_recorded.specs.Recorded.{count_before, count_now, limit_now, lines_in, moved, spare, steps_in};
 
 mod changes;
+mod places;
 
 use crate::step::{Step, log_step};
 use crate::word_steps;
 pub use changes::Change;
 use cil_lines::Line;
+pub use places::Place;
 use std::alloc::{AllocError, Allocator, Global};
 use std::marker::Model;
 

@@ -141,3 +141,20 @@ fn changes_stand_in_order_and_once(rt: HostRuntime) {
     lines.undo();
     assert_changes(&rt, alloc, &lines, &[]);
 }
+
+#[test]
+fn each_step_says_where_it_was(rt: HostRuntime) {
+    let alloc = rt.alloc();
+    let mut lines = lines(&rt, alloc, 2);
+    raise(&rt, alloc, &mut lines, 1, 3, 0b01);
+    lines.settle();
+    assert!(&rt; lines.steps() == 0);
+    raise(&rt, alloc, &mut lines, 0, 7, 0b11);
+    lower(&rt, &mut lines, 1, 3, 0b01);
+    assert!(&rt; lines.steps() == 2);
+    for (step, (line, word)) in [(0, 7), (1, 3)].iter().enumerate() {
+        assert!(&rt; step < lines.steps());
+        let place = lines.place(step);
+        assert!(&rt; place.line == *line && place.word == *word);
+    }
+}

@@ -1,0 +1,284 @@
+-- The counters of keys, by the places of their lines.
+use Rattle.std.proofs.Common.{zero, suc, ◌≡◌, ◌≢◌, ◌⊎◌, ℕ, ◌+◌, ◌/◌, ◌%◌, ◌^◌, ◌<◌, ◌≤◌, ◌==◌, ◌&&◌, Bool, true, false, cond, if◌then◌else◌, nat_lt, List, [], ◌∷◌, ◌++◌, length, get_or, position, slice_get, bit_and, w64, Option, None, Some, Result, Ok, Err, MatchOption, OnOk, OnErr, refl, sym, ap, ◌∙◌, true≢false, inl, inr, arith}
+use Rattle.std.specs.Int.{bit_not}
+use Rattle.std.specs.List.{list_any, position_or_len, IsDistinct}
+use Rattle.std.specs.Option.{option_map_or}
+use Rattle.std.proofs.lemmas.Bool.{cases_eq, cases_lt, eqb-true, eq-eqb, ltb-false, lt-ltb}
+use Rattle.std.proofs.lemmas.List.{length-append}
+use Rattle.std.proofs.lemmas.List.Folds.{position_or_len_push}
+use Rattle.std.proofs.lemmas.List.Quantifiers.{position-Some}
+use Rattle.std.proofs.lemmas.List.Sums.{position_or_len_is}
+use Rattle.std.proofs.lemmas.Map.Keys.{apart_from_distinct}
+use Rattle.std.proofs.lemmas.Option.{none-some, slice_get_within, get_or_from_slice_get, slice_get-get_or}
+use Rattle.std.proofs.lemmas.Nat.{and-not, and_comm}
+use Rattle.std.specs.Int.Bits.{and_self}
+use Rattle.std.proofs.lemmas.Nat.Bits.{bit_at_and, bit_at_not, bit_at-lt}
+use Rattle.cil_lines.proofs.StepLemmas.{hit-here, hit-there}
+use Rattle.cil_lines.specs.Line.{hit}
+use Rattle.cil_recorded.specs.Log.{hit_at}
+use Rattle.cil_recorded.specs.Recorded as recorded
+use Rattle.cil_recorded.specs.Recorded.{State, lines_in}
+use Rattle.cil_recorded.proofs.LogLemmas.{hit_in, hit_off, same_counts}
+use Rattle.cil_keyed_lines.specs.declared.symbol_key.SymbolKey.{SymbolKey}
+use Rattle.cil_keyed_lines.specs.Keyed.{Keyed, AreKeyed, IsLineOf, IsNoLine, NoneCounted, before_at, count_by, hit_of, is_key, now_at, with_key}
+
+-- ---- keys
+
+both_true : (b c : Bool) → (b && c) ≡ true → (b ≡ true) × (c ≡ true)
+both_true true c is = (refl, is)
+both_true false c is = absurd (true≢false (sym is))
+
+-- keys that are the same are one
+pub one_key : (key other : SymbolKey) → is_key key other ≡ true → key ≡ other
+one_key key other is =
+    let (source, rest) = both_true (key.source == other.source) _ is in
+    let (class, permission) = both_true (key.class == other.class) _ rest in
+    let source = eqb-true key.source other.source source in
+    let class = eqb-true key.class other.class class in
+    let permission = eqb-true key.permission other.permission permission in
+    λ i. record { source = source i; class = class i; permission = permission i }
+
+pub key_itself : (key : SymbolKey) → is_key key key ≡ true
+key_itself key =
+    ap (λ b. b && (key.class == key.class && key.permission == key.permission)) (eq-eqb key.source key.source refl)
+    ∙ ap (λ b. b && (key.permission == key.permission)) (eq-eqb key.class key.class refl) ∙ eq-eqb key.permission key.permission refl
+
+other_key : (key other : SymbolKey) → is_key key other ≡ false → is_key other key ≡ false
+other_key key other is = by (is_key other key) refl
+  where
+    by : (b : Bool) → is_key other key ≡ b → b ≡ false
+    by false same = refl
+    by true same = absurd (true≢false (sym (key_itself key) ∙ ap (is_key key) (sym (one_key other key same)) ∙ is))
+
+-- ---- places
+
+abbrev index : List SymbolKey → SymbolKey → ℕ
+index keys key = position_or_len (is_key key) keys
+
+-- a key without a line counts as one whose line is behind the others
+by_index : (f : ℕ → ℕ → ℕ) (keys : List SymbolKey) → ((l t : ℕ) → length keys ≤ l → f l t ≡ 0) → (k : SymbolKey) (t : ℕ) → count_by f keys k t ≡ f (index keys k) t
+unfolding count_by
+by_index f keys past k t = by (nat_lt (index keys k) (length keys)) refl
+  where
+    by : (b : Bool) → nat_lt (index keys k) (length keys) ≡ b → option_map_or (λ i. f i t) (cond b (Some (index keys k)) None) 0 ≡ f (index keys k) t
+    by true less = refl
+    by false less = sym (past (index keys k) t (ltb-false (index keys k) (length keys) less))
+
+-- the place of a key is its index
+placed_index : (keys : List SymbolKey) (key : SymbolKey) (place : ℕ) → position (is_key key) keys ≡ Some place → index keys key ≡ place
+placed_index keys key place at =
+    let (within, equal, first) = position-Some (is_key key) keys place key at in
+    position_or_len_is (is_key key) keys place key (omega (arith, within)) first (λ _. equal)
+
+pub placed_within : (keys : List SymbolKey) (key : SymbolKey) (place : ℕ) → position (is_key key) keys ≡ Some place → place < length keys
+placed_within keys key place at = (position-Some (is_key key) keys place key at).0
+
+-- the counters of a key whose place is known
+pub count_placed : (f : ℕ → ℕ → ℕ) (keys : List SymbolKey) (key : SymbolKey) (place t : ℕ) → position (is_key key) keys ≡ Some place → count_by f keys key t ≡ f place t
+unfolding count_by
+count_placed f keys key place t at = ap (λ o. option_map_or (λ i. f i t) o 0) at
+
+pub count_absent : (f : ℕ → ℕ → ℕ) (keys : List SymbolKey) (key : SymbolKey) (t : ℕ) → position (is_key key) keys ≡ None → count_by f keys key t ≡ 0
+unfolding count_by
+count_absent f keys key t none = ap (λ o. option_map_or (λ i. f i t) o 0) none
+
+-- distinct keys stand where they are found
+pub placed_at : (keys : List SymbolKey) (i : ℕ) (key : SymbolKey) → IsDistinct is_key keys → slice_get keys i ≡ Some key → position (is_key key) keys ≡ Some i
+placed_at keys i key distinct at =
+    ap (λ n. cond (nat_lt n (length keys)) (Some n) None) index_is ∙ ap (λ b. cond b (Some i) None) (lt-ltb i (length keys) within)
+  where
+    within : i < length keys
+    within = slice_get_within keys i key at
+
+    here : (d : SymbolKey) → get_or keys i d ≡ key
+    here d = get_or_from_slice_get keys i key d at
+
+    index_is : index keys key ≡ i
+    index_is =
+        position_or_len_is (is_key key) keys i key (omega (arith, within))
+        (λ k less. other_key (get_or keys k key) key (ap (is_key (get_or keys k key)) (sym (here key)) ∙ apart_from_distinct is_key keys k i key distinct less within))
+        (λ _. ap (is_key key) (here key) ∙ key_itself key)
+
+-- a key stands at its place
+pub key_placed : (keys : List SymbolKey) (key : SymbolKey) (place : ℕ) → position (is_key key) keys ≡ Some place → slice_get keys place ≡ Some key
+key_placed keys key place at =
+    let (within, equal, _) = position-Some (is_key key) keys place key at in
+    slice_get-get_or keys place key within ∙ ap (λ k. Some k) (sym (one_key key (get_or keys place key) equal))
+
+-- ---- counters
+
+pub count_same : (f g : ℕ → ℕ → ℕ) (keys : List SymbolKey) → ((l t : ℕ) → g l t ≡ f l t) → (k : SymbolKey) (t : ℕ) → count_by g keys k t ≡ count_by f keys k t
+count_same f g keys same k t = ap (λ h. count_by h keys k t) (same_counts g f same)
+
+pub count_none : (f : ℕ → ℕ → ℕ) (keys : List SymbolKey) → ((l t : ℕ) → f l t ≡ 0) → (k : SymbolKey) (t : ℕ) → count_by f keys k t ≡ 0
+count_none f keys none k t = by_index f keys (λ l t _. none l t) k t ∙ none (index keys k) t
+
+-- a new key takes no counter from another
+pub count_grown : (f : ℕ → ℕ → ℕ) (keys : List SymbolKey) (key : SymbolKey) → ((l t : ℕ) → length keys ≤ l → f l t ≡ 0) → (k : SymbolKey) (t : ℕ)
+    → count_by f (with_key keys key) k t ≡ count_by f keys k t
+count_grown f keys key past k t = by (list_any (is_key key) keys)
+  where
+    by : (b : Bool) → count_by f (if b then keys else keys ++ key ∷ []) k t ≡ count_by f keys k t
+    by true = refl
+    by false = by_index f grown past_grown k t ∙ moved (index keys k == length keys) refl ∙ sym (by_index f keys past k t)
+      where
+        grown : List SymbolKey
+        grown = keys ++ key ∷ []
+
+        past_grown : (l t : ℕ) → length grown ≤ l → f l t ≡ 0
+        past_grown l t behind = past l t (omega (arith, behind, length-append keys (key ∷ [])))
+
+        pushed : index grown k ≡ cond (index keys k == length keys) (length keys + cond (is_key k key) 0 1) (index keys k)
+        pushed = position_or_len_push (is_key k) keys key
+
+        moved : (b : Bool) → (index keys k == length keys) ≡ b → f (index grown k) t ≡ f (index keys k) t
+        moved false other = ap (λ n. f n t) (pushed ∙ ap (λ b. cond b (length keys + cond (is_key k key) 0 1) (index keys k)) other)
+        moved true last =
+            let old : index keys k ≡ length keys = eqb-true (index keys k) (length keys) last in
+            let new : index grown k ≡ length keys + cond (is_key k key) 0 1 = pushed ∙ ap (λ b. cond b (length keys + cond (is_key k key) 0 1) (index keys k)) last in
+            past (index grown k) t (omega (arith, new)) ∙ sym (past (index keys k) t (omega (arith, old)))
+
+-- nor does a new line whose counters are all 0
+pub count_reached : (f g : ℕ → ℕ → ℕ) (keys news : List SymbolKey) (key : SymbolKey) → news ≡ with_key keys key → ((l t : ℕ) → g l t ≡ f l t) → ((l t : ℕ) → length keys ≤ l → f l t ≡ 0)
+    → (k : SymbolKey) (t : ℕ) → count_by g news k t ≡ count_by f keys k t
+count_reached f g keys news key is same past k t = ap (λ list. count_by g list k t) is ∙ count_same f g (with_key keys key) same k t ∙ count_grown f keys key past k t
+
+-- ---- a word of the line of a key
+
+module _ (keys : List SymbolKey) (key : SymbolKey) (place word mask : ℕ) (at : position (is_key key) keys ≡ Some place) where
+  -- the targets are those of the key whose line stands there
+  hit_key : (k : SymbolKey) (t : ℕ) → hit_at place word mask (index keys k) t ≡ hit_of key word mask k t
+  unfolding hit_of
+  hit_key k t = by (is_key key k) refl
+    where
+      by : (b : Bool) → is_key key k ≡ b → hit_at place word mask (index keys k) t ≡ (if b then hit word mask t else 0)
+      by true same = hit_in place word mask (index keys k) t (ap (index keys) (sym (one_key key k same)) ∙ placed_index keys key place at)
+      by false other = hit_off place word mask (index keys k) t (λ e. true≢false (sym (met e) ∙ other))
+        where
+          met : index keys k ≡ place → is_key key k ≡ true
+          met e =
+              let (within, equal, _) = position-Some (is_key key) keys place key at in
+              let found : position (is_key k) keys ≡ Some place = ap (λ n. cond (nat_lt n (length keys)) (Some n) None) e ∙ ap (λ b. cond b (Some place) None) (lt-ltb place (length keys) within) in
+              let (_, also, _) = position-Some (is_key k) keys place key found in
+              ap (is_key key) (one_key k (get_or keys place key) also) ∙ equal
+
+module _ (f g : ℕ → ℕ → ℕ) (keys : List SymbolKey) (key : SymbolKey) (place word gone come : ℕ) (at : position (is_key key) keys ≡ Some place)
+    (past : (l t : ℕ) → length keys ≤ l → f l t ≡ 0) (shifted : (l t : ℕ) → g l t + hit_at place word gone l t ≡ f l t + hit_at place word come l t) where
+  -- the lines of no key stay at 0
+  pub past_shifted : (l t : ℕ) → length keys ≤ l → g l t ≡ 0
+  past_shifted l t behind =
+      let within = placed_within keys key place at in
+      let other : l ≢ place = λ e. omega (arith, behind, within, e) in
+      omega (arith, shifted l t, past l t behind, hit_off place word gone l t other, hit_off place word come l t other)
+
+  pub count_shifted : (k : SymbolKey) (t : ℕ) → count_by g keys k t + hit_of key word gone k t ≡ count_by f keys k t + hit_of key word come k t
+  count_shifted k t =
+      omega (
+        arith,
+        by_index g keys past_shifted k t,
+        by_index f keys past k t,
+        shifted (index keys k) t,
+        hit_key keys key place word gone at k t,
+        hit_key keys key place word come at k t,
+      )
+
+-- the memory that a shift took or lacks
+module _ {E : Type 0} (keys : List SymbolKey) (old new : State) (key : SymbolKey) (place word gone come : ℕ) (at : position (is_key key) keys ≡ Some place) (keyed : AreKeyed keys old)
+    (r : Result (Unit {0}) E) (shifted : OnOk r ((l t : ℕ) → recorded.count_now new l t + hit_at place word gone l t ≡ recorded.count_now old l t + hit_at place word come l t))
+    (kept : OnErr r ((l t : ℕ) → recorded.count_now new l t ≡ recorded.count_now old l t)) where
+  pub keyed_shifted : lines_in new ≡ lines_in old → ((l t : ℕ) → recorded.count_before new l t ≡ recorded.count_before old l t) → AreKeyed keys new
+  keyed_shifted len before = record {
+    distinct = keyed.distinct;
+    within = omega (arith, len, keyed.within);
+    now = by r shifted kept;
+    before = λ l t behind. before l t ∙ keyed.before l t behind;
+  }
+    where
+      by : (q : Result (Unit {0}) E) → OnOk q ((l t : ℕ) → recorded.count_now new l t + hit_at place word gone l t ≡ recorded.count_now old l t + hit_at place word come l t)
+          → OnErr q ((l t : ℕ) → recorded.count_now new l t ≡ recorded.count_now old l t) → (l t : ℕ) → length keys ≤ l → recorded.count_now new l t ≡ 0
+      by (Ok x) ok err l t behind = past_shifted (recorded.count_now old) (recorded.count_now new) keys key place word gone come at keyed.now ok l t behind
+      by (Err e) ok err l t behind = err l t ∙ keyed.now l t behind
+
+-- ---- the targets that go and those that come
+
+-- they differ as those before and after do
+swap : (word was is t : ℕ) → was < 2 ^ 64 → is < 2 ^ 64
+    → hit word (bit_and was (bit_not w64 is)) t + hit word is t ≡ hit word (bit_and is (bit_not w64 was)) t + hit word was t
+swap word was is t was_fits is_fits =
+    let gone = bit_and was (bit_not w64 is) in
+    let come = bit_and is (bit_not w64 was) in
+    let b = t % 64 in
+    let within : b < 64 = omega arith in
+    elim (cases_eq (t / 64) word) [
+      | inl e ↦
+          omega (
+            arith,
+            hit-here word was t e,
+            hit-here word is t e,
+            hit-here word gone t e,
+            hit-here word come t e,
+            bit_at_and was (bit_not w64 is) b,
+            bit_at_and is (bit_not w64 was) b,
+            bit_at_not w64 is b is_fits within,
+            bit_at_not w64 was b was_fits within,
+            bit_at-lt was b,
+            bit_at-lt is b,
+          )
+      | inr n ↦ omega (arith, hit-there word was t n, hit-there word is t n, hit-there word gone t n, hit-there word come t n)
+    ]
+
+pub swap_of : (key : SymbolKey) (word was is : ℕ) (k : SymbolKey) (t : ℕ) → was < 2 ^ 64 → is < 2 ^ 64
+    → hit_of key word (bit_and was (bit_not w64 is)) k t + hit_of key word is k t ≡ hit_of key word (bit_and is (bit_not w64 was)) k t + hit_of key word was k t
+unfolding hit_of
+swap_of key word was is k t was_fits is_fits = by (is_key key k)
+  where
+    gone : ℕ
+    gone = bit_and was (bit_not w64 is)
+
+    come : ℕ
+    come = bit_and is (bit_not w64 was)
+
+    by : (b : Bool) → (if b then hit word gone t else 0) + (if b then hit word is t else 0) ≡ (if b then hit word come t else 0) + (if b then hit word was t else 0)
+    by true = swap word was is t was_fits is_fits
+    by false = refl
+
+-- none go where all stay
+pub none_gone : (was is : ℕ) → was ≡ is → is < 2 ^ 64 → bit_and was (bit_not w64 is) ≡ 0
+none_gone was is same fits = ap (λ n. bit_and n (bit_not w64 is)) same ∙ and_comm is (bit_not w64 is) ∙ omega (arith, and-not 64 is is fits fits, and_self is)
+
+-- ---- listing
+
+-- keys keep their places
+pub places_grown : (keys : List SymbolKey) (key : SymbolKey) (i : ℕ) (k : SymbolKey) → slice_get keys i ≡ Some k → slice_get (with_key keys key) i ≡ Some k
+places_grown keys key i k at = by (list_any (is_key key) keys)
+  where
+    push : (ks : List SymbolKey) (j : ℕ) → slice_get ks j ≡ Some k → slice_get (ks ++ key ∷ []) j ≡ Some k
+    push [] j is = absurd (none-some k is)
+    push (x ∷ ks) zero is = is
+    push (x ∷ ks) (suc j) is = push ks j is
+
+    by : (b : Bool) → slice_get (if b then keys else keys ++ key ∷ []) i ≡ Some k
+    by true = at
+    by false = push keys i at
+
+pub line_of_place : (k : Keyed) (i : ℕ) (o : Option SymbolKey) → AreKeyed k.keys k.lines → o ≡ slice_get k.keys i → MatchOption o (IsNoLine k i) (IsLineOf k i)
+line_of_place k i None keyed is =
+    let behind : length k.keys ≤ i = by (cases_lt i (length k.keys)) in
+    record { behind = behind; now = λ t. keyed.now i t behind; before = λ t. keyed.before i t behind }
+  where
+    no_key : SymbolKey
+    no_key = record { source = 0; class = 0; permission = 0 }
+
+    by : (i < length k.keys) ⊎ (length k.keys ≤ i) → length k.keys ≤ i
+    by (inl less) = absurd (none-some (get_or k.keys i no_key) (is ∙ slice_get-get_or k.keys i no_key less))
+    by (inr behind) = behind
+line_of_place k i (Some key) keyed is =
+    let at = sym is in
+    let place = placed_at k.keys i key keyed.distinct at in
+    record { at = at; now = λ t. sym (count_placed (now_at k) k.keys key i t place); before = λ t. sym (count_placed (before_at k) k.keys key i t place) }
+
+pub line_of_key : (k : Keyed) (key : SymbolKey) (o : Option ℕ) → o ≡ position (is_key key) k.keys → MatchOption o (NoneCounted k key) (λ i. IsLineOf k i key)
+line_of_key k key None is = λ t. (count_absent (now_at k) k.keys key t (sym is), count_absent (before_at k) k.keys key t (sym is))
+line_of_key k key (Some i) is =
+    let at = sym is in
+    record { at = key_placed k.keys key i at; now = λ t. sym (count_placed (now_at k) k.keys key i t at); before = λ t. sym (count_placed (before_at k) k.keys key i t at) }

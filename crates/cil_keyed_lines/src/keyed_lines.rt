@@ -1,0 +1,212 @@
+//! Lines of counters by their keys.
+
+ghost use Rattle.std.specs.Prelude.{◌≡◌, ◌↔◌, ℕ, ◌+◌, ◌-◌, ◌<◌, ◌≤◌, ◌^◌, ◌==◌, false, length, min, bit_and, bit_xor, count_ones, position, slice_get, Some, if◌then◌else◌, IfOk, IsTrue, MatchOption, OnErr, OnOk};
+ghost use Rattle.std.specs.Int.{bit_not, w64};
+ghost use Rattle.cil_lines.specs.Line.{IsPresence, IsNextPresent, NonePresent};
+ghost use Rattle.cil_lines.specs.Limit.{CanLower};
+ghost use Rattle.cil_recorded.specs.Differences.{appeared_at, change_key, gone_at, Ascends};
+ghost use Rattle.cil_keyed_lines.specs.Keyed.{before_at, count_before, count_now, hit_of, is_key, now_at, steps_in, with_key, IsLineOf, IsNoLine, NoneCounted};
+
+use crate::line_steps;
+use crate::symbol_key::SymbolKey;
+use cil_recorded::{Change, RecordedLines};
+use indexmap::IndexSet;
+use std::alloc::{AllocError, Allocator, Global};
+use std::hash::{BuildHasherDefault, FoldHasher};
+use std::marker::Model;
+
+/// Lines of counters, each found by its key. They are changed in steps, which `undo` takes back and `settle` keeps. The place of a
+/// key's line stays while other keys come.
+#[derive(Drop)]
+pub struct KeyedLines<A: Allocator = Global> {
+    keys: IndexSet<SymbolKey, BuildHasherDefault<FoldHasher>, A>,
+    lines: RecordedLines<A>,
+}
+
+impl<A: Allocator> Model for KeyedLines<A> {
+    ghost use Rattle.cil_keyed_lines.specs.Keyed.{AreKeyed, Keyed};
+
+    ghost Value = { Keyed };
+
+    ghost view = { λ k. record { keys = k.keys.keys; lines = k.lines } };
+
+    ghost invariant = { λ k. AreKeyed k.keys.keys k.lines };
+}
+
+impl<A: Allocator + Copy> KeyedLines<A> {
+    /// No line and no step.
+    pub fn new(alloc: A) -> Self
+        ensures keys { length result.keys ≡ 0 }
+        ensures steps { steps_in result ≡ 0 }
+        ensures now { (key : SymbolKey) (t : ℕ) → count_now result key t ≡ 0 }
+        ensures before { (key : SymbolKey) (t : ℕ) → count_before result key t ≡ 0 }
+    {
+        KeyedLines {
+            keys: IndexSet::new(alloc),
+            lines: RecordedLines::new(alloc),
+        }
+    }
+
+    /// The place of a key's line, which is made if there is none.
+    fn reach(&mut self, alloc: A, key: SymbolKey) -> Result<usize, AllocError>
+        ensures place { IfOk result (λ i. position (is_key key) self.new.keys ≡ Some i) }
+        ensures keys { OnOk result (self.new.keys ≡ with_key self.old.keys key) }
+        ensures kept { OnErr result (self.new.keys ≡ self.old.keys) }
+        ensures steps { steps_in self.new ≡ steps_in self.old }
+        ensures now { (k : SymbolKey) (t : ℕ) → count_now self.new k t ≡ count_now self.old k t }
+        ensures before { (k : SymbolKey) (t : ℕ) → count_before self.new k t ≡ count_before self.old k t }
+    {
+        if let Some(place) = self.keys.get_index_of(&key) {
+            return Ok(place);
+        }
+        line_steps::reach(&mut self.lines, alloc, self.keys.len())?;
+        let (place, _new) = self.keys.insert_full(key)?;
+        Ok(place)
+    }
+
+    /// A rule gave the targets `was` of a word in the line of a key, and gives those of `is` now: takes 1 from the counter of each
+    /// that goes, adds 1 to that of each that comes, and answers how many counters moved. All memory is taken before a counter
+    /// changes.
+    pub fn shift(
+        &mut self,
+        alloc: A,
+        key: SymbolKey,
+        word: usize,
+        was: u64,
+        is: u64,
+    ) -> Result<u32, AllocError>
+        requires word { word < 2 ^ 58 }
+        requires above { CanLower (count_now self.old key) word (bit_and was (bit_not w64 is)) }
+        ensures moved { IfOk result (λ n. n ≡ count_ones (bit_xor was is)) }
+        ensures now { OnOk result ((k : SymbolKey) (t : ℕ) → count_now self.new k t + hit_of key word was k t ≡ count_now self.old k t + hit_of key word is k t) }
+        ensures steps { OnOk result (steps_in self.new ≡ steps_in self.old + min 1 (bit_and was (bit_not w64 is)) + min 1 (bit_and is (bit_not w64 was))) }
+        ensures keys { OnOk result (self.new.keys ≡ (if was == is then self.old.keys else with_key self.old.keys key)) }
+        ensures kept { OnErr result ((k : SymbolKey) (t : ℕ) → count_now self.new k t ≡ count_now self.old k t) }
+        ensures kept_steps { OnErr result (steps_in self.new ≡ steps_in self.old) }
+        ensures places { (i : ℕ) (k : SymbolKey) → slice_get self.old.keys i ≡ Some k → slice_get self.new.keys i ≡ Some k }
+        ensures before { (k : SymbolKey) (t : ℕ) → count_before self.new k t ≡ count_before self.old k t }
+    {
+        if was == is {
+            return Ok(0);
+        }
+        let place = self.reach(alloc, key)?;
+        self.shift_at(alloc, place, key, word, was & !is, is & !was)?;
+        Ok((was ^ is).count_ones())
+    }
+
+    /// Takes 1 from the counter of each target that goes in the line of a place, and adds 1 to that of each that comes.
+    fn shift_at(
+        &mut self,
+        alloc: A,
+        place: usize,
+        key: SymbolKey,
+        word: usize,
+        gone: u64,
+        come: u64,
+    ) -> Result<(), AllocError>
+        requires place { position (is_key key) self.old.keys ≡ Some place }
+        requires word { word < 2 ^ 58 }
+        requires above { CanLower (count_now self.old key) word gone }
+        ensures now { OnOk result ((k : SymbolKey) (t : ℕ) → count_now self.new k t + hit_of key word gone k t ≡ count_now self.old k t + hit_of key word come k t) }
+        ensures steps { OnOk result (steps_in self.new ≡ steps_in self.old + min 1 gone + min 1 come) }
+        ensures kept { OnErr result ((k : SymbolKey) (t : ℕ) → count_now self.new k t ≡ count_now self.old k t) }
+        ensures kept_steps { OnErr result (steps_in self.new ≡ steps_in self.old) }
+        ensures keys { self.new.keys ≡ self.old.keys }
+        ensures before { (k : SymbolKey) (t : ℕ) → count_before self.new k t ≡ count_before self.old k t }
+    {
+        line_steps::shift(&mut self.lines, alloc, place, word, gone, come)
+    }
+
+    /// Which targets appeared and which went since the last settling, by the place of the line and by word. A word where none
+    /// did is left out.
+    pub fn changes(&self, alloc: A) -> Result<Vec<Change, A>, AllocError>
+        ensures order { IfOk result (λ v. Ascends change_key 0 v.items) }
+        ensures appeared { IfOk result (λ v. (i t : ℕ) → appeared_at v.items i t ≡ min 1 (now_at self.now i t) - min 1 (before_at self.now i t)) }
+        ensures gone { IfOk result (λ v. (i t : ℕ) → gone_at v.items i t ≡ min 1 (before_at self.now i t) - min 1 (now_at self.now i t)) }
+    {
+        self.lines.changes(alloc)
+    }
+}
+
+impl<A: Allocator> KeyedLines<A> {
+    /// How many keys have a line.
+    pub fn len(&self) -> usize
+        ensures { result ≡ length self.now.keys }
+    {
+        self.keys.len()
+    }
+
+    /// Whether no key has a line.
+    pub fn is_empty(&self) -> bool
+        ensures { IsTrue result ↔ (length self.now.keys ≡ 0) }
+    {
+        self.keys.is_empty()
+    }
+
+    /// The place of a key's line.
+    pub fn find(&self, key: SymbolKey) -> Option<usize>
+        ensures place { result ≡ position (is_key key) self.now.keys }
+        ensures line { MatchOption result (NoneCounted self.now key) (λ i. IsLineOf self.now i key) }
+    {
+        self.keys.get_index_of(&key)
+    }
+
+    /// The key whose line has a place.
+    pub fn at(&self, place: usize) -> Option<SymbolKey>
+        ensures { MatchOption result (IsNoLine self.now place) (IsLineOf self.now place) }
+    {
+        self.keys.get_index(place).copied()
+    }
+
+    /// The counter of a target in the line of a key, or the greatest `u64` where it is greater.
+    pub fn count(&self, key: SymbolKey, target: usize) -> u64
+        ensures { result ≡ min (count_now self.now key target) (2 ^ 64 - 1) }
+    {
+        match self.find(key) {
+            Some(place) => self.lines.count(place, target),
+            None => 0,
+        }
+    }
+
+    /// The targets of a word in the line of a place whose counters are at least 1.
+    pub fn present(&self, place: usize, word: usize) -> u64
+        ensures { IsPresence (now_at self.now place) word result }
+    {
+        self.lines.present(place, word)
+    }
+
+    /// The first word of the line of a place, from one on, with a target whose counter is at least 1.
+    pub fn next_present_word(&self, place: usize, from: usize) -> Option<usize>
+        ensures { MatchOption result (NonePresent (now_at self.now place) from) (IsNextPresent (now_at self.now place) from) }
+    {
+        self.lines.next_present_word(place, from)
+    }
+
+    /// Whether there are steps that `undo` would take back.
+    pub fn is_pending(&self) -> bool
+        ensures steps { IsTrue result ↔ (0 < steps_in self.now) }
+        ensures none { result ≡ false → (k : SymbolKey) (t : ℕ) → count_before self.now k t ≡ count_now self.now k t }
+    {
+        self.lines.is_pending()
+    }
+
+    /// Takes the steps back. Keys that came keep their lines. It takes no memory.
+    pub fn undo(&mut self)
+        ensures keys { self.new.keys ≡ self.old.keys }
+        ensures steps { steps_in self.new ≡ 0 }
+        ensures now { (k : SymbolKey) (t : ℕ) → count_now self.new k t ≡ count_before self.old k t }
+        ensures before { (k : SymbolKey) (t : ℕ) → count_before self.new k t ≡ count_before self.old k t }
+    {
+        self.lines.undo();
+    }
+
+    /// Keeps the steps, so that they can't be taken back any more.
+    pub fn settle(&mut self)
+        ensures keys { self.new.keys ≡ self.old.keys }
+        ensures steps { steps_in self.new ≡ 0 }
+        ensures now { (k : SymbolKey) (t : ℕ) → count_now self.new k t ≡ count_now self.old k t }
+        ensures before { (k : SymbolKey) (t : ℕ) → count_before self.new k t ≡ count_now self.old k t }
+    {
+        self.lines.settle();
+    }
+}

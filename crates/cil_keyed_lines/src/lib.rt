@@ -1,0 +1,11 @@
+//! Lines of counters found by a key and changed in steps that can be taken back.
+#![tactic(auto)]
+
+mod keyed_lines;
+#[cfg(test)]
+mod keyed_tests;
+mod line_steps;
+mod symbol_key;
+
+pub use keyed_lines::KeyedLines;
+pub use symbol_key::SymbolKey;

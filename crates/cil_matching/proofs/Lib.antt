@@ -1,0 +1,5 @@
+pub mod SpotLemmas
+pub mod InverseLemmas
+pub mod MatchedLemmas
+pub mod ApartLemmas
+pub mod RuleLemmas

@@ -1,0 +1,21 @@
+use Rattle.std.proofs.Common.{◌≡◌, ◌∙◌, ◌<◌, ◌+◌, None, Some, length, get_or, slice_get, ap, sym, subst}
+use Rattle.std.proofs.lemmas.Option.{slice_get-get_or}
+use Rattle.cil_matching.proofs.InverseLemmas.{inverse-next, inverse-all, noted-length}
+use Rattle.cil_matching.specs.Inverse.{IsInverse}
+use Rattle.cil_matching.proofs.inverse.inverse.Goals as goal
+
+pub loop-i-preserved : goal.loop-i-preserved
+loop-i-preserved g c =
+    let places = c.args.places.now in
+    let back = c.loop-i.back.items in
+    let i = c.loop-i.i in
+    let place = get_or places i None in
+    let at : slice_get places i ≡ Some place = slice_get-get_or places i None c.loop-i-test.true in
+    record {
+      long = ap length c.note.ensures ∙ noted-length back place i ∙ c.loop-i.invariant.long;
+      inverse = subst (IsInverse (i + 1) places) (sym c.note.ensures)
+          (inverse-next places back place i at (λ j is. subst (λ n. j < n) (sym c.loop-i.invariant.long) (c.requires.below i j (at ∙ ap Some is))) c.requires.apart c.loop-i.invariant.inverse);
+    }
+
+pub returns : goal.returns
+returns g c = inverse-all c.args.places.now c.loop-i.back.items c.loop-i.i c.loop-i-test.false c.loop-i.invariant.inverse

@@ -1,0 +1,4 @@
+pub mod Matching
+pub mod Spot
+pub mod Same
+pub mod Inverse

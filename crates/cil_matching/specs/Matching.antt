@@ -1,0 +1,20 @@
+-- Statements that stand in two lists.
+use Rattle.std.specs.Prelude.{◌≡◌, ◌↔◌, ℕ, List, Option, Some, slice_get}
+
+-- For each statement of one list the place of the same one in the other list, if there is one, and back.
+pub record Matched : Type 0 where
+  pub ahead : List (Option ℕ)
+  pub back : List (Option ℕ)
+
+-- The statement at the one place and that at the other are the same.
+pub record AreSameAt {S : Type 0} (IsSame : S → S → Type 0) (old new : List S) (i j : ℕ) : Type 0 where
+  pub statement : S
+  pub other : S
+  pub here : slice_get old i ≡ Some statement
+  pub there : slice_get new j ≡ Some other
+  pub same : IsSame statement other
+
+-- Exactly the places of the same statements are put together, both ways.
+pub record AreMatched {S : Type 0} (IsSame : S → S → Type 0) (old new : List S) (m : Matched) : Type 0 where
+  pub ahead : (i j : ℕ) → (slice_get m.ahead i ≡ Some (Some j)) ↔ AreSameAt IsSame old new i j
+  pub back : (i j : ℕ) → (slice_get m.back j ≡ Some (Some i)) ↔ AreSameAt IsSame old new i j

@@ -1,0 +1,14 @@
+//! Which set statements and which rules of one policy stand in another one.
+#![tactic(auto)]
+
+mod inverse;
+#[cfg(test)]
+mod matching_tests;
+mod positions;
+mod rule_matching;
+mod same_rule;
+mod set_matching;
+
+pub use rule_matching::RuleMatching;
+pub use same_rule::is_same_rule;
+pub use set_matching::SetMatching;

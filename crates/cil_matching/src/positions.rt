@@ -1,0 +1,61 @@
+//! Positions of statements.
+
+ghost use Rattle.std.specs.Prelude.{◌≡◌, ◌++◌, ◌∷◌, [], false, position, OnOk};
+ghost use Rattle.std.specs.List.{list_any};
+ghost use Rattle.cil_matching.specs.Spot.{same_spot, spot_of};
+
+use indexmap::IndexSet;
+use std::alloc::{AllocError, Allocator, Global};
+use std::hash::{BuildHasherDefault, FoldHasher};
+use std::marker::Model;
+
+/// Where a statement stands: the name of its module, and the offset in the module's text.
+#[derive(Clone, Copy, Debug, PartialEq, Eq, Hash)]
+pub struct Position<'r> {
+    pub module: &'r [u8],
+    pub offset: u32,
+}
+
+/// Positions, each of which finds its place among them. Contracts see it as the list of them.
+#[derive(Drop)]
+pub struct Positions<'r, A: Allocator = Global> {
+    positions: IndexSet<Position<'r>, BuildHasherDefault<FoldHasher>, A>,
+}
+
+impl<'r, A: Allocator> Model for Positions<'r, A> {
+    ghost use Rattle.std.specs.Prelude.{List, map};
+    ghost use Rattle.cil_matching.specs.Spot.{Spot, spot_of};
+
+    ghost Value = { List Spot };
+
+    ghost view = { λ p. map spot_of p.positions.keys };
+}
+
+impl<'r, A: Allocator + Copy> Positions<'r, A> {
+    /// No positions. It takes no memory.
+    pub fn new(alloc: A) -> Self
+        ensures { result ≡ [] }
+    {
+        Positions {
+            positions: IndexSet::new(alloc),
+        }
+    }
+
+    /// Puts a new position last.
+    pub fn add(&mut self, position: Position<'r>) -> Result<(), AllocError>
+        requires { list_any (same_spot (spot_of position)) self.old ≡ false }
+        ensures { OnOk result (self.new ≡ self.old ++ spot_of position.entry ∷ []) }
+    {
+        self.positions.insert(position)?;
+        Ok(())
+    }
+}
+
+impl<'r, A: Allocator> Positions<'r, A> {
+    /// The place of a position. It takes no memory.
+    pub fn find(&self, wanted: Position<'_>) -> Option<usize>
+        ensures { result ≡ position (same_spot (spot_of wanted.entry)) self.now }
+    {
+        self.positions.get_index_of(&wanted)
+    }
+}

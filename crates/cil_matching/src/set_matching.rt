@@ -1,0 +1,111 @@
+//! The set statements of one policy that stand in another one.
+
+ghost use Rattle.std.specs.Prelude.{◌≡◌, ◌↔◌, ◌<◌, ℕ, length, map, slice_get, Some, IfOk};
+ghost use Rattle.cil_specs.specs.Rule.{IsSameSet};
+ghost use Rattle.cil_resolve.specs.Sets.{sets_in};
+ghost use Rattle.cil_matching.specs.Matching.{AreMatched, AreSameAt};
+ghost use Rattle.cil_matching.specs.Spot.{set_spot, spot_of};
+
+use crate::inverse::{inverse, place_at};
+use crate::positions::{Position, Positions};
+use cil_resolve::{Resolved, resolved_sets_are_apart};
+use std::alloc::{AllocError, Allocator, Global};
+use std::marker::Model;
+
+/// For each set statement of one policy the place of the same one in another policy, if that has it, and back. Contracts see the
+/// two lists of places.
+#[derive(Debug, Drop)]
+pub struct SetMatching<A: Allocator = Global> {
+    ahead: Vec<Option<usize>, A>,
+    back: Vec<Option<usize>, A>,
+}
+
+impl<A: Allocator> Model for SetMatching<A> {
+    ghost use Rattle.cil_matching.specs.Matching.{Matched};
+
+    ghost Value = { Matched };
+
+    ghost view = { λ m. record { ahead = m.ahead.items; back = m.back.items } };
+}
+
+/// Where the set statement at a place stands.
+fn position<A: Allocator>(resolved: &Resolved<A>, i: usize) -> Position<'_>
+    requires { i < length (sets_in resolved.now) }
+    ensures { slice_get (map set_spot (sets_in resolved.now)) i ≡ Some (spot_of result) }
+{
+    let set = resolved.set_at(i).unwrap();
+    Position {
+        module: set.module,
+        offset: set.at.offset,
+    }
+}
+
+/// The positions of a policy's set statements, in the order of their places.
+fn positions<A: Allocator + Copy>(
+    alloc: A,
+    resolved: &Resolved<A>,
+) -> Result<Positions<'_, A>, AllocError>
+    ensures { IfOk result (λ positions. positions ≡ map set_spot (sets_in resolved.now)) }
+{
+    resolved_sets_are_apart(resolved);
+    let mut positions = Positions::new(alloc);
+    for i in 0..resolved.sets_len() {
+        positions.add(position(resolved, i))?;
+    }
+    Ok(positions)
+}
+
+/// The place in the new policy of the same set statement.
+fn same<A: Allocator>(
+    old: &Resolved<A>,
+    i: usize,
+    new: &Resolved<A>,
+    positions: &Positions<'_, A>,
+) -> Option<usize>
+    requires within { i < length (sets_in old.now) }
+    requires positions { positions.now ≡ map set_spot (sets_in new.now) }
+    ensures { (j : ℕ) → (result ≡ Some j) ↔ AreSameAt IsSameSet (sets_in old.now) (sets_in new.now) i j }
+{
+    resolved_sets_are_apart(new);
+    let Some(j) = positions.find(position(old, i)) else {
+        return None;
+    };
+    if old.is_same_set(i, new, j) {
+        Some(j)
+    } else {
+        None
+    }
+}
+
+impl<A: Allocator + Copy> SetMatching<A> {
+    /// The set statements of an old policy that stand in a new one: those of the same module, offset and content. Its time goes
+    /// with the size of the two.
+    pub fn of(alloc: A, old: &Resolved<A>, new: &Resolved<A>) -> Result<Self, AllocError>
+        ensures { IfOk result (AreMatched IsSameSet (sets_in old.now) (sets_in new.now)) }
+    {
+        resolved_sets_are_apart(old);
+        let positions = positions(alloc, new)?;
+        let mut ahead = Vec::with_capacity(alloc, old.sets_len())?;
+        for i in 0..old.sets_len() {
+            ahead.push(same(old, i, new, &positions))?;
+        }
+        let back = inverse(alloc, &ahead, new.sets_len())?;
+        Ok(SetMatching { ahead, back })
+    }
+}
+
+impl<A: Allocator> SetMatching<A> {
+    /// The place in the new policy of the old one's set statement at a place, if the new policy has the same.
+    pub fn new_place(&self, i: usize) -> Option<usize>
+        ensures { (j : ℕ) → (result ≡ Some j) ↔ (slice_get self.now.ahead i ≡ Some (Some j)) }
+    {
+        place_at(&self.ahead, i)
+    }
+
+    /// The place in the old policy of the new one's set statement at a place, if the old policy has the same.
+    pub fn old_place(&self, j: usize) -> Option<usize>
+        ensures { (i : ℕ) → (result ≡ Some i) ↔ (slice_get self.now.back j ≡ Some (Some i)) }
+    {
+        place_at(&self.back, j)
+    }
+}

@@ -1,0 +1,92 @@
+-- The bits of who was a member, when counters move.
+use Rattle.std.proofs.Common.{◌≡◌, ◌≢◌, ℕ, ◌+◌, ◌*◌, ◌/◌, ◌%◌, ◌<◌, ◌≤◌, List, length, min, refl, sym, ap, ◌∙◌, arith, inl, inr}
+use Rattle.std.proofs.lemmas.Bool.{cases_eq}
+use Rattle.std.proofs.lemmas.Nat.Bits.{bit_at-zero}
+use Rattle.std.specs.Int.{bit_at}
+use Rattle.cil_lines.specs.Line.{IsPresence}
+use Rattle.cil_recorded.specs.Log.{hit_at}
+use Rattle.cil_recorded.specs.Recorded.{State}
+use Rattle.cil_recorded.proofs.LogLemmas.{hit_off, hit_out}
+use Rattle.cil_member_rows.specs.Held.{bits_at, words_of}
+use Rattle.cil_member_rows.specs.Rows.{rows_in, count_before, count_now, IsHeld}
+use Rattle.cil_member_rows.proofs.BitLemmas.{none_behind}
+
+-- a word by its number is the word of each of its targets
+pub word_of : (w b : ℕ) → b < 64 → (64 * w + b) / 64 ≡ w
+word_of w b within = omega arith
+
+-- who was a member, by other counters that are the same
+pub presence_same : (f g : ℕ → ℕ) (w mask mask' : ℕ) → IsPresence f w mask → mask' ≡ mask → ((b : ℕ) → b < 64 → g (64 * w + b) ≡ f (64 * w + b)) → IsPresence g w mask'
+presence_same f g w mask mask' is bits same b within = ap (λ n. bit_at n b) bits ∙ is b within ∙ ap (min 1) (sym (same b within))
+
+-- nobody is present by a word of zeros
+pub presence_none : (f : ℕ → ℕ) (w : ℕ) → ((b : ℕ) → b < 64 → f (64 * w + b) ≡ 0) → IsPresence f w 0
+presence_none f w none b within = bit_at-zero b ∙ sym (ap (min 1) (none b within))
+
+module _ (held held' : List (List ℕ)) (s s' : State) (is : IsHeld held s) where
+  -- the counters before are the same, and there is room for those now
+  pub held_on : rows_in s' ≤ length held' → ((r w : ℕ) → bits_at held' r w ≡ bits_at held r w) → ((r t : ℕ) → count_before s' r t ≡ count_before s r t)
+      → ((r t : ℕ) → words_of held' r ≤ t / 64 → count_now s' r t ≡ 0) → IsHeld held' s'
+  held_on rows bits before room =
+      record {
+        rows = rows;
+        was = λ r w. presence_same (count_before s r) (count_before s' r) w (bits_at held r w) (bits_at held' r w) (is.was r w) (bits r w) (λ b within. before r (64 * w + b));
+        room = room;
+      }
+
+  pub held_same : rows_in s' ≤ length held' → ((r : ℕ) → words_of held r ≤ words_of held' r) → ((r w : ℕ) → bits_at held' r w ≡ bits_at held r w)
+      → ((r t : ℕ) → count_now s' r t ≡ count_now s r t) → ((r t : ℕ) → count_before s' r t ≡ count_before s r t) → IsHeld held' s'
+  held_same rows words bits now before = held_on rows bits before (λ r t past. now r t ∙ is.room r t (let more = words r in omega (arith, more, past)))
+
+  -- who was a member lies in the words of its row
+  before_room : (r t : ℕ) → words_of held r ≤ t / 64 → count_before s r t ≡ 0
+  before_room r t past =
+      let w = t / 64 in
+      let b = t % 64 in
+      let within : b < 64 = omega arith in
+      let place : 64 * w + b ≡ t = omega arith in
+      let bit = is.was r w b within in
+      let none = ap (λ n. bit_at n b) (none_behind held r w past) in
+      let here = ap (λ k. min 1 (count_before s r k)) place in
+      omega (arith, bit, none, here, bit_at-zero b)
+
+  pub held_undone : rows_in s' ≤ length held → ((r t : ℕ) → count_now s' r t ≡ count_before s r t) → ((r t : ℕ) → count_before s' r t ≡ count_before s r t) → IsHeld held s'
+  held_undone rows now before =
+      record {
+        rows = rows;
+        was = λ r w. presence_same (count_before s r) (count_before s' r) w (bits_at held r w) (bits_at held r w) (is.was r w) refl (λ b within. before r (64 * w + b));
+        room = λ r t past. now r t ∙ before_room r t past;
+      }
+
+  pub held_settled : rows_in s' ≤ length held' → ((r : ℕ) → words_of held' r ≡ words_of held r) → ((r w : ℕ) → IsPresence (count_now s r) w (bits_at held' r w))
+      → ((r t : ℕ) → count_now s' r t ≡ count_now s r t) → ((r t : ℕ) → count_before s' r t ≡ count_now s r t) → IsHeld held' s'
+  held_settled rows words bits now before =
+      record {
+        rows = rows;
+        was = λ r w. presence_same (count_now s r) (count_before s' r) w (bits_at held' r w) (bits_at held' r w) (bits r w) refl (λ b within. before r (64 * w + b));
+        room = λ r t past. now r t ∙ is.room r t (let same = words r in omega (arith, same, past));
+      }
+
+  -- counters of a word went down and others up
+  module _ (row word gone come : ℕ) (lowered : ℕ → ℕ → ℕ) where
+    pub held_shifted : rows_in s' ≤ length held' → ((r : ℕ) → words_of held r ≤ words_of held' r) → ((r w : ℕ) → bits_at held' r w ≡ bits_at held r w)
+        → word < words_of held' row
+        → ((r t : ℕ) → lowered r t + hit_at row word gone r t ≡ count_now s r t) → ((r t : ℕ) → count_now s' r t ≡ lowered r t + hit_at row word come r t)
+        → ((r t : ℕ) → count_before s' r t ≡ count_before s r t) → IsHeld held' s'
+    held_shifted rows words bits reach fell rose before = held_on rows bits before room
+      where
+        missed : (r t : ℕ) → words_of held' r ≤ t / 64 → hit_at row word come r t ≡ 0
+        missed r t past =
+            elim (cases_eq r row) [
+              | inl same ↦
+                  let here = ap (words_of held') same in
+                  let other : t / 64 ≢ word = λ e. omega (arith, here, past, reach, e) in
+                  hit_out row word come r t other
+              | inr different ↦ hit_off row word come r t different
+            ]
+
+        room : (r t : ℕ) → words_of held' r ≤ t / 64 → count_now s' r t ≡ 0
+        room r t past =
+            let more = words r in
+            let none = is.room r t (omega (arith, more, past)) in
+            omega (arith, none, fell r t, rose r t, missed r t past)

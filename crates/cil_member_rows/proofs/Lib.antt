@@ -1,0 +1,4 @@
+pub mod BitLemmas
+pub mod HeldLemmas
+pub mod HoldLemmas
+pub mod ShiftLemmas

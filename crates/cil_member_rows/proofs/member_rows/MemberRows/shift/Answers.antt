@@ -1,0 +1,37 @@
+use Rattle.std.proofs.Common.{◌^◌, ◌<◌, bit_and, arith, rules, w64}
+use Rattle.std.specs.Int.{bit_not}
+use Rattle.cil_member_rows.specs.Rows.{count_now}
+use Rattle.cil_member_rows.proofs.HeldLemmas.{held_shifted}
+use Rattle.cil_member_rows.proofs.ShiftLemmas.{hit_without, hit_at_without}
+use Rattle.cil_member_rows.proofs.member_rows.MemberRows.shift.Goals as goal
+
+pub lower-requires-clause-above : goal.lower-requires-clause-above
+lower-requires-clause-above g c t =
+    let fits : c.args.is < 2 ^ 64 = search rules in
+    let above = rw (← c.self.view_is) at c.requires.above in
+    omega (arith, hit_without c.args.word c.args.was c.args.is t fits, above t, c.make_room.ensures.now c.args.row t)
+
+pub invariant_of-self-2 : goal.invariant_of-self-2
+invariant_of-self-2 g c =
+    let old = c.self.inside.rows in
+    let room = c.in_ok-make_room.ensures in
+    held_shifted c.self.inside.held.items c.make_room.new.held.items old c.raise.new.rows c.self.invariant c.args.row c.args.word
+    (bit_and c.args.was (bit_not w64 c.args.is)) (bit_and c.args.is (bit_not w64 c.args.was)) (count_now c.lower.new.rows)
+    (search rules) room.words room.bits room.reach
+    (λ r t. omega (arith, c.lower.ensures.now r t, room.now r t))
+    c.raise.ensures.now
+    (λ r t. omega (arith, c.raise.ensures.before r t, c.lower.ensures.before r t, room.before r t))
+
+pub returns-clause-ok : goal.returns-clause-ok
+returns-clause-ok g c r t =
+    let is : c.args.is < 2 ^ 64 = search rules in
+    let was : c.args.was < 2 ^ 64 = search rules in
+    rw (← c.self.view_is)
+    (omega (
+      arith,
+      hit_at_without c.args.row c.args.word c.args.was c.args.is r t is,
+      hit_at_without c.args.row c.args.word c.args.is c.args.was r t was,
+      c.make_room.ensures.now r t,
+      c.lower.ensures.now r t,
+      c.raise.ensures.now r t,
+    ))

@@ -1,0 +1,13 @@
+//! The members of attributes: rows of counters by type, changed in steps that can be taken back, and who was a member
+//! before the steps.
+#![tactic(auto)]
+
+mod bit_row;
+mod held;
+mod member_rows;
+
+pub use cil_recorded::Change;
+pub use member_rows::MemberRows;
+
+#[cfg(test)]
+mod rows_tests;

@@ -1,0 +1,185 @@
+//! Rows of counters by type, with the bits of who was a member before the steps.
+
+ghost use Rattle.std.specs.Prelude.{◌≡◌, ◌↔◌, ℕ, ◌+◌, ◌-◌, ◌<◌, ◌≤◌, ◌^◌, false, min, IfOk, IsTrue, OnErr, OnOk};
+ghost use Rattle.cil_lines.specs.Line.{hit, IsPresence};
+ghost use Rattle.cil_recorded.specs.Differences.{appeared_at, change_key, gone_at, Ascends};
+ghost use Rattle.cil_recorded.specs.Log.{hit_at};
+ghost use Rattle.cil_member_rows.specs.Rows.{count_before, count_now, rows_in, steps_in, IsChange};
+
+mod settling;
+mod shifting;
+
+use crate::bit_row::BitRow;
+use crate::held;
+use cil_recorded::{Change, RecordedLines};
+use std::alloc::{AllocError, Allocator, Global};
+use std::marker::Model;
+
+// How many types a word has.
+const WORD: usize = 64;
+
+/// For each attribute a row of counters by type: how many set statements of the attribute hold the type. A type whose
+/// counter is above 0 is a member. The rows are changed in steps; the steps since the last `settle` are logged, so that
+/// `undo` takes them back, and who was a member before them can still be asked.
+#[derive(Drop)]
+pub struct MemberRows<A: Allocator = Global> {
+    rows: RecordedLines<A>,
+    held: Vec<BitRow<A>, A>,
+}
+
+impl<A: Allocator> Model for MemberRows<A> {
+    ghost use Rattle.cil_recorded.specs.Recorded.{State};
+    ghost use Rattle.cil_member_rows.specs.Rows.{IsHeld};
+
+    ghost Value = { State };
+
+    ghost view = { λ m. m.rows };
+
+    ghost invariant = { λ m. IsHeld m.held.items m.rows };
+}
+
+impl<A: Allocator + Copy> MemberRows<A> {
+    /// No row and no step.
+    pub fn new(alloc: A) -> Self
+        ensures rows { rows_in result ≡ 0 }
+        ensures steps { steps_in result ≡ 0 }
+        ensures now { (r t : ℕ) → count_now result r t ≡ 0 }
+        ensures before { (r t : ℕ) → count_before result r t ≡ 0 }
+    {
+        MemberRows {
+            rows: RecordedLines::new(alloc),
+            held: Vec::new(alloc),
+        }
+    }
+
+    /// Adds a row without members, behind the others. It is no step.
+    pub fn add_row(&mut self, alloc: A) -> Result<(), AllocError>
+        ensures ok { OnOk result (rows_in self.new ≡ rows_in self.old + 1) }
+        ensures err { OnErr result (rows_in self.new ≡ rows_in self.old) }
+        ensures steps { steps_in self.new ≡ steps_in self.old }
+        ensures now { (r t : ℕ) → count_now self.new r t ≡ count_now self.old r t }
+        ensures before { (r t : ℕ) → count_before self.new r t ≡ count_before self.old r t }
+    {
+        let len = self.rows.len();
+        held::add_row(&mut self.held, alloc, len)?;
+        self.rows.put_in(alloc)
+    }
+
+    /// A set statement of the attribute of a row held some types of a word before, and holds others now. This is at most
+    /// two steps.
+    pub fn shift(
+        &mut self,
+        alloc: A,
+        row: usize,
+        word: usize,
+        was: u64,
+        is: u64,
+    ) -> Result<(), AllocError>
+        requires row { row < rows_in self.old }
+        requires word { word < 2 ^ 58 }
+        requires above { (t : ℕ) → hit word was t ≤ count_now self.old row t + hit word is t }
+        ensures ok { OnOk result ((r t : ℕ) → count_now self.new r t + hit_at row word was r t ≡ count_now self.old r t + hit_at row word is r t) }
+        ensures err { OnErr result ((r t : ℕ) → count_now self.new r t ≡ count_now self.old r t) }
+        ensures before { (r t : ℕ) → count_before self.new r t ≡ count_before self.old r t }
+        ensures rows { rows_in self.new ≡ rows_in self.old }
+        ensures steps { steps_in self.new ≤ steps_in self.old + 2 }
+        ensures none { OnErr result (steps_in self.new ≡ steps_in self.old) }
+    {
+        let come = is & !was;
+        shifting::make_room(&mut self.rows, &mut self.held, alloc, row, word, come)?;
+        shifting::lower(&mut self.rows, row, word, was & !is);
+        shifting::raise(&mut self.rows, row, word, come);
+        Ok(())
+    }
+
+    /// Who became a member since the last settling, and who is no member any more, by row and word. A word without
+    /// either is left out.
+    pub fn changes(&self, alloc: A) -> Result<Vec<Change, A>, AllocError>
+        ensures order { IfOk result (λ v. Ascends change_key 0 v.items) }
+        ensures appeared { IfOk result (λ v. (r t : ℕ) → appeared_at v.items r t ≡ min 1 (count_now self.now r t) - min 1 (count_before self.now r t)) }
+        ensures gone { IfOk result (λ v. (r t : ℕ) → gone_at v.items r t ≡ min 1 (count_before self.now r t) - min 1 (count_now self.now r t)) }
+    {
+        self.rows.changes(alloc)
+    }
+}
+
+impl<A: Allocator> MemberRows<A> {
+    /// How many rows there are.
+    pub fn len(&self) -> usize
+        ensures { result ≡ rows_in self.now }
+    {
+        self.rows.len()
+    }
+
+    /// Whether there is no row.
+    pub fn is_empty(&self) -> bool
+        ensures { IsTrue result ↔ (rows_in self.now ≡ 0) }
+    {
+        self.rows.is_empty()
+    }
+
+    /// Whether a type is a member of the attribute of a row.
+    pub fn has(&self, row: usize, target: usize) -> bool
+        ensures { IsTrue result ↔ (0 < count_now self.now row target) }
+    {
+        self.rows.count(row, target) > 0
+    }
+
+    /// Whether a type was a member before the steps.
+    pub fn had(&self, row: usize, target: usize) -> bool
+        ensures { IsTrue result ↔ (0 < count_before self.now row target) }
+    {
+        let bits = self.held(row, target / WORD);
+        (bits >> (target % WORD)) & 1 == 1
+    }
+
+    /// The members among the types of a word.
+    pub fn present(&self, row: usize, word: usize) -> u64
+        ensures { IsPresence (count_now self.now row) word result }
+    {
+        self.rows.present(row, word)
+    }
+
+    /// Those that were members before the steps.
+    pub fn held(&self, row: usize, word: usize) -> u64
+        ensures { IsPresence (count_before self.now row) word result }
+    {
+        held::bits(&self.held, row, word)
+    }
+
+    /// Those that became members since the last settling, or are none any more.
+    pub fn changed(&self, row: usize, word: usize) -> u64
+        ensures { IsChange (count_before self.now row) (count_now self.now row) word result }
+    {
+        self.present(row, word) ^ self.held(row, word)
+    }
+
+    /// Whether there are steps that `undo` would take back.
+    pub fn is_pending(&self) -> bool
+        ensures steps { IsTrue result ↔ (0 < steps_in self.now) }
+        ensures none { result ≡ false → (r t : ℕ) → count_before self.now r t ≡ count_now self.now r t }
+    {
+        self.rows.is_pending()
+    }
+
+    /// Takes the steps back. It takes no memory.
+    pub fn undo(&mut self)
+        ensures rows { rows_in self.new ≡ rows_in self.old }
+        ensures steps { steps_in self.new ≡ 0 }
+        ensures now { (r t : ℕ) → count_now self.new r t ≡ count_before self.old r t }
+        ensures before { (r t : ℕ) → count_before self.new r t ≡ count_before self.old r t }
+    {
+        self.rows.undo();
+    }
+
+    /// Keeps the steps, so that they can't be taken back any more. It takes no memory.
+    pub fn settle(&mut self)
+        ensures rows { rows_in self.new ≡ rows_in self.old }
+        ensures steps { steps_in self.new ≡ 0 }
+        ensures now { (r t : ℕ) → count_now self.new r t ≡ count_now self.old r t }
+        ensures before { (r t : ℕ) → count_before self.new r t ≡ count_now self.old r t }
+    {
+        settling::hold(&self.rows, &mut self.held);
+        self.rows.settle();
+    }
+}

@@ -1,0 +1,193 @@
+-- Counters moved word by word, permission by permission and source by source.
+use Rattle.std.proofs.Common.{◌≡◌, ℕ, zero, suc, ◌+◌, ◌-◌, ◌^◌, ◌/◌, ◌%◌, ◌<◌, ◌≤◌, ◌==◌, ◌&&◌, ◌||◌, Bool, true, false, cond, nat_lt, nat_eq, List, length, take, get_or, refl, sym, ap, ◌∙◌, subst, inl, inr, arith, true≢false, bit_and, add-zero, zero-add}
+use Rattle.std.specs.List.Sorted.{IsStrictlyIncreasing}
+use Rattle.std.proofs.lemmas.Bool.{cases_eq, cases_lt, eq-eqb, ne_eqb, eqb-true, lt-ltb, le-ltb}
+use Rattle.std.proofs.lemmas.List.Folds.{list_any_at, list_any_more}
+use Rattle.std.proofs.lemmas.List.Kept.{AllPairs-from_increasing}
+use Rattle.std.proofs.lemmas.Nat.Bits.{bit_at_and}
+use Rattle.cil_lines.specs.Line.{hit}
+use Rattle.cil_lines.proofs.StepLemmas.{hit-here, hit-there}
+use Rattle.cil_keyed_lines.specs.Keyed.{hit_of, is_key}
+use Rattle.cil_keyed_lines.specs.declared.symbol_key.SymbolKey.{SymbolKey}
+use Rattle.cil_rule_shifts.specs.Reach.{gives, has_permission, has_source, is_line, one_if, takes, IsNext, IsShort}
+use Rattle.cil_rule_shifts.specs.declared.reach.Reach.{Reach}
+use Rattle.cil_rule_shifts.specs.declared.targets.Targets.{Targets}
+use Rattle.cil_rule_shifts.proofs.ReachLemmas.{and-no}
+
+pub hit-keyed : (key : SymbolKey) (word mask : ℕ) (k : SymbolKey) (t : ℕ) → hit_of key word mask k t ≡ cond (is_key key k) (hit word mask t) 0
+unfolding hit_of
+hit-keyed key word mask k t = refl
+
+-- what is left of a mask hits no more than the mask
+hit-less : (word a b t : ℕ) → hit word (bit_and a b) t ≤ hit word a t
+hit-less word a b t =
+    elim (cases_eq (t / 64) word) [
+      | inl same ↦
+          let one = hit-here word (bit_and a b) t same ∙ bit_at_and a b (t % 64) in
+          let other = hit-here word a t same in
+          omega (arith, one, other)
+      | inr apart ↦ let none = hit-there word (bit_and a b) t apart in omega (arith, none)
+    ]
+
+-- the targets of a word that go have counters
+pub above-word : (was is : ℕ → Bool) (b : Bool) (from word gone mask now before t : ℕ) → from ≤ word → hit word gone t ≡ one_if ((t / 64 == word) && was t) → one_if (was t) ≤ before
+    → now + one_if (b && (nat_lt (t / 64) from && was t)) ≡ before + one_if (b && (nat_lt (t / 64) from && is t)) → hit word (bit_and gone mask) t ≤ now
+above-word was is b from word gone mask now before t low hits counted moved =
+    elim (cases_eq (t / 64) word) [
+      | inl same ↦
+          let high = le-ltb (t / 64) from (omega (arith, same, low)) in
+          let no_was : one_if (b && (nat_lt (t / 64) from && was t)) ≡ 0 = ap (λ c. one_if (b && (c && was t))) high ∙ and-no b in
+          let no_is : one_if (b && (nat_lt (t / 64) from && is t)) ≡ 0 = ap (λ c. one_if (b && (c && is t))) high ∙ and-no b in
+          let hit_was : hit word gone t ≡ one_if (was t) = hits ∙ ap (λ c. one_if (c && was t)) (eq-eqb (t / 64) word same) in
+          let less = hit-less word gone mask t in
+          omega (arith, no_was, no_is, hit_was, less, counted, moved)
+      | inr other ↦ let none = hit-there word (bit_and gone mask) t other in omega (arith, none)
+    ]
+
+-- a permission that stands in the front of a rising list is below the next
+bounded : (xs : List ℕ) → IsStrictlyIncreasing xs → (i p : ℕ) → i < length xs → has_permission (take i xs) p ≡ true → p < get_or xs i 0
+bounded xs rising zero p within any = absurd (true≢false (sym any))
+bounded xs rising (suc i) p within any =
+    let next : i + 1 ≡ suc i = omega arith in
+    let step : get_or xs i 0 < get_or xs (i + 1) 0 = AllPairs-from_increasing xs rising i (i + 1) 0 (omega arith) (omega (arith, within)) in
+    subst (λ n. p < get_or xs n 0) next (by (has_permission (take i xs) p) refl step (λ front. bounded xs rising i p (omega (arith, within)) front))
+  where
+    either : (has_permission (take i xs) p || nat_eq p (get_or xs i 0)) ≡ true
+    either = sym (list_any_more (nat_eq p) xs i 0 (omega (arith, within))) ∙ subst (λ n. has_permission (take n xs) p ≡ true) (let next : suc i ≡ i + 1 = omega arith in next) any
+
+    by : (b : Bool) → has_permission (take i xs) p ≡ b → get_or xs i 0 < get_or xs (i + 1) 0 → (has_permission (take i xs) p ≡ true → p < get_or xs i 0) → p < get_or xs (i + 1) 0
+    by true front step less = let low = less front in omega (arith, low, step)
+    by false front step less = let same = eqb-true p (get_or xs i 0) (sym (ap (λ b. b || nat_eq p (get_or xs i 0)) front) ∙ either) in omega (arith, same, step)
+
+module _ (xs : List ℕ) (rising : IsStrictlyIncreasing xs) (i p : ℕ) (within : i < length xs) (at : get_or xs i 0 ≡ p) where
+  -- the next one doesn't stand in the front
+  pub new-permission : has_permission (take i xs) p ≡ false
+  new-permission = by (has_permission (take i xs) p) refl
+    where
+      by : (b : Bool) → has_permission (take i xs) p ≡ b → has_permission (take i xs) p ≡ false
+      by true front = let low = bounded xs rising i p within front in absurd (omega (arith, low, at))
+      by false front = front
+
+  pub has-next : has_permission xs p ≡ true
+  has-next = list_any_at (nat_eq p) xs i 0 within (ap (nat_eq p) at ∙ eq-eqb p p refl)
+
+  more : (q : ℕ) → has_permission (take (i + 1) xs) q ≡ (has_permission (take i xs) q || (p == q))
+  more q =
+      list_any_more (nat_eq q) xs i 0 within ∙ ap (λ n. has_permission (take i xs) q || nat_eq q n) at
+      ∙ ap (λ b. has_permission (take i xs) q || b) (turned q p)
+    where
+      turned : (a b : ℕ) → nat_eq a b ≡ (b == a)
+      turned a b = elim (cases_eq a b) [
+        | inl same ↦ eq-eqb a b same ∙ sym (eq-eqb b a (sym same))
+        | inr other ↦ ne_eqb a b other ∙ sym (ne_eqb b a (λ e. other (sym e)))
+      ]
+
+  either-one : (h e w : Bool) → (e ≡ true → h ≡ false) → one_if (h && w) + one_if (e && w) ≡ one_if ((h || e) && w)
+  either-one true true w apart = absurd (true≢false (apart refl))
+  either-one true false w apart = add-zero (one_if w)
+  either-one false e w apart = zero-add (one_if (e && w))
+
+  -- the lines of one more permission
+  pub line-more : (s c w : Bool) (q : ℕ) → one_if ((s && (c && has_permission (take i xs) q)) && w) + one_if ((s && (c && (p == q))) && w) ≡ one_if ((s && (c && has_permission (take (i + 1) xs) q)) && w)
+  line-more true true w q =
+      either-one (has_permission (take i xs) q) (p == q) w (λ e. ap (has_permission (take i xs)) (sym (eqb-true p q e)) ∙ new-permission)
+      ∙ ap (λ b. one_if (b && w)) (sym (more q))
+  line-more true false w q = refl
+  line-more false c w q = refl
+
+  module _ (source class : ℕ) where
+    abbrev key : SymbolKey
+    key = record { source = source; class = class; permission = p }
+
+    here : is_line source class xs key ≡ true
+    here =
+        ap (λ b. b && ((class == class) && has_permission xs p)) (eq-eqb source source refl)
+        ∙ ap (λ b. b && has_permission xs p) (eq-eqb class class refl) ∙ has-next
+
+    not-yet : is_line source class (take i xs) key ≡ false
+    not-yet =
+        ap (λ b. b && ((class == class) && has_permission (take i xs) p)) (eq-eqb source source refl)
+        ∙ ap (λ b. b && has_permission (take i xs) p) (eq-eqb class class refl) ∙ new-permission
+
+    -- what the line of the next permission had has counters
+    pub above-line : (now before : ℕ) (was is : Bool) → one_if (is_line source class xs key && was) ≤ before
+        → now + one_if (is_line source class (take i xs) key && was) ≡ before + one_if (is_line source class (take i xs) key && is) → one_if was ≤ now
+    above-line now before was is counted moved =
+        let no_was : one_if (is_line source class (take i xs) key && was) ≡ 0 = ap (λ b. one_if (b && was)) not-yet in
+        let no_is : one_if (is_line source class (take i xs) key && is) ≡ 0 = ap (λ b. one_if (b && is)) not-yet in
+        let all : one_if (is_line source class xs key && was) ≡ one_if was = ap (λ b. one_if (b && was)) here in
+        omega (arith, no_was, no_is, all, counted, moved)
+
+-- the lines of a source are those of the accesses of the source
+pub source-gives : {A : Type 0} (reach : Reach A) (targets : Targets A) (source class : ℕ) (permissions : List ℕ) (k : SymbolKey) (t : ℕ) → takes targets source t ≡ (has_source reach source && takes reach.targets source t)
+    → (is_line source class permissions k && takes targets source t) ≡ ((source == k.source) && gives reach class permissions k t)
+source-gives reach targets source class permissions k t same =
+    elim (cases_eq source k.source) [
+      | inl is ↦
+          ap (λ b. (b && rest) && takes targets source t) (eq-eqb source k.source is)
+          ∙ ap (λ b. rest && b) same
+          ∙ turned rest (has_source reach source && takes reach.targets source t)
+          ∙ ap (λ s. (has_source reach s && takes reach.targets s t) && rest) is
+          ∙ sym (ap (λ b. b && gives reach class permissions k t) (eq-eqb source k.source is))
+      | inr other ↦
+          ap (λ b. (b && rest) && takes targets source t) (ne_eqb source k.source other) ∙ sym (ap (λ b. b && gives reach class permissions k t) (ne_eqb source k.source other))
+    ]
+  where
+    rest : Bool
+    rest = (class == k.class) && has_permission permissions k.permission
+
+    turned : (a b : Bool) → (a && b) ≡ (b && a)
+    turned true true = refl
+    turned true false = refl
+    turned false true = refl
+    turned false false = refl
+
+-- the sources below a number, and that one, are those below the next
+pub source-more : (from source s : ℕ) (g : Bool) → from ≤ source → (from ≤ s → s < source → g ≡ false) → one_if (nat_lt s from && g) + one_if ((source == s) && g) ≡ one_if (nat_lt s (source + 1) && g)
+source-more from source s g low none =
+    elim (cases_eq source s) [
+      | inl same ↦
+          ap (λ b. one_if (b && g) + one_if ((source == s) && g)) (le-ltb s from (omega (arith, low, same)))
+          ∙ zero-add (one_if ((source == s) && g)) ∙ ap (λ b. one_if (b && g)) (eq-eqb source s same)
+          ∙ sym (ap (λ b. one_if (b && g)) (lt-ltb s (source + 1) (omega (arith, same))))
+      | inr other ↦
+          ap (λ b. one_if (nat_lt s from && g) + one_if (b && g)) (ne_eqb source s other)
+          ∙ add-zero (one_if (nat_lt s from && g))
+          ∙ elim (cases_lt s from) [
+            | inl before ↦ ap (λ b. one_if (b && g)) (lt-ltb s from before ∙ sym (lt-ltb s (source + 1) (omega (arith, before, low))))
+            | inr behind ↦
+                ap (λ b. one_if (b && g)) (le-ltb s from behind)
+                ∙ elim (cases_lt s source) [
+                  | inl between ↦ sym (ap (λ b. one_if (nat_lt s (source + 1) && b)) (none behind between) ∙ and-no (nat_lt s (source + 1)))
+                  | inr past ↦ sym (ap (λ b. one_if (b && g)) (le-ltb s (source + 1) (omega (arith, past, other))))
+                ]
+          ]
+    ]
+
+pub source-all : (from s : ℕ) (g : Bool) → (from ≤ s → g ≡ false) → one_if (nat_lt s from && g) ≡ one_if g
+source-all from s g none =
+    elim (cases_lt s from) [
+      | inl before ↦ ap (λ b. one_if (b && g)) (lt-ltb s from before)
+      | inr behind ↦ ap (λ b. one_if (nat_lt s from && b)) (none behind) ∙ and-no (nat_lt s from) ∙ sym (ap one_if (none behind))
+    ]
+
+-- what the source that comes next gave has counters
+pub above-source : (from source s now before : ℕ) (was is : Bool) → from ≤ source → one_if was ≤ before → now + one_if (nat_lt s from && was) ≡ before + one_if (nat_lt s from && is) → one_if ((source == s) && was) ≤ now
+above-source from source s now before was is low counted moved =
+    elim (cases_eq source s) [
+      | inl same ↦
+          let high = le-ltb s from (omega (arith, low, same)) in
+          let no_was : one_if (nat_lt s from && was) ≡ 0 = ap (λ b. one_if (b && was)) high in
+          let no_is : one_if (nat_lt s from && is) ≡ 0 = ap (λ b. one_if (b && is)) high in
+          let here : one_if ((source == s) && was) ≡ one_if was = ap (λ b. one_if (b && was)) (eq-eqb source s same) in
+          omega (arith, no_was, no_is, here, counted, moved)
+      | inr other ↦ let none : one_if ((source == s) && was) ≡ 0 = ap (λ b. one_if (b && was)) (ne_eqb source s other) in omega (arith, none)
+    ]
+
+-- a source of either is a number of the code with one to spare
+pub short-source : {A : Type 0} (was is : Reach A) (from source : ℕ) → IsShort was → IsShort is → IsNext (λ s. has_source was s || has_source is s) from source → source < 2 ^ 64 - 1
+short-source was is from source was_short is_short next =
+    elim (cases_lt source (2 ^ 64 - 1)) [
+      | inl low ↦ low
+      | inr high ↦ absurd (true≢false (sym next.holds ∙ ap (λ b. b || has_source is source) (was_short.sources source high) ∙ is_short.sources source high))
+    ]

@@ -1,0 +1,28 @@
+use Rattle.std.proofs.Common.{◌==◌, ◌∙◌, slice_index_or, refl, arith}
+use Rattle.cil_keyed_lines.specs.Keyed.{count_now}
+use Rattle.cil_keyed_lines.specs.declared.symbol_key.SymbolKey.{SymbolKey}
+use Rattle.cil_rule_shifts.specs.Reach.{takes}
+use Rattle.cil_rule_shifts.proofs.ShiftLemmas.{above-line, line-more}
+use Rattle.cil_rule_shifts.proofs.shift.shift_lines.Goals as goal
+
+pub shift_line-requires-clause-counted : goal.shift_line-requires-clause-counted
+shift_line-requires-clause-counted g c t =
+    let xs = c.args.permissions.now in
+    let i = c.loop-permission.permission-index in
+    let p = slice_index_or xs i 0 in
+    let k : SymbolKey = record { source = c.args.source; class = c.args.class; permission = p } in
+    above-line xs c.requires.permissions i p c.loop-permission-test.true refl c.args.source c.args.class (count_now c.loop-permission.lines k t) (count_now c.args.lines.now k t)
+    (takes c.args.was.now c.args.source t) (takes c.args.is.now c.args.source t) (c.requires.counted k t) (c.loop-permission.invariant.0 k t)
+
+pub loop-permission-preserved : goal.loop-permission-preserved
+loop-permission-preserved g c = (
+  λ k t.
+      let xs = c.args.permissions.now in
+      let i = c.loop-permission.permission-index in
+      let was_more = line-more xs c.requires.permissions i (slice_index_or xs i 0) c.loop-permission-test.true refl (c.args.source == k.source) (c.args.class == k.class) (takes c.args.was.now c.args.source t) k.permission in
+      let is_more = line-more xs c.requires.permissions i (slice_index_or xs i 0) c.loop-permission-test.true refl (c.args.source == k.source) (c.args.class == k.class) (takes c.args.is.now c.args.source t) k.permission in
+      let step = c.in_ok-shift_line.ensures.now k t in
+      let moved = c.loop-permission.invariant.0 k t in
+      omega (arith, was_more, is_more, step, moved),
+  λ k t. c.in_ok-shift_line.ensures.before k t ∙ c.loop-permission.invariant.1 k t,
+)

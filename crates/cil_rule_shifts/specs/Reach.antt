@@ -1,0 +1,71 @@
+-- What a rule gives, by symbols.
+use Rattle.std.specs.Prelude.{◌≡◌, ◌≤◌, ◌-◌, ◌^◌, ◌/◌, ◌&&◌, ◌==◌, ◌<◌, ℕ, Bool, true, false, List, cond, nat_eq, nat_lt}
+use Rattle.std.specs.List.{list_any}
+use Rattle.cil_lines.specs.Line.{Counters, count_of}
+use Rattle.cil_keyed_lines.specs.declared.symbol_key.SymbolKey.{SymbolKey}
+use Rattle.cil_rule_shifts.specs.declared.targets.Targets.{Targets}
+use Rattle.cil_rule_shifts.specs.declared.targets.Targets.TheVariants.{Nothing, Itself, These}
+use Rattle.cil_rule_shifts.specs.declared.reach.Reach.{Reach}
+
+-- 1 where it is true
+abbrev pub one_if : Bool → ℕ
+one_if b = cond b 1 0
+
+-- whether the counter of a symbol is above 0
+unfoldable pub is_present : Counters → ℕ → Bool
+is_present counters s = nat_lt 0 (count_of counters s)
+
+-- whether a source has a target
+unfoldable pub takes : {A : Type 0} → Targets A → ℕ → ℕ → Bool
+takes Nothing s t = false
+takes Itself s t = s == t
+takes (These line) s t = is_present line t
+
+-- whether a symbol is one of the sources
+abbrev pub has_source : {A : Type 0} → Reach A → ℕ → Bool
+has_source reach s = is_present reach.sources s
+
+-- whether a list has a permission
+abbrev pub has_permission : List ℕ → ℕ → Bool
+has_permission permissions p = list_any (nat_eq p) permissions
+
+-- whether a source of a rule has a target
+abbrev pub reaches : {A : Type 0} → Reach A → ℕ → ℕ → Bool
+reaches reach s t = has_source reach s && takes reach.targets s t
+
+-- whether a rule of a class and permissions gives an access
+abbrev pub gives : {A : Type 0} → Reach A → ℕ → List ℕ → SymbolKey → ℕ → Bool
+gives reach class permissions key t = reaches reach key.source t && ((class == key.class) && has_permission permissions key.permission)
+
+-- whether a key is of a source, a class and one of some permissions
+abbrev pub is_line : ℕ → ℕ → List ℕ → SymbolKey → Bool
+is_line source class permissions key = (source == key.source) && ((class == key.class) && has_permission permissions key.permission)
+
+-- the targets of each source are numbers of the code
+abbrev pub AreShort : {A : Type 0} → Targets A → Type 0
+AreShort targets = (s t : ℕ) → s < 2 ^ 64 → 2 ^ 64 ≤ t → takes targets s t ≡ false
+
+-- and so are the sources, with one to spare
+pub record IsShort {A : Type 0} (reach : Reach A) : Type 0 where
+  pub sources : (s : ℕ) → 2 ^ 64 - 1 ≤ s → has_source reach s ≡ false
+  pub targets : AreShort reach.targets
+
+-- the first number from one on at which a test holds
+pub record IsNext (test : ℕ → Bool) (from next : ℕ) : Type 0 where
+  pub from_on : from ≤ next
+  pub holds : test next ≡ true
+  pub first : (n : ℕ) → from ≤ n → n < next → test n ≡ false
+
+-- it holds at no number from one on
+abbrev pub NoneFrom : (ℕ → Bool) → ℕ → Type 0
+NoneFrom test from = (n : ℕ) → from ≤ n → test n ≡ false
+
+-- the first word from one on that has a number at which the test holds
+pub record IsNextWord (test : ℕ → Bool) (from next : ℕ) : Type 0 where
+  pub from_on : from ≤ next
+  pub present : (t : ℕ) × (t / 64 ≡ next) × (test t ≡ true)
+  pub first : (t : ℕ) → from ≤ t / 64 → t / 64 < next → test t ≡ false
+
+-- it holds at no number of a word from one on
+abbrev pub NoneFromWord : (ℕ → Bool) → ℕ → Type 0
+NoneFromWord test from = (t : ℕ) → from ≤ t / 64 → test t ≡ false

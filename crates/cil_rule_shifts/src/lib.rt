@@ -1,0 +1,13 @@
+//! The counters of an access table, moved from what a rule gave to what it gives.
+#![tactic(auto)]
+
+mod reach;
+mod shift;
+#[cfg(test)]
+mod shift_tests;
+mod targets;
+mod words;
+
+pub use reach::Reach;
+pub use shift::shift_rule;
+pub use targets::Targets;

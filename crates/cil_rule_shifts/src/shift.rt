@@ -1,0 +1,133 @@
+//! The counters of keyed lines, moved from what a rule gave to what it gives.
+
+ghost use Rattle.std.specs.Prelude.{◌≡◌, ◌+◌, ◌≤◌, ◌<◌, ◌^◌, ◌/◌, ◌&&◌, ◌||◌, ◌==◌, ℕ, false, OnOk};
+ghost use Rattle.std.specs.List.Sorted.{IsStrictlyIncreasing};
+ghost use Rattle.cil_keyed_lines.specs.Keyed.{count_before, count_now, is_key};
+ghost use Rattle.cil_rule_shifts.specs.Reach.{gives, is_line, one_if, reaches, takes, AreShort, IsShort};
+
+use crate::reach::{Reach, next_source};
+use crate::targets::Targets;
+use crate::words::next_word;
+use cil_keyed_lines::{KeyedLines, SymbolKey};
+use std::alloc::{AllocError, Allocator};
+
+/// Moves the counters of a line from the targets that its source had to those that it has.
+fn shift_line<A: Allocator + Copy>(
+    lines: &mut KeyedLines<A>,
+    alloc: A,
+    key: SymbolKey,
+    was: &Targets<A>,
+    is: &Targets<A>,
+) -> Result<(), AllocError>
+    requires was { AreShort was.now }
+    requires is { AreShort is.now }
+    requires counted { (t : ℕ) → one_if (takes was.now key.source t) ≤ count_now lines.old key t }
+    ensures now { OnOk result ((k : SymbolKey) (t : ℕ) → count_now lines.new k t + one_if (is_key key k && takes was.now key.source t) ≡ count_now lines.old k t + one_if (is_key key k && takes is.now key.source t)) }
+    ensures before { (k : SymbolKey) (t : ℕ) → count_before lines.new k t ≡ count_before lines.old k t }
+{
+    let mut from = 0;
+    while let Some(word) = next_word(was, is, key.source, from) {
+        let gone = was.word(key.source, word);
+        let come = is.word(key.source, word);
+        lines.shift(alloc, key, word, gone, come)?;
+        from = word + 1;
+    }
+    Ok(())
+}
+
+/// Moves the counters of the lines of a source, of a class and its permissions, from the targets that it had to those that it has.
+fn shift_lines<A: Allocator + Copy>(
+    lines: &mut KeyedLines<A>,
+    alloc: A,
+    source: usize,
+    class: usize,
+    permissions: &[usize],
+    was: &Targets<A>,
+    is: &Targets<A>,
+) -> Result<(), AllocError>
+    requires permissions { IsStrictlyIncreasing permissions.now }
+    requires was { AreShort was.now }
+    requires is { AreShort is.now }
+    requires counted { (k : SymbolKey) (t : ℕ) → one_if (is_line source class permissions.now k && takes was.now source t) ≤ count_now lines.old k t }
+    ensures now { OnOk result ((k : SymbolKey) (t : ℕ) → count_now lines.new k t + one_if (is_line source class permissions.now k && takes was.now source t)
+        ≡ count_now lines.old k t + one_if (is_line source class permissions.now k && takes is.now source t)) }
+    ensures before { (k : SymbolKey) (t : ℕ) → count_before lines.new k t ≡ count_before lines.old k t }
+{
+    for permission in permissions {
+        let key = SymbolKey {
+            source,
+            class,
+            permission: *permission,
+        };
+        shift_line(lines, alloc, key, was, is)?;
+    }
+    Ok(())
+}
+
+/// The targets of a source of a rule, or none where it is no source.
+fn targets_of<'r, A: Allocator>(
+    reach: &'r Reach<A>,
+    none: &'r Targets<A>,
+    source: usize,
+) -> &'r Targets<A>
+    requires none { (s t : ℕ) → takes none.now s t ≡ false }
+    requires short { IsShort reach.now }
+    ensures short { AreShort result.now }
+    ensures targets { (t : ℕ) → takes result.now source t ≡ reaches reach.now source t }
+{
+    if reach.sources.count(source) > 0 {
+        &reach.targets
+    } else {
+        none
+    }
+}
+
+/// Moves the counters of the lines of a source from what a rule gave it to what it gives it.
+fn shift_source<A: Allocator + Copy>(
+    lines: &mut KeyedLines<A>,
+    alloc: A,
+    source: usize,
+    class: usize,
+    permissions: &[usize],
+    was: &Reach<A>,
+    is: &Reach<A>,
+) -> Result<(), AllocError>
+    requires permissions { IsStrictlyIncreasing permissions.now }
+    requires was { IsShort was.now }
+    requires is { IsShort is.now }
+    requires counted { (k : SymbolKey) (t : ℕ) → one_if ((source == k.source) && gives was.now class permissions.now k t) ≤ count_now lines.old k t }
+    ensures now { OnOk result ((k : SymbolKey) (t : ℕ) → count_now lines.new k t + one_if ((source == k.source) && gives was.now class permissions.now k t)
+        ≡ count_now lines.old k t + one_if ((source == k.source) && gives is.now class permissions.now k t)) }
+    ensures before { (k : SymbolKey) (t : ℕ) → count_before lines.new k t ≡ count_before lines.old k t }
+{
+    let none = Targets::Nothing;
+    let gone = targets_of(was, &none, source);
+    let come = targets_of(is, &none, source);
+    shift_lines(lines, alloc, source, class, permissions, gone, come)
+}
+
+/// Moves the counters of what a rule of a class gave by its permissions to those of what it gives. The permissions are symbols, each
+/// once and in their order. After an out of memory some counters may have moved; their steps are logged.
+pub fn shift_rule<A: Allocator + Copy>(
+    lines: &mut KeyedLines<A>,
+    alloc: A,
+    class: usize,
+    permissions: &[usize],
+    was: &Reach<A>,
+    is: &Reach<A>,
+) -> Result<(), AllocError>
+    requires permissions { IsStrictlyIncreasing permissions.now }
+    requires was { IsShort was.now }
+    requires is { IsShort is.now }
+    requires counted { (k : SymbolKey) (t : ℕ) → one_if (gives was.now class permissions.now k t) ≤ count_now lines.old k t }
+    ensures now { OnOk result ((k : SymbolKey) (t : ℕ) → count_now lines.new k t + one_if (gives was.now class permissions.now k t)
+        ≡ count_now lines.old k t + one_if (gives is.now class permissions.now k t)) }
+    ensures before { (k : SymbolKey) (t : ℕ) → count_before lines.new k t ≡ count_before lines.old k t }
+{
+    let mut from = 0;
+    while let Some(source) = next_source(was, is, from) {
+        shift_source(lines, alloc, source, class, permissions, was, is)?;
+        from = source + 1;
+    }
+    Ok(())
+}

@@ -1,0 +1,134 @@
+//! Counters moved from what a rule gave to what it gives.
+
+ghost use Rattle.std.specs.Prelude.{◌≡◌, ◌+◌, ◌≤◌, ◌^◌, ◌∷◌, [], ℕ, false};
+ghost use Rattle.cil_keyed_lines.specs.Keyed.{count_before, count_now};
+ghost use Rattle.cil_rule_shifts.specs.Reach.{gives, is_present, one_if, IsShort};
+
+use crate::{Reach, Targets, shift_rule};
+use cil_keyed_lines::{KeyedLines, SymbolKey};
+use cil_lines::Line;
+use std::alloc::Global;
+use std::process::Abort;
+
+// The class and the permissions of all rules here.
+const CLASS: usize = 7;
+
+const PERMISSIONS: &[usize] = &[3, 5];
+
+// A line with a counter above 0 for each of some symbols.
+fn line_of(rt: &impl Abort, alloc: Global, symbols: &[u32]) -> Line
+    ensures { (s : ℕ) → 2 ^ 32 ≤ s → is_present result s ≡ false }
+{
+    let mut line = Line::new(alloc);
+    for symbol in symbols {
+        let symbol = *symbol as usize;
+        line.add(alloc, symbol / 64, 1 << (symbol % 64))
+            .expect(rt, "memory");
+    }
+    line
+}
+
+// A rule between sets.
+fn rule(rt: &impl Abort, alloc: Global, sources: &[u32], targets: &[u32]) -> Reach
+    ensures { IsShort result }
+{
+    Reach {
+        sources: line_of(rt, alloc, sources),
+        targets: Targets::These(line_of(rt, alloc, targets)),
+    }
+}
+
+// A rule of each source to itself.
+fn rule_to_itself(rt: &impl Abort, alloc: Global, sources: &[u32]) -> Reach
+    ensures { IsShort result }
+{
+    Reach {
+        sources: line_of(rt, alloc, sources),
+        targets: Targets::Itself,
+    }
+}
+
+// A rule comes.
+fn add(rt: &impl Abort, alloc: Global, lines: &mut KeyedLines, rule: &Reach)
+    requires { IsShort rule.now }
+    ensures { (k : SymbolKey) (t : ℕ) → count_now lines.new k t ≡ count_now lines.old k t + one_if (gives rule.now 7 (3 ∷ 5 ∷ []) k t) }
+{
+    let none = Reach::none(alloc);
+    shift_rule(lines, alloc, CLASS, PERMISSIONS, &none, rule).expect(rt, "memory");
+}
+
+// A rule goes.
+fn take(rt: &impl Abort, alloc: Global, lines: &mut KeyedLines, rule: &Reach)
+    requires short { IsShort rule.now }
+    requires counted { (k : SymbolKey) (t : ℕ) → one_if (gives rule.now 7 (3 ∷ 5 ∷ []) k t) ≤ count_now lines.old k t }
+    ensures { (k : SymbolKey) (t : ℕ) → count_now lines.new k t + one_if (gives rule.now 7 (3 ∷ 5 ∷ []) k t) ≡ count_now lines.old k t }
+{
+    let none = Reach::none(alloc);
+    shift_rule(lines, alloc, CLASS, PERMISSIONS, rule, &none).expect(rt, "memory");
+}
+
+// Asserts the counters of an access by both permissions, and that no other class and permission has it.
+fn assert_count(rt: &impl Abort, lines: &KeyedLines, source: usize, target: usize, want: u64) {
+    for (class, permission, expected) in [(7, 3, want), (7, 5, want), (7, 4, 0), (6, 3, 0)] {
+        let key = SymbolKey {
+            source,
+            class,
+            permission,
+        };
+        let found = lines.count(key, target);
+        assert_eq!(rt; found, expected);
+    }
+}
+
+#[test]
+fn a_rule_that_two_give_goes_once(rt: HostRuntime) {
+    let mut lines = KeyedLines::new(rt.alloc());
+    let first = rule(&rt, rt.alloc(), &[0, 63, 64], &[1, 64, 130]);
+    let second = rule(&rt, rt.alloc(), &[64, 70], &[130, 131]);
+    add(&rt, rt.alloc(), &mut lines, &first);
+    add(&rt, rt.alloc(), &mut lines, &second);
+    assert_count(&rt, &lines, 64, 130, 2);
+    assert_count(&rt, &lines, 64, 131, 1);
+    assert_count(&rt, &lines, 63, 64, 1);
+    assert_count(&rt, &lines, 63, 65, 0);
+    assert_count(&rt, &lines, 1, 64, 0);
+    take(&rt, rt.alloc(), &mut lines, &first);
+    assert_count(&rt, &lines, 64, 130, 1);
+    assert_count(&rt, &lines, 64, 1, 0);
+    assert_count(&rt, &lines, 0, 1, 0);
+}
+
+#[test]
+fn a_rule_whose_sets_changed(rt: HostRuntime) {
+    let mut lines = KeyedLines::new(rt.alloc());
+    let was = rule(&rt, rt.alloc(), &[2, 3], &[10, 200]);
+    let is = rule(&rt, rt.alloc(), &[3, 128], &[10, 201]);
+    add(&rt, rt.alloc(), &mut lines, &was);
+    lines.settle();
+    shift_rule(&mut lines, rt.alloc(), CLASS, PERMISSIONS, &was, &is).expect(&rt, "memory");
+    assert_count(&rt, &lines, 2, 10, 0);
+    assert_count(&rt, &lines, 3, 10, 1);
+    assert_count(&rt, &lines, 3, 200, 0);
+    assert_count(&rt, &lines, 3, 201, 1);
+    assert_count(&rt, &lines, 128, 10, 1);
+    let changes = lines.changes(rt.alloc()).expect(&rt, "memory");
+    // Sources 2 and 3 have a word each at 10 and 200, and 128 likewise, by two permissions; at 10 nothing changed for 3.
+    assert_eq!(&rt; changes.len(), 10);
+    lines.undo();
+    assert_count(&rt, &lines, 2, 10, 1);
+    assert_count(&rt, &lines, 3, 200, 1);
+    assert_count(&rt, &lines, 128, 10, 0);
+}
+
+#[test]
+fn sources_themselves(rt: HostRuntime) {
+    let mut lines = KeyedLines::new(rt.alloc());
+    let rule = rule_to_itself(&rt, rt.alloc(), &[5, 64]);
+    add(&rt, rt.alloc(), &mut lines, &rule);
+    assert_count(&rt, &lines, 5, 5, 1);
+    assert_count(&rt, &lines, 64, 64, 1);
+    assert_count(&rt, &lines, 5, 64, 0);
+    assert_count(&rt, &lines, 6, 6, 0);
+    take(&rt, rt.alloc(), &mut lines, &rule);
+    assert_count(&rt, &lines, 64, 64, 0);
+}

@@ -1,0 +1,55 @@
+//! The targets of a rule.
+
+ghost use Rattle.std.specs.Prelude.{◌≡◌, ◌/◌, ◌^◌, ◌==◌, ◌<◌, ◌&&◌, ℕ, MatchOption};
+ghost use Rattle.cil_lines.specs.Line.{hit};
+ghost use Rattle.cil_rule_shifts.specs.Reach.{one_if, takes, IsNextWord, NoneFromWord};
+
+use cil_lines::Line;
+use std::alloc::{Allocator, Global};
+
+// How many targets a word has.
+const WORD: usize = 64;
+
+/// The targets of each source of a rule, by symbols: none, the source itself, or those whose counters in a line are above 0.
+#[derive(Debug, Drop)]
+pub enum Targets<A: Allocator = Global> {
+    Nothing,
+    Itself,
+    These(Line<A>),
+}
+
+impl<A: Allocator> Targets<A> {
+    /// The targets of a word that a source has.
+    pub fn word(&self, source: usize, word: usize) -> u64
+        requires { word < 2 ^ 58 }
+        ensures { (t : ℕ) → hit word result t ≡ one_if ((t / 64 == word) && takes self.now source t) }
+    {
+        match self {
+            Targets::Nothing => 0,
+            Targets::Itself => bit_of(source, word),
+            Targets::These(line) => line.present(word),
+        }
+    }
+
+    /// The first word from one on in which a source has a target.
+    pub fn next_word(&self, source: usize, from: usize) -> Option<usize>
+        ensures { MatchOption result (NoneFromWord (takes self.now source) from) (IsNextWord (takes self.now source) from) }
+    {
+        match self {
+            Targets::Nothing => None,
+            Targets::Itself => (from <= source / WORD).then_some(source / WORD),
+            Targets::These(line) => line.next_present_word(from),
+        }
+    }
+}
+
+/// The bit of a number in a word.
+fn bit_of(number: usize, word: usize) -> u64
+    ensures { (t : ℕ) → hit word result t ≡ one_if ((t / 64 == word) && (number == t)) }
+{
+    if number / WORD == word {
+        1 << (number % WORD)
+    } else {
+        0
+    }
+}
