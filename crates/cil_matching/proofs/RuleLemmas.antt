@@ -1,12 +1,12 @@
 -- Rules that are the same.
-use Rattle.std.proofs.Common.{◌≡◌, ◌∙◌, ◌==◌, ◌↔◌, ℕ, zero, suc, ◌<◌, Bool, true, false, true≢false, ◌&&◌, List, [], ◌∷◌, length, slice_get, Option, None, Some, Bor, option_map, IsTrue, bytes_eq, refl, sym, ap, subst, arith, eq-eqb}
+use Rattle.std.proofs.Common.{◌≡◌, ◌∙◌, ◌==◌, ◌↔◌, ℕ, suc, ◌<◌, Bool, true, true≢false, ◌&&◌, List, [], ◌∷◌, length, slice_get, Option, Some, option_map, IsTrue, bytes_eq, refl, sym, ap, subst, arith}
 use Rattle.std.specs.Option.{option_and_then}
 use Rattle.std.proofs.lemmas.Bool.{eqb-true}
-use Rattle.std.proofs.lemmas.Option.{none-some, same_Some}
+use Rattle.std.proofs.lemmas.Option.{same_Some}
 use Rattle.std.proofs.lemmas.Slice.Eq.{bytes_eq-Decides}
 use Rattle.cil_specs.specs.Rule.{Element, a_type, an_attribute, ResolvedTarget, at_itself, at_element, Rule, RuleContent, IsSameRule, kind_index}
 use Rattle.cil_specs.specs.Statements.{RuleKind, allow, auditallow, dontaudit, neverallow}
-use Rattle.cil_specs.proofs.Runs.{first_true, second_true, both_true}
+use Rattle.cil_specs.proofs.Runs.{first_true, second_true}
 use Rattle.cil_resolve.specs.Resolved.{meaning_in}
 use Rattle.cil_resolve.specs.Same.{same_element}
 use Rattle.cil_resolve.specs.Views.{RuleHead, rule_head}

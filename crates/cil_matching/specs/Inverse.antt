@@ -1,5 +1,5 @@
 -- Places the other way round.
-use Rattle.std.specs.Prelude.{◌≡◌, ◌↔◌, ◌<◌, ℕ, List, Option, None, Some, slice_get, slice_set}
+use Rattle.std.specs.Prelude.{◌≡◌, ◌<◌, ℕ, List, Option, None, Some, slice_get, slice_set}
 
 -- with a number at a place, if there is one
 abbrev pub noted : List (Option ℕ) → Option ℕ → ℕ → List (Option ℕ)

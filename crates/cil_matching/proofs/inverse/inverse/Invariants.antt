@@ -1,4 +1,4 @@
-use Rattle.std.proofs.Common.{◌≡◌, ◌↔◌, ◌<◌, ℕ, length, slice_get, Some}
+use Rattle.std.proofs.Common.{◌≡◌, length}
 use Rattle.cil_matching.specs.Inverse.{IsInverse}
 use Rattle.cil_matching.proofs.inverse.inverse.Given as goal
 

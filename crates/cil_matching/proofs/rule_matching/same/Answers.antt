@@ -1,4 +1,4 @@
-use Rattle.std.proofs.Common.{◌≡◌, ◌∙◌, map, position, Some, slice_get, sym, ap}
+use Rattle.std.proofs.Common.{◌∙◌, position, sym, ap}
 use Rattle.cil_specs.specs.Rule.{IsSameRule}
 use Rattle.cil_resolve.specs.Resolved.{meaning_in}
 use Rattle.cil_matching.specs.Spot.{rule_spot, spot_of, same_spot}

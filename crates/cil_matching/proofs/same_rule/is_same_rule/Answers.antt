@@ -1,5 +1,4 @@
-use Rattle.std.proofs.Common.{◌≡◌, ◌∙◌, true, length, sym, ap}
-use Rattle.cil_specs.specs.Rule.{Rule}
+use Rattle.std.proofs.Common.{◌≡◌, ◌∙◌, true, sym, ap}
 use Rattle.cil_resolve.specs.Resolved.{meaning_in}
 use Rattle.cil_resolve.specs.Views.{RuleHead, rule_head, rule_seen}
 use Rattle.cil_matching.specs.Same.{same_head}

@@ -1,4 +1,4 @@
-use Rattle.std.proofs.Common.{◌≡◌, ◌∙◌, ◌++◌, ◌∷◌, [], map, ap, sym, false}
+use Rattle.std.proofs.Common.{◌∙◌, ◌++◌, ◌∷◌, [], map, ap}
 use Rattle.std.specs.List.{list_any}
 use Rattle.cil_matching.specs.Spot.{same_spot, spot_of}
 use Rattle.cil_matching.proofs.SpotLemmas.{insert-spots}
