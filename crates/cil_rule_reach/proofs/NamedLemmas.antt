@@ -1,0 +1,244 @@
+-- What rules give, by symbols and by full names.
+use Rattle.std.proofs.Common.{◌≡◌, ℕ, zero, suc, ◌<◌, ◌≤◌, ◌==◌, ◌&&◌, ◌||◌, Bool, true, false, bytes_eq, length, map, List, [], ◌∷◌, nat_lt, nat_eq, slice_get, slice_index, slice_index_or, get_or, Option, Some, refl, sym, ap, ◌∙◌, subst, inl, inr, ◌⊎◌, arith, true≢false}
+use Rattle.std.specs.List.{list_any, list_all, IsDistinct, position}
+use Rattle.std.proofs.Math.Bool.{and-false}
+use Rattle.std.proofs.lemmas.Bool.{cases_Bool, cases_eq, cases_lt, eq-eqb, eqb-true, ltb-true, lt-ltb, le-ltb, ne_eqb}
+use Rattle.std.proofs.lemmas.List.{length-map}
+use Rattle.std.proofs.lemmas.Option.{slice_get_within, get_or_from_slice_get, slice_get-get_or}
+use Rattle.std.proofs.lemmas.Slice.Eq.{bytes_eq-Decides}
+use Rattle.cil_bind.proofs.DeclareLemmas.{same-bool}
+use Rattle.cil_specs.specs.Meaning.{Meaning, aims, covers, holds, keeps_type}
+use Rattle.cil_specs.specs.Members.{is_member, keeps_element}
+use Rattle.cil_specs.specs.Rule as spec
+use Rattle.cil_parse.specs.Lexicon.{AreNumbersOf}
+use Rattle.cil_expression.specs.declared.expression.Element.{Element}
+use Rattle.cil_expression.specs.declared.expression.Element.TheVariants.{«Type», Attribute}
+use Rattle.cil_keyed_lines.specs.declared.symbol_key.SymbolKey.{SymbolKey}
+use Rattle.cil_resolve.specs.Below.{is_element_below, is_rule_below, is_target_below}
+use Rattle.cil_resolve.specs.Consistent.{is_aim_of, is_element_of, is_rule_of}
+use Rattle.cil_resolve.specs.Numbers.{element_of, resolved_target_of, rule_of}
+use Rattle.cil_resolve.specs.Resolved.{meaning_in}
+use Rattle.cil_resolve.specs.Sets.{name_in}
+use Rattle.cil_resolve.specs.declared.numbered.NumberedRule.{NumberedRule}
+use Rattle.cil_resolve.specs.declared.numbered.ResolvedTarget.{ResolvedTarget}
+use Rattle.cil_resolve.specs.declared.numbered.ResolvedTarget.TheVariants as targets
+use Rattle.cil_resolve.specs.declared.resolved.Resolved.{Resolved}
+use Rattle.cil_sets.proofs.HeldLemmas.{element-kept}
+use Rattle.cil_rule_reach.specs.Named.{is_named, name_at, AreMembersOf}
+use Rattle.cil_rule_reach.specs.Reaches.{aims_by, covers_by, has_by}
+
+and-first : (a b : Bool) → (a && b) ≡ true → a ≡ true
+and-first true b e = refl
+and-first false b e = e
+
+and-second : (a b : Bool) → (a && b) ≡ true → b ≡ true
+and-second true b e = e
+and-second false true e = refl
+and-second false false e = e
+
+and-again : (a b c : Bool) → ((a && b) && c) ≡ (a && (b && c))
+and-again true b c = refl
+and-again false b c = refl
+
+eqb-turned : (a b : ℕ) → (a == b) ≡ (b == a)
+eqb-turned a b = same-bool (a == b) (b == a) (λ e. eq-eqb b a (sym (eqb-true a b e))) (λ e. eq-eqb a b (sym (eqb-true b a e)))
+
+turned : (xs ys : List ℕ) → bytes_eq xs ys ≡ bytes_eq ys xs
+turned xs ys =
+    same-bool (bytes_eq xs ys) (bytes_eq ys xs)
+    (λ e. (bytes_eq-Decides ys xs).1 (sym ((bytes_eq-Decides xs ys).0 e)))
+    (λ e. (bytes_eq-Decides xs ys).1 (sym ((bytes_eq-Decides ys xs).0 e)))
+
+module _ {A : Type 0} (r : Resolved A) (all : List (List ℕ)) (symbols : List ℕ) (apart : (i j : ℕ) (name : List ℕ) → slice_get all i ≡ Some name → slice_get all j ≡ Some name → i ≡ j) (numbers : AreNumbersOf all symbols r.names.items) where
+  abbrev count : ℕ
+  count = length r.names.items
+
+  pub as-many : length symbols ≡ count
+  as-many = sym (length-map (slice_get all) symbols) ∙ ap (λ l. length l) numbers ∙ length-map Some r.names.items
+
+  -- the symbol of a name is that of the name
+  pub symbol-named : (n : ℕ) → n < count → slice_get all (slice_index symbols n) ≡ Some (name_in r n)
+  symbol-named n low = named symbols r.names.items n numbers low
+    where
+      named : (ss : List ℕ) (names : List (List ℕ)) (k : ℕ) → map (slice_get all) ss ≡ map Some names → k < length names → slice_get all (slice_index ss k) ≡ Some (slice_index_or names k [])
+      named [] [] k same within = absurd (omega (arith, within))
+      named [] (name ∷ names) k same within = absurd (cc same)
+      named (s ∷ ss) [] k same within = absurd (cc same)
+      named (s ∷ ss) (name ∷ names) zero same within = cc same
+      named (s ∷ ss) (name ∷ names) (suc k) same within = named ss names k (cc same) (omega (arith, within))
+
+  pub symbol-within : (n : ℕ) → n < count → slice_index symbols n < length all
+  symbol-within n low = slice_get_within all (slice_index symbols n) (name_in r n) (symbol-named n low)
+
+  pub symbol-name : (n : ℕ) → n < count → name_at all (slice_index symbols n) ≡ name_in r n
+  symbol-name n low = get_or_from_slice_get all (slice_index symbols n) (name_in r n) [] (symbol-named n low)
+
+  -- symbols are the same where their names are
+  pub same-symbol : (n t : ℕ) → n < count → t < length all → (slice_index symbols n == t) ≡ bytes_eq (name_in r n) (name_at all t)
+  same-symbol n t low within = same-bool (slice_index symbols n == t) (bytes_eq (name_in r n) (name_at all t)) to from
+    where
+      to : (slice_index symbols n == t) ≡ true → bytes_eq (name_in r n) (name_at all t) ≡ true
+      to e = (bytes_eq-Decides (name_in r n) (name_at all t)).1 (sym (symbol-name n low) ∙ ap (name_at all) (eqb-true (slice_index symbols n) t e))
+
+      from : bytes_eq (name_in r n) (name_at all t) ≡ true → (slice_index symbols n == t) ≡ true
+      from e =
+          eq-eqb (slice_index symbols n) t
+          (apart (slice_index symbols n) t (name_in r n) (symbol-named n low)
+          (slice_get-get_or all t [] within ∙ ap Some (sym ((bytes_eq-Decides (name_in r n) (name_at all t)).0 e))))
+
+  -- and none is that of no name
+  pub no-symbol : (n t : ℕ) → n < count → length all ≤ t → (slice_index symbols n == t) ≡ false
+  no-symbol n t low past = ne_eqb (slice_index symbols n) t (λ e. let within = symbol-within n low in omega (arith, within, past, e))
+
+  module _ (members : ℕ → ℕ → ℕ) (are : AreMembersOf all (meaning_in r) members) where
+    has-named : (element : Element) (t : ℕ) → is_element_below count element ≡ true → keeps_element (meaning_in r) (element_of r.names.items element) ≡ true → t < length all
+        → has_by members symbols element t ≡ holds (meaning_in r) (element_of r.names.items element) (name_at all t)
+    unfolding is_member
+    has-named («Type» n) t below kept within =
+        elim (cases_Bool (bytes_eq (name_in r n) (name_at all t))) [
+          | inl same ↦
+              same-symbol n t low within
+              ∙ sym (ap (λ b. b && bytes_eq (name_in r n) (name_at all t)) (subst (λ name. keeps_type (meaning_in r) name ≡ true) ((bytes_eq-Decides (name_in r n) (name_at all t)).0 same) kept))
+          | inr other ↦
+              same-symbol n t low within ∙ other
+              ∙ sym (ap (λ b. keeps_type (meaning_in r) (name_at all t) && b) other ∙ and-false (keeps_type (meaning_in r) (name_at all t)))
+        ]
+      where
+        low : n < count
+        low = ltb-true n count below
+    has-named (Attribute a) t below kept within =
+        let low = ltb-true a count below in
+        are.are (slice_index symbols a) t (symbol-within a low) within ∙ ap (λ name. is_member (meaning_in r) name (name_at all t)) (symbol-name a low)
+
+    has-none : (element : Element) (t : ℕ) → is_element_below count element ≡ true → length all ≤ t → has_by members symbols element t ≡ false
+    has-none («Type» n) t below past = no-symbol n t (ltb-true n count below) past
+    has-none (Attribute a) t below past = ap (nat_lt 0) (are.no_type (slice_index symbols a) t past)
+
+    aims-named : (target : ResolvedTarget) (s t : ℕ) → is_target_below count target ≡ true → is_aim_of (meaning_in r).types (meaning_in r).attributes (resolved_target_of r.names.items target) ≡ true
+        → s < length all → t < length all → aims_by members symbols target s t ≡ aims (meaning_in r) (resolved_target_of r.names.items target) (name_at all s) (name_at all t)
+    aims-named targets.Itself s t below declared s_within t_within = same-bool (s == t) (bytes_eq (name_at all s) (name_at all t)) to from
+      where
+        to : (s == t) ≡ true → bytes_eq (name_at all s) (name_at all t) ≡ true
+        to e = (bytes_eq-Decides (name_at all s) (name_at all t)).1 (ap (name_at all) (eqb-true s t e))
+
+        from : bytes_eq (name_at all s) (name_at all t) ≡ true → (s == t) ≡ true
+        from e = eq-eqb s t (apart s t (name_at all s) (slice_get-get_or all s [] s_within) (slice_get-get_or all t [] t_within ∙ ap Some (sym ((bytes_eq-Decides (name_at all s) (name_at all t)).0 e))))
+    aims-named (targets.Element element) s t below declared s_within t_within =
+        has-named element t below (element-kept (meaning_in r) (element_of r.names.items element) declared) t_within
+
+    listed-named : (p : ℕ) (ps : List ℕ) → p < length all → list_all (λ q. nat_lt q count) ps ≡ true
+        → list_any (λ q. p == slice_index symbols q) ps ≡ list_any (bytes_eq (name_at all p)) (map (λ q. slice_index_or r.names.items q []) ps)
+    listed-named p [] within below = refl
+    listed-named p (q ∷ ps) within below =
+        let low = ltb-true q count (and-first (nat_lt q count) (list_all (λ k. nat_lt k count) ps) below) in
+        ap (λ b. b || list_any (λ k. p == slice_index symbols k) ps) (eqb-turned p (slice_index symbols q) ∙ same-symbol q p low within ∙ turned (name_in r q) (name_at all p))
+        ∙ ap (λ b. bytes_eq (name_at all p) (name_in r q) || b) (listed-named p ps within (and-second (nat_lt q count) (list_all (λ k. nat_lt k count) ps) below))
+
+    listed-none : (p : ℕ) (ps : List ℕ) → length all ≤ p → list_all (λ q. nat_lt q count) ps ≡ true → list_any (λ q. p == slice_index symbols q) ps ≡ false
+    listed-none p [] past below = refl
+    listed-none p (q ∷ ps) past below =
+        let low = ltb-true q count (and-first (nat_lt q count) (list_all (λ k. nat_lt k count) ps) below) in
+        ap (λ b. b || list_any (λ k. p == slice_index symbols k) ps) (eqb-turned p (slice_index symbols q) ∙ no-symbol q p low past) ∙ listed-none p ps past (and-second (nat_lt q count) (list_all (λ k. nat_lt k count) ps) below)
+
+    -- the parts of a rule's bound
+    record IsBelow (rule : NumberedRule A) : Type 0 where
+      source : is_element_below count rule.source ≡ true
+      target : is_target_below count rule.target ≡ true
+      class : rule.class < count
+      permissions : list_all (λ p. nat_lt p count) rule.permissions.items ≡ true
+
+    is-below : (rule : NumberedRule A) → is_rule_below count rule ≡ true → IsBelow rule
+    is-below rule below =
+        let rest = and-second (is_element_below count rule.source) (is_target_below count rule.target && (nat_lt rule.class count && list_all (λ p. nat_lt p count) rule.permissions.items)) below in
+        let last = and-second (is_target_below count rule.target) (nat_lt rule.class count && list_all (λ p. nat_lt p count) rule.permissions.items) rest in
+        record {
+          source = and-first (is_element_below count rule.source) (is_target_below count rule.target && (nat_lt rule.class count && list_all (λ p. nat_lt p count) rule.permissions.items)) below;
+          target = and-first (is_target_below count rule.target) (nat_lt rule.class count && list_all (λ p. nat_lt p count) rule.permissions.items) rest;
+          class = ltb-true rule.class count (and-first (nat_lt rule.class count) (list_all (λ p. nat_lt p count) rule.permissions.items) last);
+          permissions = and-second (nat_lt rule.class count) (list_all (λ p. nat_lt p count) rule.permissions.items) last;
+        }
+
+    -- what a rule covers by symbols, it covers by names
+    pub covers-named : (rule : NumberedRule A) (key : SymbolKey) (t : ℕ) → is_rule_below count rule ≡ true
+        → is_rule_of (meaning_in r).types (meaning_in r).attributes (meaning_in r).classes (rule_of r.modules.items r.names.items rule) ≡ true
+        → is_named all key t ≡ true
+        → covers_by members symbols rule key t ≡ covers (meaning_in r) (rule_of r.modules.items r.names.items rule) (name_at all key.source) (name_at all t) (name_at all key.class) (name_at all key.permission)
+    unfolding covers_by
+    covers-named rule key t below declared named =
+        ap (λ b. (b && aims_by members symbols rule.target key.source t) && ((slice_index symbols rule.class == key.class) && list_any (λ p. key.permission == slice_index symbols p) rule.permissions.items))
+        (has-named rule.source key.source bound.source (element-kept (meaning_in r) whole.source source_declared) source_within)
+        ∙ ap (λ b. (holds (meaning_in r) whole.source (name_at all key.source) && b) && ((slice_index symbols rule.class == key.class) && list_any (λ p. key.permission == slice_index symbols p) rule.permissions.items))
+        (aims-named rule.target key.source t bound.target target_declared source_within target_within)
+        ∙ ap (λ b. (holds (meaning_in r) whole.source (name_at all key.source) && aims (meaning_in r) whole.target (name_at all key.source) (name_at all t)) && (b && list_any (λ p. key.permission == slice_index symbols p) rule.permissions.items))
+        (same-symbol rule.class key.class bound.class class_within)
+        ∙ ap (λ b. (holds (meaning_in r) whole.source (name_at all key.source) && aims (meaning_in r) whole.target (name_at all key.source) (name_at all t)) && (bytes_eq whole.the_class (name_at all key.class) && b))
+        (listed-named key.permission rule.permissions.items permission_within bound.permissions)
+        ∙ and-again (holds (meaning_in r) whole.source (name_at all key.source)) (aims (meaning_in r) whole.target (name_at all key.source) (name_at all t)) _
+      where
+        whole : spec.Rule
+        whole = rule_of r.modules.items r.names.items rule
+
+        bound : IsBelow rule
+        bound = is-below rule below
+
+        source_declared : is_element_of (meaning_in r).types (meaning_in r).attributes whole.source ≡ true
+        source_declared = and-first (is_element_of (meaning_in r).types (meaning_in r).attributes whole.source) _ declared
+
+        target_declared : is_aim_of (meaning_in r).types (meaning_in r).attributes whole.target ≡ true
+        target_declared = and-first (is_aim_of (meaning_in r).types (meaning_in r).attributes whole.target) _ (and-second (is_element_of (meaning_in r).types (meaning_in r).attributes whole.source) _ declared)
+
+        ends : (nat_lt key.source (length all) && nat_lt t (length all)) ≡ true
+        ends = and-first (nat_lt key.source (length all) && nat_lt t (length all)) (nat_lt key.class (length all) && nat_lt key.permission (length all)) named
+
+        others : (nat_lt key.class (length all) && nat_lt key.permission (length all)) ≡ true
+        others = and-second (nat_lt key.source (length all) && nat_lt t (length all)) (nat_lt key.class (length all) && nat_lt key.permission (length all)) named
+
+        source_within : key.source < length all
+        source_within = ltb-true key.source (length all) (and-first (nat_lt key.source (length all)) (nat_lt t (length all)) ends)
+
+        target_within : t < length all
+        target_within = ltb-true t (length all) (and-second (nat_lt key.source (length all)) (nat_lt t (length all)) ends)
+
+        class_within : key.class < length all
+        class_within = ltb-true key.class (length all) (and-first (nat_lt key.class (length all)) (nat_lt key.permission (length all)) others)
+
+        permission_within : key.permission < length all
+        permission_within = ltb-true key.permission (length all) (and-second (nat_lt key.class (length all)) (nat_lt key.permission (length all)) others)
+
+    -- and it covers nothing by symbols that are those of no names
+    pub covers-none : (rule : NumberedRule A) (key : SymbolKey) (t : ℕ) → is_rule_below count rule ≡ true → is_named all key t ≡ false → covers_by members symbols rule key t ≡ false
+    unfolding covers_by
+    covers-none rule key t below unnamed =
+        elim (cases_lt key.source (length all)) [
+          | inr past ↦ ap (λ b. (b && aims_by members symbols rule.target key.source t) && ((slice_index symbols rule.class == key.class) && list_any (λ p. key.permission == slice_index symbols p) rule.permissions.items)) (has-none rule.source key.source bound.source past)
+          | inl source_low ↦ elim (cases_lt t (length all)) [
+            | inr past ↦
+                ap (λ b. (has_by members symbols rule.source key.source && b) && ((slice_index symbols rule.class == key.class) && list_any (λ p. key.permission == slice_index symbols p) rule.permissions.items)) (aims-none rule.target key.source t bound.target source_low past)
+                ∙ ap (λ b. b && ((slice_index symbols rule.class == key.class) && list_any (λ p. key.permission == slice_index symbols p) rule.permissions.items)) (and-false (has_by members symbols rule.source key.source))
+            | inl target_low ↦ elim (cases_lt key.class (length all)) [
+              | inr past ↦
+                  ap (λ b. (has_by members symbols rule.source key.source && aims_by members symbols rule.target key.source t) && (b && list_any (λ p. key.permission == slice_index symbols p) rule.permissions.items)) (no-symbol rule.class key.class bound.class past)
+                  ∙ and-false (has_by members symbols rule.source key.source && aims_by members symbols rule.target key.source t)
+              | inl class_low ↦ elim (cases_lt key.permission (length all)) [
+                | inr past ↦
+                    ap (λ b. (has_by members symbols rule.source key.source && aims_by members symbols rule.target key.source t) && ((slice_index symbols rule.class == key.class) && b)) (listed-none key.permission rule.permissions.items past bound.permissions)
+                    ∙ ap (λ b. (has_by members symbols rule.source key.source && aims_by members symbols rule.target key.source t) && b) (and-false (slice_index symbols rule.class == key.class))
+                    ∙ and-false (has_by members symbols rule.source key.source && aims_by members symbols rule.target key.source t)
+                | inl permission_low ↦ absurd (true≢false (sym (all-named source_low target_low class_low permission_low) ∙ unnamed))
+              ]
+            ]
+          ]
+        ]
+      where
+        bound : IsBelow rule
+        bound = is-below rule below
+
+        aims-none : (target : ResolvedTarget) (s u : ℕ) → is_target_below count target ≡ true → s < length all → length all ≤ u → aims_by members symbols target s u ≡ false
+        aims-none targets.Itself s u low within past = ne_eqb s u (λ e. omega (arith, within, past, e))
+        aims-none (targets.Element element) s u low within past = has-none element u low past
+
+        all-named : key.source < length all → t < length all → key.class < length all → key.permission < length all → is_named all key t ≡ true
+        all-named a b c d =
+            ap (λ x. (x && nat_lt t (length all)) && (nat_lt key.class (length all) && nat_lt key.permission (length all))) (lt-ltb key.source (length all) a)
+            ∙ ap (λ x. x && (nat_lt key.class (length all) && nat_lt key.permission (length all))) (lt-ltb t (length all) b)
+            ∙ ap (λ x. x && nat_lt key.permission (length all)) (lt-ltb key.class (length all) c) ∙ lt-ltb key.permission (length all) d

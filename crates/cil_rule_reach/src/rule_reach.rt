@@ -1,0 +1,72 @@
+//! What a rule reaches.
+
+ghost use Rattle.std.specs.Prelude.{◌≡◌, ◌≤◌, ◌-◌, ◌^◌, ℕ, IsTrue, false, length, IfOk};
+ghost use Rattle.cil_resolve.specs.Below.{is_element_below, is_rule_below, is_target_below};
+ghost use Rattle.cil_rule_shifts.specs.Reach.{has_source, is_present, takes, AreShort, IsShort};
+ghost use Rattle.cil_rule_reach.specs.Reaches.{aims_by, has_by, members_of};
+
+use crate::permissions::symbol_of;
+use crate::row_line::{row_line, type_line};
+use crate::symbol_members::SymbolMembers;
+use cil_lines::Line;
+use cil_resolve::{Element, NumberedRule, ResolvedTarget};
+use cil_rule_shifts::{Reach, Targets};
+use cil_symbols::Numbering;
+use std::alloc::{AllocError, Allocator};
+
+/// The types that an element stands for, as those whose counters are above 0.
+fn types_of<A: Allocator + Copy>(
+    alloc: A,
+    members: &SymbolMembers<'_, A>,
+    numbering: &Numbering<A>,
+    element: Element,
+) -> Result<Line<A>, AllocError>
+    requires below { IsTrue (is_element_below (length numbering.now.symbols) element) }
+    requires known { (a t : ℕ) → members.now.symbols ≤ t → members_of members.now a t ≡ 0 }
+    ensures types { IfOk result (λ line. (t : ℕ) → is_present line t ≡ has_by (members_of members.now) numbering.now.symbols element t) }
+    ensures short { IfOk result (λ line. (t : ℕ) → 2 ^ 64 - 1 ≤ t → is_present line t ≡ false) }
+{
+    match element {
+        Element::Type(ty) => type_line(alloc, symbol_of(numbering, ty)),
+        Element::Attribute(attribute) => row_line(alloc, members, symbol_of(numbering, attribute)),
+    }
+}
+
+/// The targets of a rule.
+fn targets_of<A: Allocator + Copy>(
+    alloc: A,
+    members: &SymbolMembers<'_, A>,
+    numbering: &Numbering<A>,
+    target: ResolvedTarget,
+) -> Result<Targets<A>, AllocError>
+    requires below { IsTrue (is_target_below (length numbering.now.symbols) target) }
+    requires known { (a t : ℕ) → members.now.symbols ≤ t → members_of members.now a t ≡ 0 }
+    ensures targets { IfOk result (λ targets. (s t : ℕ) → takes targets s t ≡ aims_by (members_of members.now) numbering.now.symbols target s t) }
+    ensures short { IfOk result AreShort }
+{
+    match target {
+        ResolvedTarget::Itself => Ok(Targets::Itself),
+        ResolvedTarget::Element(element) => {
+            let line = types_of(alloc, members, numbering, element)?;
+            Ok(Targets::These(line))
+        }
+    }
+}
+
+/// What a rule of a policy reaches, by the policy's members and the symbols of its names.
+pub fn rule_reach<A: Allocator + Copy>(
+    alloc: A,
+    members: &SymbolMembers<'_, A>,
+    numbering: &Numbering<A>,
+    rule: &NumberedRule<A>,
+) -> Result<Reach<A>, AllocError>
+    requires below { IsTrue (is_rule_below (length numbering.now.symbols) rule.now) }
+    requires known { (a t : ℕ) → members.now.symbols ≤ t → members_of members.now a t ≡ 0 }
+    ensures short { IfOk result IsShort }
+    ensures sources { IfOk result (λ reach. (s : ℕ) → has_source reach s ≡ has_by (members_of members.now) numbering.now.symbols rule.now.source s) }
+    ensures targets { IfOk result (λ reach. (s t : ℕ) → takes reach.targets s t ≡ aims_by (members_of members.now) numbering.now.symbols rule.now.target s t) }
+{
+    let sources = types_of(alloc, members, numbering, rule.source)?;
+    let targets = targets_of(alloc, members, numbering, rule.target)?;
+    Ok(Reach { sources, targets })
+}

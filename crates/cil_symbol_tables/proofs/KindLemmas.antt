@@ -1,0 +1,128 @@
+-- The lines of each kind of rule.
+use Rattle.std.proofs.Common.{◌≡◌, ℕ, ◌+◌, ◌≤◌, ◌&&◌, Bool, false, refl, sym, ap, ◌∙◌, subst, OnOk}
+use Rattle.cil_text.specs.declared.statement.RuleKind.{RuleKind}
+use Rattle.cil_text.specs.declared.statement.RuleKind.TheVariants.{Allow, AuditAllow, DontAudit, NeverAllow}
+use Rattle.cil_keyed_lines.specs.Keyed as keyed
+use Rattle.cil_keyed_lines.specs.Keyed.{Keyed}
+use Rattle.cil_keyed_lines.specs.declared.symbol_key.SymbolKey.{SymbolKey}
+use Rattle.cil_rule_shifts.specs.Reach.{one_if}
+use Rattle.cil_symbol_tables.specs.Tables.{count_before, count_now, is_kind, lines_of}
+use Rattle.cil_symbol_tables.specs.declared.symbol_tables.SymbolTables.{SymbolTables}
+
+-- what holds of the lines of each kind holds at a kind
+each : {A : Type 0} (tables : SymbolTables A) (P : RuleKind → Keyed → Type 0) → P Allow tables.allow → P AuditAllow tables.auditallow → P DontAudit tables.dontaudit → P NeverAllow tables.neverallow
+    → (kind : RuleKind) → P kind (lines_of tables kind)
+each tables P allow auditallow dontaudit neverallow Allow = allow
+each tables P allow auditallow dontaudit neverallow AuditAllow = auditallow
+each tables P allow auditallow dontaudit neverallow DontAudit = dontaudit
+each tables P allow auditallow dontaudit neverallow NeverAllow = neverallow
+
+-- counters that are those of a table at each kind
+abbrev AreNow : Keyed → (SymbolKey → ℕ → ℕ) → Type 0
+AreNow lines counts = (key : SymbolKey) (t : ℕ) → keyed.count_now lines key t ≡ counts key t
+
+abbrev AreBefore : Keyed → (SymbolKey → ℕ → ℕ) → Type 0
+AreBefore lines counts = (key : SymbolKey) (t : ℕ) → keyed.count_before lines key t ≡ counts key t
+
+pub all-now : {A : Type 0} (tables : SymbolTables A) (counts : RuleKind → SymbolKey → ℕ → ℕ) → AreNow tables.allow (counts Allow) → AreNow tables.auditallow (counts AuditAllow) → AreNow tables.dontaudit (counts DontAudit) → AreNow tables.neverallow (counts NeverAllow)
+    → (kind : RuleKind) (key : SymbolKey) (t : ℕ) → count_now tables kind key t ≡ counts kind key t
+unfolding count_now
+all-now tables counts allow auditallow dontaudit neverallow = each tables (λ kind lines. AreNow lines (counts kind)) allow auditallow dontaudit neverallow
+
+pub all-before : {A : Type 0} (tables : SymbolTables A) (counts : RuleKind → SymbolKey → ℕ → ℕ) → AreBefore tables.allow (counts Allow) → AreBefore tables.auditallow (counts AuditAllow) → AreBefore tables.dontaudit (counts DontAudit) → AreBefore tables.neverallow (counts NeverAllow)
+    → (kind : RuleKind) (key : SymbolKey) (t : ℕ) → count_before tables kind key t ≡ counts kind key t
+unfolding count_before
+all-before tables counts allow auditallow dontaudit neverallow = each tables (λ kind lines. AreBefore lines (counts kind)) allow auditallow dontaudit neverallow
+
+-- the counters of a kind are those of its lines
+pub counted-of : {A : Type 0} (tables : SymbolTables A) (kind other : RuleKind) (key : SymbolKey) (t : ℕ) → kind ≡ other → keyed.count_now (lines_of tables other) key t ≡ count_now tables kind key t
+unfolding count_now
+counted-of tables kind other key t is = ap (λ k. keyed.count_now (lines_of tables k) key t) (sym is)
+
+pub above-of : {A : Type 0} (tables : SymbolTables A) (kind other : RuleKind) (least : SymbolKey → ℕ → ℕ) → kind ≡ other → ((key : SymbolKey) (t : ℕ) → least key t ≤ count_now tables kind key t)
+    → (key : SymbolKey) (t : ℕ) → least key t ≤ keyed.count_now (lines_of tables other) key t
+above-of tables kind other least is above key t = subst (λ n. least key t ≤ n) (sym (counted-of tables kind other key t is)) (above key t)
+
+-- the counters of one kind move, and those of others stay
+module _ {A : Type 0} (old : SymbolTables A) (was is : SymbolKey → ℕ → Bool) (lines : Keyed) where
+  abbrev IsMoved : Keyed → Type 0
+  IsMoved before = (key : SymbolKey) (t : ℕ) → keyed.count_now lines key t + one_if (was key t) ≡ keyed.count_now before key t + one_if (is key t)
+
+  abbrev AreMoved : RuleKind → SymbolTables A → Type 0
+  AreMoved kind new = (other : RuleKind) (key : SymbolKey) (t : ℕ) → count_now new other key t + one_if (is_kind kind other && was key t) ≡ count_now old other key t + one_if (is_kind kind other && is key t)
+
+  pub moved-allow : (kind : RuleKind) → kind ≡ Allow → IsMoved old.allow → AreMoved kind (record old { allow = lines })
+  unfolding count_now
+  moved-allow kind at moved = subst (λ k. AreMoved k (record old { allow = lines })) (sym at) by
+    where
+      by : AreMoved Allow (record old { allow = lines })
+      by Allow key t = moved key t
+      by AuditAllow key t = refl
+      by DontAudit key t = refl
+      by NeverAllow key t = refl
+
+  pub moved-auditallow : (kind : RuleKind) → kind ≡ AuditAllow → IsMoved old.auditallow → AreMoved kind (record old { auditallow = lines })
+  unfolding count_now
+  moved-auditallow kind at moved = subst (λ k. AreMoved k (record old { auditallow = lines })) (sym at) by
+    where
+      by : AreMoved AuditAllow (record old { auditallow = lines })
+      by Allow key t = refl
+      by AuditAllow key t = moved key t
+      by DontAudit key t = refl
+      by NeverAllow key t = refl
+
+  pub moved-dontaudit : (kind : RuleKind) → kind ≡ DontAudit → IsMoved old.dontaudit → AreMoved kind (record old { dontaudit = lines })
+  unfolding count_now
+  moved-dontaudit kind at moved = subst (λ k. AreMoved k (record old { dontaudit = lines })) (sym at) by
+    where
+      by : AreMoved DontAudit (record old { dontaudit = lines })
+      by Allow key t = refl
+      by AuditAllow key t = refl
+      by DontAudit key t = moved key t
+      by NeverAllow key t = refl
+
+  pub moved-neverallow : (kind : RuleKind) → kind ≡ NeverAllow → IsMoved old.neverallow → AreMoved kind (record old { neverallow = lines })
+  unfolding count_now
+  moved-neverallow kind at moved = subst (λ k. AreMoved k (record old { neverallow = lines })) (sym at) by
+    where
+      by : AreMoved NeverAllow (record old { neverallow = lines })
+      by Allow key t = refl
+      by AuditAllow key t = refl
+      by DontAudit key t = refl
+      by NeverAllow key t = moved key t
+
+-- what stays where one kind's lines do
+module _ {A : Type 0} (old : SymbolTables A) (lines : Keyed) where
+  abbrev IsKept : Keyed → Type 0
+  IsKept before = (key : SymbolKey) (t : ℕ) → keyed.count_before lines key t ≡ keyed.count_before before key t
+
+  abbrev AreKept : SymbolTables A → Type 0
+  AreKept new = (other : RuleKind) (key : SymbolKey) (t : ℕ) → count_before new other key t ≡ count_before old other key t
+
+  pub kept-allow : IsKept old.allow → AreKept (record old { allow = lines })
+  unfolding count_before
+  kept-allow kept Allow key t = kept key t
+  kept-allow kept AuditAllow key t = refl
+  kept-allow kept DontAudit key t = refl
+  kept-allow kept NeverAllow key t = refl
+
+  pub kept-auditallow : IsKept old.auditallow → AreKept (record old { auditallow = lines })
+  unfolding count_before
+  kept-auditallow kept Allow key t = refl
+  kept-auditallow kept AuditAllow key t = kept key t
+  kept-auditallow kept DontAudit key t = refl
+  kept-auditallow kept NeverAllow key t = refl
+
+  pub kept-dontaudit : IsKept old.dontaudit → AreKept (record old { dontaudit = lines })
+  unfolding count_before
+  kept-dontaudit kept Allow key t = refl
+  kept-dontaudit kept AuditAllow key t = refl
+  kept-dontaudit kept DontAudit key t = kept key t
+  kept-dontaudit kept NeverAllow key t = refl
+
+  pub kept-neverallow : IsKept old.neverallow → AreKept (record old { neverallow = lines })
+  unfolding count_before
+  kept-neverallow kept Allow key t = refl
+  kept-neverallow kept AuditAllow key t = refl
+  kept-neverallow kept DontAudit key t = refl
+  kept-neverallow kept NeverAllow key t = kept key t

@@ -1,0 +1,11 @@
+use Rattle.cil_symbol_tables.specs.Tables.{count_now}
+use Rattle.cil_symbol_tables.proofs.KindLemmas.{all-before, all-now}
+use Rattle.cil_symbol_tables.proofs.symbol_tables.SymbolTables.settle.Goals as goal
+
+pub returns-clause-now : goal.returns-clause-now
+unfolding count_now
+returns-clause-now g c = all-now {A = g.row.A.Denot} _ (count_now {A = g.row.A.Denot} c.args.self.now) c.settle.ensures.now c.settle-2.ensures.now c.settle-3.ensures.now c.settle-4.ensures.now
+
+pub returns-clause-before : goal.returns-clause-before
+unfolding count_now
+returns-clause-before g c = all-before {A = g.row.A.Denot} _ (count_now {A = g.row.A.Denot} c.args.self.now) c.settle.ensures.before c.settle-2.ensures.before c.settle-3.ensures.before c.settle-4.ensures.before

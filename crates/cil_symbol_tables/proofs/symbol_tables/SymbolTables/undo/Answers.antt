@@ -1,0 +1,11 @@
+use Rattle.cil_symbol_tables.specs.Tables.{count_before}
+use Rattle.cil_symbol_tables.proofs.KindLemmas.{all-before, all-now}
+use Rattle.cil_symbol_tables.proofs.symbol_tables.SymbolTables.undo.Goals as goal
+
+pub returns-clause-now : goal.returns-clause-now
+unfolding count_before
+returns-clause-now g c = all-now {A = g.row.A.Denot} _ (count_before {A = g.row.A.Denot} c.args.self.now) c.undo.ensures.now c.undo-2.ensures.now c.undo-3.ensures.now c.undo-4.ensures.now
+
+pub returns-clause-before : goal.returns-clause-before
+unfolding count_before
+returns-clause-before g c = all-before {A = g.row.A.Denot} _ (count_before {A = g.row.A.Denot} c.args.self.now) c.undo.ensures.before c.undo-2.ensures.before c.undo-3.ensures.before c.undo-4.ensures.before

@@ -1,0 +1,28 @@
+-- The access tables by symbols: for each kind of rule, access by access, how many rules give it, now and before the steps.
+use Rattle.std.specs.Prelude.{◌==◌, ℕ, Bool}
+use Rattle.cil_specs.specs.Rule.{kind_index}
+use Rattle.cil_text.specs.Image.{rule_kind_of}
+use Rattle.cil_text.specs.declared.statement.RuleKind.{RuleKind}
+use Rattle.cil_text.specs.declared.statement.RuleKind.TheVariants.{Allow, AuditAllow, DontAudit, NeverAllow}
+use Rattle.cil_keyed_lines.specs.Keyed as keyed
+use Rattle.cil_keyed_lines.specs.Keyed.{Keyed}
+use Rattle.cil_keyed_lines.specs.declared.symbol_key.SymbolKey.{SymbolKey}
+use Rattle.cil_symbol_tables.specs.declared.symbol_tables.SymbolTables.{SymbolTables}
+
+-- whether two kinds are the same
+abbrev pub is_kind : RuleKind → RuleKind → Bool
+is_kind kind other = kind_index (rule_kind_of kind) == kind_index (rule_kind_of other)
+
+-- the lines of the rules of a kind
+abbrev pub lines_of : {A : Type 0} → SymbolTables A → RuleKind → Keyed
+lines_of tables Allow = tables.allow
+lines_of tables AuditAllow = tables.auditallow
+lines_of tables DontAudit = tables.dontaudit
+lines_of tables NeverAllow = tables.neverallow
+
+-- the counter of an access, by the symbols of its names, now and before the steps
+unfoldable pub count_now : {A : Type 0} → SymbolTables A → RuleKind → SymbolKey → ℕ → ℕ
+count_now tables kind key t = keyed.count_now (lines_of tables kind) key t
+
+unfoldable pub count_before : {A : Type 0} → SymbolTables A → RuleKind → SymbolKey → ℕ → ℕ
+count_before tables kind key t = keyed.count_before (lines_of tables kind) key t

@@ -1,0 +1,26 @@
+-- Two policies by symbols, and how many of their rules give an access.
+use Rattle.std.specs.Prelude.{◌≡◌, ◌≤◌, ◌<◌, ◌&&◌, ℕ, Bool, List, count_by, cond, length, Some, slice_get}
+use Rattle.cil_specs.specs.Meaning.{Meaning, count_of}
+use Rattle.cil_parse.specs.Lexicon.{AreNumbersOf}
+use Rattle.cil_text.specs.declared.statement.RuleKind.{RuleKind}
+use Rattle.cil_keyed_lines.specs.declared.symbol_key.SymbolKey.{SymbolKey}
+use Rattle.cil_resolve.specs.Resolved.{meaning_in}
+use Rattle.cil_resolve.specs.declared.numbered.NumberedRule.{NumberedRule}
+use Rattle.cil_rule_reach.specs.Named.{atom_of, is_named, AreMembersOf}
+use Rattle.cil_rule_reach.specs.Reaches.{covers_by, members_of}
+use Rattle.cil_symbol_tables.specs.Tables.{is_kind}
+use Rattle.cil_table_updates.specs.declared.policy.Policy.{Policy}
+
+-- how many rules of a policy give the access whose names have these symbols; 0 where one of them is the symbol of no name
+abbrev pub count_named : List (List ℕ) → Meaning → RuleKind → SymbolKey → ℕ → ℕ
+count_named names meaning kind key t = cond (is_named names key t) (count_of meaning (atom_of names kind key t)) 0
+
+-- No two symbols are those of one name.
+abbrev pub AreApart : List (List ℕ) → Type 0
+AreApart names = (i j : ℕ) (name : List ℕ) → slice_get names i ≡ Some name → slice_get names j ≡ Some name → i ≡ j
+
+-- A policy has the symbols of its names, and the members of its attributes.
+pub record IsPolicy {A : Type 0} (names : List (List ℕ)) (p : Policy A) : Type 0 where
+  pub numbers : AreNumbersOf names p.numbering.now.symbols p.resolved.now.names.items
+  pub members : AreMembersOf names (meaning_in p.resolved.now) (members_of p.members)
+  pub symbols : length names ≤ p.members.symbols

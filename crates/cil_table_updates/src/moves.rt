@@ -1,0 +1,96 @@
+//! Counters moved from what a rule gave to what it gives.
+
+ghost use Rattle.std.specs.Prelude.{◌≡◌, ◌+◌, ◌≤◌, ◌&&◌, ℕ, IsTrue, length, OnOk};
+ghost use Rattle.cil_resolve.specs.Below.{is_rule_below};
+ghost use Rattle.cil_rule_shifts.specs.Reach.{one_if, IsShort};
+ghost use Rattle.cil_symbol_tables.specs.Tables.{count_before, count_now, is_kind};
+ghost use Rattle.cil_table_updates.specs.Given.{gives_by};
+ghost use Rattle.cil_table_updates.specs.Moves.{gives_as, HaveSameHead, IsKnown};
+
+use crate::policy::Policy;
+use cil_keyed_lines::SymbolKey;
+use cil_resolve::NumberedRule;
+use cil_rule_reach::{permission_symbols, rule_reach, symbol_of};
+use cil_rule_shifts::Reach;
+use cil_symbol_tables::SymbolTables;
+use cil_text::RuleKind;
+use std::alloc::{AllocError, Allocator};
+
+/// Moves the counters of what a rule gave to those of what it gives, by the kind, the class and the permissions of a policy's rule.
+fn shift_as<A: Allocator + Copy>(
+    tables: &mut SymbolTables<A>,
+    alloc: A,
+    policy: &Policy<'_, A>,
+    rule: &NumberedRule<A>,
+    was: &Reach<A>,
+    is: &Reach<A>,
+) -> Result<(), AllocError>
+    requires below { IsTrue (is_rule_below (length policy.now.numbering.now.symbols) rule.now) }
+    requires was { IsShort was.now }
+    requires is { IsShort is.now }
+    requires counted { (key : SymbolKey) (t : ℕ) → one_if (gives_as policy.now.numbering.now.symbols rule.now was.now key t) ≤ count_now tables.old rule.now.kind key t }
+    ensures now { OnOk result ((kind : RuleKind) (key : SymbolKey) (t : ℕ) → count_now tables.new kind key t + one_if (is_kind rule.now.kind kind && gives_as policy.now.numbering.now.symbols rule.now was.now key t)
+        ≡ count_now tables.old kind key t + one_if (is_kind rule.now.kind kind && gives_as policy.now.numbering.now.symbols rule.now is.now key t)) }
+    ensures before { (kind : RuleKind) (key : SymbolKey) (t : ℕ) → count_before tables.new kind key t ≡ count_before tables.old kind key t }
+{
+    let permissions = permission_symbols(alloc, policy.numbering, &rule.permissions)?;
+    let class = symbol_of(policy.numbering, rule.class);
+    tables.shift(alloc, rule.kind, class, &permissions, was, is)
+}
+
+/// Takes a rule of a policy out.
+pub fn take_rule<A: Allocator + Copy>(
+    tables: &mut SymbolTables<A>,
+    alloc: A,
+    policy: &Policy<'_, A>,
+    rule: &NumberedRule<A>,
+) -> Result<(), AllocError>
+    requires known { IsKnown policy.now }
+    requires below { IsTrue (is_rule_below (length policy.now.numbering.now.symbols) rule.now) }
+    requires counted { (kind : RuleKind) (key : SymbolKey) (t : ℕ) → one_if (gives_by policy.now kind key t rule.now) ≤ count_now tables.old kind key t }
+    ensures now { OnOk result ((kind : RuleKind) (key : SymbolKey) (t : ℕ) → count_now tables.new kind key t + one_if (gives_by policy.now kind key t rule.now) ≡ count_now tables.old kind key t) }
+    ensures before { (kind : RuleKind) (key : SymbolKey) (t : ℕ) → count_before tables.new kind key t ≡ count_before tables.old kind key t }
+{
+    let was = rule_reach(alloc, &policy.members, policy.numbering, rule)?;
+    shift_as(tables, alloc, policy, rule, &was, &Reach::none(alloc))
+}
+
+/// Puts a rule of a policy in.
+pub fn put_rule<A: Allocator + Copy>(
+    tables: &mut SymbolTables<A>,
+    alloc: A,
+    policy: &Policy<'_, A>,
+    rule: &NumberedRule<A>,
+) -> Result<(), AllocError>
+    requires known { IsKnown policy.now }
+    requires below { IsTrue (is_rule_below (length policy.now.numbering.now.symbols) rule.now) }
+    ensures now { OnOk result ((kind : RuleKind) (key : SymbolKey) (t : ℕ) → count_now tables.new kind key t ≡ count_now tables.old kind key t + one_if (gives_by policy.now kind key t rule.now)) }
+    ensures before { (kind : RuleKind) (key : SymbolKey) (t : ℕ) → count_before tables.new kind key t ≡ count_before tables.old kind key t }
+{
+    let is = rule_reach(alloc, &policy.members, policy.numbering, rule)?;
+    shift_as(tables, alloc, policy, rule, &Reach::none(alloc), &is)
+}
+
+/// Puts a rule of the new policy in place of the old one's.
+pub fn replace_rule<A: Allocator + Copy>(
+    tables: &mut SymbolTables<A>,
+    alloc: A,
+    old: &Policy<'_, A>,
+    old_rule: &NumberedRule<A>,
+    new: &Policy<'_, A>,
+    new_rule: &NumberedRule<A>,
+) -> Result<(), AllocError>
+    requires old_known { IsKnown old.now }
+    requires new_known { IsKnown new.now }
+    requires old_below { IsTrue (is_rule_below (length old.now.numbering.now.symbols) old_rule.now) }
+    requires new_below { IsTrue (is_rule_below (length new.now.numbering.now.symbols) new_rule.now) }
+    requires head { HaveSameHead old.now.numbering.now.symbols old_rule.now new.now.numbering.now.symbols new_rule.now }
+    requires counted { (kind : RuleKind) (key : SymbolKey) (t : ℕ) → one_if (gives_by old.now kind key t old_rule.now) ≤ count_now tables.old kind key t }
+    ensures now { OnOk result ((kind : RuleKind) (key : SymbolKey) (t : ℕ) → count_now tables.new kind key t + one_if (gives_by old.now kind key t old_rule.now)
+        ≡ count_now tables.old kind key t + one_if (gives_by new.now kind key t new_rule.now)) }
+    ensures before { (kind : RuleKind) (key : SymbolKey) (t : ℕ) → count_before tables.new kind key t ≡ count_before tables.old kind key t }
+{
+    let was = rule_reach(alloc, &old.members, old.numbering, old_rule)?;
+    let is = rule_reach(alloc, &new.members, new.numbering, new_rule)?;
+    shift_as(tables, alloc, new, new_rule, &was, &is)
+}
