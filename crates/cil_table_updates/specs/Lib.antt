@@ -1,3 +1,4 @@
 pub mod Policies
 pub mod Given
 pub mod Moves
+pub mod Changed

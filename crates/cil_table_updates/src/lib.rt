@@ -1,11 +1,11 @@
 //! Access tables, brought from one policy to another in place.
 #![tactic(auto)]
 
+mod changed_rows;
 mod moves;
 mod passes;
 mod policy;
-mod unchanged;
 mod update;
 
-pub use policy::Policy;
+pub use policy::Named;
 pub use update::update;

@@ -2,7 +2,7 @@ use Rattle.std.proofs.Common.{◌≡◌, ◌/◌, ◌&&◌, ℕ, nat_lt}
 use Rattle.cil_lines.specs.Line.{count_of}
 use Rattle.cil_rule_shifts.specs.Reach.{one_if}
 use Rattle.cil_rule_reach.specs.Reaches.{members_of}
-use Rattle.cil_rule_reach.proofs.row_line.row_line.Given as goal
+use Rattle.cil_rule_reach.proofs.lines.members_line.Given as goal
 
 -- so many words are in the line
 abbrev pub invariant-loop-word : goal.invariant-loop-word

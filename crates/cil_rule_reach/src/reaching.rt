@@ -6,7 +6,7 @@ ghost use Rattle.cil_rule_shifts.specs.Reach.{has_source, is_present, takes, Are
 ghost use Rattle.cil_rule_reach.specs.Reaches.{aims_by, has_by, members_of};
 
 use crate::permissions::symbol_of;
-use crate::row_line::{row_line, type_line};
+use crate::lines::{members_line, type_line};
 use crate::symbol_members::SymbolMembers;
 use cil_lines::Line;
 use cil_resolve::{Element, NumberedRule, ResolvedTarget};
@@ -28,7 +28,7 @@ fn types_of<A: Allocator + Copy>(
 {
     match element {
         Element::Type(ty) => type_line(alloc, symbol_of(numbering, ty)),
-        Element::Attribute(attribute) => row_line(alloc, members, symbol_of(numbering, attribute)),
+        Element::Attribute(attribute) => members_line(alloc, members, symbol_of(numbering, attribute)),
     }
 }
 

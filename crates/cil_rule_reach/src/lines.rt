@@ -29,7 +29,7 @@ fn add_types<A: Allocator + Copy>(
 }
 
 /// The members of an attribute, as those whose counters are above 0.
-pub fn row_line<A: Allocator + Copy>(
+pub fn members_line<A: Allocator + Copy>(
     alloc: A,
     members: &SymbolMembers<'_, A>,
     row: usize,

@@ -1,0 +1,100 @@
+-- What the rules of a policy give, summed up, and by full names.
+use Rattle.std.proofs.Common.{◌≡◌, ℕ, zero, suc, ◌+◌, ◌<◌, ◌≤◌, ◌&&◌, Bool, true, false, cond, count_by, length, take, take_all, map, List, [], ◌∷◌, get_or, slice_get, Option, None, Some, refl, sym, ap, ◌∙◌, subst, inl, inr, arith, add-one, add-zero, zero-add}
+use Rattle.std.specs.List.{list_all}
+use Rattle.std.specs.Option.{option_map_or}
+use Rattle.std.proofs.Math.Bool.{and-false}
+use Rattle.std.proofs.lemmas.Bool.{cases_Bool}
+use Rattle.std.proofs.lemmas.List.Sums.{sum_by-cons}
+use Rattle.std.proofs.lemmas.Option.{slice_get_cases, slice_get_within}
+use Rattle.cil_sums.specs.Sums.{sum_below}
+use Rattle.cil_sums.proofs.SumLemmas.{sum-more, sum-none}
+use Rattle.cil_specs.specs.Meaning.{count_of, covers, gives}
+use Rattle.cil_specs.specs.Rule as spec
+use Rattle.cil_text.specs.declared.statement.RuleKind.{RuleKind}
+use Rattle.cil_keyed_lines.specs.declared.symbol_key.SymbolKey.{SymbolKey}
+use Rattle.cil_resolve.specs.Below.{is_rule_below}
+use Rattle.cil_resolve.specs.Consistent.{is_consistent, is_rule_of}
+use Rattle.cil_resolve.specs.Numbers.{rule_of}
+use Rattle.cil_resolve.specs.Resolved.{meaning_in}
+use Rattle.cil_resolve.specs.declared.numbered.NumberedRule.{NumberedRule}
+use Rattle.cil_resolve.specs.declared.resolved.Resolved.{Resolved}
+use Rattle.cil_rule_reach.specs.Named.{atom_of, is_named, name_at}
+use Rattle.cil_rule_reach.specs.Reaches.{covers_by, members_of}
+use Rattle.cil_rule_reach.proofs.NamedLemmas.{covers-named, covers-none}
+use Rattle.cil_rule_shifts.specs.Reach.{one_if}
+use Rattle.cil_symbol_tables.specs.Tables.{is_kind}
+use Rattle.cil_table_updates.specs.Given.{given, gives_by}
+use Rattle.cil_table_updates.specs.Policies.{count_named, AreApart, IsPolicy}
+use Rattle.cil_table_updates.specs.declared.policy.Policy.{Policy}
+
+and-first : (a b : Bool) → (a && b) ≡ true → a ≡ true
+and-first true b e = refl
+and-first false b e = e
+
+and-second : (a b : Bool) → (a && b) ≡ true → b ≡ true
+and-second true b e = e
+and-second false true e = refl
+and-second false false e = e
+
+one-more : {X : Type 0} (p : X → Bool) (x : X) (xs : List X) → count_by p (x ∷ xs) ≡ one_if (p x) + count_by p xs
+one-more p x xs = sum_by-cons (λ y. cond (p y) 1 0) x xs
+
+-- the sum over the numbers from the front
+sum-front : (f : ℕ → ℕ) (n : ℕ) → sum_below f (suc n) ≡ f 0 + sum_below (λ i. f (suc i)) n
+sum-front f zero =
+    let none = sum-none f in
+    let one = sum-more f 0 in
+    let rest = sum-none (λ i. f (suc i)) in
+    omega (arith, none, one, rest)
+sum-front f (suc n) =
+    let before = sum-front f n in
+    let left = ap (sum_below f) (sym (add-one (suc n))) ∙ sum-more f (suc n) in
+    let right = ap (sum_below (λ i. f (suc i))) (sym (add-one n)) ∙ sum-more (λ i. f (suc i)) n in
+    omega (arith, before, left, right)
+
+-- 1 where the one at a place passes, summed up
+pub sum-counted : {X : Type 0} (p : X → Bool) (xs : List X) → sum_below (λ i. one_if (option_map_or p (slice_get xs i) false)) (length xs) ≡ count_by p xs
+sum-counted p [] = sum-none (λ i. one_if (option_map_or p (slice_get [] i) false))
+sum-counted p (x ∷ xs) = sum-front (λ i. one_if (option_map_or p (slice_get (x ∷ xs) i) false)) (length xs) ∙ ap (λ n. one_if (p x) + n) (sum-counted p xs) ∙ sym (one-more p x xs)
+
+pub sum-given : {A : Type 0} (p : Policy A) (kind : RuleKind) (key : SymbolKey) (t : ℕ) → sum_below (given p kind key t) (length p.resolved.now.rules.items) ≡ count_by (gives_by p kind key t) p.resolved.now.rules.items
+unfolding given
+sum-given p kind key t = sum-counted (gives_by p kind key t) p.resolved.now.rules.items
+
+module _ {A : Type 0} (names : List (List ℕ)) (apart : AreApart names) (p : Policy A) (is : IsPolicy names p) (kind : RuleKind) (key : SymbolKey) (t : ℕ) where
+  abbrev r : Resolved A
+  r = p.resolved.now
+
+  abbrev AreBelow : List (NumberedRule A) → Type 0
+  AreBelow rules = list_all (is_rule_below (length r.names.items)) rules ≡ true
+
+  abbrev AreDeclared : List (NumberedRule A) → Type 0
+  AreDeclared rules = list_all (is_rule_of (meaning_in r).types (meaning_in r).attributes (meaning_in r).classes) (map (rule_of r.modules.items r.names.items) rules) ≡ true
+
+  named-counts : is_named names key t ≡ true → (rules : List (NumberedRule A)) → AreBelow rules → AreDeclared rules
+      → count_by (gives_by p kind key t) rules ≡ count_by (λ rule. gives (meaning_in r) rule (atom_of names kind key t)) (map (rule_of r.modules.items r.names.items) rules)
+  named-counts named [] below declared = refl
+  named-counts named (rule ∷ rules) below declared =
+      one-more (gives_by p kind key t) rule rules
+      ∙ ap (λ b. one_if (is_kind rule.kind kind && b) + count_by (gives_by p kind key t) rules)
+      (covers-named r names p.numbering.now.symbols apart is.numbers (members_of p.members) is.members rule key t (and-first _ _ below) (and-first _ _ declared) named)
+      ∙ ap (λ n. one_if (gives (meaning_in r) (rule_of r.modules.items r.names.items rule) (atom_of names kind key t)) + n) (named-counts named rules (and-second _ _ below) (and-second _ _ declared))
+      ∙ sym (one-more (λ one. gives (meaning_in r) one (atom_of names kind key t)) (rule_of r.modules.items r.names.items rule) (map (rule_of r.modules.items r.names.items) rules))
+
+  unnamed-counts : is_named names key t ≡ false → (rules : List (NumberedRule A)) → AreBelow rules → count_by (gives_by p kind key t) rules ≡ 0
+  unnamed-counts unnamed [] below = refl
+  unnamed-counts unnamed (rule ∷ rules) below =
+      one-more (gives_by p kind key t) rule rules
+      ∙ ap (λ b. one_if (is_kind rule.kind kind && b) + count_by (gives_by p kind key t) rules)
+      (covers-none r names p.numbering.now.symbols apart is.numbers (members_of p.members) is.members rule key t (and-first _ _ below) unnamed)
+      ∙ ap (λ b. one_if b + count_by (gives_by p kind key t) rules) (and-false (is_kind rule.kind kind))
+      ∙ zero-add (count_by (gives_by p kind key t) rules) ∙ unnamed-counts unnamed rules (and-second _ _ below)
+
+  -- as many rules give an access by symbols as by names
+  pub given-named : AreBelow r.rules.items → is_consistent (meaning_in r) ≡ true → sum_below (given p kind key t) (length r.rules.items) ≡ count_named names (meaning_in r) kind key t
+  given-named below consistent =
+      sum-given p kind key t
+      ∙ elim (cases_Bool (is_named names key t)) [
+        | inl named ↦ named-counts named r.rules.items below consistent ∙ sym (ap (λ b. cond b (count_of (meaning_in r) (atom_of names kind key t)) 0) named)
+        | inr unnamed ↦ unnamed-counts unnamed r.rules.items below ∙ sym (ap (λ b. cond b (count_of (meaning_in r) (atom_of names kind key t)) 0) unnamed)
+      ]

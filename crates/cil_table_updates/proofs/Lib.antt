@@ -1,0 +1,4 @@
+pub mod GivenLemmas
+pub mod MoveLemmas
+pub mod SameLemmas
+pub mod UpdateLemmas

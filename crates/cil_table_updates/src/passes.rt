@@ -1,0 +1,126 @@
+//! Rules taken out, put in and replaced, one by one.
+
+ghost use Rattle.std.specs.Prelude.{◌≡◌, ◌+◌, ◌≤◌, ◌<◌, ℕ, length, OnOk};
+ghost use Rattle.cil_sums.specs.Sums.{across, alone, sum_below};
+ghost use Rattle.cil_symbol_tables.specs.Tables.{count_before, count_now};
+ghost use Rattle.cil_table_updates.specs.Given.{given};
+ghost use Rattle.cil_table_updates.specs.Moves.{AreReplaced, IsReady, IsReplaced};
+
+use crate::changed_rows::ChangedRows;
+use crate::moves::{put_rule, replace_rule, take_rule};
+use crate::policy::Policy;
+use cil_keyed_lines::SymbolKey;
+use cil_matching::RuleMatching;
+use cil_symbol_tables::SymbolTables;
+use cil_text::RuleKind;
+use std::alloc::{AllocError, Allocator};
+
+/// Takes the rule of a place out, unless the new policy has it too.
+fn take_if_gone<A: Allocator + Copy>(
+    tables: &mut SymbolTables<A>,
+    alloc: A,
+    old: &Policy<'_, A>,
+    matching: &RuleMatching<A>,
+    i: usize,
+) -> Result<(), AllocError>
+    requires ready { IsReady old.now }
+    requires within { i < length old.now.resolved.now.rules.items }
+    requires counted { (kind : RuleKind) (key : SymbolKey) (t : ℕ) → alone (given old.now kind key t) matching.now.ahead i ≤ count_now tables.old kind key t }
+    ensures now { OnOk result ((kind : RuleKind) (key : SymbolKey) (t : ℕ) → count_now tables.new kind key t + alone (given old.now kind key t) matching.now.ahead i ≡ count_now tables.old kind key t) }
+    ensures before { (kind : RuleKind) (key : SymbolKey) (t : ℕ) → count_before tables.new kind key t ≡ count_before tables.old kind key t }
+{
+    if matching.new_place(i).is_some() {
+        return Ok(());
+    }
+    take_rule(tables, alloc, old, &old.resolved.rules()[i])
+}
+
+/// Takes the rules out that the new policy doesn't have.
+pub fn take_gone<A: Allocator + Copy>(
+    tables: &mut SymbolTables<A>,
+    alloc: A,
+    old: &Policy<'_, A>,
+    matching: &RuleMatching<A>,
+) -> Result<(), AllocError>
+    requires ready { IsReady old.now }
+    requires counted { (kind : RuleKind) (key : SymbolKey) (t : ℕ) → sum_below (alone (given old.now kind key t) matching.now.ahead) (length old.now.resolved.now.rules.items) ≤ count_now tables.old kind key t }
+    ensures now { OnOk result ((kind : RuleKind) (key : SymbolKey) (t : ℕ) → count_now tables.new kind key t + sum_below (alone (given old.now kind key t) matching.now.ahead) (length old.now.resolved.now.rules.items)
+        ≡ count_now tables.old kind key t) }
+    ensures before { (kind : RuleKind) (key : SymbolKey) (t : ℕ) → count_before tables.new kind key t ≡ count_before tables.old kind key t }
+{
+    for i in 0..old.resolved.rules().len() {
+        take_if_gone(tables, alloc, old, matching, i)?;
+    }
+    Ok(())
+}
+
+/// Puts the rule of a place of the new policy in place of the same one of the old policy, unless it covers what that did.
+fn replace_changed<A: Allocator + Copy>(
+    tables: &mut SymbolTables<A>,
+    alloc: A,
+    old: &Policy<'_, A>,
+    i: usize,
+    new: &Policy<'_, A>,
+    j: usize,
+    changed: &ChangedRows<'_, A>,
+) -> Result<(), AllocError>
+    requires old_ready { IsReady old.now }
+    requires new_ready { IsReady new.now }
+    requires replaced { IsReplaced changed.now old.now i new.now j }
+    requires counted { (kind : RuleKind) (key : SymbolKey) (t : ℕ) → given old.now kind key t i ≤ count_now tables.old kind key t }
+    ensures now { OnOk result ((kind : RuleKind) (key : SymbolKey) (t : ℕ) → count_now tables.new kind key t + given old.now kind key t i ≡ count_now tables.old kind key t + given new.now kind key t j) }
+    ensures before { (kind : RuleKind) (key : SymbolKey) (t : ℕ) → count_before tables.new kind key t ≡ count_before tables.old kind key t }
+{
+    let rule = &new.resolved.rules()[j];
+    if changed.rule_stays(new.numbering, rule) {
+        return Ok(());
+    }
+    replace_rule(tables, alloc, old, &old.resolved.rules()[i], new, rule)
+}
+
+/// Puts the rule of a place of the new policy in, or in place of the same one of the old policy.
+fn put_or_replace<A: Allocator + Copy>(
+    tables: &mut SymbolTables<A>,
+    alloc: A,
+    old: &Policy<'_, A>,
+    new: &Policy<'_, A>,
+    matching: &RuleMatching<A>,
+    changed: &ChangedRows<'_, A>,
+    j: usize,
+) -> Result<(), AllocError>
+    requires old_ready { IsReady old.now }
+    requires new_ready { IsReady new.now }
+    requires within { j < length new.now.resolved.now.rules.items }
+    requires matched { AreReplaced changed.now old.now new.now matching.now }
+    requires counted { (kind : RuleKind) (key : SymbolKey) (t : ℕ) → across (given old.now kind key t) matching.now.back j ≤ count_now tables.old kind key t }
+    ensures now { OnOk result ((kind : RuleKind) (key : SymbolKey) (t : ℕ) → count_now tables.new kind key t + across (given old.now kind key t) matching.now.back j ≡ count_now tables.old kind key t + given new.now kind key t j) }
+    ensures before { (kind : RuleKind) (key : SymbolKey) (t : ℕ) → count_before tables.new kind key t ≡ count_before tables.old kind key t }
+{
+    match matching.old_place(j) {
+        Some(i) => replace_changed(tables, alloc, old, i, new, j, changed),
+        None => put_rule(tables, alloc, new, &new.resolved.rules()[j]),
+    }
+}
+
+/// Puts the rules of the new policy in, those that the old one has too in place of what they gave there.
+pub fn put_new<A: Allocator + Copy>(
+    tables: &mut SymbolTables<A>,
+    alloc: A,
+    old: &Policy<'_, A>,
+    new: &Policy<'_, A>,
+    matching: &RuleMatching<A>,
+    changed: &ChangedRows<'_, A>,
+) -> Result<(), AllocError>
+    requires old_ready { IsReady old.now }
+    requires new_ready { IsReady new.now }
+    requires matched { AreReplaced changed.now old.now new.now matching.now }
+    requires counted { (kind : RuleKind) (key : SymbolKey) (t : ℕ) → sum_below (across (given old.now kind key t) matching.now.back) (length new.now.resolved.now.rules.items) ≤ count_now tables.old kind key t }
+    ensures now { OnOk result ((kind : RuleKind) (key : SymbolKey) (t : ℕ) → count_now tables.new kind key t + sum_below (across (given old.now kind key t) matching.now.back) (length new.now.resolved.now.rules.items)
+        ≡ count_now tables.old kind key t + sum_below (given new.now kind key t) (length new.now.resolved.now.rules.items)) }
+    ensures before { (kind : RuleKind) (key : SymbolKey) (t : ℕ) → count_before tables.new kind key t ≡ count_before tables.old kind key t }
+{
+    for j in 0..new.resolved.rules().len() {
+        put_or_replace(tables, alloc, old, new, matching, changed, j)?;
+    }
+    Ok(())
+}
