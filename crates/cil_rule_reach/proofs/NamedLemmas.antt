@@ -49,12 +49,31 @@ turned xs ys =
     (λ e. (bytes_eq-Decides ys xs).1 (sym ((bytes_eq-Decides xs ys).0 e)))
     (λ e. (bytes_eq-Decides xs ys).1 (sym ((bytes_eq-Decides ys xs).0 e)))
 
+module _ {A : Type 0} (r : Resolved A) where
+  -- the parts of a rule's bound
+  pub record IsBelow (rule : NumberedRule A) : Type 0 where
+    pub source : is_element_below (length r.names.items) rule.source ≡ true
+    pub target : is_target_below (length r.names.items) rule.target ≡ true
+    pub class : rule.class < length r.names.items
+    pub permissions : list_all (λ p. nat_lt p (length r.names.items)) rule.permissions.items ≡ true
+
+  pub is-below : (rule : NumberedRule A) → is_rule_below (length r.names.items) rule ≡ true → IsBelow rule
+  is-below rule below =
+      let rest = and-second (is_element_below (length r.names.items) rule.source) (is_target_below (length r.names.items) rule.target && (nat_lt rule.class (length r.names.items) && list_all (λ p. nat_lt p (length r.names.items)) rule.permissions.items)) below in
+      let last = and-second (is_target_below (length r.names.items) rule.target) (nat_lt rule.class (length r.names.items) && list_all (λ p. nat_lt p (length r.names.items)) rule.permissions.items) rest in
+      record {
+        source = and-first (is_element_below (length r.names.items) rule.source) (is_target_below (length r.names.items) rule.target && (nat_lt rule.class (length r.names.items) && list_all (λ p. nat_lt p (length r.names.items)) rule.permissions.items)) below;
+        target = and-first (is_target_below (length r.names.items) rule.target) (nat_lt rule.class (length r.names.items) && list_all (λ p. nat_lt p (length r.names.items)) rule.permissions.items) rest;
+        class = ltb-true rule.class (length r.names.items) (and-first (nat_lt rule.class (length r.names.items)) (list_all (λ p. nat_lt p (length r.names.items)) rule.permissions.items) last);
+        permissions = and-second (nat_lt rule.class (length r.names.items)) (list_all (λ p. nat_lt p (length r.names.items)) rule.permissions.items) last;
+      }
+
 module _ {A : Type 0} (r : Resolved A) (all : List (List ℕ)) (symbols : List ℕ) (apart : (i j : ℕ) (name : List ℕ) → slice_get all i ≡ Some name → slice_get all j ≡ Some name → i ≡ j) (numbers : AreNumbersOf all symbols r.names.items) where
   abbrev count : ℕ
   count = length r.names.items
 
   pub as-many : length symbols ≡ count
-  as-many = sym (length-map (slice_get all) symbols) ∙ ap (λ l. length l) numbers ∙ length-map Some r.names.items
+  as-many = sym (length-map symbols (slice_get all)) ∙ ap (λ l. length l) numbers ∙ length-map r.names.items Some
 
   -- the symbol of a name is that of the name
   pub symbol-named : (n : ℕ) → n < count → slice_get all (slice_index symbols n) ≡ Some (name_in r n)
@@ -140,24 +159,6 @@ module _ {A : Type 0} (r : Resolved A) (all : List (List ℕ)) (symbols : List �
         let low = ltb-true q count (and-first (nat_lt q count) (list_all (λ k. nat_lt k count) ps) below) in
         ap (λ b. b || list_any (λ k. p == slice_index symbols k) ps) (eqb-turned p (slice_index symbols q) ∙ no-symbol q p low past) ∙ listed-none p ps past (and-second (nat_lt q count) (list_all (λ k. nat_lt k count) ps) below)
 
-    -- the parts of a rule's bound
-    record IsBelow (rule : NumberedRule A) : Type 0 where
-      source : is_element_below count rule.source ≡ true
-      target : is_target_below count rule.target ≡ true
-      class : rule.class < count
-      permissions : list_all (λ p. nat_lt p count) rule.permissions.items ≡ true
-
-    is-below : (rule : NumberedRule A) → is_rule_below count rule ≡ true → IsBelow rule
-    is-below rule below =
-        let rest = and-second (is_element_below count rule.source) (is_target_below count rule.target && (nat_lt rule.class count && list_all (λ p. nat_lt p count) rule.permissions.items)) below in
-        let last = and-second (is_target_below count rule.target) (nat_lt rule.class count && list_all (λ p. nat_lt p count) rule.permissions.items) rest in
-        record {
-          source = and-first (is_element_below count rule.source) (is_target_below count rule.target && (nat_lt rule.class count && list_all (λ p. nat_lt p count) rule.permissions.items)) below;
-          target = and-first (is_target_below count rule.target) (nat_lt rule.class count && list_all (λ p. nat_lt p count) rule.permissions.items) rest;
-          class = ltb-true rule.class count (and-first (nat_lt rule.class count) (list_all (λ p. nat_lt p count) rule.permissions.items) last);
-          permissions = and-second (nat_lt rule.class count) (list_all (λ p. nat_lt p count) rule.permissions.items) last;
-        }
-
     -- what a rule covers by symbols, it covers by names
     pub covers-named : (rule : NumberedRule A) (key : SymbolKey) (t : ℕ) → is_rule_below count rule ≡ true
         → is_rule_of (meaning_in r).types (meaning_in r).attributes (meaning_in r).classes (rule_of r.modules.items r.names.items rule) ≡ true
@@ -178,8 +179,8 @@ module _ {A : Type 0} (r : Resolved A) (all : List (List ℕ)) (symbols : List �
         whole : spec.Rule
         whole = rule_of r.modules.items r.names.items rule
 
-        bound : IsBelow rule
-        bound = is-below rule below
+        bound : IsBelow r rule
+        bound = is-below r rule below
 
         source_declared : is_element_of (meaning_in r).types (meaning_in r).attributes whole.source ≡ true
         source_declared = and-first (is_element_of (meaning_in r).types (meaning_in r).attributes whole.source) _ declared
@@ -230,8 +231,8 @@ module _ {A : Type 0} (r : Resolved A) (all : List (List ℕ)) (symbols : List �
           ]
         ]
       where
-        bound : IsBelow rule
-        bound = is-below rule below
+        bound : IsBelow r rule
+        bound = is-below r rule below
 
         aims-none : (target : ResolvedTarget) (s u : ℕ) → is_target_below count target ≡ true → s < length all → length all ≤ u → aims_by members symbols target s u ≡ false
         aims-none targets.Itself s u low within past = ne_eqb s u (λ e. omega (arith, within, past, e))

@@ -22,10 +22,12 @@ fn types_of<A: Allocator + Copy>(
     element: Element,
 ) -> Result<Line<A>, AllocError>
     requires below { IsTrue (is_element_below (length numbering.now.symbols) element) }
+    requires symbols { numbering.now.count ≤ members.now.symbols }
     requires known { (a t : ℕ) → members.now.symbols ≤ t → members_of members.now a t ≡ 0 }
     ensures types { IfOk result (λ line. (t : ℕ) → is_present line t ≡ has_by (members_of members.now) numbering.now.symbols element t) }
     ensures short { IfOk result (λ line. (t : ℕ) → 2 ^ 64 - 1 ≤ t → is_present line t ≡ false) }
 {
+    members.symbols_len();
     match element {
         Element::Type(ty) => type_line(alloc, symbol_of(numbering, ty)),
         Element::Attribute(attribute) => members_line(alloc, members, symbol_of(numbering, attribute)),
@@ -40,6 +42,7 @@ fn targets_of<A: Allocator + Copy>(
     target: ResolvedTarget,
 ) -> Result<Targets<A>, AllocError>
     requires below { IsTrue (is_target_below (length numbering.now.symbols) target) }
+    requires symbols { numbering.now.count ≤ members.now.symbols }
     requires known { (a t : ℕ) → members.now.symbols ≤ t → members_of members.now a t ≡ 0 }
     ensures targets { IfOk result (λ targets. (s t : ℕ) → takes targets s t ≡ aims_by (members_of members.now) numbering.now.symbols target s t) }
     ensures short { IfOk result AreShort }
@@ -61,6 +64,7 @@ pub fn rule_reach<A: Allocator + Copy>(
     rule: &NumberedRule<A>,
 ) -> Result<Reach<A>, AllocError>
     requires below { IsTrue (is_rule_below (length numbering.now.symbols) rule.now) }
+    requires symbols { numbering.now.count ≤ members.now.symbols }
     requires known { (a t : ℕ) → members.now.symbols ≤ t → members_of members.now a t ≡ 0 }
     ensures short { IfOk result IsShort }
     ensures sources { IfOk result (λ reach. (s : ℕ) → has_source reach s ≡ has_by (members_of members.now) numbering.now.symbols rule.now.source s) }

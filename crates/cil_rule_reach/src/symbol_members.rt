@@ -1,5 +1,6 @@
 //! The members of one of two policies, by symbols.
 
+ghost use Rattle.std.specs.Prelude.{◌≡◌, ◌<◌, ◌^◌};
 ghost use Rattle.cil_lines.specs.Line.{IsPresence};
 ghost use Rattle.cil_rule_reach.specs.Reaches.{members_of};
 
@@ -22,6 +23,14 @@ pub struct SymbolMembers<'r, A: Allocator = Global> {
 }
 
 impl<A: Allocator> SymbolMembers<'_, A> {
+    /// How many symbols there are.
+    pub fn symbols_len(&self) -> usize
+        ensures is { result ≡ self.now.symbols }
+        ensures short { self.now.symbols < 2 ^ 64 }
+    {
+        self.symbols
+    }
+
     /// The members among the types of a word of a row.
     pub fn word(&self, row: usize, word: usize) -> u64
         ensures { IsPresence (members_of self.now row) word result }

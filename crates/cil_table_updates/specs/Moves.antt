@@ -20,9 +20,10 @@ lists symbols rule p = list_any (λ q. p == slice_index symbols q) rule.permissi
 abbrev pub gives_as : {A B : Type 0} → List ℕ → NumberedRule A → Reach B → SymbolKey → ℕ → Bool
 gives_as symbols rule reach key t = reaches reach key.source t && ((slice_index symbols rule.class == key.class) && lists symbols rule key.permission)
 
--- No symbol behind those of all names is that of a member.
-abbrev pub IsKnown : {A : Type 0} → Policy A → Type 0
-IsKnown p = (a t : ℕ) → p.members.symbols ≤ t → members_of p.members a t ≡ 0
+-- No symbol behind those of all names is that of a name of the policy, or that of a member.
+pub record IsKnown {A : Type 0} (p : Policy A) : Type 0 where
+  pub symbols : p.numbering.now.count ≤ p.members.symbols
+  pub none : (a t : ℕ) → p.members.symbols ≤ t → members_of p.members a t ≡ 0
 
 -- and the names of the rules have symbols
 pub record IsReady {A : Type 0} (p : Policy A) : Type 0 where

@@ -1,6 +1,6 @@
 //! Tables brought from an old policy to a new one.
 
-ghost use Rattle.std.specs.Prelude.{◌≡◌, ℕ, OnOk};
+ghost use Rattle.std.specs.Prelude.{◌≡◌, ◌≤◌, ℕ, length, OnOk};
 ghost use Rattle.cil_member_rows.specs.Rows as members;
 ghost use Rattle.cil_parse.specs.Lexicon.{AreNumbersOf};
 ghost use Rattle.cil_resolve.specs.Resolved.{meaning_in};
@@ -14,8 +14,7 @@ use crate::policy::{Named, Policy};
 use cil_keyed_lines::SymbolKey;
 use cil_matching::RuleMatching;
 use cil_member_rows::MemberRows;
-use cil_resolve::resolved_is_consistent;
-use cil_rule_reach::{SymbolMembers, When};
+use cil_rule_reach::When;
 use cil_symbol_tables::SymbolTables;
 use cil_symbols::Symbols;
 use cil_text::RuleKind;
@@ -34,19 +33,18 @@ pub fn update<A: Allocator + Copy>(
 ) -> Result<(), AllocError>
     requires old_numbers { AreNumbersOf names.now old.numbering.now.symbols old.resolved.now.names.items }
     requires new_numbers { AreNumbersOf names.now new.numbering.now.symbols new.resolved.now.names.items }
+    requires old_symbols { old.numbering.now.count ≤ length names.now }
+    requires new_symbols { new.numbering.now.count ≤ length names.now }
     requires old_members { AreMembersOf names.now (meaning_in old.resolved.now) (members.count_before rows.now) }
     requires new_members { AreMembersOf names.now (meaning_in new.resolved.now) (members.count_now rows.now) }
     requires stands { (kind : RuleKind) (key : SymbolKey) (t : ℕ) → count_now tables.old kind key t ≡ count_named names.now (meaning_in old.resolved.now) kind key t }
     ensures now { OnOk result ((kind : RuleKind) (key : SymbolKey) (t : ℕ) → count_now tables.new kind key t ≡ count_named names.now (meaning_in new.resolved.now) kind key t) }
     ensures before { (kind : RuleKind) (key : SymbolKey) (t : ℕ) → count_before tables.new kind key t ≡ count_before tables.old kind key t }
 {
-    resolved_is_consistent(old.resolved);
-    resolved_is_consistent(new.resolved);
-    let symbols = names.len();
-    let old = Policy::of(old, rows, When::Before, symbols);
-    let new = Policy::of(new, rows, When::Now, symbols);
+    let old = Policy::of(old, names, rows, When::Before);
+    let new = Policy::of(new, names, rows, When::Now);
     let matching = RuleMatching::of(alloc, old.resolved, new.resolved)?;
-    let changed = ChangedRows::of(alloc, rows, symbols)?;
+    let changed = ChangedRows::of(alloc, rows, names.len())?;
     take_gone(tables, alloc, &old, &matching)?;
     put_new(tables, alloc, &old, &new, &matching, &changed)
 }

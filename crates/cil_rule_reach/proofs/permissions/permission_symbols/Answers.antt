@@ -12,4 +12,4 @@ returns-clause-rising g c = subst IsStrictlyIncreasing (sym (dedup_is _ _ _ c.de
 pub returns-clause-same : goal.returns-clause-same
 returns-clause-same g c p =
     ap (λ l. has_permission l p) (dedup_is _ _ _ c.dedup.ensures.filtered)
-    ∙ listed-once (slice_index c.args.numbering.now.symbols) c.args.permissions.now _ _ c.in_ok-symbols_of.ensures c.sort_unstable.ensures.permutation p
+    ∙ listed-once (slice_index c.args.numbering.now.symbols) c.args.permissions.now _ _ c.in_ok-list.ensures c.sort_unstable.ensures.permutation p

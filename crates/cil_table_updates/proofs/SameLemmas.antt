@@ -1,0 +1,113 @@
+-- The same rule of two policies, by symbols.
+use Rattle.std.proofs.Common.{◌≡◌, ℕ, ◌+◌, ◌<◌, ◌==◌, ◌&&◌, ◌||◌, Bool, true, false, List, [], ◌∷◌, length, map, nat_lt, nat_eq, slice_get, slice_index, slice_index_or, Some, refl, sym, ap, ◌∙◌, subst}
+use Rattle.std.specs.List.{list_all, list_any}
+use Rattle.std.proofs.lemmas.Bool.{ltb-true}
+use Rattle.cil_specs.specs.Rule as spec
+use Rattle.cil_specs.specs.Rule.{content_of}
+use Rattle.cil_parse.specs.Lexicon.{AreNumbersOf}
+use Rattle.cil_text.specs.Image.{rule_kind_of}
+use Rattle.cil_text.specs.declared.statement.RuleKind.{RuleKind}
+use Rattle.cil_text.specs.declared.statement.RuleKind.TheVariants.{Allow, AuditAllow, DontAudit, NeverAllow}
+use Rattle.cil_expression.specs.declared.expression.Element.{Element}
+use Rattle.cil_expression.specs.declared.expression.Element.TheVariants.{«Type», Attribute}
+use Rattle.cil_keyed_lines.specs.declared.symbol_key.SymbolKey.{SymbolKey}
+use Rattle.cil_resolve.specs.Below.{is_element_below, is_rule_below, is_target_below}
+use Rattle.cil_resolve.specs.Numbers.{element_of, resolved_target_of, rule_of}
+use Rattle.cil_resolve.specs.Sets.{name_in}
+use Rattle.cil_resolve.specs.declared.numbered.NumberedRule.{NumberedRule}
+use Rattle.cil_resolve.specs.declared.numbered.ResolvedTarget.{ResolvedTarget}
+use Rattle.cil_resolve.specs.declared.numbered.ResolvedTarget.TheVariants as targets
+use Rattle.cil_resolve.specs.declared.resolved.Resolved.{Resolved}
+use Rattle.cil_rule_reach.specs.Reaches.{aims_by, covers_by, has_by}
+use Rattle.cil_rule_reach.proofs.NamedLemmas.{is-below, symbol-named}
+use Rattle.cil_table_updates.specs.Moves.{lists, HaveSameHead}
+use Rattle.cil_table_updates.specs.Policies.{AreApart}
+
+module _ {A B : Type 0} (old : Resolved A) (new : Resolved B) (names : List (List ℕ)) (apart : AreApart names) (old_symbols new_symbols : List ℕ)
+  (old_numbers : AreNumbersOf names old_symbols old.names.items) (new_numbers : AreNumbersOf names new_symbols new.names.items) where
+
+  -- one name has one symbol
+  same-symbol : (m n : ℕ) → m < length old.names.items → n < length new.names.items → name_in old m ≡ name_in new n → slice_index old_symbols m ≡ slice_index new_symbols n
+  same-symbol m n low below same =
+      apart (slice_index old_symbols m) (slice_index new_symbols n) (name_in new n) (symbol-named old names old_symbols apart old_numbers m low ∙ ap Some same)
+      (symbol-named new names new_symbols apart new_numbers n below)
+
+  same-element : (members : ℕ → ℕ → ℕ) (e f : Element) (t : ℕ) → is_element_below (length old.names.items) e ≡ true → is_element_below (length new.names.items) f ≡ true
+      → element_of old.names.items e ≡ element_of new.names.items f → has_by members old_symbols e t ≡ has_by members new_symbols f t
+  same-element members («Type» m) («Type» n) t low below same =
+      ap (λ s. s == t) (same-symbol m n (ltb-true m (length old.names.items) low) (ltb-true n (length new.names.items) below) (cc same))
+  same-element members («Type» m) (Attribute n) t low below same = absurd (cc same)
+  same-element members (Attribute m) («Type» n) t low below same = absurd (cc same)
+  same-element members (Attribute m) (Attribute n) t low below same =
+      ap (λ s. nat_lt 0 (members s t)) (same-symbol m n (ltb-true m (length old.names.items) low) (ltb-true n (length new.names.items) below) (cc same))
+
+  same-target : (members : ℕ → ℕ → ℕ) (e f : ResolvedTarget) (s t : ℕ) → is_target_below (length old.names.items) e ≡ true → is_target_below (length new.names.items) f ≡ true
+      → resolved_target_of old.names.items e ≡ resolved_target_of new.names.items f → aims_by members old_symbols e s t ≡ aims_by members new_symbols f s t
+  same-target members targets.Itself targets.Itself s t low below same = refl
+  same-target members targets.Itself (targets.Element f) s t low below same = absurd (cc same)
+  same-target members (targets.Element e) targets.Itself s t low below same = absurd (cc same)
+  same-target members (targets.Element e) (targets.Element f) s t low below same = same-element members e f t low below (cc same)
+
+  same-permissions : (p : ℕ) (ps qs : List ℕ) → list_all (λ q. nat_lt q (length old.names.items)) ps ≡ true → list_all (λ q. nat_lt q (length new.names.items)) qs ≡ true
+      → map (λ q. slice_index_or old.names.items q []) ps ≡ map (λ q. slice_index_or new.names.items q []) qs
+      → list_any (λ q. p == slice_index old_symbols q) ps ≡ list_any (λ q. p == slice_index new_symbols q) qs
+  same-permissions p [] [] low below same = refl
+  same-permissions p [] (q ∷ qs) low below same = absurd (cc same)
+  same-permissions p (m ∷ ps) [] low below same = absurd (cc same)
+  same-permissions p (m ∷ ps) (n ∷ qs) low below same =
+      ap (λ s. (p == s) || list_any (λ q. p == slice_index old_symbols q) ps)
+      (same-symbol m n (ltb-true m (length old.names.items) (and-first (nat_lt m (length old.names.items)) _ low)) (ltb-true n (length new.names.items) (and-first (nat_lt n (length new.names.items)) _ below)) (cc same))
+      ∙ ap (λ b. (p == slice_index new_symbols n) || b) (same-permissions p ps qs (and-second (nat_lt m (length old.names.items)) _ low) (and-second (nat_lt n (length new.names.items)) _ below) (cc same))
+    where
+      and-first : (a b : Bool) → (a && b) ≡ true → a ≡ true
+      and-first true b e = refl
+      and-first false b e = e
+
+      and-second : (a b : Bool) → (a && b) ≡ true → b ≡ true
+      and-second true b e = e
+      and-second false true e = refl
+      and-second false false e = e
+
+  same-kind : (k l : RuleKind) → rule_kind_of k ≡ rule_kind_of l → k ≡ l
+  same-kind Allow Allow e = refl
+  same-kind Allow AuditAllow e = absurd (cc e)
+  same-kind Allow DontAudit e = absurd (cc e)
+  same-kind Allow NeverAllow e = absurd (cc e)
+  same-kind AuditAllow Allow e = absurd (cc e)
+  same-kind AuditAllow AuditAllow e = refl
+  same-kind AuditAllow DontAudit e = absurd (cc e)
+  same-kind AuditAllow NeverAllow e = absurd (cc e)
+  same-kind DontAudit Allow e = absurd (cc e)
+  same-kind DontAudit AuditAllow e = absurd (cc e)
+  same-kind DontAudit DontAudit e = refl
+  same-kind DontAudit NeverAllow e = absurd (cc e)
+  same-kind NeverAllow Allow e = absurd (cc e)
+  same-kind NeverAllow AuditAllow e = absurd (cc e)
+  same-kind NeverAllow DontAudit e = absurd (cc e)
+  same-kind NeverAllow NeverAllow e = refl
+
+  module _ (rule : NumberedRule A) (other : NumberedRule B) (low : is_rule_below (length old.names.items) rule ≡ true) (below : is_rule_below (length new.names.items) other ≡ true)
+    (same : content_of (rule_of old.modules.items old.names.items rule) ≡ content_of (rule_of new.modules.items new.names.items other)) where
+
+    pub same-head : HaveSameHead old_symbols rule new_symbols other
+    same-head =
+        let first = is-below old rule low in
+        let second = is-below new other below in
+        record {
+          kind = same-kind rule.kind other.kind (ap (λ c. c.kind) same);
+          class = same-symbol rule.class other.class first.class second.class (ap (λ c. c.the_class) same);
+          permissions = λ p. same-permissions p rule.permissions.items other.permissions.items first.permissions second.permissions (ap (λ c. c.permissions) same);
+        }
+
+    -- the same members make it cover the same
+    pub same-covers : (members : ℕ → ℕ → ℕ) (key : SymbolKey) (t : ℕ) → covers_by members old_symbols rule key t ≡ covers_by members new_symbols other key t
+    unfolding covers_by
+    same-covers members key t =
+        let first = is-below old rule low in
+        let second = is-below new other below in
+        ap (λ b. (b && aims_by members old_symbols rule.target key.source t) && ((slice_index old_symbols rule.class == key.class) && lists old_symbols rule key.permission))
+        (same-element members rule.source other.source key.source first.source second.source (ap (λ c. c.source) same))
+        ∙ ap (λ b. (has_by members new_symbols other.source key.source && b) && ((slice_index old_symbols rule.class == key.class) && lists old_symbols rule key.permission))
+        (same-target members rule.target other.target key.source t first.target second.target (ap (λ c. c.target) same))
+        ∙ ap (λ c. (has_by members new_symbols other.source key.source && aims_by members new_symbols other.target key.source t) && ((c == key.class) && lists old_symbols rule key.permission)) same-head.class
+        ∙ ap (λ b. (has_by members new_symbols other.source key.source && aims_by members new_symbols other.target key.source t) && ((slice_index new_symbols other.class == key.class) && b)) (same-head.permissions key.permission)
