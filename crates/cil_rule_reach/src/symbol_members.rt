@@ -16,6 +16,7 @@ pub enum When {
 
 /// The members of a policy's attributes by symbols, in rows that may hold those of another policy too. No symbol from `symbols` on
 /// is a member.
+#[derive(Drop)]
 pub struct SymbolMembers<'r, A: Allocator = Global> {
     pub rows: &'r MemberRows<A>,
     pub when: When,

@@ -6,8 +6,8 @@ use Rattle.std.proofs.Math.Bool.{and-false}
 use Rattle.std.proofs.lemmas.Bool.{cases_Bool}
 use Rattle.std.proofs.lemmas.List.Sums.{sum_by-cons}
 use Rattle.std.proofs.lemmas.Option.{slice_get_cases, slice_get_within}
-use Rattle.cil_sums.specs.Sums.{sum_below}
-use Rattle.cil_sums.proofs.SumLemmas.{sum-more, sum-none}
+use Rattle.cil_sums.specs.Sums.{alone, sum_below}
+use Rattle.cil_sums.proofs.SumLemmas.{alone-none, sum-more, sum-none}
 use Rattle.cil_specs.specs.Meaning.{count_of, covers, gives}
 use Rattle.cil_specs.specs.Rule as spec
 use Rattle.cil_text.specs.declared.statement.RuleKind.{RuleKind}
@@ -27,11 +27,11 @@ use Rattle.cil_table_updates.specs.Given.{given, gives_by}
 use Rattle.cil_table_updates.specs.Policies.{count_named, AreApart, IsPolicy}
 use Rattle.cil_table_updates.specs.declared.policy.Policy.{Policy}
 
-and-first : (a b : Bool) → (a && b) ≡ true → a ≡ true
+pub and-first : (a b : Bool) → (a && b) ≡ true → a ≡ true
 and-first true b e = refl
 and-first false b e = e
 
-and-second : (a b : Bool) → (a && b) ≡ true → b ≡ true
+pub and-second : (a b : Bool) → (a && b) ≡ true → b ≡ true
 and-second true b e = e
 and-second false true e = refl
 and-second false false e = e
@@ -98,3 +98,13 @@ module _ {A : Type 0} (names : List (List ℕ)) (apart : AreApart names) (p : Po
         | inl named ↦ named-counts named r.rules.items below consistent ∙ sym (ap (λ b. cond b (count_of (meaning_in r) (atom_of names kind key t)) 0) named)
         | inr unnamed ↦ unnamed-counts unnamed r.rules.items below ∙ sym (ap (λ b. cond b (count_of (meaning_in r) (atom_of names kind key t)) 0) unnamed)
       ]
+
+-- what the rule at a place gives
+pub given-rule : {A : Type 0} (p : Policy A) (kind : RuleKind) (key : SymbolKey) (t i : ℕ) (rule : NumberedRule A) → slice_get p.resolved.now.rules.items i ≡ Some rule → given p kind key t i ≡ one_if (gives_by p kind key t rule)
+unfolding given
+given-rule p kind key t i rule is = ap (λ r. one_if (option_map_or (gives_by p kind key t) r false)) is
+
+-- and what it gives where it has no place in the other policy
+pub gone-rule : {A : Type 0} (p : Policy A) (kind : RuleKind) (key : SymbolKey) (t : ℕ) (places : List (Option ℕ)) (i : ℕ) (rule : NumberedRule A) → slice_get p.resolved.now.rules.items i ≡ Some rule
+    → ((j : ℕ) → slice_get places i ≡ Some (Some j) → ⊥) → alone (given p kind key t) places i ≡ one_if (gives_by p kind key t rule)
+gone-rule p kind key t places i rule at none = alone-none (given p kind key t) places i none ∙ given-rule p kind key t i rule at

@@ -1,4 +1,6 @@
+pub mod PlaceLemmas
 pub mod GivenLemmas
+pub mod ChangedLemmas
 pub mod MoveLemmas
 pub mod SameLemmas
 pub mod UpdateLemmas

@@ -22,6 +22,7 @@ use Rattle.cil_rule_reach.specs.Reaches.{covers_by, members_of}
 use Rattle.cil_table_updates.specs.Moves.{AreReplaced, IsReplaced}
 use Rattle.cil_table_updates.specs.Policies.{AreApart, IsPolicy}
 use Rattle.cil_table_updates.specs.declared.policy.Policy.{Policy}
+use Rattle.cil_table_updates.proofs.PlaceLemmas.{passes-at}
 use Rattle.cil_table_updates.proofs.SameLemmas.{same-covers, same-head}
 
 -- statements that are put together have places
@@ -30,9 +31,6 @@ places-matched IsSame old new m matched = record {
   to = λ i j is. let at = (matched.ahead i j).0 is in (slice_get_within new j at.other at.there, (matched.back i j).1 at);
   from = λ i j is. let at = (matched.back i j).0 is in (slice_get_within old i at.statement at.here, (matched.ahead i j).1 at);
 }
-
-passes-at : {X : Type 0} (p : X → Bool) (xs : List X) (i : ℕ) (x : X) → list_all p xs ≡ true → slice_get xs i ≡ Some x → p x ≡ true
-passes-at p xs i x all is = subst (λ y. p y ≡ true) (get_or_from_slice_get xs i x x is) (list_all_at p xs i x all (slice_get_within xs i x is))
 
 module _ {A : Type 0} (names : List (List ℕ)) (apart : AreApart names) (rows : State) (old new : Policy A) (old_is : IsPolicy names old) (new_is : IsPolicy names new)
   (before : members_of old.members ≡ count_before rows) (now : members_of new.members ≡ count_now rows)
@@ -43,8 +41,8 @@ module _ {A : Type 0} (names : List (List ℕ)) (apart : AreApart names) (rows :
   rules-replaced m matched i j is = record {
     old_rule = one.0;
     new_rule = other.0;
-    here = one.1.0;
-    there = other.1.0;
+    here = one.1;
+    there = other.1;
     head = same-head r s names apart old.numbering.now.symbols new.numbering.now.symbols old_is.numbers new_is.numbers one.0 other.0 one_low other_below same;
     covers = λ key t.
       same-covers r s names apart old.numbering.now.symbols new.numbering.now.symbols old_is.numbers new_is.numbers one.0 other.0 one_low other_below same (members_of old.members) key t
@@ -68,23 +66,23 @@ module _ {A : Type 0} (names : List (List ℕ)) (apart : AreApart names) (rows :
       other = from-mapped (rule_of s.modules.items s.names.items) s.rules.items j at.other at.there
 
       one_low : is_rule_below (length r.names.items) one.0 ≡ true
-      one_low = passes-at (is_rule_below (length r.names.items)) r.rules.items i one.0 low one.1.0
+      one_low = passes-at (is_rule_below (length r.names.items)) r.rules.items i one.0 low one.1
 
       other_below : is_rule_below (length s.names.items) other.0 ≡ true
-      other_below = passes-at (is_rule_below (length s.names.items)) s.rules.items j other.0 below other.1.0
+      other_below = passes-at (is_rule_below (length s.names.items)) s.rules.items j other.0 below other.1
 
       same : spec.content_of (rule_of r.modules.items r.names.items one.0) ≡ spec.content_of (rule_of s.modules.items s.names.items other.0)
-      same = ap spec.content_of one.1.1 ∙ at.same.1.1 ∙ sym (ap spec.content_of other.1.1)
+      same = ap spec.content_of one.2 ∙ at.same.2 ∙ sym (ap spec.content_of other.2)
 
   sides : (F : ℕ → ℕ) (m : Matched) → AreMatched IsSameRule (meaning_in old.resolved.now).rules (meaning_in new.resolved.now).rules m
       → sum_below F (length old.resolved.now.rules.items) ≡ sum_below (alone F m.ahead) (length old.resolved.now.rules.items) + sum_below (across F m.back) (length new.resolved.now.rules.items)
   sides F m matched = sum-sides F (length old.resolved.now.rules.items) m.ahead m.back (length new.resolved.now.rules.items) places
     where
       long : length (meaning_in old.resolved.now).rules ≡ length old.resolved.now.rules.items
-      long = length-map (rule_of old.resolved.now.modules.items old.resolved.now.names.items) old.resolved.now.rules.items
+      long = length-map old.resolved.now.rules.items (rule_of old.resolved.now.modules.items old.resolved.now.names.items)
 
       wide : length (meaning_in new.resolved.now).rules ≡ length new.resolved.now.rules.items
-      wide = length-map (rule_of new.resolved.now.modules.items new.resolved.now.names.items) new.resolved.now.rules.items
+      wide = length-map new.resolved.now.rules.items (rule_of new.resolved.now.modules.items new.resolved.now.names.items)
 
       places : ArePlaces (length old.resolved.now.rules.items) (length new.resolved.now.rules.items) m.ahead m.back
       places =

@@ -21,7 +21,7 @@ pub struct ChangedRows<'r, A: Allocator = Global> {
     marks: Vec<bool, A>,
 }
 
-impl<A: Allocator> Model for ChangedRows<'_, A> {
+impl<'r, A: Allocator> Model for ChangedRows<'r, A> {
     ghost use Rattle.cil_recorded.specs.Recorded.{State};
     ghost use Rattle.cil_table_updates.specs.Changed.{MarksWhatChanged};
 

@@ -5,7 +5,7 @@ mod changed_rows;
 mod moves;
 mod passes;
 mod policy;
-mod update;
+mod updating;
 
 pub use policy::Named;
-pub use update::update;
+pub use updating::update;

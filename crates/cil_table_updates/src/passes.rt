@@ -29,10 +29,10 @@ fn take_if_gone<A: Allocator + Copy>(
     ensures now { OnOk result ((kind : RuleKind) (key : SymbolKey) (t : ℕ) → count_now tables.new kind key t + alone (given old.now kind key t) matching.now.ahead i ≡ count_now tables.old kind key t) }
     ensures before { (kind : RuleKind) (key : SymbolKey) (t : ℕ) → count_before tables.new kind key t ≡ count_before tables.old kind key t }
 {
-    if matching.new_place(i).is_some() {
-        return Ok(());
+    match matching.new_place(i) {
+        Some(_) => Ok(()),
+        None => take_rule(tables, alloc, old, &old.resolved.rules()[i]),
     }
-    take_rule(tables, alloc, old, &old.resolved.rules()[i])
 }
 
 /// Takes the rules out that the new policy doesn't have.

@@ -25,6 +25,7 @@ pub struct Named<'p, A: Allocator = Global> {
 }
 
 /// The same with the members of its attributes by symbols.
+#[derive(Drop)]
 pub struct Policy<'p, A: Allocator = Global> {
     pub resolved: &'p Resolved<A>,
     pub numbering: &'p Numbering<A>,
@@ -37,8 +38,8 @@ impl<'p, A: Allocator> Policy<'p, A> {
         requires numbers { AreNumbersOf names.now named.numbering.now.symbols named.resolved.now.names.items }
         requires symbols { named.numbering.now.count ≤ length names.now }
         requires members { AreMembersOf names.now (meaning_in named.resolved.now) (members_at when rows.now) }
-        ensures resolved { result.resolved.now ≡ named.resolved.now }
-        ensures numbering { result.numbering.now ≡ named.numbering.now }
+        ensures resolved { result.resolved.now ≡ named.entry.resolved.now }
+        ensures numbering { result.numbering.now ≡ named.entry.numbering.now }
         ensures members { members_of result.members ≡ members_at when rows.now }
         ensures policy { IsPolicy names.now result }
         ensures ready { IsReady result }

@@ -38,7 +38,7 @@ pub fn update<A: Allocator + Copy>(
     requires old_members { AreMembersOf names.now (meaning_in old.resolved.now) (members.count_before rows.now) }
     requires new_members { AreMembersOf names.now (meaning_in new.resolved.now) (members.count_now rows.now) }
     requires stands { (kind : RuleKind) (key : SymbolKey) (t : ℕ) → count_now tables.old kind key t ≡ count_named names.now (meaning_in old.resolved.now) kind key t }
-    ensures now { OnOk result ((kind : RuleKind) (key : SymbolKey) (t : ℕ) → count_now tables.new kind key t ≡ count_named names.now (meaning_in new.resolved.now) kind key t) }
+    ensures now { OnOk result ((kind : RuleKind) (key : SymbolKey) (t : ℕ) → count_now tables.new kind key t ≡ count_named names.now (meaning_in new.entry.resolved.now) kind key t) }
     ensures before { (kind : RuleKind) (key : SymbolKey) (t : ℕ) → count_before tables.new kind key t ≡ count_before tables.old kind key t }
 {
     let old = Policy::of(old, names, rows, When::Before);

@@ -1,0 +1,20 @@
+-- Items at places, and answers of places.
+use Rattle.std.proofs.Common.{◌≡◌, ◌↔◌, ℕ, ◌<◌, Bool, true, List, length, get_or, slice_get, Option, None, Some, refl, sym, ap, ◌∙◌, subst}
+use Rattle.std.specs.List.{list_all}
+use Rattle.std.proofs.lemmas.List.Folds.{list_all_at}
+use Rattle.std.proofs.lemmas.Option.{get_or_from_slice_get, slice_get_read, slice_get_within}
+
+-- what holds of all items holds of that at a place
+pub passes-at : {X : Type 0} (p : X → Bool) (xs : List X) (i : ℕ) (x : X) → list_all p xs ≡ true → slice_get xs i ≡ Some x → p x ≡ true
+passes-at p xs i x all is = subst (λ y. p y ≡ true) (get_or_from_slice_get xs i x x is) (list_all_at p xs i x (slice_get_within xs i x is) all)
+
+-- an item that was read stands at its place
+pub read-at : {X : Type 0} (read xs : List X) (i : ℕ) (x : X) → read ≡ xs → i < length xs → x ≡ get_or read i x → slice_get xs i ≡ Some x
+read-at read xs i x same within is = slice_get_read xs (length xs) i x refl within (is ∙ ap (λ l. get_or l i x) same)
+
+-- an answer of none, where each is told exactly
+pub never : (P : ℕ → Type 0) (result : Option ℕ) → ((j : ℕ) → (result ≡ Some j) ↔ P j) → result ≡ None → (j : ℕ) → P j → ⊥
+never P result tells none j holds = by (sym none ∙ (tells j).1 holds)
+  where
+    by : None ≡ Some j → ⊥
+    by e = cc

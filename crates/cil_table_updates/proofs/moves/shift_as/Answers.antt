@@ -1,0 +1,19 @@
+use Rattle.std.proofs.Common.{◌+◌, ◌&&◌, ◌∙◌, sym, ap}
+use Rattle.std.proofs.lemmas.Result.{on_ok_weaker}
+use Rattle.cil_rule_shifts.specs.Reach.{one_if}
+use Rattle.cil_symbol_tables.specs.Tables.{count_now, is_kind}
+use Rattle.cil_table_updates.proofs.MoveLemmas.{gives-listed}
+use Rattle.cil_table_updates.proofs.moves.shift_as.Goals as goal
+
+pub returns-clause-now : goal.returns-clause-now
+returns-clause-now g c =
+    let symbols = c.args.policy.now.numbering.now.symbols in
+    let rule = c.args.rule.now in
+    on_ok_weaker c.shift.result
+    (λ moved kind key t.
+    sym (ap (λ b. count_now c.shift.new.self kind key t + one_if (is_kind rule.kind kind && b))
+    (gives-listed symbols rule c.args.was.now c.symbol_of-class.result c.in_ok-permissions.permissions.items c.symbol_of-class.ensures.is c.in_ok-permissions.ensures.same key t))
+    ∙ moved kind key t
+    ∙ ap (λ b. count_now c.args.tables.now kind key t + one_if (is_kind rule.kind kind && b))
+    (gives-listed symbols rule c.args.is.now c.symbol_of-class.result c.in_ok-permissions.permissions.items c.symbol_of-class.ensures.is c.in_ok-permissions.ensures.same key t))
+    c.shift.ensures.now

@@ -1,0 +1,46 @@
+use Rattle.std.proofs.Common.{◌≡◌, ◌+◌, ◌≤◌, ◌∙◌, sym, ap, add-zero, length, slice_get, subst, Some}
+use Rattle.std.proofs.lemmas.Result.{on_ok_weaker}
+use Rattle.cil_resolve.specs.Below.{is_rule_below}
+use Rattle.cil_sums.proofs.SumLemmas.{across-none, across-some}
+use Rattle.cil_symbol_tables.specs.Tables.{count_now}
+use Rattle.cil_table_updates.specs.Given.{given}
+use Rattle.cil_table_updates.proofs.GivenLemmas.{given-rule}
+use Rattle.cil_table_updates.proofs.PlaceLemmas.{never, passes-at, read-at}
+use Rattle.cil_table_updates.proofs.passes.put_or_replace.Goals as goal
+
+pub replace_changed-requires-clause-replaced : goal.replace_changed-requires-clause-replaced
+replace_changed-requires-clause-replaced g c = c.requires.matched c.in-Some.i c.args.j ((c.old_place.ensures c.in-Some.i).0 c.in-Some.is)
+
+pub replace_changed-requires-clause-counted : goal.replace_changed-requires-clause-counted
+replace_changed-requires-clause-counted g c kind key t =
+    subst (λ n. n ≤ count_now c.args.tables.now kind key t)
+    (across-some (given c.args.old.now kind key t) c.args.matching.now.back c.in-Some.i c.args.j ((c.old_place.ensures c.in-Some.i).0 c.in-Some.is))
+    (c.requires.counted kind key t)
+
+pub put_rule-requires-clause-below : goal.put_rule-requires-clause-below
+put_rule-requires-clause-below g c =
+    passes-at (is_rule_below (length c.args.new.now.numbering.now.symbols)) c.args.new.now.resolved.now.rules.items c.args.j c.index-rules-j.result c.requires.new_ready.below
+    (read-at c.rules.result.now c.args.new.now.resolved.now.rules.items c.args.j c.index-rules-j.result c.rules.ensures.rules c.requires.within c.index-rules-j.is)
+
+pub returns-in-Some-clause-now : goal.returns-in-Some-clause-now
+returns-in-Some-clause-now g c =
+    on_ok_weaker c.replace_changed.result
+    (λ moved kind key t.
+    ap (λ n. count_now c.replace_changed.new.tables kind key t + n)
+    (across-some (given c.args.old.now kind key t) c.args.matching.now.back c.in-Some.i c.args.j ((c.old_place.ensures c.in-Some.i).0 c.in-Some.is))
+    ∙ moved kind key t)
+    c.replace_changed.ensures.now
+
+pub returns-in-None-clause-now : goal.returns-in-None-clause-now
+returns-in-None-clause-now g c =
+    on_ok_weaker c.put_rule.result
+    (λ moved kind key t.
+    ap (λ n. count_now c.put_rule.new.tables kind key t + n)
+    (across-none (given c.args.old.now kind key t) c.args.matching.now.back c.args.j
+    (never (λ i. slice_get c.args.matching.now.back c.args.j ≡ Some (Some i)) c.old_place.result c.old_place.ensures c.in-None.is))
+    ∙ add-zero (count_now c.put_rule.new.tables kind key t)
+    ∙ moved kind key t
+    ∙ ap (λ n. count_now c.args.tables.now kind key t + n)
+    (sym (given-rule c.args.new.now kind key t c.args.j c.index-rules-j.result
+    (read-at c.rules.result.now c.args.new.now.resolved.now.rules.items c.args.j c.index-rules-j.result c.rules.ensures.rules c.requires.within c.index-rules-j.is))))
+    c.put_rule.ensures.now

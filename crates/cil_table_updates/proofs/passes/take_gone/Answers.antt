@@ -1,0 +1,30 @@
+use Rattle.std.proofs.Common.{◌+◌, ◌∙◌, refl, ap, add-zero, arith, length, subst, ◌<◌}
+use Rattle.cil_sums.specs.Sums.{alone}
+use Rattle.cil_sums.proofs.SumLemmas.{sum-more, sum-none, sum-part}
+use Rattle.cil_symbol_tables.specs.Tables.{count_now}
+use Rattle.cil_table_updates.specs.Given.{given}
+use Rattle.cil_table_updates.proofs.passes.take_gone.Goals as goal
+
+pub loop-i-init : goal.loop-i-init
+loop-i-init g c = record {
+  now = λ kind key t. ap (λ n. count_now c.args.tables.now kind key t + n) (sum-none (alone (given c.args.old.now kind key t) c.args.matching.now.ahead)) ∙ add-zero (count_now c.args.tables.now kind key t);
+  before = λ kind key t. refl;
+}
+
+pub take_if_gone-requires-clause-counted : goal.take_if_gone-requires-clause-counted
+take_if_gone-requires-clause-counted g c kind key t =
+    let within = subst (λ l. c.loop-i.i < length l) c.rules-i-end.ensures.rules c.loop-i-test.true in
+    let part = sum-part (alone (given c.args.old.now kind key t) c.args.matching.now.ahead) c.loop-i.i (length c.args.old.now.resolved.now.rules.items) within in
+    let taken = c.loop-i.invariant.now kind key t in
+    let all = c.requires.counted kind key t in
+    omega (arith, part, taken, all)
+
+pub loop-i-preserved : goal.loop-i-preserved
+loop-i-preserved g c = record {
+  now = λ kind key t.
+    let more = sum-more (alone (given c.args.old.now kind key t) c.args.matching.now.ahead) c.loop-i.i in
+    let taken = c.loop-i.invariant.now kind key t in
+    let one = c.in_ok-take_if_gone.ensures.now kind key t in
+    omega (arith, more, taken, one);
+  before = λ kind key t. c.in_ok-take_if_gone.ensures.before kind key t ∙ c.loop-i.invariant.before kind key t;
+}
