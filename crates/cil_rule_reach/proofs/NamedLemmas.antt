@@ -1,13 +1,13 @@
 -- What rules give, by symbols and by full names.
-use Rattle.std.proofs.Common.{◌≡◌, ℕ, zero, suc, ◌<◌, ◌≤◌, ◌==◌, ◌&&◌, ◌||◌, Bool, true, false, bytes_eq, length, map, List, [], ◌∷◌, nat_lt, nat_eq, slice_get, slice_index, slice_index_or, get_or, Option, Some, refl, sym, ap, ◌∙◌, subst, inl, inr, ◌⊎◌, arith, true≢false}
-use Rattle.std.specs.List.{list_any, list_all, IsDistinct, position}
+use Rattle.std.proofs.Common.{◌≡◌, ℕ, zero, suc, ◌<◌, ◌≤◌, ◌==◌, ◌&&◌, ◌||◌, Bool, true, false, bytes_eq, length, map, List, [], ◌∷◌, nat_lt, slice_get, slice_index, slice_index_or, Some, refl, sym, ap, ◌∙◌, subst, inl, inr, arith, true≢false}
+use Rattle.std.specs.List.{list_any, list_all}
 use Rattle.std.proofs.Math.Bool.{and-false}
-use Rattle.std.proofs.lemmas.Bool.{cases_Bool, cases_eq, cases_lt, eq-eqb, eqb-true, ltb-true, lt-ltb, le-ltb, ne_eqb}
+use Rattle.std.proofs.lemmas.Bool.{cases_Bool, cases_lt, eq-eqb, eqb-true, ltb-true, lt-ltb, ne_eqb}
 use Rattle.std.proofs.lemmas.List.{length-map}
 use Rattle.std.proofs.lemmas.Option.{slice_get_within, get_or_from_slice_get, slice_get-get_or}
 use Rattle.std.proofs.lemmas.Slice.Eq.{bytes_eq-Decides}
 use Rattle.cil_bind.proofs.DeclareLemmas.{same-bool}
-use Rattle.cil_specs.specs.Meaning.{Meaning, aims, covers, holds, keeps_type}
+use Rattle.cil_specs.specs.Meaning.{aims, covers, holds, keeps_type}
 use Rattle.cil_specs.specs.Members.{is_member, keeps_element}
 use Rattle.cil_specs.specs.Rule as spec
 use Rattle.cil_parse.specs.Lexicon.{AreNumbersOf}

@@ -5,8 +5,8 @@ ghost use Rattle.cil_resolve.specs.Below.{is_element_below, is_rule_below, is_ta
 ghost use Rattle.cil_rule_shifts.specs.Reach.{has_source, is_present, takes, AreShort, IsShort};
 ghost use Rattle.cil_rule_reach.specs.Reaches.{aims_by, has_by, members_of};
 
-use crate::permissions::symbol_of;
 use crate::lines::{members_line, type_line};
+use crate::permissions::symbol_of;
 use crate::symbol_members::SymbolMembers;
 use cil_lines::Line;
 use cil_resolve::{Element, NumberedRule, ResolvedTarget};
@@ -30,7 +30,11 @@ fn types_of<A: Allocator + Copy>(
     members.symbols_len();
     match element {
         Element::Type(ty) => type_line(alloc, symbol_of(numbering, ty)),
-        Element::Attribute(attribute) => members_line(alloc, members, symbol_of(numbering, attribute)),
+        Element::Attribute(attribute) => members_line(
+            alloc,
+            members,
+            symbol_of(numbering, attribute),
+        ),
     }
 }
 

@@ -1,5 +1,5 @@
 -- Rows without a mark have the members that they had.
-use Rattle.std.proofs.Common.{◌≡◌, ◌≢◌, ℕ, ◌+◌, ◌-◌, ◌<◌, ◌≤◌, ◌==◌, ◌||◌, Bool, true, false, List, [], ◌∷◌, length, min, nat_lt, take, take_all, refl, sym, ap, ◌∙◌, inl, inr, arith, true≢false}
+use Rattle.std.proofs.Common.{◌≡◌, ℕ, ◌+◌, ◌-◌, ◌≤◌, ◌==◌, Bool, false, List, [], ◌∷◌, length, min, nat_lt, take, take_all, refl, sym, ap, ◌∙◌, inl, inr, arith, true≢false, zero-add}
 use Rattle.std.specs.List.{list_any}
 use Rattle.std.proofs.lemmas.Bool.{cases_lt, eq-eqb, le-ltb, lt-ltb}
 use Rattle.std.proofs.lemmas.List.Sums.{sum_by-cons}
@@ -15,6 +15,7 @@ none-appeared [] a t none = refl
 none-appeared (change ∷ changes) a t none =
     sum_by-cons (λ c. hit_at c.line c.word c.appeared a t) change changes
     ∙ ap (λ n. n + appeared_at changes a t) (hit_off change.line change.word change.appeared a t (λ e. true≢false (sym (eq-eqb change.line a (sym e)) ∙ no-first (change.line == a) (list_any (λ c. c.line == a) changes) none)))
+    ∙ zero-add (appeared_at changes a t)
     ∙ none-appeared changes a t (no-second (change.line == a) (list_any (λ c. c.line == a) changes) none)
 
 pub none-gone : (changes : List Change) (a t : ℕ) → list_any (λ change. change.line == a) changes ≡ false → gone_at changes a t ≡ 0
@@ -22,6 +23,7 @@ none-gone [] a t none = refl
 none-gone (change ∷ changes) a t none =
     sum_by-cons (λ c. hit_at c.line c.word c.gone a t) change changes
     ∙ ap (λ n. n + gone_at changes a t) (hit_off change.line change.word change.gone a t (λ e. true≢false (sym (eq-eqb change.line a (sym e)) ∙ no-first (change.line == a) (list_any (λ c. c.line == a) changes) none)))
+    ∙ zero-add (gone_at changes a t)
     ∙ none-gone changes a t (no-second (change.line == a) (list_any (λ c. c.line == a) changes) none)
 
 -- so what was above 0 is, and the other way round

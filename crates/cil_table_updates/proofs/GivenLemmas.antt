@@ -1,15 +1,13 @@
 -- What the rules of a policy give, summed up, and by full names.
-use Rattle.std.proofs.Common.{◌≡◌, ℕ, zero, suc, ◌+◌, ◌<◌, ◌≤◌, ◌&&◌, Bool, true, false, cond, count_by, length, take, take_all, map, List, [], ◌∷◌, get_or, slice_get, Option, None, Some, refl, sym, ap, ◌∙◌, subst, inl, inr, arith, add-one, add-zero, zero-add}
+use Rattle.std.proofs.Common.{◌≡◌, ℕ, zero, suc, ◌+◌, ◌&&◌, Bool, true, false, cond, count_by, length, map, List, [], ◌∷◌, slice_get, Option, Some, refl, sym, ap, ◌∙◌, inl, inr, arith, add-one, zero-add}
 use Rattle.std.specs.List.{list_all}
 use Rattle.std.specs.Option.{option_map_or}
 use Rattle.std.proofs.Math.Bool.{and-false}
 use Rattle.std.proofs.lemmas.Bool.{cases_Bool}
 use Rattle.std.proofs.lemmas.List.Sums.{sum_by-cons}
-use Rattle.std.proofs.lemmas.Option.{slice_get_cases, slice_get_within}
 use Rattle.cil_sums.specs.Sums.{alone, sum_below}
 use Rattle.cil_sums.proofs.SumLemmas.{alone-none, sum-more, sum-none}
-use Rattle.cil_specs.specs.Meaning.{count_of, covers, gives}
-use Rattle.cil_specs.specs.Rule as spec
+use Rattle.cil_specs.specs.Meaning.{count_of, gives}
 use Rattle.cil_text.specs.declared.statement.RuleKind.{RuleKind}
 use Rattle.cil_keyed_lines.specs.declared.symbol_key.SymbolKey.{SymbolKey}
 use Rattle.cil_resolve.specs.Below.{is_rule_below}
@@ -18,8 +16,8 @@ use Rattle.cil_resolve.specs.Numbers.{rule_of}
 use Rattle.cil_resolve.specs.Resolved.{meaning_in}
 use Rattle.cil_resolve.specs.declared.numbered.NumberedRule.{NumberedRule}
 use Rattle.cil_resolve.specs.declared.resolved.Resolved.{Resolved}
-use Rattle.cil_rule_reach.specs.Named.{atom_of, is_named, name_at}
-use Rattle.cil_rule_reach.specs.Reaches.{covers_by, members_of}
+use Rattle.cil_rule_reach.specs.Named.{atom_of, is_named}
+use Rattle.cil_rule_reach.specs.Reaches.{members_of}
 use Rattle.cil_rule_reach.proofs.NamedLemmas.{covers-named, covers-none}
 use Rattle.cil_rule_shifts.specs.Reach.{one_if}
 use Rattle.cil_symbol_tables.specs.Tables.{is_kind}

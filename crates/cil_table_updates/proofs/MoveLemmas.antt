@@ -13,7 +13,7 @@ use Rattle.cil_rule_shifts.specs.Reach.{gives, has_permission, has_source, one_i
 use Rattle.cil_rule_shifts.specs.declared.reach.Reach.{Reach}
 use Rattle.cil_rule_shifts.proofs.ReachLemmas.{and-no}
 use Rattle.cil_symbol_tables.specs.Tables.{is_kind}
-use Rattle.cil_table_updates.specs.Given.{given, gives_by}
+use Rattle.cil_table_updates.specs.Given.{given}
 use Rattle.cil_table_updates.specs.Moves.{gives_as, lists, HaveSameHead, IsReplaced}
 use Rattle.cil_table_updates.specs.declared.policy.Policy.{Policy}
 use Rattle.cil_table_updates.proofs.GivenLemmas.{given-rule}
@@ -50,8 +50,7 @@ kind-itself kind = eq-eqb (kind_index (rule_kind_of kind)) (kind_index (rule_kin
 
 -- counters moved from what reaches nothing, to it, and from what one rule covers to what another does
 module _ {A B : Type 0} (symbols : List ℕ) (rule : NumberedRule A) (was is : Reach B) (new old : RuleKind → SymbolKey → ℕ → ℕ)
-  (moved : (kind : RuleKind) (key : SymbolKey) (t : ℕ) → new kind key t + one_if (is_kind rule.kind kind && gives_as symbols rule was key t) ≡ old kind key t + one_if (is_kind rule.kind kind && gives_as symbols rule is key t)) where
-
+    (moved : (kind : RuleKind) (key : SymbolKey) (t : ℕ) → new kind key t + one_if (is_kind rule.kind kind && gives_as symbols rule was key t) ≡ old kind key t + one_if (is_kind rule.kind kind && gives_as symbols rule is key t)) where
   pub put-moved : (covers : SymbolKey → ℕ → Bool) → ((key : SymbolKey) (t : ℕ) → gives_as symbols rule was key t ≡ false) → ((key : SymbolKey) (t : ℕ) → gives_as symbols rule is key t ≡ covers key t)
       → (kind : RuleKind) (key : SymbolKey) (t : ℕ) → new kind key t ≡ old kind key t + one_if (is_kind rule.kind kind && covers key t)
   put-moved covers none same kind key t =

@@ -1,8 +1,7 @@
 -- The same rule of two policies, by symbols.
-use Rattle.std.proofs.Common.{◌≡◌, ℕ, ◌+◌, ◌<◌, ◌==◌, ◌&&◌, ◌||◌, Bool, true, false, List, [], ◌∷◌, length, map, nat_lt, nat_eq, slice_get, slice_index, slice_index_or, Some, refl, sym, ap, ◌∙◌, subst}
+use Rattle.std.proofs.Common.{◌≡◌, ℕ, ◌<◌, ◌==◌, ◌&&◌, ◌||◌, Bool, true, false, List, [], ◌∷◌, length, map, nat_lt, slice_index, slice_index_or, Some, refl, ap, ◌∙◌}
 use Rattle.std.specs.List.{list_all, list_any}
 use Rattle.std.proofs.lemmas.Bool.{ltb-true}
-use Rattle.cil_specs.specs.Rule as spec
 use Rattle.cil_specs.specs.Rule.{content_of}
 use Rattle.cil_parse.specs.Lexicon.{AreNumbersOf}
 use Rattle.cil_text.specs.Image.{rule_kind_of}
@@ -24,8 +23,7 @@ use Rattle.cil_table_updates.specs.Moves.{lists, HaveSameHead}
 use Rattle.cil_table_updates.specs.Policies.{AreApart}
 
 module _ {A B : Type 0} (old : Resolved A) (new : Resolved B) (names : List (List ℕ)) (apart : AreApart names) (old_symbols new_symbols : List ℕ)
-  (old_numbers : AreNumbersOf names old_symbols old.names.items) (new_numbers : AreNumbersOf names new_symbols new.names.items) where
-
+    (old_numbers : AreNumbersOf names old_symbols old.names.items) (new_numbers : AreNumbersOf names new_symbols new.names.items) where
   -- one name has one symbol
   same-symbol : (m n : ℕ) → m < length old.names.items → n < length new.names.items → name_in old m ≡ name_in new n → slice_index old_symbols m ≡ slice_index new_symbols n
   same-symbol m n low below same =
@@ -87,8 +85,7 @@ module _ {A B : Type 0} (old : Resolved A) (new : Resolved B) (names : List (Lis
   same-kind NeverAllow NeverAllow e = refl
 
   module _ (rule : NumberedRule A) (other : NumberedRule B) (low : is_rule_below (length old.names.items) rule ≡ true) (below : is_rule_below (length new.names.items) other ≡ true)
-    (same : content_of (rule_of old.modules.items old.names.items rule) ≡ content_of (rule_of new.modules.items new.names.items other)) where
-
+      (same : content_of (rule_of old.modules.items old.names.items rule) ≡ content_of (rule_of new.modules.items new.names.items other)) where
     pub same-head : HaveSameHead old_symbols rule new_symbols other
     same-head =
         let first = is-below old rule low in

@@ -1,9 +1,8 @@
 -- Tables brought from one policy to another.
-use Rattle.std.proofs.Common.{◌≡◌, ℕ, ◌+◌, ◌<◌, ◌≤◌, Bool, true, List, length, map, slice_get, Some, refl, sym, ap, ◌∙◌, subst, arith}
+use Rattle.std.proofs.Common.{◌≡◌, ℕ, ◌+◌, ◌≤◌, true, List, length, slice_get, Some, sym, ap, ◌∙◌, subst, arith}
 use Rattle.std.specs.List.{list_all}
 use Rattle.std.proofs.lemmas.List.{length-map}
-use Rattle.std.proofs.lemmas.List.Folds.{list_all_at}
-use Rattle.std.proofs.lemmas.Option.{get_or_from_slice_get, slice_get_within}
+use Rattle.std.proofs.lemmas.Option.{slice_get_within}
 use Rattle.cil_sums.specs.Sums.{across, alone, sum_below, ArePlaces}
 use Rattle.cil_sums.proofs.SumLemmas.{sum-sides}
 use Rattle.cil_specs.specs.Rule as spec
@@ -17,9 +16,8 @@ use Rattle.cil_resolve.specs.Numbers.{rule_of}
 use Rattle.cil_resolve.specs.Resolved.{meaning_in}
 use Rattle.cil_resolve.specs.declared.numbered.NumberedRule.{NumberedRule}
 use Rattle.cil_resolve.specs.declared.resolved.Resolved.{Resolved}
-use Rattle.cil_keyed_lines.specs.declared.symbol_key.SymbolKey.{SymbolKey}
 use Rattle.cil_rule_reach.specs.Reaches.{covers_by, members_of}
-use Rattle.cil_table_updates.specs.Moves.{AreReplaced, IsReplaced}
+use Rattle.cil_table_updates.specs.Moves.{AreReplaced}
 use Rattle.cil_table_updates.specs.Policies.{AreApart, IsPolicy}
 use Rattle.cil_table_updates.specs.declared.policy.Policy.{Policy}
 use Rattle.cil_table_updates.proofs.PlaceLemmas.{passes-at}
@@ -33,9 +31,8 @@ places-matched IsSame old new m matched = record {
 }
 
 module _ {A : Type 0} (names : List (List ℕ)) (apart : AreApart names) (rows : State) (old new : Policy A) (old_is : IsPolicy names old) (new_is : IsPolicy names new)
-  (before : members_of old.members ≡ count_before rows) (now : members_of new.members ≡ count_now rows)
-  (low : list_all (is_rule_below (length old.resolved.now.names.items)) old.resolved.now.rules.items ≡ true) (below : list_all (is_rule_below (length new.resolved.now.names.items)) new.resolved.now.rules.items ≡ true) where
-
+    (before : members_of old.members ≡ count_before rows) (now : members_of new.members ≡ count_now rows)
+    (low : list_all (is_rule_below (length old.resolved.now.names.items)) old.resolved.now.rules.items ≡ true) (below : list_all (is_rule_below (length new.resolved.now.names.items)) new.resolved.now.rules.items ≡ true) where
   -- so rules that are put together are the same by symbols
   pub rules-replaced : (m : Matched) → AreMatched IsSameRule (meaning_in old.resolved.now).rules (meaning_in new.resolved.now).rules m → AreReplaced rows old new m
   rules-replaced m matched i j is = record {
@@ -45,8 +42,8 @@ module _ {A : Type 0} (names : List (List ℕ)) (apart : AreApart names) (rows :
     there = other.1;
     head = same-head r s names apart old.numbering.now.symbols new.numbering.now.symbols old_is.numbers new_is.numbers one.0 other.0 one_low other_below same;
     covers = λ key t.
-      same-covers r s names apart old.numbering.now.symbols new.numbering.now.symbols old_is.numbers new_is.numbers one.0 other.0 one_low other_below same (members_of old.members) key t
-      ∙ ap (λ members. covers_by members new.numbering.now.symbols other.0 key t) before;
+        same-covers r s names apart old.numbering.now.symbols new.numbering.now.symbols old_is.numbers new_is.numbers one.0 other.0 one_low other_below same (members_of old.members) key t
+        ∙ ap (λ members. covers_by members new.numbering.now.symbols other.0 key t) before;
     now = λ key t. ap (λ members. covers_by members new.numbering.now.symbols other.0 key t) now;
   }
     where

@@ -1,5 +1,5 @@
 -- What the rules of a policy give, by symbols, rule by rule.
-use Rattle.std.specs.Prelude.{◌≡◌, ◌+◌, ◌<◌, ◌&&◌, ℕ, zero, suc, Bool, false, List, Option, None, Some, cond, is_none, length, slice_get, nat_lt}
+use Rattle.std.specs.Prelude.{◌&&◌, ℕ, Bool, false, Option, slice_get}
 use Rattle.std.specs.Option.{option_map_or}
 use Rattle.cil_text.specs.declared.statement.RuleKind.{RuleKind}
 use Rattle.cil_keyed_lines.specs.declared.symbol_key.SymbolKey.{SymbolKey}

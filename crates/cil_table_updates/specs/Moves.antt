@@ -1,5 +1,5 @@
 -- What lets a rule's counters be moved.
-use Rattle.std.specs.Prelude.{◌≡◌, ◌≤◌, ◌<◌, ◌&&◌, ◌==◌, ℕ, Bool, IsTrue, List, length, slice_get, slice_index, Some}
+use Rattle.std.specs.Prelude.{◌≡◌, ◌≤◌, ◌&&◌, ◌==◌, ℕ, Bool, IsTrue, List, length, slice_get, slice_index, Some}
 use Rattle.std.specs.List.{list_all, list_any}
 use Rattle.cil_keyed_lines.specs.declared.symbol_key.SymbolKey.{SymbolKey}
 use Rattle.cil_matching.specs.Matching.{Matched}

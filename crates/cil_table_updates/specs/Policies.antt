@@ -1,14 +1,12 @@
 -- Two policies by symbols, and how many of their rules give an access.
-use Rattle.std.specs.Prelude.{◌≡◌, ◌≤◌, ◌<◌, ◌&&◌, ℕ, Bool, List, count_by, cond, length, Some, slice_get}
+use Rattle.std.specs.Prelude.{◌≡◌, ◌≤◌, ℕ, List, cond, length, Some, slice_get}
 use Rattle.cil_specs.specs.Meaning.{Meaning, count_of}
 use Rattle.cil_parse.specs.Lexicon.{AreNumbersOf}
 use Rattle.cil_text.specs.declared.statement.RuleKind.{RuleKind}
 use Rattle.cil_keyed_lines.specs.declared.symbol_key.SymbolKey.{SymbolKey}
 use Rattle.cil_resolve.specs.Resolved.{meaning_in}
-use Rattle.cil_resolve.specs.declared.numbered.NumberedRule.{NumberedRule}
 use Rattle.cil_rule_reach.specs.Named.{atom_of, is_named, AreMembersOf}
-use Rattle.cil_rule_reach.specs.Reaches.{covers_by, members_of}
-use Rattle.cil_symbol_tables.specs.Tables.{is_kind}
+use Rattle.cil_rule_reach.specs.Reaches.{members_of}
 use Rattle.cil_table_updates.specs.declared.policy.Policy.{Policy}
 
 -- how many rules of a policy give the access whose names have these symbols; 0 where one of them is the symbol of no name

@@ -1,4 +1,4 @@
-use Rattle.std.proofs.Common.{◌+◌, ◌/◌, ◌∙◌, ap, arith}
+use Rattle.std.proofs.Common.{◌+◌, ◌∙◌, ap, arith}
 use Rattle.cil_lines.specs.Line.{hit}
 use Rattle.cil_rule_reach.specs.Reaches.{members_of}
 use Rattle.cil_rule_reach.proofs.LineLemmas.{word-more, words-all}

@@ -10,8 +10,8 @@ pub returns : goal.returns
 unfolding takes
 returns g c = record {
   sources = λ s high.
-    let apart : s / 64 ≢ 0 = λ e. omega (arith, e, high) in
-    let added = rw (c.expect.ensures) at c.add.ensures.ok in
-    present-none c.add.new.self s (added s ∙ ap (λ n. count_of c.new-sources.result s + n) (hit-there 0 2 s apart) ∙ add-zero (count_of c.new-sources.result s) ∙ c.new-sources.ensures s);
+      let apart : s / 64 ≢ 0 = λ e. omega (arith, e, high) in
+      let added = rw (c.expect.ensures) at c.add.ensures.ok in
+      present-none c.add.new.self s (added s ∙ ap (λ n. count_of c.new-sources.result s + n) (hit-there 0 2 s apart) ∙ add-zero (count_of c.new-sources.result s) ∙ c.new-sources.ensures s);
   targets = λ s t low high. ne_eqb s t (λ e. omega (arith, e, low, high));
 }

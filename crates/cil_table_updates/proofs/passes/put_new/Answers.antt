@@ -1,4 +1,4 @@
-use Rattle.std.proofs.Common.{◌+◌, ◌∙◌, refl, sym, ap, arith, length, subst, ◌<◌}
+use Rattle.std.proofs.Common.{◌∙◌, refl, arith, length, subst, ◌<◌}
 use Rattle.cil_sums.specs.Sums.{across}
 use Rattle.cil_sums.proofs.SumLemmas.{sum-more, sum-none, sum-part}
 use Rattle.cil_table_updates.specs.Given.{given}
@@ -7,9 +7,9 @@ use Rattle.cil_table_updates.proofs.passes.put_new.Goals as goal
 pub loop-j-init : goal.loop-j-init
 loop-j-init g c = record {
   now = λ kind key t.
-    let none = sum-none (across (given c.args.old.now kind key t) c.args.matching.now.back) in
-    let nothing = sum-none (given c.args.new.now kind key t) in
-    omega (arith, none, nothing);
+      let none = sum-none (across (given c.args.old.now kind key t) c.args.matching.now.back) in
+      let nothing = sum-none (given c.args.new.now kind key t) in
+      omega (arith, none, nothing);
   before = λ kind key t. refl;
 }
 
@@ -24,10 +24,10 @@ put_or_replace-requires-clause-counted g c kind key t =
 pub loop-j-preserved : goal.loop-j-preserved
 loop-j-preserved g c = record {
   now = λ kind key t.
-    let was = sum-more (across (given c.args.old.now kind key t) c.args.matching.now.back) c.loop-j.j in
-    let is = sum-more (given c.args.new.now kind key t) c.loop-j.j in
-    let put = c.loop-j.invariant.now kind key t in
-    let one = c.in_ok-put_or_replace.ensures.now kind key t in
-    omega (arith, was, is, put, one);
+      let was = sum-more (across (given c.args.old.now kind key t) c.args.matching.now.back) c.loop-j.j in
+      let is = sum-more (given c.args.new.now kind key t) c.loop-j.j in
+      let put = c.loop-j.invariant.now kind key t in
+      let one = c.in_ok-put_or_replace.ensures.now kind key t in
+      omega (arith, was, is, put, one);
   before = λ kind key t. c.in_ok-put_or_replace.ensures.before kind key t ∙ c.loop-j.invariant.before kind key t;
 }

@@ -22,9 +22,9 @@ take_if_gone-requires-clause-counted g c kind key t =
 pub loop-i-preserved : goal.loop-i-preserved
 loop-i-preserved g c = record {
   now = λ kind key t.
-    let more = sum-more (alone (given c.args.old.now kind key t) c.args.matching.now.ahead) c.loop-i.i in
-    let taken = c.loop-i.invariant.now kind key t in
-    let one = c.in_ok-take_if_gone.ensures.now kind key t in
-    omega (arith, more, taken, one);
+      let more = sum-more (alone (given c.args.old.now kind key t) c.args.matching.now.ahead) c.loop-i.i in
+      let taken = c.loop-i.invariant.now kind key t in
+      let one = c.in_ok-take_if_gone.ensures.now kind key t in
+      omega (arith, more, taken, one);
   before = λ kind key t. c.in_ok-take_if_gone.ensures.before kind key t ∙ c.loop-i.invariant.before kind key t;
 }

@@ -1,4 +1,3 @@
-use Rattle.std.proofs.Common.{◌&&◌}
 use Rattle.std.proofs.lemmas.Result.{on_ok_weaker}
 use Rattle.cil_rule_shifts.specs.Reach.{gives, one_if}
 use Rattle.cil_text.specs.declared.statement.RuleKind.TheVariants.{Allow, AuditAllow, DontAudit, NeverAllow}

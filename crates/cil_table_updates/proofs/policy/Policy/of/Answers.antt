@@ -1,20 +1,30 @@
-use Rattle.std.proofs.Common.{arith, length, sym, subst}
+use Rattle.std.proofs.Common.{◌≡◌, arith, length, sym, subst, true}
 use Rattle.std.specs.List.{list_all}
-use Rattle.std.proofs.lemmas.Option.{get_or_from_slice_get, slice_get_within}
-use Rattle.cil_bind.proofs.NamespaceLemmas.{distinct-place}
+use Rattle.cil_resolve.specs.Below.{is_rule_below}
+use Rattle.cil_rule_reach.proofs.NamedLemmas.{as-many}
+use Rattle.cil_table_updates.proofs.PlaceLemmas.{names-apart}
 use Rattle.cil_table_updates.proofs.policy.Policy.of.Goals as goal
 
 pub returns-clause-policy : goal.returns-clause-policy
-returns-clause-policy g c = ?
+returns-clause-policy g c = record { numbers = c.requires.numbers; members = c.requires.members; symbols = let long = c.len.ensures.len in omega (arith, long) }
 
 pub returns-clause-ready : goal.returns-clause-ready
-returns-clause-ready g c = ?
+returns-clause-ready g c = record {
+  below =
+      subst (λ n. list_all (is_rule_below n) c.args.named.resolved.now.rules.items ≡ true)
+      (sym (as-many c.args.named.resolved.now c.args.names.now c.args.named.numbering.now.symbols (names-apart c.args.names.now c.len.ensures.distinct) c.requires.numbers))
+      (subst (λ l. list_all (is_rule_below (length c.args.named.resolved.now.names.items)) l ≡ true) c.rules.ensures.rules c.rules.ensures.within);
+  known = record {
+    symbols = let long = c.len.ensures.len in omega (arith, long, c.requires.symbols);
+    none = λ a t past. c.requires.members.no_type a t (let long = c.len.ensures.len in omega (arith, long, past));
+  };
+}
 
 pub returns-clause-below : goal.returns-clause-below
-returns-clause-below g c = ?
+returns-clause-below g c = subst (λ l. list_all (is_rule_below (length c.args.named.resolved.now.names.items)) l ≡ true) c.rules.ensures.rules c.rules.ensures.within
 
 pub returns-clause-consistent : goal.returns-clause-consistent
-returns-clause-consistent g c = ?
+returns-clause-consistent g c = c.resolved_is_consistent.ensures
 
 pub returns-clause-apart : goal.returns-clause-apart
-returns-clause-apart g c = ?
+returns-clause-apart g c = names-apart c.args.names.now c.len.ensures.distinct

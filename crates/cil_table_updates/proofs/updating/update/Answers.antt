@@ -1,0 +1,44 @@
+use Rattle.std.proofs.Common.{◌∙◌, sym, ap, subst}
+use Rattle.std.proofs.lemmas.Result.{on_ok_weaker}
+use Rattle.cil_resolve.specs.Resolved.{meaning_in}
+use Rattle.cil_symbol_tables.specs.Tables.{count_now}
+use Rattle.cil_table_updates.specs.Given.{given}
+use Rattle.cil_table_updates.specs.Moves.{AreReplaced}
+use Rattle.cil_table_updates.specs.Policies.{count_named}
+use Rattle.cil_table_updates.proofs.GivenLemmas.{given-named}
+use Rattle.cil_table_updates.proofs.UpdateLemmas.{counts-new, gone-counted, rules-replaced, stayed-counted}
+use Rattle.cil_table_updates.proofs.updating.update.Goals as goal
+
+pub take_gone-requires-clause-counted : goal.take_gone-requires-clause-counted
+take_gone-requires-clause-counted g c kind key t =
+    gone-counted c.args.names.now c.of-old.ensures.apart c.args.rows.now c.of-old.result c.of-new.result c.of-old.ensures.policy c.of-new.ensures.policy c.of-old.ensures.members c.of-new.ensures.members c.of-old.ensures.below c.of-new.ensures.below
+    (given c.of-old.result kind key t) c.in_ok-matching.matching (count_now c.args.tables.now kind key t) c.in_ok-matching.ensures
+    (c.requires.stands kind key t ∙ ap (λ r. count_named c.args.names.now (meaning_in r) kind key t) (sym c.of-old.ensures.resolved)
+    ∙ sym (given-named c.args.names.now c.of-old.ensures.apart c.of-old.result c.of-old.ensures.policy kind key t c.of-old.ensures.below c.of-old.ensures.consistent))
+
+pub put_new-requires-clause-matched : goal.put_new-requires-clause-matched
+put_new-requires-clause-matched g c =
+    subst (λ rows. AreReplaced rows c.of-old.result c.of-new.result c.in_ok-matching.matching) (sym c.in_ok-changed.ensures)
+    (rules-replaced c.args.names.now c.of-old.ensures.apart c.args.rows.now c.of-old.result c.of-new.result c.of-old.ensures.policy c.of-new.ensures.policy c.of-old.ensures.members c.of-new.ensures.members c.of-old.ensures.below c.of-new.ensures.below c.in_ok-matching.matching c.in_ok-matching.ensures)
+
+pub put_new-requires-clause-counted : goal.put_new-requires-clause-counted
+put_new-requires-clause-counted g c kind key t =
+    stayed-counted c.args.names.now c.of-old.ensures.apart c.args.rows.now c.of-old.result c.of-new.result c.of-old.ensures.policy c.of-new.ensures.policy c.of-old.ensures.members c.of-new.ensures.members c.of-old.ensures.below c.of-new.ensures.below
+    (given c.of-old.result kind key t) c.in_ok-matching.matching (count_now c.args.tables.now kind key t) (count_now c.take_gone.new.tables kind key t) c.in_ok-matching.ensures
+    (c.requires.stands kind key t ∙ ap (λ r. count_named c.args.names.now (meaning_in r) kind key t) (sym c.of-old.ensures.resolved)
+    ∙ sym (given-named c.args.names.now c.of-old.ensures.apart c.of-old.result c.of-old.ensures.policy kind key t c.of-old.ensures.below c.of-old.ensures.consistent))
+    (c.in_ok-take_gone.ensures.now kind key t)
+
+pub returns-clause-now : goal.returns-clause-now
+returns-clause-now g c =
+    on_ok_weaker c.put_new.result
+    (λ put kind key t.
+    counts-new c.args.names.now c.of-old.ensures.apart c.args.rows.now c.of-old.result c.of-new.result c.of-old.ensures.policy c.of-new.ensures.policy c.of-old.ensures.members c.of-new.ensures.members c.of-old.ensures.below c.of-new.ensures.below
+    (given c.of-old.result kind key t) (given c.of-new.result kind key t) c.in_ok-matching.matching (count_now c.args.tables.now kind key t) (count_now c.take_gone.new.tables kind key t) (count_now c.put_new.new.tables kind key t)
+    c.in_ok-matching.ensures
+    (c.requires.stands kind key t ∙ ap (λ r. count_named c.args.names.now (meaning_in r) kind key t) (sym c.of-old.ensures.resolved)
+    ∙ sym (given-named c.args.names.now c.of-old.ensures.apart c.of-old.result c.of-old.ensures.policy kind key t c.of-old.ensures.below c.of-old.ensures.consistent))
+    (c.in_ok-take_gone.ensures.now kind key t) (put kind key t)
+    ∙ given-named c.args.names.now c.of-new.ensures.apart c.of-new.result c.of-new.ensures.policy kind key t c.of-new.ensures.below c.of-new.ensures.consistent
+    ∙ ap (λ r. count_named c.args.names.now (meaning_in r) kind key t) c.of-new.ensures.resolved)
+    c.put_new.ensures.now
