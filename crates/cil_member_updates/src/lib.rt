@@ -1,0 +1,17 @@
+//! The members of attributes, brought from an old policy to a new one in place.
+#![tactic(auto)]
+
+mod kept;
+mod masks;
+mod sets;
+mod side;
+mod update;
+#[cfg(test)]
+mod update_tests;
+mod visits;
+mod when;
+mod words;
+
+pub use kept::KeptTypes;
+pub use side::Side;
+pub use update::update;
