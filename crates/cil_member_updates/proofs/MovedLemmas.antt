@@ -4,8 +4,10 @@ use Rattle.std.proofs.lemmas.Bool.{cases_eq, cases_lt, eq-eqb, ne_eqb}
 use Rattle.std.proofs.lemmas.Nat.Bits.{bit_at-lt}
 use Rattle.std.specs.Int.{bit_at}
 use Rattle.cil_specs.specs.Sets.{differ}
+use Rattle.cil_lines.specs.Line.{hit}
+use Rattle.cil_lines.proofs.StepLemmas.{hit-there}
 use Rattle.cil_recorded.specs.Log.{hit_at}
-use Rattle.cil_recorded.proofs.LogLemmas.{hit_off, hit_on, hit_out, hit_nothing}
+use Rattle.cil_recorded.proofs.LogLemmas.{hit_in, hit_off, hit_on, hit_out}
 use Rattle.cil_member_updates.specs.Moved.{IsMoved, AreMoved}
 use Rattle.cil_sets.specs.Counts.{one_if}
 use Rattle.cil_member_updates.specs.Bits.{AreHeld, Cover}
@@ -67,6 +69,14 @@ hit-held row word visits mask test held a t at =
           ∙ ap (λ n. one_if ((bit_at visits (t % 64) == 1) && test n)) (omega (arith, at))
           ∙ sym (ap (λ b. one_if (b && ((bit_at visits (t % 64) == 1) && test t))) (eq-eqb a row same))
       | inr other ↦ hit_off row word mask a t other ∙ sym (ap (λ b. one_if (b && ((bit_at visits (t % 64) == 1) && test t))) (ne_eqb a row other))
+    ]
+
+-- a mask of a row hits no more than so much
+pub hit-most : (row word mask : ℕ) (most : ℕ → ℕ) → ((t : ℕ) → t / 64 ≡ word → hit_at row word mask row t ≤ most t) → (t : ℕ) → hit word mask t ≤ most t
+hit-most row word mask most here t =
+    elim (cases_eq (t / 64) word) [
+      | inl at ↦ omega (arith, here t at, hit_in row word mask row t refl)
+      | inr other ↦ omega (arith, hit-there word mask t other)
     ]
 
 -- a symbol that isn't visited is one where the test fails

@@ -33,7 +33,7 @@ pub record IsSide {A : Type 0} (symbols : List (List ℕ)) (side : Side A) : Typ
   pub kept : AreKept symbols side.resolved.now side.kept.now
 
 -- the counters before the steps, or now
-unfoldable pub counts_at : When → State → ℕ → ℕ → ℕ
+abbrev pub counts_at : When → State → ℕ → ℕ → ℕ
 counts_at Before s = count_before s
 counts_at Now s = count_now s
 

@@ -2,6 +2,7 @@
 #![tactic(auto)]
 
 mod kept;
+mod laws;
 mod masks;
 mod sets;
 mod side;
@@ -13,5 +14,6 @@ mod when;
 mod words;
 
 pub use kept::KeptTypes;
+pub use laws::{counts_stay, sides_stay};
 pub use side::Side;
 pub use update::update;
