@@ -1,7 +1,7 @@
 -- Bits of words.
-use Rattle.std.proofs.Common.{◌≡◌, ◌≢◌, ◌==◌, ◌+◌, ◌*◌, ◌/◌, ◌%◌, ◌^◌, ◌<◌, ◌≤◌, ◌&&◌, ℕ, Bool, true, false, bit_and, bit_or, min, nat_lt, refl, sym, ap, ◌∙◌, inl, inr, arith, w64}
+use Rattle.std.proofs.Common.{◌≡◌, ◌≢◌, ◌==◌, ◌+◌, ◌*◌, ◌/◌, ◌%◌, ◌^◌, ◌<◌, ◌≤◌, ◌&&◌, ℕ, Bool, true, false, bit_and, bit_or, min, nat_lt, refl, sym, ap, ◌∙◌, inl, inr, arith, w64, below_more}
 use Rattle.std.proofs.lemmas.Bool.{cases_eq, cases_lt, eq-eqb, ne_eqb, le-ltb}
-use Rattle.std.proofs.lemmas.Nat.Bits.{bit_at_and, bit_at_or, bit_at_set_same, bit_at_set_other, bit_at-lt, bit_at-zero}
+use Rattle.std.proofs.lemmas.Nat.Bits.{bit_at_and, bit_at_or, bit_at_set_same, bit_at_set_other, bit_at-lt, bit_at-pow_same, bit_at-pow_other, bit_at-zero}
 use Rattle.std.proofs.Math.Bool.{and-false}
 use Rattle.std.specs.Int.{bit_at}
 use Rattle.cil_lines.specs.Line.{IsPresence}
@@ -77,3 +77,39 @@ module _ (visits : ℕ) (test : ℕ → Bool) (word b mask : ℕ) (held : HeldBe
 
 pub held-all : (visits : ℕ) (test : ℕ → Bool) (word mask : ℕ) → HeldBelow visits test word 64 mask → AreHeld visits test word mask
 held-all visits test word mask held b within = held.below b within
+
+-- without a bit to visit no mask has a bit
+pub held-zero : (visits : ℕ) (test : ℕ → Bool) (word : ℕ) → visits ≡ 0 → AreHeld visits test word 0
+held-zero visits test word none b within =
+    bit_at-zero b
+    ∙ sym (ap (λ x. one_if (x && test (64 * word + b))) (ne_eqb (bit_at visits b) 1 (λ e. let zero_bit = ap (λ v. bit_at v b) none ∙ bit_at-zero b in omega (arith, e, zero_bit))))
+
+-- a bit alone
+pub one-bit : (k : ℕ) → k < 64 → bit_at (1 * 2 ^ k % 2 ^ 64) k ≡ 1
+one-bit k within = omega (arith, bit_at_set_same w64 0 k within, bit_at_or 0 (1 * 2 ^ k % 2 ^ 64) k, bit_at-zero k)
+
+-- the bit of an answer
+pub answer-bit : (answer : Bool) (t b : ℕ) → t % 64 ≡ b → bit_at (one_if answer * 2 ^ (t % 64)) b ≡ one_if answer
+answer-bit true t b at = ap (λ n. bit_at n b) (zero-one (2 ^ (t % 64))) ∙ ap (λ k. bit_at (2 ^ k) b) at ∙ bit_at-pow_same b
+  where
+    zero-one : (n : ℕ) → 1 * n ≡ n
+    zero-one n = omega arith
+answer-bit false t b at = ap (λ n. bit_at n b) (none (2 ^ (t % 64))) ∙ bit_at-zero b
+  where
+    none : (n : ℕ) → 0 * n ≡ 0
+    none n = omega arith
+
+pub answer-other : (answer : Bool) (t b : ℕ) → t % 64 ≡ b → (k : ℕ) → k ≢ b → bit_at (one_if answer * 2 ^ (t % 64)) k ≡ 0
+answer-other true t b at k other = ap (λ n. bit_at n k) (zero-one (2 ^ (t % 64))) ∙ bit_at-pow_other (t % 64) k (λ e. other (omega (arith, e, at)))
+  where
+    zero-one : (n : ℕ) → 1 * n ≡ n
+    zero-one n = omega arith
+answer-other false t b at k other = ap (λ n. bit_at n k) (none (2 ^ (t % 64))) ∙ bit_at-zero k
+  where
+    none : (n : ℕ) → 0 * n ≡ 0
+    none n = omega arith
+
+-- one more test of several is covered
+pub cover-more : (tests : ℕ → ℕ → Bool) (k word bits more : ℕ) → ((m : ℕ) → m < k → Cover (tests m) word bits) → Cover (tests k) word more → (m : ℕ) → m < k + 1 → Cover (tests m) word (bit_or bits more)
+cover-more tests k word bits more covers next =
+    below_more (λ m. Cover (tests m) word (bit_or bits more)) k (λ m low. cover-first (tests m) word bits more (covers m low)) (cover-second (tests k) word bits more next)

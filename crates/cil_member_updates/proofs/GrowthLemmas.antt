@@ -1,5 +1,5 @@
 -- What is said by symbols, when more symbols come.
-use Rattle.std.proofs.Common.{◌≡◌, ◌≢◌, ◌+◌, ◌*◌, ◌<◌, ◌≤◌, ◌&&◌, ◌||◌, ℕ, zero, suc, Bool, true, false, List, [], ◌∷◌, ◌++◌, length, map, Option, None, Some, Contains, IsTrue, bytes_eq, count_by, get_or, option_map, slice_get, refl, sym, ap, ◌∙◌, inl, inr, arith, true≢false}
+use Rattle.std.proofs.Common.{◌≡◌, ◌≢◌, ◌+◌, ◌*◌, ◌<◌, ◌≤◌, ◌&&◌, ◌||◌, ℕ, zero, suc, Bool, true, false, List, [], ◌∷◌, ◌++◌, length, map, Option, None, Some, Contains, IsTrue, bytes_eq, cond, count_by, get_or, option_map, slice_get, refl, sym, ap, ◌∙◌, inl, inr, arith, true≢false}
 use Rattle.std.specs.List.{list_any, IsDistinct}
 use Rattle.std.specs.Int.{bit_at}
 use Rattle.std.proofs.lemmas.Bool.{and_parts, cases_lt}
@@ -10,12 +10,13 @@ use Rattle.cil_specs.specs.Lookup.{has_name}
 use Rattle.cil_specs.specs.Meaning.{Meaning, is_in, keeps_type}
 use Rattle.cil_specs.specs.Rule.{SetStatement}
 use Rattle.cil_specs.specs.Sets.{holds_with}
+use Rattle.cil_specs.proofs.NamesLemmas.{contains-first, contains-other}
 use Rattle.cil_sets.specs.Counts.{one_if}
 use Rattle.cil_parse.specs.Lexicon.{AreNumbersOf}
 use Rattle.cil_member_updates.specs.Bits.{AreBits}
 use Rattle.cil_member_updates.specs.Given.{of_name, keeps, holds, is_of, gives}
 use Rattle.cil_member_updates.proofs.NameLemmas.{same-symbol, fails-by, holds-kept, keeps-name}
-use Rattle.cil_member_updates.proofs.SymbolLemmas.{number-some, symbol-some, symbol-name}
+use Rattle.cil_member_updates.proofs.SymbolLemmas.{symbol-of}
 
 get-more : {X : Type 0} (xs ys : List X) (m : ℕ) (x : X) → slice_get xs m ≡ Some x → slice_get (xs ++ ys) m ≡ Some x
 get-more [] ys m x is = absurd (none-some x is)
@@ -55,25 +56,12 @@ module _ (symbols more : List (List ℕ)) (distinct : IsDistinct bytes_eq (symbo
         | inr past ↦ fails-by test (slice_get (symbols ++ more) t) (λ n is. new n is past (test n) refl) ∙ sym (ap (of_name test) (slice_get_past symbols t past))
       ]
     where
-      find : (name : List ℕ) → has_name names name ≡ true → (k : ℕ) × (k < length names) × (get_or names k [] ≡ name)
-      find name has = go names has
-        where
-          go : (xs : List (List ℕ)) → list_any (bytes_eq name) xs ≡ true → (k : ℕ) × (k < length xs) × (get_or xs k [] ≡ name)
-          go [] any = absurd (true≢false (sym any))
-          go (x ∷ xs) any = by (λ rest. go xs rest) (bytes_eq name x) refl any
-            where
-              by : (list_any (bytes_eq name) xs ≡ true → (k : ℕ) × (k < length xs) × (get_or xs k [] ≡ name)) → (b : Bool) → bytes_eq name x ≡ b → (b || list_any (bytes_eq name) xs) ≡ true
-                  → (k : ℕ) × (k < length (x ∷ xs)) × (get_or (x ∷ xs) k [] ≡ name)
-              by next true e rest = (0, omega arith, sym ((bytes_eq-Decides name x).0 e))
-              by next false e rest = let (k, within, is) = next rest in (suc k, omega (arith, within), is)
-
       new : (n : List ℕ) → slice_get (symbols ++ more) t ≡ Some n → length symbols ≤ t → (b : Bool) → test n ≡ b → b ≡ false
       new n is past false e = refl
       new n is past true e =
-          let (k, within, same) = find n (known n e) in
-          let at = symbol-name symbols numbers names are k (get_or numbers k 0) (symbol-some symbols numbers names are k within) ∙ ap Some same in
-          let first = slice_get_within symbols (get_or numbers k 0) n at in
-          let one = same-symbol (symbols ++ more) distinct (get_or numbers k 0) t n (get-more symbols more (get_or numbers k 0) n at) is in
+          let (k, at) = symbol-of symbols numbers names are n (known n e) in
+          let first = slice_get_within symbols k n at in
+          let one = same-symbol (symbols ++ more) distinct k t n (get-more symbols more k n at) is in
           absurd (omega (arith, first, past, one))
 
   module _ (meaning : Meaning) (types : (name : List ℕ) → keeps_type meaning name ≡ true → has_name names name ≡ true) where
@@ -97,3 +85,12 @@ module _ (symbols more : List (List ℕ)) (distinct : IsDistinct bytes_eq (symbo
         ap (λ b. b && holds (symbols ++ more) meaning s t)
         (test-more (λ name. bytes_eq name s.attribute) (λ name is. ap (has_name names) ((bytes_eq-Decides name s.attribute).0 is) ∙ has) a)
         ∙ ap (λ b. is_of symbols s a && b) (holds-more s t)
+
+    -- so as many of some set statements give
+    pub count-more : (sets : List SetStatement) → ((s : SetStatement) → Contains sets s → has_name names s.attribute ≡ true) → (a t : ℕ) → count_by (gives symbols meaning a t) sets ≡ count_by (gives (symbols ++ more) meaning a t) sets
+    count-more [] has a t = refl
+    count-more (s ∷ sets) has a t =
+        sum_by-cons (λ x. cond (gives symbols meaning a t x) 1 0) s sets
+        ∙ ap (λ b. cond b 1 0 + count_by (gives symbols meaning a t) sets) (sym (gives-more s (has s (contains-first s sets)) a t))
+        ∙ ap (λ n. cond (gives (symbols ++ more) meaning a t s) 1 0 + n) (count-more sets (λ x there. has x (contains-other s sets x there)) a t)
+        ∙ sym (sum_by-cons (λ x. cond (gives (symbols ++ more) meaning a t x) 1 0) s sets)

@@ -1,9 +1,10 @@
 -- Names by their symbols.
-use Rattle.std.proofs.Common.{◌≡◌, ◌≢◌, ◌==◌, ◌+◌, ◌*◌, ◌/◌, ◌%◌, ◌<◌, ◌≤◌, ◌&&◌, ◌||◌, ℕ, zero, suc, Bool, true, false, List, [], ◌∷◌, length, Option, None, Some, Contains, IsTrue, bytes_eq, get_or, map, min, nat_lt, slice_get, refl, sym, ap, ◌∙◌, subst, inl, inr, arith, true≢false}
+use Rattle.std.proofs.Common.{◌≡◌, ◌≢◌, ◌==◌, ◌+◌, ◌-◌, ◌*◌, ◌/◌, ◌%◌, ◌<◌, ◌≤◌, ◌&&◌, ◌||◌, ℕ, zero, suc, Bool, true, false, List, [], ◌∷◌, length, Option, None, Some, Contains, IsTrue, below_more, bit_or, bytes_eq, get_or, map, min, nat_lt, slice_get, refl, sym, ap, ◌∙◌, subst, inl, inr, arith, true≢false}
 use Rattle.std.specs.List.{list_any, AllByRecursion, IsDistinct}
 use Rattle.std.specs.Int.{bit_at}
 use Rattle.std.proofs.Math.Bool.{and-false}
 use Rattle.std.proofs.lemmas.Bool.{cases_eq, cases_lt, eq-eqb, ne_eqb, and_parts, lt-ltb, le-ltb}
+use Rattle.std.proofs.lemmas.Nat.Bits.{bit_at_or}
 use Rattle.std.proofs.lemmas.Option.{none-some, same_Some}
 use Rattle.std.proofs.lemmas.Slice.Eq.{bytes_eq-Decides}
 use Rattle.cil_specs.specs.Expr.{Expr, named, leaves}
@@ -149,6 +150,36 @@ above-same m n same =
       | inl some ↦ lt-ltb 0 m some ∙ sym (lt-ltb 0 n (omega (arith, same, some)))
       | inr none ↦ le-ltb 0 m none ∙ sym (le-ltb 0 n (omega (arith, same, none)))
     ]
+
+-- The row of an attribute by whose changes the bits are.
+module _ (symbols : List (List ℕ)) (before now : ℕ → ℕ → ℕ) where
+  pub unchanged-row : IsDistinct bytes_eq symbols → (row word bits : ℕ) (attribute : List ℕ) → slice_get symbols row ≡ Some attribute
+      → ((b : ℕ) → b < 64 → bit_at bits b ≡ (min 1 (now row (64 * word + b)) - min 1 (before row (64 * word + b))) + (min 1 (before row (64 * word + b)) - min 1 (now row (64 * word + b))))
+      → IsUnchanged symbols before now (an_attribute attribute) word bits
+  unchanged-row distinct row word bits attribute at change name a b is at_a within none =
+      let here : a ≡ row = same-symbol symbols distinct a row name at_a (at ∙ ap Some (alike is)) in
+      subst (λ k. min 1 (now k (64 * word + b)) ≡ min 1 (before k (64 * word + b))) (sym here) (omega (arith, change b within, none))
+    where
+      alike : an_attribute attribute ≡ an_attribute name → attribute ≡ name
+      alike e = cc
+
+  pub unchanged-type : (name : List ℕ) (word bits : ℕ) → IsUnchanged symbols before now (a_type name) word bits
+  unchanged-type name word bits attribute a b is at within none = absurd (apart is)
+    where
+      apart : a_type name ≡ an_attribute attribute → ⊥
+      apart e = cc
+
+  pub unchanged-first : (element : Element) (word bits more : ℕ) → IsUnchanged symbols before now element word bits → IsUnchanged symbols before now element word (bit_or bits more)
+  unchanged-first element word bits more unchanged attribute a b is at within none = unchanged attribute a b is at within (omega (arith, none, bit_at_or bits more b))
+
+  unchanged-second : (element : Element) (word bits more : ℕ) → IsUnchanged symbols before now element word more → IsUnchanged symbols before now element word (bit_or bits more)
+  unchanged-second element word bits more unchanged attribute a b is at within none = unchanged attribute a b is at within (omega (arith, none, bit_at_or bits more b))
+
+  -- one more name
+  pub unchanged-more : (elements : ℕ → Element) (k word bits more : ℕ) → ((m : ℕ) → m < k → IsUnchanged symbols before now (elements m) word bits) → IsUnchanged symbols before now (elements k) word more
+      → (m : ℕ) → m < k + 1 → IsUnchanged symbols before now (elements m) word (bit_or bits more)
+  unchanged-more elements k word bits more unchanged next =
+      below_more (λ m. IsUnchanged symbols before now (elements m) word (bit_or bits more)) k (λ m low. unchanged-first (elements m) word bits more (unchanged m low)) (unchanged-second (elements k) word bits more next)
 
 -- A set statement of two policies, at the symbols of a word that both keep or neither does, and of whose mentioned attributes nothing
 -- changed.

@@ -54,7 +54,7 @@ module _ {A : Type 0} (symbols : List (List ℕ)) (r : Resolved A) where
   given-mentioned order j within a t attribute at mentioned =
       gives-other symbols (meaning_in r) a t attribute at (set_at r j) (none-behind (sets_in r) no_set order j j (omega arith) within attribute mentioned)
 
-module _ {A B : Type 0} (symbols : List (List ℕ)) (old : Resolved A) (new : Resolved B) (matching : Matched) (matched : AreMatched IsSameSet (sets_in old) (sets_in new) matching) where
+module _ {A B : Type 0} (symbols : List (List ℕ)) (old : Resolved A) (new : Resolved B) where
   -- nor did it in the old policy
   pub gave-mentioned : AreInOrder (sets_in new) → (i j : ℕ) → IsSameSet (set_at old i) (set_at new j) → j < length (sets_in new) → (a t : ℕ) (attribute : List ℕ) → slice_get symbols a ≡ Some attribute
       → IsTrue (mentions attribute (set_at new j).expr) → given symbols old i a t ≡ 0
@@ -63,6 +63,7 @@ module _ {A B : Type 0} (symbols : List (List ℕ)) (old : Resolved A) (new : Re
       gives-other symbols (meaning_in old) a t attribute at (set_at old i)
       (ap (λ name. bytes_eq attribute name) (same-attribute (set_at old i) (set_at new j) same) ∙ none-behind (sets_in new) no_set order j j (omega arith) within attribute mentioned)
 
+module _ {A B : Type 0} (symbols : List (List ℕ)) (old : Resolved A) (new : Resolved B) (matching : Matched) (matched : AreMatched IsSameSet (sets_in old) (sets_in new) matching) where
   -- behind the first pass
   pub stayed-all : (a t count : ℕ) → count + sum_below (gone symbols old matching a t) (length (sets_in old)) ≡ sum_below (given_by symbols old a t) (length (sets_in old))
       → count ≡ sum_below (stayed symbols old matching a t) (length (sets_in new))

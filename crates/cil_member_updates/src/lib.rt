@@ -4,9 +4,9 @@
 mod kept;
 mod laws;
 mod masks;
+mod passes;
 mod sets;
 mod side;
-mod update;
 #[cfg(test)]
 mod update_tests;
 mod visits;
@@ -15,5 +15,5 @@ mod words;
 
 pub use kept::KeptTypes;
 pub use laws::{counts_stay, sides_stay};
+pub use passes::update;
 pub use side::Side;
-pub use update::update;

@@ -57,7 +57,7 @@ fn is_held<A: Allocator>(
         i,
         ty,
         |attribute|
-            ensures { (a : ℕ) → slice_get side.entry.now.numbering.now.symbols attribute ≡ Some a → result ≡ nat_lt 0 (counts_at when.entry.now rows.entry.now a t.entry) }
+            ensures { (a : ℕ) → slice_get side.entry.now.numbering.now.symbols attribute ≡ Some a → result ≡ nat_lt 0 (counts_at when.entry.now rows.entry.now a t) }
         { is_known(side, rows, when, attribute, t) },
         meter,
     )

@@ -17,7 +17,10 @@ ghost use Rattle.cil_member_updates.specs.Bits.{Cover};
 use crate::side::Side;
 use crate::when::{When, members};
 use cil_member_rows::MemberRows;
-use cil_resolve::{Element, reach_is_a_bound, expressions_agree};
+use cil_resolve::{
+    Element, expressions_agree, reach_is_a_bound, resolved_is_sound, resolved_names_are_kept,
+    resolved_sets_are_in_order,
+};
 use cil_symbols::Symbols;
 use std::alloc::Allocator;
 
@@ -167,6 +170,9 @@ pub fn unsettled<A: Allocator>(
         (holds symbols.now (meaning_in new.now.resolved.now) (set_at new.now.resolved.now j) t)) word result }
 {
     expressions_agree();
+    resolved_is_sound(new.resolved);
+    resolved_names_are_kept(new.resolved);
+    resolved_sets_are_in_order(new.resolved);
     let changed = changed_by_names(symbols, new, rows, j, word);
     changed | (old.kept.word(word) ^ new.kept.word(word))
 }

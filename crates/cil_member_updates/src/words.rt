@@ -39,9 +39,13 @@ pub fn lower_word<A: Allocator + Copy>(
     ensures before { (a t : ℕ) → count_before rows.new a t ≡ count_before rows.old a t }
     ensures rows { rows_in rows.new ≡ rows_in rows.old }
 {
+    let row = row_of(symbols, old, i);
     let visits = reached(symbols, old, rows, &When::Before, i, word);
+    if visits == 0 {
+        return Ok(());
+    }
     let was = masked(symbols, old, rows, &When::Before, i, word, visits, meter);
-    rows.shift(alloc, row_of(symbols, old, i), word, was, 0)
+    rows.shift(alloc, row, word, was, 0)
 }
 
 /// Raises the counters of a word by what the set statement at a place gives.
@@ -63,9 +67,13 @@ pub fn raise_word<A: Allocator + Copy>(
     ensures before { (a t : ℕ) → count_before rows.new a t ≡ count_before rows.old a t }
     ensures rows { rows_in rows.new ≡ rows_in rows.old }
 {
+    let row = row_of(symbols, new, j);
     let visits = reached(symbols, new, rows, &When::Now, j, word);
+    if visits == 0 {
+        return Ok(());
+    }
     let is = masked(symbols, new, rows, &When::Now, j, word, visits, meter);
-    rows.shift(alloc, row_of(symbols, new, j), word, 0, is)
+    rows.shift(alloc, row, word, 0, is)
 }
 
 /// Moves the counters of a word from what a set statement gave in the old policy to what it gives in the new one.
@@ -94,8 +102,12 @@ pub fn move_word<A: Allocator + Copy>(
     ensures before { (a t : ℕ) → count_before rows.new a t ≡ count_before rows.old a t }
     ensures rows { rows_in rows.new ≡ rows_in rows.old }
 {
+    let row = row_of(symbols, new, j);
     let visits = unsettled(symbols, old, new, rows, i, j, word);
+    if visits == 0 {
+        return Ok(());
+    }
     let was = masked(symbols, old, rows, &When::Before, i, word, visits, meter);
     let is = masked(symbols, new, rows, &When::Now, j, word, visits, meter);
-    rows.shift(alloc, row_of(symbols, new, j), word, was, is)
+    rows.shift(alloc, row, word, was, is)
 }

@@ -3,7 +3,7 @@ use Rattle.cil_member_rows.specs.Rows.{count_before, count_now, rows_in}
 use Rattle.cil_resolve.specs.Sets.{sets_in}
 use Rattle.cil_sums.specs.Sums.{sum_below}
 use Rattle.cil_member_updates.specs.Passes.{gone, given_by}
-use Rattle.cil_member_updates.proofs.update.lower_gone.Given as goal
+use Rattle.cil_member_updates.proofs.passes.lower_gone.Given as goal
 
 -- those so far that went aren't counted any more
 abbrev pub invariant-loop-i : goal.invariant-loop-i

@@ -3,7 +3,7 @@ use Rattle.cil_member_rows.specs.Rows.{count_before, count_now, rows_in}
 use Rattle.cil_resolve.specs.Sets.{sets_in}
 use Rattle.cil_sums.specs.Sums.{sum_below}
 use Rattle.cil_member_updates.specs.Passes.{given_by, stayed}
-use Rattle.cil_member_updates.proofs.update.renew.Given as goal
+use Rattle.cil_member_updates.proofs.passes.renew.Given as goal
 
 -- The set statements so far count as in the new policy, and the others that stayed as in the old one.
 abbrev pub invariant-loop-j : goal.invariant-loop-j
