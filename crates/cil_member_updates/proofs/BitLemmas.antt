@@ -1,7 +1,7 @@
 -- Bits of words.
 use Rattle.std.proofs.Common.{◌≡◌, ◌≢◌, ◌==◌, ◌+◌, ◌*◌, ◌/◌, ◌%◌, ◌^◌, ◌<◌, ◌≤◌, ◌&&◌, ℕ, Bool, true, false, bit_and, bit_or, min, nat_lt, refl, sym, ap, ◌∙◌, inl, inr, arith, w64, below_more}
 use Rattle.std.proofs.lemmas.Bool.{cases_eq, cases_lt, eq-eqb, ne_eqb, le-ltb}
-use Rattle.std.proofs.lemmas.Nat.Bits.{bit_at_and, bit_at_or, bit_at_set_same, bit_at_set_other, bit_at-lt, bit_at-pow_same, bit_at-pow_other, bit_at-zero}
+use Rattle.std.proofs.lemmas.Nat.Bits.{shr_and_one, bit_at_and, bit_at_or, bit_at_set_same, bit_at_set_other, bit_at-lt, bit_at-pow_same, bit_at-pow_other, bit_at-zero}
 use Rattle.std.proofs.Math.Bool.{and-false}
 use Rattle.std.specs.Int.{bit_at}
 use Rattle.cil_lines.specs.Line.{IsPresence}
@@ -113,3 +113,33 @@ answer-other false t b at k other = ap (λ n. bit_at n k) (none (2 ^ (t % 64))) 
 pub cover-more : (tests : ℕ → ℕ → Bool) (k word bits more : ℕ) → ((m : ℕ) → m < k → Cover (tests m) word bits) → Cover (tests k) word more → (m : ℕ) → m < k + 1 → Cover (tests m) word (bit_or bits more)
 cover-more tests k word bits more covers next =
     below_more (λ m. Cover (tests m) word (bit_or bits more)) k (λ m low. cover-first (tests m) word bits more (covers m low)) (cover-second (tests k) word bits more next)
+
+-- A symbol that is looked at is a kept one; at any other no mask has a bit.
+module _ (keeps test : ℕ → Bool) (word visits kept b : ℕ) (within : b < 64) (are : AreBits keeps word kept) where
+  looked : bit_and (bit_and visits kept / 2 ^ b) 1 ≡ bit_at (bit_and visits kept) b
+  looked = shr_and_one (bit_and visits kept) b
+
+  pub looked-visit : bit_and (bit_and visits kept / 2 ^ b) 1 ≡ 1 → bit_at visits b ≡ 1
+  looked-visit is = omega (arith, is, looked, bit_at_and visits kept b, bit_at-lt visits b, bit_at-lt kept b)
+
+  pub looked-kept : bit_and (bit_and visits kept / 2 ^ b) 1 ≡ 1 → keeps (64 * word + b) ≡ true
+  looked-kept is = by (keeps (64 * word + b)) refl
+    where
+      set : bit_at kept b ≡ 1
+      set = omega (arith, is, looked, bit_at_and visits kept b, bit_at-lt visits b, bit_at-lt kept b)
+
+      by : (h : Bool) → keeps (64 * word + b) ≡ h → h ≡ true
+      by true e = refl
+      by false e = absurd (apart (are b within ∙ ap one_if e))
+        where
+          apart : bit_at kept b ≡ 0 → ⊥
+          apart none = omega (arith, set, none)
+
+  pub looked-past : (bit_and (bit_and visits kept / 2 ^ b) 1 ≡ 1 → ⊥) → (keeps (64 * word + b) ≡ false → test (64 * word + b) ≡ false) → ((bit_at visits b == 1) && test (64 * word + b)) ≡ false
+  looked-past not fails = by (keeps (64 * word + b)) refl
+    where
+      by : (h : Bool) → keeps (64 * word + b) ≡ h → ((bit_at visits b == 1) && test (64 * word + b)) ≡ false
+      by false e = ap (λ x. (bit_at visits b == 1) && x) (fails e) ∙ and-false (bit_at visits b == 1)
+      by true e =
+          ap (λ x. x && test (64 * word + b))
+          (ne_eqb (bit_at visits b) 1 (λ set. not (let one = are b within ∙ ap one_if e in omega (arith, looked, bit_at_and visits kept b, set, one))))

@@ -43,4 +43,12 @@ loop-i-preserved g c =
     }
 
 pub returns-clause-now : goal.returns-clause-now
-returns-clause-now g c a t = ?
+returns-clause-now g c a t =
+    let r = c.args.old.now.resolved.now in
+    let end = c.loop-i-test.false in
+    let within = c.loop-i.auto.i-end in
+    let all = c.sets_len-i-end.ensures in
+    let last : c.loop-i.i ≡ length (sets_in r) = omega (arith, end, within, all) in
+    let now = c.loop-i.invariant.now a t in
+    let same = ap (sum_below (gone c.args.symbols.now r c.args.matching.now a t)) last in
+    omega (arith, now, same)

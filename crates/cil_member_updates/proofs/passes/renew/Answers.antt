@@ -44,4 +44,15 @@ loop-j-preserved g c =
     }
 
 pub returns-clause-now : goal.returns-clause-now
-returns-clause-now g c = ?
+returns-clause-now g c =
+    let r = c.args.new.now.resolved.now in
+    sum-counts c.args.symbols.now r (count_now c.loop-j.rows)
+    (λ a t.
+    let end = c.loop-j-test.false in
+    let within = c.loop-j.auto.j-end in
+    let all = c.sets_len-j-end.ensures in
+    let last : c.loop-j.j ≡ length (sets_in r) = omega (arith, end, within, all) in
+    let now = c.loop-j.invariant.now a t in
+    let same_was = ap (sum_below (stayed c.args.symbols.now c.args.old.now.resolved.now c.args.matching.now a t)) last in
+    let same_is = ap (sum_below (given_by c.args.symbols.now r a t)) last in
+    omega (arith, now, same_was, same_is))

@@ -22,10 +22,11 @@ loop-i-preserved g c =
     let end = c.loop-i-test.true in
     let all = c.types_len-i-end.ensures in
     let long = c.loop-i.invariant.long in
-    let within = slice_get_within c.args.symbols.now symbol _ c.type_symbol-symbol.ensures in
+    let within = slice_get_within c.args.symbols.now symbol (get_or types c.loop-i.i no_declared).name c.type_symbol-symbol.ensures in
     record {
       long = length-set c.loop-i.words.items (symbol / 64) _ ∙ long;
-      among = ?;
+      among =
+          among-more c.args.symbols.now c.len.ensures.distinct types c.loop-i.i no_declared (omega (arith, end, all)) symbol c.type_symbol-symbol.ensures c.loop-i.words.items (omega (arith, long, within)) c.loop-i.invariant.among;
     }
 
 pub returns : goal.returns
