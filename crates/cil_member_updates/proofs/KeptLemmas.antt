@@ -1,19 +1,20 @@
 -- The kept types by symbols, type by type.
-use Rattle.std.proofs.Common.{◌≡◌, ◌≢◌, ◌==◌, ◌+◌, ◌*◌, ◌/◌, ◌%◌, ◌^◌, ◌<◌, ◌≤◌, ◌||◌, ℕ, zero, suc, Bool, true, false, List, [], ◌∷◌, length, take, replicate, set, Option, None, Some, bytes_eq, bit_or, get_or, slice_get, refl, sym, ap, ◌∙◌, subst, inl, inr, arith, w64, get_or-set_same, get_or-set_other}
+use Rattle.std.proofs.Common.{◌≡◌, ◌≢◌, ◌+◌, ◌*◌, ◌/◌, ◌%◌, ◌^◌, ◌<◌, ◌≤◌, ◌||◌, ℕ, zero, suc, Bool, true, false, List, [], length, take, replicate, set, Option, None, Some, bytes_eq, bit_or, get_or, slice_get, refl, sym, ap, ◌∙◌, subst, inl, inr, arith, w64, get_or-set_same, get_or-set_other}
 use Rattle.std.specs.List.{list_any, IsDistinct}
 use Rattle.std.specs.Int.{bit_at}
 use Rattle.std.proofs.Math.Bool.{or-true, or-false}
-use Rattle.std.proofs.lemmas.Bool.{cases_eq, eq-eqb, ne_eqb}
+use Rattle.std.proofs.lemmas.Bool.{cases_eq}
 use Rattle.std.proofs.lemmas.List.{take_all}
 use Rattle.std.proofs.lemmas.List.Folds.{list_any_more}
 use Rattle.std.proofs.lemmas.Nat.Bits.{bit_at_set_same, bit_at_set_other, bit_at-zero}
+use Rattle.std.proofs.lemmas.Option.{same_Some, slice_get-get_or}
 use Rattle.std.proofs.lemmas.Slice.Eq.{bytes_eq-Decides}
 use Rattle.cil_specs.specs.Rule.{Declared}
 use Rattle.cil_specs.specs.Meaning.{Meaning}
 use Rattle.cil_sets.specs.Counts.{one_if}
 use Rattle.cil_member_updates.specs.Bits.{AreBits}
 use Rattle.cil_member_updates.specs.Given.{of_name, keeps}
-use Rattle.cil_member_updates.proofs.NameLemmas.{same-symbol, bytes-refl, fails-by}
+use Rattle.cil_member_updates.proofs.NameLemmas.{same-symbol, bytes-refl}
 
 -- whether the type of a symbol is among some
 abbrev pub is_among : List (List ℕ) → List Declared → ℕ → Bool
@@ -58,7 +59,7 @@ module _ (symbols : List (List ℕ)) (distinct : IsDistinct bytes_eq symbols) (t
           ∙ or-false (list_any (λ x. bytes_eq name x.name) (take i types))
 
   -- one more type
-  pub among-more : (words : List ℕ) → symbol / 64 < length words → AreAmong symbols (take i types) words → AreAmong symbols (take (i + 1) types) (set words (symbol / 64) (bit_or (get_or words (symbol / 64) 0) (1 * 2 ^ (symbol % 64) % 2 ^ 64)))
+  among-more : (words : List ℕ) → symbol / 64 < length words → AreAmong symbols (take i types) words → AreAmong symbols (take (i + 1) types) (set words (symbol / 64) (bit_or (get_or words (symbol / 64) 0) (1 * 2 ^ (symbol % 64) % 2 ^ 64)))
   among-more words within are w b b_within =
       elim (cases_eq w (symbol / 64)) [
         | inl same ↦
@@ -82,6 +83,14 @@ module _ (symbols : List (List ℕ)) (distinct : IsDistinct bytes_eq symbols) (t
                 bit_at_set_other w64 (get_or words (symbol / 64) 0) (symbol % 64) (omega arith) b other ∙ are (symbol / 64) b b_within
                 ∙ sym (ap one_if (among-other (64 * (symbol / 64) + b) (λ e. other (omega (arith, e, b_within)))))
           ]
+
+  -- by the bits that were read
+  pub among-next : (words : List ℕ) (bits : ℕ) → bits ≡ get_or words (symbol / 64) bits → symbol / 64 < length words → AreAmong symbols (take i types) words
+      → AreAmong symbols (take (i + 1) types) (set words (symbol / 64) (bit_or bits (1 * 2 ^ (symbol % 64) % 2 ^ 64)))
+  among-next words bits is within are =
+      let same : bits ≡ get_or words (symbol / 64) 0 =
+      is ∙ same_Some (get_or words (symbol / 64) bits) (get_or words (symbol / 64) 0) (sym (slice_get-get_or words (symbol / 64) bits within) ∙ slice_get-get_or words (symbol / 64) 0 within) in
+      subst (λ low. AreAmong symbols (take (i + 1) types) (set words (symbol / 64) (bit_or low (1 * 2 ^ (symbol % 64) % 2 ^ 64)))) (sym same) (among-more words within are)
 
 -- behind the last type
 pub among-all : (symbols : List (List ℕ)) (meaning : Meaning) (i : ℕ) (words : List ℕ) → length meaning.types ≤ i → AreAmong symbols (take i meaning.types) words → (w : ℕ) → AreBits (keeps symbols meaning) w (get_or words w 0)

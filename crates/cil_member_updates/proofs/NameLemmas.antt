@@ -1,13 +1,13 @@
 -- Names by their symbols.
-use Rattle.std.proofs.Common.{◌≡◌, ◌≢◌, ◌==◌, ◌+◌, ◌-◌, ◌*◌, ◌/◌, ◌%◌, ◌<◌, ◌≤◌, ◌&&◌, ◌||◌, ℕ, zero, suc, Bool, true, false, List, [], ◌∷◌, length, Option, None, Some, Contains, IsTrue, below_more, bit_or, bytes_eq, get_or, map, min, nat_lt, slice_get, refl, sym, ap, ◌∙◌, subst, inl, inr, arith, true≢false}
-use Rattle.std.specs.List.{list_any, AllByRecursion, IsDistinct}
+use Rattle.std.proofs.Common.{◌≡◌, ◌≢◌, ◌==◌, ◌+◌, ◌-◌, ◌*◌, ◌<◌, ◌&&◌, ℕ, zero, suc, Bool, true, false, List, [], ◌∷◌, length, Option, None, Some, Contains, IsTrue, below_more, bit_or, bytes_eq, min, nat_lt, slice_get, refl, sym, ap, ◌∙◌, subst, inl, inr, arith, true≢false}
+use Rattle.std.specs.List.{AllByRecursion, IsDistinct}
 use Rattle.std.specs.Int.{bit_at}
 use Rattle.std.proofs.Math.Bool.{and-false}
-use Rattle.std.proofs.lemmas.Bool.{cases_eq, cases_lt, eq-eqb, ne_eqb, and_parts, lt-ltb, le-ltb}
+use Rattle.std.proofs.lemmas.Bool.{cases_eq, cases_lt, eq-eqb, ne_eqb, lt-ltb, le-ltb}
 use Rattle.std.proofs.lemmas.Nat.Bits.{bit_at_or}
 use Rattle.std.proofs.lemmas.Option.{none-some, same_Some}
 use Rattle.std.proofs.lemmas.Slice.Eq.{bytes_eq-Decides}
-use Rattle.cil_specs.specs.Expr.{Expr, named, leaves}
+use Rattle.cil_specs.specs.Expr.{Expr, leaves}
 use Rattle.cil_specs.specs.Meaning as meanings
 use Rattle.cil_specs.specs.Meaning.{Meaning, is_in, keeps_type}
 use Rattle.cil_specs.specs.Members.{is_member}
@@ -19,7 +19,7 @@ use Rattle.cil_specs.proofs.NamesLemmas.{contains-middle}
 use Rattle.cil_lines.specs.Line.{IsPresence}
 use Rattle.cil_sets.specs.Counts.{one_if}
 use Rattle.cil_member_updates.specs.Bits.{AreBits, Cover}
-use Rattle.cil_member_updates.specs.Given.{of_name, keeps, holds, is_of, gives, element_holds, IsUnchanged, Tell}
+use Rattle.cil_member_updates.specs.Given.{of_name, keeps, holds, is_of, element_holds, IsUnchanged, Tell}
 use Rattle.cil_member_updates.proofs.BitLemmas.{cover-bits, cover-present}
 
 pub bytes-refl : (x : List ℕ) → bytes_eq x x ≡ true

@@ -1,17 +1,16 @@
 -- What set statements gave that stayed, and what the new ones give.
-use Rattle.std.proofs.Common.{◌≡◌, ◌+◌, ◌<◌, ◌≤◌, ◌&&◌, ℕ, Bool, true, false, List, length, Option, None, Some, IsTrue, bytes_eq, count_by, get_or, slice_get, refl, sym, ap, ◌∙◌, subst, arith}
+use Rattle.std.proofs.Common.{◌≡◌, ◌+◌, ◌<◌, ℕ, false, List, length, Option, None, Some, IsTrue, bytes_eq, count_by, get_or, slice_get, refl, sym, ap, ◌∙◌, subst, arith}
 use Rattle.std.proofs.lemmas.Option.{slice_get_within, get_or_from_slice_get}
-use Rattle.cil_specs.specs.Dependence.{AreInOrder, AreTheSame}
+use Rattle.cil_specs.specs.Dependence.{AreInOrder}
 use Rattle.cil_specs.specs.Meaning.{Meaning}
-use Rattle.cil_specs.specs.Members.{HasSoundSets}
 use Rattle.cil_specs.specs.Rule.{SetStatement, IsSameSet}
 use Rattle.cil_specs.specs.Sets.{mentions}
 use Rattle.cil_sums.specs.Sums.{sum_below, across, ArePlaces}
 use Rattle.cil_sums.proofs.SumLemmas.{across-some, across-none}
 use Rattle.cil_matching.specs.Matching.{Matched, AreMatched, AreSameAt}
 use Rattle.cil_sets.specs.Counts.{one_if}
-use Rattle.cil_member_updates.specs.Given.{gives, Tell}
-use Rattle.cil_member_updates.proofs.GivenLemmas.{none-behind, gives-other, count-sum, counts-tell}
+use Rattle.cil_member_updates.specs.Given.{gives}
+use Rattle.cil_member_updates.proofs.GivenLemmas.{none-behind, gives-other, count-sum}
 use Rattle.cil_member_updates.proofs.PassLemmas.{settled}
 
 pub same-attribute : (s t : SetStatement) → IsSameSet s t → s.attribute ≡ t.attribute
@@ -60,7 +59,7 @@ module _ (xs ys : List SetStatement) (d : SetStatement) where
       -- what a set statement mentions is counted as in the new policy when its turn comes
       pub settled-at : AreInOrder ys → (new : Meaning) (j : ℕ) → j < length ys → IsTrue (mentions attribute (get_or ys j d).expr) → (count : ℕ)
           → count + sum_below (across (λ i. one_if (gives symbols old a t (get_or xs i d))) matching.back) j
-            ≡ sum_below (λ i. one_if (gives symbols new a t (get_or ys i d))) j + sum_below (across (λ i. one_if (gives symbols old a t (get_or xs i d))) matching.back) (length ys)
+          ≡ sum_below (λ i. one_if (gives symbols new a t (get_or ys i d))) j + sum_below (across (λ i. one_if (gives symbols old a t (get_or xs i d))) matching.back) (length ys)
           → count ≡ count_by (gives symbols new a t) ys
       settled-at order new j within mentioned count e =
           settled (across (λ i. one_if (gives symbols old a t (get_or xs i d))) matching.back) (λ i. one_if (gives symbols new a t (get_or ys i d))) (length ys) count j (omega (arith, within)) e

@@ -1,7 +1,7 @@
 -- A policy by symbols, and the counters of its members.
-use Rattle.std.proofs.Common.{◌≡◌, ◌+◌, ◌/◌, ◌<◌, ◌≤◌, ℕ, Bool, List, length, Some, IsTrue, bytes_eq, count_by, get_or, nat_lt, slice_get, sym, ap, ◌∙◌, arith}
+use Rattle.std.proofs.Common.{◌≡◌, ◌+◌, ◌<◌, ◌≤◌, ℕ, Bool, List, length, Some, IsTrue, bytes_eq, get_or, nat_lt, slice_get, sym, ap, ◌∙◌, arith}
 use Rattle.cil_specs.specs.Dependence.{AreInOrder, AreTheSame}
-use Rattle.cil_specs.specs.Members.{is_member, HasSoundSets}
+use Rattle.cil_specs.specs.Members.{HasSoundSets}
 use Rattle.cil_specs.specs.Rule.{SetStatement, IsSameSet}
 use Rattle.cil_specs.specs.Sets.{mentions}
 use Rattle.cil_parse.specs.Lexicon.{AreNumbersOf}
@@ -11,14 +11,13 @@ use Rattle.cil_resolve.specs.declared.resolved.Resolved.{Resolved}
 use Rattle.cil_sets.specs.Places.{no_set, set_at}
 use Rattle.cil_matching.specs.Matching.{Matched, AreMatched}
 use Rattle.cil_sums.specs.Sums.{sum_below}
-use Rattle.cil_sums.proofs.SumLemmas.{sum-none}
 use Rattle.cil_member_updates.specs.Given.{gives, Tell}
 use Rattle.cil_member_updates.specs.Passes.{given_by, gone, stayed}
 use Rattle.cil_member_updates.specs.Policy.{given, AreCounts}
 use Rattle.cil_member_updates.proofs.GivenLemmas.{count-sum, counts-tell, gives-other, none-behind}
 use Rattle.cil_member_updates.proofs.PassLemmas.{gone-all}
-use Rattle.cil_member_updates.proofs.RenewLemmas.{places, same-attribute, same-at, settled-at, stayed-other}
-use Rattle.cil_member_updates.proofs.SymbolLemmas.{symbol-name, symbol-some, symbol-within}
+use Rattle.cil_member_updates.proofs.RenewLemmas.{places, same-attribute, settled-at}
+use Rattle.cil_member_updates.proofs.SymbolLemmas.{symbol-name, symbol-some}
 use Rattle.cil_member_updates.proofs.WordLemmas.{gives-past}
 
 module _ {A : Type 0} (symbols : List (List ℕ)) (r : Resolved A) where

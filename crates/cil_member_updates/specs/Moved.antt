@@ -1,5 +1,5 @@
 -- Counters that were moved from what a set statement gave to what it gives.
-use Rattle.std.specs.Prelude.{◌≡◌, ◌≢◌, ◌+◌, ◌/◌, ◌≤◌, ◌<◌, ℕ}
+use Rattle.std.specs.Prelude.{◌≡◌, ◌≢◌, ◌+◌, ◌/◌, ℕ}
 
 -- counters of the symbols of a word
 pub record IsMoved (word : ℕ) (was is : ℕ → ℕ → ℕ) (old new : ℕ → ℕ → ℕ) : Type 0 where

@@ -18,12 +18,10 @@ use std::alloc::{AllocError, Global};
 use std::process::Abort;
 
 // Two types and three attributes.
-const TWO: &[u8] =
-    b"(type a)(type b)        (typeattribute s)(typeattribute n)(typeattribute m)";
+const TWO: &[u8] = b"(type a)(type b)        (typeattribute s)(typeattribute n)(typeattribute m)";
 
 // One type more, and the statements behind it at the same places.
-const THREE: &[u8] =
-    b"(type a)(type b)(type c)(typeattribute s)(typeattribute n)(typeattribute m)";
+const THREE: &[u8] = b"(type a)(type b)(type c)(typeattribute s)(typeattribute n)(typeattribute m)";
 
 // The parsed module of a text.
 fn module_of(rt: &impl Abort, alloc: Global, text: &[u8]) -> ParsedModule
@@ -177,7 +175,8 @@ fn assert_followed(
 #[test]
 fn a_type_comes_and_goes(rt: HostRuntime) {
     let alloc = rt.alloc();
-    let sets: &[u8] = b"(typeattributeset s (all))(typeattributeset n (not (a)))(typeattributeset m (a b))";
+    let sets: &[u8] =
+        b"(typeattributeset s (all))(typeattributeset n (not (a)))(typeattributeset m (a b))";
     let two: [&[u8]; 2] = [TWO, sets];
     let three: [&[u8]; 2] = [THREE, sets];
     let of_two: [&[u8]; 3] = [b"ab", b"b", b"ab"];

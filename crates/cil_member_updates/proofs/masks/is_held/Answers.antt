@@ -1,5 +1,4 @@
-use Rattle.std.proofs.Common.{◌≡◌, ◌∙◌, ℕ, Some, get_or, nat_lt, of_calls, rules, slice_get, subst, sym}
-use Rattle.std.specs.Option.{IsSome}
+use Rattle.std.proofs.Common.{◌≡◌, ◌∙◌, ℕ, Some, get_or, nat_lt, of_calls, rules, slice_get, sym}
 use Rattle.cil_resolve.specs.Resolved.{meaning_in}
 use Rattle.cil_resolve.specs.Sets.{name_in}
 use Rattle.cil_sets.specs.Places.{set_at}

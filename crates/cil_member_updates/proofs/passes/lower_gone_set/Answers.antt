@@ -1,10 +1,10 @@
-use Rattle.std.proofs.Common.{◌≡◌, ◌+◌, ℕ, None, Some, refl, sym, arith}
+use Rattle.std.proofs.Common.{refl, arith}
 use Rattle.std.proofs.lemmas.Option.{none-some}
 use Rattle.std.proofs.lemmas.Result.{on_ok_weaker}
 use Rattle.cil_member_rows.specs.Rows.{count_now}
 use Rattle.cil_sums.proofs.SumLemmas.{alone-none, alone-some}
 use Rattle.cil_member_updates.specs.Moved.{nothing, AreMoved}
-use Rattle.cil_member_updates.specs.Passes.{given_by, gone}
+use Rattle.cil_member_updates.specs.Passes.{given_by}
 use Rattle.cil_member_updates.specs.Policy.{given}
 use Rattle.cil_member_updates.proofs.passes.lower_gone_set.Goals as goal
 

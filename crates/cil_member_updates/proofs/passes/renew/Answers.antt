@@ -1,5 +1,5 @@
-use Rattle.std.proofs.Common.{◌≡◌, ◌+◌, ◌∙◌, length, refl, sym, ap, arith}
-use Rattle.cil_member_rows.specs.Rows.{count_before, count_now}
+use Rattle.std.proofs.Common.{◌≡◌, ◌∙◌, length, refl, ap, arith}
+use Rattle.cil_member_rows.specs.Rows.{count_now}
 use Rattle.cil_resolve.specs.Sets.{sets_in}
 use Rattle.cil_sums.specs.Sums.{sum_below}
 use Rattle.cil_sums.proofs.SumLemmas.{sum-none}

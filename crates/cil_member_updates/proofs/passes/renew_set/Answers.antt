@@ -1,4 +1,4 @@
-use Rattle.std.proofs.Common.{◌≡◌, ◌+◌, ℕ, None, Some, refl, sym, arith}
+use Rattle.std.proofs.Common.{refl, arith}
 use Rattle.std.proofs.lemmas.Option.{none-some}
 use Rattle.std.proofs.lemmas.Result.{on_ok_weaker}
 use Rattle.cil_member_rows.specs.Rows.{count_before, count_now}
@@ -6,7 +6,7 @@ use Rattle.cil_resolve.specs.Sets.{sets_in}
 use Rattle.cil_sets.specs.Places.{no_set, set_at}
 use Rattle.cil_sums.proofs.SumLemmas.{across-none, across-some}
 use Rattle.cil_member_updates.specs.Moved.{nothing, AreMoved}
-use Rattle.cil_member_updates.specs.Passes.{given_by, stayed}
+use Rattle.cil_member_updates.specs.Passes.{given_by}
 use Rattle.cil_member_updates.specs.Policy.{given}
 use Rattle.cil_member_updates.proofs.RenewLemmas.{same-at}
 use Rattle.cil_member_updates.proofs.SideLemmas.{counts-members}

@@ -1,4 +1,4 @@
-use Rattle.std.proofs.Common.{◌≡◌, ◌∙◌, sym, subst}
+use Rattle.std.proofs.Common.{◌∙◌, sym, subst}
 use Rattle.cil_resolve.specs.Resolved.{meaning_in}
 use Rattle.cil_sets.specs.Places.{set_at}
 use Rattle.cil_sets.proofs.LookLemmas.{set-there}

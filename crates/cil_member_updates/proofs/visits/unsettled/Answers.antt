@@ -1,4 +1,4 @@
-use Rattle.std.proofs.Common.{◌≡◌, ◌+◌, ◌∙◌, ℕ, List, IsTrue, Some, arith, bit_or, bit_xor, slice_get, subst, sym}
+use Rattle.std.proofs.Common.{◌≡◌, ℕ, List, IsTrue, Some, arith, bit_or, bit_xor, slice_get, subst, sym}
 use Rattle.std.proofs.lemmas.List.Elements.{Contains-get_or}
 use Rattle.std.proofs.lemmas.Nat.Bits.{bit_at_or, bit_at_xor, bit_at-lt}
 use Rattle.cil_specs.specs.Rule.{an_attribute}

@@ -1,9 +1,9 @@
-use Rattle.std.proofs.Common.{◌∙◌, ◌+◌, ◌/◌, ◌*◌, ◌^◌, ◌%◌, bit_or, get_or, length, subst, sym, arith}
+use Rattle.std.proofs.Common.{◌∙◌, ◌+◌, ◌/◌, get_or, arith}
 use Rattle.std.proofs.lemmas.List.{length-set}
 use Rattle.std.proofs.lemmas.Option.{slice_get_within}
 use Rattle.cil_resolve.specs.Resolved.{meaning_in}
 use Rattle.cil_sets.specs.Places.{no_declared}
-use Rattle.cil_member_updates.proofs.KeptLemmas.{among-none, among-more, among-all}
+use Rattle.cil_member_updates.proofs.KeptLemmas.{among-none, among-next, among-all}
 use Rattle.cil_member_updates.proofs.kept.KeptTypes.of.Goals as goal
 
 pub loop-i-init : goal.loop-i-init
@@ -26,7 +26,7 @@ loop-i-preserved g c =
     record {
       long = length-set c.loop-i.words.items (symbol / 64) _ ∙ long;
       among =
-          among-more c.args.symbols.now c.len.ensures.distinct types c.loop-i.i no_declared (omega (arith, end, all)) symbol c.type_symbol-symbol.ensures c.loop-i.words.items (omega (arith, long, within)) c.loop-i.invariant.among;
+          among-next c.args.symbols.now c.len.ensures.distinct types c.loop-i.i no_declared (omega (arith, end, all)) symbol c.type_symbol-symbol.ensures c.loop-i.words.items c.index-bits.result.now c.index-bits.ensures (omega (arith, long, within)) c.loop-i.invariant.among;
     }
 
 pub returns : goal.returns
