@@ -42,6 +42,15 @@ pub sum-zero : (f : ℕ → ℕ) (n : ℕ) → ((i : ℕ) → i < n → f i ≡ 
 sum-zero f zero none = sum-none f
 sum-zero f (suc n) none = let before = sum-zero f n (λ i h. none i (omega (arith, h))) in omega (arith, before, none n (omega arith), sum-suc f n)
 
+-- what is 0 from a number on adds nothing
+pub sum-rest : (f : ℕ → ℕ) (m n : ℕ) → m ≤ n → ((i : ℕ) → m ≤ i → i < n → f i ≡ 0) → sum_below f m ≡ sum_below f n
+sum-rest f m zero low none = let e : m ≡ 0 = omega (arith, low) in ap (sum_below f) e
+sum-rest f m (suc n) low none =
+    elim (cases_lt n m) [
+      | inl past ↦ let e : m ≡ suc n = omega (arith, low, past) in ap (sum_below f) e
+      | inr within ↦ let before = sum-rest f m n within (λ i high h. none i high (omega (arith, h))) in omega (arith, before, none n within (omega arith), sum-suc f n)
+    ]
+
 -- the sum of what is added at each number
 pub sum-plus : (f g : ℕ → ℕ) (n : ℕ) → sum_below (λ i. f i + g i) n ≡ sum_below f n + sum_below g n
 sum-plus f g zero = omega (arith, sum-none (λ i. f i + g i), sum-none f, sum-none g)

@@ -1,0 +1,145 @@
+-- Bits of words.
+use Rattle.std.proofs.Common.{◌≡◌, ◌≢◌, ◌==◌, ◌+◌, ◌*◌, ◌/◌, ◌%◌, ◌^◌, ◌<◌, ◌≤◌, ◌&&◌, ℕ, Bool, true, false, bit_and, bit_or, nat_lt, refl, sym, ap, ◌∙◌, inl, inr, arith, w64, below_more}
+use Rattle.std.proofs.lemmas.Bool.{cases_lt, eq-eqb, ne_eqb, le-ltb}
+use Rattle.std.proofs.lemmas.Nat.Bits.{shr_and_one, bit_at_and, bit_at_or, bit_at_set_same, bit_at-lt, bit_at-pow_same, bit_at-pow_other, bit_at-zero}
+use Rattle.std.proofs.Math.Bool.{and-false}
+use Rattle.std.specs.Int.{bit_at}
+use Rattle.cil_lines.specs.Line.{IsPresence}
+use Rattle.cil_sets.specs.Counts.{one_if}
+use Rattle.cil_member_updates.specs.Bits.{AreBits, AreHeld, Cover}
+
+pub cover-first : (test : ℕ → Bool) (word one other : ℕ) → Cover test word one → Cover test word (bit_or one other)
+cover-first test word one other covers b within none = covers b within (omega (arith, none, bit_at_or one other b))
+
+pub cover-second : (test : ℕ → Bool) (word one other : ℕ) → Cover test word other → Cover test word (bit_or one other)
+cover-second test word one other covers b within none = covers b within (omega (arith, none, bit_at_or one other b))
+
+-- the bit of a symbol in its word
+pub cover-here : (symbol word bits : ℕ) → bit_at bits (symbol % 64) ≡ 1 → Cover (λ t. symbol == t) word bits
+cover-here symbol word bits set b within none =
+    ne_eqb symbol (64 * word + b) (λ e. let at : symbol % 64 ≡ b = omega (arith, e, within) in let same = ap (bit_at bits) at in omega (arith, same, set, none))
+
+pub cover-there : (symbol word bits : ℕ) → symbol / 64 ≢ word → Cover (λ t. symbol == t) word bits
+cover-there symbol word bits other b within none = ne_eqb symbol (64 * word + b) (λ e. other (omega (arith, e, within)))
+
+-- who is present
+pub cover-present : (counts : ℕ → ℕ) (word bits : ℕ) → IsPresence counts word bits → Cover (λ t. nat_lt 0 (counts t)) word bits
+cover-present counts word bits presence b within none = le-ltb 0 (counts (64 * word + b)) (omega (arith, none, presence b within))
+
+pub cover-bits : (test : ℕ → Bool) (word bits : ℕ) → AreBits test word bits → Cover test word bits
+cover-bits test word bits are b within none = by (test (64 * word + b)) (sym (are b within) ∙ none)
+  where
+    by : (h : Bool) → one_if h ≡ 0 → h ≡ false
+    by true e = absurd (omega (arith, e))
+    by false e = refl
+
+-- the bits so far of those that a test holds at
+pub record HeldBelow (visits : ℕ) (test : ℕ → Bool) (word b mask : ℕ) : Type 0 where
+  pub below : (k : ℕ) → k < b → bit_at mask k ≡ one_if ((bit_at visits k == 1) && test (64 * word + k))
+  pub behind : (k : ℕ) → b ≤ k → bit_at mask k ≡ 0
+
+pub held-none : (visits : ℕ) (test : ℕ → Bool) (word : ℕ) → HeldBelow visits test word 0 0
+held-none visits test word = record {
+  below = λ k low. absurd (omega (arith, low));
+  behind = λ k high. bit_at-zero k;
+}
+
+module _ (visits : ℕ) (test : ℕ → Bool) (word b mask : ℕ) (held : HeldBelow visits test word b mask) where
+  -- no bit at a symbol where the test isn't asked for or fails
+  pub held-skip : ((bit_at visits b == 1) && test (64 * word + b)) ≡ false → HeldBelow visits test word (b + 1) mask
+  held-skip fails = record {
+    below = λ k low. elim (cases_lt k b) [
+      | inl before ↦ held.below k before
+      | inr last ↦ at k (omega (arith, low, last))
+    ];
+    behind = λ k high. held.behind k (omega (arith, high));
+  }
+    where
+      at : (k : ℕ) → k ≡ b → bit_at mask k ≡ one_if ((bit_at visits k == 1) && test (64 * word + k))
+      at k same = held.behind k (omega (arith, same)) ∙ sym (ap one_if (ap (λ j. (bit_at visits j == 1) && test (64 * word + j)) same ∙ fails))
+
+  -- the bit where the test is asked for
+  pub held-add : (answer : Bool) (more : ℕ) → b < 64 → bit_at visits b ≡ 1 → answer ≡ test (64 * word + b) → bit_at more b ≡ one_if answer → ((k : ℕ) → k ≢ b → bit_at more k ≡ 0)
+      → HeldBelow visits test word (b + 1) (bit_or mask more)
+  held-add answer more within set is here others = record {
+    below = λ k low. elim (cases_lt k b) [
+      | inl before ↦ omega (arith, bit_at_or mask more k, others k (λ e. omega (arith, e, before)), held.below k before)
+      | inr last ↦ at k (omega (arith, low, last))
+    ];
+    behind = λ k high. omega (arith, bit_at_or mask more k, others k (λ e. omega (arith, e, high)), held.behind k (omega (arith, high)));
+  }
+    where
+      at : (k : ℕ) → k ≡ b → bit_at (bit_or mask more) k ≡ one_if ((bit_at visits k == 1) && test (64 * word + k))
+      at k same =
+          ap (bit_at (bit_or mask more)) same
+          ∙ omega (arith, bit_at_or mask more b, held.behind b (omega arith), here)
+          ∙ ap one_if (is ∙ sym (ap (λ x. x && test (64 * word + b)) (eq-eqb (bit_at visits b) 1 set)) ∙ sym (ap (λ j. (bit_at visits j == 1) && test (64 * word + j)) same))
+
+pub held-all : (visits : ℕ) (test : ℕ → Bool) (word mask : ℕ) → HeldBelow visits test word 64 mask → AreHeld visits test word mask
+held-all visits test word mask held b within = held.below b within
+
+-- without a bit to visit no mask has a bit
+pub held-zero : (visits : ℕ) (test : ℕ → Bool) (word : ℕ) → visits ≡ 0 → AreHeld visits test word 0
+held-zero visits test word none b within =
+    bit_at-zero b
+    ∙ sym (ap (λ x. one_if (x && test (64 * word + b))) (ne_eqb (bit_at visits b) 1 (λ e. let zero_bit = ap (λ v. bit_at v b) none ∙ bit_at-zero b in omega (arith, e, zero_bit))))
+
+-- a bit alone
+pub one-bit : (k : ℕ) → k < 64 → bit_at (1 * 2 ^ k % 2 ^ 64) k ≡ 1
+one-bit k within = omega (arith, bit_at_set_same w64 0 k within, bit_at_or 0 (1 * 2 ^ k % 2 ^ 64) k, bit_at-zero k)
+
+-- the bit of an answer
+pub answer-bit : (answer : Bool) (t b : ℕ) → t % 64 ≡ b → bit_at (one_if answer * 2 ^ (t % 64)) b ≡ one_if answer
+answer-bit true t b at = ap (λ n. bit_at n b) (zero-one (2 ^ (t % 64))) ∙ ap (λ k. bit_at (2 ^ k) b) at ∙ bit_at-pow_same b
+  where
+    zero-one : (n : ℕ) → 1 * n ≡ n
+    zero-one n = omega arith
+answer-bit false t b at = ap (λ n. bit_at n b) (none (2 ^ (t % 64))) ∙ bit_at-zero b
+  where
+    none : (n : ℕ) → 0 * n ≡ 0
+    none n = omega arith
+
+pub answer-other : (answer : Bool) (t b : ℕ) → t % 64 ≡ b → (k : ℕ) → k ≢ b → bit_at (one_if answer * 2 ^ (t % 64)) k ≡ 0
+answer-other true t b at k other = ap (λ n. bit_at n k) (zero-one (2 ^ (t % 64))) ∙ bit_at-pow_other (t % 64) k (λ e. other (omega (arith, e, at)))
+  where
+    zero-one : (n : ℕ) → 1 * n ≡ n
+    zero-one n = omega arith
+answer-other false t b at k other = ap (λ n. bit_at n k) (none (2 ^ (t % 64))) ∙ bit_at-zero k
+  where
+    none : (n : ℕ) → 0 * n ≡ 0
+    none n = omega arith
+
+-- one more test of several is covered
+pub cover-more : (tests : ℕ → ℕ → Bool) (k word bits more : ℕ) → ((m : ℕ) → m < k → Cover (tests m) word bits) → Cover (tests k) word more → (m : ℕ) → m < k + 1 → Cover (tests m) word (bit_or bits more)
+cover-more tests k word bits more covers next =
+    below_more (λ m. Cover (tests m) word (bit_or bits more)) k (λ m low. cover-first (tests m) word bits more (covers m low)) (cover-second (tests k) word bits more next)
+
+-- A symbol that is looked at is a kept one; at any other no mask has a bit.
+module _ (keeps test : ℕ → Bool) (word visits kept b : ℕ) (within : b < 64) (are : AreBits keeps word kept) where
+  looked : bit_and (bit_and visits kept / 2 ^ b) 1 ≡ bit_at (bit_and visits kept) b
+  looked = shr_and_one (bit_and visits kept) b
+
+  pub looked-visit : bit_and (bit_and visits kept / 2 ^ b) 1 ≡ 1 → bit_at visits b ≡ 1
+  looked-visit is = omega (arith, is, looked, bit_at_and visits kept b, bit_at-lt visits b, bit_at-lt kept b)
+
+  pub looked-kept : bit_and (bit_and visits kept / 2 ^ b) 1 ≡ 1 → keeps (64 * word + b) ≡ true
+  looked-kept is = by (keeps (64 * word + b)) refl
+    where
+      set : bit_at kept b ≡ 1
+      set = omega (arith, is, looked, bit_at_and visits kept b, bit_at-lt visits b, bit_at-lt kept b)
+
+      by : (h : Bool) → keeps (64 * word + b) ≡ h → h ≡ true
+      by true e = refl
+      by false e = absurd (apart (are b within ∙ ap one_if e))
+        where
+          apart : bit_at kept b ≡ 0 → ⊥
+          apart none = omega (arith, set, none)
+
+  pub looked-past : (bit_and (bit_and visits kept / 2 ^ b) 1 ≡ 1 → ⊥) → (keeps (64 * word + b) ≡ false → test (64 * word + b) ≡ false) → ((bit_at visits b == 1) && test (64 * word + b)) ≡ false
+  looked-past not fails = by (keeps (64 * word + b)) refl
+    where
+      by : (h : Bool) → keeps (64 * word + b) ≡ h → ((bit_at visits b == 1) && test (64 * word + b)) ≡ false
+      by false e = ap (λ x. (bit_at visits b == 1) && x) (fails e) ∙ and-false (bit_at visits b == 1)
+      by true e =
+          ap (λ x. x && test (64 * word + b))
+          (ne_eqb (bit_at visits b) 1 (λ set. not (let one = are b within ∙ ap one_if e in omega (arith, looked, bit_at_and visits kept b, set, one))))

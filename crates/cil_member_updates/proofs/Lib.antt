@@ -1,0 +1,11 @@
+pub mod BitLemmas
+pub mod GivenLemmas
+pub mod GrowthLemmas
+pub mod KeptLemmas
+pub mod MovedLemmas
+pub mod NameLemmas
+pub mod PassLemmas
+pub mod RenewLemmas
+pub mod SideLemmas
+pub mod SymbolLemmas
+pub mod WordLemmas

@@ -1,0 +1,40 @@
+use Rattle.std.proofs.Common.{◌+◌, ◌*◌, ◌∙◌, ap, arith, refl, subst, sym}
+use Rattle.std.specs.Int.{bit_at}
+use Rattle.cil_resolve.specs.Resolved.{meaning_in}
+use Rattle.cil_sets.specs.Places.{set_at}
+use Rattle.cil_member_updates.specs.Bits.{AreBits}
+use Rattle.cil_member_updates.specs.Given.{holds, keeps}
+use Rattle.cil_member_updates.proofs.BitLemmas.{answer-bit, answer-other, held-add, held-skip, looked-kept, looked-past, looked-visit, HeldBelow}
+use Rattle.cil_member_updates.proofs.NameLemmas.{holds-kept}
+use Rattle.cil_member_updates.proofs.masks.masked.Goals as goal
+use Rattle.cil_member_updates.proofs.masks.masked.Goals.{then-kept-b-eq1, else-kept-b-eq1}
+
+pub held_bit-mask-requires-clause-kept : goal.held_bit-mask-requires-clause-kept
+held_bit-mask-requires-clause-kept g c =
+    let r = c.args.side.now.resolved.now in
+    let symbols = c.args.symbols.now in
+    looked-kept (keeps symbols (meaning_in r)) (holds symbols (meaning_in r) (set_at r c.args.i)) c.args.word c.args.visits c.word.result c.loop-b.b c.loop-b-test.true
+    (subst (AreBits (keeps symbols (meaning_in r)) c.args.word) (sym c.word.ensures) (c.requires.side.kept c.args.word)) c.if-kept-b-eq1.true
+
+pub loop-b-preserved : goal.loop-b-preserved
+loop-b-preserved g c =
+    let r = c.args.side.now.resolved.now in
+    let symbols = c.args.symbols.now in
+    let test = holds symbols (meaning_in r) (set_at r c.args.i) in
+    let b = c.loop-b.b in
+    let within = c.loop-b-test.true in
+    let kept = subst (AreBits (keeps symbols (meaning_in r)) c.args.word) (sym c.word.ensures) (c.requires.side.kept c.args.word) in
+    elim c.if-kept-b-eq1.branch [
+      | then-kept-b-eq1 w ↦
+          let more = w.held_bit-mask.result in
+          subst (HeldBelow c.args.visits test c.args.word (b + 1)) (sym w.mask-is)
+          (held-add c.args.visits test c.args.word b c.loop-b.mask c.loop-b.invariant (test (64 * c.args.word + b)) more within
+          (looked-visit (keeps symbols (meaning_in r)) test c.args.word c.args.visits c.word.result b within kept w.if-kept-b-eq1.true) refl
+          (ap (λ n. bit_at n b) w.held_bit-mask.ensures ∙ answer-bit (test (64 * c.args.word + b)) (64 * c.args.word + b) b (omega (arith, within)))
+          (λ k other. ap (λ n. bit_at n k) w.held_bit-mask.ensures ∙ answer-other (test (64 * c.args.word + b)) (64 * c.args.word + b) b (omega (arith, within)) k other))
+      | else-kept-b-eq1 w ↦
+          subst (HeldBelow c.args.visits test c.args.word (b + 1)) (sym w.mask-is)
+          (held-skip c.args.visits test c.args.word b c.loop-b.mask c.loop-b.invariant
+          (looked-past (keeps symbols (meaning_in r)) test c.args.word c.args.visits c.word.result b within kept w.if-kept-b-eq1.false
+          (holds-kept symbols (meaning_in r) (set_at r c.args.i) (64 * c.args.word + b))))
+    ]

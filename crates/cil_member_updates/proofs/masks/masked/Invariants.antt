@@ -1,0 +1,9 @@
+use Rattle.cil_resolve.specs.Resolved.{meaning_in}
+use Rattle.cil_sets.specs.Places.{set_at}
+use Rattle.cil_member_updates.specs.Given.{holds}
+use Rattle.cil_member_updates.proofs.BitLemmas.{HeldBelow}
+use Rattle.cil_member_updates.proofs.masks.masked.Given as goal
+
+-- the bits so far
+abbrev pub invariant-loop-b : goal.invariant-loop-b
+invariant-loop-b g l = HeldBelow l.visits (holds l.symbols (meaning_in l.side.resolved.now) (set_at l.side.resolved.now l.i)) l.word l.b l.mask

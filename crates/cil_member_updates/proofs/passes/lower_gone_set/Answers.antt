@@ -1,0 +1,29 @@
+use Rattle.std.proofs.Common.{refl, arith}
+use Rattle.std.proofs.lemmas.Option.{none-some}
+use Rattle.std.proofs.lemmas.Result.{on_ok_weaker}
+use Rattle.cil_member_rows.specs.Rows.{count_now}
+use Rattle.cil_sums.proofs.SumLemmas.{alone-none, alone-some}
+use Rattle.cil_member_updates.specs.Moved.{nothing, AreMoved}
+use Rattle.cil_member_updates.specs.Passes.{given_by}
+use Rattle.cil_member_updates.specs.Policy.{given}
+use Rattle.cil_member_updates.proofs.passes.lower_gone_set.Goals as goal
+
+pub returns-in-Some-clause-now : goal.returns-in-Some-clause-now
+returns-in-Some-clause-now g c a t =
+    let none = alone-some (given_by c.args.symbols.now c.args.old.now.resolved.now a t) c.args.matching.now.ahead c.args.i c.in-Some.field-0 ((c.in-Some.ensures c.in-Some.field-0).0 refl) in
+    omega (arith, none)
+
+pub lower_set-requires-clause-above : goal.lower_set-requires-clause-above
+lower_set-requires-clause-above g c a t =
+    let all = alone-none (given_by c.args.symbols.now c.args.old.now.resolved.now a t) c.args.matching.now.ahead c.args.i (λ j at. none-some j ((c.in-None.ensures j).1 at)) in
+    let above = c.requires.above a t in
+    omega (arith, all, above)
+
+pub returns-in-None-clause-now : goal.returns-in-None-clause-now
+returns-in-None-clause-now g c =
+    on_ok_weaker c.lower_set.result
+    (λ (moved : AreMoved (given c.args.symbols.now c.args.old.now.resolved.now c.args.i) nothing (count_now c.args.rows.now) (count_now c.lower_set.new.rows)) a t.
+    let all = alone-none (given_by c.args.symbols.now c.args.old.now.resolved.now a t) c.args.matching.now.ahead c.args.i (λ j at. none-some j ((c.in-None.ensures j).1 at)) in
+    let step = moved a t in
+    omega (arith, all, step))
+    c.lower_set.ensures.now

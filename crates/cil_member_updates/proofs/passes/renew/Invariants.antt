@@ -1,0 +1,16 @@
+use Rattle.std.proofs.Common.{◌≡◌, ◌+◌, ℕ, length}
+use Rattle.cil_member_rows.specs.Rows.{count_before, count_now, rows_in}
+use Rattle.cil_resolve.specs.Sets.{sets_in}
+use Rattle.cil_sums.specs.Sums.{sum_below}
+use Rattle.cil_member_updates.specs.Passes.{given_by, stayed}
+use Rattle.cil_member_updates.proofs.passes.renew.Given as goal
+
+-- The set statements so far count as in the new policy, and the others that stayed as in the old one.
+abbrev pub invariant-loop-j : goal.invariant-loop-j
+invariant-loop-j g l =
+    record {
+      now : (a t : ℕ) → count_now l.rows a t + sum_below (stayed l.symbols l.old.resolved.now l.matching a t) l.j
+          ≡ sum_below (given_by l.symbols l.new.resolved.now a t) l.j + sum_below (stayed l.symbols l.old.resolved.now l.matching a t) (length (sets_in l.new.resolved.now));
+      before : (a t : ℕ) → count_before l.rows a t ≡ count_before l.fn.rows a t;
+      rows : rows_in l.rows ≡ rows_in l.fn.rows;
+    }

@@ -1,0 +1,44 @@
+use Rattle.std.proofs.Common.{◌∙◌, refl, arith}
+use Rattle.cil_member_rows.specs.Rows.{count_before, count_now}
+use Rattle.cil_resolve.specs.Resolved.{meaning_in}
+use Rattle.cil_sets.specs.Places.{set_at}
+use Rattle.cil_member_updates.specs.Moved.{nothing}
+use Rattle.cil_member_updates.specs.Policy.{given}
+use Rattle.cil_member_updates.proofs.GivenLemmas.{tell-same}
+use Rattle.cil_member_updates.proofs.MovedLemmas.{moved-none, moved-more, moved-all}
+use Rattle.cil_member_updates.proofs.SideLemmas.{given-past}
+use Rattle.cil_member_updates.proofs.sets.lower_set.Goals as goal
+
+pub lower_word-requires-clause-tell : goal.lower_word-requires-clause-tell
+lower_word-requires-clause-tell g c =
+    let r = c.args.old.now.resolved.now in
+    tell-same c.args.symbols.now (meaning_in r) (set_at r c.args.i) (count_before c.args.rows.now) (count_before c.loop-word.rows) c.requires.tell (λ a t attribute at mentioned. c.loop-word.invariant.before a t)
+
+pub lower_word-requires-clause-above : goal.lower_word-requires-clause-above
+lower_word-requires-clause-above g c a t here =
+    let same = c.loop-word.invariant.moved.behind a t (omega (arith, here)) in
+    let above = c.requires.above a t in
+    omega (arith, same, above)
+
+pub loop-word-init : goal.loop-word-init
+loop-word-init g c = record {
+  moved = moved-none (given c.args.symbols.now c.args.old.now.resolved.now c.args.i) nothing (count_now c.args.rows.now);
+  before = λ a t. refl;
+  rows = refl;
+}
+
+pub loop-word-preserved : goal.loop-word-preserved
+loop-word-preserved g c =
+    let step = c.in_ok-lower_word.ensures in
+    record {
+      moved =
+          moved-more (given c.args.symbols.now c.args.old.now.resolved.now c.args.i) nothing c.loop-word.word (count_now c.args.rows.now) (count_now c.loop-word.rows) (count_now c.lower_word.new.rows)
+          c.loop-word.invariant.moved step.now;
+      before = λ a t. step.before a t ∙ c.loop-word.invariant.before a t;
+      rows = step.rows ∙ c.loop-word.invariant.rows;
+    }
+
+pub returns-clause-now : goal.returns-clause-now
+returns-clause-now g c =
+    moved-all (given c.args.symbols.now c.args.old.now.resolved.now c.args.i) nothing c.loop-word.word (count_now c.args.rows.now) (count_now c.loop-word.rows) c.loop-word.invariant.moved
+    (λ a t past. given-past c.args.symbols.now c.args.old.now.resolved.now c.args.i a t (let end = c.loop-word-test.false in let len = c.len.ensures.len in omega (arith, past, end, len)))

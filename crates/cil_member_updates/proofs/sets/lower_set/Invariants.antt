@@ -1,0 +1,15 @@
+use Rattle.std.proofs.Common.{◌≡◌, ℕ}
+use Rattle.cil_member_rows.specs.Rows.{count_before, count_now, rows_in}
+use Rattle.cil_member_updates.specs.Moved.{nothing}
+use Rattle.cil_member_updates.specs.Policy.{given}
+use Rattle.cil_member_updates.proofs.MovedLemmas.{MovedBelow}
+use Rattle.cil_member_updates.proofs.sets.lower_set.Given as goal
+
+-- the words so far are done
+abbrev pub invariant-loop-word : goal.invariant-loop-word
+invariant-loop-word g l =
+    record {
+      moved : MovedBelow l.word (given l.symbols l.old.resolved.now l.i) nothing (count_now l.fn.rows) (count_now l.rows);
+      before : (a t : ℕ) → count_before l.rows a t ≡ count_before l.fn.rows a t;
+      rows : rows_in l.rows ≡ rows_in l.fn.rows;
+    }

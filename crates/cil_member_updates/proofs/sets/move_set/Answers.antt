@@ -1,0 +1,56 @@
+use Rattle.std.proofs.Common.{◌∙◌, ◌≤◌, length, refl, sym, arith}
+use Rattle.cil_member_rows.specs.Rows.{count_before, count_now}
+use Rattle.cil_resolve.specs.Resolved.{meaning_in}
+use Rattle.cil_sets.specs.Places.{set_at}
+use Rattle.cil_member_updates.specs.Policy.{given}
+use Rattle.cil_member_updates.proofs.GivenLemmas.{tell-same}
+use Rattle.cil_member_updates.proofs.MovedLemmas.{moved-none, moved-more, moved-all, moved-other}
+use Rattle.cil_member_updates.proofs.SideLemmas.{gave-mentioned, given-mentioned, given-past}
+use Rattle.cil_member_updates.proofs.sets.move_set.Goals as goal
+
+pub move_word-requires-clause-was : goal.move_word-requires-clause-was
+move_word-requires-clause-was g c =
+    let r = c.args.old.now.resolved.now in
+    tell-same c.args.symbols.now (meaning_in r) (set_at r c.args.i) (count_before c.args.rows.now) (count_before c.loop-word.rows) c.requires.was (λ a t attribute at mentioned. c.loop-word.invariant.before a t)
+
+pub move_word-requires-clause-is : goal.move_word-requires-clause-is
+move_word-requires-clause-is g c =
+    let p = c.args.old.now.resolved.now in
+    let r = c.args.new.now.resolved.now in
+    let order = c.resolved_sets_are_in_order.ensures.in_order in
+    tell-same c.args.symbols.now (meaning_in r) (set_at r c.args.j) (count_now c.args.rows.now) (count_now c.loop-word.rows) c.requires.is
+    (λ a t attribute at mentioned.
+    moved-other (given c.args.symbols.now p c.args.i) (given c.args.symbols.now r c.args.j) c.loop-word.word (count_now c.args.rows.now) (count_now c.loop-word.rows) c.loop-word.invariant.moved a t
+    (gave-mentioned c.args.symbols.now p r order c.args.i c.args.j c.requires.same c.requires.j_within a t attribute at mentioned
+    ∙ sym (given-mentioned c.args.symbols.now r order c.args.j c.requires.j_within a t attribute at mentioned)))
+
+pub move_word-requires-clause-above : goal.move_word-requires-clause-above
+move_word-requires-clause-above g c a t here =
+    let same = c.loop-word.invariant.moved.behind a t (omega (arith, here)) in
+    let above = c.requires.above a t in
+    omega (arith, same, above)
+
+pub loop-word-init : goal.loop-word-init
+loop-word-init g c = record {
+  moved = moved-none (given c.args.symbols.now c.args.old.now.resolved.now c.args.i) (given c.args.symbols.now c.args.new.now.resolved.now c.args.j) (count_now c.args.rows.now);
+  before = λ a t. refl;
+  rows = refl;
+}
+
+pub loop-word-preserved : goal.loop-word-preserved
+loop-word-preserved g c =
+    let step = c.in_ok-move_word.ensures in
+    record {
+      moved =
+          moved-more (given c.args.symbols.now c.args.old.now.resolved.now c.args.i) (given c.args.symbols.now c.args.new.now.resolved.now c.args.j) c.loop-word.word (count_now c.args.rows.now) (count_now c.loop-word.rows) (count_now c.move_word.new.rows)
+          c.loop-word.invariant.moved step.now;
+      before = λ a t. step.before a t ∙ c.loop-word.invariant.before a t;
+      rows = step.rows ∙ c.loop-word.invariant.rows;
+    }
+
+pub returns-clause-now : goal.returns-clause-now
+returns-clause-now g c =
+    moved-all (given c.args.symbols.now c.args.old.now.resolved.now c.args.i) (given c.args.symbols.now c.args.new.now.resolved.now c.args.j) c.loop-word.word (count_now c.args.rows.now) (count_now c.loop-word.rows) c.loop-word.invariant.moved
+    (λ a t past.
+    let behind : length c.args.symbols.now ≤ t = (let end = c.loop-word-test.false in let len = c.len.ensures.len in omega (arith, past, end, len)) in
+    given-past c.args.symbols.now c.args.old.now.resolved.now c.args.i a t behind ∙ sym (given-past c.args.symbols.now c.args.new.now.resolved.now c.args.j a t behind))

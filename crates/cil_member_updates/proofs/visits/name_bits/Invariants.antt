@@ -1,0 +1,12 @@
+use Rattle.std.proofs.Common.{◌<◌, ℕ, get_or}
+use Rattle.cil_expression.specs.declared.expression.Element.TheVariants.{«Type»}
+use Rattle.cil_resolve.specs.Numbers.{element_of}
+use Rattle.cil_resolve.specs.Resolved.{meaning_in}
+use Rattle.cil_member_updates.specs.Bits.{Cover}
+use Rattle.cil_member_updates.specs.Given.{element_holds}
+use Rattle.cil_member_updates.proofs.visits.name_bits.Given as goal
+
+-- the names so far are covered
+abbrev pub invariant-loop-k : goal.invariant-loop-k
+invariant-loop-k g l =
+    (m : ℕ) → m < l.k → Cover (element_holds l.symbols (meaning_in l.side.resolved.now) (element_of l.side.resolved.now.names.items (get_or l.names m («Type» 0)))) l.word l.bits

@@ -1,0 +1,21 @@
+use Rattle.std.proofs.Common.{◌∙◌, sym, subst}
+use Rattle.cil_resolve.specs.Resolved.{meaning_in}
+use Rattle.cil_sets.specs.Places.{set_at}
+use Rattle.cil_sets.proofs.LookLemmas.{set-there}
+use Rattle.cil_member_updates.specs.Bits.{AreBits}
+use Rattle.cil_member_updates.specs.Given.{keeps}
+use Rattle.cil_member_updates.proofs.NameLemmas.{cover-kept, cover-reach}
+use Rattle.cil_member_updates.proofs.visits.reached.Goals as goal
+
+pub returns-then-may_hold_any : goal.returns-then-may_hold_any
+returns-then-may_hold_any g c =
+    let r = c.args.side.now.resolved.now in
+    cover-kept c.args.symbols.now (meaning_in r) (set_at r c.args.i) c.args.word c.word.result
+    (subst (AreBits (keeps c.args.symbols.now (meaning_in r)) c.args.word) (sym c.word.ensures) (c.requires.side.kept c.args.word))
+
+pub returns-else-may_hold_any : goal.returns-else-may_hold_any
+returns-else-may_hold_any g c =
+    let r = c.args.side.now.resolved.now in
+    cover-reach c.args.symbols.now (meaning_in r) (set_at r c.args.i) c.args.word c.name_bits.result
+    (λ t fails. c.reach_is_a_bound.ensures (meaning_in r) (set_at r c.args.i).expr t (sym (c.may_hold_any.ensures.value (set_at r c.args.i) (set-there r c.args.i c.requires.within)) ∙ c.if-may_hold_any.false) fails)
+    c.name_bits.ensures

@@ -1,0 +1,49 @@
+use Rattle.std.proofs.Common.{◌≡◌, ◌∙◌, Some, slice_get, refl, ap, sym, arith}
+use Rattle.std.proofs.lemmas.Option.{slice_get_within}
+use Rattle.std.proofs.lemmas.Result.{on_ok_weaker}
+use Rattle.cil_member_rows.specs.Rows.{count_now}
+use Rattle.cil_resolve.specs.Resolved.{meaning_in}
+use Rattle.cil_sets.specs.Places.{set_at}
+use Rattle.cil_member_updates.specs.Given.{holds}
+use Rattle.cil_member_updates.specs.Policy.{given}
+use Rattle.cil_member_updates.proofs.BitLemmas.{held-zero}
+use Rattle.cil_member_updates.proofs.RenewLemmas.{same-attribute}
+use Rattle.cil_member_updates.proofs.WordLemmas.{move-above, moved-word}
+use Rattle.cil_member_updates.proofs.words.move_word.Goals as goal
+
+pub shift-requires-clause-row : goal.shift-requires-clause-row
+shift-requires-clause-row g c = let row = slice_get_within c.args.symbols.now c.row_of-row.result (set_at c.args.new.now.resolved.now c.args.j).attribute c.row_of-row.ensures in omega (arith, row)
+
+pub shift-requires-clause-above : goal.shift-requires-clause-above
+unfolding given
+shift-requires-clause-above g c =
+    let p = c.args.old.now.resolved.now in
+    let q = c.args.new.now.resolved.now in
+    let s = set_at p c.args.i in
+    let r = set_at q c.args.j in
+    let at : slice_get c.args.symbols.now c.row_of-row.result ≡ Some s.attribute = c.row_of-row.ensures ∙ ap Some (sym (same-attribute s r c.requires.same)) in
+    move-above c.args.symbols.now c.requires.new.distinct c.row_of-row.result c.args.word c.unsettled-visits.result (count_now c.args.rows.now) (meaning_in p) (meaning_in q) s r at c.row_of-row.ensures c.masked-was.result c.masked-is.result c.unsettled-visits.ensures c.masked-was.ensures c.masked-is.ensures c.requires.above
+
+pub returns-clause-now : goal.returns-clause-now
+unfolding given
+returns-clause-now g c =
+    let p = c.args.old.now.resolved.now in
+    let q = c.args.new.now.resolved.now in
+    let s = set_at p c.args.i in
+    let r = set_at q c.args.j in
+    let at : slice_get c.args.symbols.now c.row_of-row.result ≡ Some s.attribute = c.row_of-row.ensures ∙ ap Some (sym (same-attribute s r c.requires.same)) in
+    on_ok_weaker c.shift.result
+    (moved-word c.args.symbols.now c.requires.new.distinct c.row_of-row.result c.args.word c.unsettled-visits.result (count_now c.args.rows.now) (meaning_in p) (meaning_in q) s r at c.row_of-row.ensures c.masked-was.result c.masked-is.result c.unsettled-visits.ensures c.masked-was.ensures c.masked-is.ensures
+    (count_now c.shift.new.self)) c.shift.ensures.ok
+
+pub returns-then-visits-eq0-clause-now : goal.returns-then-visits-eq0-clause-now
+unfolding given
+returns-then-visits-eq0-clause-now g c =
+    let p = c.args.old.now.resolved.now in
+    let q = c.args.new.now.resolved.now in
+    let s = set_at p c.args.i in
+    let r = set_at q c.args.j in
+    let at : slice_get c.args.symbols.now c.row_of-row.result ≡ Some s.attribute = c.row_of-row.ensures ∙ ap Some (sym (same-attribute s r c.requires.same)) in
+    let none = c.if-visits-eq0.true in
+    moved-word c.args.symbols.now c.requires.new.distinct c.row_of-row.result c.args.word c.unsettled-visits.result (count_now c.args.rows.now) (meaning_in p) (meaning_in q) s r at c.row_of-row.ensures 0 0 c.unsettled-visits.ensures
+    (held-zero c.unsettled-visits.result (holds c.args.symbols.now (meaning_in p) s) c.args.word none) (held-zero c.unsettled-visits.result (holds c.args.symbols.now (meaning_in q) r) c.args.word none) (count_now c.args.rows.now) (λ a t. refl)

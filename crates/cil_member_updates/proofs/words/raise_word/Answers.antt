@@ -1,0 +1,35 @@
+use Rattle.std.proofs.Common.{refl, arith}
+use Rattle.std.proofs.lemmas.Option.{slice_get_within}
+use Rattle.std.proofs.lemmas.Result.{on_ok_weaker}
+use Rattle.cil_member_rows.specs.Rows.{count_now}
+use Rattle.cil_resolve.specs.Resolved.{meaning_in}
+use Rattle.cil_sets.specs.Places.{set_at}
+use Rattle.cil_member_updates.specs.Given.{holds}
+use Rattle.cil_member_updates.specs.Policy.{given}
+use Rattle.cil_member_updates.proofs.BitLemmas.{held-zero}
+use Rattle.cil_member_updates.proofs.WordLemmas.{raise-above, raised-word}
+use Rattle.cil_member_updates.proofs.words.raise_word.Goals as goal
+
+pub shift-requires-clause-row : goal.shift-requires-clause-row
+shift-requires-clause-row g c = let row = slice_get_within c.args.symbols.now c.row_of-row.result (set_at c.args.new.now.resolved.now c.args.j).attribute c.row_of-row.ensures in omega (arith, row)
+
+pub shift-requires-clause-above : goal.shift-requires-clause-above
+unfolding given
+shift-requires-clause-above g c =
+    let r = c.args.new.now.resolved.now in
+    raise-above c.args.symbols.now c.requires.new.distinct c.row_of-row.result c.args.word c.reached-visits.result (count_now c.args.rows.now) (meaning_in r) (set_at r c.args.j) c.row_of-row.ensures c.masked-is.result c.reached-visits.ensures c.masked-is.ensures
+
+pub returns-clause-now : goal.returns-clause-now
+unfolding given
+returns-clause-now g c =
+    let r = c.args.new.now.resolved.now in
+    on_ok_weaker c.shift.result
+    (raised-word c.args.symbols.now c.requires.new.distinct c.row_of-row.result c.args.word c.reached-visits.result (count_now c.args.rows.now) (meaning_in r) (set_at r c.args.j) c.row_of-row.ensures c.masked-is.result c.reached-visits.ensures c.masked-is.ensures
+    (count_now c.shift.new.self)) c.shift.ensures.ok
+
+pub returns-then-visits-eq0-clause-now : goal.returns-then-visits-eq0-clause-now
+unfolding given
+returns-then-visits-eq0-clause-now g c =
+    let r = c.args.new.now.resolved.now in
+    raised-word c.args.symbols.now c.requires.new.distinct c.row_of-row.result c.args.word c.reached-visits.result (count_now c.args.rows.now) (meaning_in r) (set_at r c.args.j) c.row_of-row.ensures 0 c.reached-visits.ensures
+    (held-zero c.reached-visits.result (holds c.args.symbols.now (meaning_in r) (set_at r c.args.j)) c.args.word c.if-visits-eq0.true) (count_now c.args.rows.now) (λ a t. refl)

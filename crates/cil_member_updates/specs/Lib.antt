@@ -1,0 +1,5 @@
+pub mod Bits
+pub mod Given
+pub mod Moved
+pub mod Passes
+pub mod Policy

@@ -1,0 +1,19 @@
+//! The members of attributes, brought from an old policy to a new one in place.
+#![tactic(auto)]
+
+mod kept;
+mod laws;
+mod masks;
+mod passes;
+mod sets;
+mod side;
+#[cfg(test)]
+mod update_tests;
+mod visits;
+mod when;
+mod words;
+
+pub use kept::KeptTypes;
+pub use laws::{counts_stay, sides_stay};
+pub use passes::update;
+pub use side::Side;

@@ -1,0 +1,100 @@
+//! One set statement at all types.
+
+ghost use Rattle.std.specs.Prelude.{◌≡◌, ◌+◌, ◌<◌, ◌≤◌, ℕ, length, OnOk};
+ghost use Rattle.cil_resolve.specs.Resolved.{meaning_in};
+ghost use Rattle.cil_resolve.specs.Sets.{sets_in};
+ghost use Rattle.cil_sets.specs.Places.{set_at};
+ghost use Rattle.cil_specs.specs.Rule.{IsSameSet};
+ghost use Rattle.cil_member_rows.specs.Rows.{count_before, count_now, rows_in};
+ghost use Rattle.cil_member_updates.specs.Given.{Tell};
+ghost use Rattle.cil_member_updates.specs.Moved.{AreMoved, nothing};
+ghost use Rattle.cil_member_updates.specs.Policy.{given, IsSide};
+
+use crate::side::Side;
+use crate::words::{lower_word, move_word, raise_word};
+use cil_member_rows::MemberRows;
+use cil_resolve::{Meter, resolved_sets_are_in_order};
+use cil_symbols::Symbols;
+use std::alloc::{AllocError, Allocator};
+
+// How many symbols a word has.
+const WORD: usize = 64;
+
+/// Lowers the counters by what the set statement at a place gave.
+pub fn lower_set<A: Allocator + Copy>(
+    rows: &mut MemberRows<A>,
+    alloc: A,
+    symbols: &Symbols<A>,
+    old: &Side<'_, A>,
+    i: usize,
+    meter: &mut Meter,
+) -> Result<(), AllocError>
+    requires old { IsSide symbols.now old.now }
+    requires within { i < length (sets_in old.now.resolved.now) }
+    requires tell { Tell symbols.now (meaning_in old.now.resolved.now) (set_at old.now.resolved.now i) (count_before rows.old) }
+    requires room { length symbols.now ≤ rows_in rows.old }
+    requires above { (a t : ℕ) → given symbols.now old.now.resolved.now i a t ≤ count_now rows.old a t }
+    ensures now { OnOk result (AreMoved (given symbols.now old.now.resolved.now i) nothing (count_now rows.old) (count_now rows.new)) }
+    ensures before { (a t : ℕ) → count_before rows.new a t ≡ count_before rows.old a t }
+    ensures rows { rows_in rows.new ≡ rows_in rows.old }
+{
+    for word in 0..symbols.len() / WORD + 1 {
+        lower_word(rows, alloc, symbols, old, i, word, meter)?;
+    }
+    Ok(())
+}
+
+/// Raises the counters by what the set statement at a place gives.
+pub fn raise_set<A: Allocator + Copy>(
+    rows: &mut MemberRows<A>,
+    alloc: A,
+    symbols: &Symbols<A>,
+    new: &Side<'_, A>,
+    j: usize,
+    meter: &mut Meter,
+) -> Result<(), AllocError>
+    requires new { IsSide symbols.now new.now }
+    requires within { j < length (sets_in new.now.resolved.now) }
+    requires tell { Tell symbols.now (meaning_in new.now.resolved.now) (set_at new.now.resolved.now j) (count_now rows.old) }
+    requires room { length symbols.now ≤ rows_in rows.old }
+    ensures now { OnOk result (AreMoved nothing (given symbols.now new.now.resolved.now j) (count_now rows.old) (count_now rows.new)) }
+    ensures before { (a t : ℕ) → count_before rows.new a t ≡ count_before rows.old a t }
+    ensures rows { rows_in rows.new ≡ rows_in rows.old }
+{
+    resolved_sets_are_in_order(new.resolved);
+    for word in 0..symbols.len() / WORD + 1 {
+        raise_word(rows, alloc, symbols, new, j, word, meter)?;
+    }
+    Ok(())
+}
+
+/// Moves the counters from what a set statement gave in the old policy to what it gives in the new one.
+pub fn move_set<A: Allocator + Copy>(
+    rows: &mut MemberRows<A>,
+    alloc: A,
+    symbols: &Symbols<A>,
+    old: &Side<'_, A>,
+    new: &Side<'_, A>,
+    i: usize,
+    j: usize,
+    meter: &mut Meter,
+) -> Result<(), AllocError>
+    requires old { IsSide symbols.now old.now }
+    requires new { IsSide symbols.now new.now }
+    requires i_within { i < length (sets_in old.now.resolved.now) }
+    requires j_within { j < length (sets_in new.now.resolved.now) }
+    requires same { IsSameSet (set_at old.now.resolved.now i) (set_at new.now.resolved.now j) }
+    requires was { Tell symbols.now (meaning_in old.now.resolved.now) (set_at old.now.resolved.now i) (count_before rows.old) }
+    requires is { Tell symbols.now (meaning_in new.now.resolved.now) (set_at new.now.resolved.now j) (count_now rows.old) }
+    requires room { length symbols.now ≤ rows_in rows.old }
+    requires above { (a t : ℕ) → given symbols.now old.now.resolved.now i a t ≤ count_now rows.old a t }
+    ensures now { OnOk result (AreMoved (given symbols.now old.now.resolved.now i) (given symbols.now new.now.resolved.now j) (count_now rows.old) (count_now rows.new)) }
+    ensures before { (a t : ℕ) → count_before rows.new a t ≡ count_before rows.old a t }
+    ensures rows { rows_in rows.new ≡ rows_in rows.old }
+{
+    resolved_sets_are_in_order(new.resolved);
+    for word in 0..symbols.len() / WORD + 1 {
+        move_word(rows, alloc, symbols, old, new, i, j, word, meter)?;
+    }
+    Ok(())
+}

@@ -1,0 +1,178 @@
+//! Where a set statement may hold a type, word by word.
+
+ghost use Rattle.std.specs.Prelude.{◌≡◌, ◌<◌, ◌==◌, ℕ, Contains, IsTrue, length};
+ghost use Rattle.cil_resolve.specs.Below.{is_element_below};
+ghost use Rattle.cil_resolve.specs.Numbers.{element_of};
+ghost use Rattle.cil_resolve.specs.Resolved.{meaning_in};
+ghost use Rattle.cil_resolve.specs.Sets.{sets_in};
+ghost use Rattle.cil_sets.specs.Places.{set_at};
+ghost use Rattle.cil_specs.specs.Expr.{leaves};
+ghost use Rattle.cil_specs.specs.Rule.{IsSameSet};
+ghost use Rattle.cil_specs.specs.Sets.{differ};
+ghost use Rattle.cil_member_rows.specs.Rows.{count_before, count_now};
+ghost use Rattle.cil_member_updates.specs.Given.{element_holds, holds, IsUnchanged, Tell};
+ghost use Rattle.cil_member_updates.specs.Policy.{counts_at, AreUnchanged, CoverNames, IsSide};
+ghost use Rattle.cil_member_updates.specs.Bits.{Cover};
+
+use crate::side::Side;
+use crate::when::{When, members};
+use cil_member_rows::MemberRows;
+use cil_resolve::{
+    Element, expressions_agree, reach_is_a_bound, resolved_is_sound, resolved_names_are_kept,
+    resolved_sets_are_in_order,
+};
+use cil_symbols::Symbols;
+use std::alloc::Allocator;
+
+// How many symbols a word has.
+const WORD: usize = 64;
+
+/// The bit of a symbol in its word, and none in any other.
+fn symbol_bit(symbol: usize, word: usize) -> u64
+    ensures { Cover (λ t. symbol == t) word result }
+{
+    if symbol / WORD == word {
+        1 << (symbol % WORD)
+    } else {
+        0
+    }
+}
+
+/// The types of a word that a name of an expression may hold.
+fn element_bits<A: Allocator>(
+    symbols: &Symbols<A>,
+    side: &Side<'_, A>,
+    rows: &MemberRows<A>,
+    when: &When,
+    i: usize,
+    element: Element,
+    word: usize,
+) -> u64
+    requires side { IsSide symbols.now side.now }
+    requires below { IsTrue (is_element_below (length side.now.resolved.now.names.items) element) }
+    requires named { Contains (leaves (set_at side.now.resolved.now i).expr) (element_of side.now.resolved.now.names.items element) }
+    requires tell { Tell symbols.now (meaning_in side.now.resolved.now) (set_at side.now.resolved.now i) (counts_at when.now rows.now) }
+    ensures { Cover (element_holds symbols.now (meaning_in side.now.resolved.now) (element_of side.now.resolved.now.names.items element)) word result }
+{
+    match element {
+        Element::Type(ty) => symbol_bit(side.numbering.symbol(ty).unwrap(), word),
+        Element::Attribute(attribute) => members(
+            rows,
+            when,
+            side.numbering.symbol(attribute).unwrap(),
+            word,
+        ),
+    }
+}
+
+/// The types of a word that one of the names may hold of the set statement at a place.
+fn name_bits<A: Allocator>(
+    symbols: &Symbols<A>,
+    side: &Side<'_, A>,
+    rows: &MemberRows<A>,
+    when: &When,
+    i: usize,
+    word: usize,
+) -> u64
+    requires side { IsSide symbols.now side.now }
+    requires within { i < length (sets_in side.now.resolved.now) }
+    requires tell { Tell symbols.now (meaning_in side.now.resolved.now) (set_at side.now.resolved.now i) (counts_at when.now rows.now) }
+    ensures { CoverNames symbols.now side.now.resolved.now i word result }
+{
+    let names = side.resolved.set_names(i);
+    let mut bits = 0;
+    for k in 0..names.len() {
+        bits |= element_bits(symbols, side, rows, when, i, names[k], word);
+    }
+    bits
+}
+
+/// The types of a word that the set statement at a place may hold.
+pub fn reached<A: Allocator>(
+    symbols: &Symbols<A>,
+    side: &Side<'_, A>,
+    rows: &MemberRows<A>,
+    when: &When,
+    i: usize,
+    word: usize,
+) -> u64
+    requires side { IsSide symbols.now side.now }
+    requires within { i < length (sets_in side.now.resolved.now) }
+    requires tell { Tell symbols.now (meaning_in side.now.resolved.now) (set_at side.now.resolved.now i) (counts_at when.now rows.now) }
+    ensures { Cover (holds symbols.now (meaning_in side.now.resolved.now) (set_at side.now.resolved.now i)) word result }
+{
+    reach_is_a_bound();
+    if side.resolved.may_hold_any(i) {
+        side.kept.word(word)
+    } else {
+        name_bits(symbols, side, rows, when, i, word)
+    }
+}
+
+/// The types of a word that became members of the attribute of a name of an expression, or are none any more.
+fn changed_by_name<A: Allocator>(
+    symbols: &Symbols<A>,
+    side: &Side<'_, A>,
+    rows: &MemberRows<A>,
+    element: Element,
+    word: usize,
+) -> u64
+    requires side { IsSide symbols.now side.now }
+    requires below { IsTrue (is_element_below (length side.now.resolved.now.names.items) element) }
+    ensures { IsUnchanged symbols.now (count_before rows.now) (count_now rows.now) (element_of side.now.resolved.now.names.items element) word result }
+{
+    match element {
+        Element::Type(_) => 0,
+        Element::Attribute(attribute) => {
+            rows.changed(side.numbering.symbol(attribute).unwrap(), word)
+        }
+    }
+}
+
+/// The types of a word that became members of an attribute that the set statement at a place mentions, or are none any more.
+fn changed_by_names<A: Allocator>(
+    symbols: &Symbols<A>,
+    side: &Side<'_, A>,
+    rows: &MemberRows<A>,
+    i: usize,
+    word: usize,
+) -> u64
+    requires side { IsSide symbols.now side.now }
+    requires within { i < length (sets_in side.now.resolved.now) }
+    ensures { AreUnchanged symbols.now (count_before rows.now) (count_now rows.now) side.now.resolved.now i word result }
+{
+    let names = side.resolved.set_names(i);
+    let mut bits = 0;
+    for k in 0..names.len() {
+        bits |= changed_by_name(symbols, side, rows, names[k], word);
+    }
+    bits
+}
+
+/// The types of a word at which a set statement that both policies have may hold in one of them alone.
+pub fn unsettled<A: Allocator>(
+    symbols: &Symbols<A>,
+    old: &Side<'_, A>,
+    new: &Side<'_, A>,
+    rows: &MemberRows<A>,
+    i: usize,
+    j: usize,
+    word: usize,
+) -> u64
+    requires old { IsSide symbols.now old.now }
+    requires new { IsSide symbols.now new.now }
+    requires i_within { i < length (sets_in old.now.resolved.now) }
+    requires j_within { j < length (sets_in new.now.resolved.now) }
+    requires same { IsSameSet (set_at old.now.resolved.now i) (set_at new.now.resolved.now j) }
+    requires was { Tell symbols.now (meaning_in old.now.resolved.now) (set_at old.now.resolved.now i) (count_before rows.now) }
+    requires is { Tell symbols.now (meaning_in new.now.resolved.now) (set_at new.now.resolved.now j) (count_now rows.now) }
+    ensures { Cover (λ t. differ (holds symbols.now (meaning_in old.now.resolved.now) (set_at old.now.resolved.now i) t)
+        (holds symbols.now (meaning_in new.now.resolved.now) (set_at new.now.resolved.now j) t)) word result }
+{
+    expressions_agree();
+    resolved_is_sound(new.resolved);
+    resolved_names_are_kept(new.resolved);
+    resolved_sets_are_in_order(new.resolved);
+    let changed = changed_by_names(symbols, new, rows, j, word);
+    changed | (old.kept.word(word) ^ new.kept.word(word))
+}
