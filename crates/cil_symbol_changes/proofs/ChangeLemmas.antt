@@ -1,0 +1,214 @@
+-- The accesses of the targets that appeared or went, change by change and kind by kind.
+use Rattle.std.proofs.Common.{◌≡◌, ◌⊎◌, ◌↔◌, ℕ, ◌+◌, ◌-◌, ◌<◌, List, [], Option, None, Some, MatchOption, get_or, length, min, position, slice_get, refl, sym, ap, subst, ◌∙◌, inl, inr, arith}
+use Rattle.std.specs.List.{All, sum_by}
+use Rattle.std.proofs.lemmas.Bool.{cases_eq}
+use Rattle.std.proofs.lemmas.List.Elements.{All-nil}
+use Rattle.std.proofs.lemmas.List.Sums.{sum_by_more_le}
+use Rattle.std.proofs.lemmas.Option.{same_Some, slice_get_within}
+use Rattle.cil_accesses.specs.declared.access.AccessNumbers.{AccessNumbers}
+use Rattle.cil_accesses.specs.declared.chunk.Chunk.{Chunk}
+use Rattle.cil_accesses.specs.Chunks.{IsGiven}
+use Rattle.cil_keyed_lines.specs.Keyed.{Keyed, IsLineOf, IsNoLine, NoneCounted, before_at, is_key, now_at}
+use Rattle.cil_keyed_lines.specs.Keyed as keyed
+use Rattle.cil_keyed_lines.specs.declared.symbol_key.SymbolKey.{SymbolKey}
+use Rattle.cil_keyed_lines.proofs.KeyedLemmas.{line_of_key}
+use Rattle.cil_lines.specs.Line.{hit}
+use Rattle.cil_recorded.specs.Log.{hit_at}
+use Rattle.cil_recorded.specs.declared.recorded_lines.changes.Change.{Change}
+use Rattle.cil_recorded.proofs.LogLemmas.{hit_in, hit_off}
+use Rattle.cil_recorded.specs.Differences.{appeared_at, gone_at}
+use Rattle.cil_symbol_tables.specs.Tables.{count_before, count_now, lines_of}
+use Rattle.cil_symbol_tables.specs.declared.symbol_tables.SymbolTables.{SymbolTables}
+use Rattle.cil_text.specs.declared.statement.RuleKind.{RuleKind}
+use Rattle.cil_text.specs.declared.statement.RuleKind.TheVariants.{Allow, AuditAllow, DontAudit, NeverAllow}
+use Rattle.cil_symbol_changes.specs.Gained.{AreGained, AreKnown, AreKnownIn, IsIn, IsShort, IsTo}
+use Rattle.cil_symbol_changes.specs.Numbered.{access_by, AreNumbered, IsNew, IsNewOf, IsNumbered}
+use Rattle.cil_symbol_changes.proofs.GainedLemmas.{gained-alike, gained-more, gained-none}
+
+-- one of two that follow from each other, and a third
+pub alike-trans : {X Y Z : Type 0} → X ↔ Y → Y ↔ Z → X ↔ Z
+alike-trans f g = (λ x. g.0 (f.0 x), λ z. f.1 (g.1 z))
+
+-- any change
+abbrev pub no_change : Change
+no_change = record { line = 0; word = 0; appeared = 0; gone = 0 }
+
+module _ (numbers : List ℕ) (kind : RuleKind) (lines : Keyed) where
+  -- ---- one change
+
+  module _ (line word mask : ℕ) where
+    -- only the targets of the line stand there
+    on-line : (place t : ℕ) → 0 < hit_at line word mask place t → place ≡ line
+    on-line place t some = elim (cases_eq place line) [ inl same ↦ same | inr other ↦ let none = hit_off line word mask place t other in absurd (omega (arith, some, none)) ]
+
+    pub known-word : (key : SymbolKey) → IsLineOf lines line key → AreKnownIn numbers lines (hit_at line word mask) → AreKnown numbers key (hit word mask)
+    known-word key is known t some = known line key is t (subst (λ n. 0 < n) (sym (hit_in line word mask line t refl)) some)
+
+    pub in-line : (key : SymbolKey) (old new : List Chunk) → IsLineOf lines line key → AreGained (IsTo numbers kind key (λ t. 0 < hit word mask t)) old new → AreGained (IsIn numbers kind lines (hit_at line word mask)) old new
+    in-line key old new is gained = gained-alike (IsTo numbers kind key (λ t. 0 < hit word mask t)) (IsIn numbers kind lines (hit_at line word mask)) old new gained to from
+      where
+        to : (a : AccessNumbers) → IsTo numbers kind key (λ t. 0 < hit word mask t) a → IsIn numbers kind lines (hit_at line word mask) a
+        to a told = record {
+          place = line;
+          key = key;
+          line = is;
+          target = told.target;
+          among = subst (λ n. 0 < n) (sym (hit_in line word mask line told.target refl)) told.among;
+          same = told.same;
+        }
+
+        from : (a : AccessNumbers) → IsIn numbers kind lines (hit_at line word mask) a → IsTo numbers kind key (λ t. 0 < hit word mask t) a
+        from a told =
+            let here = on-line told.place told.target told.among in
+            let keys : told.key ≡ key = same_Some told.key key (sym told.line.at ∙ ap (slice_get lines.keys) here ∙ is.at) in
+            record {
+              target = told.target;
+              among = subst (λ n. 0 < n) (hit_in line word mask told.place told.target here) told.among;
+              same = told.same ∙ ap (λ k. access_by numbers kind k told.target) keys;
+            }
+
+    pub in-no_line : (old : List Chunk) → IsNoLine lines line → AreGained (IsIn numbers kind lines (hit_at line word mask)) old old
+    in-no_line old none = gained-none (IsIn numbers kind lines (hit_at line word mask)) old by
+      where
+        by : (a : AccessNumbers) → IsIn numbers kind lines (hit_at line word mask) a → ⊥
+        by a told =
+            let here = on-line told.place told.target told.among in
+            let within = slice_get_within lines.keys told.place told.key told.line.at in
+            let behind = none.behind in
+            omega (arith, here, within, behind)
+
+  -- ---- changes in turn
+
+  pub in-none : (stands : ℕ → ℕ → ℕ) (old : List Chunk) → ((l t : ℕ) → stands l t ≡ 0) → AreGained (IsIn numbers kind lines stands) old old
+  in-none stands old none = gained-none (IsIn numbers kind lines stands) old (λ a told. let some = told.among in let zero = none told.place told.target in omega (arith, some, zero))
+
+  pub in-more : (stands more all : ℕ → ℕ → ℕ) (old mid new : List Chunk) → ((l t : ℕ) → all l t ≡ stands l t + more l t) → AreGained (IsIn numbers kind lines stands) old mid → AreGained (IsIn numbers kind lines more) mid new
+      → AreGained (IsIn numbers kind lines all) old new
+  in-more stands more all old mid new sum first second =
+      gained-more (IsIn numbers kind lines stands) (IsIn numbers kind lines more) (IsIn numbers kind lines all) old mid new first second split
+      (λ a told. let some = told.among in moved stands all a told (omega (arith, some, sum told.place told.target)))
+      (λ a told. let some = told.among in moved more all a told (omega (arith, some, sum told.place told.target)))
+    where
+      moved : (f g : ℕ → ℕ → ℕ) (a : AccessNumbers) (told : IsIn numbers kind lines f a) → 0 < g told.place told.target → IsIn numbers kind lines g a
+      moved f g a told some = record { place = told.place; key = told.key; line = told.line; target = told.target; among = some; same = told.same }
+
+      split : (a : AccessNumbers) → IsIn numbers kind lines all a → IsIn numbers kind lines stands a ⊎ IsIn numbers kind lines more a
+      split a told =
+          let some = told.among in
+          elim (cases_eq (stands told.place told.target) 0) [
+            | inl none ↦ inr (moved all more a told (omega (arith, some, none, sum told.place told.target)))
+            | inr one ↦ inl (moved all stands a told (omega (arith, one)))
+          ]
+
+  -- what holds of the targets in all changes holds of those in one
+  pub known-one : (at : Change → ℕ → ℕ → ℕ) (changes : List Change) (i : ℕ) (d : Change) → i < length changes → AreKnownIn numbers lines (λ l t. sum_by (λ x. at x l t) changes) → AreKnownIn numbers lines (at (get_or changes i d))
+  known-one at changes i d within known l key line t some =
+      known l key line t (let less = sum_by_more_le (λ x. at x l t) changes i d within in omega (arith, some, less))
+
+  -- ---- all changes of a kind
+
+  -- what the changes say of places is what the counters of keys are
+  module _ (stands f g : ℕ → ℕ → ℕ) (was is : SymbolKey → ℕ → ℕ) (turned : (l t : ℕ) → stands l t ≡ min 1 (g l t) - min 1 (f l t))
+      (at : (l : ℕ) (key : SymbolKey) → IsLineOf lines l key → (t : ℕ) → (f l t ≡ was key t) × (g l t ≡ is key t)) where
+    turned-at : (l : ℕ) (key : SymbolKey) (t : ℕ) → IsLineOf lines l key → stands l t ≡ min 1 (is key t) - min 1 (was key t)
+    turned-at l key t line = let (before, now) = at l key line t in turned l t ∙ ap (λ n. min 1 n - min 1 (f l t)) now ∙ ap (λ n. min 1 (is key t) - min 1 n) before
+
+    pub known-turned : ((key : SymbolKey) (t : ℕ) → 0 < is key t → IsNumbered numbers key t) → AreKnownIn numbers lines stands
+    known-turned known l key line t some = let one = turned-at l key t line in known key t (omega (arith, some, one))
+
+    pub in-new : (old new : List Chunk) → ((key : SymbolKey) (t : ℕ) → 0 < is key t → (l : ℕ) × IsLineOf lines l key) → AreGained (IsIn numbers kind lines stands) old new → AreGained (IsNewOf numbers kind was is) old new
+    in-new old new find gained = gained-alike (IsIn numbers kind lines stands) (IsNewOf numbers kind was is) old new gained to from
+      where
+        to : (a : AccessNumbers) → IsIn numbers kind lines stands a → IsNewOf numbers kind was is a
+        to a told =
+            let some = told.among in
+            let one = turned-at told.place told.key told.target told.line in
+            record { key = told.key; target = told.target; absent = omega (arith, some, one); present = omega (arith, some, one); same = told.same }
+
+        from : (a : AccessNumbers) → IsNewOf numbers kind was is a → IsIn numbers kind lines stands a
+        from a told =
+            let (l, line) = find told.key told.target told.present in
+            let one = turned-at l told.key told.target line in
+            let absent = told.absent in
+            let present = told.present in
+            record { place = l; key = told.key; line = line; target = told.target; among = omega (arith, one, absent, present); same = told.same }
+
+-- a key with a counter above 0 has a line
+pub line-now : (lines : Keyed) (key : SymbolKey) (t : ℕ) → 0 < keyed.count_now lines key t → (l : ℕ) × IsLineOf lines l key
+line-now lines key t some = by (position (is_key key) lines.keys) (line_of_key lines key (position (is_key key) lines.keys) refl)
+  where
+    by : (o : Option ℕ) → MatchOption o (NoneCounted lines key) (λ l. IsLineOf lines l key) → (l : ℕ) × IsLineOf lines l key
+    by None none = let zero = (none t).0 in absurd (omega (arith, some, zero))
+    by (Some l) line = (l, line)
+
+pub line-before : (lines : Keyed) (key : SymbolKey) (t : ℕ) → 0 < keyed.count_before lines key t → (l : ℕ) × IsLineOf lines l key
+line-before lines key t some = by (position (is_key key) lines.keys) (line_of_key lines key (position (is_key key) lines.keys) refl)
+  where
+    by : (o : Option ℕ) → MatchOption o (NoneCounted lines key) (λ l. IsLineOf lines l key) → (l : ℕ) × IsLineOf lines l key
+    by None none = let zero = (none t).1 in absurd (omega (arith, some, zero))
+    by (Some l) line = (l, line)
+
+-- ---- all kinds
+
+module _ (numbers : List ℕ) (was is : RuleKind → SymbolKey → ℕ → ℕ) (none allow auditallow dontaudit neverallow : List Chunk) (empty : none ≡ []) (first : AreGained (IsNewOf numbers Allow (was Allow) (is Allow)) none allow)
+    (second : AreGained (IsNewOf numbers AuditAllow (was AuditAllow) (is AuditAllow)) allow auditallow) (third : AreGained (IsNewOf numbers DontAudit (was DontAudit) (is DontAudit)) auditallow dontaudit)
+    (fourth : AreGained (IsNewOf numbers NeverAllow (was NeverAllow) (is NeverAllow)) dontaudit neverallow) where
+  pub all-kinds : (a : AccessNumbers) → IsGiven neverallow a ↔ IsNew numbers was is a
+  all-kinds a = (
+    λ h. elim ((fourth.are a).0 h) [
+      | inr new ↦ (NeverAllow, new)
+      | inl h ↦ elim ((third.are a).0 h) [
+        | inr new ↦ (DontAudit, new)
+        | inl h ↦ elim ((second.are a).0 h) [
+          | inr new ↦ (AuditAllow, new)
+          | inl h ↦ elim ((first.are a).0 h) [ inr new ↦ (Allow, new) | inl h ↦ absurd (no-given h) ]
+        ]
+      ]
+    ],
+    λ new. from new.0 new.1,
+  )
+    where
+      no-given : IsGiven none a → ⊥
+      no-given (k, c, within, at, of) = let size = ap length empty in omega (arith, within, size)
+
+      from : (kind : RuleKind) → IsNewOf numbers kind (was kind) (is kind) a → IsGiven neverallow a
+      from Allow new = (fourth.are a).1 (inl ((third.are a).1 (inl ((second.are a).1 (inl ((first.are a).1 (inr new)))))))
+      from AuditAllow new = (fourth.are a).1 (inl ((third.are a).1 (inl ((second.are a).1 (inr new)))))
+      from DontAudit new = (fourth.are a).1 (inl ((third.are a).1 (inr new)))
+      from NeverAllow new = (fourth.are a).1 (inr new)
+
+  pub all-short : All IsShort neverallow
+  all-short = fourth.short (third.short (second.short (first.short (subst (All IsShort) (sym empty) (All-nil IsShort)))))
+
+-- ---- one kind of tables
+
+module _ {A : Type 0} (tables : SymbolTables A) (numbers : List ℕ) (kind : RuleKind) (lines : Keyed) (given changes : List Change) (at : lines ≡ lines_of tables kind) (all : given ≡ changes) where
+  -- what appeared
+  module _ (appeared : (l t : ℕ) → appeared_at changes l t ≡ min 1 (now_at lines l t) - min 1 (before_at lines l t)) where
+    pub known-appeared : AreNumbered numbers tables → AreKnownIn numbers lines (appeared_at given)
+    unfolding count_now
+    known-appeared numbered =
+        known-turned numbers kind lines (appeared_at given) (before_at lines) (now_at lines) (keyed.count_before lines) (keyed.count_now lines) (λ l t. ap (λ cs. appeared_at cs l t) all ∙ appeared l t) (λ l key line t. (line.before t, line.now t))
+        (λ key t some. numbered.now kind key t (subst (λ (k : Keyed). 0 < keyed.count_now k key t) at some))
+
+    pub new-appeared : (old new : List Chunk) → AreGained (IsIn numbers kind lines (appeared_at given)) old new → AreGained (IsNewOf numbers kind (count_before tables kind) (count_now tables kind)) old new
+    unfolding count_now count_before
+    new-appeared old new gained =
+        subst (λ (k : Keyed). AreGained (IsNewOf numbers kind (keyed.count_before k) (keyed.count_now k)) old new) at
+        (in-new numbers kind lines (appeared_at given) (before_at lines) (now_at lines) (keyed.count_before lines) (keyed.count_now lines) (λ l t. ap (λ cs. appeared_at cs l t) all ∙ appeared l t) (λ l key line t. (line.before t, line.now t))
+        old new (line-now lines) gained)
+
+  -- what went
+  module _ (gone : (l t : ℕ) → gone_at changes l t ≡ min 1 (before_at lines l t) - min 1 (now_at lines l t)) where
+    pub known-gone : AreNumbered numbers tables → AreKnownIn numbers lines (gone_at given)
+    unfolding count_before
+    known-gone numbered =
+        known-turned numbers kind lines (gone_at given) (now_at lines) (before_at lines) (keyed.count_now lines) (keyed.count_before lines) (λ l t. ap (λ cs. gone_at cs l t) all ∙ gone l t) (λ l key line t. (line.now t, line.before t))
+        (λ key t some. numbered.before kind key t (subst (λ (k : Keyed). 0 < keyed.count_before k key t) at some))
+
+    pub new-gone : (old new : List Chunk) → AreGained (IsIn numbers kind lines (gone_at given)) old new → AreGained (IsNewOf numbers kind (count_now tables kind) (count_before tables kind)) old new
+    unfolding count_now count_before
+    new-gone old new gained =
+        subst (λ (k : Keyed). AreGained (IsNewOf numbers kind (keyed.count_now k) (keyed.count_before k)) old new) at
+        (in-new numbers kind lines (gone_at given) (now_at lines) (before_at lines) (keyed.count_now lines) (keyed.count_before lines) (λ l t. ap (λ cs. gone_at cs l t) all ∙ gone l t) (λ l key line t. (line.now t, line.before t))
+        old new (line-before lines) gained)

@@ -1,0 +1,2 @@
+pub mod GainedLemmas
+pub mod ChangeLemmas

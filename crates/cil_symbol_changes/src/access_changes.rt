@@ -1,0 +1,41 @@
+//! Which accesses appeared and which went in access tables.
+
+ghost use Rattle.std.specs.Prelude.{◌↔◌, Contains, IfOk};
+ghost use Rattle.std.specs.List.Sorted.{IsStrictlySortedBy};
+ghost use Rattle.cil_accesses.specs.Chunks.{numbers_cmp};
+ghost use Rattle.cil_accesses.specs.declared.access.AccessNumbers.{AccessNumbers};
+ghost use Rattle.cil_symbol_tables.specs.Tables.{count_before, count_now};
+ghost use Rattle.cil_symbol_changes.specs.Numbered.{AreNumbered, IsNew};
+
+use crate::changed_chunks::collect;
+use cil_accesses::Accesses;
+use cil_symbol_tables::SymbolTables;
+use std::alloc::{AllocError, Allocator, Global};
+
+/// The accesses that appeared and those that went, by numbers and in their order.
+#[derive(Debug, Drop)]
+pub struct AccessChanges<A: Allocator = Global> {
+    pub added: Accesses<A>,
+    pub removed: Accesses<A>,
+}
+
+/// Which accesses appeared in tables since the last settling and which went: those that some rule gives now and none gave before,
+/// and those that some rule gave and none gives now. The symbols of their names have numbers, each at the place of the symbol. It
+/// takes time by the steps since then and by what changed, and looks at no other line.
+pub fn changes<A: Allocator + Copy>(
+    alloc: A,
+    tables: &SymbolTables<A>,
+    numbers: &[u32],
+) -> Result<AccessChanges<A>, AllocError>
+    requires known { AreNumbered numbers.now tables.now }
+    ensures added { IfOk result (λ r. (a : AccessNumbers) → Contains r.added a ↔ IsNew numbers.now (count_before tables.now) (count_now tables.now) a) }
+    ensures removed { IfOk result (λ r. (a : AccessNumbers) → Contains r.removed a ↔ IsNew numbers.now (count_now tables.now) (count_before tables.now) a) }
+    ensures added_order { IfOk result (λ r. IsStrictlySortedBy numbers_cmp r.added) }
+    ensures removed_order { IfOk result (λ r. IsStrictlySortedBy numbers_cmp r.removed) }
+{
+    let found = collect(alloc, tables, numbers)?;
+    Ok(AccessChanges {
+        added: Accesses::of(found.added),
+        removed: Accesses::of(found.removed),
+    })
+}
