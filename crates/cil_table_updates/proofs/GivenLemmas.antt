@@ -8,6 +8,7 @@ use Rattle.std.proofs.lemmas.List.Sums.{sum_by-cons}
 use Rattle.cil_sums.specs.Sums.{alone, sum_below}
 use Rattle.cil_sums.proofs.SumLemmas.{alone-none, sum-more, sum-none}
 use Rattle.cil_specs.specs.Meaning.{count_of, gives}
+use Rattle.cil_parse.specs.Lexicon.{AreNumbersOf}
 use Rattle.cil_text.specs.declared.statement.RuleKind.{RuleKind}
 use Rattle.cil_keyed_lines.specs.declared.symbol_key.SymbolKey.{SymbolKey}
 use Rattle.cil_resolve.specs.Below.{is_rule_below}
@@ -16,8 +17,8 @@ use Rattle.cil_resolve.specs.Numbers.{rule_of}
 use Rattle.cil_resolve.specs.Resolved.{meaning_in}
 use Rattle.cil_resolve.specs.declared.numbered.NumberedRule.{NumberedRule}
 use Rattle.cil_resolve.specs.declared.resolved.Resolved.{Resolved}
-use Rattle.cil_rule_reach.specs.Named.{atom_of, is_named}
-use Rattle.cil_rule_reach.specs.Reaches.{members_of}
+use Rattle.cil_rule_reach.specs.Named.{atom_of, is_named, AreMembersOf}
+use Rattle.cil_rule_reach.specs.Reaches.{covers_by, members_of}
 use Rattle.cil_rule_reach.proofs.NamedLemmas.{covers-named, covers-none}
 use Rattle.cil_rule_shifts.specs.Reach.{one_if}
 use Rattle.cil_symbol_tables.specs.Tables.{is_kind}
@@ -59,10 +60,12 @@ pub sum-given : {A : Type 0} (p : Policy A) (kind : RuleKind) (key : SymbolKey) 
 unfolding given
 sum-given p kind key t = sum-counted (gives_by p kind key t) p.resolved.now.rules.items
 
-module _ {A : Type 0} (names : List (List ℕ)) (apart : AreApart names) (p : Policy A) (is : IsPolicy names p) (kind : RuleKind) (key : SymbolKey) (t : ℕ) where
-  abbrev r : Resolved A
-  r = p.resolved.now
+-- whether a rule gives an access by these members and symbols
+abbrev pub gives_with : {A : Type 0} → (ℕ → ℕ → ℕ) → List ℕ → RuleKind → SymbolKey → ℕ → NumberedRule A → Bool
+gives_with members symbols kind key t rule = is_kind rule.kind kind && covers_by members symbols rule key t
 
+module _ {A : Type 0} (names : List (List ℕ)) (apart : AreApart names) (r : Resolved A) (symbols : List ℕ) (numbers : AreNumbersOf names symbols r.names.items) (members : ℕ → ℕ → ℕ) (are : AreMembersOf names (meaning_in r) members)
+  (kind : RuleKind) (key : SymbolKey) (t : ℕ) where
   abbrev AreBelow : List (NumberedRule A) → Type 0
   AreBelow rules = list_all (is_rule_below (length r.names.items)) rules ≡ true
 
@@ -70,32 +73,37 @@ module _ {A : Type 0} (names : List (List ℕ)) (apart : AreApart names) (p : Po
   AreDeclared rules = list_all (is_rule_of (meaning_in r).types (meaning_in r).attributes (meaning_in r).classes) (map (rule_of r.modules.items r.names.items) rules) ≡ true
 
   named-counts : is_named names key t ≡ true → (rules : List (NumberedRule A)) → AreBelow rules → AreDeclared rules
-      → count_by (gives_by p kind key t) rules ≡ count_by (λ rule. gives (meaning_in r) rule (atom_of names kind key t)) (map (rule_of r.modules.items r.names.items) rules)
+      → count_by (gives_with members symbols kind key t) rules ≡ count_by (λ rule. gives (meaning_in r) rule (atom_of names kind key t)) (map (rule_of r.modules.items r.names.items) rules)
   named-counts named [] below declared = refl
   named-counts named (rule ∷ rules) below declared =
-      one-more (gives_by p kind key t) rule rules
-      ∙ ap (λ b. one_if (is_kind rule.kind kind && b) + count_by (gives_by p kind key t) rules)
-      (covers-named r names p.numbering.now.symbols apart is.numbers (members_of p.members) is.members rule key t (and-first _ _ below) (and-first _ _ declared) named)
+      one-more (gives_with members symbols kind key t) rule rules
+      ∙ ap (λ b. one_if (is_kind rule.kind kind && b) + count_by (gives_with members symbols kind key t) rules)
+      (covers-named r names symbols apart numbers members are rule key t (and-first _ _ below) (and-first _ _ declared) named)
       ∙ ap (λ n. one_if (gives (meaning_in r) (rule_of r.modules.items r.names.items rule) (atom_of names kind key t)) + n) (named-counts named rules (and-second _ _ below) (and-second _ _ declared))
       ∙ sym (one-more (λ one. gives (meaning_in r) one (atom_of names kind key t)) (rule_of r.modules.items r.names.items rule) (map (rule_of r.modules.items r.names.items) rules))
 
-  unnamed-counts : is_named names key t ≡ false → (rules : List (NumberedRule A)) → AreBelow rules → count_by (gives_by p kind key t) rules ≡ 0
+  unnamed-counts : is_named names key t ≡ false → (rules : List (NumberedRule A)) → AreBelow rules → count_by (gives_with members symbols kind key t) rules ≡ 0
   unnamed-counts unnamed [] below = refl
   unnamed-counts unnamed (rule ∷ rules) below =
-      one-more (gives_by p kind key t) rule rules
-      ∙ ap (λ b. one_if (is_kind rule.kind kind && b) + count_by (gives_by p kind key t) rules)
-      (covers-none r names p.numbering.now.symbols apart is.numbers (members_of p.members) is.members rule key t (and-first _ _ below) unnamed)
-      ∙ ap (λ b. one_if b + count_by (gives_by p kind key t) rules) (and-false (is_kind rule.kind kind))
-      ∙ zero-add (count_by (gives_by p kind key t) rules) ∙ unnamed-counts unnamed rules (and-second _ _ below)
+      one-more (gives_with members symbols kind key t) rule rules
+      ∙ ap (λ b. one_if (is_kind rule.kind kind && b) + count_by (gives_with members symbols kind key t) rules)
+      (covers-none r names symbols apart numbers members are rule key t (and-first _ _ below) unnamed)
+      ∙ ap (λ b. one_if b + count_by (gives_with members symbols kind key t) rules) (and-false (is_kind rule.kind kind))
+      ∙ zero-add (count_by (gives_with members symbols kind key t) rules) ∙ unnamed-counts unnamed rules (and-second _ _ below)
 
   -- as many rules give an access by symbols as by names
-  pub given-named : AreBelow r.rules.items → is_consistent (meaning_in r) ≡ true → sum_below (given p kind key t) (length r.rules.items) ≡ count_named names (meaning_in r) kind key t
-  given-named below consistent =
-      sum-given p kind key t
-      ∙ elim (cases_Bool (is_named names key t)) [
+  pub counted-named : AreBelow r.rules.items → is_consistent (meaning_in r) ≡ true → count_by (gives_with members symbols kind key t) r.rules.items ≡ count_named names (meaning_in r) kind key t
+  counted-named below consistent =
+      elim (cases_Bool (is_named names key t)) [
         | inl named ↦ named-counts named r.rules.items below consistent ∙ sym (ap (λ b. cond b (count_of (meaning_in r) (atom_of names kind key t)) 0) named)
         | inr unnamed ↦ unnamed-counts unnamed r.rules.items below ∙ sym (ap (λ b. cond b (count_of (meaning_in r) (atom_of names kind key t)) 0) unnamed)
       ]
+
+pub given-named : {A : Type 0} (names : List (List ℕ)) (apart : AreApart names) (p : Policy A) (is : IsPolicy names p) (kind : RuleKind) (key : SymbolKey) (t : ℕ)
+    → list_all (is_rule_below (length p.resolved.now.names.items)) p.resolved.now.rules.items ≡ true → is_consistent (meaning_in p.resolved.now) ≡ true
+    → sum_below (given p kind key t) (length p.resolved.now.rules.items) ≡ count_named names (meaning_in p.resolved.now) kind key t
+given-named names apart p is kind key t below consistent =
+    sum-given p kind key t ∙ counted-named names apart p.resolved.now p.numbering.now.symbols is.numbers (members_of p.members) is.members kind key t below consistent
 
 -- what the rule at a place gives
 pub given-rule : {A : Type 0} (p : Policy A) (kind : RuleKind) (key : SymbolKey) (t i : ℕ) (rule : NumberedRule A) → slice_get p.resolved.now.rules.items i ≡ Some rule → given p kind key t i ≡ one_if (gives_by p kind key t rule)
