@@ -1,0 +1,118 @@
+-- The counters of a policy, when names come and when nothing has a name.
+use Rattle.std.proofs.Common.{◌≡◌, ℕ, ◌+◌, ◌<◌, ◌≤◌, ◌&&◌, Bool, true, false, List, [], ◌∷◌, ◌++◌, length, cond, count_by, bytes_eq, nat_lt, get_or, slice_get, Contains, Some, refl, sym, ap, ◌∙◌, subst, arith, zero-add}
+use Rattle.std.specs.List.{list_all, IsDistinct}
+use Rattle.std.proofs.Math.Bool.{and-false}
+use Rattle.std.proofs.lemmas.Bool.{le-ltb}
+use Rattle.std.proofs.lemmas.List.Sums.{sum_by-cons}
+use Rattle.std.proofs.lemmas.Option.{slice_get-get_or, slice_get_past}
+use Rattle.cil_specs.specs.Dependence.{AreTheSame}
+use Rattle.cil_specs.specs.Lookup.{has_name}
+use Rattle.cil_specs.specs.Meaning.{Meaning, count_of, is_in, keeps_type}
+use Rattle.cil_specs.specs.Members.{keeps_attribute, HasSoundSets}
+use Rattle.cil_specs.specs.Rule.{SetStatement}
+use Rattle.cil_parse.specs.Lexicon.{AreNumbersOf}
+use Rattle.cil_text.specs.declared.statement.RuleKind.{RuleKind}
+use Rattle.cil_keyed_lines.specs.declared.symbol_key.SymbolKey.{SymbolKey}
+use Rattle.cil_resolve.specs.Below.{is_rule_below}
+use Rattle.cil_resolve.specs.Consistent.{is_consistent}
+use Rattle.cil_resolve.specs.Resolved.{meaning_in}
+use Rattle.cil_resolve.specs.Sets.{sets_in}
+use Rattle.cil_resolve.specs.declared.resolved.Resolved.{Resolved}
+use Rattle.cil_sets.specs.Counts.{gives_member}
+use Rattle.cil_sets.proofs.CountLemmas.{counted-member}
+use Rattle.cil_member_updates.specs.Given.{gives, holds, is_of, of_name}
+use Rattle.cil_member_updates.specs.Policy.{AreCounts}
+use Rattle.cil_member_updates.proofs.GrowthLemmas.{count-more, numbers-more}
+use Rattle.cil_rule_reach.specs.Named.{atom_of, is_named, name_at, AreMembersOf}
+use Rattle.cil_table_updates.specs.Policies.{count_named, AreApart}
+use Rattle.cil_table_updates.proofs.GivenLemmas.{counted-named}
+use Rattle.cil_table_updates.proofs.PlaceLemmas.{names-apart}
+use Rattle.cil_counters.specs.Counted.{IsCounted}
+
+none-counted : {X : Type 0} (test : X → Bool) (xs : List X) → ((x : X) → test x ≡ false) → count_by test xs ≡ 0
+none-counted test [] none = refl
+none-counted test (x ∷ xs) none =
+    sum_by-cons (λ y. cond (test y) 1 0) x xs ∙ ap (λ b. cond b 1 0 + count_by test xs) (none x) ∙ zero-add (count_by test xs) ∙ none-counted test xs none
+
+-- whether the set statement makes the type a member, by names
+gives-by-names : (names : List (List ℕ)) (meaning : Meaning) (a t : ℕ) → a < length names → t < length names → (s : SetStatement) → gives names meaning a t s ≡ gives_member meaning (name_at names a) (name_at names t) s
+unfolding is_of holds
+gives-by-names names meaning a t a_low t_low s =
+    ap (λ n. of_name (λ name. bytes_eq name s.attribute) n && of_name (is_in meaning s.expr) (slice_get names t)) (slice_get-get_or names a [] a_low)
+    ∙ ap (λ n. bytes_eq (name_at names a) s.attribute && of_name (is_in meaning s.expr) n) (slice_get-get_or names t [] t_low)
+
+no-attribute : (names : List (List ℕ)) (meaning : Meaning) (a t : ℕ) → length names ≤ a → (s : SetStatement) → gives names meaning a t s ≡ false
+unfolding is_of
+no-attribute names meaning a t past s = ap (λ n. of_name (λ name. bytes_eq name s.attribute) n && holds names meaning s t) (slice_get_past names a past)
+
+no-type : (names : List (List ℕ)) (meaning : Meaning) (a t : ℕ) → length names ≤ t → (s : SetStatement) → gives names meaning a t s ≡ false
+unfolding holds
+no-type names meaning a t past s = ap (λ n. is_of names s a && of_name (is_in meaning s.expr) n) (slice_get_past names t past) ∙ and-false (is_of names s a)
+
+module _ {A : Type 0} (names : List (List ℕ)) (r : Resolved A) (sound : HasSoundSets (meaning_in r)) (same : AreTheSame (meaning_in r).sets (sets_in r)) where
+  -- what is counted above 0 is a member
+  pub members-counted : (counts : ℕ → ℕ → ℕ) → AreCounts names r counts → AreMembersOf names (meaning_in r) counts
+  members-counted counts are = record {
+    are = λ a t a_low t_low.
+      ap (nat_lt 0) (are a t ∙ ap (λ test. count_by test (sets_in r)) (λ i s. gives-by-names names (meaning_in r) a t a_low t_low s i))
+      ∙ counted-member (meaning_in r) sound (sets_in r) same (name_at names a) (name_at names t);
+    no_attribute = λ a t past. are a t ∙ none-counted (gives names (meaning_in r) a t) (sets_in r) (no-attribute names (meaning_in r) a t past);
+    no_type = λ a t past. are a t ∙ none-counted (gives names (meaning_in r) a t) (sets_in r) (no-type names (meaning_in r) a t past);
+  }
+
+  module _ (types : (name : List ℕ) → keeps_type (meaning_in r) name ≡ true → has_name r.names.items name ≡ true) (attributes : (name : List ℕ) → keeps_attribute (meaning_in r) name ≡ true → has_name r.names.items name ≡ true)
+    (below : list_all (is_rule_below (length r.names.items)) r.rules.items ≡ true) (consistent : is_consistent (meaning_in r) ≡ true) (members : ℕ → ℕ → ℕ) (counts : RuleKind → SymbolKey → ℕ → ℕ) where
+    -- all this stays where names come
+    pub counted-more : (more : List (List ℕ)) → IsDistinct bytes_eq names → IsDistinct bytes_eq (names ++ more) → IsCounted names r members counts → IsCounted (names ++ more) r members counts
+    counted-more more distinct grown is = record {
+      symbols = is.symbols;
+      numbers = numbers;
+      are_members = all;
+      are_counts = λ kind key t.
+        is.are_counts kind key t
+        ∙ sym (counted-named names (names-apart names distinct) r is.symbols is.numbers members (members-counted members is.are_members) kind key t below consistent)
+        ∙ counted-named (names ++ more) (names-apart (names ++ more) grown) r is.symbols numbers members grown_members kind key t below consistent;
+    }
+      where
+        numbers : AreNumbersOf (names ++ more) is.symbols r.names.items
+        numbers = numbers-more names more is.symbols r.names.items is.numbers
+
+        all : AreCounts (names ++ more) r members
+        all a t =
+            is.are_members a t
+            ∙ count-more names more grown is.symbols r.names.items is.numbers (meaning_in r) types (sets_in r) (λ s there. attributes s.attribute (sound.own.attributes s ((same s).1 there))) a t
+
+        grown_members : AreMembersOf (names ++ more) (meaning_in r) members
+        grown_members = record {
+          are = λ a t a_low t_low.
+            ap (nat_lt 0) (all a t ∙ ap (λ test. count_by test (sets_in r)) (λ i s. gives-by-names (names ++ more) (meaning_in r) a t a_low t_low s i))
+            ∙ counted-member (meaning_in r) sound (sets_in r) same (name_at (names ++ more) a) (name_at (names ++ more) t);
+          no_attribute = λ a t past. all a t ∙ none-counted (gives (names ++ more) (meaning_in r) a t) (sets_in r) (no-attribute (names ++ more) (meaning_in r) a t past);
+          no_type = λ a t past. all a t ∙ none-counted (gives (names ++ more) (meaning_in r) a t) (sets_in r) (no-type (names ++ more) (meaning_in r) a t past);
+        }
+
+-- nothing is counted of a policy without names
+pub counted-none : {A : Type 0} (r : Resolved A) (members : ℕ → ℕ → ℕ) (counts : RuleKind → SymbolKey → ℕ → ℕ) → r.names.items ≡ [] → ((a t : ℕ) → members a t ≡ 0) → ((kind : RuleKind) (key : SymbolKey) (t : ℕ) → counts kind key t ≡ 0)
+    → IsCounted [] r members counts
+counted-none r members counts unnamed no_members no_accesses = record {
+  symbols = [];
+  numbers = subst (λ names. AreNumbersOf [] [] names) (sym unnamed) refl;
+  are_members = λ a t. no_members a t ∙ sym (none-counted (gives [] (meaning_in r) a t) (sets_in r) (no-attribute [] (meaning_in r) a t (omega arith)));
+  are_counts = λ kind key t.
+    no_accesses kind key t
+    ∙ sym (ap (λ b. cond ((b && nat_lt t 0) && (nat_lt key.class 0 && nat_lt key.permission 0)) (count_of (meaning_in r) (atom_of [] kind key t)) 0) (le-ltb key.source 0 (omega arith)));
+}
+
+pub none-of : {X : Type 0} (xs : List X) → length xs ≡ 0 → xs ≡ []
+none-of [] none = refl
+none-of (x ∷ xs) none = absurd (omega (arith, none))
+
+-- what is counted stays where the names and the counters do
+pub counted-alike : {A : Type 0} (r : Resolved A) (names others : List (List ℕ)) (members new_members : ℕ → ℕ → ℕ) (counts new_counts : RuleKind → SymbolKey → ℕ → ℕ) → IsCounted names r members counts → others ≡ names
+    → ((a t : ℕ) → new_members a t ≡ members a t) → ((kind : RuleKind) (key : SymbolKey) (t : ℕ) → new_counts kind key t ≡ counts kind key t) → IsCounted others r new_members new_counts
+counted-alike r names others members new_members counts new_counts is same same_members same_counts = subst (λ l. IsCounted l r new_members new_counts) (sym same) (record {
+  symbols = is.symbols;
+  numbers = is.numbers;
+  are_members = λ a t. same_members a t ∙ is.are_members a t;
+  are_counts = λ kind key t. same_counts kind key t ∙ is.are_counts kind key t;
+})

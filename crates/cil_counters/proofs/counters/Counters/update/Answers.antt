@@ -1,0 +1,65 @@
+use Rattle.std.proofs.Common.{◌∙◌, ap, refl, subst, sym}
+use Rattle.std.proofs.lemmas.Result.{on_ok_weaker}
+use Rattle.cil_member_rows.specs.Rows as member_rows
+use Rattle.cil_member_updates.specs.Policy.{AreCounts}
+use Rattle.cil_member_updates.proofs.GrowthLemmas.{numbers-more}
+use Rattle.cil_parse.specs.Lexicon.{AreNumbersOf}
+use Rattle.cil_resolve.specs.Resolved.{meaning_in}
+use Rattle.cil_symbol_tables.specs.Tables as access_tables
+use Rattle.cil_table_updates.specs.Policies.{count_named}
+use Rattle.cil_counters.proofs.CountedLemmas.{counted-alike, members-counted}
+use Rattle.cil_counters.proofs.counters.Counters.update.Goals as goal
+
+pub update_members-requires-clause-old_numbers : goal.update_members-requires-clause-old_numbers
+update_members-requires-clause-old_numbers g c =
+    subst (λ l. AreNumbersOf l c.in_ok-old_numbering.old_numbering.symbols c.args.old.now.names.items) (sym c.number-2.ensures.grown.1)
+    (numbers-more c.number.new.self.names c.number-2.ensures.grown.0 c.in_ok-old_numbering.old_numbering.symbols c.args.old.now.names.items c.in_ok-old_numbering.ensures.numbers)
+
+pub returns-in_err-update_members-clause-before : goal.returns-in_err-update_members-clause-before
+returns-in_err-update_members-clause-before g c =
+    counted-alike c.args.old.now c.number-2.new.self.names c.update_members.new.self.names (member_rows.count_before c.number-2.new.self.rows) (member_rows.count_before c.update_members.new.self.rows)
+    (access_tables.count_before c.number-2.new.self.tables) (access_tables.count_before c.update_members.new.self.tables) c.number-2.ensures.before c.update_members.ensures.names c.update_members.ensures.before
+    (λ kind key t. ap (λ tables. access_tables.count_before tables kind key t) c.update_members.ensures.tables)
+
+pub update-requires-clause-old_numbers : goal.update-requires-clause-old_numbers
+update-requires-clause-old_numbers g c =
+    subst (λ l. AreNumbersOf l c.in_ok-old_numbering.old_numbering.symbols c.args.old.now.names.items) (sym c.update_members.ensures.names)
+    (subst (λ l. AreNumbersOf l c.in_ok-old_numbering.old_numbering.symbols c.args.old.now.names.items) (sym c.number-2.ensures.grown.1)
+    (numbers-more c.number.new.self.names c.number-2.ensures.grown.0 c.in_ok-old_numbering.old_numbering.symbols c.args.old.now.names.items c.in_ok-old_numbering.ensures.numbers))
+
+pub update-requires-clause-old_members : goal.update-requires-clause-old_members
+update-requires-clause-old_members g c =
+    let was = counted-alike c.args.old.now c.number-2.new.self.names c.update_members.new.self.names (member_rows.count_before c.number-2.new.self.rows) (member_rows.count_before c.update_members.new.self.rows)
+    (access_tables.count_before c.number-2.new.self.tables) (access_tables.count_before c.update_members.new.self.tables) c.number-2.ensures.before c.update_members.ensures.names c.update_members.ensures.before
+    (λ kind key t. ap (λ tables. access_tables.count_before tables kind key t) c.update_members.ensures.tables) in
+    members-counted c.update_members.new.self.names c.args.old.now c.resolved_is_sound.ensures c.resolved_sets_are_in_order.ensures.the_same (member_rows.count_before c.update_members.new.self.rows) was.are_members
+
+pub update-requires-clause-new_members : goal.update-requires-clause-new_members
+update-requires-clause-new_members g c =
+    members-counted c.update_members.new.self.names c.args.new.now c.resolved_is_sound-2.ensures c.resolved_sets_are_in_order-2.ensures.the_same (member_rows.count_now c.update_members.new.self.rows)
+    (subst (λ l. AreCounts l c.args.new.now (member_rows.count_now c.update_members.new.self.rows)) (sym c.update_members.ensures.names) c.in_ok-update_members.ensures.now)
+
+pub update-requires-clause-stands : goal.update-requires-clause-stands
+update-requires-clause-stands g c kind key t =
+    ap (λ tables. access_tables.count_now tables kind key t) c.update_members.ensures.tables
+    ∙ c.number-2.ensures.now.are_counts kind key t
+    ∙ ap (λ l. count_named l (meaning_in c.args.old.now) kind key t) (sym c.update_members.ensures.names)
+
+pub returns-clause-now : goal.returns-clause-now
+returns-clause-now g c =
+    on_ok_weaker c.update.result
+    (λ moved. record {
+      symbols = c.in_ok-new_numbering.new_numbering.symbols;
+      numbers = subst (λ l. AreNumbersOf l c.in_ok-new_numbering.new_numbering.symbols c.args.new.now.names.items) (sym c.update_members.ensures.names) c.in_ok-new_numbering.ensures.numbers;
+      are_members = subst (λ l. AreCounts l c.args.new.now (member_rows.count_now c.update_members.new.self.rows)) (sym c.update_members.ensures.names) c.in_ok-update_members.ensures.now;
+      are_counts = moved;
+    })
+    c.update.ensures.now
+
+pub returns-clause-before : goal.returns-clause-before
+returns-clause-before g c =
+    let was = counted-alike c.args.old.now c.number-2.new.self.names c.update_members.new.self.names (member_rows.count_before c.number-2.new.self.rows) (member_rows.count_before c.update_members.new.self.rows)
+    (access_tables.count_before c.number-2.new.self.tables) (access_tables.count_before c.update_members.new.self.tables) c.number-2.ensures.before c.update_members.ensures.names c.update_members.ensures.before
+    (λ kind key t. ap (λ tables. access_tables.count_before tables kind key t) c.update_members.ensures.tables) in
+    counted-alike c.args.old.now c.update_members.new.self.names c.update_members.new.self.names (member_rows.count_before c.update_members.new.self.rows) (member_rows.count_before c.update_members.new.self.rows)
+    (access_tables.count_before c.update_members.new.self.tables) (access_tables.count_before c.update.new.tables) was refl (λ a t. refl) c.update.ensures.before

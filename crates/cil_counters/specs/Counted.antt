@@ -1,0 +1,52 @@
+-- The counters of a policy.
+use Rattle.std.specs.Prelude.{◌≡◌, ℕ, Bool, false, List, Option, None, Some, bytes_eq, nat_lt, position}
+use Rattle.cil_parse.specs.Lexicon.{AreNumbersOf}
+use Rattle.cil_text.specs.declared.statement.RuleKind.{RuleKind}
+use Rattle.cil_keyed_lines.specs.declared.symbol_key.SymbolKey.{SymbolKey}
+use Rattle.cil_member_rows.specs.Rows as member_rows
+use Rattle.cil_member_updates.specs.Policy.{AreCounts}
+use Rattle.cil_resolve.specs.Resolved.{meaning_in}
+use Rattle.cil_resolve.specs.declared.resolved.Resolved.{Resolved}
+use Rattle.cil_symbol_tables.specs.Tables as access_tables
+use Rattle.cil_table_updates.specs.Policies.{count_named}
+use Rattle.cil_counters.specs.declared.counters.Counters.{Counters}
+
+-- The names of a policy have symbols, and the counters say of each attribute and type how many of its set statements make the one a
+-- member of the other, and of each access how many of its rules give it.
+pub record IsCounted {A : Type 0} (names : List (List ℕ)) (r : Resolved A) (members : ℕ → ℕ → ℕ) (counts : RuleKind → SymbolKey → ℕ → ℕ) : Type 0 where
+  pub symbols : List ℕ
+  pub numbers : AreNumbersOf names symbols r.names.items
+  pub are_members : AreCounts names r members
+  pub are_counts : (kind : RuleKind) (key : SymbolKey) (t : ℕ) → counts kind key t ≡ count_named names (meaning_in r) kind key t
+
+-- they are so now, and they were before the steps
+abbrev pub IsNow : {A B : Type 0} → Resolved A → Counters B → Type 0
+IsNow r c = IsCounted c.names r (member_rows.count_now c.rows) (access_tables.count_now c.tables)
+
+abbrev pub WasBefore : {A B : Type 0} → Resolved A → Counters B → Type 0
+WasBefore r c = IsCounted c.names r (member_rows.count_before c.rows) (access_tables.count_before c.tables)
+
+-- The counters are those of before the steps, and there are no steps.
+pub record AreTakenBack {A : Type 0} (old new : Counters A) : Type 0 where
+  pub names : new.names ≡ old.names
+  pub members : (a t : ℕ) → member_rows.count_now new.rows a t ≡ member_rows.count_before old.rows a t
+  pub members_before : (a t : ℕ) → member_rows.count_before new.rows a t ≡ member_rows.count_before old.rows a t
+  pub accesses : (kind : RuleKind) (key : SymbolKey) (t : ℕ) → access_tables.count_now new.tables kind key t ≡ access_tables.count_before old.tables kind key t
+  pub accesses_before : (kind : RuleKind) (key : SymbolKey) (t : ℕ) → access_tables.count_before new.tables kind key t ≡ access_tables.count_before old.tables kind key t
+
+-- The counters are those of now, and there are no steps.
+pub record AreSettled {A : Type 0} (old new : Counters A) : Type 0 where
+  pub names : new.names ≡ old.names
+  pub members : (a t : ℕ) → member_rows.count_now new.rows a t ≡ member_rows.count_now old.rows a t
+  pub members_before : (a t : ℕ) → member_rows.count_before new.rows a t ≡ member_rows.count_now old.rows a t
+  pub accesses : (kind : RuleKind) (key : SymbolKey) (t : ℕ) → access_tables.count_now new.tables kind key t ≡ access_tables.count_now old.tables kind key t
+  pub accesses_before : (kind : RuleKind) (key : SymbolKey) (t : ℕ) → access_tables.count_before new.tables kind key t ≡ access_tables.count_now old.tables kind key t
+
+-- whether the counter of an attribute and a type is above 0, where both have symbols
+abbrev pub has_at : (ℕ → ℕ → ℕ) → Option ℕ → Option ℕ → Bool
+has_at members None t = false
+has_at members (Some a) None = false
+has_at members (Some a) (Some t) = nat_lt 0 (members a t)
+
+abbrev pub has_named : {A : Type 0} → Counters A → List ℕ → List ℕ → Bool
+has_named c attribute ty = has_at (member_rows.count_now c.rows) (position (bytes_eq attribute) c.names) (position (bytes_eq ty) c.names)

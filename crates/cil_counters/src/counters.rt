@@ -1,0 +1,189 @@
+//! The counters of a policy.
+
+ghost use Rattle.std.specs.Prelude.{◌≡◌, ◌≤◌, ◌++◌, ℕ, List, bytes_eq, false, length, IfOk, OnOk};
+ghost use Rattle.std.specs.List.{IsDistinct};
+ghost use Rattle.cil_member_rows.specs.Rows as member_rows;
+ghost use Rattle.cil_member_updates.specs.Policy.{AreCounts};
+ghost use Rattle.cil_parse.specs.Lexicon.{AreNumbersOf};
+ghost use Rattle.cil_counters.specs.Counted.{has_named, AreSettled, AreTakenBack, IsNow, WasBefore};
+ghost use Rattle.cil_symbol_tables.specs.Tables as access_tables;
+
+use crate::more_rows::add_rows;
+use cil_keyed_lines::SymbolKey;
+use cil_matching::SetMatching;
+use cil_member_rows::MemberRows;
+use cil_member_updates::{KeptTypes, Side};
+use cil_resolve::{
+    Meter, Resolved, resolved_is_consistent, resolved_is_sound, resolved_names_are_kept,
+    resolved_sets_are_in_order,
+};
+use cil_symbol_tables::SymbolTables;
+use cil_symbols::{Numbering, Symbols};
+use cil_table_updates::Named;
+use cil_text::RuleKind;
+use std::alloc::{AllocError, Allocator, Global};
+
+/// For each attribute and type of a policy how many set statements make the one a member of the other, and for each access how many
+/// rules give it. They are kept by symbols: numbers of names that stay while names come. They are brought from one policy to
+/// another in steps, which `undo` takes back and `settle` keeps.
+#[derive(Drop)]
+pub struct Counters<A: Allocator = Global> {
+    names: Symbols<A>,
+    rows: MemberRows<A>,
+    tables: SymbolTables<A>,
+}
+
+impl<A: Allocator + Copy> Counters<A> {
+    /// The counters of a policy without names.
+    pub fn none(alloc: A, empty: &Resolved<A>) -> Self
+        requires { length empty.now.names.items ≡ 0 }
+        ensures now { IsNow empty.now result }
+        ensures before { WasBefore empty.now result }
+    {
+        Counters {
+            names: Symbols::new(alloc),
+            rows: MemberRows::new(alloc),
+            tables: SymbolTables::new(alloc),
+        }
+    }
+
+    /// The symbols of a policy's names, of which those come that there aren't yet. What is counted of another policy stays.
+    fn number(
+        &mut self,
+        alloc: A,
+        counted: &Resolved<A>,
+        policy: &Resolved<A>,
+    ) -> Result<Numbering<A>, AllocError>
+        requires now { IsNow counted.now self.old }
+        requires before { WasBefore counted.now self.old }
+        ensures now { IsNow counted.now self.new }
+        ensures before { WasBefore counted.now self.new }
+        ensures grown { (more : List (List ℕ)) × (self.new.names ≡ self.old.names ++ more) }
+        ensures numbers { IfOk result (λ n. AreNumbersOf self.new.names n.symbols policy.now.names.items) }
+        ensures count { IfOk result (λ n. n.count ≡ length self.new.names) }
+        ensures distinct { IsDistinct bytes_eq self.new.names }
+    {
+        resolved_names_are_kept(counted);
+        resolved_is_sound(counted);
+        resolved_sets_are_in_order(counted);
+        resolved_is_consistent(counted);
+        counted.rules();
+        self.names.len();
+        let numbering = Numbering::of(alloc, &mut self.names, policy);
+        self.names.len();
+        numbering
+    }
+
+    /// Brings the members from an old policy to a new one.
+    fn update_members(
+        &mut self,
+        alloc: A,
+        old: Named<'_, A>,
+        new: Named<'_, A>,
+        meter: &mut Meter,
+    ) -> Result<(), AllocError>
+        requires distinct { IsDistinct bytes_eq self.old.names }
+        requires old_numbers { AreNumbersOf self.old.names old.numbering.now.symbols old.resolved.now.names.items }
+        requires new_numbers { AreNumbersOf self.old.names new.numbering.now.symbols new.resolved.now.names.items }
+        requires now { AreCounts self.old.names old.resolved.now (member_rows.count_now self.old.rows) }
+        requires before { AreCounts self.old.names old.resolved.now (member_rows.count_before self.old.rows) }
+        ensures now { OnOk result (AreCounts self.old.names new.entry.resolved.now (member_rows.count_now self.new.rows)) }
+        ensures before { (a t : ℕ) → member_rows.count_before self.new.rows a t ≡ member_rows.count_before self.old.rows a t }
+        ensures names { self.new.names ≡ self.old.names }
+        ensures tables { self.new.tables ≡ self.old.tables }
+    {
+        let old_kept = KeptTypes::of(alloc, &self.names, old.resolved, old.numbering)?;
+        let new_kept = KeptTypes::of(alloc, &self.names, new.resolved, new.numbering)?;
+        let matching = SetMatching::of(alloc, old.resolved, new.resolved)?;
+        add_rows(&mut self.rows, alloc, self.names.len())?;
+        let old_side = Side {
+            resolved: old.resolved,
+            numbering: old.numbering,
+            kept: &old_kept,
+        };
+        let new_side = Side {
+            resolved: new.resolved,
+            numbering: new.numbering,
+            kept: &new_kept,
+        };
+        cil_member_updates::update(
+            &mut self.rows,
+            alloc,
+            &self.names,
+            &old_side,
+            &new_side,
+            &matching,
+            meter,
+        )
+    }
+
+    /// Brings the counters from those of an old policy, which they hold, to those of a new one, in steps. Also after an out of memory
+    /// `undo` leads back to the old policy.
+    pub fn update(
+        &mut self,
+        alloc: A,
+        old: &Resolved<A>,
+        new: &Resolved<A>,
+        meter: &mut Meter,
+    ) -> Result<(), AllocError>
+        requires now { IsNow old.now self.old }
+        requires before { WasBefore old.now self.old }
+        ensures now { OnOk result (IsNow new.now self.new) }
+        ensures before { WasBefore old.now self.new }
+    {
+        let old_numbering = self.number(alloc, old, old)?;
+        let new_numbering = self.number(alloc, old, new)?;
+        resolved_is_sound(old);
+        resolved_is_sound(new);
+        resolved_sets_are_in_order(old);
+        resolved_sets_are_in_order(new);
+        let old = Named {
+            resolved: old,
+            numbering: &old_numbering,
+        };
+        let new = Named {
+            resolved: new,
+            numbering: &new_numbering,
+        };
+        self.update_members(alloc, old, new, meter)?;
+        cil_table_updates::update(&mut self.tables, alloc, &self.names, &self.rows, old, new)
+    }
+}
+
+impl<A: Allocator> Counters<A> {
+    /// Whether a type is a member of an attribute, by full names. It takes no memory.
+    pub fn has(&self, attribute: &[u8], ty: &[u8]) -> bool
+        ensures { result ≡ has_named self.now attribute.now ty.now }
+    {
+        match (self.names.find(attribute), self.names.find(ty)) {
+            (Some(row), Some(ty)) => self.rows.has(row, ty),
+            _ => false,
+        }
+    }
+
+    /// Whether there are steps that `undo` would take back.
+    pub fn is_pending(&self) -> bool
+        ensures members { result ≡ false → (a t : ℕ) → member_rows.count_before self.now.rows a t ≡ member_rows.count_now self.now.rows a t }
+        ensures accesses { result ≡ false → (kind : RuleKind) (key : SymbolKey) (t : ℕ) → access_tables.count_before self.now.tables kind key t ≡ access_tables.count_now self.now.tables kind key t }
+    {
+        let rows = self.rows.is_pending();
+        let tables = self.tables.is_pending();
+        rows | tables
+    }
+
+    /// Takes the steps back: the counters are those of the old policy again. Names that came keep their symbols. It takes no memory.
+    pub fn undo(&mut self)
+        ensures { AreTakenBack self.old self.new }
+    {
+        self.rows.undo();
+        self.tables.undo();
+    }
+
+    /// Keeps the steps, so that they can't be taken back any more. It takes no memory.
+    pub fn settle(&mut self)
+        ensures { AreSettled self.old self.new }
+    {
+        self.rows.settle();
+        self.tables.settle();
+    }
+}

@@ -1,0 +1,7 @@
+//! The members and the accesses of a policy, counted, and brought to another policy in place.
+#![tactic(auto)]
+
+mod counters;
+mod more_rows;
+
+pub use counters::Counters;
