@@ -50,3 +50,15 @@ has_at members (Some a) (Some t) = nat_lt 0 (members a t)
 
 abbrev pub has_named : {A : Type 0} → Counters A → List ℕ → List ℕ → Bool
 has_named c attribute ty = has_at (member_rows.count_now c.rows) (position (bytes_eq attribute) c.names) (position (bytes_eq ty) c.names)
+
+-- the counter of an access, where all its names have symbols; 0 elsewhere
+abbrev pub count_at : (SymbolKey → ℕ → ℕ) → Option ℕ → Option ℕ → Option ℕ → Option ℕ → ℕ
+count_at counts None target class permission = 0
+count_at counts (Some s) None class permission = 0
+count_at counts (Some s) (Some t) None permission = 0
+count_at counts (Some s) (Some t) (Some c) None = 0
+count_at counts (Some s) (Some t) (Some c) (Some p) = counts (record { source = s; class = c; permission = p }) t
+
+abbrev pub count_with : {A : Type 0} → Counters A → RuleKind → (source target class permission : List ℕ) → ℕ
+count_with c kind source target class permission =
+    count_at (access_tables.count_now c.tables kind) (position (bytes_eq source) c.names) (position (bytes_eq target) c.names) (position (bytes_eq class) c.names) (position (bytes_eq permission) c.names)

@@ -1,11 +1,11 @@
 //! The counters of a policy.
 
-ghost use Rattle.std.specs.Prelude.{◌≡◌, ◌≤◌, ◌++◌, ℕ, List, bytes_eq, false, length, IfOk, OnOk};
+ghost use Rattle.std.specs.Prelude.{◌≡◌, ◌-◌, ◌≤◌, ◌^◌, ◌++◌, ℕ, List, bytes_eq, false, length, min, IfOk, OnOk};
 ghost use Rattle.std.specs.List.{IsDistinct};
 ghost use Rattle.cil_member_rows.specs.Rows as member_rows;
 ghost use Rattle.cil_member_updates.specs.Policy.{AreCounts};
 ghost use Rattle.cil_parse.specs.Lexicon.{AreNumbersOf};
-ghost use Rattle.cil_counters.specs.Counted.{has_named, AreSettled, AreTakenBack, IsNow, WasBefore};
+ghost use Rattle.cil_counters.specs.Counted.{count_with, has_named, AreSettled, AreTakenBack, IsNow, WasBefore};
 ghost use Rattle.cil_symbol_tables.specs.Tables as access_tables;
 
 use crate::more_rows::add_rows;
@@ -159,6 +159,37 @@ impl<A: Allocator> Counters<A> {
             (Some(row), Some(ty)) => self.rows.has(row, ty),
             _ => false,
         }
+    }
+
+    /// How many rules of a kind give an access, by full names; the greatest `u64` where they are more. It takes no memory.
+    pub fn count(
+        &self,
+        kind: RuleKind,
+        source: &[u8],
+        target: &[u8],
+        class: &[u8],
+        permission: &[u8],
+    ) -> u64
+        ensures { result ≡ min (count_with self.now kind source.now target.now class.now permission.now) (2 ^ 64 - 1) }
+    {
+        let Some(source) = self.names.find(source) else {
+            return 0;
+        };
+        let Some(target) = self.names.find(target) else {
+            return 0;
+        };
+        let Some(class) = self.names.find(class) else {
+            return 0;
+        };
+        let Some(permission) = self.names.find(permission) else {
+            return 0;
+        };
+        let key = SymbolKey {
+            source,
+            class,
+            permission,
+        };
+        self.tables.count(kind, key, target)
     }
 
     /// Whether there are steps that `undo` would take back.
