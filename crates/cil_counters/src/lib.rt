@@ -2,6 +2,8 @@
 #![tactic(auto)]
 
 mod counters;
+#[cfg(test)]
+mod counters_tests;
 mod more_rows;
 
 pub use counters::Counters;
