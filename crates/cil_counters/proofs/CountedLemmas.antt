@@ -54,14 +54,14 @@ module _ {A : Type 0} (names : List (List ℕ)) (r : Resolved A) (sound : HasSou
   pub members-counted : (counts : ℕ → ℕ → ℕ) → AreCounts names r counts → AreMembersOf names (meaning_in r) counts
   members-counted counts are = record {
     are = λ a t a_low t_low.
-      ap (nat_lt 0) (are a t ∙ ap (λ test. count_by test (sets_in r)) (λ i s. gives-by-names names (meaning_in r) a t a_low t_low s i))
-      ∙ counted-member (meaning_in r) sound (sets_in r) same (name_at names a) (name_at names t);
+        ap (nat_lt 0) (are a t ∙ ap (λ test. count_by test (sets_in r)) (λ i s. gives-by-names names (meaning_in r) a t a_low t_low s i))
+        ∙ counted-member (meaning_in r) sound (sets_in r) same (name_at names a) (name_at names t);
     no_attribute = λ a t past. are a t ∙ none-counted (gives names (meaning_in r) a t) (sets_in r) (no-attribute names (meaning_in r) a t past);
     no_type = λ a t past. are a t ∙ none-counted (gives names (meaning_in r) a t) (sets_in r) (no-type names (meaning_in r) a t past);
   }
 
   module _ (types : (name : List ℕ) → keeps_type (meaning_in r) name ≡ true → has_name r.names.items name ≡ true) (attributes : (name : List ℕ) → keeps_attribute (meaning_in r) name ≡ true → has_name r.names.items name ≡ true)
-    (below : list_all (is_rule_below (length r.names.items)) r.rules.items ≡ true) (consistent : is_consistent (meaning_in r) ≡ true) (members : ℕ → ℕ → ℕ) (counts : RuleKind → SymbolKey → ℕ → ℕ) where
+      (below : list_all (is_rule_below (length r.names.items)) r.rules.items ≡ true) (consistent : is_consistent (meaning_in r) ≡ true) (members : ℕ → ℕ → ℕ) (counts : RuleKind → SymbolKey → ℕ → ℕ) where
     -- all this stays where names come
     pub counted-more : (more : List (List ℕ)) → IsDistinct bytes_eq names → IsDistinct bytes_eq (names ++ more) → IsCounted names r members counts → IsCounted (names ++ more) r members counts
     counted-more more distinct grown is = record {
@@ -69,9 +69,9 @@ module _ {A : Type 0} (names : List (List ℕ)) (r : Resolved A) (sound : HasSou
       numbers = numbers;
       are_members = all;
       are_counts = λ kind key t.
-        is.are_counts kind key t
-        ∙ sym (counted-named names (names-apart names distinct) r is.symbols is.numbers members (members-counted members is.are_members) kind key t below consistent)
-        ∙ counted-named (names ++ more) (names-apart (names ++ more) grown) r is.symbols numbers members grown_members kind key t below consistent;
+          is.are_counts kind key t
+          ∙ sym (counted-named names (names-apart names distinct) r is.symbols is.numbers members (members-counted members is.are_members) kind key t below consistent)
+          ∙ counted-named (names ++ more) (names-apart (names ++ more) grown) r is.symbols numbers members grown_members kind key t below consistent;
     }
       where
         numbers : AreNumbersOf (names ++ more) is.symbols r.names.items
@@ -85,8 +85,8 @@ module _ {A : Type 0} (names : List (List ℕ)) (r : Resolved A) (sound : HasSou
         grown_members : AreMembersOf (names ++ more) (meaning_in r) members
         grown_members = record {
           are = λ a t a_low t_low.
-            ap (nat_lt 0) (all a t ∙ ap (λ test. count_by test (sets_in r)) (λ i s. gives-by-names (names ++ more) (meaning_in r) a t a_low t_low s i))
-            ∙ counted-member (meaning_in r) sound (sets_in r) same (name_at (names ++ more) a) (name_at (names ++ more) t);
+              ap (nat_lt 0) (all a t ∙ ap (λ test. count_by test (sets_in r)) (λ i s. gives-by-names (names ++ more) (meaning_in r) a t a_low t_low s i))
+              ∙ counted-member (meaning_in r) sound (sets_in r) same (name_at (names ++ more) a) (name_at (names ++ more) t);
           no_attribute = λ a t past. all a t ∙ none-counted (gives (names ++ more) (meaning_in r) a t) (sets_in r) (no-attribute (names ++ more) (meaning_in r) a t past);
           no_type = λ a t past. all a t ∙ none-counted (gives (names ++ more) (meaning_in r) a t) (sets_in r) (no-type (names ++ more) (meaning_in r) a t past);
         }
@@ -99,8 +99,8 @@ counted-none r members counts unnamed no_members no_accesses = record {
   numbers = subst (λ names. AreNumbersOf [] [] names) (sym unnamed) refl;
   are_members = λ a t. no_members a t ∙ sym (none-counted (gives [] (meaning_in r) a t) (sets_in r) (no-attribute [] (meaning_in r) a t (omega arith)));
   are_counts = λ kind key t.
-    no_accesses kind key t
-    ∙ sym (ap (λ b. cond ((b && nat_lt t 0) && (nat_lt key.class 0 && nat_lt key.permission 0)) (count_of (meaning_in r) (atom_of [] kind key t)) 0) (le-ltb key.source 0 (omega arith)));
+      no_accesses kind key t
+      ∙ sym (ap (λ b. cond ((b && nat_lt t 0) && (nat_lt key.class 0 && nat_lt key.permission 0)) (count_of (meaning_in r) (atom_of [] kind key t)) 0) (le-ltb key.source 0 (omega arith)));
 }
 
 pub none-of : {X : Type 0} (xs : List X) → length xs ≡ 0 → xs ≡ []

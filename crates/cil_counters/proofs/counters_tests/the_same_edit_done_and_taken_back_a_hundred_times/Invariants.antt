@@ -3,4 +3,4 @@ use Rattle.cil_counters.proofs.counters_tests.the_same_edit_done_and_taken_back_
 
 -- the counters are those of the old policy
 abbrev pub invariant-loop : goal.invariant-loop
-invariant-loop l = record { now : IsNow l.old l.counters; before : WasBefore l.old l.counters }
+invariant-loop g l = record { now : IsNow l.old l.counters; before : WasBefore l.old l.counters }
