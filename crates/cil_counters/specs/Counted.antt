@@ -1,5 +1,7 @@
 -- The counters of a policy.
 use Rattle.std.specs.Prelude.{◌≡◌, ℕ, Bool, false, List, Option, None, Some, bytes_eq, nat_lt, position}
+use Rattle.cil_specs.specs.Rule.{Atom}
+use Rattle.cil_text.specs.Image.{rule_kind_of}
 use Rattle.cil_parse.specs.Lexicon.{AreNumbersOf}
 use Rattle.cil_text.specs.declared.statement.RuleKind.{RuleKind}
 use Rattle.cil_keyed_lines.specs.declared.symbol_key.SymbolKey.{SymbolKey}
@@ -62,3 +64,7 @@ count_at counts (Some s) (Some t) (Some c) (Some p) = counts (record { source = 
 abbrev pub count_with : {A : Type 0} → Counters A → RuleKind → (source target class permission : List ℕ) → ℕ
 count_with c kind source target class permission =
     count_at (access_tables.count_now c.tables kind) (position (bytes_eq source) c.names) (position (bytes_eq target) c.names) (position (bytes_eq class) c.names) (position (bytes_eq permission) c.names)
+
+-- the access of these names
+abbrev pub atom_with : RuleKind → (source target class permission : List ℕ) → Atom
+atom_with kind source target class permission = record { kind = rule_kind_of kind; source = source; target = target; the_class = class; permission = permission }

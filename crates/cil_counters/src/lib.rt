@@ -4,6 +4,8 @@
 mod counters;
 #[cfg(test)]
 mod counters_tests;
+mod laws;
 mod more_rows;
 
 pub use counters::Counters;
+pub use laws::{counters_tell_accesses, counters_tell_members};

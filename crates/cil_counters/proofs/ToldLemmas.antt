@@ -1,0 +1,135 @@
+-- What the counters of a policy tell by full names.
+use Rattle.std.proofs.Common.{◌≡◌, ℕ, ◌+◌, ◌<◌, ◌==◌, ◌&&◌, ◌||◌, Bool, true, false, List, [], ◌∷◌, length, map, cond, count_by, bytes_eq, nat_lt, get_or, slice_get, slice_index_or, Option, None, Some, position, refl, sym, ap, ◌∙◌, subst, inl, inr, arith, true≢false, zero-add}
+use Rattle.std.specs.List.{list_all, list_any}
+use Rattle.std.specs.Option.{is_some}
+use Rattle.std.proofs.Math.Bool.{and-false}
+use Rattle.std.proofs.lemmas.Bool.{cases_Bool, lt-ltb, ltb-true}
+use Rattle.std.proofs.lemmas.List.Folds.{list_any_at}
+use Rattle.std.proofs.lemmas.List.Sums.{sum_by-cons}
+use Rattle.std.proofs.lemmas.Option.{get_or_from_slice_get, slice_get_within}
+use Rattle.std.proofs.lemmas.Slice.Eq.{bytes_eq-Decides}
+use Rattle.cil_specs.specs.Dependence.{AreTheSame}
+use Rattle.cil_specs.specs.Lookup.{has_name}
+use Rattle.cil_specs.specs.Meaning.{aims, count_of, covers, gives, holds, holds_with, keeps_type}
+use Rattle.cil_specs.specs.Members.{is_member, keeps_attribute, HasSoundSets}
+use Rattle.cil_specs.specs.Rule as spec
+use Rattle.cil_specs.specs.Rule.{kind_index, at_itself, at_element}
+use Rattle.cil_bind.proofs.PositionLemmas.{any-position}
+use Rattle.cil_text.specs.Image.{rule_kind_of}
+use Rattle.cil_text.specs.declared.statement.RuleKind.{RuleKind}
+use Rattle.cil_keyed_lines.specs.declared.symbol_key.SymbolKey.{SymbolKey}
+use Rattle.cil_resolve.specs.Below.{is_rule_below}
+use Rattle.cil_resolve.specs.Numbers.{rule_of}
+use Rattle.cil_resolve.specs.Resolved.{meaning_in}
+use Rattle.cil_resolve.specs.Sets.{name_in, sets_in}
+use Rattle.cil_resolve.specs.declared.numbered.NumberedRule.{NumberedRule}
+use Rattle.cil_resolve.specs.declared.resolved.Resolved.{Resolved}
+use Rattle.cil_sets.proofs.NamedLemmas.{member-kept, not-met}
+use Rattle.cil_symbols.proofs.NameLemmas.{found-name}
+use Rattle.cil_member_updates.proofs.SymbolLemmas.{symbol-of}
+use Rattle.cil_rule_reach.specs.Named.{atom_of, is_named, name_at}
+use Rattle.cil_rule_reach.proofs.NamedLemmas.{is-below, IsBelow}
+use Rattle.cil_table_updates.proofs.GivenLemmas.{and-first, and-second}
+use Rattle.cil_counters.specs.Counted.{atom_with, count_at, has_at, IsCounted}
+use Rattle.cil_counters.proofs.CountedLemmas.{members-counted}
+
+none-counted : {X : Type 0} (test : X → Bool) (xs : List X) → ((i : ℕ) (x : X) → slice_get xs i ≡ Some x → test x ≡ false) → count_by test xs ≡ 0
+none-counted test [] none = refl
+none-counted test (x ∷ xs) none =
+    sum_by-cons (λ y. cond (test y) 1 0) x xs ∙ ap (λ b. cond b 1 0 + count_by test xs) (none 0 x refl) ∙ zero-add (count_by test xs) ∙ none-counted test xs (λ i y at. none (i + 1) y (next i y at))
+  where
+    next : (i : ℕ) (y : X) → slice_get xs i ≡ Some y → slice_get (x ∷ xs) (i + 1) ≡ Some y
+    next i y at = ap (slice_get (x ∷ xs)) (let s : i + 1 ≡ suc i = omega arith in s) ∙ at
+
+module _ {A : Type 0} (names : List (List ℕ)) (r : Resolved A) (members : ℕ → ℕ → ℕ) (counts : RuleKind → SymbolKey → ℕ → ℕ) (is : IsCounted names r members counts) where
+  abbrev IsMissing : List ℕ → Type 0
+  IsMissing name = position (bytes_eq name) names ≡ None
+
+  -- a name of the policy isn't missing
+  not-missing : (name : List ℕ) → has_name r.names.items name ≡ true → IsMissing name → ⊥
+  not-missing name known missing =
+      let (k, at) = symbol-of is.symbols is.symbols r.names.items is.numbers name known in
+      true≢false (sym (list_any_at (bytes_eq name) names k [] (slice_get_within names k name at) ((bytes_eq-Decides name (get_or names k [])).1 (sym (get_or_from_slice_get names k name [] at)))) ∙ any-position (bytes_eq name) names ∙ ap is_some missing)
+
+  named-at : (name : List ℕ) (i : ℕ) → position (bytes_eq name) names ≡ Some i → name_at names i ≡ name
+  named-at name i at = get_or_from_slice_get names i name [] (found-name names name i at)
+
+  named-within : (name : List ℕ) (i : ℕ) → position (bytes_eq name) names ≡ Some i → i < length names
+  named-within name i at = slice_get_within names i name (found-name names name i at)
+
+  module _ (types : (name : List ℕ) → keeps_type (meaning_in r) name ≡ true → has_name r.names.items name ≡ true) where
+    -- a missing name is that of no type
+    no-type-named : (name : List ℕ) → IsMissing name → keeps_type (meaning_in r) name ≡ false
+    no-type-named name missing =
+        elim (cases_Bool (keeps_type (meaning_in r) name)) [
+          | inl kept ↦ absurd (not-missing name (types name kept) missing)
+          | inr not ↦ not
+        ]
+
+    module _ (sound : HasSoundSets (meaning_in r)) (same : AreTheSame (meaning_in r).sets (sets_in r)) (attributes : (name : List ℕ) → keeps_attribute (meaning_in r) name ≡ true → has_name r.names.items name ≡ true) where
+      pub told-members : (attribute ty : List ℕ) → has_at members (position (bytes_eq attribute) names) (position (bytes_eq ty) names) ≡ is_member (meaning_in r) attribute ty
+      told-members attribute ty = by (position (bytes_eq attribute) names) (position (bytes_eq ty) names) refl refl
+        where
+          never : (is_member (meaning_in r) attribute ty ≡ true → ⊥) → false ≡ is_member (meaning_in r) attribute ty
+          never not = elim (cases_Bool (is_member (meaning_in r) attribute ty)) [
+            | inl yes ↦ absurd (not yes)
+            | inr no ↦ sym no
+          ]
+
+          by : (p q : Option ℕ) → position (bytes_eq attribute) names ≡ p → position (bytes_eq ty) names ≡ q → has_at members p q ≡ is_member (meaning_in r) attribute ty
+          by None q at there = never (λ yes. not-missing attribute (attributes attribute (member-kept (meaning_in r) sound attribute ty yes).1) at)
+          by (Some i) None at there = never (λ yes. not-missing ty (types ty (member-kept (meaning_in r) sound attribute ty yes).0) there)
+          by (Some i) (Some j) at there =
+              (members-counted names r sound same members is.are_members).are i j (named-within attribute i at) (named-within ty j there)
+              ∙ ap (λ a. is_member (meaning_in r) a (name_at names j)) (named-at attribute i at) ∙ ap (is_member (meaning_in r) attribute) (named-at ty j there)
+
+    module _ (below : list_all (is_rule_below (length r.names.items)) r.rules.items ≡ true) where
+      told-none : (a : spec.Atom) → ((rule : NumberedRule A) → is_rule_below (length r.names.items) rule ≡ true → gives (meaning_in r) (rule_of r.modules.items r.names.items rule) a ≡ false) → 0 ≡ count_of (meaning_in r) a
+      told-none a none = sym (by r.rules.items below)
+        where
+          by : (rules : List (NumberedRule A)) → list_all (is_rule_below (length r.names.items)) rules ≡ true → count_by (λ rule. gives (meaning_in r) rule a) (map (rule_of r.modules.items r.names.items) rules) ≡ 0
+          by [] low = refl
+          by (rule ∷ rules) low =
+              sum_by-cons (λ y. cond (gives (meaning_in r) y a) 1 0) (rule_of r.modules.items r.names.items rule) (map (rule_of r.modules.items r.names.items) rules)
+              ∙ ap (λ b. cond b 1 0 + count_by (λ one. gives (meaning_in r) one a) (map (rule_of r.modules.items r.names.items) rules)) (none rule (and-first _ _ low))
+              ∙ zero-add (count_by (λ one. gives (meaning_in r) one a) (map (rule_of r.modules.items r.names.items) rules)) ∙ by rules (and-second _ _ low)
+
+      other-name : (n : ℕ) (name : List ℕ) → n < length r.names.items → IsMissing name → bytes_eq (name_in r n) name ≡ false
+      other-name n name low missing =
+          elim (cases_Bool (bytes_eq (name_in r n) name)) [
+            | inl same ↦ absurd (not-missing name (list_any_at (bytes_eq name) r.names.items n [] low ((bytes_eq-Decides name (name_in r n)).1 (sym ((bytes_eq-Decides (name_in r n) name).0 same)))) missing)
+            | inr other ↦ other
+          ]
+
+      none-listed : (name : List ℕ) (ps : List ℕ) → list_all (λ p. nat_lt p (length r.names.items)) ps ≡ true → IsMissing name → list_any (bytes_eq name) (map (λ p. slice_index_or r.names.items p []) ps) ≡ false
+      none-listed name [] low missing = refl
+      none-listed name (p ∷ ps) low missing =
+          ap (λ b. b || list_any (bytes_eq name) (map (λ q. slice_index_or r.names.items q []) ps)) (turned (name_in r p) name (other-name p name (ltb-true p (length r.names.items) (and-first _ _ low)) missing))
+          ∙ none-listed name ps (and-second _ _ low) missing
+        where
+          turned : (xs ys : List ℕ) → bytes_eq xs ys ≡ false → bytes_eq ys xs ≡ false
+          turned xs ys other =
+              elim (cases_Bool (bytes_eq ys xs)) [
+                | inl same ↦ absurd (true≢false (sym ((bytes_eq-Decides xs ys).1 (sym ((bytes_eq-Decides ys xs).0 same))) ∙ other))
+                | inr not ↦ not
+              ]
+
+      pub told-accesses : (kind : RuleKind) (source target class permission : List ℕ)
+          → count_at (counts kind) (position (bytes_eq source) names) (position (bytes_eq target) names) (position (bytes_eq class) names) (position (bytes_eq permission) names) ≡ count_of (meaning_in r) (atom_with kind source target class permission)
+      told-accesses kind source target class permission = by (position (bytes_eq source) names) (position (bytes_eq target) names) (position (bytes_eq class) names) (position (bytes_eq permission) names) refl refl refl refl
+        where
+          a : spec.Atom
+          a = atom_with kind source target class permission
+
+          abbrev same_kind : NumberedRule A → Bool
+          same_kind rule = kind_index (rule_kind_of rule.kind) == kind_index (rule_kind_of kind)
+
+          by : (p q s t : Option ℕ) → position (bytes_eq source) names ≡ p → position (bytes_eq target) names ≡ q → position (bytes_eq class) names ≡ s → position (bytes_eq permission) names ≡ t
+              → count_at (counts kind) p q s t ≡ count_of (meaning_in r) (atom_with kind source target class permission)
+          by None q s t at_source at_target at_class at_permission = told-none a (λ rule low.
+              let whole = rule_of r.modules.items r.names.items rule in
+              ap (λ b. same_kind rule && ((b && holds_with (meaning_in r).sets (length (meaning_in r).attributes) (spec_named whole.source) source) && _)) (no-type-named source at_source) ∙ and-false (same_kind rule))
+          by (Some i) None s t at_source at_target at_class at_permission = ?
+          by (Some i) (Some j) None t at_source at_target at_class at_permission = ?
+          by (Some i) (Some j) (Some k) None at_source at_target at_class at_permission = ?
+          by (Some i) (Some j) (Some k) (Some l) at_source at_target at_class at_permission = ?

@@ -1,0 +1,33 @@
+//! What counters say by full names. The functions have no code.
+
+ghost use Rattle.std.specs.Prelude.{◌≡◌, ℕ, List};
+ghost use Rattle.cil_specs.specs.Meaning.{count_of};
+ghost use Rattle.cil_specs.specs.Members.{is_member};
+ghost use Rattle.cil_resolve.specs.Resolved.{meaning_in};
+ghost use Rattle.cil_counters.specs.Counted.{atom_with, count_with, has_named, IsNow};
+
+use crate::counters::Counters;
+use cil_resolve::{
+    Resolved, resolved_is_sound, resolved_names_are_kept, resolved_sets_are_in_order,
+};
+use cil_text::RuleKind;
+use std::alloc::Allocator;
+
+/// The counters of a policy tell, for every two names, whether the one type is a member of the other attribute.
+pub fn counters_tell_members<A: Allocator>(resolved: &Resolved<A>, counters: &Counters<A>)
+    requires { IsNow resolved.now counters.now }
+    ensures { (attribute ty : List ℕ) → has_named counters.now attribute ty ≡ is_member (meaning_in resolved.now) attribute ty }
+{
+    resolved_names_are_kept(resolved);
+    resolved_is_sound(resolved);
+    resolved_sets_are_in_order(resolved);
+}
+
+/// They tell of every access how many rules give it.
+pub fn counters_tell_accesses<A: Allocator>(resolved: &Resolved<A>, counters: &Counters<A>)
+    requires { IsNow resolved.now counters.now }
+    ensures { (kind : RuleKind) (source target class permission : List ℕ) → count_with counters.now kind source target class permission ≡ count_of (meaning_in resolved.now) (atom_with kind source target class permission) }
+{
+    resolved_names_are_kept(resolved);
+    resolved.rules();
+}
