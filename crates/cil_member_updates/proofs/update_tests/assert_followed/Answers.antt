@@ -34,6 +34,6 @@ brought-requires-clause-now g c a t =
     let zero = c.no_rows-rows.ensures.now a t in
     omega (arith, none, few, zero)
 
-pub brought-requires-2-clause-old : goal.brought-requires-2-clause-old
-brought-requires-2-clause-old g c =
+pub assert_changed-requires-clause-old : goal.assert_changed-requires-clause-old
+assert_changed-requires-clause-old g c =
     grown c.of-2.new.symbols c.of-3.new.symbols c.expect-old_numbering.result.symbols c.policy-old.result.names.items c.of-3.ensures.grown (rw (c.expect-old_numbering.ensures) at c.of-2.ensures.symbols)
