@@ -127,6 +127,38 @@ fn assert_all_members(rt: &impl Abort, symbols: &Symbols, rows: &MemberRows, wan
     assert_members(rt, symbols, rows, b"m", m);
 }
 
+// The members of a policy after one that is settled.
+fn assert_changed(
+    rt: &impl Abort,
+    alloc: Global,
+    symbols: &Symbols,
+    rows: &mut MemberRows,
+    old: &Resolved,
+    old_numbering: &Numbering,
+    new: &Resolved,
+    new_numbering: &Numbering,
+    wanted: &[&[u8]; 3],
+)
+    requires distinct { IsDistinct bytes_eq symbols.now }
+    requires old { IsNumbering symbols.now old.now old_numbering.now }
+    requires new { IsNumbering symbols.now new.now new_numbering.now }
+    requires room { length symbols.now ≤ rows_in rows.old }
+    requires now { AreCounts symbols.now old.now (count_now rows.old) }
+{
+    rows.settle();
+    brought(
+        rt,
+        alloc,
+        symbols,
+        rows,
+        old,
+        old_numbering,
+        new,
+        new_numbering,
+    );
+    assert_all_members(rt, symbols, rows, wanted);
+}
+
 // The members of a policy, then those of another one, and then those of the first again.
 fn assert_followed(
     rt: &impl Abort,
@@ -156,8 +188,7 @@ fn assert_followed(
         &old_numbering,
     );
     assert_all_members(rt, &symbols, &rows, wanted_old);
-    rows.settle();
-    brought(
+    assert_changed(
         rt,
         alloc,
         &symbols,
@@ -166,8 +197,8 @@ fn assert_followed(
         &old_numbering,
         &new,
         &new_numbering,
+        wanted_new,
     );
-    assert_all_members(rt, &symbols, &rows, wanted_new);
     rows.undo();
     assert_all_members(rt, &symbols, &rows, wanted_old);
 }
