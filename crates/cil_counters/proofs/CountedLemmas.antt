@@ -1,5 +1,5 @@
 -- The counters of a policy, when names come and when nothing has a name.
-use Rattle.std.proofs.Common.{◌≡◌, ℕ, ◌+◌, ◌<◌, ◌≤◌, ◌&&◌, Bool, true, false, List, [], ◌∷◌, ◌++◌, length, cond, count_by, bytes_eq, nat_lt, get_or, slice_get, Contains, Some, refl, sym, ap, ◌∙◌, subst, arith, zero-add}
+use Rattle.std.proofs.Common.{◌≡◌, ℕ, ◌+◌, ◌<◌, ◌≤◌, ◌&&◌, Bool, true, false, List, [], ◌∷◌, ◌++◌, length, cond, count_by, bytes_eq, nat_lt, slice_get, refl, sym, ap, ◌∙◌, subst, arith, zero-add}
 use Rattle.std.specs.List.{list_all, IsDistinct}
 use Rattle.std.proofs.Math.Bool.{and-false}
 use Rattle.std.proofs.lemmas.Bool.{le-ltb}
@@ -23,8 +23,7 @@ use Rattle.cil_sets.proofs.CountLemmas.{counted-member}
 use Rattle.cil_member_updates.specs.Given.{gives, holds, is_of, of_name}
 use Rattle.cil_member_updates.specs.Policy.{AreCounts}
 use Rattle.cil_member_updates.proofs.GrowthLemmas.{count-more, numbers-more}
-use Rattle.cil_rule_reach.specs.Named.{atom_of, is_named, name_at, AreMembersOf}
-use Rattle.cil_table_updates.specs.Policies.{count_named, AreApart}
+use Rattle.cil_rule_reach.specs.Named.{atom_of, name_at, AreMembersOf}
 use Rattle.cil_table_updates.proofs.GivenLemmas.{counted-named}
 use Rattle.cil_table_updates.proofs.PlaceLemmas.{names-apart}
 use Rattle.cil_counters.specs.Counted.{IsCounted}

@@ -1,5 +1,5 @@
 -- What the counters of a policy tell by full names.
-use Rattle.std.proofs.Common.{◌≡◌, ℕ, ◌+◌, ◌<◌, ◌==◌, ◌&&◌, ◌||◌, Bool, true, false, List, [], ◌∷◌, length, map, cond, count_by, bytes_eq, nat_lt, get_or, slice_get, slice_index_or, Option, None, Some, position, refl, sym, ap, ◌∙◌, subst, inl, inr, arith, true≢false, zero-add}
+use Rattle.std.proofs.Common.{◌≡◌, ℕ, suc, ◌+◌, ◌<◌, ◌==◌, ◌&&◌, ◌||◌, Bool, true, false, List, [], ◌∷◌, length, map, cond, count_by, bytes_eq, nat_lt, get_or, slice_get, slice_index_or, Option, None, Some, position, refl, sym, ap, ◌∙◌, inl, inr, arith, true≢false, zero-add}
 use Rattle.std.specs.List.{list_all, list_any}
 use Rattle.std.specs.Option.{is_some}
 use Rattle.std.proofs.Math.Bool.{and-false}
@@ -10,12 +10,12 @@ use Rattle.std.proofs.lemmas.Option.{get_or_from_slice_get, slice_get_within}
 use Rattle.std.proofs.lemmas.Slice.Eq.{bytes_eq-Decides}
 use Rattle.cil_specs.specs.Dependence.{AreTheSame}
 use Rattle.cil_specs.specs.Lookup.{has_name}
-use Rattle.cil_specs.specs.Meaning.{aims, count_of, covers, gives, holds, holds_with, keeps_type}
+use Rattle.cil_specs.specs.Meaning.{aims, count_of, gives, holds, keeps_type}
 use Rattle.cil_specs.specs.Members.{is_member, keeps_attribute, HasSoundSets}
 use Rattle.cil_specs.specs.Rule as spec
 use Rattle.cil_specs.specs.Rule.{kind_index, at_itself, at_element}
-use Rattle.cil_bind.proofs.PositionLemmas.{any-position}
 use Rattle.cil_text.specs.Image.{rule_kind_of}
+use Rattle.cil_bind.proofs.PositionLemmas.{any-position}
 use Rattle.cil_text.specs.declared.statement.RuleKind.{RuleKind}
 use Rattle.cil_keyed_lines.specs.declared.symbol_key.SymbolKey.{SymbolKey}
 use Rattle.cil_resolve.specs.Below.{is_rule_below}
@@ -24,22 +24,34 @@ use Rattle.cil_resolve.specs.Resolved.{meaning_in}
 use Rattle.cil_resolve.specs.Sets.{name_in, sets_in}
 use Rattle.cil_resolve.specs.declared.numbered.NumberedRule.{NumberedRule}
 use Rattle.cil_resolve.specs.declared.resolved.Resolved.{Resolved}
-use Rattle.cil_sets.proofs.NamedLemmas.{member-kept, not-met}
+use Rattle.cil_sets.proofs.NamedLemmas.{member-kept}
 use Rattle.cil_symbols.proofs.NameLemmas.{found-name}
 use Rattle.cil_member_updates.proofs.SymbolLemmas.{symbol-of}
-use Rattle.cil_rule_reach.specs.Named.{atom_of, is_named, name_at}
-use Rattle.cil_rule_reach.proofs.NamedLemmas.{is-below, IsBelow}
+use Rattle.cil_rule_reach.specs.Named.{atom_of, name_at}
+use Rattle.cil_rule_reach.proofs.NamedLemmas.{is-below}
 use Rattle.cil_table_updates.proofs.GivenLemmas.{and-first, and-second}
 use Rattle.cil_counters.specs.Counted.{atom_with, count_at, has_at, IsCounted}
 use Rattle.cil_counters.proofs.CountedLemmas.{members-counted}
 
 none-counted : {X : Type 0} (test : X → Bool) (xs : List X) → ((i : ℕ) (x : X) → slice_get xs i ≡ Some x → test x ≡ false) → count_by test xs ≡ 0
 none-counted test [] none = refl
-none-counted test (x ∷ xs) none =
+none-counted {X = X} test (x ∷ xs) none =
     sum_by-cons (λ y. cond (test y) 1 0) x xs ∙ ap (λ b. cond b 1 0 + count_by test xs) (none 0 x refl) ∙ zero-add (count_by test xs) ∙ none-counted test xs (λ i y at. none (i + 1) y (next i y at))
   where
     next : (i : ℕ) (y : X) → slice_get xs i ≡ Some y → slice_get (x ∷ xs) (i + 1) ≡ Some y
     next i y at = ap (slice_get (x ∷ xs)) (let s : i + 1 ≡ suc i = omega arith in s) ∙ at
+
+left-false : (a b : Bool) → a ≡ false → (a && b) ≡ false
+left-false a b none = ap (λ x. x && b) none
+
+right-false : (a b : Bool) → b ≡ false → (a && b) ≡ false
+right-false a b none = ap (λ x. a && x) none ∙ and-false a
+
+class-false : (kind source target class permission : Bool) → class ≡ false → (kind && (source && (target && (class && permission)))) ≡ false
+class-false kind source target class permission none = right-false kind (source && (target && (class && permission))) (right-false source (target && (class && permission)) (right-false target (class && permission) (left-false class permission none)))
+
+permission-false : (kind source target class permission : Bool) → permission ≡ false → (kind && (source && (target && (class && permission)))) ≡ false
+permission-false kind source target class permission none = right-false kind (source && (target && (class && permission))) (right-false source (target && (class && permission)) (right-false target (class && permission) (right-false class permission none)))
 
 module _ {A : Type 0} (names : List (List ℕ)) (r : Resolved A) (members : ℕ → ℕ → ℕ) (counts : RuleKind → SymbolKey → ℕ → ℕ) (is : IsCounted names r members counts) where
   abbrev IsMissing : List ℕ → Type 0
@@ -48,7 +60,7 @@ module _ {A : Type 0} (names : List (List ℕ)) (r : Resolved A) (members : ℕ 
   -- a name of the policy isn't missing
   not-missing : (name : List ℕ) → has_name r.names.items name ≡ true → IsMissing name → ⊥
   not-missing name known missing =
-      let (k, at) = symbol-of is.symbols is.symbols r.names.items is.numbers name known in
+      let (k, at) = symbol-of names is.symbols r.names.items is.numbers name known in
       true≢false (sym (list_any_at (bytes_eq name) names k [] (slice_get_within names k name at) ((bytes_eq-Decides name (get_or names k [])).1 (sym (get_or_from_slice_get names k name [] at)))) ∙ any-position (bytes_eq name) names ∙ ap is_some missing)
 
   named-at : (name : List ℕ) (i : ℕ) → position (bytes_eq name) names ≡ Some i → name_at names i ≡ name
@@ -72,16 +84,30 @@ module _ {A : Type 0} (names : List (List ℕ)) (r : Resolved A) (members : ℕ 
         where
           never : (is_member (meaning_in r) attribute ty ≡ true → ⊥) → false ≡ is_member (meaning_in r) attribute ty
           never not = elim (cases_Bool (is_member (meaning_in r) attribute ty)) [
-            | inl yes ↦ absurd (not yes)
-            | inr no ↦ sym no
+            | inl held ↦ absurd (not held)
+            | inr other ↦ sym other
           ]
 
           by : (p q : Option ℕ) → position (bytes_eq attribute) names ≡ p → position (bytes_eq ty) names ≡ q → has_at members p q ≡ is_member (meaning_in r) attribute ty
-          by None q at there = never (λ yes. not-missing attribute (attributes attribute (member-kept (meaning_in r) sound attribute ty yes).1) at)
-          by (Some i) None at there = never (λ yes. not-missing ty (types ty (member-kept (meaning_in r) sound attribute ty yes).0) there)
+          by None q at there = never (λ held. not-missing attribute (attributes attribute (member-kept (meaning_in r) sound attribute ty held).1) at)
+          by (Some i) None at there = never (λ held. not-missing ty (types ty (member-kept (meaning_in r) sound attribute ty held).0) there)
           by (Some i) (Some j) at there =
               (members-counted names r sound same members is.are_members).are i j (named-within attribute i at) (named-within ty j there)
               ∙ ap (λ a. is_member (meaning_in r) a (name_at names j)) (named-at attribute i at) ∙ ap (is_member (meaning_in r) attribute) (named-at ty j there)
+
+    none-held : (element : spec.Element) (name : List ℕ) → IsMissing name → holds (meaning_in r) element name ≡ false
+    none-held element name missing = left-false (keeps_type (meaning_in r) name) _ (no-type-named name missing)
+
+    none-aimed : (i : ℕ) (source target : List ℕ) → position (bytes_eq source) names ≡ Some i → IsMissing target → (aim : spec.ResolvedTarget) → aims (meaning_in r) aim source target ≡ false
+    none-aimed i source target at missing at_itself =
+        elim (cases_Bool (bytes_eq source target)) [
+          | inl same ↦ absurd (some-none (sym at ∙ ap (λ name. position (bytes_eq name) names) ((bytes_eq-Decides source target).0 same) ∙ missing))
+          | inr other ↦ other
+        ]
+      where
+        some-none : Some i ≡ None → ⊥
+        some-none e = cc
+    none-aimed i source target at missing (at_element element) = none-held element target missing
 
     module _ (below : list_all (is_rule_below (length r.names.items)) r.rules.items ≡ true) where
       told-none : (a : spec.Atom) → ((rule : NumberedRule A) → is_rule_below (length r.names.items) rule ≡ true → gives (meaning_in r) (rule_of r.modules.items r.names.items rule) a ≡ false) → 0 ≡ count_of (meaning_in r) a
@@ -114,22 +140,30 @@ module _ {A : Type 0} (names : List (List ℕ)) (r : Resolved A) (members : ℕ 
                 | inr not ↦ not
               ]
 
+      told-by : (kind : RuleKind) (source target class permission : List ℕ) (p q s t : Option ℕ) → position (bytes_eq source) names ≡ p → position (bytes_eq target) names ≡ q → position (bytes_eq class) names ≡ s → position (bytes_eq permission) names ≡ t
+          → count_at (counts kind) p q s t ≡ count_of (meaning_in r) (atom_with kind source target class permission)
+      told-by kind source target class permission None q s t at_source at_target at_class at_permission = told-none (atom_with kind source target class permission) (λ rule low.
+          right-false _ _ (left-false _ _ (none-held (rule_of r.modules.items r.names.items rule).source source at_source)))
+      told-by kind source target class permission (Some i) None s t at_source at_target at_class at_permission = told-none (atom_with kind source target class permission) (λ rule low.
+          right-false _ _ (right-false _ _ (left-false _ _ (none-aimed i source target at_source at_target (rule_of r.modules.items r.names.items rule).target))))
+      told-by kind source target class permission (Some i) (Some j) None t at_source at_target at_class at_permission = told-none (atom_with kind source target class permission) (λ rule low.
+          let whole = rule_of r.modules.items r.names.items rule in
+          class-false (kind_index whole.kind == kind_index (rule_kind_of kind)) (holds (meaning_in r) whole.source source) (aims (meaning_in r) whole.target source target) (bytes_eq whole.the_class class) (list_any (bytes_eq permission) whole.permissions) (other-name rule.class class (is-below r rule low).class at_class))
+      told-by kind source target class permission (Some i) (Some j) (Some k) None at_source at_target at_class at_permission = told-none (atom_with kind source target class permission) (λ rule low.
+          let whole = rule_of r.modules.items r.names.items rule in
+          permission-false (kind_index whole.kind == kind_index (rule_kind_of kind)) (holds (meaning_in r) whole.source source) (aims (meaning_in r) whole.target source target) (bytes_eq whole.the_class class) (list_any (bytes_eq permission) whole.permissions) (none-listed permission rule.permissions.items (is-below r rule low).permissions at_permission))
+      told-by kind source target class permission (Some i) (Some j) (Some k) (Some l) at_source at_target at_class at_permission =
+          is.are_counts kind (record { source = i; class = k; permission = l }) j
+          ∙ ap (λ b. cond b (count_of (meaning_in r) (atom_of names kind (record { source = i; class = k; permission = l }) j)) 0)
+          (ap (λ b. (b && nat_lt j (length names)) && (nat_lt k (length names) && nat_lt l (length names))) (lt-ltb i (length names) (named-within source i at_source))
+          ∙ ap (λ b. b && (nat_lt k (length names) && nat_lt l (length names))) (lt-ltb j (length names) (named-within target j at_target))
+          ∙ ap (λ b. b && nat_lt l (length names)) (lt-ltb k (length names) (named-within class k at_class)) ∙ lt-ltb l (length names) (named-within permission l at_permission))
+          ∙ ap (λ name. count_of (meaning_in r) (atom_with kind name (name_at names j) (name_at names k) (name_at names l))) (named-at source i at_source)
+          ∙ ap (λ name. count_of (meaning_in r) (atom_with kind source name (name_at names k) (name_at names l))) (named-at target j at_target)
+          ∙ ap (λ name. count_of (meaning_in r) (atom_with kind source target name (name_at names l))) (named-at class k at_class)
+          ∙ ap (λ name. count_of (meaning_in r) (atom_with kind source target class name)) (named-at permission l at_permission)
+
       pub told-accesses : (kind : RuleKind) (source target class permission : List ℕ)
           → count_at (counts kind) (position (bytes_eq source) names) (position (bytes_eq target) names) (position (bytes_eq class) names) (position (bytes_eq permission) names) ≡ count_of (meaning_in r) (atom_with kind source target class permission)
-      told-accesses kind source target class permission = by (position (bytes_eq source) names) (position (bytes_eq target) names) (position (bytes_eq class) names) (position (bytes_eq permission) names) refl refl refl refl
-        where
-          a : spec.Atom
-          a = atom_with kind source target class permission
-
-          abbrev same_kind : NumberedRule A → Bool
-          same_kind rule = kind_index (rule_kind_of rule.kind) == kind_index (rule_kind_of kind)
-
-          by : (p q s t : Option ℕ) → position (bytes_eq source) names ≡ p → position (bytes_eq target) names ≡ q → position (bytes_eq class) names ≡ s → position (bytes_eq permission) names ≡ t
-              → count_at (counts kind) p q s t ≡ count_of (meaning_in r) (atom_with kind source target class permission)
-          by None q s t at_source at_target at_class at_permission = told-none a (λ rule low.
-              let whole = rule_of r.modules.items r.names.items rule in
-              ap (λ b. same_kind rule && ((b && holds_with (meaning_in r).sets (length (meaning_in r).attributes) (spec_named whole.source) source) && _)) (no-type-named source at_source) ∙ and-false (same_kind rule))
-          by (Some i) None s t at_source at_target at_class at_permission = ?
-          by (Some i) (Some j) None t at_source at_target at_class at_permission = ?
-          by (Some i) (Some j) (Some k) None at_source at_target at_class at_permission = ?
-          by (Some i) (Some j) (Some k) (Some l) at_source at_target at_class at_permission = ?
+      told-accesses kind source target class permission =
+          told-by kind source target class permission (position (bytes_eq source) names) (position (bytes_eq target) names) (position (bytes_eq class) names) (position (bytes_eq permission) names) refl refl refl refl

@@ -1,0 +1,12 @@
+use Rattle.std.proofs.Common.{◌≡◌, length, subst, true}
+use Rattle.std.specs.List.{list_all}
+use Rattle.cil_member_rows.specs.Rows as member_rows
+use Rattle.cil_resolve.specs.Below.{is_rule_below}
+use Rattle.cil_symbol_tables.specs.Tables as access_tables
+use Rattle.cil_counters.proofs.ToldLemmas.{told-accesses}
+use Rattle.cil_counters.proofs.laws.counters_tell_accesses.Goals as goal
+
+pub returns : goal.returns
+returns g c =
+    told-accesses c.args.counters.now.names c.args.resolved.now (member_rows.count_now c.args.counters.now.rows) (access_tables.count_now c.args.counters.now.tables) c.requires c.resolved_names_are_kept.ensures.types
+    (subst (λ l. list_all (is_rule_below (length c.args.resolved.now.names.items)) l ≡ true) c.rules.ensures.rules c.rules.ensures.within)
