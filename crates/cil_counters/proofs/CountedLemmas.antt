@@ -7,7 +7,7 @@ use Rattle.std.proofs.lemmas.List.Sums.{sum_by-cons}
 use Rattle.std.proofs.lemmas.Option.{slice_get-get_or, slice_get_past}
 use Rattle.cil_specs.specs.Dependence.{AreTheSame}
 use Rattle.cil_specs.specs.Lookup.{has_name}
-use Rattle.cil_specs.specs.Meaning.{Meaning, count_of, is_in, keeps_type}
+use Rattle.cil_specs.specs.Meaning.{Meaning, is_in, keeps_type, gives as rule_gives}
 use Rattle.cil_specs.specs.Members.{keeps_attribute, HasSoundSets}
 use Rattle.cil_specs.specs.Rule.{SetStatement}
 use Rattle.cil_parse.specs.Lexicon.{AreNumbersOf}
@@ -23,7 +23,7 @@ use Rattle.cil_sets.proofs.CountLemmas.{counted-member}
 use Rattle.cil_member_updates.specs.Given.{gives, holds, is_of, of_name}
 use Rattle.cil_member_updates.specs.Policy.{AreCounts}
 use Rattle.cil_member_updates.proofs.GrowthLemmas.{count-more, numbers-more}
-use Rattle.cil_rule_reach.specs.Named.{atom_of, name_at, AreMembersOf}
+use Rattle.cil_rule_reach.specs.Named.{atom_of, is_named, name_at, AreMembersOf}
 use Rattle.cil_table_updates.proofs.GivenLemmas.{counted-named}
 use Rattle.cil_table_updates.proofs.PlaceLemmas.{names-apart}
 use Rattle.cil_counters.specs.Counted.{IsCounted}
@@ -90,17 +90,21 @@ module _ {A : Type 0} (names : List (List ℕ)) (r : Resolved A) (sound : HasSou
           no_type = λ a t past. all a t ∙ none-counted (gives (names ++ more) (meaning_in r) a t) (sets_in r) (no-type (names ++ more) (meaning_in r) a t past);
         }
 
--- nothing is counted of a policy without names
-pub counted-none : {A : Type 0} (r : Resolved A) (members : ℕ → ℕ → ℕ) (counts : RuleKind → SymbolKey → ℕ → ℕ) → r.names.items ≡ [] → ((a t : ℕ) → members a t ≡ 0) → ((kind : RuleKind) (key : SymbolKey) (t : ℕ) → counts kind key t ≡ 0)
-    → IsCounted [] r members counts
-counted-none r members counts unnamed no_members no_accesses = record {
-  symbols = [];
-  numbers = subst (λ names. AreNumbersOf [] [] names) (sym unnamed) refl;
-  are_members = λ a t. no_members a t ∙ sym (none-counted (gives [] (meaning_in r) a t) (sets_in r) (no-attribute [] (meaning_in r) a t (omega arith)));
+-- nothing is counted of a policy without set statements and rules
+pub counted-none : {A : Type 0} (r : Resolved A) (names : List (List ℕ)) (symbols : List ℕ) (members : ℕ → ℕ → ℕ) (counts : RuleKind → SymbolKey → ℕ → ℕ) → AreNumbersOf names symbols r.names.items → sets_in r ≡ [] → (meaning_in r).rules ≡ []
+    → ((a t : ℕ) → members a t ≡ 0) → ((kind : RuleKind) (key : SymbolKey) (t : ℕ) → counts kind key t ≡ 0) → IsCounted names r members counts
+counted-none r names symbols members counts numbers no_sets no_rules no_members no_accesses = record {
+  symbols = symbols;
+  numbers = numbers;
+  are_members = λ a t. no_members a t ∙ sym (ap (count_by (gives names (meaning_in r) a t)) no_sets);
   are_counts = λ kind key t.
       no_accesses kind key t
-      ∙ sym (ap (λ b. cond ((b && nat_lt t 0) && (nat_lt key.class 0 && nat_lt key.permission 0)) (count_of (meaning_in r) (atom_of [] kind key t)) 0) (le-ltb key.source 0 (omega arith)));
+      ∙ sym (ap (λ rules. cond (is_named names key t) (count_by (λ rule. rule_gives (meaning_in r) rule (atom_of names kind key t)) rules) 0) no_rules ∙ either (is_named names key t));
 }
+  where
+    either : (b : Bool) → ◌≡◌ {A = ℕ} (cond b 0 0) 0
+    either true = refl
+    either false = refl
 
 pub none-of : {X : Type 0} (xs : List X) → length xs ≡ 0 → xs ≡ []
 none-of [] none = refl

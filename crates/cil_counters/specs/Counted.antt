@@ -28,7 +28,7 @@ IsNow r c = IsCounted c.names r (member_rows.count_now c.rows) (access_tables.co
 abbrev pub WasBefore : {A B : Type 0} → Resolved A → Counters B → Type 0
 WasBefore r c = IsCounted c.names r (member_rows.count_before c.rows) (access_tables.count_before c.tables)
 
--- The counters are those of before the steps, and there are no steps.
+-- The counters are those of before the steps, and so are those before the steps from now on.
 pub record AreTakenBack {A : Type 0} (old new : Counters A) : Type 0 where
   pub names : new.names ≡ old.names
   pub members : (a t : ℕ) → member_rows.count_now new.rows a t ≡ member_rows.count_before old.rows a t
@@ -36,7 +36,7 @@ pub record AreTakenBack {A : Type 0} (old new : Counters A) : Type 0 where
   pub accesses : (kind : RuleKind) (key : SymbolKey) (t : ℕ) → access_tables.count_now new.tables kind key t ≡ access_tables.count_before old.tables kind key t
   pub accesses_before : (kind : RuleKind) (key : SymbolKey) (t : ℕ) → access_tables.count_before new.tables kind key t ≡ access_tables.count_before old.tables kind key t
 
--- The counters are those of now, and there are no steps.
+-- The counters stay, and are those before the steps from now on.
 pub record AreSettled {A : Type 0} (old new : Counters A) : Type 0 where
   pub names : new.names ≡ old.names
   pub members : (a t : ℕ) → member_rows.count_now new.rows a t ≡ member_rows.count_now old.rows a t

@@ -5,6 +5,8 @@ ghost use Rattle.std.specs.List.{IsDistinct};
 ghost use Rattle.cil_member_rows.specs.Rows as member_rows;
 ghost use Rattle.cil_member_updates.specs.Policy.{AreCounts};
 ghost use Rattle.cil_parse.specs.Lexicon.{AreNumbersOf};
+ghost use Rattle.cil_resolve.specs.Resolved.{meaning_in};
+ghost use Rattle.cil_resolve.specs.Sets.{sets_in};
 ghost use Rattle.cil_counters.specs.Counted.{count_with, has_named, AreSettled, AreTakenBack, IsNow, WasBefore};
 ghost use Rattle.cil_symbol_tables.specs.Tables as access_tables;
 
@@ -34,17 +36,20 @@ pub struct Counters<A: Allocator = Global> {
 }
 
 impl<A: Allocator + Copy> Counters<A> {
-    /// The counters of a policy without names.
-    pub fn none(alloc: A, empty: &Resolved<A>) -> Self
-        requires { length empty.now.names.items ≡ 0 }
-        ensures now { IsNow empty.now result }
-        ensures before { WasBefore empty.now result }
+    /// The counters of a policy without set statements and rules, as that of an empty store is.
+    pub fn none(alloc: A, policy: &Resolved<A>) -> Result<Self, AllocError>
+        requires sets { length (sets_in policy.now) ≡ 0 }
+        requires rules { length (meaning_in policy.now).rules ≡ 0 }
+        ensures now { IfOk result (IsNow policy.now) }
+        ensures before { IfOk result (WasBefore policy.now) }
     {
-        Counters {
-            names: Symbols::new(alloc),
+        let mut names = Symbols::new(alloc);
+        Numbering::of(alloc, &mut names, policy)?;
+        Ok(Counters {
+            names,
             rows: MemberRows::new(alloc),
             tables: SymbolTables::new(alloc),
-        }
+        })
     }
 
     /// The symbols of a policy's names, of which those come that there aren't yet. What is counted of another policy stays.
@@ -192,7 +197,7 @@ impl<A: Allocator> Counters<A> {
         self.tables.count(kind, key, target)
     }
 
-    /// Whether there are steps that `undo` would take back.
+    /// Whether counters may differ from those before the steps. No means that `undo` and `settle` would change nothing.
     pub fn is_pending(&self) -> bool
         ensures members { result ≡ false → (a t : ℕ) → member_rows.count_before self.now.rows a t ≡ member_rows.count_now self.now.rows a t }
         ensures accesses { result ≡ false → (kind : RuleKind) (key : SymbolKey) (t : ℕ) → access_tables.count_before self.now.tables kind key t ≡ access_tables.count_now self.now.tables kind key t }

@@ -90,8 +90,9 @@ fn counted(rt: &impl Abort, alloc: Global, policy_now: &Resolved) -> Counters
     ensures before { WasBefore policy_now.now result }
 {
     let empty = policy(rt, alloc, b"");
-    assert!(rt; empty.names_len() == 0);
-    let mut counters = Counters::none(alloc, &empty);
+    assert!(rt; empty.sets_len() == 0);
+    assert!(rt; empty.rules_len() == 0);
+    let mut counters = Counters::none(alloc, &empty).expect(rt, "memory");
     bring(rt, alloc, &mut counters, &empty, policy_now);
     keep(&mut counters, policy_now);
     counters
@@ -123,6 +124,94 @@ fn assert_counters(rt: &impl Abort, counters: &Counters, new: bool) {
     assert_count(rt, counters, RuleKind::Allow, b"a", b"a", is_old);
     assert_count(rt, counters, RuleKind::AuditAllow, b"a", b"a", is_new);
     assert_count(rt, counters, RuleKind::NeverAllow, b"a", b"a", 0);
+}
+
+// An access of class p by the permission use, and how many rules give it in the old policy and in the new one.
+type Expected<'t> = (RuleKind, &'t [u8], &'t [u8], u64, u64);
+
+// What follows the start in an old policy and in a new one, and accesses of both.
+const EDITS: &[(&[u8], &[u8], &[Expected<'static>])] = &[
+    // Two rules give one access, and one of them goes.
+    (
+        b"(allow a b (p (use)))(allow a b (p (use)))",
+        b"(allow a b (p (use)))",
+        &[(RuleKind::Allow, b"a", b"b", 2, 1)],
+    ),
+    // A rule that lists a permission twice counts once; its last accesses go.
+    (
+        b"(dontaudit a b (p (use use)))",
+        b"",
+        &[(RuleKind::DontAudit, b"a", b"b", 1, 0)],
+    ),
+    // Rules that stay where nothing of theirs changed, beside one that comes.
+    (
+        b"(neverallow a b (p (use)))(allow b b (p (use)))",
+        b"(neverallow a b (p (use)))(allow b b (p (use)))(allow b a (p (use)))",
+        &[
+            (RuleKind::NeverAllow, b"a", b"b", 1, 1),
+            (RuleKind::Allow, b"b", b"b", 1, 1),
+            (RuleKind::Allow, b"b", b"a", 0, 1),
+            (RuleKind::NeverAllow, b"b", b"a", 0, 0),
+        ],
+    ),
+    // The target alone has other members.
+    (
+        b"(typeattributeset s (a))(allow b s (p (use)))",
+        b"(typeattributeset s (b))(allow b s (p (use)))",
+        &[
+            (RuleKind::Allow, b"b", b"a", 1, 0),
+            (RuleKind::Allow, b"b", b"b", 0, 1),
+        ],
+    ),
+    // Each member of an attribute to itself, and to no other.
+    (
+        b"(typeattributeset s (a))  (allow s self (p (use)))",
+        b"(typeattributeset s (a b))(allow s self (p (use)))",
+        &[
+            (RuleKind::Allow, b"a", b"a", 1, 1),
+            (RuleKind::Allow, b"b", b"b", 0, 1),
+            (RuleKind::Allow, b"a", b"b", 0, 0),
+        ],
+    ),
+];
+
+// Two types and an attribute in front of statements.
+fn started(rt: &impl Abort, alloc: Global, statements: &[u8]) -> Resolved {
+    let mut text = Vec::new(alloc);
+    text.extend_from_slice(b"(class p (use))(type a)(type b)(typeattribute s)")
+        .expect(rt, "memory");
+    text.extend_from_slice(statements).expect(rt, "memory");
+    policy(rt, alloc, text.as_slice())
+}
+
+// Asserts the counters of the old policy, or those of the new one.
+fn assert_expected(rt: &impl Abort, counters: &Counters, expected: &[Expected<'_>], new: bool) {
+    for (kind, source, target, old_count, new_count) in expected {
+        let want = if new { *new_count } else { *old_count };
+        assert_count(rt, counters, *kind, source, target, want);
+    }
+}
+
+// Asserts an edit, taken back, and done again.
+fn assert_edit(rt: &impl Abort, alloc: Global, old: &[u8], new: &[u8], expected: &[Expected<'_>]) {
+    let old = started(rt, alloc, old);
+    let new = started(rt, alloc, new);
+    let mut counters = counted(rt, alloc, &old);
+    assert_expected(rt, &counters, expected, false);
+    bring(rt, alloc, &mut counters, &old, &new);
+    assert_expected(rt, &counters, expected, true);
+    take_back(&mut counters, &old);
+    assert_expected(rt, &counters, expected, false);
+    bring(rt, alloc, &mut counters, &old, &new);
+    keep(&mut counters, &new);
+    assert_expected(rt, &counters, expected, true);
+}
+
+#[test]
+fn rules_that_come_go_stay_and_change(rt: HostRuntime) {
+    for (old, new, expected) in EDITS {
+        assert_edit(&rt, rt.alloc(), old, new, expected);
+    }
 }
 
 #[test]

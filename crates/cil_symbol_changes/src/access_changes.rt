@@ -20,7 +20,8 @@ pub struct AccessChanges<A: Allocator = Global> {
 }
 
 /// Which accesses appeared in tables since the last settling and which went: those that some rule gives now and none gave before,
-/// and those that some rule gave and none gives now. The symbols of their names have numbers, each at the place of the symbol. It
+/// and those that some rule gave and none gives now. The symbols of their names have numbers, each at the place of the symbol; where
+/// two symbols had one number, their accesses couldn't be told apart. It
 /// takes time by the steps since then and by what changed, and looks at no other line.
 pub fn changes<A: Allocator + Copy>(
     alloc: A,

@@ -1,4 +1,4 @@
-//! Which accesses appeared and which went in access tables changed in steps, by numbers in the order of names.
+//! Which accesses appeared and which went in access tables changed in steps, by numbers that the caller gives the symbols.
 #![tactic(auto)]
 
 mod access_changes;

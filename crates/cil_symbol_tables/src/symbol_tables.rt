@@ -98,7 +98,7 @@ impl<A: Allocator> SymbolTables<A> {
         }
     }
 
-    /// Whether there are steps that `undo` would take back.
+    /// Whether counters may differ from those before the steps. No means that `undo` and `settle` would change nothing.
     pub fn is_pending(&self) -> bool
         ensures { result ≡ false → (kind : RuleKind) (key : SymbolKey) (t : ℕ) → count_before self.now kind key t ≡ count_now self.now kind key t }
     {

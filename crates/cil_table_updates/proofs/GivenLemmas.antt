@@ -65,7 +65,7 @@ abbrev pub gives_with : {A : Type 0} → (ℕ → ℕ → ℕ) → List ℕ → 
 gives_with members symbols kind key t rule = is_kind rule.kind kind && covers_by members symbols rule key t
 
 module _ {A : Type 0} (names : List (List ℕ)) (apart : AreApart names) (r : Resolved A) (symbols : List ℕ) (numbers : AreNumbersOf names symbols r.names.items) (members : ℕ → ℕ → ℕ) (are : AreMembersOf names (meaning_in r) members)
-  (kind : RuleKind) (key : SymbolKey) (t : ℕ) where
+    (kind : RuleKind) (key : SymbolKey) (t : ℕ) where
   abbrev AreBelow : List (NumberedRule A) → Type 0
   AreBelow rules = list_all (is_rule_below (length r.names.items)) rules ≡ true
 

@@ -102,7 +102,7 @@ fn put_or_replace<A: Allocator + Copy>(
     }
 }
 
-/// Puts the rules of the new policy in, those that the old one has too in place of what they gave there.
+/// Adds what each rule of the new policy gives. A rule that both have replaces what it gave in the old one.
 pub fn put_new<A: Allocator + Copy>(
     tables: &mut SymbolTables<A>,
     alloc: A,

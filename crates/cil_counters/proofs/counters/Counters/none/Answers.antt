@@ -1,16 +1,16 @@
-use Rattle.std.proofs.Common.{subst, sym}
 use Rattle.cil_member_rows.specs.Rows as member_rows
+use Rattle.cil_resolve.specs.Resolved.{meaning_in}
+use Rattle.cil_resolve.specs.Sets.{sets_in}
 use Rattle.cil_symbol_tables.specs.Tables as access_tables
-use Rattle.cil_counters.specs.Counted.{IsCounted}
 use Rattle.cil_counters.proofs.CountedLemmas.{counted-none, none-of}
 use Rattle.cil_counters.proofs.counters.Counters.none.Goals as goal
 
 pub returns-clause-now : goal.returns-clause-now
 returns-clause-now g c =
-    subst (λ names. IsCounted names c.args.empty.now (member_rows.count_now c.new-2.result) (access_tables.count_now c.new-3.result)) (sym c.new.ensures)
-    (counted-none c.args.empty.now (member_rows.count_now c.new-2.result) (access_tables.count_now c.new-3.result) (none-of c.args.empty.now.names.items c.requires) c.new-2.ensures.now c.new-3.ensures.now)
+    counted-none c.args.policy.now c.of.new.symbols c.in_ok-of.field-0.symbols (member_rows.count_now c.new.result) (access_tables.count_now c.new-2.result) c.in_ok-of.ensures.symbols
+    (none-of (sets_in c.args.policy.now) c.requires.sets) (none-of (meaning_in c.args.policy.now).rules c.requires.rules) c.new.ensures.now c.new-2.ensures.now
 
 pub returns-clause-before : goal.returns-clause-before
 returns-clause-before g c =
-    subst (λ names. IsCounted names c.args.empty.now (member_rows.count_before c.new-2.result) (access_tables.count_before c.new-3.result)) (sym c.new.ensures)
-    (counted-none c.args.empty.now (member_rows.count_before c.new-2.result) (access_tables.count_before c.new-3.result) (none-of c.args.empty.now.names.items c.requires) c.new-2.ensures.before c.new-3.ensures.before)
+    counted-none c.args.policy.now c.of.new.symbols c.in_ok-of.field-0.symbols (member_rows.count_before c.new.result) (access_tables.count_before c.new-2.result) c.in_ok-of.ensures.symbols
+    (none-of (sets_in c.args.policy.now) c.requires.sets) (none-of (meaning_in c.args.policy.now).rules c.requires.rules) c.new.ensures.before c.new-2.ensures.before
