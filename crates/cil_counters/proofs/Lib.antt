@@ -1,2 +1,4 @@
 pub mod CountedLemmas
+pub mod SymbolRankLemmas
 pub mod ToldLemmas
+pub mod ChangedLemmas

@@ -27,11 +27,12 @@ use Rattle.cil_resolve.specs.declared.resolved.Resolved.{Resolved}
 use Rattle.cil_sets.proofs.NamedLemmas.{member-kept}
 use Rattle.cil_symbols.proofs.NameLemmas.{found-name}
 use Rattle.cil_member_updates.proofs.SymbolLemmas.{symbol-of}
-use Rattle.cil_rule_reach.specs.Named.{atom_of, name_at}
+use Rattle.cil_rule_reach.specs.Named.{atom_of, is_named, name_at}
 use Rattle.cil_rule_reach.proofs.NamedLemmas.{is-below}
 use Rattle.cil_table_updates.proofs.GivenLemmas.{and-first, and-second}
 use Rattle.cil_counters.specs.Counted.{atom_with, count_at, has_at, IsCounted}
 use Rattle.cil_counters.proofs.CountedLemmas.{members-counted}
+use Rattle.cil_counters.proofs.SymbolRankLemmas.{stands-nowhere}
 
 none-counted : {X : Type 0} (test : X → Bool) (xs : List X) → ((i : ℕ) (x : X) → slice_get xs i ≡ Some x → test x ≡ false) → count_by test xs ≡ 0
 none-counted test [] none = refl
@@ -53,6 +54,13 @@ class-false kind source target class permission none = right-false kind (source 
 permission-false : (kind source target class permission : Bool) → permission ≡ false → (kind && (source && (target && (class && permission)))) ≡ false
 permission-false kind source target class permission none = right-false kind (source && (target && (class && permission))) (right-false source (target && (class && permission)) (right-false target (class && permission) (right-false class permission none)))
 
+-- symbols within the names are those of names
+pub all-named : (names : List (List ℕ)) (key : SymbolKey) (t : ℕ) → key.source < length names → t < length names → key.class < length names → key.permission < length names → is_named names key t ≡ true
+all-named names key t source target class permission =
+    ap (λ b. (b && nat_lt t (length names)) && (nat_lt key.class (length names) && nat_lt key.permission (length names))) (lt-ltb key.source (length names) source)
+    ∙ ap (λ b. b && (nat_lt key.class (length names) && nat_lt key.permission (length names))) (lt-ltb t (length names) target)
+    ∙ ap (λ b. b && nat_lt key.permission (length names)) (lt-ltb key.class (length names) class) ∙ lt-ltb key.permission (length names) permission
+
 module _ {A : Type 0} (names : List (List ℕ)) (r : Resolved A) (members : ℕ → ℕ → ℕ) (counts : RuleKind → SymbolKey → ℕ → ℕ) (is : IsCounted names r members counts) where
   abbrev IsMissing : List ℕ → Type 0
   IsMissing name = position (bytes_eq name) names ≡ None
@@ -61,7 +69,7 @@ module _ {A : Type 0} (names : List (List ℕ)) (r : Resolved A) (members : ℕ 
   not-missing : (name : List ℕ) → has_name r.names.items name ≡ true → IsMissing name → ⊥
   not-missing name known missing =
       let (k, at) = symbol-of names is.symbols r.names.items is.numbers name known in
-      true≢false (sym (list_any_at (bytes_eq name) names k [] (slice_get_within names k name at) ((bytes_eq-Decides name (get_or names k [])).1 (sym (get_or_from_slice_get names k name [] at)))) ∙ any-position (bytes_eq name) names ∙ ap is_some missing)
+      stands-nowhere names k name missing at
 
   named-at : (name : List ℕ) (i : ℕ) → position (bytes_eq name) names ≡ Some i → name_at names i ≡ name
   named-at name i at = get_or_from_slice_get names i name [] (found-name names name i at)
@@ -155,9 +163,7 @@ module _ {A : Type 0} (names : List (List ℕ)) (r : Resolved A) (members : ℕ 
       told-by kind source target class permission (Some i) (Some j) (Some k) (Some l) at_source at_target at_class at_permission =
           is.are_counts kind (record { source = i; class = k; permission = l }) j
           ∙ ap (λ b. cond b (count_of (meaning_in r) (atom_of names kind (record { source = i; class = k; permission = l }) j)) 0)
-          (ap (λ b. (b && nat_lt j (length names)) && (nat_lt k (length names) && nat_lt l (length names))) (lt-ltb i (length names) (named-within source i at_source))
-          ∙ ap (λ b. b && (nat_lt k (length names) && nat_lt l (length names))) (lt-ltb j (length names) (named-within target j at_target))
-          ∙ ap (λ b. b && nat_lt l (length names)) (lt-ltb k (length names) (named-within class k at_class)) ∙ lt-ltb l (length names) (named-within permission l at_permission))
+          (all-named names (record { source = i; class = k; permission = l }) j (named-within source i at_source) (named-within target j at_target) (named-within class k at_class) (named-within permission l at_permission))
           ∙ ap (λ name. count_of (meaning_in r) (atom_with kind name (name_at names j) (name_at names k) (name_at names l))) (named-at source i at_source)
           ∙ ap (λ name. count_of (meaning_in r) (atom_with kind source name (name_at names k) (name_at names l))) (named-at target j at_target)
           ∙ ap (λ name. count_of (meaning_in r) (atom_with kind source target name (name_at names l))) (named-at class k at_class)

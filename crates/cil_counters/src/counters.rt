@@ -2,6 +2,8 @@
 
 ghost use Rattle.std.specs.Prelude.{◌≡◌, ◌-◌, ◌≤◌, ◌^◌, ◌++◌, ℕ, List, bytes_eq, false, length, min, IfOk, OnOk};
 ghost use Rattle.std.specs.List.{IsDistinct};
+ghost use Rattle.cil_specs.specs.Meaning.{is_in_table};
+ghost use Rattle.cil_specs.specs.Report.{AreChanges};
 ghost use Rattle.cil_member_rows.specs.Rows as member_rows;
 ghost use Rattle.cil_member_updates.specs.Policy.{AreCounts};
 ghost use Rattle.cil_parse.specs.Lexicon.{AreNumbersOf};
@@ -11,6 +13,7 @@ ghost use Rattle.cil_counters.specs.Counted.{count_with, has_named, AreSettled, 
 ghost use Rattle.cil_symbol_tables.specs.Tables as access_tables;
 
 use crate::more_rows::add_rows;
+use crate::symbol_ranks::symbol_ranks;
 use cil_keyed_lines::SymbolKey;
 use cil_matching::SetMatching;
 use cil_member_rows::MemberRows;
@@ -19,6 +22,7 @@ use cil_resolve::{
     Meter, Resolved, resolved_is_consistent, resolved_is_sound, resolved_names_are_kept,
     resolved_sets_are_in_order,
 };
+use cil_rules::{Changes, names_of, rank};
 use cil_symbol_tables::SymbolTables;
 use cil_symbols::{Numbering, Symbols};
 use cil_table_updates::Named;
@@ -122,9 +126,8 @@ impl<A: Allocator + Copy> Counters<A> {
         )
     }
 
-    /// Brings the counters from those of an old policy, which they hold, to those of a new one, in steps. Also after an out of memory
-    /// `undo` leads back to the old policy.
-    pub fn update(
+    /// Brings the counters from an old policy to a new one, in steps.
+    fn take_steps(
         &mut self,
         alloc: A,
         old: &Resolved<A>,
@@ -152,6 +155,44 @@ impl<A: Allocator + Copy> Counters<A> {
         };
         self.update_members(alloc, old, new, meter)?;
         cil_table_updates::update(&mut self.tables, alloc, &self.names, &self.rows, old, new)
+    }
+
+    /// The changes from an old policy, whose counters stand before the steps, to a new one, whose counters stand now.
+    fn changes(
+        &self,
+        alloc: A,
+        old: &Resolved<A>,
+        new: &Resolved<A>,
+    ) -> Result<Changes<A>, AllocError>
+        requires now { IsNow new.now self.now }
+        requires before { WasBefore old.now self.now }
+        ensures { IfOk result (AreChanges (is_in_table (meaning_in old.now)) (is_in_table (meaning_in new.now))) }
+    {
+        let old_names = names_of(alloc, old)?;
+        let new_names = names_of(alloc, new)?;
+        let ranks = rank(alloc, old_names.as_slice(), new_names.as_slice())?;
+        let numbers = symbol_ranks(alloc, &self.names, ranks.names.as_slice())?;
+        let found = cil_symbol_changes::changes(alloc, &self.tables, numbers.as_slice())?;
+        Changes::of(ranks.names, found.added, found.removed)
+    }
+
+    /// Brings the counters from those of an old policy, which they hold, to those of a new one, in steps, and answers the changes from
+    /// the access table of the old policy to that of the new one. Also after an out of memory `undo` leads back to the old policy.
+    pub fn update(
+        &mut self,
+        alloc: A,
+        old: &Resolved<A>,
+        new: &Resolved<A>,
+        meter: &mut Meter,
+    ) -> Result<Changes<A>, AllocError>
+        requires now { IsNow old.now self.old }
+        requires before { WasBefore old.now self.old }
+        ensures now { OnOk result (IsNow new.now self.new) }
+        ensures before { WasBefore old.now self.new }
+        ensures changes { IfOk result (AreChanges (is_in_table (meaning_in old.now)) (is_in_table (meaning_in new.now))) }
+    {
+        self.take_steps(alloc, old, new, meter)?;
+        self.changes(alloc, old, new)
     }
 }
 

@@ -9,6 +9,7 @@ ghost use Rattle.cil_counters.specs.Counted.{IsNow, WasBefore};
 use crate::Counters;
 use cil_parse::{ParsedModule, parse};
 use cil_resolve::{Joined, Meter, NamedModule, Resolved, resolve};
+use cil_rules::{Atom, Changes};
 use cil_text::RuleKind;
 use std::alloc::{AllocError, Global};
 use std::process::Abort;
@@ -53,8 +54,14 @@ fn policy(rt: &impl Abort, alloc: Global, text: &[u8]) -> Resolved {
     resolve(alloc, &joined).expect(rt, "a policy")
 }
 
-// Brings counters from one policy to another.
-fn bring(rt: &impl Abort, alloc: Global, counters: &mut Counters, old: &Resolved, new: &Resolved)
+// Brings counters from one policy to another, and answers the changes.
+fn bring(
+    rt: &impl Abort,
+    alloc: Global,
+    counters: &mut Counters,
+    old: &Resolved,
+    new: &Resolved,
+) -> Changes
     requires now { IsNow old.now counters.old }
     requires before { WasBefore old.now counters.old }
     ensures now { IsNow new.now counters.new }
@@ -63,7 +70,7 @@ fn bring(rt: &impl Abort, alloc: Global, counters: &mut Counters, old: &Resolved
     let mut meter = Meter::new();
     counters
         .update(alloc, old, new, &mut meter)
-        .expect(rt, "memory");
+        .expect(rt, "memory")
 }
 
 // Keeps the counters of a policy.
@@ -214,6 +221,34 @@ fn rules_that_come_go_stay_and_change(rt: HostRuntime) {
     }
 }
 
+// Asserts an access of class p by the permission use.
+fn assert_access(
+    rt: &impl Abort,
+    found: Option<Atom<'_>>,
+    kind: RuleKind,
+    source: &[u8],
+    target: &[u8],
+) {
+    let wanted = Atom {
+        kind,
+        source,
+        target,
+        class: b"p",
+        permission: b"use",
+    };
+    assert_eq!(rt; found, Some(wanted));
+}
+
+// Asserts the changes from the old policy to the new one, in order.
+fn assert_changes(rt: &impl Abort, changes: &Changes) {
+    assert!(rt; changes.added_len() == 2);
+    assert_access(rt, changes.added(0), RuleKind::Allow, b"b", b"b");
+    assert_access(rt, changes.added(1), RuleKind::AuditAllow, b"a", b"a");
+    assert!(rt; changes.removed_len() == 2);
+    assert_access(rt, changes.removed(0), RuleKind::Allow, b"a", b"a");
+    assert_access(rt, changes.removed(1), RuleKind::Allow, b"a", b"b");
+}
+
 #[test]
 fn a_changed_attribute_and_a_changed_rule(rt: HostRuntime) {
     let old = policy(&rt, rt.alloc(), OLD);
@@ -221,7 +256,8 @@ fn a_changed_attribute_and_a_changed_rule(rt: HostRuntime) {
     let mut counters = counted(&rt, rt.alloc(), &old);
     assert!(&rt; !counters.is_pending());
     assert_counters(&rt, &counters, false);
-    bring(&rt, rt.alloc(), &mut counters, &old, &new);
+    let changes = bring(&rt, rt.alloc(), &mut counters, &old, &new);
+    assert_changes(&rt, &changes);
     assert!(&rt; counters.is_pending());
     assert_counters(&rt, &counters, true);
     take_back(&mut counters, &old);
@@ -238,13 +274,17 @@ fn the_same_edit_done_and_taken_back_a_hundred_times(rt: HostRuntime) {
     let new = policy(&rt, rt.alloc(), THREE);
     let mut counters = counted(&rt, rt.alloc(), &old);
     for _ in 0..100 {
-        bring(&rt, rt.alloc(), &mut counters, &old, &new);
+        let there = bring(&rt, rt.alloc(), &mut counters, &old, &new);
+        assert!(&rt; there.added_len() == 5);
+        assert!(&rt; there.removed_len() == 0);
         assert!(&rt; counters.has(b"s", b"c"));
         assert_count(&rt, &counters, RuleKind::Allow, b"c", b"a", 1);
         assert_count(&rt, &counters, RuleKind::Allow, b"a", b"c", 1);
         assert_count(&rt, &counters, RuleKind::Allow, b"a", b"b", 1);
         keep(&mut counters, &new);
-        bring(&rt, rt.alloc(), &mut counters, &new, &old);
+        let back = bring(&rt, rt.alloc(), &mut counters, &new, &old);
+        assert!(&rt; back.added_len() == 0);
+        assert!(&rt; back.removed_len() == 5);
         keep(&mut counters, &old);
         assert!(&rt; !counters.has(b"s", b"c"));
         assert_count(&rt, &counters, RuleKind::Allow, b"c", b"a", 0);

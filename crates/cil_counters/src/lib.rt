@@ -6,6 +6,7 @@ mod counters;
 mod counters_tests;
 mod laws;
 mod more_rows;
+mod symbol_ranks;
 
 pub use counters::Counters;
 pub use laws::{counters_tell_accesses, counters_tell_members};

@@ -56,11 +56,11 @@ module _ (names some : List (List ℕ)) (numbers : List ℕ) (places : ArePlaces
   places-length = sym (length-map numbers (name_at names)) ∙ ap length places.named
 
   -- the number at a place has the name at that place
-  name_at-place : (k : ℕ) → k < length some → name_at names (get_or numbers k 0) ≡ name_at some k
+  pub name_at-place : (k : ℕ) → k < length some → name_at names (get_or numbers k 0) ≡ name_at some k
   name_at-place k within =
       sym (get_or-map (name_at names) numbers k 0 [] (let same = places-length in omega arith)) ∙ ap (λ l. name_at l k) places.named
 
-  number-within : (k : ℕ) → k < length some → get_or numbers k 0 < length names
+  pub number-within : (k : ℕ) → k < length some → get_or numbers k 0 < length names
   number-within k within = places.within k 0 (let same = places-length in omega arith)
 
   -- renumbered accesses are the same by name

@@ -12,6 +12,7 @@ use crate::ranked::rank_accesses;
 use crate::ranks::rank;
 use crate::table::Table;
 use cil_accesses::{Accesses, Difference};
+use cil_resolve::Text;
 use std::alloc::{AllocError, Allocator, Global};
 use std::marker::Model;
 
@@ -72,6 +73,23 @@ impl<A: Allocator + Copy> Changes<A> {
             names,
             added: found.added,
             removed: found.removed,
+        })
+    }
+
+    /// The changes that are these accesses by the numbers of names, which it takes over.
+    pub fn of(
+        names: Vec<Text<A>, A>,
+        added: Accesses<A>,
+        removed: Accesses<A>,
+    ) -> Result<Self, AllocError>
+        requires added { AreNumbered names.items added }
+        requires removed { AreNumbered names.items removed }
+        ensures { IfOk result (λ changes. changes ≡ record { added = map (atom_at names.items) added; removed = map (atom_at names.items) removed }) }
+    {
+        Ok(Changes {
+            names: NameList::of(names)?,
+            added,
+            removed,
         })
     }
 }

@@ -8,7 +8,7 @@ use Rattle.cil_resolve.specs.Resolved.{meaning_in}
 use Rattle.cil_symbol_tables.specs.Tables as access_tables
 use Rattle.cil_table_updates.specs.Policies.{count_named}
 use Rattle.cil_counters.proofs.CountedLemmas.{counted-alike, members-counted}
-use Rattle.cil_counters.proofs.counters.Counters.update.Goals as goal
+use Rattle.cil_counters.proofs.counters.Counters.take_steps.Goals as goal
 
 pub update_members-requires-clause-old_numbers : goal.update_members-requires-clause-old_numbers
 update_members-requires-clause-old_numbers g c =
