@@ -5,7 +5,7 @@ use Rattle.std.specs.List.Sorted.{IsStrictlySortedBy}
 use Rattle.std.proofs.lemmas.Bool.{and_from, and_parts, both_ways, cases_Bool, cases_lt, lt-ltb, ltb-true, not-true}
 use Rattle.std.proofs.lemmas.Option.{get_or_from_slice_get, slice_get-get_or, slice_get_within}
 use Rattle.cil_specs.specs.Meaning.{count_of, is_in_table}
-use Rattle.cil_specs.specs.Report.{AreAtoms, names_rise}
+use Rattle.cil_specs.specs.Report.{AreAtoms, AreChanges, names_rise}
 use Rattle.cil_specs.specs.Rule as spec
 use Rattle.cil_specs.proofs.ReportLemmasMembers.{all_from_contains, any-map, any_from, any_from_map, any_to, contains_from, contains_to}
 use Rattle.cil_text.specs.declared.statement.RuleKind.{RuleKind}
@@ -18,7 +18,7 @@ use Rattle.cil_resolve.specs.declared.resolved.Resolved.{Resolved}
 use Rattle.cil_member_updates.proofs.SymbolLemmas.{symbol-name, symbol-some}
 use Rattle.cil_rule_reach.specs.Named.{atom_of, is_named, name_at}
 use Rattle.cil_rules.specs.Atoms.{atom_at, AreNumbered}
-use Rattle.cil_rules.specs.Ranks.{ArePlaces}
+use Rattle.cil_rules.specs.Ranks.{ArePlaces, IsMerged}
 use Rattle.cil_rules.proofs.AtomLemmas.{atoms-ordered}
 use Rattle.cil_rules.proofs.ChangesLemmas.{name_at-place, number-within}
 use Rattle.cil_rules.proofs.TableLemmas.{table-numbered, IsNamed}
@@ -183,3 +183,33 @@ module _ {A : Type 0} (symbols names : List (List ℕ)) (numbers : List ℕ) (ra
   -- what is found by the counters is what came to the table
   pub changed-atoms : AreAtoms has_come (map (atom_at names) found)
   changed-atoms = record { ordered = atoms-ordered names found changed-numbered; exact = λ a. (to-come a, from-come a) }
+
+-- the changes between two policies, by the names of both
+module _ {A : Type 0} (symbols names : List (List ℕ)) (numbers first second : List ℕ) (old new : Resolved A) (merged : IsMerged names first second old.names.items new.names.items) (ranks : AreRanks names symbols (length names) numbers)
+    (old_members new_members : ℕ → ℕ → ℕ) (was now : RuleKind → SymbolKey → ℕ → ℕ) (old_counted : IsCounted symbols old old_members was) (new_counted : IsCounted symbols new new_members now) where
+  old_held : Holds names old.names.items
+  old_held = places-hold names old.names.items first merged.first_places
+
+  new_held : Holds names new.names.items
+  new_held = places-hold names new.names.items second merged.second_places
+
+  -- what is counted has numbers
+  pub numbered-before : (kind : RuleKind) (key : SymbolKey) (t : ℕ) → 0 < was kind key t → IsNumbered numbers key t
+  numbered-before kind key t some = (counted-known symbols names numbers ranks old old_held old_members was old_counted kind key t some).numbered
+
+  pub numbered-now : (kind : RuleKind) (key : SymbolKey) (t : ℕ) → 0 < now kind key t → IsNumbered numbers key t
+  numbered-now kind key t some = (counted-known symbols names numbers ranks new new_held new_members now new_counted kind key t some).numbered
+
+  pub added-numbered : (added : List AccessNumbers) → IsStrictlySortedBy numbers_cmp added → ((n : AccessNumbers) → Contains added n ↔ IsNew numbers was now n) → AreNumbered names added
+  added-numbered = changed-numbered symbols names numbers ranks merged.ordered old new new_held old_members new_members was now old_counted new_counted
+
+  pub removed-numbered : (removed : List AccessNumbers) → IsStrictlySortedBy numbers_cmp removed → ((n : AccessNumbers) → Contains removed n ↔ IsNew numbers now was n) → AreNumbered names removed
+  removed-numbered = changed-numbered symbols names numbers ranks merged.ordered new old old_held new_members old_members now was new_counted old_counted
+
+  pub are-changes : (added removed : List AccessNumbers) → IsStrictlySortedBy numbers_cmp added → ((n : AccessNumbers) → Contains added n ↔ IsNew numbers was now n)
+      → IsStrictlySortedBy numbers_cmp removed → ((n : AccessNumbers) → Contains removed n ↔ IsNew numbers now was n)
+      → AreChanges (is_in_table (meaning_in old)) (is_in_table (meaning_in new)) (record { added = map (atom_at names) added; removed = map (atom_at names) removed })
+  are-changes added removed added_order came removed_order went = record {
+    added = changed-atoms symbols names numbers ranks merged.ordered old new new_held old_members new_members was now old_counted new_counted added added_order came;
+    removed = changed-atoms symbols names numbers ranks merged.ordered new old old_held new_members old_members now was new_counted old_counted removed removed_order went;
+  }
