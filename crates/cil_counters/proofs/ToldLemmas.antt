@@ -1,7 +1,6 @@
 -- What the counters of a policy tell by full names.
-use Rattle.std.proofs.Common.{◌≡◌, ℕ, suc, ◌+◌, ◌<◌, ◌==◌, ◌&&◌, ◌||◌, Bool, true, false, List, [], ◌∷◌, length, map, cond, count_by, bytes_eq, nat_lt, get_or, slice_get, slice_index_or, Option, None, Some, position, refl, sym, ap, ◌∙◌, inl, inr, arith, true≢false, zero-add}
+use Rattle.std.proofs.Common.{◌≡◌, ℕ, suc, ◌+◌, ◌<◌, ◌==◌, ◌&&◌, ◌||◌, Bool, true, false, List, [], ◌∷◌, length, map, cond, count_by, bytes_eq, nat_lt, slice_get, slice_index_or, Option, None, Some, position, refl, sym, ap, ◌∙◌, inl, inr, arith, true≢false, zero-add}
 use Rattle.std.specs.List.{list_all, list_any}
-use Rattle.std.specs.Option.{is_some}
 use Rattle.std.proofs.Math.Bool.{and-false}
 use Rattle.std.proofs.lemmas.Bool.{cases_Bool, lt-ltb, ltb-true}
 use Rattle.std.proofs.lemmas.List.Folds.{list_any_at}
@@ -15,7 +14,6 @@ use Rattle.cil_specs.specs.Members.{is_member, keeps_attribute, HasSoundSets}
 use Rattle.cil_specs.specs.Rule as spec
 use Rattle.cil_specs.specs.Rule.{kind_index, at_itself, at_element}
 use Rattle.cil_text.specs.Image.{rule_kind_of}
-use Rattle.cil_bind.proofs.PositionLemmas.{any-position}
 use Rattle.cil_text.specs.declared.statement.RuleKind.{RuleKind}
 use Rattle.cil_keyed_lines.specs.declared.symbol_key.SymbolKey.{SymbolKey}
 use Rattle.cil_resolve.specs.Below.{is_rule_below}
