@@ -20,7 +20,7 @@ use crate::command_line::compile::{Report, compile_entries, refuse_for_memory};
 use crate::command_line::files::{ReadFault, entries_of, read_files};
 use crate::command_line::words::{COMPILE, FILES, VIOLATIONS, matches_of};
 use crate::script::session::{SessionFault, Status, session};
-use cil_store::Plain;
+use cil_store::Delta;
 use cil_stream::{Sink, SinkFault, Source, write_all, write_pieces};
 use clap::error::ErrorKind;
 use clap::{ArgMatches, Error};
@@ -50,7 +50,7 @@ pub fn answer_session<S: Source, W: Sink, A: Allocator + Copy>(
         (record { taken = W.taken out.old; flushed = W.flushed out.old; failures = W.failures out.old })
         (record { taken = W.taken out.new; flushed = W.flushed out.new; failures = W.failures out.new }) result }
 {
-    let mut engine = Plain::new(alloc);
+    let mut engine = Delta::new(alloc);
     exit_status(session(alloc, source, out, &mut engine))
 }
 

@@ -4,7 +4,7 @@ ghost use Rattle.cil_parse.specs.Parsed.{IsParsed};
 
 use cil_parse::{ParsedModule, parse};
 use cil_program::script::session::{Status, session};
-use cil_store::Plain;
+use cil_store::{Compiled, Delta, Plain};
 use cil_stream::{MemorySink, MemorySource};
 use std::alloc::Global;
 use std::fmt::Debug;
@@ -21,10 +21,10 @@ pub const FIRST_TEXT: &[u8] =
     b"(class file (read write))(type a)(type b)(allow a b (file (write read)))";
 
 /// Asserts what a session with an engine answers to a script, and how it ends.
-pub fn assert_session(
+pub fn assert_session<C: Compiled<Global>>(
     rt: &impl Abort,
     alloc: Global,
-    engine: &mut Plain,
+    engine: &mut C,
     script: &[u8],
     want: &str,
     status: Status,
@@ -35,10 +35,12 @@ pub fn assert_session(
     assert_eq!(rt; (shown(sink.bytes()), end), (want, Ok(status)));
 }
 
-/// Asserts what a session with an empty store answers to a script, and how it ends.
+/// Asserts what a session with an empty store answers to a script, by each engine, and how it ends.
 pub fn assert_answer(rt: &impl Abort, alloc: Global, script: &[u8], want: &str, status: Status) {
-    let mut engine = Plain::new(alloc);
-    assert_session(rt, alloc, &mut engine, script, want, status);
+    let mut plain = Plain::new(alloc);
+    assert_session(rt, alloc, &mut plain, script, want, status);
+    let mut delta = Delta::new(alloc);
+    assert_session(rt, alloc, &mut delta, script, want, status);
 }
 
 /// Asserts what a session with an empty store answers to each script of a table, and that each ends so.

@@ -14,6 +14,8 @@ mod commands;
 #[cfg(test)]
 mod cuts;
 #[cfg(test)]
+mod deltas;
+#[cfg(test)]
 mod devices;
 #[cfg(test)]
 mod dialogues;

@@ -9,3 +9,4 @@ pub mod JoinLemmas
 pub mod DroppedLemmas
 pub mod PlainLemmas
 pub mod MeantLemmas
+pub mod CountedPolicyLemmas

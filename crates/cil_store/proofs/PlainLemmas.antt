@@ -10,15 +10,15 @@ use Rattle.cil_specs.specs.Report.{AreAtoms, Changes, AreChanges, Row, AreRows, 
 use Rattle.cil_specs.specs.Violations.{Violation, AreViolations}
 use Rattle.cil_specs.specs.Kept.{Optionals, AreKept, judged, Compiles}
 use Rattle.cil_store_specs.specs.Store.{Store, empty, active}
-use Rattle.cil_store_specs.specs.Next.{AreModules, IsMeaningOf, Edit, HasGoodText, changed, store_refusal, good}
-use Rattle.cil_store_specs.specs.Run.{an_edit, changed_by, AreRowsOf, AreViolationsOf, accepted, Step}
+use Rattle.cil_store_specs.specs.Next.{IsMeaningOf, Edit, HasGoodText, changed, store_refusal}
+use Rattle.cil_store_specs.specs.Run.{an_edit, changed_by, AreRowsOf, AreViolationsOf, Step}
 use Rattle.cil_store_specs.proofs.OneStore.{meaning-same}
 use Rattle.cil_bind.specs.declared.joined.NamedModule.{NamedModule}
 use Rattle.cil_resolve.specs.Modules.{AreParsedFrom}
 use Rattle.cil_store.specs.Plain.{meaning_by, IsCompiledTo}
 use Rattle.cil_store.specs.Policy.{policy_meaning}
 use Rattle.cil_store.specs.declared.policy.Policy.{Policy}
-use Rattle.cil_store.proofs.StepLemmas.{store-meaning}
+use Rattle.cil_store.proofs.StepLemmas.{store-meaning, made-step}
 
 -- the set of no optional
 abbrev no_optional : Optionals
@@ -69,11 +69,11 @@ kept-empty policy table dropped no_policy none nothing = subst (λ p. IsCompiled
   are_dropped = nothing;
 })
 
--- what a store compiles to, by the policy that the modules of its active entries resolve to
-pub compiled-to : {A : Type 0} (store : Store) (atoms : List Atom) (dropped : List Declared) (modules : List Module) (meaning : Meaning) (policy : Policy A) → AreModules (active store) modules
-    → (kept : Optionals) × Means (joined modules) kept meaning → policy_meaning policy ≡ meaning → AreAtoms (is_in_table (policy_meaning policy)) atoms → dropped ≡ (policy_meaning policy).dropped → IsCompiledTo store (Some policy) atoms dropped
-compiled-to store atoms dropped modules meaning policy are means same are_atoms are_dropped = record {
-  is_meaning = store-meaning store modules (policy_meaning policy) are (means.0, subst (Means (joined modules) means.0) (sym same) means.1);
+-- what a store compiles to, by a policy that means what it does
+pub compiled-to : {A : Type 0} (store : Store) (atoms : List Atom) (dropped : List Declared) (meaning : Meaning) (policy : Policy A) → IsMeaningOf store meaning → policy_meaning policy ≡ meaning
+    → AreAtoms (is_in_table (policy_meaning policy)) atoms → dropped ≡ (policy_meaning policy).dropped → IsCompiledTo store (Some policy) atoms dropped
+compiled-to store atoms dropped meaning policy means same are_atoms are_dropped = record {
+  is_meaning = subst (IsMeaningOf store) (sym same) means;
   are_atoms = are_atoms;
   are_dropped = are_dropped;
 }
@@ -82,14 +82,7 @@ compiled-to store atoms dropped modules meaning policy are means same are_atoms 
 pub accepted-step : {A : Type 0} (store : Store) (edit : Edit) (first second : Option (Policy A)) (old atoms : List Atom) (dropped others : List Declared) (changes : Changes) → store_refusal store edit ≡ None → HasGoodText edit
     → IsCompiledTo store first old dropped → IsCompiledTo (changed store edit) second atoms others → ((p q : Atom → Bool) → AreAtoms p old → AreAtoms q atoms → AreChanges p q changes) → Step store (an_edit edit) (changed_by changes) (changed store edit)
 accepted-step store edit first second old atoms dropped others changes taken good_text was made between =
-    accepted edit changes refl refl (record {
-      next = good (changed store edit) (meaning_by second) (record { not_refused = taken; good_text = good_text; is = refl }) made.is_meaning refl;
-      before = meaning_by first;
-      after = meaning_by second;
-      meant = was.is_meaning;
-      means = made.is_meaning;
-      are_changes = between (is_in_table (meaning_by first)) (is_in_table (meaning_by second)) was.are_atoms made.are_atoms;
-    })
+    made-step store edit (meaning_by first) (meaning_by second) changes taken good_text was.is_meaning made.is_meaning (between (is_in_table (meaning_by first)) (is_in_table (meaning_by second)) was.are_atoms made.are_atoms)
 
 -- what is so of the meaning of what is kept is so of each meaning of the store
 pub of-meaning : {A : Type 0} (store : Store) (policy : Option (Policy A)) (table : List Atom) (dropped : List Declared) (P : Meaning → Type 0) → IsCompiledTo store policy table dropped → P (meaning_by policy)

@@ -1,12 +1,13 @@
 -- The steps of edits that are refused, and what a store means.
 use Rattle.std.proofs.Common.{◌≡◌, inl, inr, ℕ, List, Some, None, Result, Ok, Err, IfErr, refl, ap, sym, ◌∙◌, subst}
 use Rattle.cil_specs.specs.Joined.{Module, joined}
-use Rattle.cil_specs.specs.Meaning.{Means, Meaning}
+use Rattle.cil_specs.specs.Meaning.{Means, Meaning, is_in_table}
+use Rattle.cil_specs.specs.Report.{Changes, AreChanges}
 use Rattle.cil_specs.specs.Kept.{Optionals, IsFirstFault}
 use Rattle.cil_specs.specs.ModuleText.{IsTextFault}
 use Rattle.cil_store_specs.specs.Store.{Store, active}
-use Rattle.cil_store_specs.specs.Next.{AreModules, IsMeaningOf, Edit, install, Refusal, HasGoodText, IsTaken, changed, store_refusal, by_itself, by_its_text, not_taken, bad_policy}
-use Rattle.cil_store_specs.specs.Run.{an_edit, refused, rejected, out_of_memory, Step}
+use Rattle.cil_store_specs.specs.Next.{AreModules, IsMeaningOf, Edit, install, Refusal, HasGoodText, IsTaken, changed, store_refusal, by_itself, by_its_text, not_taken, bad_policy, good}
+use Rattle.cil_store_specs.specs.Run.{an_edit, changed_by, refused, accepted, rejected, out_of_memory, Step}
 use Rattle.cil_text.specs.Image.{FaultIs, kind_of, place_of, shown}
 use Rattle.cil_text.specs.declared.fault.TextFault.{TextFault}
 use Rattle.cil_text.specs.declared.fault.TextFault.TheVariants as texts
@@ -71,3 +72,16 @@ pub policy-step : (store : Store) (edit : Edit) (refusal : Refusal) → store_re
 policy-step store edit refusal taken good_text (inl memory) = out_of_memory (ap refused memory) refl
 policy-step store edit refusal taken good_text (inr policy) =
     rejected edit refusal refl refl (bad_policy (changed store edit) refusal (record { not_refused = taken; good_text = good_text; is = refl }) policy refl) refl
+
+-- the step of an edit that was made, by what the store meant before and what it means after
+pub made-step : (store : Store) (edit : Edit) (before after : Meaning) (changes : Changes) → store_refusal store edit ≡ None → HasGoodText edit → IsMeaningOf store before → IsMeaningOf (changed store edit) after
+    → AreChanges (is_in_table before) (is_in_table after) changes → Step store (an_edit edit) (changed_by changes) (changed store edit)
+made-step store edit before after changes taken good_text meant means are =
+    accepted edit changes refl refl (record {
+      next = good (changed store edit) after (record { not_refused = taken; good_text = good_text; is = refl }) means refl;
+      before = before;
+      after = after;
+      meant = meant;
+      means = means;
+      are_changes = are;
+    })

@@ -96,16 +96,24 @@ impl<A: Allocator> Disabled<A> {
 }
 
 impl<A: Allocator + Copy> Disabled<A> {
+    /// Keeps room for one name more, so that `insert` takes no memory.
+    pub fn reserve(&mut self) -> Result<(), AllocError>
+        ensures { self.new ≡ self.old }
+    {
+        self.names.reserve(1)
+    }
+
     /// Puts in a name, if it isn't there.
-    pub fn insert(&mut self, alloc: A, name: &[u8]) -> Result<(), AllocError>
-        ensures ok { OnOk result (self.new ≡ put_name name.now self.old) }
+    pub fn insert(&mut self, name: Text<A>) -> Result<(), AllocError>
+        ensures ok { OnOk result (self.new ≡ put_name name self.old) }
         ensures err { OnErr result (self.new ≡ self.old) }
     {
-        let place = self.place(name);
-        if self.has_at(place, name) {
+        let bytes = name.as_slice();
+        let place = self.place(bytes);
+        if self.has_at(place, bytes) {
             return Ok(());
         }
-        self.names.insert(place, Text::of(alloc, name)?)?;
+        self.names.insert(place, name)?;
         Ok(())
     }
 }

@@ -3,14 +3,12 @@
 ghost use Rattle.std.specs.Prelude.{◌≡◌, ◌+◌, ◌++◌, ◌∷◌, ◌≤◌, ◌<◌, ◌↔◌, ◌^◌, [], ℕ, List, IsTrue, bytes_eq, find, length, option_map, OnOk, OnErr};
 ghost use Rattle.std.specs.List.{prefix_len};
 ghost use Rattle.std.specs.Ordering.{is_lt};
-ghost use Rattle.cil_parse.specs.Parsed.{IsParsed};
 ghost use Rattle.cil_store_specs.specs.Store.{entry_cmp, has_entry, has_room, is_installed, put, text_bytes, without};
 ghost use Rattle.cil_specs.proofs.SearchLemmas.{IsTiedAt};
 ghost use Rattle.cil_store_specs.specs.Store.{entry_at};
 ghost use Rattle.cil_store.specs.Stored.{entry_for, entry_of};
 
 use crate::entry::{Entry, StoredEntry};
-use cil_parse::ParsedModule;
 use std::alloc::{AllocError, Allocator, Global};
 use std::marker::Model;
 
@@ -160,23 +158,25 @@ impl<A: Allocator> Entries<A> {
 }
 
 impl<A: Allocator + Copy> Entries<A> {
-    /// Puts in an entry with the parsed module of its text, in place of one of its name and priority.
-    pub fn put(
-        &mut self,
-        alloc: A,
-        entry: Entry<'_>,
-        module: ParsedModule<A>,
-    ) -> Result<(), AllocError>
-        requires { IsParsed entry.text.now «module» }
-        ensures ok { OnOk result (self.new ≡ put (entry_of entry.entry) self.old) }
+    /// Keeps room for one entry more, so that `put` takes no memory.
+    pub fn reserve(&mut self) -> Result<(), AllocError>
+        ensures { self.new ≡ self.old }
+    {
+        self.entries.reserve(1)
+    }
+
+    /// Puts in an entry, in place of one of its name and priority.
+    pub fn put(&mut self, entry: StoredEntry<A>) -> Result<(), AllocError>
+        ensures ok { OnOk result (self.new ≡ put entry self.old) }
         ensures err { OnErr result (self.new ≡ self.old) }
     {
-        let place = self.place(entry.name, entry.priority);
-        let stored = StoredEntry::of(alloc, entry, module)?;
-        if self.has_at(place, entry.name, entry.priority) {
-            self.entries[place] = stored;
+        let name = entry.name();
+        let priority = entry.priority();
+        let place = self.place(name, priority);
+        if self.has_at(place, name, priority) {
+            self.entries[place] = entry;
         } else {
-            self.entries.insert(place, stored)?;
+            self.entries.insert(place, entry)?;
         }
         Ok(())
     }

@@ -104,6 +104,12 @@ impl<A: Allocator> StoredEntry<A> {
         self.name.as_slice()
     }
 
+    pub fn priority(&self) -> u32
+        ensures { result ≡ self.now.priority }
+    {
+        self.priority
+    }
+
     /// How long its text is.
     pub fn len(&self) -> usize
         ensures { result ≡ length self.now.text }

@@ -4,6 +4,8 @@
 mod admitted;
 mod call;
 mod compiled;
+mod counted_policy;
+mod delta;
 mod disabled;
 mod dropped;
 mod edit;
@@ -15,12 +17,15 @@ mod laws;
 mod modules;
 mod plain;
 mod policy;
+mod ready;
 mod refusal;
 mod refusing;
+mod resolving;
 mod runs;
 
 pub use call::{Call, Reply};
 pub use compiled::{Compiled, WriteFault};
+pub use delta::Delta;
 pub use dropped::Dropped;
 pub use edit::Edit;
 pub use entry::Entry;

@@ -1,11 +1,12 @@
 //! The modules of a store.
 
-ghost use Rattle.std.specs.Prelude.{◌≡◌, ◌<◌, ◌==◌, [], Option, Some, None, length, slice_get, slice_index_or, option_map, OnOk, OnErr, MatchResult};
+ghost use Rattle.std.specs.Prelude.{◌≡◌, ◌<◌, ◌==◌, [], Option, Some, None, length, slice_get, slice_index_or, option_map, IfOk, OnOk, OnErr, MatchResult};
 ghost use Rattle.cil_store_specs.specs.Next.{Refusal, changed, install_refusal, remove_refusal, state_refusal, store_refusal, name_refusal, priority_refusal};
 ghost use Rattle.cil_store_specs.specs.Store.{active_text, empty};
 ghost use Rattle.cil_store_specs.specs.StoreReport.{is_disabled, state_word};
 ghost use Rattle.cil_store.specs.Edits.{edit_of, name_of, priority_of, store_refusal_of};
 ghost use Rattle.cil_store.specs.Admitted.{admitted_edit, IsAdmitted};
+ghost use Rattle.cil_store.specs.Ready.{ready_edit};
 ghost use Rattle.cil_store.specs.States.{word_of};
 ghost use Rattle.cil_store_specs.specs.Store.{entry_at};
 ghost use Rattle.cil_store_specs.proofs.ActiveLemmas.{is_first_at};
@@ -16,7 +17,9 @@ use crate::disabled::Disabled;
 use crate::edit::Edit;
 use crate::entries::Entries;
 use crate::entry::{Entry, StoredEntry};
+use crate::ready::Ready;
 use crate::refusal::{StoreFault, is_module_name};
+use cil_resolve::Text;
 use std::alloc::{AllocError, Allocator, Global};
 use std::marker::Model;
 
@@ -219,27 +222,63 @@ impl<A: Allocator + Copy> Store<A> {
         }
     }
 
-    /// Makes an edit that was admitted. An out of memory leaves the store as it was.
-    pub(crate) fn make(&mut self, alloc: A, edit: Admitted<'_, A>) -> Result<(), AllocError>
+    /// Takes the memory for an edit that was admitted, and for the room that it needs here. Nothing is changed.
+    pub(crate) fn prepare<'e>(
+        &mut self,
+        alloc: A,
+        edit: Admitted<'e, A>,
+    ) -> Result<Ready<'e, A>, AllocError>
         requires { IsAdmitted edit }
-        ensures ok { OnOk result (self.new ≡ changed self.old (admitted_edit edit.entry)) }
+        ensures kept { self.new ≡ self.old }
+        ensures edit { IfOk result (λ ready. ready_edit ready ≡ admitted_edit edit.entry) }
+    {
+        match edit {
+            Admitted::Install { entry, module } => {
+                let entry = StoredEntry::of(alloc, entry, module)?;
+                self.entries.reserve()?;
+                Ok(Ready::Install(entry))
+            }
+            Admitted::Remove { name, priority } => Ok(Ready::Remove { name, priority }),
+            Admitted::Enable { name } => Ok(Ready::Enable { name }),
+            Admitted::Disable { name } => {
+                let name = Text::of(alloc, name)?;
+                self.disabled.reserve()?;
+                Ok(Ready::Disable(name))
+            }
+        }
+    }
+
+    /// Makes an edit whose memory is taken. It takes none where nothing was made since the edit was prepared; else an out of memory
+    /// leaves the store as it was.
+    pub(crate) fn put(&mut self, edit: Ready<'_, A>) -> Result<(), AllocError>
+        ensures ok { OnOk result (self.new ≡ changed self.old (ready_edit edit.entry)) }
         ensures err { OnErr result (self.new ≡ self.old) }
     {
         match edit {
-            Admitted::Install { entry, module } => self.entries.put(alloc, entry, module),
-            Admitted::Remove { name, priority } => {
+            Ready::Install(entry) => self.entries.put(entry),
+            Ready::Remove { name, priority } => {
                 self.entries.remove(name, priority);
                 if !self.entries.is_installed(name) {
                     self.disabled.remove(name);
                 }
                 Ok(())
             }
-            Admitted::Enable { name } => {
+            Ready::Enable { name } => {
                 self.disabled.remove(name);
                 Ok(())
             }
-            Admitted::Disable { name } => self.disabled.insert(alloc, name),
+            Ready::Disable(name) => self.disabled.insert(name),
         }
+    }
+
+    /// Makes an edit that was admitted. An out of memory leaves the store as it was.
+    pub(crate) fn make(&mut self, alloc: A, edit: Admitted<'_, A>) -> Result<(), AllocError>
+        requires { IsAdmitted edit }
+        ensures ok { OnOk result (self.new ≡ changed self.old (admitted_edit edit.entry)) }
+        ensures err { OnErr result (self.new ≡ self.old) }
+    {
+        let ready = self.prepare(alloc, edit)?;
+        self.put(ready)
     }
 }
 

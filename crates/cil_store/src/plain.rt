@@ -20,12 +20,11 @@ use crate::dropped::Dropped;
 use crate::edit::Edit;
 use crate::entry::Entry;
 use crate::install::install_all;
-use crate::join::join;
 use crate::modules::Store;
 use crate::policy::Policy;
 use crate::refusal::Refusal;
-use crate::refusing::refuse_policy;
-use cil_resolve::{Resolved, resolve};
+use crate::resolving::resolve_after;
+use cil_resolve::Resolved;
 use cil_rules::{Atom, Changes, Rows, Table};
 use cil_stream::Sink;
 use cil_violations::Violations;
@@ -66,11 +65,7 @@ fn compile<A: Allocator + Copy>(
     ensures ok { IfOk result (λ made. IsCompiledTo (changed store.now (admitted_edit edit.now)) (Some made.policy) made.table made.dropped) }
     ensures err { IfErr result (λ refusal. IsRefusedPolicy store.now (admitted_edit edit.now) (refusal_of refusal)) }
 {
-    let joined = join(alloc, store, edit)?;
-    let resolved = match resolve(alloc, &joined) {
-        Ok(resolved) => resolved,
-        Err(fault) => return Err(refuse_policy(alloc, fault)),
-    };
+    let resolved = resolve_after(alloc, store, edit)?;
     let made = tabulate(alloc, resolved)?;
     Ok(made)
 }

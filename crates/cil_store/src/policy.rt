@@ -14,7 +14,8 @@ ghost use Rattle.cil_tables.specs.Tables.{AreTables};
 
 use crate::compiled::WriteFault;
 use crate::dropped::Dropped;
-use cil_resolve::{Resolved, join, resolve};
+use crate::resolving::resolve_nothing;
+use cil_resolve::Resolved;
 use cil_rules::{Atom, Table, count};
 use cil_sets::Members;
 use cil_stream::Sink;
@@ -52,11 +53,8 @@ impl<A: Allocator + Copy> Policy<A> {
     pub fn empty(alloc: A) -> Result<Self, AllocError>
         ensures { IfOk result (λ policy. meaning_in (rc_value policy.resolved) ≡ meaning_of [] []) }
     {
-        let joined = join(Vec::new(alloc));
-        match resolve(alloc, &joined) {
-            Ok(resolved) => Policy::of(alloc, resolved),
-            Err(_) => Err(AllocError),
-        }
+        let resolved = resolve_nothing(alloc)?;
+        Policy::of(alloc, resolved)
     }
 
     /// The accesses that its rules give.

@@ -1,30 +1,11 @@
-use Rattle.std.proofs.Common.{Some}
 use Rattle.cil_resolve.specs.Resolved.{meaning_in}
 use Rattle.cil_store_specs.specs.Next.{changed}
-use Rattle.cil_store_specs.specs.Store.{active}
 use Rattle.cil_store.specs.Admitted.{admitted_edit}
-use Rattle.cil_store.specs.Edits.{refusal_of}
-use Rattle.cil_store.proofs.ParsedLemmas.{kept-modules}
-use Rattle.cil_store.proofs.StepLemmas.{policy-refused}
 use Rattle.cil_store.proofs.PlainLemmas.{compiled-to}
 use Rattle.cil_store.proofs.plain.compile.Goals as goal
-
-pub resolve-requires : goal.resolve-requires
-resolve-requires g c =
-    let after = changed c.args.store.now (admitted_edit c.args.edit.now) in
-    let kept = kept-modules (active after) c.in_ok-joined.joined.modules.items c.in_ok-joined.ensures in
-    (kept.0, kept.1)
-
-pub returns-in-Err-clause-err : goal.returns-in-Err-clause-err
-returns-in-Err-clause-err g c =
-    let edit = admitted_edit c.args.edit.now in
-    let store = c.args.store.now in
-    let kept = kept-modules (active (changed store edit)) c.in_ok-joined.joined.modules.items c.in_ok-joined.ensures in
-    policy-refused c.in-Err.fault (refusal_of c.refuse_policy.result) store edit kept.0 kept.2 (c.in-Err.ensures.err kept.0 kept.1) c.refuse_policy.ensures
 
 pub returns-clause-ok : goal.returns-clause-ok
 returns-clause-ok g c =
     let made = c.in_ok-made.made in
-    let after = changed c.args.store.now (admitted_edit c.args.edit.now) in
-    let kept = kept-modules (active after) c.in_ok-joined.joined.modules.items c.in_ok-joined.ensures in
-    compiled-to after made.table made.dropped kept.0 (meaning_in c.in-Ok.resolved) made.policy kept.2 (c.in-Ok.ensures.meaning kept.0 kept.1) c.in_ok-made.ensures.policy c.in_ok-made.ensures.table c.in_ok-made.ensures.dropped
+    compiled-to (changed c.args.store.now (admitted_edit c.args.edit.now)) made.table made.dropped (meaning_in c.in_ok-resolved.resolved) made.policy c.in_ok-resolved.ensures.ok c.in_ok-made.ensures.policy c.in_ok-made.ensures.table
+    c.in_ok-made.ensures.dropped

@@ -1,18 +1,17 @@
-use Rattle.std.proofs.Common.{sym, subst, not, bytes_eq}
+use Rattle.std.proofs.Common.{sym, subst, ℕ, List, not, bytes_eq}
 use Rattle.std.specs.List.Sorted.{IsStrictlySortedBy}
 use Rattle.std.proofs.lemmas.Cmp.{nat_list_cmp_total}
 use Rattle.std.proofs.lemmas.List.Kept.{IsStrictlySortedBy-filter}
 use Rattle.cil_specs.specs.Report.{name_cmp}
-use Rattle.cil_store_specs.specs.Store.{entry_cmp, is_entry, put, put_name}
+use Rattle.cil_store_specs.specs.Store.{Entry, entry_cmp, is_entry, put, put_name}
 use Rattle.cil_store_specs.proofs.PutLemmas.{put-ordered}
 use Rattle.cil_store_specs.proofs.StoreOrder.{entry_total}
-use Rattle.cil_store.specs.Stored.{entry_of}
 use Rattle.cil_store.proofs.EntryLemmas.{made-or-not}
-use Rattle.cil_store.proofs.modules.Store.make.Goals as goal
+use Rattle.cil_store.proofs.modules.Store.put.Goals as goal
 
 pub invariant_of-self : goal.invariant_of-self
 invariant_of-self g c =
-    let e = entry_of c.in-Install.entry in
+    let e : Entry = c.in-Install.entry in
     record {
       entries = made-or-not (IsStrictlySortedBy entry_cmp) c.put.result c.put.new.self (put e c.self.inside.entries) c.self.inside.entries c.put.ensures.ok c.put.ensures.err
           (put-ordered entry_cmp entry_total e c.self.inside.entries c.self.invariant.entries) c.self.invariant.entries;
@@ -45,7 +44,7 @@ invariant_of-self-in-Enable g c =
 
 pub invariant_of-self-in-Disable : goal.invariant_of-self-in-Disable
 invariant_of-self-in-Disable g c =
-    let name = c.in-Disable.name.now in
+    let name : List ℕ = c.in-Disable.name in
     record {
       entries = c.self.invariant.entries;
       disabled = made-or-not (IsStrictlySortedBy name_cmp) c.insert.result c.insert.new.self (put_name name c.self.inside.disabled) c.self.inside.disabled c.insert.ensures.ok c.insert.ensures.err

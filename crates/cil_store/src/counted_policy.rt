@@ -1,0 +1,158 @@
+//! A policy with its counters, changed in place.
+
+ghost use Rattle.std.specs.Prelude.{◌≡◌, [], IfOk, OnErr, OnOk};
+ghost use Rattle.std.specs.Rc.{rc_value};
+ghost use Rattle.cil_specs.specs.Meaning.{count_of, is_in_table, meaning_of};
+ghost use Rattle.cil_specs.specs.Members.{is_member};
+ghost use Rattle.cil_specs.specs.Report.{AreAtoms, AreChanges};
+ghost use Rattle.cil_specs.specs.Violations.{AreViolations};
+ghost use Rattle.cil_resolve.specs.Resolved.{meaning_in};
+ghost use Rattle.cil_rules.specs.Atoms.{atom_of};
+ghost use Rattle.cil_store_specs.specs.Next.{changed};
+ghost use Rattle.cil_store.specs.Counted.{counted_meaning, IsKept};
+ghost use Rattle.cil_store.specs.Ready.{ready_edit};
+
+use crate::dropped::Dropped;
+use crate::modules::Store;
+use crate::ready::Ready;
+use crate::resolving::resolve_nothing;
+use cil_counters::{Counters, counters_tell_accesses, counters_tell_members};
+use cil_resolve::{Meter, Resolved, resolved_sets_are_in_order};
+use cil_rules::{Atom, Changes, Table};
+use cil_sets::Members;
+use cil_tables::Tables;
+use cil_violations::Violations;
+use std::alloc::{AllocError, Allocator, Global};
+use std::rc::Rc;
+
+/// A policy that a counted one is brought to: resolved, with the optionals that drop.
+#[derive(Drop)]
+pub struct NextPolicy<A: Allocator = Global> {
+    pub resolved: Rc<Resolved<A>, A>,
+    pub dropped: Dropped<A>,
+    ghost are_dropped: { dropped ≡ (meaning_in (rc_value resolved)).dropped },
+}
+
+impl<A: Allocator + Copy> NextPolicy<A> {
+    /// A resolved policy with the optionals that drop.
+    pub fn of(alloc: A, resolved: Resolved<A>) -> Result<Self, AllocError>
+        ensures { IfOk result (λ next. rc_value next.resolved ≡ resolved) }
+    {
+        let dropped = Dropped::of(alloc, &resolved)?;
+        let resolved = Rc::new(alloc, resolved)?;
+        Ok(NextPolicy { resolved, dropped })
+    }
+}
+
+/// A resolved policy, the optionals that drop, and its counters: for each attribute and type how many set statements make the one a
+/// member of the other, and for each access how many rules give it.
+#[derive(Drop)]
+pub struct CountedPolicy<A: Allocator = Global> {
+    resolved: Rc<Resolved<A>, A>,
+    dropped: Dropped<A>,
+    counters: Counters<A>,
+}
+
+impl<A: Allocator + Copy> CountedPolicy<A> {
+    /// The policy of no statement.
+    pub fn empty(alloc: A) -> Result<Self, AllocError>
+        ensures kept { IfOk result IsKept }
+        ensures meaning { IfOk result (λ policy. counted_meaning policy ≡ meaning_of [] []) }
+    {
+        let next = NextPolicy::of(alloc, resolve_nothing(alloc)?)?;
+        resolved_sets_are_in_order(&next.resolved);
+        let counters = Counters::none(alloc, &next.resolved)?;
+        Ok(CountedPolicy {
+            resolved: next.resolved,
+            dropped: next.dropped,
+            counters,
+        })
+    }
+
+    /// Brings the counters to those of another policy, makes the edit that leads to it, and puts that policy in place of this one. All
+    /// other memory that this needs is taken before, so that an out of memory comes of the counters alone. It leaves all as it was.
+    pub fn replace(
+        &mut self,
+        alloc: A,
+        store: &mut Store<A>,
+        edit: Ready<'_, A>,
+        next: NextPolicy<A>,
+        meter: &mut Meter,
+    ) -> Result<Changes<A>, AllocError>
+        requires { IsKept self.old }
+        ensures kept { IsKept self.new }
+        ensures changes { IfOk result (AreChanges (is_in_table (counted_meaning self.old)) (is_in_table (meaning_in (rc_value next.resolved)))) }
+        ensures store { OnOk result (store.new ≡ changed store.old (ready_edit edit.entry)) }
+        ensures meaning { OnOk result (counted_meaning self.new ≡ meaning_in (rc_value next.resolved)) }
+        ensures err_store { OnErr result (store.new ≡ store.old) }
+        ensures err_meaning { OnErr result (counted_meaning self.new ≡ counted_meaning self.old) }
+    {
+        let updated = self
+            .counters
+            .update(alloc, &self.resolved, &next.resolved, meter);
+        let Ok(changes) = updated else {
+            self.counters.undo();
+            return Err(AllocError);
+        };
+        if store.put(edit).is_err() {
+            self.counters.undo();
+            return Err(AllocError);
+        }
+        self.counters.settle();
+        self.resolved = next.resolved;
+        self.dropped = next.dropped;
+        Ok(changes)
+    }
+
+    /// The accesses that its rules give.
+    pub fn table(&self, alloc: A) -> Result<Table<A>, AllocError>
+        ensures { IfOk result (λ table. AreAtoms (is_in_table (counted_meaning self.now)) table) }
+    {
+        let members = Members::plain(alloc, &self.resolved)?;
+        let tables = Tables::plain(alloc, &self.resolved, &members)?;
+        Table::of(alloc, &self.resolved, &tables)
+    }
+
+    /// The optionals that drop.
+    pub fn dropped(&self, alloc: A) -> Result<Dropped<A>, AllocError>
+        requires { IsKept self.now }
+        ensures { IfOk result (λ dropped. dropped ≡ (counted_meaning self.now).dropped) }
+    {
+        self.dropped.copied(alloc)
+    }
+
+    /// Its violations.
+    pub fn violations(&self, alloc: A) -> Result<Violations<A>, AllocError>
+        ensures { IfOk result (AreViolations (counted_meaning self.now)) }
+    {
+        let members = Members::plain(alloc, &self.resolved)?;
+        Violations::of(alloc, &self.resolved, &members)
+    }
+}
+
+impl<A: Allocator> CountedPolicy<A> {
+    /// Whether a type is a member of an attribute, by full names. It takes no memory.
+    pub fn has(&self, attribute: &[u8], ty: &[u8]) -> bool
+        requires { IsKept self.now }
+        ensures { result ≡ is_member (counted_meaning self.now) attribute.now ty.now }
+    {
+        counters_tell_members(&self.resolved, &self.counters);
+        self.counters.has(attribute, ty)
+    }
+
+    /// How many of its rules give an access. It takes no memory.
+    pub fn count(&self, access: &Atom<'_>) -> u64
+        requires { IsKept self.now }
+        ensures { result ≡ count_of (counted_meaning self.now) (atom_of access.now) }
+    {
+        counters_tell_accesses(&self.resolved, &self.counters);
+        self.resolved.rules_len();
+        self.counters.count(
+            access.kind,
+            access.source,
+            access.target,
+            access.class,
+            access.permission,
+        )
+    }
+}

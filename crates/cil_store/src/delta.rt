@@ -1,0 +1,180 @@
+//! The engine that changes its counters in place.
+
+ghost use Rattle.std.specs.Prelude.{◌≡◌, ◌⊎◌, IfErr, IfOk, OnErr, OnOk};
+ghost use Rattle.std.specs.Rc.{rc_value};
+ghost use Rattle.cil_specs.specs.Meaning.{Meaning, is_in_table};
+ghost use Rattle.cil_specs.specs.Report.{AreAtoms, AreChanges};
+ghost use Rattle.cil_resolve.specs.Meter.{adjustments_in, evaluations_in};
+ghost use Rattle.cil_resolve.specs.Resolved.{meaning_in};
+ghost use Rattle.cil_store_specs.specs.Next.{IsMeaningOf, changed, for_memory};
+ghost use Rattle.cil_store_specs.specs.Run.{an_edit, Step};
+ghost use Rattle.cil_store_specs.specs.Store.{empty};
+ghost use Rattle.cil_store.specs.Calls.{edit_reply};
+ghost use Rattle.cil_store.specs.Counted.{meaning_kept, IsCountedTo};
+ghost use Rattle.cil_store.specs.Edits.{edit_of, refusal_of};
+ghost use Rattle.cil_store.specs.Ready.{ready_edit};
+
+use crate::admitted::admit;
+use crate::compiled::{Compiled, WriteFault};
+use crate::counted_policy::{CountedPolicy, NextPolicy};
+use crate::dropped::Dropped;
+use crate::edit::Edit;
+use crate::modules::Store;
+use crate::ready::Ready;
+use crate::refusal::Refusal;
+use crate::resolving::resolve_after;
+use cil_resolve::Meter;
+use cil_rules::{Atom, Changes, Rows, Table};
+use cil_stream::Sink;
+use cil_violations::Violations;
+use std::alloc::{AllocError, Allocator, Global};
+use std::marker::Model;
+
+/// A store with the policy that it compiles to and that policy's counters, which an edit brings to those of the next policy. A new
+/// store has no policy yet. At an edit the text that it brings is parsed, and the modules of the changed store are bound and judged
+/// anew; the counters move where the two policies differ. The listing and the violations are worked out when they are asked.
+#[derive(Drop)]
+pub struct Delta<A: Allocator = Global> {
+    alloc: A,
+    store: Store<A>,
+    policy: Option<CountedPolicy<A>>,
+}
+
+impl<A: Allocator> Model for Delta<A> {
+    ghost use Rattle.cil_store_specs.specs.Store.{Store};
+    ghost use Rattle.cil_store.specs.Counted.{IsCountedTo};
+
+    ghost Value = { Store };
+
+    ghost view = { λ d. d.store };
+
+    ghost invariant = { λ d. IsCountedTo d.store d.policy };
+}
+
+impl<A: Allocator + Copy> Delta<A> {
+    /// An engine of an empty store. It takes no memory.
+    pub fn new(alloc: A) -> Self
+        ensures { result ≡ empty }
+    {
+        Delta {
+            alloc,
+            store: Store::new(alloc),
+            policy: None,
+        }
+    }
+
+    /// Makes an edit whose policy is known.
+    fn replace(
+        &mut self,
+        edit: Ready<'_, A>,
+        next: NextPolicy<A>,
+        meter: &mut Meter,
+    ) -> Result<Changes<A>, AllocError>
+        requires { IsMeaningOf (changed self.old (ready_edit edit)) (meaning_in (rc_value next.resolved)) }
+        ensures ok { OnOk result (self.new ≡ changed self.old (ready_edit edit.entry)) }
+        ensures changes { IfOk result (λ changes. (old new : Meaning) → IsMeaningOf self.old old → IsMeaningOf self.new new → AreChanges (is_in_table old) (is_in_table new) changes) }
+        ensures err { OnErr result (self.new ≡ self.old) }
+    {
+        let mut policy = match self.policy.take() {
+            Some(policy) => policy,
+            None => CountedPolicy::empty(self.alloc)?,
+        };
+        let changes = policy.replace(self.alloc, &mut self.store, edit, next, meter);
+        self.policy = Some(policy);
+        changes
+    }
+
+    /// `edit`, which counts in a meter how often set statements are evaluated and counters of accesses adjusted.
+    pub fn edit_metered(
+        &mut self,
+        edit: Edit<'_>,
+        meter: &mut Meter,
+    ) -> Result<Changes<A>, Refusal<A>>
+        ensures step { Step self.old (an_edit (edit_of edit.entry)) (edit_reply result) self.new }
+        ensures uncounted { IfErr result (λ refusal. (refusal_of refusal ≡ for_memory) ⊎ ((evaluations_in meter.new ≡ evaluations_in meter.old) × (adjustments_in meter.new ≡ adjustments_in meter.old))) }
+    {
+        let admitted = admit(self.alloc, &self.store, edit)?;
+        let resolved = resolve_after(self.alloc, &self.store, &admitted)?;
+        let next = NextPolicy::of(self.alloc, resolved)?;
+        let ready = self.store.prepare(self.alloc, admitted)?;
+        let changes = self.replace(ready, next, meter)?;
+        Ok(changes)
+    }
+
+    /// The accesses that the store allows.
+    fn table(&self) -> Result<Table<A>, AllocError>
+        ensures { IfOk result (λ table. (meaning : Meaning) → IsMeaningOf self.now meaning → AreAtoms (is_in_table meaning) table) }
+    {
+        match &self.policy {
+            Some(policy) => policy.table(self.alloc),
+            None => Ok(Table::empty(self.alloc)),
+        }
+    }
+}
+
+impl<A: Allocator + Copy> Compiled<A> for Delta<A> {
+    ghost store = { λ d. d };
+
+    fn store(&self) -> &Store<A> {
+        &self.store
+    }
+
+    fn has(&self, attribute: &[u8], ty: &[u8]) -> bool {
+        match &self.policy {
+            Some(policy) => policy.has(attribute, ty),
+            None => false,
+        }
+    }
+
+    fn count(&self, access: &Atom<'_>) -> u64 {
+        match &self.policy {
+            Some(policy) => policy.count(access),
+            None => 0,
+        }
+    }
+
+    fn edit(&mut self, edit: Edit<'_>) -> Result<Changes<A>, Refusal<A>> {
+        self.edit_metered(edit, &mut Meter::new())
+    }
+
+    fn rows(&self) -> Result<Rows<A>, AllocError> {
+        self.table()?.rows(self.alloc)
+    }
+
+    fn violations(&self) -> Result<Violations<A>, AllocError> {
+        match &self.policy {
+            Some(policy) => policy.violations(self.alloc),
+            None => CountedPolicy::empty(self.alloc)?.violations(self.alloc),
+        }
+    }
+
+    fn dropped(&self) -> Result<Dropped<A>, AllocError> {
+        match &self.policy {
+            Some(policy) => policy.dropped(self.alloc),
+            None => Ok(Dropped::empty(self.alloc)),
+        }
+    }
+
+    fn write_listing<W: Sink>(&self, sink: &mut W) -> Result<u128, WriteFault> {
+        let Ok(table) = self.table() else {
+            return Err(WriteFault::Memory);
+        };
+        match table.write_listing(sink) {
+            Ok(rows) => Ok(rows),
+            Err(_) => Err(WriteFault::Sink),
+        }
+    }
+
+    fn write_violations<W: Sink>(&self, sink: &mut W) -> Result<usize, WriteFault> {
+        let Some(policy) = &self.policy else {
+            return Ok(0);
+        };
+        let Ok(violations) = policy.violations(self.alloc) else {
+            return Err(WriteFault::Memory);
+        };
+        match violations.write(sink) {
+            Ok(rows) => Ok(rows),
+            Err(_) => Err(WriteFault::Sink),
+        }
+    }
+}
