@@ -5,7 +5,7 @@ ghost use Rattle.std.specs.Int.{bit_at};
 ghost use Rattle.std.specs.List.{All};
 ghost use Rattle.std.specs.List.Sorted.{IsStrictlyIncreasing};
 ghost use Rattle.cil_accesses.specs.Chunks.{IsAccessOf, IsGiven};
-ghost use Rattle.cil_accesses.specs.Renumbered.{IsMoved, IsTarget, IsWithin, IsRenumbered, IsRenumberedAt, IsRenumberedIn, MovesUp};
+ghost use Rattle.cil_accesses.specs.Renumbered.{IsTarget, IsWithin, IsRenumbered, IsRenumberedIn, MovesUp};
 
 use crate::chunk::Chunk;
 use crate::moving::{common_move, moved_up, rising_move};
@@ -41,7 +41,8 @@ fn push_chunk<A: Allocator>(chunks: &mut Vec<Chunk, A>, chunk: Chunk) -> Result<
     Ok(())
 }
 
-/// Adds the accesses of a chunk bit by bit, with the numbers at the places of their own.
+/// Adds the accesses of a chunk bit by bit, with the numbers at the places of their own. Those that come to one word in turn are put
+/// together before they are added, since a look at the last chunk for each takes longer.
 fn push_bits<A: Allocator>(
     made: &mut Vec<Chunk, A>,
     chunk: &Chunk,
@@ -53,12 +54,24 @@ fn push_bits<A: Allocator>(
     ensures words { OnOk result (All (λ c. c.word < 2 ^ 26) made.new.items) }
     ensures same { OnOk result ((a : _) → IsGiven made.new.items a ↔ (IsGiven made.old.items a ⊎ IsRenumbered numbers.now chunk.now 64 a)) }
 {
-    let mut from = 0;
+    let Some(first) = chunk.next_bit(0) else {
+        return Ok(());
+    };
+    let mut held = Chunk::of(chunk.access(first).renumbered(numbers));
+    let mut from = first + 1;
     while let Some(bit) = chunk.next_bit(from) {
-        push_chunk(made, Chunk::of(chunk.access(bit).renumbered(numbers)))?;
+        let target = numbers[(64 * chunk.word + bit) as usize];
+        let word = target / 64;
+        let bits = 1 << (target % 64);
+        if word == held.word {
+            held.bits |= bits;
+        } else {
+            push_chunk(made, held)?;
+            held = Chunk { word, bits, ..held };
+        }
         from = bit + 1;
     }
-    Ok(())
+    push_chunk(made, held)
 }
 
 /// Adds the accesses of a chunk, with the numbers at the places of their own, whose targets are those of a word's bits then.
