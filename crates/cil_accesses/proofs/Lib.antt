@@ -14,3 +14,4 @@ pub mod Walk
 pub mod Places
 pub mod RowPlaces
 pub mod Moves
+pub mod NextBits

@@ -1,5 +1,5 @@
 -- The accesses of chunks in order.
-use Rattle.std.specs.Prelude.{zero, suc, ℕ, ◌+◌, ◌-◌, ◌*◌, ◌<◌, ◌^◌, ◌==◌, Bool, List, [], ◌++◌, map, filter, flat_map}
+use Rattle.std.specs.Prelude.{◌≡◌, zero, suc, ℕ, ◌+◌, ◌-◌, ◌*◌, ◌<◌, ◌≤◌, ◌^◌, ◌==◌, Bool, true, false, List, [], ◌++◌, map, filter, flat_map}
 use Rattle.std.specs.Int.{bit_at}
 use Rattle.std.specs.List.{All}
 use Rattle.std.specs.List.Sorted.{IsStrictlySortedBy}
@@ -21,7 +21,18 @@ runs_of chunks = groups_of in_run chunks
 abbrev pub has_bit : ℕ → Chunk → Bool
 has_bit b c = bit_at c.bits b == 1
 
--- and that access
+-- the first bit from one on to whose target it has the access
+pub record IsNextBit (c : Chunk) (from bit : ℕ) : Type 0 where
+  pub from_on : from ≤ bit
+  pub within : bit < 64
+  pub set : has_bit bit c ≡ true
+  pub first : (b : ℕ) → from ≤ b → b < bit → has_bit b c ≡ false
+
+-- it has no access to the target of a bit from one on
+abbrev pub NoBitFrom : Chunk → ℕ → Type 0
+NoBitFrom c from = (b : ℕ) → from ≤ b → b < 64 → has_bit b c ≡ false
+
+-- the access to the target of a bit
 abbrev pub access_at : ℕ → Chunk → AccessNumbers
 access_at b c = record { kind = c.kind; source = c.source; target = 64 * c.word + b; class = c.class; permission = c.permission }
 

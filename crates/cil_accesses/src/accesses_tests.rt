@@ -2,12 +2,15 @@
 
 ghost use Rattle.std.specs.List.{All};
 ghost use Rattle.std.specs.List.Sorted.{IsStrictlyIncreasing};
+ghost use Rattle.cil_accesses.specs.Chunks.{IsAccessOf};
 ghost use Rattle.cil_accesses.specs.Renumbered.{IsWithin};
+ghost use Rattle.cil_accesses.specs.declared.access.AccessNumbers.{AccessNumbers};
 
 use crate::access::AccessNumbers;
 use crate::accesses::Accesses;
 use crate::chunk::Chunk;
 use crate::difference::Difference;
+use crate::renumber::push_renumbered;
 use crate::rows::AccessRow;
 use cil_text::RuleKind;
 use std::alloc::Global;
@@ -407,4 +410,70 @@ fn targets_that_stay_in_their_word(rt: HostRuntime) {
         let found = new.get(bit as usize) == Some(allowed(1, bit, 1, 1));
         assert!(&rt; found);
     }
+}
+
+// Asserts that the numbers of all accesses that a chunk may have are low enough.
+fn assert_low_chunk(rt: &impl Abort, chunk: &Chunk, len: usize)
+    ensures { (a : AccessNumbers) → IsAccessOf chunk.now a → IsWithin len a }
+{
+    assert!(rt; (chunk.source as usize) < len);
+    assert!(rt; 64 * (chunk.word as usize) + 63 < len);
+    assert!(rt; (chunk.class as usize) < len);
+    assert!(rt; (chunk.permission as usize) < len);
+}
+
+// The accesses of chunks with the numbers at the places of their own, which come in any order.
+fn pushed(rt: &impl Abort, alloc: Global, chunks: &[Chunk], numbers: &[u32]) -> Accesses {
+    let mut all = Vec::new(alloc);
+    for chunk in chunks {
+        assert!(rt; chunk.word < 1 << 26);
+        assert_low_chunk(rt, chunk, numbers.len());
+        push_renumbered(&mut all, chunk, numbers).expect(rt, "memory");
+    }
+    Accesses::of(all)
+}
+
+#[test]
+fn numbers_the_other_way_round(rt: HostRuntime) {
+    let alloc = rt.alloc();
+    let falling = numbers(&rt, alloc, 128, 127, u32::MAX);
+    let chunks = [
+        chunk(1, 0, 2, 3, 1 << 63 | 0b11),
+        chunk(1, 1, 2, 3, 1),
+        chunk(1, 1, 2, 4, 0),
+    ];
+    assert_listed(
+        &rt,
+        &pushed(&rt, alloc, &chunks, &falling),
+        &[
+            allowed(126, 63, 125, 124),
+            allowed(126, 64, 125, 124),
+            allowed(126, 126, 125, 124),
+            allowed(126, 127, 125, 124),
+        ],
+    );
+}
+
+#[test]
+fn one_target_that_moves_down(rt: HostRuntime) {
+    let alloc = rt.alloc();
+    let mut one_down = numbers(&rt, alloc, 5, 64, 1);
+    for number in [3, 70, 71] {
+        one_down.push(number).expect(&rt, "memory");
+    }
+    for number in 72..128 {
+        one_down.push(number).expect(&rt, "memory");
+    }
+    let chunks = [chunk(1, 0, 2, 3, 0b10_1001), chunk(1, 0, 2, 4, 0b00_1001)];
+    assert_listed(
+        &rt,
+        &pushed(&rt, alloc, &chunks, &one_down),
+        &[
+            allowed(65, 3, 66, 67),
+            allowed(65, 64, 66, 67),
+            allowed(65, 64, 66, 68),
+            allowed(65, 67, 66, 67),
+            allowed(65, 67, 66, 68),
+        ],
+    );
 }

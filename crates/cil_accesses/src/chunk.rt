@@ -1,9 +1,9 @@
 //! Accesses to the targets of one word.
 
-ghost use Rattle.std.specs.Prelude.{◌≡◌, ◌<◌, ◌≤◌, ◌^◌, ◌↔◌};
+ghost use Rattle.std.specs.Prelude.{◌≡◌, ◌<◌, ◌≤◌, ◌^◌, ◌↔◌, MatchOption};
 ghost use Rattle.cil_accesses.specs.Chunks.{chunk_cmp, ones_of, IsAccessOf};
 ghost use Rattle.cil_accesses.specs.Merged.{of_one_key, taking_up};
-ghost use Rattle.cil_accesses.specs.View.{access_at, has_bit, in_run};
+ghost use Rattle.cil_accesses.specs.View.{access_at, has_bit, in_run, IsNextBit, NoBitFrom};
 
 use crate::access::AccessNumbers;
 use cil_text::RuleKind;
@@ -87,6 +87,20 @@ impl Chunk {
         ensures { result ≡ has_bit bit self.now }
     {
         (self.bits >> bit) & 1 == 1
+    }
+
+    /// The first bit from one on to whose target it has the access.
+    pub(super) fn next_bit(&self, from: u32) -> Option<u32>
+        ensures { MatchOption result (NoBitFrom self.now from) (IsNextBit self.now from) }
+    {
+        if from >= 64 {
+            return None;
+        }
+        let bits = self.bits >> from;
+        if bits == 0 {
+            return None;
+        }
+        Some(from + bits.trailing_zeros())
     }
 
     /// The access to the target of a bit.

@@ -5,10 +5,10 @@ ghost use Rattle.std.specs.Int.{bit_at};
 ghost use Rattle.std.specs.List.{All};
 ghost use Rattle.std.specs.List.Sorted.{IsStrictlyIncreasing};
 ghost use Rattle.cil_accesses.specs.Chunks.{IsAccessOf, IsGiven};
-ghost use Rattle.cil_accesses.specs.Renumbered.{IsMoved, IsTarget, IsWithin, IsRenumbered, IsRenumberedAt, IsRenumberedIn, MovesUp};
+ghost use Rattle.cil_accesses.specs.Renumbered.{IsTarget, IsWithin, IsRenumbered, IsRenumberedIn, MovesUp};
 
-use crate::access::AccessNumbers;
 use crate::chunk::Chunk;
+use crate::moving::{common_move, moved_up, rising_move};
 use std::alloc::{AllocError, Allocator};
 
 /// Adds the accesses of a chunk to the last one, where both are of one kind, source, word, class and permission, and says whether it
@@ -41,27 +41,8 @@ fn push_chunk<A: Allocator>(chunks: &mut Vec<Chunk, A>, chunk: Chunk) -> Result<
     Ok(())
 }
 
-/// Adds the access of a chunk to the target of a bit, if that is set, with the numbers at the places of its own.
-fn push_bit<A: Allocator>(
-    made: &mut Vec<Chunk, A>,
-    chunk: &Chunk,
-    bit: u32,
-    numbers: &[u32],
-) -> Result<(), AllocError>
-    requires bit { bit < 64 }
-    requires within { (a : _) → IsAccessOf chunk.now a → IsWithin (length numbers.now) a }
-    requires word { chunk.now.word < 2 ^ 26 }
-    requires words { All (λ c. c.word < 2 ^ 26) made.old.items }
-    ensures words { OnOk result (All (λ c. c.word < 2 ^ 26) made.new.items) }
-    ensures same { OnOk result ((a : _) → IsGiven made.new.items a ↔ (IsGiven made.old.items a ⊎ IsRenumberedAt numbers.now chunk.now bit a)) }
-{
-    if chunk.has_bit(bit) {
-        push_chunk(made, Chunk::of(chunk.access(bit).renumbered(numbers)))?;
-    }
-    Ok(())
-}
-
-/// Adds the accesses of a chunk bit by bit, with the numbers at the places of their own.
+/// Adds the accesses of a chunk bit by bit, with the numbers at the places of their own. Those that come to one word in turn are put
+/// together before they are added, since a look at the last chunk for each takes longer.
 fn push_bits<A: Allocator>(
     made: &mut Vec<Chunk, A>,
     chunk: &Chunk,
@@ -73,22 +54,24 @@ fn push_bits<A: Allocator>(
     ensures words { OnOk result (All (λ c. c.word < 2 ^ 26) made.new.items) }
     ensures same { OnOk result ((a : _) → IsGiven made.new.items a ↔ (IsGiven made.old.items a ⊎ IsRenumbered numbers.now chunk.now 64 a)) }
 {
-    for bit in 0..64 {
-        push_bit(made, chunk, bit, numbers)?;
+    let Some(first) = chunk.next_bit(0) else {
+        return Ok(());
+    };
+    let mut held = Chunk::of(chunk.access(first).renumbered(numbers));
+    let mut from = first + 1;
+    while let Some(bit) = chunk.next_bit(from) {
+        let target = numbers[(64 * chunk.word + bit) as usize];
+        let word = target / 64;
+        let bits = 1 << (target % 64);
+        if word == held.word {
+            held.bits |= bits;
+        } else {
+            push_chunk(made, held)?;
+            held = Chunk { word, bits, ..held };
+        }
+        from = bit + 1;
     }
-    Ok(())
-}
-
-/// The bits of a word so many places higher: those that stay in it, and those that come to the next one.
-fn moved_up(bits: u64, up: u32) -> (u64, u64)
-    requires { up < 64 }
-    ensures low { (j : _) → j < 64 → (bit_at result.0 j ≡ 1) ↔ IsMoved bits up j }
-    ensures high { (j : _) → (bit_at result.1 j ≡ 1) ↔ IsMoved bits up (64 + j) }
-{
-    if up == 0 {
-        return (bits, 0);
-    }
-    (bits << up, bits >> (64 - up))
+    push_chunk(made, held)
 }
 
 /// Adds the accesses of a chunk, with the numbers at the places of their own, whose targets are those of a word's bits then.
@@ -139,28 +122,45 @@ fn push_moved<A: Allocator>(
     push_word(made, chunk, numbers, word + 1, high)
 }
 
-/// By how much the targets of a chunk move up, where it's as much for all: numbers rise, so for all if for the first and the last.
-fn move_of(chunk: &Chunk, numbers: &[u32]) -> Option<u32>
+/// Adds the accesses of a chunk, with the numbers at the places of their own, where it's known by how much all targets move up, or
+/// where that is left open.
+fn push_by<A: Allocator>(
+    made: &mut Vec<Chunk, A>,
+    chunk: &Chunk,
+    numbers: &[u32],
+    up: Option<u32>,
+) -> Result<(), AllocError>
     requires within { (a : _) → IsAccessOf chunk.now a → IsWithin (length numbers.now) a }
     requires word { chunk.now.word < 2 ^ 26 }
-    requires rising { IsStrictlyIncreasing numbers.now }
-    ensures { IfSome result (λ up. MovesUp numbers.now chunk.now up) }
+    requires words { All (λ c. c.word < 2 ^ 26) made.old.items }
+    requires up { IfSome up (λ u. MovesUp numbers.now chunk.now u) }
+    ensures words { OnOk result (All (λ c. c.word < 2 ^ 26) made.new.items) }
+    ensures same { OnOk result ((a : _) → IsGiven made.new.items a ↔ (IsGiven made.old.items a ⊎ IsRenumbered numbers.now chunk.now 64 a)) }
 {
-    let bits = chunk.bits;
-    if bits == 0 {
-        return Some(0);
+    match up {
+        Some(up) => push_moved(made, chunk, numbers, up),
+        None => push_bits(made, chunk, numbers),
     }
-    let first = 64 * chunk.word + bits.trailing_zeros();
-    let last = 64 * chunk.word + (63 - bits.leading_zeros());
-    let up = numbers[first as usize] - first;
-    if numbers[last as usize] - last != up {
-        return None;
-    }
-    Some(up)
 }
 
-/// Adds the accesses of a chunk, with the numbers at the places of their own.
-fn push_renumbered<A: Allocator>(
+/// Adds the accesses of a chunk, with the numbers at the places of their own, in any order. It takes them up into the last chunk
+/// where they are of one kind, source, word, class and permission, so those that come in order make few chunks.
+pub fn push_renumbered<A: Allocator>(
+    made: &mut Vec<Chunk, A>,
+    chunk: &Chunk,
+    numbers: &[u32],
+) -> Result<(), AllocError>
+    requires within { (a : _) → IsAccessOf chunk.now a → IsWithin (length numbers.now) a }
+    requires word { chunk.now.word < 2 ^ 26 }
+    requires words { All (λ c. c.word < 2 ^ 26) made.old.items }
+    ensures words { OnOk result (All (λ c. c.word < 2 ^ 26) made.new.items) }
+    ensures same { OnOk result ((a : _) → IsGiven made.new.items a ↔ (IsGiven made.old.items a ⊎ IsRenumbered numbers.now chunk.now 64 a)) }
+{
+    push_by(made, chunk, numbers, common_move(chunk, numbers))
+}
+
+/// Adds the accesses of a chunk, with the numbers at the places of their own in a list that rises.
+fn push_rising<A: Allocator>(
     made: &mut Vec<Chunk, A>,
     chunk: &Chunk,
     numbers: &[u32],
@@ -172,10 +172,7 @@ fn push_renumbered<A: Allocator>(
     ensures words { OnOk result (All (λ c. c.word < 2 ^ 26) made.new.items) }
     ensures same { OnOk result ((a : _) → IsGiven made.new.items a ↔ (IsGiven made.old.items a ⊎ IsRenumbered numbers.now chunk.now 64 a)) }
 {
-    match move_of(chunk, numbers) {
-        Some(up) => push_moved(made, chunk, numbers, up),
-        None => push_bits(made, chunk, numbers),
-    }
+    push_by(made, chunk, numbers, rising_move(chunk, numbers))
 }
 
 /// Chunks that have the accesses of these, with the numbers at the places of their own. Those of one kind, source, word, class and
@@ -193,7 +190,7 @@ pub fn renumbered_chunks<A: Allocator>(
 {
     let mut made = Vec::with_capacity(alloc, chunks.len())?;
     for chunk in chunks {
-        push_renumbered(&mut made, chunk, numbers)?;
+        push_rising(&mut made, chunk, numbers)?;
     }
     Ok(made)
 }

@@ -1,19 +1,18 @@
--- Accesses appended to others: none, one after the other, and the targets of a word bit by bit.
-use Rattle.std.proofs.Common.{◌≡◌, ◌≢◌, ◌⊎◌, ◌↔◌, ℕ, ◌+◌, ◌*◌, ◌/◌, ◌%◌, ◌<◌, ◌≤◌, ◌^◌, ◌++◌, ◌∷◌, List, [], refl, sym, ap, subst, ◌∙◌, inl, inr, arith}
+-- Accesses appended to others: none, one after the other, and those to the targets of a word.
+use Rattle.std.proofs.Common.{◌≡◌, ◌⊎◌, ◌↔◌, ℕ, ◌+◌, ◌*◌, ◌/◌, ◌%◌, ◌<◌, List, length, sym, ap, subst, ◌∙◌, inl, inr, arith, eq-eqb, eqb-true}
 use Rattle.std.specs.Int.{bit_at}
 use Rattle.std.specs.List.{All}
-use Rattle.std.specs.Prelude.{slice_index}
-use Rattle.std.proofs.lemmas.Bool.{cases_eq, cases_lt}
-use Rattle.std.proofs.lemmas.List.Elements.{All-push}
+use Rattle.std.proofs.lemmas.Bool.{cases_eq}
+use Rattle.std.proofs.lemmas.Nat.Bits.{bit_at-lt, bit_at-zero}
 use Rattle.cil_accesses.specs.declared.access.AccessNumbers.{AccessNumbers}
 use Rattle.cil_accesses.specs.declared.chunk.Chunk.{Chunk}
-use Rattle.cil_accesses.specs.Chunks.{IsGiven}
-use Rattle.cil_accesses.proofs.Renumbering.{access-put, chunk-put, one-access}
+use Rattle.cil_accesses.specs.Chunks.{IsAccessOf, IsGiven}
+use Rattle.cil_accesses.specs.Renumbered.{IsRenumbered, IsWithin}
 use Rattle.cil_keyed_lines.specs.declared.symbol_key.SymbolKey.{SymbolKey}
 use Rattle.cil_lines.specs.Line.{hit}
 use Rattle.cil_lines.proofs.StepLemmas.{hit-here, hit-there}
 use Rattle.cil_text.specs.declared.statement.RuleKind.{RuleKind}
-use Rattle.cil_symbol_changes.specs.Gained.{AreGained, IsShort, IsTo}
+use Rattle.cil_symbol_changes.specs.Gained.{AreGained, AreKnown, chunk_by, IsShort, IsTo}
 use Rattle.cil_symbol_changes.specs.Numbered.{access_by}
 
 -- where nothing is told, nothing is gained
@@ -50,89 +49,59 @@ gained-alike told other old new gained to from = record {
   short = gained.short;
 }
 
--- ---- one access
+-- ---- the accesses of a word, by symbols
 
--- the target of a bit of a mask
-abbrev IsAtBit : ℕ → ℕ → ℕ → ℕ → Type 0
-IsAtBit word mask bit t = (0 < hit word mask t) × (t % 64 ≡ bit)
+module _ (numbers : List ℕ) (kind : RuleKind) (key : SymbolKey) (word mask : ℕ) where
+  abbrev by_symbols : Chunk
+  by_symbols = chunk_by kind key word mask
 
--- a target of a mask, below a bit
-abbrev pub IsBelow : ℕ → ℕ → ℕ → ℕ → Type 0
-IsBelow word mask bit t = (0 < hit word mask t) × (t % 64 < bit)
+  -- a target of the mask stands in the word, at a bit that is set
+  stands : (t : ℕ) → 0 < hit word mask t → (64 * word + t % 64 ≡ t) × (bit_at mask (t % 64) ≡ 1)
+  stands t some =
+      elim (cases_eq (t / 64) word) [
+        | inl here ↦ (omega (arith, here), let is = hit-here word mask t here in omega (arith, some, is, bit_at-lt mask (t % 64)))
+        | inr there ↦ let none = hit-there word mask t there in absurd (omega (arith, some, none))
+      ]
 
-abbrev chunk_of : AccessNumbers → Chunk
-chunk_of a = record { kind = a.kind; source = a.source; word = a.target / 64; class = a.class; permission = a.permission; bits = 1 * 2 ^ (a.target % 64) % 2 ^ 64 }
+  among : (t : ℕ) → t / 64 ≡ word → bit_at mask (t % 64) ≡ 1 → 0 < hit word mask t
+  among t here set = let is = hit-here word mask t here in omega (arith, is, set)
 
-module _ (numbers : List ℕ) (kind : RuleKind) (key : SymbolKey) where
-  pub gained-access : (target : ℕ) (old new : List Chunk) → slice_index numbers target < 2 ^ 32 → new ≡ old ++ chunk_of (access_by numbers kind key target) ∷ [] → AreGained (IsTo numbers kind key (λ t. t ≡ target)) old new
-  gained-access target old new low is = record {
-    are = λ a. (
-      λ h. elim ((put a).0 h) [ inl before ↦ inl before | inr same ↦ inr (record { target = target; among = refl; same = same }) ],
-      λ some. (put a).1 (elim some [ inl before ↦ inl before | inr told ↦ inr (told.same ∙ ap (access_by numbers kind key) told.among) ]),
-    );
-    short = λ all. subst (All IsShort) (sym is) (All-push IsShort old (chunk_of access) all (omega (arith, low)));
-  }
-    where
-      access : AccessNumbers
-      access = access_by numbers kind key target
+  -- so its symbols have numbers
+  pub known-symbols : AreKnown numbers key (hit word mask) → (a : AccessNumbers) → IsAccessOf by_symbols a → IsWithin (length numbers) a
+  known-symbols known a of =
+      let named = known a.target (among a.target of.word of.bit) in
+      record {
+        source = subst (λ n. n < length numbers) (sym of.source) named.source;
+        target = named.among;
+        the_class = subst (λ n. n < length numbers) (sym of.the_class) named.the_class;
+        permission = subst (λ n. n < length numbers) (sym of.permission) named.permission;
+      }
 
-      put : (a : AccessNumbers) → IsGiven new a ↔ (IsGiven old a ⊎ (a ≡ access))
-      put = access-put old new (chunk_of access) access (one-access access) (chunk-put old old new (chunk_of access) refl is)
+  to-target : (a : AccessNumbers) → IsRenumbered numbers by_symbols 64 a → IsTo numbers kind key (λ t. 0 < hit word mask t) a
+  to-target a r =
+      let small = r.within in
+      let bit : (64 * word + r.bit) % 64 ≡ r.bit = omega (arith, small) in
+      record {
+        target = 64 * word + r.bit;
+        among = among (64 * word + r.bit) (omega (arith, small)) (ap (bit_at mask) bit ∙ eqb-true (bit_at mask r.bit) 1 r.at.set);
+        same = r.at.is;
+      }
 
-  -- ---- the targets of a word
+  from-target : (a : AccessNumbers) → IsTo numbers kind key (λ t. 0 < hit word mask t) a → IsRenumbered numbers by_symbols 64 a
+  from-target a told =
+      let (place, set) = stands told.target told.among in
+      record {
+        bit = told.target % 64;
+        within = omega arith;
+        at = record { set = eq-eqb (bit_at mask (told.target % 64)) 1 set; is = told.same ∙ ap (access_by numbers kind key) (sym place) };
+      }
 
-  pub to-none : (targets : ℕ → Type 0) (old : List Chunk) → ((t : ℕ) → targets t → ⊥) → AreGained (IsTo numbers kind key targets) old old
-  to-none targets old none = gained-none (IsTo numbers kind key targets) old (λ a told. none told.target told.among)
+  pub gained-targets : (old new : List Chunk) → All IsShort new → ((a : AccessNumbers) → IsGiven new a ↔ (IsGiven old a ⊎ IsRenumbered numbers by_symbols 64 a)) → AreGained (IsTo numbers kind key (λ t. 0 < hit word mask t)) old new
+  gained-targets old new short same =
+      gained-alike (IsRenumbered numbers by_symbols 64) (IsTo numbers kind key (λ t. 0 < hit word mask t)) old new (record { are = same; short = λ all. short }) to-target from-target
 
-  pub to-alike : (targets others : ℕ → Type 0) (old new : List Chunk) → AreGained (IsTo numbers kind key targets) old new → ((t : ℕ) → targets t → others t) → ((t : ℕ) → others t → targets t)
-      → AreGained (IsTo numbers kind key others) old new
-  to-alike targets others old new gained to from = gained-alike (IsTo numbers kind key targets) (IsTo numbers kind key others) old new gained
-      (λ a told. record { target = told.target; among = to told.target told.among; same = told.same })
-      (λ a told. record { target = told.target; among = from told.target told.among; same = told.same })
-
-  pub to-more : (targets more all : ℕ → Type 0) (old mid new : List Chunk) → AreGained (IsTo numbers kind key targets) old mid → AreGained (IsTo numbers kind key more) mid new
-      → ((t : ℕ) → all t → targets t ⊎ more t) → ((t : ℕ) → targets t → all t) → ((t : ℕ) → more t → all t) → AreGained (IsTo numbers kind key all) old new
-  to-more targets more all old mid new first second split left right = gained-more (IsTo numbers kind key targets) (IsTo numbers kind key more) (IsTo numbers kind key all) old mid new first second
-      (λ a told. elim (split told.target told.among) [
-        | inl t ↦ inl (record { target = told.target; among = t; same = told.same })
-        | inr t ↦ inr (record { target = told.target; among = t; same = told.same })
-      ])
-      (λ a told. record { target = told.target; among = left told.target told.among; same = told.same })
-      (λ a told. record { target = told.target; among = right told.target told.among; same = told.same })
-
-  module _ (word mask : ℕ) where
-    stands : (bit t : ℕ) → IsAtBit word mask bit t → (t ≡ 64 * word + bit) × (bit_at mask bit ≢ 0)
-    stands bit t (some, at) =
-        elim (cases_eq (t / 64) word) [
-          | inl here ↦ (omega (arith, here, at), λ none. let is = hit-here word mask t here ∙ ap (bit_at mask) at in omega (arith, some, is, none))
-          | inr there ↦ let none = hit-there word mask t there in absurd (omega (arith, some, none))
-        ]
-
-    pub known-bit : (bit : ℕ) → bit < 64 → bit_at mask bit ≡ 1 → 0 < hit word mask (64 * word + bit)
-    known-bit bit low set =
-        let is : hit word mask (64 * word + bit) ≡ bit_at mask ((64 * word + bit) % 64) = hit-here word mask (64 * word + bit) (omega (arith, low)) in
-        let at : (64 * word + bit) % 64 ≡ bit = omega (arith, low) in
-        let one = ap (bit_at mask) at in
-        omega (arith, is, one, set)
-
-    pub bit-set : (bit : ℕ) (old new : List Chunk) → bit < 64 → bit_at mask bit ≡ 1 → AreGained (IsTo numbers kind key (λ t. t ≡ 64 * word + bit)) old new → AreGained (IsTo numbers kind key (IsAtBit word mask bit)) old new
-    bit-set bit old new low set gained = to-alike (λ t. t ≡ 64 * word + bit) (IsAtBit word mask bit) old new gained to (λ t at. (stands bit t at).0)
-      where
-        to : (t : ℕ) → t ≡ 64 * word + bit → IsAtBit word mask bit t
-        to t is = (subst (λ n. 0 < hit word mask n) (sym is) (known-bit bit low set), omega (arith, is, low))
-
-    pub bit-unset : (bit : ℕ) (old : List Chunk) → bit_at mask bit ≡ 0 → AreGained (IsTo numbers kind key (IsAtBit word mask bit)) old old
-    bit-unset bit old unset = to-none (IsAtBit word mask bit) old (λ t at. (stands bit t at).1 unset)
-
-    pub bits-none : (old : List Chunk) → AreGained (IsTo numbers kind key (IsBelow word mask 0)) old old
-    bits-none old = to-none (IsBelow word mask 0) old (λ t below. omega (arith, below.1))
-
-    pub bits-more : (bit : ℕ) (old mid new : List Chunk) → AreGained (IsTo numbers kind key (IsBelow word mask bit)) old mid → AreGained (IsTo numbers kind key (IsAtBit word mask bit)) mid new → AreGained (IsTo numbers kind key (IsBelow word mask (bit + 1))) old new
-    bits-more bit old mid new first second = to-more (IsBelow word mask bit) (IsAtBit word mask bit) (IsBelow word mask (bit + 1)) old mid new first second split
-        (λ t below. (below.0, omega (arith, below.1))) (λ t at. (at.0, omega (arith, at.1)))
-      where
-        split : (t : ℕ) → IsBelow word mask (bit + 1) t → IsBelow word mask bit t ⊎ IsAtBit word mask bit t
-        split t (some, below) = elim (cases_lt (t % 64) bit) [ inl before ↦ inl (some, before) | inr behind ↦ inr (some, omega (arith, below, behind)) ]
-
-    pub bits-all : (bit : ℕ) (old new : List Chunk) → 64 ≤ bit → AreGained (IsTo numbers kind key (IsBelow word mask bit)) old new → AreGained (IsTo numbers kind key (λ t. 0 < hit word mask t)) old new
-    bits-all bit old new end gained = to-alike (IsBelow word mask bit) (λ t. 0 < hit word mask t) old new gained (λ t below. below.0) (λ t some. (some, omega (arith, end)))
+  -- a mask that has no target
+  pub gained-nothing : mask ≡ 0 → (old : List Chunk) → AreGained (IsTo numbers kind key (λ t. 0 < hit word mask t)) old old
+  gained-nothing none old =
+      gained-none (IsTo numbers kind key (λ t. 0 < hit word mask t)) old
+      (λ a told. let set = (stands told.target told.among).1 in let clear = ap (λ n. bit_at n (told.target % 64)) none ∙ bit_at-zero (told.target % 64) in omega (arith, set, clear))

@@ -13,6 +13,10 @@ use Rattle.cil_text.specs.declared.statement.RuleKind.{RuleKind}
 abbrev pub IsShort : Chunk → Type 0
 IsShort c = c.word < 2 ^ 26
 
+-- the accesses of a kind and a key to the targets of a word that a mask has, by symbols
+abbrev pub chunk_by : RuleKind → SymbolKey → ℕ → ℕ → Chunk
+chunk_by kind key word mask = record { kind = kind; source = key.source; word = word; class = key.class; permission = key.permission; bits = mask }
+
 -- Behind some chunks stand those of the accesses that are told, and of no others.
 pub record AreGained (told : AccessNumbers → Type 0) (old new : List Chunk) : Type 0 where
   pub are : (a : AccessNumbers) → IsGiven new a ↔ (IsGiven old a ⊎ told a)

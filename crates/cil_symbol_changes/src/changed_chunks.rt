@@ -35,6 +35,8 @@ fn push_change<A: Allocator>(
 ) -> Result<(), AllocError>
     requires appeared { AreKnownIn numbers.now lines.now (hit_at change.now.line change.now.word change.now.appeared) }
     requires gone { AreKnownIn numbers.now lines.now (hit_at change.now.line change.now.word change.now.gone) }
+    requires short_added { All IsShort chunks.old.added.items }
+    requires short_removed { All IsShort chunks.old.removed.items }
     ensures added { OnOk result (AreGained (IsIn numbers.now kind lines.now (hit_at change.now.line change.now.word change.now.appeared)) chunks.old.added.items chunks.new.added.items) }
     ensures removed { OnOk result (AreGained (IsIn numbers.now kind lines.now (hit_at change.now.line change.now.word change.now.gone)) chunks.old.removed.items chunks.new.removed.items) }
 {
@@ -69,6 +71,8 @@ fn push_changes<A: Allocator>(
 ) -> Result<(), AllocError>
     requires appeared { AreKnownIn numbers.now lines.now (appeared_at changes.now) }
     requires gone { AreKnownIn numbers.now lines.now (gone_at changes.now) }
+    requires short_added { All IsShort chunks.old.added.items }
+    requires short_removed { All IsShort chunks.old.removed.items }
     ensures added { OnOk result (AreGained (IsIn numbers.now kind lines.now (appeared_at changes.now)) chunks.old.added.items chunks.new.added.items) }
     ensures removed { OnOk result (AreGained (IsIn numbers.now kind lines.now (gone_at changes.now)) chunks.old.removed.items chunks.new.removed.items) }
 {
@@ -86,7 +90,9 @@ fn push_kind<A: Allocator + Copy>(
     kind: RuleKind,
     numbers: &[u32],
 ) -> Result<(), AllocError>
-    requires { AreNumbered numbers.now tables.now }
+    requires numbered { AreNumbered numbers.now tables.now }
+    requires short_added { All IsShort chunks.old.added.items }
+    requires short_removed { All IsShort chunks.old.removed.items }
     ensures added { OnOk result (AreGained (IsNewOf numbers.now kind (count_before tables.now kind) (count_now tables.now kind)) chunks.old.added.items chunks.new.added.items) }
     ensures removed { OnOk result (AreGained (IsNewOf numbers.now kind (count_now tables.now kind) (count_before tables.now kind)) chunks.old.removed.items chunks.new.removed.items) }
 {

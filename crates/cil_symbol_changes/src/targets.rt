@@ -1,63 +1,53 @@
 //! The accesses of a line to the targets of a word.
 
-ghost use Rattle.std.specs.Prelude.{◌≡◌, ◌<◌, ◌%◌, ℕ, OnOk};
+ghost use Rattle.std.specs.Prelude.{◌≡◌, ◌<◌, ◌^◌, IfOk, OnOk};
+ghost use Rattle.std.specs.List.{All};
 ghost use Rattle.cil_lines.specs.Line.{hit};
-ghost use Rattle.cil_symbol_changes.specs.Gained.{AreGained, AreKnown, IsTo};
-ghost use Rattle.cil_symbol_changes.specs.Numbered.{IsNumbered};
+ghost use Rattle.cil_symbol_changes.specs.Gained.{AreGained, AreKnown, chunk_by, IsShort, IsTo};
 
-use cil_accesses::Chunk;
+use cil_accesses::{Chunk, push_renumbered};
 use cil_keyed_lines::SymbolKey;
 use cil_text::RuleKind;
 use std::alloc::{AllocError, Allocator};
 
-// How many targets a word has.
-const WORD: u32 = 64;
-
-/// Appends the access of a key to a target, by numbers.
-fn push_access<A: Allocator>(
-    chunks: &mut Vec<Chunk, A>,
-    kind: RuleKind,
-    key: SymbolKey,
-    target: usize,
-    numbers: &[u32],
-) -> Result<(), AllocError>
-    requires { IsNumbered numbers.now key target }
-    ensures { OnOk result (AreGained (IsTo numbers.now kind key (λ t. t ≡ target)) chunks.old.items chunks.new.items) }
+/// A symbol in 32 bits. More names than these can number don't fit in memory.
+fn short(symbol: usize) -> Result<u32, AllocError>
+    ensures { IfOk result (λ n. n ≡ symbol) }
 {
-    let number = numbers[target];
-    chunks.push(Chunk {
-        kind,
-        source: numbers[key.source],
-        word: number / WORD,
-        class: numbers[key.class],
-        permission: numbers[key.permission],
-        bits: 1 << (number % WORD),
-    })?;
-    Ok(())
-}
-
-/// Appends the access of a key to the target of a bit of a word, if the mask has it.
-fn push_bit<A: Allocator>(
-    chunks: &mut Vec<Chunk, A>,
-    kind: RuleKind,
-    key: SymbolKey,
-    word: usize,
-    mask: u64,
-    bit: u32,
-    numbers: &[u32],
-) -> Result<(), AllocError>
-    requires bit { bit < 64 }
-    requires known { AreKnown numbers.now key (hit word mask) }
-    ensures { OnOk result (AreGained (IsTo numbers.now kind key (λ t. (0 < hit word mask t) × (t % 64 ≡ bit))) chunks.old.items chunks.new.items) }
-{
-    if (mask >> bit) & 1 == 1 {
-        let target = 64 * word + bit as usize;
-        push_access(chunks, kind, key, target, numbers)?;
+    match u32::try_from(symbol) {
+        Ok(n) => Ok(n),
+        Err(_) => Err(AllocError),
     }
-    Ok(())
 }
 
-/// Appends the accesses of a key to the targets of a word that a mask has.
+/// A word in 32 bits whose targets have no more.
+fn short_word(word: usize) -> Result<u32, AllocError>
+    ensures same { IfOk result (λ n. n ≡ word) }
+    ensures low { IfOk result (λ n. n < 2 ^ 26) }
+{
+    let word = short(word)?;
+    if word > u32::MAX / 64 {
+        return Err(AllocError);
+    }
+    Ok(word)
+}
+
+/// The accesses of a key to the targets of a word that a mask has, by symbols.
+fn by_symbols(kind: RuleKind, key: SymbolKey, word: usize, mask: u64) -> Result<Chunk, AllocError>
+    ensures same { IfOk result (λ c. c ≡ chunk_by kind key word mask) }
+    ensures short { IfOk result IsShort }
+{
+    Ok(Chunk {
+        kind,
+        source: short(key.source)?,
+        word: short_word(word)?,
+        class: short(key.class)?,
+        permission: short(key.permission)?,
+        bits: mask,
+    })
+}
+
+/// Appends the accesses of a key to the targets of a word that a mask has, by numbers.
 pub fn push_targets<A: Allocator>(
     chunks: &mut Vec<Chunk, A>,
     kind: RuleKind,
@@ -66,11 +56,14 @@ pub fn push_targets<A: Allocator>(
     mask: u64,
     numbers: &[u32],
 ) -> Result<(), AllocError>
-    requires { AreKnown numbers.now key (hit word mask) }
+    requires known { AreKnown numbers.now key (hit word mask) }
+    requires short { All IsShort chunks.old.items }
     ensures { OnOk result (AreGained (IsTo numbers.now kind key (λ t. 0 < hit word mask t)) chunks.old.items chunks.new.items) }
 {
-    for bit in 0..WORD {
-        push_bit(chunks, kind, key, word, mask, bit, numbers)?;
+    if mask == 0 {
+        return Ok(());
     }
+    let symbols = by_symbols(kind, key, word, mask)?;
+    push_renumbered(chunks, &symbols, numbers)?;
     Ok(())
 }

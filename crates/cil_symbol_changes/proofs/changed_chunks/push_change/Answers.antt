@@ -1,12 +1,12 @@
 use Rattle.cil_symbol_changes.proofs.ChangeLemmas.{in-line, in-no_line, known-word}
 use Rattle.cil_symbol_changes.proofs.changed_chunks.push_change.Goals as goal
 
-pub push_targets-requires : goal.push_targets-requires
-push_targets-requires g c =
+pub push_targets-requires-clause-known : goal.push_targets-requires-clause-known
+push_targets-requires-clause-known g c =
     known-word c.args.numbers.now c.args.kind c.args.lines.now c.args.change.now.line c.args.change.now.word c.args.change.now.appeared c.in-Some.key c.in-Some.ensures c.requires.appeared
 
-pub push_targets-requires-in-Some : goal.push_targets-requires-in-Some
-push_targets-requires-in-Some g c =
+pub push_targets-requires-in-Some-clause-known : goal.push_targets-requires-in-Some-clause-known
+push_targets-requires-in-Some-clause-known g c =
     known-word c.args.numbers.now c.args.kind c.args.lines.now c.args.change.now.line c.args.change.now.word c.args.change.now.gone c.in-Some.key c.in-Some.ensures c.requires.gone
 
 pub returns-in_ok-push_targets-2-clause-added : goal.returns-in_ok-push_targets-2-clause-added

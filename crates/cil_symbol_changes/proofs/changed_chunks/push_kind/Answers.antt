@@ -5,12 +5,12 @@ use Rattle.cil_symbol_changes.proofs.changed_chunks.push_kind.Goals as goal
 pub push_changes-requires-clause-appeared : goal.push_changes-requires-clause-appeared
 push_changes-requires-clause-appeared g c =
     known-appeared {A = g.row.A.Denot} c.args.tables.now c.args.numbers.now c.args.kind c.lines-lines.result.now c.deref.result.now c.in_ok-changes.changes.items c.lines-lines.ensures c.deref.ensures.value
-    c.in_ok-changes.ensures.appeared c.requires
+    c.in_ok-changes.ensures.appeared c.requires.numbered
 
 pub push_changes-requires-clause-gone : goal.push_changes-requires-clause-gone
 push_changes-requires-clause-gone g c =
     known-gone {A = g.row.A.Denot} c.args.tables.now c.args.numbers.now c.args.kind c.lines-lines.result.now c.deref.result.now c.in_ok-changes.changes.items c.lines-lines.ensures c.deref.ensures.value
-    c.in_ok-changes.ensures.gone c.requires
+    c.in_ok-changes.ensures.gone c.requires.numbered
 
 pub returns-clause-added : goal.returns-clause-added
 returns-clause-added g c =

@@ -1,6 +1,6 @@
 use Rattle.std.proofs.Common.{arith}
 use Rattle.cil_accesses.proofs.Shifts.{first-within, last-within, moves-up, not-lower}
-use Rattle.cil_accesses.proofs.renumber.move_of.Goals as goal
+use Rattle.cil_accesses.proofs.moving.rising_move.Goals as goal
 
 pub bounds-numbers-first : goal.bounds-numbers-first
 bounds-numbers-first c = first-within c.args.numbers.now c.args.chunk.now c.requires.within c.requires.rising (omega arith) (omega arith)

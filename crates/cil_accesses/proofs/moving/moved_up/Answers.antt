@@ -1,6 +1,6 @@
 use Rattle.cil_accesses.proofs.Shifts.{moved-low, moved-high, stays-high}
 use Rattle.std.proofs.Common.{arith}
-use Rattle.cil_accesses.proofs.renumber.moved_up.Goals as goal
+use Rattle.cil_accesses.proofs.moving.moved_up.Goals as goal
 
 pub returns-then-up-eq0-clause-high : goal.returns-then-up-eq0-clause-high
 returns-then-up-eq0-clause-high c = stays-high c.args.bits (omega arith) c.args.up (omega arith)
