@@ -1,8 +1,10 @@
 -- What the engine keeps that changes its counters in place.
-use Rattle.std.proofs.Common.{◌≡◌, ℕ, List, [], ◌∷◌, length, Option, Some, None, Contains, refl, sym, subst, arith}
+use Rattle.std.proofs.Common.{◌≡◌, ℕ, Bool, true, List, [], ◌∷◌, length, Option, Some, None, Result, Ok, Err, IfOk, OnOk, OnErr, Contains, refl, sym, subst, true≢false, arith}
+use Rattle.std.specs.Result.{is_err}
 use Rattle.std.specs.Rc.{rc_value}
 use Rattle.cil_specs.specs.Dependence.{AreTheSame}
-use Rattle.cil_specs.specs.Meaning.{Meaning}
+use Rattle.cil_specs.specs.Meaning.{Meaning, is_in_table}
+use Rattle.cil_specs.specs.Report.{Changes, AreChanges}
 use Rattle.cil_specs.specs.Rule.{SetStatement}
 use Rattle.cil_specs.proofs.NamesLemmas.{contains-first}
 use Rattle.cil_counters.specs.Counted.{AreSettled, AreTakenBack, IsNow, WasBefore}
@@ -11,10 +13,11 @@ use Rattle.cil_counters.proofs.CountedLemmas.{counted-alike}
 use Rattle.cil_member_rows.specs.Rows as member_rows
 use Rattle.cil_symbol_tables.specs.Tables as access_tables
 use Rattle.cil_resolve.specs.declared.resolved.Resolved.{Resolved}
-use Rattle.cil_store_specs.specs.Next.{IsMeaningOf}
-use Rattle.cil_store_specs.specs.Store.{Store}
+use Rattle.cil_store_specs.specs.Next.{Edit, IsMeaningOf, changed}
+use Rattle.cil_store_specs.specs.Store.{Store, empty}
 use Rattle.cil_store_specs.proofs.OneStore.{meaning-same}
-use Rattle.cil_store.specs.Counted.{meaning_kept, IsCountedTo}
+use Rattle.cil_store.specs.Counted.{counted_meaning, meaning_kept, IsCountedTo, IsKept}
+use Rattle.cil_store.proofs.PlainLemmas.{none-meant}
 use Rattle.cil_store.specs.declared.counted_policy.CountedPolicy.{CountedPolicy}
 
 -- lists of the same statements, of which one is empty
@@ -46,3 +49,45 @@ module _ {A B : Type 0} (r : Resolved A) (old new : Counters B) where
 -- what is so of the meaning of what is kept is so of each meaning of the store
 pub of-kept : {A : Type 0} (store : Store) (policy : Option (CountedPolicy A)) (P : Meaning → Type 0) → IsCountedTo store policy → P (meaning_kept policy) → (meaning : Meaning) → IsMeaningOf store meaning → P meaning
 of-kept store policy P counted is meaning meant = subst P (meaning-same store (meaning_kept policy) meaning counted.is_meaning meant) is
+
+-- ---- a policy that is replaced
+
+-- whose steps are taken back
+pub kept-back : {A : Type 0} (p : CountedPolicy A) (mid new : Counters A) (r : Resolved A) → r ≡ rc_value p.resolved → IsKept p → WasBefore r mid → AreTakenBack mid new → IsKept (record { resolved = p.resolved; dropped = p.dropped; counters = new })
+kept-back p mid new r same is was back = record {
+  now = back-now (rc_value p.resolved) mid new (subst (λ x. WasBefore x mid) same was) back;
+  before = back-before (rc_value p.resolved) mid new (subst (λ x. WasBefore x mid) same was) back;
+  are_dropped = is.are_dropped;
+}
+
+-- whose steps are kept
+pub kept-settled : {A : Type 0} (p : CountedPolicy A) (mid : Counters A) (r : Resolved A) → r ≡ rc_value p.resolved → p.dropped ≡ (counted_meaning p).dropped → IsNow r mid → AreSettled mid p.counters → IsKept p
+kept-settled p mid r same dropped is kept = record {
+  now = settled-now (rc_value p.resolved) mid p.counters (subst (λ x. IsNow x mid) same is) kept;
+  before = settled-before (rc_value p.resolved) mid p.counters (subst (λ x. IsNow x mid) same is) kept;
+  are_dropped = dropped;
+}
+
+-- what stands where a call failed
+pub on-err : {T E : Type 0} (r : Result T E) (P : Type 0) → OnErr r P → is_err r ≡ true → P
+on-err (Ok x) P h is = absurd (true≢false (sym is))
+on-err (Err e) P h is = h
+
+-- ---- an engine's policy that is replaced
+
+module _ {X E : Type 0} (old new : Store) (edit : Edit) (before now next : Meaning) (meant : IsMeaningOf old before) (means : IsMeaningOf (changed old edit) next) where
+  -- afterwards it means what the store does
+  pub means-after : (r : Result X E) → OnOk r (new ≡ changed old edit) → OnOk r (now ≡ next) → OnErr r (new ≡ old) → OnErr r (now ≡ before) → IsMeaningOf new now
+  means-after (Ok x) made is kept same = subst (IsMeaningOf new) (sym is) (subst (λ s. IsMeaningOf s next) (sym made) means)
+  means-after (Err e) made is kept same = subst (IsMeaningOf new) (sym same) (subst (λ s. IsMeaningOf s before) (sym kept) meant)
+
+  -- the changes are those between what the store meant and what it means
+  pub changes-after : (changes : X → Changes) (r : Result X E) → OnOk r (new ≡ changed old edit) → IfOk r (λ x. AreChanges (is_in_table before) (is_in_table next) (changes x))
+      → IfOk r (λ x. (m n : Meaning) → IsMeaningOf old m → IsMeaningOf new n → AreChanges (is_in_table m) (is_in_table n) (changes x))
+  changes-after changes (Ok x) made are = λ m n was is.
+      subst (λ y. AreChanges (is_in_table y) (is_in_table n) (changes x)) (meaning-same old before m meant was)
+      (subst (λ y. AreChanges (is_in_table before) (is_in_table y) (changes x)) (meaning-same new next n (subst (λ s. IsMeaningOf s next) (sym made) means) is) are)
+  changes-after changes (Err e) made are = tt
+
+pub counted-empty : {A : Type 0} (policy : Option (CountedPolicy A)) → policy ≡ None → IsCountedTo empty policy
+counted-empty policy none = subst (IsCountedTo empty) (sym none) (record { is_meaning = none-meant; is_kept = tt })

@@ -10,7 +10,7 @@ ghost use Rattle.cil_store_specs.specs.Next.{IsMeaningOf, changed, for_memory};
 ghost use Rattle.cil_store_specs.specs.Run.{an_edit, Step};
 ghost use Rattle.cil_store_specs.specs.Store.{empty};
 ghost use Rattle.cil_store.specs.Calls.{edit_reply};
-ghost use Rattle.cil_store.specs.Counted.{meaning_kept, IsCountedTo};
+ghost use Rattle.cil_store.specs.Counted.{counted_meaning, meaning_kept, IsKept, IsKeptWhere};
 ghost use Rattle.cil_store.specs.Edits.{edit_of, refusal_of};
 ghost use Rattle.cil_store.specs.Ready.{ready_edit};
 
@@ -51,6 +51,22 @@ impl<A: Allocator> Model for Delta<A> {
     ghost invariant = { λ d. IsCountedTo d.store d.policy };
 }
 
+/// Takes out the policy that is kept, or makes that of no statement where none is.
+fn take_policy<A: Allocator + Copy>(
+    alloc: A,
+    policy: &mut Option<CountedPolicy<A>>,
+) -> Result<CountedPolicy<A>, AllocError>
+    requires { IsKeptWhere policy.old }
+    ensures kept { IfOk result IsKept }
+    ensures meaning { IfOk result (λ taken. counted_meaning taken ≡ meaning_kept policy.old) }
+    ensures err { OnErr result (policy.new ≡ policy.old) }
+{
+    match policy.take() {
+        Some(taken) => Ok(taken),
+        None => CountedPolicy::empty(alloc),
+    }
+}
+
 impl<A: Allocator + Copy> Delta<A> {
     /// An engine of an empty store. It takes no memory.
     pub fn new(alloc: A) -> Self
@@ -75,10 +91,7 @@ impl<A: Allocator + Copy> Delta<A> {
         ensures changes { IfOk result (λ changes. (old new : Meaning) → IsMeaningOf self.old old → IsMeaningOf self.new new → AreChanges (is_in_table old) (is_in_table new) changes) }
         ensures err { OnErr result (self.new ≡ self.old) }
     {
-        let mut policy = match self.policy.take() {
-            Some(policy) => policy,
-            None => CountedPolicy::empty(self.alloc)?,
-        };
+        let mut policy = take_policy(self.alloc, &mut self.policy)?;
         let changes = policy.replace(self.alloc, &mut self.store, edit, next, meter);
         self.policy = Some(policy);
         changes

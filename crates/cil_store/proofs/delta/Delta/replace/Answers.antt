@@ -1,0 +1,40 @@
+use Rattle.std.proofs.Common.{◌≡◌, ◌∙◌, Some, sym, subst, IfOk}
+use Rattle.std.specs.Rc.{rc_value}
+use Rattle.cil_specs.specs.Meaning.{Meaning, is_in_table}
+use Rattle.cil_specs.specs.Report.{AreChanges}
+use Rattle.cil_resolve.specs.Resolved.{meaning_in}
+use Rattle.cil_store_specs.specs.Next.{IsMeaningOf, changed}
+use Rattle.cil_store_specs.specs.Store.{Store}
+use Rattle.cil_store.specs.Counted.{counted_meaning}
+use Rattle.cil_store.specs.Ready.{ready_edit}
+use Rattle.cil_store.proofs.CountedPolicyLemmas.{means-after, changes-after}
+use Rattle.cil_store.proofs.delta.Delta.replace.Goals as goal
+
+pub invariant_of-self-2 : goal.invariant_of-self-2
+invariant_of-self-2 g c =
+    let old : Store = c.args.self.now in
+    let inside : Store = c.self.inside.store in
+    let edit = ready_edit c.args.edit in
+    let next = meaning_in (rc_value c.args.next.resolved) in
+    let before = counted_meaning c.in_ok-policy.policy in
+    record {
+      is_meaning = means-after inside c.replace-changes.new.store edit before (counted_meaning c.replace-changes.new.self) next
+          (subst (IsMeaningOf inside) (sym c.in_ok-policy.ensures.meaning) c.self.invariant.is_meaning)
+          (subst (λ s. IsMeaningOf (changed s edit) next) (sym c.self.view_is) c.requires)
+          c.replace-changes.result c.replace-changes.ensures.store c.replace-changes.ensures.meaning c.replace-changes.ensures.err_store c.replace-changes.ensures.err_meaning;
+      is_kept = c.replace-changes.ensures.kept;
+    }
+
+pub returns-clause-changes : goal.returns-clause-changes
+returns-clause-changes g c =
+    let old : Store = c.args.self.now in
+    let inside : Store = c.self.inside.store in
+    let new : Store = c.replace-changes.new.store in
+    let edit = ready_edit c.args.edit in
+    let next = meaning_in (rc_value c.args.next.resolved) in
+    let before = counted_meaning c.in_ok-policy.policy in
+    subst (λ s. IfOk c.replace-changes.result (λ changes. (m n : Meaning) → IsMeaningOf s m → IsMeaningOf new n → AreChanges (is_in_table m) (is_in_table n) changes)) c.self.view_is
+    (changes-after inside new edit before (counted_meaning c.replace-changes.new.self) next
+    (subst (IsMeaningOf inside) (sym c.in_ok-policy.ensures.meaning) c.self.invariant.is_meaning)
+    (subst (λ s. IsMeaningOf (changed s edit) next) (sym c.self.view_is) c.requires)
+    (λ changes. changes) c.replace-changes.result c.replace-changes.ensures.store c.replace-changes.ensures.changes)
