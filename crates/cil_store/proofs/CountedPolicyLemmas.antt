@@ -4,8 +4,9 @@ use Rattle.std.specs.Result.{is_err}
 use Rattle.std.specs.Rc.{rc_value}
 use Rattle.cil_specs.specs.Dependence.{AreTheSame}
 use Rattle.cil_specs.specs.Meaning.{Meaning, is_in_table}
-use Rattle.cil_specs.specs.Report.{Changes, AreChanges}
-use Rattle.cil_specs.specs.Rule.{SetStatement}
+use Rattle.cil_specs.specs.Report.{AreAtoms, Changes, AreChanges, Row, AreRows}
+use Rattle.cil_specs.specs.Violations.{Violation, AreViolations}
+use Rattle.cil_specs.specs.Rule.{Atom, SetStatement}
 use Rattle.cil_specs.proofs.NamesLemmas.{contains-first}
 use Rattle.cil_counters.specs.Counted.{AreSettled, AreTakenBack, IsNow, WasBefore}
 use Rattle.cil_counters.specs.declared.counters.Counters.{Counters}
@@ -14,10 +15,11 @@ use Rattle.cil_member_rows.specs.Rows as member_rows
 use Rattle.cil_symbol_tables.specs.Tables as access_tables
 use Rattle.cil_resolve.specs.declared.resolved.Resolved.{Resolved}
 use Rattle.cil_store_specs.specs.Next.{Edit, IsMeaningOf, changed}
+use Rattle.cil_store_specs.specs.Run.{AreRowsOf, AreViolationsOf}
 use Rattle.cil_store_specs.specs.Store.{Store, empty}
 use Rattle.cil_store_specs.proofs.OneStore.{meaning-same}
 use Rattle.cil_store.specs.Counted.{counted_meaning, meaning_kept, IsCountedTo, IsKept}
-use Rattle.cil_store.proofs.PlainLemmas.{none-meant}
+use Rattle.cil_store.proofs.PlainLemmas.{no-atoms, no-violations, none-meant}
 use Rattle.cil_store.specs.declared.counted_policy.CountedPolicy.{CountedPolicy}
 
 -- lists of the same statements, of which one is empty
@@ -91,3 +93,31 @@ module _ {X E : Type 0} (old new : Store) (edit : Edit) (before now next : Meani
 
 pub counted-empty : {A : Type 0} (policy : Option (CountedPolicy A)) → policy ≡ None → IsCountedTo empty policy
 counted-empty policy none = subst (IsCountedTo empty) (sym none) (record { is_meaning = none-meant; is_kept = tt })
+
+-- ---- what is asked of a store by what is kept
+
+-- the accesses of the policy that is kept are those of the store
+pub atoms-of : {X E A : Type 0} (listing : X → List Atom) (r : Result X E) (store : Store) (policy : Option (CountedPolicy A)) → IsCountedTo store policy → IfOk r (λ table. AreAtoms (is_in_table (meaning_kept policy)) (listing table))
+    → IfOk r (λ table. (meaning : Meaning) → IsMeaningOf store meaning → AreAtoms (is_in_table meaning) (listing table))
+atoms-of listing (Ok table) store policy counted are = λ meaning meant. of-kept store policy (λ m. AreAtoms (is_in_table m) (listing table)) counted are meaning meant
+atoms-of listing (Err e) store policy counted are = tt
+
+-- so are the rows of a table of them
+pub rows-of-store : {X E A : Type 0} (listing : X → List Row) (r : Result X E) (store : Store) (policy : Option (CountedPolicy A)) (table : List Atom) → IsCountedTo store policy
+    → ((meaning : Meaning) → IsMeaningOf store meaning → AreAtoms (is_in_table meaning) table) → IfOk r (λ rows. (p : Atom → Bool) → AreAtoms p table → AreRows p (listing rows)) → IfOk r (λ rows. AreRowsOf store (listing rows))
+rows-of-store listing (Ok rows) store policy table counted told are = (meaning_kept policy, counted.is_meaning, are (is_in_table (meaning_kept policy)) (told (meaning_kept policy) counted.is_meaning))
+rows-of-store listing (Err e) store policy table counted told are = tt
+
+-- and the violations
+pub violations-of-store : {X E A : Type 0} (listing : X → List Violation) (r : Result X E) (store : Store) (policy : Option (CountedPolicy A)) (meaning : Meaning) → IsCountedTo store policy → meaning ≡ meaning_kept policy
+    → IfOk r (λ found. AreViolations meaning (listing found)) → IfOk r (λ found. AreViolationsOf store (listing found))
+violations-of-store listing (Ok found) store policy meaning counted same are = (meaning_kept policy, counted.is_meaning, subst (λ m. AreViolations m (listing found)) same are)
+violations-of-store listing (Err e) store policy meaning counted same are = tt
+
+-- where nothing is kept the store has no violation
+pub nothing-violated : {A : Type 0} (store : Store) (policy : Option (CountedPolicy A)) → policy ≡ None → IsCountedTo store policy → AreViolationsOf store []
+nothing-violated store policy none counted = (meaning_kept policy, counted.is_meaning, subst (λ p. AreViolations (meaning_kept p) []) (sym none) no-violations)
+
+-- and no access
+pub nothing-listed : {A : Type 0} (policy : Option (CountedPolicy A)) → policy ≡ None → AreAtoms (is_in_table (meaning_kept policy)) []
+nothing-listed policy none = subst (λ p. AreAtoms (is_in_table (meaning_kept p)) []) (sym none) no-atoms

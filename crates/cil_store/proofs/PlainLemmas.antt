@@ -45,7 +45,7 @@ pub none-means : (meaning : Meaning) → (kept : Optionals) × Means (joined [])
 none-means meaning means = meaning-same empty meaning (meaning_of [] []) (store-meaning empty [] meaning tt means) none-meant
 
 -- no access is in their table
-no-atoms : AreAtoms (is_in_table (meaning_of [] [])) []
+pub no-atoms : AreAtoms (is_in_table (meaning_of [] [])) []
 unfolding IsStrictlySortedBy
 no-atoms = record { ordered = tt; exact = λ a. ((λ has. absurd (omega (arith, has.1))), λ e. absurd (true≢false (sym e))) }
 
@@ -53,7 +53,7 @@ not-in-none : (r : Rule) → Contains [] r → ⊥
 not-in-none r has = omega (arith, has.1)
 
 -- no violation is in their report
-no-violations : AreViolations (meaning_of [] []) []
+pub no-violations : AreViolations (meaning_of [] []) []
 unfolding IsStrictlySortedBy
 no-violations = record { ordered = tt; exact = λ v. ((λ has. absurd (omega (arith, has.1))), λ is. absurd (not-in-none v.never is.never)) }
 

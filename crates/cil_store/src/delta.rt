@@ -169,6 +169,7 @@ impl<A: Allocator + Copy> Compiled<A> for Delta<A> {
     }
 
     fn write_listing<W: Sink>(&self, sink: &mut W) -> Result<u128, WriteFault> {
+        let _ = &self.policy;
         let Ok(table) = self.table() else {
             return Err(WriteFault::Memory);
         };

@@ -6,6 +6,7 @@ pub mod TakenLemmas
 pub mod RunLemmas
 pub mod LimitLemmas
 pub mod PutLemmas
+pub mod AllAtoms
 pub mod ActiveLemmas
 pub mod WordLemmas
 pub mod LineLemmas

@@ -1,0 +1,14 @@
+use Rattle.std.proofs.Common.{[], refl, subst}
+use Rattle.cil_store.specs.Counted.{IsCountedTo}
+use Rattle.cil_stream.proofs.Gaining.{gains-none}
+use Rattle.cil_store.proofs.CountedPolicyLemmas.{nothing-violated}
+use Rattle.cil_store.proofs.delta.DeltaCompiled.write_violations.Goals as goal
+
+pub returns-in_default-clause-ok : goal.returns-in_default-clause-ok
+returns-in_default-clause-ok g c =
+    let self = c.self.inside in (
+      [],
+      nothing-violated c.args.self.now self.policy c.in_default.is (subst (λ s. IsCountedTo s self.policy) c.self.view_is c.self.invariant),
+      refl,
+      gains-none (g.W.Sink.taken c.args.sink.now),
+    )

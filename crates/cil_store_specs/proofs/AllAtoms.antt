@@ -1,0 +1,179 @@
+-- The accesses of a policy can be listed.
+use Rattle.std.proofs.Common.{◌≡◌, ◌⊎◌, ◌==◌, ◌&&◌, inl, inr, ℕ, cond, Bool, true, false, List, [], ◌∷◌, ◌++◌, filter, map, flat_map, bytes_eq, Contains, refl, sym, ap, ◌∙◌, subst, true≢false, arith}
+use Rattle.std.specs.Cmp.{IsTotalOrder}
+use Rattle.std.specs.List.{list_any}
+use Rattle.std.specs.List.Sorted.{IsStrictlySortedBy}
+use Rattle.std.specs.Ordering.{is_lt}
+use Rattle.std.specs.declared.cmp.Ordering.{Ordering}
+use Rattle.std.specs.declared.cmp.Ordering.TheVariants.{Less, Equal, Greater}
+use Rattle.std.proofs.lemmas.Bool.{cases_Bool, eqb-true}
+use Rattle.std.proofs.lemmas.Map.Lookups.{CmpEqualImpliesEq}
+use Rattle.std.proofs.lemmas.Slice.Eq.{bytes_eq-Decides}
+use Rattle.cil_specs.specs.Meaning.{Meaning, keeps_type, holds, aims, gives, is_in_table}
+use Rattle.cil_specs.specs.Report.{AreAtoms, atom_cmp}
+use Rattle.cil_specs.specs.Rule.{Rule, Atom, Element, ResolvedTarget, at_itself, at_element, kind_index}
+use Rattle.cil_specs.proofs.FaultWords.{contains-filtered, contains-left, contains-right, contains-append_cases}
+use Rattle.cil_specs.proofs.MeansLemmas.{contains-flat}
+use Rattle.cil_specs.proofs.NamesLemmas.{contains-cases, contains-first, contains-map}
+use Rattle.cil_specs.proofs.OnceLemmas.{PassesAmong, passes-among}
+use Rattle.cil_specs.proofs.ReportLemmas.{atom_exact, atom_total, same-kind}
+use Rattle.cil_specs.proofs.ReportLemmasMembers.{any_from_counted, test_from_any}
+use Rattle.cil_specs.proofs.Runs.{first_true, second_true}
+use Rattle.cil_specs.proofs.SearchLemmas.{keep, skip, reversed}
+use Rattle.cil_store_specs.specs.Store.{put_by}
+use Rattle.cil_store_specs.proofs.PutLemmas.{put-ordered}
+
+-- ---- the elements of a list that pass a test, in order
+
+module _ {X : Type 0} (cmp : X → X → Ordering) (order : IsTotalOrder cmp) (exact : CmpEqualImpliesEq cmp) where
+  in-filter : (p : X → Bool) (xs : List X) (y : X) → Contains xs y → p y ≡ true → Contains (filter p xs) y
+  in-filter p [] y has is = has
+  in-filter p (x ∷ xs) y has is =
+      elim (cases_Bool (p x)) [
+        | inl kept ↦ subst (λ l. Contains l y) (sym (keep cmp order p x xs kept)) (elim (contains-cases x xs y has) [
+          | inl same ↦ subst (Contains (x ∷ filter p xs)) same (contains-first x (filter p xs))
+          | inr more ↦ contains-right (x ∷ []) (filter p xs) y (in-filter p xs y more is)
+        ])
+        | inr left ↦ subst (λ l. Contains l y) (sym (skip cmp order p x xs left)) (elim (contains-cases x xs y has) [
+          | inl same ↦ absurd (true≢false (sym (subst (λ z. p z ≡ true) (sym same) is) ∙ left))
+          | inr more ↦ in-filter p xs y more is
+        ])
+      ]
+
+  abbrev before : X → X → Bool
+  before x o = is_lt (cmp o x)
+
+  abbrev behind : X → X → Bool
+  behind x o = is_lt (cmp x o)
+
+  in-put : (x : X) (xs : List X) (y : X) → Contains xs y → Contains (put_by cmp x xs) y
+  in-put x xs y has = by (cmp y x) refl
+    where
+      by : (o : Ordering) → cmp y x ≡ o → Contains (put_by cmp x xs) y
+      by Less is = contains-left (filter (before x) xs) (x ∷ filter (behind x) xs) y (in-filter (before x) xs y has (ap is_lt is))
+      by Equal is = contains-right (filter (before x) xs) (x ∷ filter (behind x) xs) y (subst (Contains (x ∷ filter (behind x) xs)) (sym (exact y x is)) (contains-first x (filter (behind x) xs)))
+      by Greater is =
+          contains-right (filter (before x) xs) (x ∷ filter (behind x) xs) y
+          (contains-right (x ∷ []) (filter (behind x) xs) y (in-filter (behind x) xs y has (ap is_lt (reversed cmp order y x Greater is))))
+
+  put-first : (x : X) (xs : List X) → Contains (put_by cmp x xs) x
+  put-first x xs = contains-right (filter (before x) xs) (x ∷ filter (behind x) xs) x (contains-first x (filter (behind x) xs))
+
+  put-has : (x : X) (xs : List X) (y : X) → Contains (put_by cmp x xs) y → (x ≡ y) ⊎ Contains xs y
+  put-has x xs y has =
+      elim (contains-append_cases (filter (before x) xs) (x ∷ filter (behind x) xs) y has) [
+        | inl left ↦ inr (contains-filtered (before x) xs y left)
+        | inr right ↦ elim (contains-cases x (filter (behind x) xs) y right) [
+          | inl same ↦ inl same
+          | inr more ↦ inr (contains-filtered (behind x) xs y more)
+        ]
+      ]
+
+  module _ (test : X → Bool) where
+    abbrev pub listed : List X → List X
+    listed [] = []
+    listed (x ∷ xs) = cond (test x) (put_by cmp x (listed xs)) (listed xs)
+
+    pub listed-ordered : (xs : List X) → IsStrictlySortedBy cmp (listed xs)
+    unfolding IsStrictlySortedBy
+    listed-ordered [] = tt
+    listed-ordered (x ∷ xs) = by (test x) (listed-ordered xs)
+      where
+        by : (b : Bool) → IsStrictlySortedBy cmp (listed xs) → IsStrictlySortedBy cmp (cond b (put_by cmp x (listed xs)) (listed xs))
+        by true rest = put-ordered cmp order x (listed xs) rest
+        by false rest = rest
+
+    pub listed-has : (xs : List X) (y : X) → Contains xs y → test y ≡ true → Contains (listed xs) y
+    listed-has [] y has is = has
+    listed-has (x ∷ xs) y has is = by (test x) refl (λ more. listed-has xs y more is)
+      where
+        by : (b : Bool) → test x ≡ b → (Contains xs y → Contains (listed xs) y) → Contains (cond b (put_by cmp x (listed xs)) (listed xs)) y
+        by true passes rest = elim (contains-cases x xs y has) [
+          | inl same ↦ subst (Contains (put_by cmp x (listed xs))) same (put-first x (listed xs))
+          | inr more ↦ in-put x (listed xs) y (rest more)
+        ]
+        by false fails rest = elim (contains-cases x xs y has) [
+          | inl same ↦ absurd (true≢false (sym (subst (λ z. test z ≡ true) (sym same) is) ∙ fails))
+          | inr more ↦ rest more
+        ]
+
+    pub listed-passes : (xs : List X) (y : X) → Contains (listed xs) y → test y ≡ true
+    listed-passes [] y has = absurd (omega (arith, has.1))
+    listed-passes (x ∷ xs) y has = by (test x) refl (listed-passes xs y) has
+      where
+        by : (b : Bool) → test x ≡ b → (Contains (listed xs) y → test y ≡ true) → Contains (cond b (put_by cmp x (listed xs)) (listed xs)) y → test y ≡ true
+        by true passes rest c = elim (put-has x (listed xs) y c) [
+          | inl same ↦ subst (λ z. test z ≡ true) same passes
+          | inr more ↦ rest more
+        ]
+        by false fails rest c = rest c
+
+-- ---- the accesses that rules may give
+
+passing : {X : Type 0} (p : X → Bool) (xs : List X) → list_any p xs ≡ true → (x : X) × Contains xs x × (p x ≡ true)
+passing p xs some =
+    let among : PassesAmong p xs = passes-among p xs some in
+    (among.x, subst (λ l. Contains l among.x) (sym among.split) (contains-right among.before (among.x ∷ among.after) among.x (contains-first among.x among.after)), among.passes)
+
+-- the names of the types
+abbrev type_names : Meaning → List (List ℕ)
+type_names meaning = map (λ d. d.name) meaning.types
+
+type-named : (meaning : Meaning) (t : List ℕ) → keeps_type meaning t ≡ true → Contains (type_names meaning) t
+type-named meaning t kept =
+    let (d, has, is) = passing (λ d. bytes_eq t d.name) meaning.types kept in
+    subst (Contains (type_names meaning)) (sym ((bytes_eq-Decides t d.name).0 is)) (contains-map (λ d. d.name) meaning.types d has)
+
+source-named : (meaning : Meaning) (element : Element) (t : List ℕ) → holds meaning element t ≡ true → Contains (type_names meaning) t
+source-named meaning element t held = type-named meaning t (first_true (keeps_type meaning t) _ held)
+
+target-named : (meaning : Meaning) (target : ResolvedTarget) (s t : List ℕ) → Contains (type_names meaning) s → aims meaning target s t ≡ true → Contains (type_names meaning) t
+target-named meaning at_itself s t source aimed = subst (Contains (type_names meaning)) ((bytes_eq-Decides s t).0 aimed) source
+target-named meaning (at_element element) s t source aimed = source-named meaning element t aimed
+
+-- those of a rule, with each type as source and as target
+abbrev of_permissions : Rule → List ℕ → List ℕ → List Atom
+of_permissions r s t = map (λ p. record { kind = r.kind; source = s; target = t; the_class = r.the_class; permission = p }) r.permissions
+
+abbrev of_targets : Meaning → Rule → List ℕ → List Atom
+of_targets meaning r s = flat_map (of_permissions r s) (type_names meaning)
+
+abbrev of_rule : Meaning → Rule → List Atom
+of_rule meaning r = flat_map (of_targets meaning r) (type_names meaning)
+
+abbrev candidates : Meaning → List Atom
+candidates meaning = flat_map (of_rule meaning) meaning.rules
+
+among-rule : (meaning : Meaning) (r : Rule) (a : Atom) → gives meaning r a ≡ true → Contains (of_rule meaning r) a
+among-rule meaning r a given =
+    let kind = first_true (kind_index r.kind == kind_index a.kind) _ given in
+    let covered = second_true (kind_index r.kind == kind_index a.kind) _ given in
+    let held = first_true (holds meaning r.source a.source) _ covered in
+    let rest = second_true (holds meaning r.source a.source) _ covered in
+    let aimed = first_true (aims meaning r.target a.source a.target) _ rest in
+    let head = second_true (aims meaning r.target a.source a.target) _ rest in
+    let class = (bytes_eq-Decides r.the_class a.the_class).0 (first_true (bytes_eq r.the_class a.the_class) _ head) in
+    let (p, has, is) = passing (bytes_eq a.permission) r.permissions (second_true (bytes_eq r.the_class a.the_class) _ head) in
+    let source = source-named meaning r.source a.source held in
+    let target = target-named meaning r.target a.source a.target source aimed in
+    let same = same-kind r.kind a.kind (eqb-true (kind_index r.kind) (kind_index a.kind) kind) in
+    let permission = (bytes_eq-Decides a.permission p).0 is in
+    let one : Contains (of_permissions r a.source a.target) (record { kind = r.kind; source = a.source; target = a.target; the_class = r.the_class; permission = p }) = contains-map _ r.permissions p has in
+    let whole : Contains (of_permissions r a.source a.target) a =
+        subst (Contains (of_permissions r a.source a.target)) (λ i. record { kind = same i; source = a.source; target = a.target; the_class = class i; permission = sym permission i }) one in
+    contains-flat (of_targets meaning r) (type_names meaning) a.source a source (contains-flat (of_permissions r a.source) (type_names meaning) a.target a target whole)
+
+among-candidates : (meaning : Meaning) (a : Atom) → is_in_table meaning a ≡ true → Contains (candidates meaning) a
+among-candidates meaning a is =
+    let (r, has, given) = passing (λ r. gives meaning r a) meaning.rules (test_from_any (λ r. gives meaning r a) meaning.rules (any_from_counted (λ r. gives meaning r a) meaning.rules is)) in
+    contains-flat (of_rule meaning) meaning.rules r a has (among-rule meaning r a given)
+
+-- the accesses of a policy, each once and in order
+pub all-atoms : (meaning : Meaning) → (atoms : List Atom) × AreAtoms (is_in_table meaning) atoms
+all-atoms meaning = (
+  listed atom_cmp atom_total atom_exact (is_in_table meaning) (candidates meaning),
+  record {
+    ordered = listed-ordered atom_cmp atom_total atom_exact (is_in_table meaning) (candidates meaning);
+    exact = λ a. (listed-passes atom_cmp atom_total atom_exact (is_in_table meaning) (candidates meaning) a, λ is. listed-has atom_cmp atom_total atom_exact (is_in_table meaning) (candidates meaning) a (among-candidates meaning a is) is);
+  },
+)
