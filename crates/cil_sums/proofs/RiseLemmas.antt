@@ -1,14 +1,15 @@
 -- Counts that rise by as many as there are things of a kind.
-use Rattle.std.proofs.Common.{◌≡◌, ◌≢◌, ◌↔◌, ◌⊎◌, ◌+◌, ◌-◌, ◌*◌, ◌/◌, ◌%◌, ◌^◌, ◌<◌, ◌≤◌, ◌==◌, ◌&&◌, ℕ, zero, suc, Bool, true, false, cond, List, [], ◌∷◌, ◌++◌, map, length, get_or, min, count_ones, IsTrue, refl, sym, ap, subst, ◌∙◌, inl, inr, arith, true≢false, pow-suc, add-zero, zero-add}
+use Rattle.std.proofs.Common.{◌≡◌, ◌≢◌, ◌⊎◌, ◌+◌, ◌-◌, ◌/◌, ◌%◌, ◌^◌, ◌<◌, ◌≤◌, ◌==◌, ◌&&◌, ℕ, zero, suc, Bool, true, false, cond, List, [], ◌∷◌, ◌++◌, map, length, get_or, min, count_ones, refl, sym, ap, subst, ◌∙◌, inl, inr, arith, true≢false, pow-suc, add-zero, zero-add}
 use Rattle.std.specs.Int.{bit_at}
 use Rattle.std.specs.Int.Count.{ones_step}
 use Rattle.std.specs.List.{All, AllPairs, Contains}
-use Rattle.std.proofs.lemmas.Bool.{cases_eq, cases_lt, cases_Bool, eq-eqb, ne_eqb, eqb-true}
-use Rattle.std.proofs.lemmas.List.{length-append, length-map, get_or_append_left, get_or-append_right, get_or-map}
-use Rattle.std.proofs.lemmas.List.Elements.{Contains-get_or, Contains-append_left, Contains-append_right, Contains-append_cases}
+use Rattle.std.proofs.lemmas.Bool.{cases_eq, cases_lt, eq-eqb, ne_eqb, eqb-true, le-ltb, lt-ltb}
+use Rattle.std.proofs.lemmas.List.{length-append, length-map}
+use Rattle.std.proofs.lemmas.List.Elements.{All-contains, Contains-append_left, Contains-append_right, Contains-append_cases}
 use Rattle.std.proofs.lemmas.Nat.{ones_le_self}
 use Rattle.std.proofs.lemmas.Nat.Bits.{bit_at_lowest, bit_at-suc, bit_at-zero}
-use Rattle.cil_sums.specs.Rises.{RisesBy}
+use Rattle.cil_sums.specs.Rises.{below, RisesBy}
+use Rattle.cil_sums.proofs.PairLemmas.{at-most-all, from-mapped, mapped, pairs-append, pairs-map}
 
 module _ {X : Type 0} where
   abbrev Apart : X → X → Type 0
@@ -61,28 +62,6 @@ module _ {X : Type 0} where
     at_least = omega (arith, rises.at_least, least);
   }
 
-  module _ (xs ys : List X) (x_once : AllPairs Apart xs) (y_once : AllPairs Apart ys) (apart : (z : X) → Contains xs z → Contains ys z → ⊥) where
-    both-once : AllPairs Apart (xs ++ ys)
-    both-once i j d less within =
-        let long : length (xs ++ ys) ≡ length xs + length ys = length-append xs ys in
-        elim (cases_lt j (length xs)) [
-          | inl left ↦
-              let at_i = get_or_append_left xs ys d i (omega (arith, less, left)) in
-              let at_j = get_or_append_left xs ys d j left in
-              λ same. x_once i j d less left (sym at_i ∙ same ∙ at_j)
-          | inr past ↦
-              let at_j = get_or-append_right xs ys (length xs) j d refl past in
-              elim (cases_lt i (length xs)) [
-                | inl left ↦
-                    let at_i = get_or_append_left xs ys d i left in
-                    λ same. apart (get_or xs i d) (Contains-get_or xs i d left)
-                    (subst (Contains ys) (sym at_j ∙ sym same ∙ at_i) (Contains-get_or ys (j - length xs) d (omega (arith, long, within, past))))
-                | inr behind ↦
-                    let at_i = get_or-append_right xs ys (length xs) i d refl behind in
-                    λ same. y_once (i - length xs) (j - length xs) d (omega (arith, less, behind)) (omega (arith, long, within, past)) (sym at_i ∙ same ∙ at_j)
-              ]
-        ]
-
   -- What passes either of two tests rises by both, where nothing passes both.
   module _ (p q r : X → Bool) (joined : (x : X) → cond (p x) 1 0 + cond (q x) 1 0 ≡ cond (r x) 1 0) where
     of-first : (a b c : Bool) → cond a 1 0 + cond b 1 0 ≡ cond c 1 0 → a ≡ true → c ≡ true
@@ -122,7 +101,8 @@ module _ {X : Type 0} where
               | inr other ↦ Contains-append_right first.those second.those x ((second.exact x).1 other)
             ],
           );
-          once = both-once first.those second.those first.once second.once (λ z one other. not-both (p z) (q z) (r z) (joined z) ((first.exact z).0 one) ((second.exact z).0 other));
+          once = pairs-append Apart first.those second.those first.once second.once
+              (λ x y one other same. not-both (p y) (q y) (r y) (joined y) ((first.exact y).0 (subst (Contains first.those) same one)) ((second.exact y).0 other));
           at_most = omega (arith, long, first.at_most, second.at_most);
           at_least = omega (arith, long, first.at_least, second.at_least);
         }
@@ -143,35 +123,60 @@ same-from_counts false false same = refl
 
 -- Things that stand for others, each for one, are as many.
 module _ {X Y : Type 0} (f : X → Y) (injective : (a b : X) → f a ≡ f b → a ≡ b) (p : X → Bool) (q : Y → Bool) (there : (x : X) → p x ≡ true → q (f x) ≡ true) (back : (y : Y) → q y ≡ true → (x : X) × (p x ≡ true) × (f x ≡ y)) where
-  mapped : (xs : List X) (x : X) → Contains xs x → Contains (map f xs) (f x)
-  mapped xs x at = (at.0, omega (arith, at.1, length-map xs f), get_or-map f xs at.0 x (f x) at.1 ∙ ap f at.2)
-
-  from-mapped : (xs : List X) (y : Y) → Contains (map f xs) y → (x : X) × Contains xs x × (f x ≡ y)
-  from-mapped [] y at = absurd (let within = at.1 in omega (arith, within))
-  from-mapped (x ∷ xs) y at =
-      let within : at.0 < length (x ∷ xs) = omega (arith, at.1, length-map (x ∷ xs) f) in
-      (get_or (x ∷ xs) at.0 x, Contains-get_or (x ∷ xs) at.0 x within, sym (get_or-map f (x ∷ xs) at.0 x y within) ∙ at.2)
-
-  map-once : (xs : List X) → AllPairs (λ a b. a ≢ b) xs → AllPairs (λ a b. a ≢ b) (map f xs)
-  map-once [] once i j d less within = absurd (omega (arith, within))
-  map-once (x ∷ xs) once i j d less within =
-      let inside : j < length (x ∷ xs) = omega (arith, within, length-map (x ∷ xs) f) in
-      λ same. once i j x less inside
-      (injective (get_or (x ∷ xs) i x) (get_or (x ∷ xs) j x) (sym (get_or-map f (x ∷ xs) i x d (omega (arith, less, inside))) ∙ same ∙ get_or-map f (x ∷ xs) j x d inside))
-
   pub rises-map : (before after : ℕ) → RisesBy p before after → RisesBy q before after
   rises-map before after rises =
       let long = length-map rises.those f in
       record {
         those = map f rises.those;
         exact = λ y. (
-          (λ at. let x = from-mapped rises.those y at in subst (λ z. q z ≡ true) x.2 (there x.0 ((rises.exact x.0).0 x.1))),
-          λ passes. let x = back y passes in subst (Contains (map f rises.those)) x.2 (mapped rises.those x.0 ((rises.exact x.0).1 x.1)),
+          (λ at. let x = from-mapped f rises.those y at in subst (λ z. q z ≡ true) x.2 (there x.0 ((rises.exact x.0).0 x.1))),
+          λ passes. let x = back y passes in subst (Contains (map f rises.those)) x.2 (mapped f rises.those x.0 ((rises.exact x.0).1 x.1)),
         );
-        once = map-once rises.those rises.once;
+        once = pairs-map f (λ a b. a ≢ b) rises.those rises.once (λ a b one other apart same. apart (injective a b same));
         at_most = omega (arith, long, rises.at_most);
         at_least = omega (arith, long, rises.at_least);
       }
+
+-- A count that rises number by number.
+module _ {X : Type 0} (test : ℕ → X → Bool) where
+  pub rises-first : (count : ℕ) → RisesBy (below test 0) count count
+  rises-first count = rises-none (below test 0) count (λ p. ap (λ b. b && test p.0 p.1) (le-ltb p.0 0 (omega arith)))
+
+  pub rises-next : (i before between after : ℕ) → RisesBy (below test i) before between → RisesBy (test i) between after → RisesBy (below test (i + 1)) before after
+  rises-next i before between after first second =
+      rises-both (below test i) own (below test (i + 1)) joined before between after first
+      (rises-map (λ x. (i, x)) (λ a b same. ap (λ p. p.1) same) (test i) own (λ x is. ap (λ b. b && test i x) (eq-eqb i i refl) ∙ is) back between after second)
+    where
+      own : ℕ × X → Bool
+      own p = (i == p.0) && test p.0 p.1
+
+      back : (p : ℕ × X) → own p ≡ true → (x : X) × (test i x ≡ true) × ((i, x) ≡ p)
+      back p is = by (i == p.0) refl is
+        where
+          by : (b : Bool) → (i == p.0) ≡ b → (b && test p.0 p.1) ≡ true → (x : X) × (test i x ≡ true) × ((i, x) ≡ p)
+          by true same passes = let e = eqb-true i p.0 same in (p.1, ap (λ n. test n p.1) e ∙ passes, λ k. (e k, p.1))
+          by false other passes = absurd (true≢false (sym passes))
+
+      joined : (p : ℕ × X) → cond (below test i p) 1 0 + cond (own p) 1 0 ≡ cond (below test (i + 1) p) 1 0
+      joined p =
+          elim (cases_eq i p.0) [
+            | inl same ↦
+                ap (λ b. cond (b && test p.0 p.1) 1 0 + cond (own p) 1 0) (le-ltb p.0 i (omega (arith, same)))
+                ∙ zero-add (cond (own p) 1 0) ∙ ap (λ b. cond (b && test p.0 p.1) 1 0) (eq-eqb i p.0 same ∙ sym (lt-ltb p.0 (i + 1) (omega (arith, same))))
+            | inr other ↦
+                ap (λ b. cond (below test i p) 1 0 + cond (b && test p.0 p.1) 1 0) (ne_eqb i p.0 other)
+                ∙ add-zero (cond (below test i p) 1 0)
+                ∙ elim (cases_lt p.0 i) [
+                  | inl before_it ↦ ap (λ b. cond (b && test p.0 p.1) 1 0) (lt-ltb p.0 i before_it ∙ sym (lt-ltb p.0 (i + 1) (omega (arith, before_it))))
+                  | inr past ↦ ap (λ b. cond (b && test p.0 p.1) 1 0) (le-ltb p.0 i past ∙ sym (le-ltb p.0 (i + 1) (omega (arith, past, other))))
+                ]
+          ]
+
+-- Things that pass, each once, are at most as many as the count rises by.
+pub rises-least : {X : Type 0} (p : X → Bool) (before after : ℕ) → RisesBy p before after → (xs : List X) → All (λ x. p x ≡ true) xs → AllPairs (λ x y. x ≢ y) xs → min (before + length xs) (2 ^ 128 - 1) ≤ after
+rises-least p before after rises xs pass once =
+    let few = at-most-all xs rises.those once (λ x at. (rises.exact x).1 (All-contains (λ y. p y ≡ true) xs x pass at)) in
+    omega (arith, few, rises.at_least)
 
 -- The bits of a number are as many as are counted.
 abbrev lowest : ℕ → ℕ → Bool
