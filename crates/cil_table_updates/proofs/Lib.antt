@@ -6,3 +6,4 @@ pub mod AdjustedLemmas
 pub mod SameLemmas
 pub mod UpdateLemmas
 pub mod DirtyLemmas
+pub mod FewLemmas
