@@ -55,7 +55,8 @@ pub fn take_gone<A: Allocator + Copy>(
     ensures now { OnOk result ((kind : RuleKind) (key : SymbolKey) (t : ℕ) → count_now tables.new kind key t + sum_below (alone (given old.now kind key t) matching.now.ahead) (length old.now.resolved.now.rules.items)
         ≡ count_now tables.old kind key t) }
     ensures before { (kind : RuleKind) (key : SymbolKey) (t : ℕ) → count_before tables.new kind key t ≡ count_before tables.old kind key t }
-    ensures adjustments { OnOk result (RisesBy (below (goes old.now matching.now) (length old.now.resolved.now.rules.items)) (adjustments_in meter.old) (adjustments_in meter.new)) }
+    ensures adjustments { OnOk result (RisesBy (below (goes old.now matching.now) (length old.now.resolved.now.rules.items))
+        (adjustments_in meter.old) (adjustments_in meter.new)) }
     ensures evaluations { evaluations_in meter.new ≡ evaluations_in meter.old }
 {
     for i in 0..old.resolved.rules().len() {
@@ -143,7 +144,8 @@ pub fn put_new<A: Allocator + Copy>(
     ensures now { OnOk result ((kind : RuleKind) (key : SymbolKey) (t : ℕ) → count_now tables.new kind key t + sum_below (across (given old.now kind key t) matching.now.back) (length new.now.resolved.now.rules.items)
         ≡ count_now tables.old kind key t + sum_below (given new.now kind key t) (length new.now.resolved.now.rules.items)) }
     ensures before { (kind : RuleKind) (key : SymbolKey) (t : ℕ) → count_before tables.new kind key t ≡ count_before tables.old kind key t }
-    ensures adjustments { OnOk result (RisesBy (below (turns old.now new.now matching.now) (length new.now.resolved.now.rules.items)) (adjustments_in meter.old) (adjustments_in meter.new)) }
+    ensures adjustments { OnOk result (RisesBy (below (turns old.now new.now matching.now) (length new.now.resolved.now.rules.items))
+        (adjustments_in meter.old) (adjustments_in meter.new)) }
     ensures evaluations { evaluations_in meter.new ≡ evaluations_in meter.old }
 {
     for j in 0..new.resolved.rules().len() {
