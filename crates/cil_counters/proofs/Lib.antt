@@ -1,2 +1,3 @@
 pub mod CountedLemmas
 pub mod ToldLemmas
+pub mod FoundLemmas
