@@ -2,3 +2,4 @@ pub mod CountedLemmas
 pub mod SymbolRankLemmas
 pub mod ToldLemmas
 pub mod ChangedLemmas
+pub mod FoundLemmas

@@ -2,11 +2,14 @@
 
 ghost use Rattle.std.specs.Prelude.{◌≡◌, ◌-◌, ◌≤◌, ◌^◌, ◌++◌, ℕ, List, bytes_eq, false, length, min, IfOk, OnOk};
 ghost use Rattle.std.specs.List.{IsDistinct};
-ghost use Rattle.cil_specs.specs.Meaning.{is_in_table};
-ghost use Rattle.cil_specs.specs.Report.{AreChanges};
+ghost use Rattle.cil_delta_specs.specs.Work.{AdjustsFew};
 ghost use Rattle.cil_member_rows.specs.Rows as member_rows;
+ghost use Rattle.cil_specs.specs.Meaning.{is_in_table};
+ghost use Rattle.cil_specs.specs.Report as report;
+ghost use Rattle.cil_specs.specs.Report.{AreChanges};
 ghost use Rattle.cil_member_updates.specs.Policy.{AreCounts};
 ghost use Rattle.cil_parse.specs.Lexicon.{AreNumbersOf};
+ghost use Rattle.cil_resolve.specs.Meter.{adjustments_in};
 ghost use Rattle.cil_resolve.specs.Resolved.{meaning_in};
 ghost use Rattle.cil_resolve.specs.Sets.{sets_in};
 ghost use Rattle.cil_counters.specs.Counted.{count_with, has_named, AreSettled, AreTakenBack, IsNow, WasBefore};
@@ -100,6 +103,7 @@ impl<A: Allocator + Copy> Counters<A> {
         ensures before { (a t : ℕ) → member_rows.count_before self.new.rows a t ≡ member_rows.count_before self.old.rows a t }
         ensures names { self.new.names ≡ self.old.names }
         ensures tables { self.new.tables ≡ self.old.tables }
+        ensures adjustments { adjustments_in meter.new ≡ adjustments_in meter.old }
     {
         let old_kept = KeptTypes::of(alloc, &self.names, old.resolved, old.numbering)?;
         let new_kept = KeptTypes::of(alloc, &self.names, new.resolved, new.numbering)?;
@@ -138,9 +142,15 @@ impl<A: Allocator + Copy> Counters<A> {
         requires before { WasBefore old.now self.old }
         ensures now { OnOk result (IsNow new.now self.new) }
         ensures before { WasBefore old.now self.new }
+        ensures adjustments { OnOk result ((changes : report.Changes) → AreChanges (is_in_table (meaning_in old.now)) (is_in_table (meaning_in new.now)) changes
+            → AdjustsFew (meaning_in old.now) (meaning_in new.now) changes (adjustments_in meter.old) (adjustments_in meter.new)) }
     {
         let old_numbering = self.number(alloc, old, old)?;
         let new_numbering = self.number(alloc, old, new)?;
+        resolved_names_are_kept(old);
+        resolved_names_are_kept(new);
+        old.rules();
+        new.rules();
         resolved_is_sound(old);
         resolved_is_sound(new);
         resolved_sets_are_in_order(old);
@@ -154,7 +164,15 @@ impl<A: Allocator + Copy> Counters<A> {
             numbering: &new_numbering,
         };
         self.update_members(alloc, old, new, meter)?;
-        cil_table_updates::update(&mut self.tables, alloc, &self.names, &self.rows, old, new)
+        cil_table_updates::update(
+            &mut self.tables,
+            alloc,
+            &self.names,
+            &self.rows,
+            old,
+            new,
+            meter,
+        )
     }
 
     /// The changes from an old policy, whose counters stand before the steps, to a new one, whose counters stand now.
@@ -177,7 +195,8 @@ impl<A: Allocator + Copy> Counters<A> {
     }
 
     /// Brings the counters from those of an old policy, which they hold, to those of a new one, in steps, and answers the changes from
-    /// the access table of the old policy to that of the new one. Also after an out of memory `undo` leads back to the old policy.
+    /// the access table of the old policy to that of the new one. The meter counts as an adjustment each counter of an access that it
+    /// moves. Also after an out of memory `undo` leads back to the old policy.
     pub fn update(
         &mut self,
         alloc: A,
@@ -190,6 +209,7 @@ impl<A: Allocator + Copy> Counters<A> {
         ensures now { OnOk result (IsNow new.now self.new) }
         ensures before { WasBefore old.now self.new }
         ensures changes { IfOk result (AreChanges (is_in_table (meaning_in old.now)) (is_in_table (meaning_in new.now))) }
+        ensures adjustments { IfOk result (λ changes. AdjustsFew (meaning_in old.now) (meaning_in new.now) changes (adjustments_in meter.old) (adjustments_in meter.new)) }
     {
         self.take_steps(alloc, old, new, meter)?;
         self.changes(alloc, old, new)

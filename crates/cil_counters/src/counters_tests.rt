@@ -291,3 +291,24 @@ fn the_same_edit_done_and_taken_back_a_hundred_times(rt: HostRuntime) {
         assert_count(&rt, &counters, RuleKind::Allow, b"a", b"b", 1);
     }
 }
+
+#[test]
+fn only_what_differs_is_adjusted(rt: HostRuntime) {
+    let old = started(
+        &rt,
+        rt.alloc(),
+        b"(typeattributeset s (a))(allow b s (p (use)))(allow s s (p (use)))(allow a b (p (use)))",
+    );
+    let new = started(
+        &rt,
+        rt.alloc(),
+        b"(typeattributeset s (b))(allow b s (p (use)))(allow s s (p (use)))(allow a b (p (use)))",
+    );
+    let mut counters = counted(&rt, rt.alloc(), &old);
+    let mut meter = Meter::new();
+    counters
+        .update(rt.alloc(), &old, &new, &mut meter)
+        .expect(&rt, "memory");
+    // From b to a and to b, and from a to a and from b to b; the last rule stays as it is.
+    assert_eq!(&rt; meter.adjustments(), 4);
+}

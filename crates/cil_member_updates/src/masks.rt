@@ -1,6 +1,7 @@
 //! The types of a word that a set statement holds.
 
 ghost use Rattle.std.specs.Prelude.{◌≡◌, ◌+◌, ◌*◌, ◌%◌, ◌<◌, ◌^◌, ℕ, IsTrue, length, slice_get, Some, nat_lt};
+ghost use Rattle.cil_resolve.specs.Meter.{adjustments_in};
 ghost use Rattle.cil_resolve.specs.Resolved.{meaning_in};
 ghost use Rattle.cil_resolve.specs.Sets.{sets_in};
 ghost use Rattle.cil_sets.specs.Counts.{one_if};
@@ -49,7 +50,8 @@ fn is_held<A: Allocator>(
     requires within { i < length (sets_in side.now.resolved.now) }
     requires tell { Tell symbols.now (meaning_in side.now.resolved.now) (set_at side.now.resolved.now i) (counts_at when.now rows.now) }
     requires kept { IsTrue (keeps symbols.now (meaning_in side.now.resolved.now) t) }
-    ensures { result ≡ holds symbols.now (meaning_in side.now.resolved.now) (set_at side.now.resolved.now i) t }
+    ensures held { result ≡ holds symbols.now (meaning_in side.now.resolved.now) (set_at side.now.resolved.now i) t }
+    ensures adjustments { adjustments_in meter.new ≡ adjustments_in meter.old }
 {
     resolved_names_are_kept(side.resolved);
     let ty = side.numbering.local(t).unwrap();
@@ -77,7 +79,8 @@ fn held_bit<A: Allocator>(
     requires within { i < length (sets_in side.now.resolved.now) }
     requires tell { Tell symbols.now (meaning_in side.now.resolved.now) (set_at side.now.resolved.now i) (counts_at when.now rows.now) }
     requires kept { IsTrue (keeps symbols.now (meaning_in side.now.resolved.now) t) }
-    ensures { result ≡ one_if (holds symbols.now (meaning_in side.now.resolved.now) (set_at side.now.resolved.now i) t) * 2 ^ (t % 64) }
+    ensures bit { result ≡ one_if (holds symbols.now (meaning_in side.now.resolved.now) (set_at side.now.resolved.now i) t) * 2 ^ (t % 64) }
+    ensures adjustments { adjustments_in meter.new ≡ adjustments_in meter.old }
 {
     if is_held(symbols, side, rows, when, i, t, meter) {
         1 << (t % WORD)
@@ -101,7 +104,8 @@ pub fn masked<A: Allocator>(
     requires within { i < length (sets_in side.now.resolved.now) }
     requires tell { Tell symbols.now (meaning_in side.now.resolved.now) (set_at side.now.resolved.now i) (counts_at when.now rows.now) }
     requires word { word < 2 ^ 58 }
-    ensures { AreHeld visits (holds symbols.now (meaning_in side.now.resolved.now) (set_at side.now.resolved.now i)) word result }
+    ensures held { AreHeld visits (holds symbols.now (meaning_in side.now.resolved.now) (set_at side.now.resolved.now i)) word result }
+    ensures adjustments { adjustments_in meter.new ≡ adjustments_in meter.old }
 {
     let kept = visits & side.kept.word(word);
     let mut mask = 0;

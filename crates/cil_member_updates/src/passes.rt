@@ -2,6 +2,7 @@
 
 ghost use Rattle.std.specs.Prelude.{◌≡◌, ◌<◌, ◌≤◌, ◌+◌, ℕ, length, OnOk};
 ghost use Rattle.cil_matching.specs.Matching.{AreMatched};
+ghost use Rattle.cil_resolve.specs.Meter.{adjustments_in};
 ghost use Rattle.cil_resolve.specs.Resolved.{meaning_in};
 ghost use Rattle.cil_resolve.specs.Sets.{sets_in};
 ghost use Rattle.cil_sets.specs.Places.{set_at};
@@ -38,6 +39,7 @@ fn lower_gone_set<A: Allocator + Copy>(
     ensures now { OnOk result ((a t : ℕ) → count_now rows.new a t + gone symbols.now old.now.resolved.now matching.now a t i ≡ count_now rows.old a t) }
     ensures before { (a t : ℕ) → count_before rows.new a t ≡ count_before rows.old a t }
     ensures rows { rows_in rows.new ≡ rows_in rows.old }
+    ensures adjustments { adjustments_in meter.new ≡ adjustments_in meter.old }
 {
     match matching.new_place(i) {
         Some(_) => Ok(()),
@@ -62,6 +64,7 @@ fn lower_gone<A: Allocator + Copy>(
         ≡ sum_below (given_by symbols.now old.now.resolved.now a t) (length (sets_in old.now.resolved.now))) }
     ensures before { (a t : ℕ) → count_before rows.new a t ≡ count_before rows.old a t }
     ensures rows { rows_in rows.new ≡ rows_in rows.old }
+    ensures adjustments { adjustments_in meter.new ≡ adjustments_in meter.old }
 {
     resolved_is_sound(old.resolved);
     resolved_sets_are_in_order(old.resolved);
@@ -94,6 +97,7 @@ fn renew_set<A: Allocator + Copy>(
         ≡ count_now rows.old a t + given symbols.now new.now.resolved.now j a t) }
     ensures before { (a t : ℕ) → count_before rows.new a t ≡ count_before rows.old a t }
     ensures rows { rows_in rows.new ≡ rows_in rows.old }
+    ensures adjustments { adjustments_in meter.new ≡ adjustments_in meter.old }
 {
     resolved_is_sound(old.resolved);
     resolved_sets_are_in_order(old.resolved);
@@ -122,6 +126,7 @@ fn renew<A: Allocator + Copy>(
     ensures now { OnOk result (AreCounts symbols.now new.now.resolved.now (count_now rows.new)) }
     ensures before { (a t : ℕ) → count_before rows.new a t ≡ count_before rows.old a t }
     ensures rows { rows_in rows.new ≡ rows_in rows.old }
+    ensures adjustments { adjustments_in meter.new ≡ adjustments_in meter.old }
 {
     resolved_is_sound(new.resolved);
     resolved_sets_are_in_order(new.resolved);
@@ -151,6 +156,7 @@ pub fn update<A: Allocator + Copy>(
     ensures now { OnOk result (AreCounts symbols.now new.now.resolved.now (count_now rows.new)) }
     ensures before { (a t : ℕ) → count_before rows.new a t ≡ count_before rows.old a t }
     ensures rows { rows_in rows.new ≡ rows_in rows.old }
+    ensures adjustments { adjustments_in meter.new ≡ adjustments_in meter.old }
 {
     lower_gone(rows, alloc, symbols, old, matching, meter)?;
     renew(rows, alloc, symbols, old, new, matching, meter)

@@ -1,6 +1,7 @@
 //! One set statement at all types.
 
 ghost use Rattle.std.specs.Prelude.{◌≡◌, ◌+◌, ◌<◌, ◌≤◌, ℕ, length, OnOk};
+ghost use Rattle.cil_resolve.specs.Meter.{adjustments_in};
 ghost use Rattle.cil_resolve.specs.Resolved.{meaning_in};
 ghost use Rattle.cil_resolve.specs.Sets.{sets_in};
 ghost use Rattle.cil_sets.specs.Places.{set_at};
@@ -37,6 +38,7 @@ pub fn lower_set<A: Allocator + Copy>(
     ensures now { OnOk result (AreMoved (given symbols.now old.now.resolved.now i) nothing (count_now rows.old) (count_now rows.new)) }
     ensures before { (a t : ℕ) → count_before rows.new a t ≡ count_before rows.old a t }
     ensures rows { rows_in rows.new ≡ rows_in rows.old }
+    ensures adjustments { adjustments_in meter.new ≡ adjustments_in meter.old }
 {
     for word in 0..symbols.len() / WORD + 1 {
         lower_word(rows, alloc, symbols, old, i, word, meter)?;
@@ -60,6 +62,7 @@ pub fn raise_set<A: Allocator + Copy>(
     ensures now { OnOk result (AreMoved nothing (given symbols.now new.now.resolved.now j) (count_now rows.old) (count_now rows.new)) }
     ensures before { (a t : ℕ) → count_before rows.new a t ≡ count_before rows.old a t }
     ensures rows { rows_in rows.new ≡ rows_in rows.old }
+    ensures adjustments { adjustments_in meter.new ≡ adjustments_in meter.old }
 {
     resolved_sets_are_in_order(new.resolved);
     for word in 0..symbols.len() / WORD + 1 {
@@ -91,6 +94,7 @@ pub fn move_set<A: Allocator + Copy>(
     ensures now { OnOk result (AreMoved (given symbols.now old.now.resolved.now i) (given symbols.now new.now.resolved.now j) (count_now rows.old) (count_now rows.new)) }
     ensures before { (a t : ℕ) → count_before rows.new a t ≡ count_before rows.old a t }
     ensures rows { rows_in rows.new ≡ rows_in rows.old }
+    ensures adjustments { adjustments_in meter.new ≡ adjustments_in meter.old }
 {
     resolved_sets_are_in_order(new.resolved);
     for word in 0..symbols.len() / WORD + 1 {

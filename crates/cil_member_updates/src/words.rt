@@ -1,6 +1,7 @@
 //! One set statement at the types of a word.
 
 ghost use Rattle.std.specs.Prelude.{◌≡◌, ◌+◌, ◌/◌, ◌<◌, ◌≤◌, ◌^◌, ℕ, length, OnOk};
+ghost use Rattle.cil_resolve.specs.Meter.{adjustments_in};
 ghost use Rattle.cil_resolve.specs.Resolved.{meaning_in};
 ghost use Rattle.cil_resolve.specs.Sets.{sets_in};
 ghost use Rattle.cil_sets.specs.Places.{set_at};
@@ -38,6 +39,7 @@ pub fn lower_word<A: Allocator + Copy>(
     ensures now { OnOk result (IsMoved word (given symbols.now old.now.resolved.now i) nothing (count_now rows.old) (count_now rows.new)) }
     ensures before { (a t : ℕ) → count_before rows.new a t ≡ count_before rows.old a t }
     ensures rows { rows_in rows.new ≡ rows_in rows.old }
+    ensures adjustments { adjustments_in meter.new ≡ adjustments_in meter.old }
 {
     let row = row_of(symbols, old, i);
     let visits = reached(symbols, old, rows, &When::Before, i, word);
@@ -66,6 +68,7 @@ pub fn raise_word<A: Allocator + Copy>(
     ensures now { OnOk result (IsMoved word nothing (given symbols.now new.now.resolved.now j) (count_now rows.old) (count_now rows.new)) }
     ensures before { (a t : ℕ) → count_before rows.new a t ≡ count_before rows.old a t }
     ensures rows { rows_in rows.new ≡ rows_in rows.old }
+    ensures adjustments { adjustments_in meter.new ≡ adjustments_in meter.old }
 {
     let row = row_of(symbols, new, j);
     let visits = reached(symbols, new, rows, &When::Now, j, word);
@@ -101,6 +104,7 @@ pub fn move_word<A: Allocator + Copy>(
     ensures now { OnOk result (IsMoved word (given symbols.now old.now.resolved.now i) (given symbols.now new.now.resolved.now j) (count_now rows.old) (count_now rows.new)) }
     ensures before { (a t : ℕ) → count_before rows.new a t ≡ count_before rows.old a t }
     ensures rows { rows_in rows.new ≡ rows_in rows.old }
+    ensures adjustments { adjustments_in meter.new ≡ adjustments_in meter.old }
 {
     let row = row_of(symbols, new, j);
     let visits = unsettled(symbols, old, new, rows, i, j, word);

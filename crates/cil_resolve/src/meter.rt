@@ -44,4 +44,12 @@ impl Meter {
     {
         self.evaluations = self.evaluations.saturating_add(1);
     }
+
+    /// Counts so many adjustments more.
+    pub fn adjusted(&mut self, count: u128)
+        ensures evaluations { evaluations_in self.new ≡ evaluations_in self.old }
+        ensures adjustments { adjustments_in self.new ≡ min (adjustments_in self.old + count) (2 ^ 128 - 1) }
+    {
+        self.adjustments = self.adjustments.saturating_add(count);
+    }
 }

@@ -1,2 +1,3 @@
 pub mod ReachLemmas
 pub mod ShiftLemmas
+pub mod MoveLemmas

@@ -1,9 +1,11 @@
 //! The counters of keyed lines, moved from what a rule gave to what it gives.
 
-ghost use Rattle.std.specs.Prelude.{◌≡◌, ◌+◌, ◌≤◌, ◌<◌, ◌^◌, ◌/◌, ◌&&◌, ◌||◌, ◌==◌, ℕ, false, OnOk};
+ghost use Rattle.std.specs.Prelude.{◌≡◌, ◌+◌, ◌≤◌, ◌<◌, ◌^◌, ◌/◌, ◌&&◌, ◌||◌, ◌==◌, ℕ, false, IfOk, OnOk};
 ghost use Rattle.std.specs.List.Sorted.{IsStrictlyIncreasing};
 ghost use Rattle.cil_keyed_lines.specs.Keyed.{count_before, count_now, is_key};
+ghost use Rattle.cil_rule_shifts.specs.Moves.{moves_for, moves_in, moves_of, moves_where};
 ghost use Rattle.cil_rule_shifts.specs.Reach.{gives, is_line, one_if, reaches, takes, AreShort, IsShort};
+ghost use Rattle.cil_sums.specs.Rises.{RisesBy};
 
 use crate::reach::{Reach, next_source};
 use crate::targets::Targets;
@@ -11,31 +13,35 @@ use crate::words::next_word;
 use cil_keyed_lines::{KeyedLines, SymbolKey};
 use std::alloc::{AllocError, Allocator};
 
-/// Moves the counters of a line from the targets that its source had to those that it has.
+/// Moves the counters of a line from the targets that its source had to those that it has, and answers how many moved.
 fn shift_line<A: Allocator + Copy>(
     lines: &mut KeyedLines<A>,
     alloc: A,
     key: SymbolKey,
     was: &Targets<A>,
     is: &Targets<A>,
-) -> Result<(), AllocError>
+) -> Result<u128, AllocError>
     requires was { AreShort was.now }
     requires is { AreShort is.now }
     requires counted { (t : ℕ) → one_if (takes was.now key.source t) ≤ count_now lines.old key t }
     ensures now { OnOk result ((k : SymbolKey) (t : ℕ) → count_now lines.new k t + one_if (is_key key k && takes was.now key.source t) ≡ count_now lines.old k t + one_if (is_key key k && takes is.now key.source t)) }
     ensures before { (k : SymbolKey) (t : ℕ) → count_before lines.new k t ≡ count_before lines.old k t }
+    ensures moved { IfOk result (RisesBy (moves_in key was.now is.now) 0) }
 {
+    let mut moved: u128 = 0;
     let mut from = 0;
     while let Some(word) = next_word(was, is, key.source, from) {
         let gone = was.word(key.source, word);
         let come = is.word(key.source, word);
-        lines.shift(alloc, key, word, gone, come)?;
+        let here = lines.shift(alloc, key, word, gone, come)?;
+        moved = moved.saturating_add(here as u128);
         from = word + 1;
     }
-    Ok(())
+    Ok(moved)
 }
 
-/// Moves the counters of the lines of a source, of a class and its permissions, from the targets that it had to those that it has.
+/// Moves the counters of the lines of a source, of a class and its permissions, from the targets that it had to those that it has, and
+/// answers how many moved.
 fn shift_lines<A: Allocator + Copy>(
     lines: &mut KeyedLines<A>,
     alloc: A,
@@ -44,7 +50,7 @@ fn shift_lines<A: Allocator + Copy>(
     permissions: &[usize],
     was: &Targets<A>,
     is: &Targets<A>,
-) -> Result<(), AllocError>
+) -> Result<u128, AllocError>
     requires permissions { IsStrictlyIncreasing permissions.now }
     requires was { AreShort was.now }
     requires is { AreShort is.now }
@@ -52,16 +58,19 @@ fn shift_lines<A: Allocator + Copy>(
     ensures now { OnOk result ((k : SymbolKey) (t : ℕ) → count_now lines.new k t + one_if (is_line source class permissions.now k && takes was.now source t)
         ≡ count_now lines.old k t + one_if (is_line source class permissions.now k && takes is.now source t)) }
     ensures before { (k : SymbolKey) (t : ℕ) → count_before lines.new k t ≡ count_before lines.old k t }
+    ensures moved { IfOk result (RisesBy (moves_for source class permissions.now was.now is.now) 0) }
 {
+    let mut moved: u128 = 0;
     for permission in permissions {
         let key = SymbolKey {
             source,
             class,
             permission: *permission,
         };
-        shift_line(lines, alloc, key, was, is)?;
+        let here = shift_line(lines, alloc, key, was, is)?;
+        moved = moved.saturating_add(here);
     }
-    Ok(())
+    Ok(moved)
 }
 
 /// The targets of a source of a rule, or none where it is no source.
@@ -82,7 +91,7 @@ fn targets_of<'r, A: Allocator>(
     }
 }
 
-/// Moves the counters of the lines of a source from what a rule gave it to what it gives it.
+/// Moves the counters of the lines of a source from what a rule gave it to what it gives it, and answers how many moved.
 fn shift_source<A: Allocator + Copy>(
     lines: &mut KeyedLines<A>,
     alloc: A,
@@ -91,7 +100,7 @@ fn shift_source<A: Allocator + Copy>(
     permissions: &[usize],
     was: &Reach<A>,
     is: &Reach<A>,
-) -> Result<(), AllocError>
+) -> Result<u128, AllocError>
     requires permissions { IsStrictlyIncreasing permissions.now }
     requires was { IsShort was.now }
     requires is { IsShort is.now }
@@ -99,6 +108,7 @@ fn shift_source<A: Allocator + Copy>(
     ensures now { OnOk result ((k : SymbolKey) (t : ℕ) → count_now lines.new k t + one_if ((source == k.source) && gives was.now class permissions.now k t)
         ≡ count_now lines.old k t + one_if ((source == k.source) && gives is.now class permissions.now k t)) }
     ensures before { (k : SymbolKey) (t : ℕ) → count_before lines.new k t ≡ count_before lines.old k t }
+    ensures moved { IfOk result (RisesBy (moves_of source was.now is.now class permissions.now) 0) }
 {
     let none = Targets::Nothing;
     let gone = targets_of(was, &none, source);
@@ -106,8 +116,9 @@ fn shift_source<A: Allocator + Copy>(
     shift_lines(lines, alloc, source, class, permissions, gone, come)
 }
 
-/// Moves the counters of what a rule of a class gave by its permissions to those of what it gives. The permissions are symbols, each
-/// once and in their order. After an out of memory some counters may have moved; their steps are logged.
+/// Moves the counters of what a rule of a class gave by its permissions to those of what it gives, and answers how many moved, or the
+/// greatest `u128` where they are more. The permissions are symbols, each once and in their order. After an out of memory some counters
+/// may have moved; their steps are logged.
 pub fn shift_rule<A: Allocator + Copy>(
     lines: &mut KeyedLines<A>,
     alloc: A,
@@ -115,7 +126,7 @@ pub fn shift_rule<A: Allocator + Copy>(
     permissions: &[usize],
     was: &Reach<A>,
     is: &Reach<A>,
-) -> Result<(), AllocError>
+) -> Result<u128, AllocError>
     requires permissions { IsStrictlyIncreasing permissions.now }
     requires was { IsShort was.now }
     requires is { IsShort is.now }
@@ -123,11 +134,14 @@ pub fn shift_rule<A: Allocator + Copy>(
     ensures now { OnOk result ((k : SymbolKey) (t : ℕ) → count_now lines.new k t + one_if (gives was.now class permissions.now k t)
         ≡ count_now lines.old k t + one_if (gives is.now class permissions.now k t)) }
     ensures before { (k : SymbolKey) (t : ℕ) → count_before lines.new k t ≡ count_before lines.old k t }
+    ensures moved { IfOk result (RisesBy (moves_where was.now is.now class permissions.now) 0) }
 {
+    let mut moved: u128 = 0;
     let mut from = 0;
     while let Some(source) = next_source(was, is, from) {
-        shift_source(lines, alloc, source, class, permissions, was, is)?;
+        let here = shift_source(lines, alloc, source, class, permissions, was, is)?;
+        moved = moved.saturating_add(here);
         from = source + 1;
     }
-    Ok(())
+    Ok(moved)
 }

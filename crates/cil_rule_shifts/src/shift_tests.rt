@@ -105,7 +105,11 @@ fn a_rule_whose_sets_changed(rt: HostRuntime) {
     let is = rule(&rt, rt.alloc(), &[3, 128], &[10, 201]);
     add(&rt, rt.alloc(), &mut lines, &was);
     lines.settle();
-    shift_rule(&mut lines, rt.alloc(), CLASS, PERMISSIONS, &was, &is).expect(&rt, "memory");
+    let moved = shift_rule(&mut lines, rt.alloc(), CLASS, PERMISSIONS, &was, &is).expect(
+        &rt, "memory",
+    );
+    // By each permission source 2 loses two targets, 3 has one in place of another, and 128 comes with two.
+    assert_eq!(&rt; moved, 12);
     assert_count(&rt, &lines, 2, 10, 0);
     assert_count(&rt, &lines, 3, 10, 1);
     assert_count(&rt, &lines, 3, 200, 0);

@@ -1,1 +1,3 @@
 pub mod SumLemmas
+pub mod PairLemmas
+pub mod RiseLemmas

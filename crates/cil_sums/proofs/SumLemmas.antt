@@ -190,3 +190,14 @@ module _ (f : ℕ → ℕ) (n : ℕ) (ahead back : List (Option ℕ)) where
       where
         past-all : (i : ℕ) → past m i ≡ alone f ahead i
         past-all i = if_past-all (slice_get ahead i) m (f i) (λ j is. (places.to i j is).0)
+
+-- where two sums aren't the same, something that they sum up isn't
+pub sum-differs : (f g : ℕ → ℕ) (n : ℕ) → sum_below f n ≢ sum_below g n → (i : ℕ) × (i < n) × (f i ≢ g i)
+sum-differs f g zero other = absurd (other (sum-none f ∙ sym (sum-none g)))
+sum-differs f g (suc n) other =
+    elim (cases_eq (f n) (g n)) [
+      | inl same ↦
+          let before = sum-differs f g n (λ e. other (omega (arith, e, same, sum-suc f n, sum-suc g n))) in
+          (before.0, omega (arith, before.1), before.2)
+      | inr here ↦ (n, omega arith, here)
+    ]

@@ -17,9 +17,11 @@ pub struct SymbolTables<A: Allocator = Global> {
 }
 
 impl<A: Allocator + Copy> SymbolTables<A> {
-    ghost use Rattle.std.specs.Prelude.{◌≡◌, ◌+◌, ◌≤◌, ◌&&◌, ℕ, OnOk};
+    ghost use Rattle.std.specs.Prelude.{◌≡◌, ◌+◌, ◌≤◌, ◌&&◌, ℕ, IfOk, OnOk};
     ghost use Rattle.std.specs.List.Sorted.{IsStrictlyIncreasing};
+    ghost use Rattle.cil_rule_shifts.specs.Moves.{moves_where};
     ghost use Rattle.cil_rule_shifts.specs.Reach.{gives, one_if, IsShort};
+    ghost use Rattle.cil_sums.specs.Rises.{RisesBy};
     ghost use Rattle.cil_symbol_tables.specs.Tables.{count_before, count_now, is_kind};
 
     /// The tables of no rule.
@@ -35,8 +37,9 @@ impl<A: Allocator + Copy> SymbolTables<A> {
         }
     }
 
-    /// Moves the counters of what a rule gave to those of what it gives: a rule of a kind and a class, by its permissions, which are
-    /// symbols, each once and in their order. After an out of memory some counters may have moved; `undo` takes them back.
+    /// Moves the counters of what a rule gave to those of what it gives, and answers how many moved, or the greatest `u128` where they are
+    /// more: a rule of a kind and a class, by its permissions, which are symbols, each once and in their order. After an out of memory some
+    /// counters may have moved; `undo` takes them back.
     pub fn shift(
         &mut self,
         alloc: A,
@@ -45,7 +48,7 @@ impl<A: Allocator + Copy> SymbolTables<A> {
         permissions: &[usize],
         was: &Reach<A>,
         is: &Reach<A>,
-    ) -> Result<(), AllocError>
+    ) -> Result<u128, AllocError>
         requires permissions { IsStrictlyIncreasing permissions.now }
         requires was { IsShort was.now }
         requires is { IsShort is.now }
@@ -53,6 +56,7 @@ impl<A: Allocator + Copy> SymbolTables<A> {
         ensures now { OnOk result ((other : RuleKind) (key : SymbolKey) (t : ℕ) → count_now self.new other key t + one_if (is_kind kind other && gives was.now class permissions.now key t)
             ≡ count_now self.old other key t + one_if (is_kind kind other && gives is.now class permissions.now key t)) }
         ensures before { (other : RuleKind) (key : SymbolKey) (t : ℕ) → count_before self.new other key t ≡ count_before self.old other key t }
+        ensures moved { IfOk result (RisesBy (moves_where was.now is.now class permissions.now) 0) }
     {
         match kind {
             RuleKind::Allow => shift_rule(&mut self.allow, alloc, class, permissions, was, is),

@@ -45,7 +45,7 @@ covered-alike old_symbols new_symbols old new reach head key t =
     ap (λ c. (has_source reach key.source && takes reach.targets key.source t) && ((c == key.class) && lists new_symbols new key.permission)) (sym head.class)
     ∙ ap (λ b. (has_source reach key.source && takes reach.targets key.source t) && ((slice_index old_symbols old.class == key.class) && b)) (sym (head.permissions key.permission))
 
-kind-itself : (kind : RuleKind) → is_kind kind kind ≡ true
+pub kind-itself : (kind : RuleKind) → is_kind kind kind ≡ true
 kind-itself kind = eq-eqb (kind_index (rule_kind_of kind)) (kind_index (rule_kind_of kind)) refl
 
 -- counters moved from what reaches nothing, to it, and from what one rule covers to what another does

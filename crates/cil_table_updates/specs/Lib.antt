@@ -1,4 +1,5 @@
 pub mod Policies
 pub mod Given
 pub mod Moves
+pub mod Adjusted
 pub mod Changed

@@ -2,21 +2,25 @@
 
 ghost use Rattle.std.specs.Prelude.{◌≡◌, ◌+◌, ◌≤◌, ◌&&◌, ℕ, IsTrue, length, OnOk};
 ghost use Rattle.cil_resolve.specs.Below.{is_rule_below};
+ghost use Rattle.cil_resolve.specs.Meter.{adjustments_in, evaluations_in};
 ghost use Rattle.cil_rule_shifts.specs.Reach.{one_if, IsShort};
+ghost use Rattle.cil_sums.specs.Rises.{RisesBy};
 ghost use Rattle.cil_symbol_tables.specs.Tables.{count_before, count_now, is_kind};
+ghost use Rattle.cil_table_updates.specs.Adjusted.{gives_it, replaces, shifts};
 ghost use Rattle.cil_table_updates.specs.Given.{gives_by};
 ghost use Rattle.cil_table_updates.specs.Moves.{gives_as, HaveSameHead, IsKnown};
 
 use crate::policy::Policy;
 use cil_keyed_lines::SymbolKey;
-use cil_resolve::NumberedRule;
+use cil_resolve::{Meter, NumberedRule};
 use cil_rule_reach::{permission_symbols, rule_reach, symbol_of};
 use cil_rule_shifts::Reach;
 use cil_symbol_tables::SymbolTables;
 use cil_text::RuleKind;
 use std::alloc::{AllocError, Allocator};
 
-/// Moves the counters of what a rule gave to those of what it gives, by the kind, the class and the permissions of a policy's rule.
+/// Moves the counters of what a rule gave to those of what it gives, by the kind, the class and the permissions of a policy's rule. The
+/// meter counts each counter that moves. No other function moves counters of accesses, so that none moves uncounted.
 fn shift_as<A: Allocator + Copy>(
     tables: &mut SymbolTables<A>,
     alloc: A,
@@ -24,6 +28,7 @@ fn shift_as<A: Allocator + Copy>(
     rule: &NumberedRule<A>,
     was: &Reach<A>,
     is: &Reach<A>,
+    meter: &mut Meter,
 ) -> Result<(), AllocError>
     requires below { IsTrue (is_rule_below (length policy.now.numbering.now.symbols) rule.now) }
     requires was { IsShort was.now }
@@ -32,10 +37,14 @@ fn shift_as<A: Allocator + Copy>(
     ensures now { OnOk result ((kind : RuleKind) (key : SymbolKey) (t : ℕ) → count_now tables.new kind key t + one_if (is_kind rule.now.kind kind && gives_as policy.now.numbering.now.symbols rule.now was.now key t)
         ≡ count_now tables.old kind key t + one_if (is_kind rule.now.kind kind && gives_as policy.now.numbering.now.symbols rule.now is.now key t)) }
     ensures before { (kind : RuleKind) (key : SymbolKey) (t : ℕ) → count_before tables.new kind key t ≡ count_before tables.old kind key t }
+    ensures adjustments { OnOk result (RisesBy (shifts policy.now.numbering.now.symbols rule.now was.now is.now) (adjustments_in meter.old) (adjustments_in meter.new)) }
+    ensures evaluations { evaluations_in meter.new ≡ evaluations_in meter.old }
 {
     let permissions = permission_symbols(alloc, policy.numbering, &rule.permissions)?;
     let class = symbol_of(policy.numbering, rule.class);
-    tables.shift(alloc, rule.kind, class, &permissions, was, is)
+    let moved = tables.shift(alloc, rule.kind, class, &permissions, was, is)?;
+    meter.adjusted(moved);
+    Ok(())
 }
 
 /// Takes a rule of a policy out.
@@ -44,15 +53,26 @@ pub fn take_rule<A: Allocator + Copy>(
     alloc: A,
     policy: &Policy<'_, A>,
     rule: &NumberedRule<A>,
+    meter: &mut Meter,
 ) -> Result<(), AllocError>
     requires known { IsKnown policy.now }
     requires below { IsTrue (is_rule_below (length policy.now.numbering.now.symbols) rule.now) }
     requires counted { (kind : RuleKind) (key : SymbolKey) (t : ℕ) → one_if (gives_by policy.now kind key t rule.now) ≤ count_now tables.old kind key t }
     ensures now { OnOk result ((kind : RuleKind) (key : SymbolKey) (t : ℕ) → count_now tables.new kind key t + one_if (gives_by policy.now kind key t rule.now) ≡ count_now tables.old kind key t) }
     ensures before { (kind : RuleKind) (key : SymbolKey) (t : ℕ) → count_before tables.new kind key t ≡ count_before tables.old kind key t }
+    ensures adjustments { OnOk result (RisesBy (gives_it policy.now rule.now) (adjustments_in meter.old) (adjustments_in meter.new)) }
+    ensures evaluations { evaluations_in meter.new ≡ evaluations_in meter.old }
 {
     let was = rule_reach(alloc, &policy.members, policy.numbering, rule)?;
-    shift_as(tables, alloc, policy, rule, &was, &Reach::none(alloc))
+    shift_as(
+        tables,
+        alloc,
+        policy,
+        rule,
+        &was,
+        &Reach::none(alloc),
+        meter,
+    )
 }
 
 /// Puts a rule of a policy in.
@@ -61,14 +81,17 @@ pub fn put_rule<A: Allocator + Copy>(
     alloc: A,
     policy: &Policy<'_, A>,
     rule: &NumberedRule<A>,
+    meter: &mut Meter,
 ) -> Result<(), AllocError>
     requires known { IsKnown policy.now }
     requires below { IsTrue (is_rule_below (length policy.now.numbering.now.symbols) rule.now) }
     ensures now { OnOk result ((kind : RuleKind) (key : SymbolKey) (t : ℕ) → count_now tables.new kind key t ≡ count_now tables.old kind key t + one_if (gives_by policy.now kind key t rule.now)) }
     ensures before { (kind : RuleKind) (key : SymbolKey) (t : ℕ) → count_before tables.new kind key t ≡ count_before tables.old kind key t }
+    ensures adjustments { OnOk result (RisesBy (gives_it policy.now rule.now) (adjustments_in meter.old) (adjustments_in meter.new)) }
+    ensures evaluations { evaluations_in meter.new ≡ evaluations_in meter.old }
 {
     let is = rule_reach(alloc, &policy.members, policy.numbering, rule)?;
-    shift_as(tables, alloc, policy, rule, &Reach::none(alloc), &is)
+    shift_as(tables, alloc, policy, rule, &Reach::none(alloc), &is, meter)
 }
 
 /// Puts a rule of the new policy in place of the old one's.
@@ -79,6 +102,7 @@ pub fn replace_rule<A: Allocator + Copy>(
     old_rule: &NumberedRule<A>,
     new: &Policy<'_, A>,
     new_rule: &NumberedRule<A>,
+    meter: &mut Meter,
 ) -> Result<(), AllocError>
     requires old_known { IsKnown old.now }
     requires new_known { IsKnown new.now }
@@ -89,8 +113,10 @@ pub fn replace_rule<A: Allocator + Copy>(
     ensures now { OnOk result ((kind : RuleKind) (key : SymbolKey) (t : ℕ) → count_now tables.new kind key t + one_if (gives_by old.now kind key t old_rule.now)
         ≡ count_now tables.old kind key t + one_if (gives_by new.now kind key t new_rule.now)) }
     ensures before { (kind : RuleKind) (key : SymbolKey) (t : ℕ) → count_before tables.new kind key t ≡ count_before tables.old kind key t }
+    ensures adjustments { OnOk result (RisesBy (replaces old.now old_rule.now new.now new_rule.now) (adjustments_in meter.old) (adjustments_in meter.new)) }
+    ensures evaluations { evaluations_in meter.new ≡ evaluations_in meter.old }
 {
     let was = rule_reach(alloc, &old.members, old.numbering, old_rule)?;
     let is = rule_reach(alloc, &new.members, new.numbering, new_rule)?;
-    shift_as(tables, alloc, new, new_rule, &was, &is)
+    shift_as(tables, alloc, new, new_rule, &was, &is, meter)
 }

@@ -1,8 +1,11 @@
 //! Rules taken out, put in and replaced, one by one.
 
 ghost use Rattle.std.specs.Prelude.{◌≡◌, ◌+◌, ◌≤◌, ◌<◌, ℕ, length, OnOk};
+ghost use Rattle.cil_resolve.specs.Meter.{adjustments_in, evaluations_in};
+ghost use Rattle.cil_sums.specs.Rises.{below, RisesBy};
 ghost use Rattle.cil_sums.specs.Sums.{across, alone, sum_below};
 ghost use Rattle.cil_symbol_tables.specs.Tables.{count_before, count_now};
+ghost use Rattle.cil_table_updates.specs.Adjusted.{goes, swaps, turns};
 ghost use Rattle.cil_table_updates.specs.Given.{given};
 ghost use Rattle.cil_table_updates.specs.Moves.{AreReplaced, IsReady, IsReplaced};
 
@@ -11,6 +14,7 @@ use crate::moves::{put_rule, replace_rule, take_rule};
 use crate::policy::Policy;
 use cil_keyed_lines::SymbolKey;
 use cil_matching::RuleMatching;
+use cil_resolve::Meter;
 use cil_symbol_tables::SymbolTables;
 use cil_text::RuleKind;
 use std::alloc::{AllocError, Allocator};
@@ -22,16 +26,19 @@ fn take_if_gone<A: Allocator + Copy>(
     old: &Policy<'_, A>,
     matching: &RuleMatching<A>,
     i: usize,
+    meter: &mut Meter,
 ) -> Result<(), AllocError>
     requires ready { IsReady old.now }
     requires within { i < length old.now.resolved.now.rules.items }
     requires counted { (kind : RuleKind) (key : SymbolKey) (t : ℕ) → alone (given old.now kind key t) matching.now.ahead i ≤ count_now tables.old kind key t }
     ensures now { OnOk result ((kind : RuleKind) (key : SymbolKey) (t : ℕ) → count_now tables.new kind key t + alone (given old.now kind key t) matching.now.ahead i ≡ count_now tables.old kind key t) }
     ensures before { (kind : RuleKind) (key : SymbolKey) (t : ℕ) → count_before tables.new kind key t ≡ count_before tables.old kind key t }
+    ensures adjustments { OnOk result (RisesBy (goes old.now matching.now i) (adjustments_in meter.old) (adjustments_in meter.new)) }
+    ensures evaluations { evaluations_in meter.new ≡ evaluations_in meter.old }
 {
     match matching.new_place(i) {
         Some(_) => Ok(()),
-        None => take_rule(tables, alloc, old, &old.resolved.rules()[i]),
+        None => take_rule(tables, alloc, old, &old.resolved.rules()[i], meter),
     }
 }
 
@@ -41,15 +48,19 @@ pub fn take_gone<A: Allocator + Copy>(
     alloc: A,
     old: &Policy<'_, A>,
     matching: &RuleMatching<A>,
+    meter: &mut Meter,
 ) -> Result<(), AllocError>
     requires ready { IsReady old.now }
     requires counted { (kind : RuleKind) (key : SymbolKey) (t : ℕ) → sum_below (alone (given old.now kind key t) matching.now.ahead) (length old.now.resolved.now.rules.items) ≤ count_now tables.old kind key t }
     ensures now { OnOk result ((kind : RuleKind) (key : SymbolKey) (t : ℕ) → count_now tables.new kind key t + sum_below (alone (given old.now kind key t) matching.now.ahead) (length old.now.resolved.now.rules.items)
         ≡ count_now tables.old kind key t) }
     ensures before { (kind : RuleKind) (key : SymbolKey) (t : ℕ) → count_before tables.new kind key t ≡ count_before tables.old kind key t }
+    ensures adjustments { OnOk result (RisesBy (below (goes old.now matching.now) (length old.now.resolved.now.rules.items))
+        (adjustments_in meter.old) (adjustments_in meter.new)) }
+    ensures evaluations { evaluations_in meter.new ≡ evaluations_in meter.old }
 {
     for i in 0..old.resolved.rules().len() {
-        take_if_gone(tables, alloc, old, matching, i)?;
+        take_if_gone(tables, alloc, old, matching, i, meter)?;
     }
     Ok(())
 }
@@ -63,6 +74,7 @@ fn replace_changed<A: Allocator + Copy>(
     new: &Policy<'_, A>,
     j: usize,
     changed: &ChangedRows<'_, A>,
+    meter: &mut Meter,
 ) -> Result<(), AllocError>
     requires old_ready { IsReady old.now }
     requires new_ready { IsReady new.now }
@@ -70,12 +82,22 @@ fn replace_changed<A: Allocator + Copy>(
     requires counted { (kind : RuleKind) (key : SymbolKey) (t : ℕ) → given old.now kind key t i ≤ count_now tables.old kind key t }
     ensures now { OnOk result ((kind : RuleKind) (key : SymbolKey) (t : ℕ) → count_now tables.new kind key t + given old.now kind key t i ≡ count_now tables.old kind key t + given new.now kind key t j) }
     ensures before { (kind : RuleKind) (key : SymbolKey) (t : ℕ) → count_before tables.new kind key t ≡ count_before tables.old kind key t }
+    ensures adjustments { OnOk result (RisesBy (swaps old.now i new.now j) (adjustments_in meter.old) (adjustments_in meter.new)) }
+    ensures evaluations { evaluations_in meter.new ≡ evaluations_in meter.old }
 {
     let rule = &new.resolved.rules()[j];
     if changed.rule_stays(new.numbering, rule) {
         return Ok(());
     }
-    replace_rule(tables, alloc, old, &old.resolved.rules()[i], new, rule)
+    replace_rule(
+        tables,
+        alloc,
+        old,
+        &old.resolved.rules()[i],
+        new,
+        rule,
+        meter,
+    )
 }
 
 /// Puts the rule of a place of the new policy in, or in place of the same one of the old policy.
@@ -87,6 +109,7 @@ fn put_or_replace<A: Allocator + Copy>(
     matching: &RuleMatching<A>,
     changed: &ChangedRows<'_, A>,
     j: usize,
+    meter: &mut Meter,
 ) -> Result<(), AllocError>
     requires old_ready { IsReady old.now }
     requires new_ready { IsReady new.now }
@@ -95,10 +118,12 @@ fn put_or_replace<A: Allocator + Copy>(
     requires counted { (kind : RuleKind) (key : SymbolKey) (t : ℕ) → across (given old.now kind key t) matching.now.back j ≤ count_now tables.old kind key t }
     ensures now { OnOk result ((kind : RuleKind) (key : SymbolKey) (t : ℕ) → count_now tables.new kind key t + across (given old.now kind key t) matching.now.back j ≡ count_now tables.old kind key t + given new.now kind key t j) }
     ensures before { (kind : RuleKind) (key : SymbolKey) (t : ℕ) → count_before tables.new kind key t ≡ count_before tables.old kind key t }
+    ensures adjustments { OnOk result (RisesBy (turns old.now new.now matching.now j) (adjustments_in meter.old) (adjustments_in meter.new)) }
+    ensures evaluations { evaluations_in meter.new ≡ evaluations_in meter.old }
 {
     match matching.old_place(j) {
-        Some(i) => replace_changed(tables, alloc, old, i, new, j, changed),
-        None => put_rule(tables, alloc, new, &new.resolved.rules()[j]),
+        Some(i) => replace_changed(tables, alloc, old, i, new, j, changed, meter),
+        None => put_rule(tables, alloc, new, &new.resolved.rules()[j], meter),
     }
 }
 
@@ -110,6 +135,7 @@ pub fn put_new<A: Allocator + Copy>(
     new: &Policy<'_, A>,
     matching: &RuleMatching<A>,
     changed: &ChangedRows<'_, A>,
+    meter: &mut Meter,
 ) -> Result<(), AllocError>
     requires old_ready { IsReady old.now }
     requires new_ready { IsReady new.now }
@@ -118,9 +144,12 @@ pub fn put_new<A: Allocator + Copy>(
     ensures now { OnOk result ((kind : RuleKind) (key : SymbolKey) (t : ℕ) → count_now tables.new kind key t + sum_below (across (given old.now kind key t) matching.now.back) (length new.now.resolved.now.rules.items)
         ≡ count_now tables.old kind key t + sum_below (given new.now kind key t) (length new.now.resolved.now.rules.items)) }
     ensures before { (kind : RuleKind) (key : SymbolKey) (t : ℕ) → count_before tables.new kind key t ≡ count_before tables.old kind key t }
+    ensures adjustments { OnOk result (RisesBy (below (turns old.now new.now matching.now) (length new.now.resolved.now.rules.items))
+        (adjustments_in meter.old) (adjustments_in meter.new)) }
+    ensures evaluations { evaluations_in meter.new ≡ evaluations_in meter.old }
 {
     for j in 0..new.resolved.rules().len() {
-        put_or_replace(tables, alloc, old, new, matching, changed, j)?;
+        put_or_replace(tables, alloc, old, new, matching, changed, j, meter)?;
     }
     Ok(())
 }

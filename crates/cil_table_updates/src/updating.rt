@@ -3,9 +3,11 @@
 ghost use Rattle.std.specs.Prelude.{◌≡◌, ◌≤◌, ℕ, length, OnOk};
 ghost use Rattle.cil_member_rows.specs.Rows as members;
 ghost use Rattle.cil_parse.specs.Lexicon.{AreNumbersOf};
+ghost use Rattle.cil_resolve.specs.Meter.{adjustments_in, evaluations_in};
 ghost use Rattle.cil_resolve.specs.Resolved.{meaning_in};
 ghost use Rattle.cil_rule_reach.specs.Named.{AreMembersOf};
 ghost use Rattle.cil_symbol_tables.specs.Tables.{count_before, count_now};
+ghost use Rattle.cil_table_updates.specs.Adjusted.{AdjustsAtLeast, AdjustsAtMost};
 ghost use Rattle.cil_table_updates.specs.Policies.{count_named};
 
 use crate::changed_rows::ChangedRows;
@@ -14,6 +16,7 @@ use crate::policy::{Named, Policy};
 use cil_keyed_lines::SymbolKey;
 use cil_matching::RuleMatching;
 use cil_member_rows::MemberRows;
+use cil_resolve::{Meter, resolved_rules_are_in_order};
 use cil_rule_reach::When;
 use cil_symbol_tables::SymbolTables;
 use cil_symbols::Symbols;
@@ -22,7 +25,7 @@ use std::alloc::{AllocError, Allocator};
 
 /// Brings the tables of an old policy to a new one in steps, which `undo` takes back, also after an out of memory. The rows hold
 /// the members of the old policy before their steps, and those of the new one now. Rules that both policies have, of the same module,
-/// offset and content, are passed over where the members of their source and target stayed.
+/// offset and content, are passed over where the members of their source and target stayed. The meter counts each counter that moves.
 pub fn update<A: Allocator + Copy>(
     tables: &mut SymbolTables<A>,
     alloc: A,
@@ -30,6 +33,7 @@ pub fn update<A: Allocator + Copy>(
     rows: &MemberRows<A>,
     old: Named<'_, A>,
     new: Named<'_, A>,
+    meter: &mut Meter,
 ) -> Result<(), AllocError>
     requires old_numbers { AreNumbersOf names.now old.numbering.now.symbols old.resolved.now.names.items }
     requires new_numbers { AreNumbersOf names.now new.numbering.now.symbols new.resolved.now.names.items }
@@ -40,11 +44,16 @@ pub fn update<A: Allocator + Copy>(
     requires stands { (kind : RuleKind) (key : SymbolKey) (t : ℕ) → count_now tables.old kind key t ≡ count_named names.now (meaning_in old.resolved.now) kind key t }
     ensures now { OnOk result ((kind : RuleKind) (key : SymbolKey) (t : ℕ) → count_now tables.new kind key t ≡ count_named names.now (meaning_in new.entry.resolved.now) kind key t) }
     ensures before { (kind : RuleKind) (key : SymbolKey) (t : ℕ) → count_before tables.new kind key t ≡ count_before tables.old kind key t }
+    ensures at_most { OnOk result (AdjustsAtMost (meaning_in old.entry.resolved.now) (meaning_in new.entry.resolved.now) (adjustments_in meter.old) (adjustments_in meter.new)) }
+    ensures at_least { OnOk result (AdjustsAtLeast (count_now tables.old) (count_now tables.new) (adjustments_in meter.old) (adjustments_in meter.new)) }
+    ensures evaluations { evaluations_in meter.new ≡ evaluations_in meter.old }
 {
     let old = Policy::of(old, names, rows, When::Before);
     let new = Policy::of(new, names, rows, When::Now);
+    resolved_rules_are_in_order(old.resolved);
+    resolved_rules_are_in_order(new.resolved);
     let matching = RuleMatching::of(alloc, old.resolved, new.resolved)?;
     let changed = ChangedRows::of(alloc, rows, names.len())?;
-    take_gone(tables, alloc, &old, &matching)?;
-    put_new(tables, alloc, &old, &new, &matching, &changed)
+    take_gone(tables, alloc, &old, &matching, meter)?;
+    put_new(tables, alloc, &old, &new, &matching, &changed, meter)
 }

@@ -17,8 +17,8 @@ unwrap-ty-requires g c =
     let is = (c.local.ensures k).1 here in
     search rules
 
-pub returns : goal.returns
-returns g c =
+pub returns-clause-held : goal.returns-clause-held
+returns-clause-held g c =
     let r = c.args.side.now.resolved.now in
     let symbols = c.args.symbols.now in
     let numbers = c.args.side.now.numbering.now.symbols in

@@ -1,5 +1,6 @@
 use Rattle.std.proofs.Common.{◌+◌, ◌*◌, ◌∙◌, ap, arith, refl, subst, sym}
 use Rattle.std.specs.Int.{bit_at}
+use Rattle.cil_resolve.specs.Meter.{adjustments_in}
 use Rattle.cil_resolve.specs.Resolved.{meaning_in}
 use Rattle.cil_sets.specs.Places.{set_at}
 use Rattle.cil_member_updates.specs.Bits.{AreBits}
@@ -27,14 +28,20 @@ loop-b-preserved g c =
     elim c.if-kept-b-eq1.branch [
       | then-kept-b-eq1 w ↦
           let more = w.held_bit-mask.result in
-          subst (HeldBelow c.args.visits test c.args.word (b + 1)) (sym w.mask-is)
-          (held-add c.args.visits test c.args.word b c.loop-b.mask c.loop-b.invariant (test (64 * c.args.word + b)) more within
-          (looked-visit (keeps symbols (meaning_in r)) test c.args.word c.args.visits c.word.result b within kept w.if-kept-b-eq1.true) refl
-          (ap (λ n. bit_at n b) w.held_bit-mask.ensures ∙ answer-bit (test (64 * c.args.word + b)) (64 * c.args.word + b) b (omega (arith, within)))
-          (λ k other. ap (λ n. bit_at n k) w.held_bit-mask.ensures ∙ answer-other (test (64 * c.args.word + b)) (64 * c.args.word + b) b (omega (arith, within)) k other))
+          record {
+            held = subst (HeldBelow c.args.visits test c.args.word (b + 1)) (sym w.mask-is)
+                (held-add c.args.visits test c.args.word b c.loop-b.mask c.loop-b.invariant.held (test (64 * c.args.word + b)) more within
+                (looked-visit (keeps symbols (meaning_in r)) test c.args.word c.args.visits c.word.result b within kept w.if-kept-b-eq1.true) refl
+                (ap (λ n. bit_at n b) w.held_bit-mask.ensures.bit ∙ answer-bit (test (64 * c.args.word + b)) (64 * c.args.word + b) b (omega (arith, within)))
+                (λ k other. ap (λ n. bit_at n k) w.held_bit-mask.ensures.bit ∙ answer-other (test (64 * c.args.word + b)) (64 * c.args.word + b) b (omega (arith, within)) k other));
+            adjustments = ap adjustments_in w.meter-is ∙ w.held_bit-mask.ensures.adjustments ∙ c.loop-b.invariant.adjustments;
+          }
       | else-kept-b-eq1 w ↦
-          subst (HeldBelow c.args.visits test c.args.word (b + 1)) (sym w.mask-is)
-          (held-skip c.args.visits test c.args.word b c.loop-b.mask c.loop-b.invariant
-          (looked-past (keeps symbols (meaning_in r)) test c.args.word c.args.visits c.word.result b within kept w.if-kept-b-eq1.false
-          (holds-kept symbols (meaning_in r) (set_at r c.args.i) (64 * c.args.word + b))))
+          record {
+            held = subst (HeldBelow c.args.visits test c.args.word (b + 1)) (sym w.mask-is)
+                (held-skip c.args.visits test c.args.word b c.loop-b.mask c.loop-b.invariant.held
+                (looked-past (keeps symbols (meaning_in r)) test c.args.word c.args.visits c.word.result b within kept w.if-kept-b-eq1.false
+                (holds-kept symbols (meaning_in r) (set_at r c.args.i) (64 * c.args.word + b))));
+            adjustments = ap adjustments_in w.meter-is ∙ c.loop-b.invariant.adjustments;
+          }
     ]

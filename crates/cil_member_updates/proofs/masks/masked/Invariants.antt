@@ -1,3 +1,5 @@
+use Rattle.std.proofs.Common.{◌≡◌}
+use Rattle.cil_resolve.specs.Meter.{adjustments_in}
 use Rattle.cil_resolve.specs.Resolved.{meaning_in}
 use Rattle.cil_sets.specs.Places.{set_at}
 use Rattle.cil_member_updates.specs.Given.{holds}
@@ -6,4 +8,8 @@ use Rattle.cil_member_updates.proofs.masks.masked.Given as goal
 
 -- the bits so far
 abbrev pub invariant-loop-b : goal.invariant-loop-b
-invariant-loop-b g l = HeldBelow l.visits (holds l.symbols (meaning_in l.side.resolved.now) (set_at l.side.resolved.now l.i)) l.word l.b l.mask
+invariant-loop-b g l =
+    record {
+      held : HeldBelow l.visits (holds l.symbols (meaning_in l.side.resolved.now) (set_at l.side.resolved.now l.i)) l.word l.b l.mask;
+      adjustments : adjustments_in l.meter ≡ adjustments_in l.fn.meter;
+    }

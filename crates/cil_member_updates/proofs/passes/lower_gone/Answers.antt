@@ -17,6 +17,7 @@ loop-i-init g c = record {
       omega (arith, start, none);
   before = λ a t. refl;
   rows = refl;
+  adjustments = refl;
 }
 
 pub lower_gone_set-requires-clause-tell : goal.lower_gone_set-requires-clause-tell
@@ -39,6 +40,7 @@ loop-i-preserved g c =
           gone-more (given_by c.args.symbols.now r a t) (length (sets_in r)) c.args.matching.now.ahead (count_now c.loop-i.rows a t) (count_now c.lower_gone_set.new.rows a t) c.loop-i.i (c.loop-i.invariant.now a t) (step.now a t);
       before = λ a t. step.before a t ∙ c.loop-i.invariant.before a t;
       rows = step.rows ∙ c.loop-i.invariant.rows;
+      adjustments = step.adjustments ∙ c.loop-i.invariant.adjustments;
     }
 
 pub returns-clause-now : goal.returns-clause-now

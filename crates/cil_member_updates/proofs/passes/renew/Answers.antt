@@ -17,6 +17,7 @@ loop-j-init g c = record {
       omega (arith, start, none_was, none_is);
   before = λ a t. refl;
   rows = refl;
+  adjustments = refl;
 }
 
 pub renew_set-requires-clause-before : goal.renew_set-requires-clause-before
@@ -41,6 +42,7 @@ loop-j-preserved g c =
           (count_now c.renew_set.new.rows a t) c.loop-j.j (c.loop-j.invariant.now a t) (step.now a t);
       before = λ a t. step.before a t ∙ c.loop-j.invariant.before a t;
       rows = step.rows ∙ c.loop-j.invariant.rows;
+      adjustments = step.adjustments ∙ c.loop-j.invariant.adjustments;
     }
 
 pub returns-clause-now : goal.returns-clause-now

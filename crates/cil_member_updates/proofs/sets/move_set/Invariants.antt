@@ -1,5 +1,6 @@
 use Rattle.std.proofs.Common.{◌≡◌, ℕ}
 use Rattle.cil_member_rows.specs.Rows.{count_before, count_now, rows_in}
+use Rattle.cil_resolve.specs.Meter.{adjustments_in}
 use Rattle.cil_member_updates.specs.Policy.{given}
 use Rattle.cil_member_updates.proofs.MovedLemmas.{MovedBelow}
 use Rattle.cil_member_updates.proofs.sets.move_set.Given as goal
@@ -11,4 +12,5 @@ invariant-loop-word g l =
       moved : MovedBelow l.word (given l.symbols l.old.resolved.now l.i) (given l.symbols l.new.resolved.now l.j) (count_now l.fn.rows) (count_now l.rows);
       before : (a t : ℕ) → count_before l.rows a t ≡ count_before l.fn.rows a t;
       rows : rows_in l.rows ≡ rows_in l.fn.rows;
+      adjustments : adjustments_in l.meter ≡ adjustments_in l.fn.meter;
     }

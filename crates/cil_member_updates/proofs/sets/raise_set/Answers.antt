@@ -22,6 +22,7 @@ loop-word-init g c = record {
   moved = moved-none nothing (given c.args.symbols.now c.args.new.now.resolved.now c.args.j) (count_now c.args.rows.now);
   before = λ a t. refl;
   rows = refl;
+  adjustments = refl;
 }
 
 pub loop-word-preserved : goal.loop-word-preserved
@@ -33,6 +34,7 @@ loop-word-preserved g c =
           c.loop-word.invariant.moved step.now;
       before = λ a t. step.before a t ∙ c.loop-word.invariant.before a t;
       rows = step.rows ∙ c.loop-word.invariant.rows;
+      adjustments = step.adjustments ∙ c.loop-word.invariant.adjustments;
     }
 
 pub returns-clause-now : goal.returns-clause-now

@@ -22,7 +22,7 @@ shift-requires-clause-above g c =
     let s = set_at p c.args.i in
     let r = set_at q c.args.j in
     let at : slice_get c.args.symbols.now c.row_of-row.result ≡ Some s.attribute = c.row_of-row.ensures ∙ ap Some (sym (same-attribute s r c.requires.same)) in
-    move-above c.args.symbols.now c.requires.new.distinct c.row_of-row.result c.args.word c.unsettled-visits.result (count_now c.args.rows.now) (meaning_in p) (meaning_in q) s r at c.row_of-row.ensures c.masked-was.result c.masked-is.result c.unsettled-visits.ensures c.masked-was.ensures c.masked-is.ensures c.requires.above
+    move-above c.args.symbols.now c.requires.new.distinct c.row_of-row.result c.args.word c.unsettled-visits.result (count_now c.args.rows.now) (meaning_in p) (meaning_in q) s r at c.row_of-row.ensures c.masked-was.result c.masked-is.result c.unsettled-visits.ensures c.masked-was.ensures.held c.masked-is.ensures.held c.requires.above
 
 pub returns-clause-now : goal.returns-clause-now
 unfolding given
@@ -33,7 +33,7 @@ returns-clause-now g c =
     let r = set_at q c.args.j in
     let at : slice_get c.args.symbols.now c.row_of-row.result ≡ Some s.attribute = c.row_of-row.ensures ∙ ap Some (sym (same-attribute s r c.requires.same)) in
     on_ok_weaker c.shift.result
-    (moved-word c.args.symbols.now c.requires.new.distinct c.row_of-row.result c.args.word c.unsettled-visits.result (count_now c.args.rows.now) (meaning_in p) (meaning_in q) s r at c.row_of-row.ensures c.masked-was.result c.masked-is.result c.unsettled-visits.ensures c.masked-was.ensures c.masked-is.ensures
+    (moved-word c.args.symbols.now c.requires.new.distinct c.row_of-row.result c.args.word c.unsettled-visits.result (count_now c.args.rows.now) (meaning_in p) (meaning_in q) s r at c.row_of-row.ensures c.masked-was.result c.masked-is.result c.unsettled-visits.ensures c.masked-was.ensures.held c.masked-is.ensures.held
     (count_now c.shift.new.self)) c.shift.ensures.ok
 
 pub returns-then-visits-eq0-clause-now : goal.returns-then-visits-eq0-clause-now

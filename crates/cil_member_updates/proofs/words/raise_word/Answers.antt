@@ -17,14 +17,14 @@ pub shift-requires-clause-above : goal.shift-requires-clause-above
 unfolding given
 shift-requires-clause-above g c =
     let r = c.args.new.now.resolved.now in
-    raise-above c.args.symbols.now c.requires.new.distinct c.row_of-row.result c.args.word c.reached-visits.result (count_now c.args.rows.now) (meaning_in r) (set_at r c.args.j) c.row_of-row.ensures c.masked-is.result c.reached-visits.ensures c.masked-is.ensures
+    raise-above c.args.symbols.now c.requires.new.distinct c.row_of-row.result c.args.word c.reached-visits.result (count_now c.args.rows.now) (meaning_in r) (set_at r c.args.j) c.row_of-row.ensures c.masked-is.result c.reached-visits.ensures c.masked-is.ensures.held
 
 pub returns-clause-now : goal.returns-clause-now
 unfolding given
 returns-clause-now g c =
     let r = c.args.new.now.resolved.now in
     on_ok_weaker c.shift.result
-    (raised-word c.args.symbols.now c.requires.new.distinct c.row_of-row.result c.args.word c.reached-visits.result (count_now c.args.rows.now) (meaning_in r) (set_at r c.args.j) c.row_of-row.ensures c.masked-is.result c.reached-visits.ensures c.masked-is.ensures
+    (raised-word c.args.symbols.now c.requires.new.distinct c.row_of-row.result c.args.word c.reached-visits.result (count_now c.args.rows.now) (meaning_in r) (set_at r c.args.j) c.row_of-row.ensures c.masked-is.result c.reached-visits.ensures c.masked-is.ensures.held
     (count_now c.shift.new.self)) c.shift.ensures.ok
 
 pub returns-then-visits-eq0-clause-now : goal.returns-then-visits-eq0-clause-now

@@ -2,6 +2,7 @@ use Rattle.std.proofs.Common.{◌==◌, ◌∙◌, slice_index_or, refl, arith}
 use Rattle.cil_keyed_lines.specs.Keyed.{count_now}
 use Rattle.cil_keyed_lines.specs.declared.symbol_key.SymbolKey.{SymbolKey}
 use Rattle.cil_rule_shifts.specs.Reach.{takes}
+use Rattle.cil_rule_shifts.proofs.MoveLemmas.{lines-step}
 use Rattle.cil_rule_shifts.proofs.ShiftLemmas.{above-line, line-more}
 use Rattle.cil_rule_shifts.proofs.shift.shift_lines.Goals as goal
 
@@ -21,8 +22,10 @@ loop-permission-preserved g c = (
       let i = c.loop-permission.permission-index in
       let was_more = line-more xs c.requires.permissions i (slice_index_or xs i 0) c.loop-permission-test.true refl (c.args.source == k.source) (c.args.class == k.class) (takes c.args.was.now c.args.source t) k.permission in
       let is_more = line-more xs c.requires.permissions i (slice_index_or xs i 0) c.loop-permission-test.true refl (c.args.source == k.source) (c.args.class == k.class) (takes c.args.is.now c.args.source t) k.permission in
-      let step = c.in_ok-shift_line.ensures.now k t in
+      let step = c.in_ok-here.ensures.now k t in
       let moved = c.loop-permission.invariant.0 k t in
       omega (arith, was_more, is_more, step, moved),
-  λ k t. c.in_ok-shift_line.ensures.before k t ∙ c.loop-permission.invariant.1 k t,
+  λ k t. c.in_ok-here.ensures.before k t ∙ c.loop-permission.invariant.1 k t,
+  lines-step c.args.source c.args.class c.args.permissions.now c.requires.permissions c.args.was.now c.args.is.now c.loop-permission.permission-index c.loop-permission.moved c.in_ok-here.here c.saturating_add-moved.result
+      c.loop-permission-test.true c.loop-permission.invariant.2 c.in_ok-here.ensures.moved c.saturating_add-moved.ensures,
 )

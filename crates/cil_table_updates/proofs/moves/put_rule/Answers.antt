@@ -1,6 +1,8 @@
 use Rattle.std.proofs.lemmas.Result.{on_ok_weaker}
+use Rattle.cil_resolve.specs.Meter.{adjustments_in}
 use Rattle.cil_rule_reach.specs.Reaches.{covers_by, members_of}
 use Rattle.cil_symbol_tables.specs.Tables.{count_now}
+use Rattle.cil_table_updates.proofs.AdjustedLemmas.{put-rises}
 use Rattle.cil_table_updates.proofs.MoveLemmas.{gives-covered, gives-nothing, put-moved}
 use Rattle.cil_table_updates.proofs.moves.put_rule.Goals as goal
 
@@ -14,3 +16,14 @@ returns-clause-now g c =
     put-moved symbols rule c.none.result c.in_ok-is.is' (count_now c.shift_as.new.tables) (count_now c.args.tables.now) moved (covers_by members symbols rule) (gives-nothing symbols rule c.none.result c.none.ensures.none)
     (gives-covered symbols rule c.in_ok-is.is' members c.in_ok-is.ensures.sources c.in_ok-is.ensures.targets))
     c.shift_as.ensures.now
+
+pub returns-clause-adjustments : goal.returns-clause-adjustments
+returns-clause-adjustments g c =
+    let symbols = c.args.policy.now.numbering.now.symbols in
+    let members = members_of c.args.policy.now.members in
+    let rule = c.args.rule.now in
+    on_ok_weaker c.shift_as.result
+    (λ rises.
+    put-rises symbols rule c.none.result c.in_ok-is.is' (adjustments_in c.args.meter.now) (adjustments_in c.shift_as.new.meter) rises (covers_by members symbols rule) (gives-nothing symbols rule c.none.result c.none.ensures.none)
+    (gives-covered symbols rule c.in_ok-is.is' members c.in_ok-is.ensures.sources c.in_ok-is.ensures.targets))
+    c.shift_as.ensures.adjustments

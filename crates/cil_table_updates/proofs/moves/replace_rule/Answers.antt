@@ -1,8 +1,10 @@
 use Rattle.std.proofs.Common.{◌∙◌}
 use Rattle.std.proofs.lemmas.Result.{on_ok_weaker}
+use Rattle.cil_resolve.specs.Meter.{adjustments_in}
 use Rattle.cil_rule_reach.specs.Reaches.{covers_by, members_of}
 use Rattle.cil_symbol_tables.specs.Tables.{count_now}
 use Rattle.cil_table_updates.specs.Moves.{gives_as}
+use Rattle.cil_table_updates.proofs.AdjustedLemmas.{replace-rises}
 use Rattle.cil_table_updates.proofs.MoveLemmas.{counted-kind, covered-alike, gives-covered, replace-moved}
 use Rattle.cil_table_updates.proofs.moves.replace_rule.Goals as goal
 
@@ -36,3 +38,21 @@ returns-clause-now g c =
     ∙ gives-covered was_symbols was_rule c.in_ok-was.was' was_members c.in_ok-was.ensures.sources c.in_ok-was.ensures.targets key t)
     (gives-covered symbols rule c.in_ok-is.is' members c.in_ok-is.ensures.sources c.in_ok-is.ensures.targets))
     c.shift_as.ensures.now
+
+pub returns-clause-adjustments : goal.returns-clause-adjustments
+returns-clause-adjustments g c =
+    let was_symbols = c.args.old.now.numbering.now.symbols in
+    let symbols = c.args.new.now.numbering.now.symbols in
+    let was_members = members_of c.args.old.now.members in
+    let members = members_of c.args.new.now.members in
+    let was_rule = c.args.old_rule.now in
+    let rule = c.args.new_rule.now in
+    on_ok_weaker c.shift_as.result
+    (λ rises.
+    replace-rises symbols rule c.in_ok-was.was' c.in_ok-is.is' (adjustments_in c.args.meter.now) (adjustments_in c.shift_as.new.meter) rises was_rule.kind (covers_by was_members was_symbols was_rule) (covers_by members symbols rule)
+    c.requires.head.kind
+    (λ key t.
+    covered-alike was_symbols symbols was_rule rule c.in_ok-was.was' c.requires.head key t
+    ∙ gives-covered was_symbols was_rule c.in_ok-was.was' was_members c.in_ok-was.ensures.sources c.in_ok-was.ensures.targets key t)
+    (gives-covered symbols rule c.in_ok-is.is' members c.in_ok-is.ensures.sources c.in_ok-is.ensures.targets))
+    c.shift_as.ensures.adjustments

@@ -1,8 +1,10 @@
 use Rattle.std.proofs.Common.{refl}
 use Rattle.std.proofs.lemmas.Result.{on_ok_weaker}
+use Rattle.cil_resolve.specs.Meter.{adjustments_in}
 use Rattle.cil_rule_reach.specs.Reaches.{covers_by, members_of}
 use Rattle.cil_symbol_tables.specs.Tables.{count_now}
 use Rattle.cil_table_updates.specs.Moves.{gives_as}
+use Rattle.cil_table_updates.proofs.AdjustedLemmas.{take-rises}
 use Rattle.cil_table_updates.proofs.MoveLemmas.{counted-kind, gives-covered, gives-nothing, take-moved}
 use Rattle.cil_table_updates.proofs.moves.take_rule.Goals as goal
 
@@ -24,3 +26,14 @@ returns-clause-now g c =
     take-moved symbols rule c.in_ok-was.was' c.none.result (count_now c.shift_as.new.tables) (count_now c.args.tables.now) moved (covers_by members symbols rule) (gives-nothing symbols rule c.none.result c.none.ensures.none)
     (gives-covered symbols rule c.in_ok-was.was' members c.in_ok-was.ensures.sources c.in_ok-was.ensures.targets))
     c.shift_as.ensures.now
+
+pub returns-clause-adjustments : goal.returns-clause-adjustments
+returns-clause-adjustments g c =
+    let symbols = c.args.policy.now.numbering.now.symbols in
+    let members = members_of c.args.policy.now.members in
+    let rule = c.args.rule.now in
+    on_ok_weaker c.shift_as.result
+    (λ rises.
+    take-rises symbols rule c.in_ok-was.was' c.none.result (adjustments_in c.args.meter.now) (adjustments_in c.shift_as.new.meter) rises (covers_by members symbols rule) (gives-nothing symbols rule c.none.result c.none.ensures.none)
+    (gives-covered symbols rule c.in_ok-was.was' members c.in_ok-was.ensures.sources c.in_ok-was.ensures.targets))
+    c.shift_as.ensures.adjustments

@@ -1,6 +1,9 @@
 use Rattle.std.proofs.Common.{◌∙◌, refl, arith, length, subst, ◌<◌}
+use Rattle.cil_resolve.specs.Meter.{adjustments_in}
 use Rattle.cil_sums.specs.Sums.{across}
+use Rattle.cil_sums.proofs.RiseLemmas.{rises-first, rises-next}
 use Rattle.cil_sums.proofs.SumLemmas.{sum-more, sum-none, sum-part}
+use Rattle.cil_table_updates.specs.Adjusted.{turns}
 use Rattle.cil_table_updates.specs.Given.{given}
 use Rattle.cil_table_updates.proofs.passes.put_new.Goals as goal
 
@@ -11,6 +14,8 @@ loop-j-init g c = record {
       let nothing = sum-none (given c.args.new.now kind key t) in
       omega (arith, none, nothing);
   before = λ kind key t. refl;
+  adjustments = rises-first (turns c.args.old.now c.args.new.now c.args.matching.now) (adjustments_in c.args.meter.now);
+  evaluations = refl;
 }
 
 pub put_or_replace-requires-clause-counted : goal.put_or_replace-requires-clause-counted
@@ -30,4 +35,8 @@ loop-j-preserved g c = record {
       let one = c.in_ok-put_or_replace.ensures.now kind key t in
       omega (arith, was, is, put, one);
   before = λ kind key t. c.in_ok-put_or_replace.ensures.before kind key t ∙ c.loop-j.invariant.before kind key t;
+  adjustments =
+      rises-next (turns c.args.old.now c.args.new.now c.args.matching.now) c.loop-j.j (adjustments_in c.args.meter.now) (adjustments_in c.loop-j.meter) (adjustments_in c.put_or_replace.new.meter) c.loop-j.invariant.adjustments
+      c.in_ok-put_or_replace.ensures.adjustments;
+  evaluations = c.in_ok-put_or_replace.ensures.evaluations ∙ c.loop-j.invariant.evaluations;
 }

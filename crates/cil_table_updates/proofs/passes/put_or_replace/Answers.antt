@@ -1,9 +1,13 @@
-use Rattle.std.proofs.Common.{◌≡◌, ◌+◌, ◌≤◌, ◌∙◌, sym, ap, add-zero, length, slice_get, subst, Some}
+use Rattle.std.proofs.Common.{◌≡◌, ◌+◌, ◌≤◌, ◌==◌, ◌∙◌, false, sym, ap, add-zero, length, not, slice_get, subst, Some}
 use Rattle.std.proofs.lemmas.Result.{on_ok_weaker}
 use Rattle.cil_resolve.specs.Below.{is_rule_below}
+use Rattle.cil_resolve.specs.Meter.{adjustments_in}
+use Rattle.cil_sums.proofs.RiseLemmas.{rises-same}
 use Rattle.cil_sums.proofs.SumLemmas.{across-none, across-some}
 use Rattle.cil_symbol_tables.specs.Tables.{count_now}
+use Rattle.cil_table_updates.specs.Adjusted.{gives_it, swaps, turns}
 use Rattle.cil_table_updates.specs.Given.{given}
+use Rattle.cil_table_updates.proofs.AdjustedLemmas.{counted-other}
 use Rattle.cil_table_updates.proofs.GivenLemmas.{given-rule}
 use Rattle.cil_table_updates.proofs.PlaceLemmas.{never, passes-at, read-at}
 use Rattle.cil_table_updates.proofs.passes.put_or_replace.Goals as goal
@@ -44,3 +48,28 @@ returns-in-None-clause-now g c =
     (sym (given-rule c.args.new.now kind key t c.args.j c.index-rules-j.result
     (read-at c.rules.result.now c.args.new.now.resolved.now.rules.items c.args.j c.index-rules-j.result c.rules.ensures.rules c.requires.within c.index-rules-j.is))))
     c.put_rule.ensures.now
+
+pub returns-in-Some-clause-adjustments : goal.returns-in-Some-clause-adjustments
+returns-in-Some-clause-adjustments g c =
+    let old = c.args.old.now in
+    let new = c.args.new.now in
+    on_ok_weaker c.replace_changed.result
+    (rises-same (swaps old c.in-Some.i new c.args.j) (turns old new c.args.matching.now c.args.j) (adjustments_in c.args.meter.now) (adjustments_in c.replace_changed.new.meter)
+    (λ x. sym (ap (λ n. not (n == given new x.kind x.key x.target c.args.j))
+    (across-some (given old x.kind x.key x.target) c.args.matching.now.back c.in-Some.i c.args.j ((c.old_place.ensures c.in-Some.i).0 c.in-Some.is)))))
+    c.replace_changed.ensures.adjustments
+
+pub returns-in-None-clause-adjustments : goal.returns-in-None-clause-adjustments
+returns-in-None-clause-adjustments g c =
+    let old = c.args.old.now in
+    let new = c.args.new.now in
+    let rule = c.index-rules-j.result in
+    let read = read-at c.rules.result.now new.resolved.now.rules.items c.args.j rule c.rules.ensures.rules c.requires.within c.index-rules-j.is in
+    on_ok_weaker c.put_rule.result
+    (rises-same (gives_it new rule) (turns old new c.args.matching.now c.args.j) (adjustments_in c.args.meter.now) (adjustments_in c.put_rule.new.meter)
+    (λ x. counted-other false (gives_it new rule x)
+    ∙ sym (ap (λ n. not (0 == n)) (given-rule new x.kind x.key x.target c.args.j rule read))
+    ∙ sym (ap (λ n. not (n == given new x.kind x.key x.target c.args.j))
+    (across-none (given old x.kind x.key x.target) c.args.matching.now.back c.args.j
+    (never (λ i. slice_get c.args.matching.now.back c.args.j ≡ Some (Some i)) c.old_place.result c.old_place.ensures c.in-None.is)))))
+    c.put_rule.ensures.adjustments

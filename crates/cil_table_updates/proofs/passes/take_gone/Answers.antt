@@ -1,7 +1,10 @@
 use Rattle.std.proofs.Common.{◌+◌, ◌∙◌, refl, ap, add-zero, arith, length, subst, ◌<◌}
+use Rattle.cil_resolve.specs.Meter.{adjustments_in}
 use Rattle.cil_sums.specs.Sums.{alone}
+use Rattle.cil_sums.proofs.RiseLemmas.{rises-first, rises-next}
 use Rattle.cil_sums.proofs.SumLemmas.{sum-more, sum-none, sum-part}
 use Rattle.cil_symbol_tables.specs.Tables.{count_now}
+use Rattle.cil_table_updates.specs.Adjusted.{goes}
 use Rattle.cil_table_updates.specs.Given.{given}
 use Rattle.cil_table_updates.proofs.passes.take_gone.Goals as goal
 
@@ -9,6 +12,8 @@ pub loop-i-init : goal.loop-i-init
 loop-i-init g c = record {
   now = λ kind key t. ap (λ n. count_now c.args.tables.now kind key t + n) (sum-none (alone (given c.args.old.now kind key t) c.args.matching.now.ahead)) ∙ add-zero (count_now c.args.tables.now kind key t);
   before = λ kind key t. refl;
+  adjustments = rises-first (goes c.args.old.now c.args.matching.now) (adjustments_in c.args.meter.now);
+  evaluations = refl;
 }
 
 pub take_if_gone-requires-clause-counted : goal.take_if_gone-requires-clause-counted
@@ -27,4 +32,8 @@ loop-i-preserved g c = record {
       let one = c.in_ok-take_if_gone.ensures.now kind key t in
       omega (arith, more, taken, one);
   before = λ kind key t. c.in_ok-take_if_gone.ensures.before kind key t ∙ c.loop-i.invariant.before kind key t;
+  adjustments =
+      rises-next (goes c.args.old.now c.args.matching.now) c.loop-i.i (adjustments_in c.args.meter.now) (adjustments_in c.loop-i.meter) (adjustments_in c.take_if_gone.new.meter) c.loop-i.invariant.adjustments
+      c.in_ok-take_if_gone.ensures.adjustments;
+  evaluations = c.in_ok-take_if_gone.ensures.evaluations ∙ c.loop-i.invariant.evaluations;
 }

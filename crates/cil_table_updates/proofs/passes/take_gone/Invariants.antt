@@ -1,7 +1,10 @@
 use Rattle.std.proofs.Common.{◌≡◌, ◌+◌, ℕ}
+use Rattle.cil_resolve.specs.Meter.{adjustments_in, evaluations_in}
+use Rattle.cil_sums.specs.Rises.{below, RisesBy}
 use Rattle.cil_sums.specs.Sums.{alone, sum_below}
 use Rattle.cil_keyed_lines.specs.declared.symbol_key.SymbolKey.{SymbolKey}
 use Rattle.cil_symbol_tables.specs.Tables.{count_before, count_now}
+use Rattle.cil_table_updates.specs.Adjusted.{goes}
 use Rattle.cil_table_updates.specs.Given.{given}
 use Rattle.cil_text.specs.declared.statement.RuleKind.{RuleKind}
 use Rattle.cil_table_updates.proofs.passes.take_gone.Given as goal
@@ -11,4 +14,6 @@ abbrev pub invariant-loop-i : goal.invariant-loop-i
 invariant-loop-i g l = record {
   now : (kind : RuleKind) (key : SymbolKey) (t : ℕ) → count_now l.tables kind key t + sum_below (alone (given l.old kind key t) l.matching.ahead) l.i ≡ count_now l.fn.tables kind key t;
   before : (kind : RuleKind) (key : SymbolKey) (t : ℕ) → count_before l.tables kind key t ≡ count_before l.fn.tables kind key t;
+  adjustments : RisesBy (below (goes l.old l.matching) l.i) (adjustments_in l.fn.meter) (adjustments_in l.meter);
+  evaluations : evaluations_in l.meter ≡ evaluations_in l.fn.meter;
 }

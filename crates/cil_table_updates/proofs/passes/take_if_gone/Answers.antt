@@ -1,8 +1,12 @@
-use Rattle.std.proofs.Common.{◌≡◌, ◌+◌, ◌≤◌, ◌∙◌, ap, add-zero, slice_get, subst, Some}
+use Rattle.std.proofs.Common.{◌≡◌, ◌+◌, ◌≤◌, ◌∙◌, ap, sym, add-zero, nat_lt, slice_get, subst, Some}
 use Rattle.std.proofs.lemmas.Result.{on_ok_weaker}
+use Rattle.cil_resolve.specs.Meter.{adjustments_in}
+use Rattle.cil_sums.proofs.RiseLemmas.{rises-none, rises-same}
 use Rattle.cil_sums.proofs.SumLemmas.{alone-some}
 use Rattle.cil_symbol_tables.specs.Tables.{count_now}
+use Rattle.cil_table_updates.specs.Adjusted.{gives_it, goes}
 use Rattle.cil_table_updates.specs.Given.{given}
+use Rattle.cil_table_updates.proofs.AdjustedLemmas.{counted-some}
 use Rattle.cil_table_updates.proofs.GivenLemmas.{gone-rule}
 use Rattle.cil_table_updates.proofs.PlaceLemmas.{never, read-at}
 use Rattle.cil_table_updates.proofs.passes.take_if_gone.Goals as goal
@@ -30,3 +34,20 @@ returns-in-None-clause-now g c =
     (never (λ j. slice_get c.args.matching.now.ahead c.args.i ≡ Some (Some j)) c.new_place.result c.new_place.ensures c.in-None.is))
     ∙ moved kind key t)
     c.take_rule.ensures.now
+
+pub returns-in-Some-clause-adjustments : goal.returns-in-Some-clause-adjustments
+returns-in-Some-clause-adjustments g c =
+    rises-none (goes c.args.old.now c.args.matching.now c.args.i) (adjustments_in c.args.meter.now)
+    (λ x. ap (nat_lt 0) (alone-some (given c.args.old.now x.kind x.key x.target) c.args.matching.now.ahead c.args.i c.in-Some.field-0 ((c.new_place.ensures c.in-Some.field-0).0 c.in-Some.is)))
+
+pub returns-in-None-clause-adjustments : goal.returns-in-None-clause-adjustments
+returns-in-None-clause-adjustments g c =
+    let old = c.args.old.now in
+    let rule = c.index-rules-i.result in
+    on_ok_weaker c.take_rule.result
+    (rises-same (gives_it old rule) (goes old c.args.matching.now c.args.i) (adjustments_in c.args.meter.now) (adjustments_in c.take_rule.new.meter)
+    (λ x. counted-some (gives_it old rule x)
+    ∙ sym (ap (nat_lt 0) (gone-rule old x.kind x.key x.target c.args.matching.now.ahead c.args.i rule
+    (read-at c.rules.result.now old.resolved.now.rules.items c.args.i rule c.rules.ensures.rules c.requires.within c.index-rules-i.is)
+    (never (λ j. slice_get c.args.matching.now.ahead c.args.i ≡ Some (Some j)) c.new_place.result c.new_place.ensures c.in-None.is)))))
+    c.take_rule.ensures.adjustments

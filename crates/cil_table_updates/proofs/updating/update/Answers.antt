@@ -1,10 +1,14 @@
-use Rattle.std.proofs.Common.{◌∙◌, sym, ap, subst}
+use Rattle.std.proofs.Common.{◌∙◌, length, sym, ap, subst}
 use Rattle.std.proofs.lemmas.Result.{on_ok_weaker}
+use Rattle.cil_matching.proofs.ApartLemmas.{apart-rules}
+use Rattle.cil_resolve.specs.Meter.{adjustments_in}
 use Rattle.cil_resolve.specs.Resolved.{meaning_in}
 use Rattle.cil_symbol_tables.specs.Tables.{count_now}
+use Rattle.cil_table_updates.specs.Adjusted.{AdjustsAtMost}
 use Rattle.cil_table_updates.specs.Given.{given}
 use Rattle.cil_table_updates.specs.Moves.{AreReplaced}
 use Rattle.cil_table_updates.specs.Policies.{count_named}
+use Rattle.cil_table_updates.proofs.DirtyLemmas.{on-ok-both, rises-at-least, update-at-most}
 use Rattle.cil_table_updates.proofs.GivenLemmas.{given-named}
 use Rattle.cil_table_updates.proofs.UpdateLemmas.{counts-new, gone-counted, rules-replaced, stayed-counted}
 use Rattle.cil_table_updates.proofs.updating.update.Goals as goal
@@ -42,3 +46,28 @@ returns-clause-now g c =
     ∙ given-named c.args.names.now c.of-new.ensures.apart c.of-new.result c.of-new.ensures.policy kind key t c.of-new.ensures.below c.of-new.ensures.consistent
     ∙ ap (λ r. count_named c.args.names.now (meaning_in r) kind key t) c.of-new.ensures.resolved)
     c.put_new.ensures.now
+
+pub returns-clause-at_most : goal.returns-clause-at_most
+returns-clause-at_most g c =
+    let old = c.of-old.result in
+    let new = c.of-new.result in
+    let before = adjustments_in c.args.meter.now in
+    let after = adjustments_in c.put_new.new.meter in
+    on_ok_weaker c.put_new.result
+    (λ rises.
+    subst (λ r. AdjustsAtMost (meaning_in r) (meaning_in c.args.new.resolved.now) before after) c.of-old.ensures.resolved
+    (subst (λ r. AdjustsAtMost (meaning_in old.resolved.now) (meaning_in r) before after) c.of-new.ensures.resolved
+    (update-at-most c.args.names.now c.of-old.ensures.apart old new c.of-old.ensures.policy c.of-new.ensures.policy c.of-old.ensures.below c.of-new.ensures.below c.of-old.ensures.consistent c.of-new.ensures.consistent
+    (apart-rules (meaning_in old.resolved.now).rules c.resolved_rules_are_in_order.ensures) (apart-rules (meaning_in new.resolved.now).rules c.resolved_rules_are_in_order-2.ensures) c.in_ok-matching.matching c.in_ok-matching.ensures
+    before (adjustments_in c.take_gone.new.meter) after c.in_ok-take_gone.ensures.adjustments rises)))
+    c.put_new.ensures.adjustments
+
+pub returns-clause-at_least : goal.returns-clause-at_least
+returns-clause-at_least g c =
+    let old = c.of-old.result in
+    let new = c.of-new.result in
+    on-ok-both c.put_new.result
+    (λ rises put.
+    rises-at-least old new c.in_ok-matching.matching (length old.resolved.now.rules.items) (length new.resolved.now.rules.items) (adjustments_in c.args.meter.now) (adjustments_in c.take_gone.new.meter) (adjustments_in c.put_new.new.meter)
+    c.in_ok-take_gone.ensures.adjustments rises (count_now c.args.tables.now) (count_now c.take_gone.new.tables) (count_now c.put_new.new.tables) c.in_ok-take_gone.ensures.now put)
+    c.put_new.ensures.adjustments c.put_new.ensures.now

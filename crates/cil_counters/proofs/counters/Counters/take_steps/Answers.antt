@@ -1,12 +1,20 @@
-use Rattle.std.proofs.Common.{◌∙◌, ap, refl, subst, sym}
+use Rattle.std.proofs.Common.{◌≡◌, ◌∙◌, ap, length, refl, subst, sym, true}
+use Rattle.std.specs.List.{list_all}
 use Rattle.std.proofs.lemmas.Result.{on_ok_weaker}
+use Rattle.cil_delta_specs.specs.Work.{AdjustsFew}
 use Rattle.cil_member_rows.specs.Rows as member_rows
 use Rattle.cil_member_updates.specs.Policy.{AreCounts}
 use Rattle.cil_member_updates.proofs.GrowthLemmas.{numbers-more}
 use Rattle.cil_parse.specs.Lexicon.{AreNumbersOf}
+use Rattle.cil_resolve.specs.Below.{is_rule_below}
+use Rattle.cil_resolve.specs.Meter.{adjustments_in}
 use Rattle.cil_resolve.specs.Resolved.{meaning_in}
 use Rattle.cil_symbol_tables.specs.Tables as access_tables
+use Rattle.cil_table_updates.specs.Adjusted.{AdjustsAtLeast, AdjustsAtMost}
 use Rattle.cil_table_updates.specs.Policies.{count_named}
+use Rattle.cil_table_updates.proofs.DirtyLemmas.{on-ok-both}
+use Rattle.cil_table_updates.proofs.FewLemmas.{adjusts-few}
+use Rattle.cil_counters.proofs.FoundLemmas.{found, tells}
 use Rattle.cil_counters.proofs.CountedLemmas.{counted-alike, members-counted}
 use Rattle.cil_counters.proofs.counters.Counters.take_steps.Goals as goal
 
@@ -63,3 +71,32 @@ returns-clause-before g c =
     (λ kind key t. ap (λ tables. access_tables.count_before tables kind key t) c.update_members.ensures.tables) in
     counted-alike c.args.old.now c.update_members.new.self.names c.update_members.new.self.names (member_rows.count_before c.update_members.new.self.rows) (member_rows.count_before c.update_members.new.self.rows)
     (access_tables.count_before c.update_members.new.self.tables) (access_tables.count_before c.update.new.tables) was refl (λ a t. refl) c.update.ensures.before
+
+pub returns-clause-adjustments : goal.returns-clause-adjustments
+returns-clause-adjustments g c =
+    let names = c.update_members.new.self.names in
+    let old = c.args.old.now in
+    let new = c.args.new.now in
+    let was = access_tables.count_now c.update_members.new.self.tables in
+    let rows = member_rows.count_now c.number-2.new.self.rows in
+    let is = access_tables.count_now c.update.new.tables in
+    let between = adjustments_in c.update_members.new.meter in
+    let after = adjustments_in c.update.new.meter in
+    let old_counted = counted-alike old c.number-2.new.self.names names rows rows (access_tables.count_now c.number-2.new.self.tables) was c.number-2.ensures.now c.update_members.ensures.names (λ a t. refl)
+    (λ kind key t. ap (λ tables. access_tables.count_now tables kind key t) c.update_members.ensures.tables) in
+    on-ok-both c.update.result
+    (λ (both : AdjustsAtMost (meaning_in old) (meaning_in new) between after × AdjustsAtLeast was is between after) counted changes are.
+    subst (λ n. AdjustsFew (meaning_in old) (meaning_in new) changes n after) c.update_members.ensures.adjustments
+    (adjusts-few names (meaning_in old) (meaning_in new) was is (found names)
+    (tells names old new rows (member_rows.count_now c.update_members.new.self.rows) was is old_counted
+    (record {
+      symbols = c.in_ok-new_numbering.new_numbering.symbols;
+      numbers = subst (λ l. AreNumbersOf l c.in_ok-new_numbering.new_numbering.symbols new.names.items) (sym c.update_members.ensures.names) c.in_ok-new_numbering.ensures.numbers;
+      are_members = subst (λ l. AreCounts l new (member_rows.count_now c.update_members.new.self.rows)) (sym c.update_members.ensures.names) c.in_ok-update_members.ensures.now;
+      are_counts = counted;
+    })
+    c.resolved_names_are_kept.ensures.types c.resolved_names_are_kept-2.ensures.types
+    (subst (λ l. list_all (is_rule_below (length old.names.items)) l ≡ true) c.rules.ensures.rules c.rules.ensures.within)
+    (subst (λ l. list_all (is_rule_below (length new.names.items)) l ≡ true) c.rules-2.ensures.rules c.rules-2.ensures.within))
+    changes are between after both.0 both.1))
+    (on-ok-both c.update.result (λ most least. (most, least)) c.update.ensures.at_most c.update.ensures.at_least) c.update.ensures.now

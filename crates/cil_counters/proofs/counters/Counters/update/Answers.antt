@@ -1,0 +1,6 @@
+use Rattle.std.proofs.lemmas.Result.{IfOk-weaker}
+use Rattle.cil_counters.proofs.counters.Counters.update.Goals as goal
+
+pub returns-clause-adjustments : goal.returns-clause-adjustments
+returns-clause-adjustments g c =
+    IfOk-weaker c.changes.result _ _ c.in_ok-take_steps.ensures.adjustments c.changes.ensures
