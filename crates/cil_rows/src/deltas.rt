@@ -44,7 +44,11 @@ fn assert_edits(rt: &impl Abort, alloc: Global, edits: &[(Edit<'static>, Told)])
     for (edit, want) in edits {
         let mut meter = Meter::new();
         let changes = engine.edit_metered(*edit, &mut meter).expect(rt, "an edit");
-        assert_same(rt, (changes.added_len(), changes.removed_len()), want.changes);
+        assert_same(
+            rt,
+            (changes.added_len(), changes.removed_len()),
+            want.changes,
+        );
         let (least, most) = want.evaluations;
         assert!(rt; least <= meter.evaluations() && meter.evaluations() <= most);
         assert_same(rt, meter.adjustments(), want.adjustments);
@@ -122,8 +126,14 @@ fn a_place_alone(rt: HostRuntime) {
     let base = b"(class p (use))(type a)(type b)(neverallow a b (p (use)))";
     let edits = [
         (install(b"base", base), told((1, 0), (0, 0), 1)),
-        (install(b"x", b" (allow a b (p (use)))"), told((1, 0), (0, 0), 1)),
-        (install(b"x", b"\n(allow a b (p (use)))"), told((0, 0), (0, 0), 0)),
+        (
+            install(b"x", b" (allow a b (p (use)))"),
+            told((1, 0), (0, 0), 1),
+        ),
+        (
+            install(b"x", b"\n(allow a b (p (use)))"),
+            told((0, 0), (0, 0), 0),
+        ),
     ];
     let engine = assert_edits(&rt, rt.alloc(), &edits);
     let mut sink = MemorySink::new(rt.alloc());

@@ -160,7 +160,7 @@ among-rule meaning r a given =
     let permission = (bytes_eq-Decides a.permission p).0 is in
     let one : Contains (of_permissions r a.source a.target) (record { kind = r.kind; source = a.source; target = a.target; the_class = r.the_class; permission = p }) = contains-map _ r.permissions p has in
     let whole : Contains (of_permissions r a.source a.target) a =
-        subst (Contains (of_permissions r a.source a.target)) (λ i. record { kind = same i; source = a.source; target = a.target; the_class = class i; permission = sym permission i }) one in
+    subst (Contains (of_permissions r a.source a.target)) (λ i. record { kind = same i; source = a.source; target = a.target; the_class = class i; permission = sym permission i }) one in
     contains-flat (of_targets meaning r) (type_names meaning) a.source a source (contains-flat (of_permissions r a.source) (type_names meaning) a.target a target whole)
 
 among-candidates : (meaning : Meaning) (a : Atom) → is_in_table meaning a ≡ true → Contains (candidates meaning) a
