@@ -8,7 +8,8 @@ use std::alloc::Global;
 use std::process::Abort;
 
 // What an edit is answered, and the evaluations and adjustments that it may take.
-struct Told {
+#[derive(Clone, Copy)]
+struct Answered {
     changes: (u128, u128),
     evaluations: (u128, u128),
     adjustments: u128,
@@ -30,8 +31,8 @@ const fn remove(name: &'static [u8]) -> Edit<'static> {
     }
 }
 
-const fn told(changes: (u128, u128), evaluations: (u128, u128), adjustments: u128) -> Told {
-    Told {
+const fn told(changes: (u128, u128), evaluations: (u128, u128), adjustments: u128) -> Answered {
+    Answered {
         changes,
         evaluations,
         adjustments,
@@ -39,7 +40,7 @@ const fn told(changes: (u128, u128), evaluations: (u128, u128), adjustments: u12
 }
 
 // Asserts what each edit of a list is answered, and what it takes, and gives the engine.
-fn assert_edits(rt: &impl Abort, alloc: Global, edits: &[(Edit<'static>, Told)]) -> Delta {
+fn assert_edits(rt: &impl Abort, alloc: Global, edits: &[(Edit<'static>, Answered)]) -> Delta {
     let mut engine = Delta::new(alloc);
     for (edit, want) in edits {
         let mut meter = Meter::new();
