@@ -2,14 +2,16 @@
 
 use cil_program::script::reply;
 use cil_program::script::session::session;
-use cil_store::{Call, Compiled, Edit, Reply, run};
+use cil_store::{Call, Compiled, Edit, Plain, Reply, run};
 use cil_stream::{MemorySink, MemorySource, write_all};
 use refusing::Refusing;
 use std::alloc::Global;
 use std::process::Abort;
 
-/// An allocator of which growths may be refused.
+/// An allocator of which growths may be refused, and an engine over it.
 pub type Heap = Refusing<Global>;
+
+pub type Engine<'h> = Plain<&'h Heap>;
 
 /// What is asked of an engine.
 #[derive(Clone, Copy)]
@@ -48,12 +50,7 @@ pub fn install<'a>(name: &'a str, text: &'a str) -> Edit<'a> {
     }
 }
 
-fn write_edit<'h, C: Compiled<&'h Heap>>(
-    rt: &impl Abort,
-    sink: &mut MemorySink,
-    engine: &mut C,
-    edit: Edit<'_>,
-) {
+fn write_edit(rt: &impl Abort, sink: &mut MemorySink, engine: &mut Engine<'_>, edit: Edit<'_>) {
     let written = match engine.edit(edit) {
         Ok(changes) => reply::write_changes(sink, &changes),
         Err(refusal) => reply::write_refusal(sink, &refusal),
@@ -61,7 +58,7 @@ fn write_edit<'h, C: Compiled<&'h Heap>>(
     written.expect(rt, "a sink");
 }
 
-fn write_rows<'h, C: Compiled<&'h Heap>>(rt: &impl Abort, sink: &mut MemorySink, engine: &C) {
+fn write_rows(rt: &impl Abort, sink: &mut MemorySink, engine: &Engine<'_>) {
     match engine.rows() {
         Ok(rows) => {
             let count = rows.write(sink).expect(rt, "a sink");
@@ -71,21 +68,21 @@ fn write_rows<'h, C: Compiled<&'h Heap>>(rt: &impl Abort, sink: &mut MemorySink,
     }
 }
 
-fn write_listing<'h, C: Compiled<&'h Heap>>(rt: &impl Abort, sink: &mut MemorySink, engine: &C) {
+fn write_listing(rt: &impl Abort, sink: &mut MemorySink, engine: &Engine<'_>) {
     match engine.write_listing(sink) {
         Ok(_) => write_all(sink, LISTED).expect(rt, "a sink"),
         Err(_) => reply::write_no_memory(sink).expect(rt, "a sink"),
     }
 }
 
-fn write_violations<'h, C: Compiled<&'h Heap>>(rt: &impl Abort, sink: &mut MemorySink, engine: &C) {
+fn write_violations(rt: &impl Abort, sink: &mut MemorySink, engine: &Engine<'_>) {
     match engine.write_violations(sink) {
         Ok(count) => reply::write_end(sink, count as u128).expect(rt, "a sink"),
         Err(_) => reply::write_no_memory(sink).expect(rt, "a sink"),
     }
 }
 
-fn write_dropped<'h, C: Compiled<&'h Heap>>(rt: &impl Abort, sink: &mut MemorySink, engine: &C) {
+fn write_dropped(rt: &impl Abort, sink: &mut MemorySink, engine: &Engine<'_>) {
     match engine.dropped() {
         Ok(dropped) => reply::write_dropped(sink, &dropped).expect(rt, "a sink"),
         Err(_) => reply::write_no_memory(sink).expect(rt, "a sink"),
@@ -113,11 +110,11 @@ fn write_reply(rt: &impl Abort, sink: &mut MemorySink, reply: &Reply<&Heap>) {
     written.expect(rt, "a sink");
 }
 
-fn write_run<'h, C: Compiled<&'h Heap>>(
+fn write_run<'h>(
     rt: &impl Abort,
     sink: &mut MemorySink,
     heap: &'h Heap,
-    engine: &mut C,
+    engine: &mut Engine<'h>,
     calls: &[Call<'_>],
 ) {
     match run(heap, engine, calls) {
@@ -130,12 +127,12 @@ fn write_run<'h, C: Compiled<&'h Heap>>(
     }
 }
 
-fn write_session<'h, C: Compiled<&'h Heap>>(
+fn write_session<'h>(
     rt: &impl Abort,
     alloc: Global,
     sink: &mut MemorySink,
     heap: &'h Heap,
-    engine: &mut C,
+    engine: &mut Engine<'h>,
     commands: &[&str],
 ) {
     let mut script = String::new(alloc);
@@ -147,11 +144,11 @@ fn write_session<'h, C: Compiled<&'h Heap>>(
 }
 
 /// The answer, written in memory that is not refused.
-pub fn answer<'h, C: Compiled<&'h Heap>>(
+pub fn answer<'h>(
     rt: &impl Abort,
     alloc: Global,
     heap: &'h Heap,
-    engine: &mut C,
+    engine: &mut Engine<'h>,
     asked: Asked<'_>,
 ) -> MemorySink {
     let mut sink = MemorySink::new(alloc);
@@ -168,11 +165,11 @@ pub fn answer<'h, C: Compiled<&'h Heap>>(
 }
 
 /// What stands compiled, what is stored and what that compiles to, with memory for it.
-pub fn state<'h, C: Compiled<&'h Heap>>(
+pub fn state<'h>(
     rt: &impl Abort,
     alloc: Global,
     heap: &'h Heap,
-    engine: &mut C,
+    engine: &mut Engine<'h>,
 ) -> MemorySink {
     heap.refuse(0);
     let mut sink = MemorySink::new(alloc);

@@ -1,7 +1,7 @@
 //! Each growth of a call is refused in turn.
 
-use crate::asked::{Asked, Heap, answer, state};
-use cil_store::{Call, Compiled, Delta, Edit, Plain};
+use crate::asked::{Asked, Engine, Heap, answer, state};
+use cil_store::{Call, Edit, Plain};
 use cil_stream::MemorySink;
 use refusing::Refusing;
 use std::alloc::Global;
@@ -17,13 +17,6 @@ enum Behind {
     Refused,
 }
 
-// The engine that is asked.
-#[derive(Clone, Copy, PartialEq, Eq, Debug)]
-enum Asking {
-    Plain,
-    Delta,
-}
-
 // A call that is asked of a store of some modules.
 #[derive(Clone, Copy)]
 struct Case<'a> {
@@ -31,7 +24,7 @@ struct Case<'a> {
     asked: Asked<'a>,
 }
 
-// What comes of it with ample memory, by the plain engine: the answer, and the store before and behind.
+// What comes of it with ample memory: the answer, and the store before and behind.
 #[derive(Drop)]
 struct Wanted {
     before: MemorySink,
@@ -43,11 +36,11 @@ fn shown(sink: &MemorySink) -> &str {
     str::from_utf8(sink.bytes()).unwrap_or("no text")
 }
 
-fn set_up<'h, C: Compiled<&'h Heap>>(
+fn set_up<'h>(
     rt: &impl Abort,
     alloc: Global,
     heap: &'h Heap,
-    engine: &mut C,
+    engine: &mut Engine<'h>,
     base: &[Edit<'_>],
 ) {
     for edit in base {
@@ -72,11 +65,11 @@ fn with_memory(rt: &impl Abort, alloc: Global, case: Case<'_>) -> Wanted {
 }
 
 // Asks the call of one answer, and tells the answers behind it. A call that is out of memory is left out.
-fn behind_step<'h, 'f, C: Compiled<&'h Heap>>(
+fn behind_step<'h, 'f>(
     rt: &impl Abort,
     alloc: Global,
     heap: &'h Heap,
-    engine: &mut C,
+    engine: &mut Engine<'h>,
     found: &'f [u8],
     step: Asked<'_>,
 ) -> &'f [u8] {
@@ -122,12 +115,12 @@ fn assert_steps(rt: &impl Abort, alloc: Global, case: Case<'_>, found: &str, now
 }
 
 // Some answer is out of memory: the store is what the others make it, and the call asked again succeeds.
-fn assert_undone<'h, C: Compiled<&'h Heap>>(
+fn assert_undone<'h>(
     rt: &impl Abort,
     alloc: Global,
     case: Case<'_>,
     heap: &'h Heap,
-    engine: &mut C,
+    engine: &mut Engine<'h>,
     found: &MemorySink,
     want: &Wanted,
 ) {
@@ -148,22 +141,22 @@ fn assert_undone<'h, C: Compiled<&'h Heap>>(
 }
 
 // Asks with the nth growth refused, asserts what comes of it, and says whether it came to that growth.
-fn is_refused<'h, C: Compiled<&'h Heap>>(
+fn is_refused(
     rt: &impl Abort,
     alloc: Global,
-    heap: &'h Heap,
-    engine: &mut C,
     case: Case<'_>,
     nth: u64,
     behind: Behind,
     want: &Wanted,
 ) -> bool {
-    set_up(rt, alloc, heap, engine, case.base);
+    let heap = Refusing::new(alloc);
+    let mut engine = Plain::new(&heap);
+    set_up(rt, alloc, &heap, &mut engine, case.base);
     match behind {
         Behind::Granted => heap.refuse(nth),
         Behind::Refused => heap.refuse_from(nth),
     }
-    let found = answer(rt, alloc, heap, engine, case.asked);
+    let found = answer(rt, alloc, &heap, &mut engine, case.asked);
     let is = heap.refused() > 0;
     let told = shown(&found).contains(OUT_OF_MEMORY);
     // A growth refused alone may be answered by a smaller one.
@@ -171,65 +164,28 @@ fn is_refused<'h, C: Compiled<&'h Heap>>(
         assert_eq!(rt; told, is);
     }
     if told {
-        assert_undone(rt, alloc, case, heap, engine, &found, want);
+        assert_undone(rt, alloc, case, &heap, &mut engine, &found, want);
     } else {
-        let now = state(rt, alloc, heap, engine);
+        let now = state(rt, alloc, &heap, &mut engine);
         assert_eq!(rt; shown(&found), shown(&want.answer));
         assert_eq!(rt; shown(&now), shown(&want.after));
     }
     is
 }
 
-// The same of an empty store of an engine.
-fn is_refused_by(
-    rt: &impl Abort,
-    alloc: Global,
-    asking: Asking,
-    case: Case<'_>,
-    nth: u64,
-    behind: Behind,
-    want: &Wanted,
-) -> bool {
-    let heap = Refusing::new(alloc);
-    match asking {
-        Asking::Plain => {
-            let mut engine = Plain::new(&heap);
-            is_refused(rt, alloc, &heap, &mut engine, case, nth, behind, want)
-        }
-        Asking::Delta => {
-            let mut engine = Delta::new(&heap);
-            is_refused(rt, alloc, &heap, &mut engine, case, nth, behind, want)
-        }
-    }
-}
-
-// Refuses each growth in turn, of which there is one at least.
-fn assert_each_refused(
-    rt: &impl Abort,
-    alloc: Global,
-    asking: Asking,
-    case: Case<'_>,
-    behind: Behind,
-    want: &Wanted,
-) {
-    let mut refused = 0u64;
-    for nth in 1..20_000u64 {
-        if !is_refused_by(rt, alloc, asking, case, nth, behind, want) {
-            break;
-        }
-        refused = nth;
-    }
-    assert!(rt; 0 < refused && refused < 19_999);
-}
-
 /// Asserts that a call asked of a store of these modules answers out of memory exactly where a growth is refused, that nothing
-/// is done then, and that it succeeds when asked again, by each engine.
+/// is done then, and that it succeeds when asked again. Some growth at least is refused.
 pub fn assert_each_growth(rt: &impl Abort, alloc: Global, base: &[Edit<'_>], asked: Asked<'_>) {
     let case = Case { base, asked };
     let want = with_memory(rt, alloc, case);
-    for asking in [Asking::Plain, Asking::Delta] {
-        for behind in [Behind::Granted, Behind::Refused] {
-            assert_each_refused(rt, alloc, asking, case, behind, &want);
+    for behind in [Behind::Granted, Behind::Refused] {
+        let mut refused = 0u64;
+        for nth in 1..20_000u64 {
+            if !is_refused(rt, alloc, case, nth, behind, &want) {
+                break;
+            }
+            refused = nth;
         }
+        assert!(rt; 0 < refused && refused < 19_999);
     }
 }

@@ -1,16 +1,14 @@
 //! Questions whose growths are refused in turn.
 
-use crate::asked::{Asked, Heap, answer};
+use crate::asked::{Asked, answer};
 use crate::edits::BASE;
 use crate::growths::assert_each_growth;
 use cil_program::script::reply;
 use cil_rules::Atom;
-use cil_store::{Call, Compiled, Delta, Edit, Plain};
+use cil_store::{Call, Compiled, Edit, Plain};
 use cil_stream::MemorySink;
 use cil_text::RuleKind;
 use refusing::Refusing;
-use std::alloc::Global;
-use std::process::Abort;
 
 #[test]
 fn rows(rt: HostRuntime) {
@@ -48,38 +46,26 @@ const OFF: &[Edit<'static>] = &[
 ];
 
 // The store, members and counts are told without memory.
-fn assert_told<'h, C: Compiled<&'h Heap>>(
-    rt: &impl Abort,
-    alloc: Global,
-    heap: &'h Heap,
-    engine: &mut C,
-) {
-    let mut sink = MemorySink::new(alloc);
-    heap.refuse_from(1);
-    assert!(rt; !engine.has(b"s", b"a") && engine.count(&ACCESS) == 0);
-    heap.refuse(0);
-    for edit in BASE.iter().chain(OFF) {
-        let _made = answer(rt, alloc, heap, engine, Asked::Edit(*edit));
-    }
-    heap.refuse_from(1);
-    assert!(rt; engine.has(b"s", b"k.t") && !engine.has(b"s", b"l"));
-    assert!(rt; engine.count(&ACCESS) == 2 && engine.store().is_disabled(b"off"));
-    let store = engine.store();
-    assert!(rt; store.entry(0).is_some() && store.disabled(0).is_some());
-    assert!(rt; store.check_install(b"off", 1, 0).is_ok());
-    reply::write_modules(&mut sink, store).expect(rt, "a sink");
-    reply::write_dump(&mut sink, store).expect(rt, "a sink");
-    assert!(rt; engine.store().active(b"off").is_none() && heap.refused() == 0);
-}
-
 #[test]
 fn questions_without_growths(rt: HostRuntime) {
     let heap = Refusing::new(rt.alloc());
-    let mut plain = Plain::new(&heap);
-    assert_told(&rt, rt.alloc(), &heap, &mut plain);
+    let mut engine = Plain::new(&heap);
+    let mut sink = MemorySink::new(rt.alloc());
+    heap.refuse_from(1);
+    assert!(&rt; !engine.has(b"s", b"a") && engine.count(&ACCESS) == 0);
     heap.refuse(0);
-    let mut delta = Delta::new(&heap);
-    assert_told(&rt, rt.alloc(), &heap, &mut delta);
+    for edit in BASE.iter().chain(OFF) {
+        let _made = answer(&rt, rt.alloc(), &heap, &mut engine, Asked::Edit(*edit));
+    }
+    heap.refuse_from(1);
+    assert!(&rt; engine.has(b"s", b"k.t") && !engine.has(b"s", b"l"));
+    assert!(&rt; engine.count(&ACCESS) == 2 && engine.store().is_disabled(b"off"));
+    let store = engine.store();
+    assert!(&rt; store.entry(0).is_some() && store.disabled(0).is_some());
+    assert!(&rt; store.check_install(b"off", 1, 0).is_ok());
+    reply::write_modules(&mut sink, store).expect(&rt, "a sink");
+    reply::write_dump(&mut sink, store).expect(&rt, "a sink");
+    assert!(&rt; engine.store().active(b"off").is_none() && heap.refused() == 0);
 }
 
 #[test]
