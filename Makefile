@@ -5,7 +5,7 @@ DESTDIR ?=
 BIN = $(DESTDIR)$(PREFIX)/bin
 SHARE = $(DESTDIR)$(PREFIX)/share
 
-.PHONY: run try test examples wrong-bodies install uninstall
+.PHONY: run try test examples engines wrong-bodies install uninstall
 
 # Proves and builds the program, and has it answer a first session.
 run:
@@ -24,6 +24,10 @@ test:
 # Has the program that `make run` or `make test` built answer the examples, and compares what it prints.
 examples:
 	examples/check.sh
+
+# Has the programs that `make test` built, one for each engine, answer 2000 random scripts, and compares what they print.
+engines:
+	bench/engines.sh
 
 # Tries the wrong bodies of bench/wrong_bodies one by one; it takes some hours.
 wrong-bodies:

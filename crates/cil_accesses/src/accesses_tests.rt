@@ -10,6 +10,7 @@ use crate::access::AccessNumbers;
 use crate::accesses::Accesses;
 use crate::chunk::Chunk;
 use crate::difference::Difference;
+use crate::ordering::sort_from;
 use crate::renumber::push_renumbered;
 use crate::rows::AccessRow;
 use cil_text::RuleKind;
@@ -476,4 +477,18 @@ fn one_target_that_moves_down(rt: HostRuntime) {
             allowed(65, 67, 66, 68),
         ],
     );
+}
+
+#[test]
+fn chunks_from_a_place_on_are_put_in_order(rt: HostRuntime) {
+    let (first, second, third) = (
+        chunk(1, 1, 1, 1, 1),
+        chunk(2, 0, 1, 1, 1),
+        chunk(3, 0, 1, 1, 1),
+    );
+    let mut chunks = Vec::from_array(rt.alloc(), [third, second, first]).expect(&rt, "memory");
+    sort_from(&mut chunks, 1);
+    assert!(&rt; chunks.as_slice() == [third, first, second].as_slice());
+    sort_from(&mut chunks, 3);
+    assert!(&rt; chunks.as_slice() == [third, first, second].as_slice());
 }

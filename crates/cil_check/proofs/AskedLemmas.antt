@@ -1,5 +1,5 @@
 -- Words with faults, as they are read of statements that are seen.
-use Rattle.std.proofs.Common.{◌≡◌, ℕ, zero, suc, true, false, Bool, not, ◌&&◌, List, [], ◌∷◌, map, filter, get_or, Option, Some, None, is_some, slice_get, refl, sym, ap, ◌∙◌, subst, take, drop, cond, length, add-one, arith, ◌+◌, ◌<◌, ◌≤◌, if◌then◌else◌}
+use Rattle.std.proofs.Common.{◌≡◌, ℕ, zero, suc, true, false, Bool, not, ◌&&◌, List, [], ◌∷◌, map, filter, get_or, Option, Some, None, is_some, slice_get, true≢false, refl, sym, ap, ◌∙◌, subst, take, drop, cond, length, add-one, arith, ◌+◌, ◌<◌, ◌≤◌, if◌then◌else◌}
 use Rattle.std.specs.Option.{option_map, option_or, option_and_then}
 use Rattle.std.proofs.lemmas.Option.{none-some, same_Some, slice_get-map}
 use Rattle.std.proofs.lemmas.List.{length-map}
@@ -22,7 +22,7 @@ use Rattle.cil_bind.specs.Lookup.{IsLead}
 use Rattle.cil_check.specs.Checker.{first_unfound}
 use Rattle.cil_check.specs.Bound.{IsSeen, Reads}
 use Rattle.cil_check.specs.Kinds.{word_if, test_of, again_words}
-use Rattle.cil_check.specs.Associations.{first_at, association_table, given_word, given_lead, HasFirsts}
+use Rattle.cil_check.specs.Associations.{first_at, association_table, given_kind, given_word, given_lead, HasFirsts}
 use Rattle.cil_check.specs.declared.bound.Seen.{Seen}
 use Rattle.cil_check.specs.declared.firsts.Association.{Association}
 use Rattle.cil_check.specs.declared.firsts.Association.TheVariants.{Actual, Common}
@@ -76,6 +76,38 @@ form-set (rule kind source (the_named word) the_class permissions) is = cc
 pub nowhere-unset : (policy : List Placed) (namespace : List (List ℕ)) (word : Word) (found : Option ℕ) → IsLead types policy found (leads policy types namespace word.text) → found ≡ None
     → is_unset policy namespace word ≡ false
 nowhere-unset policy namespace word found led is = ap (holds_of (λ s. is_alias s.form && not (is_some (actual_statement policy s)))) (sym led.is ∙ ap (option_and_then (slice_get policy)) is)
+
+-- a statement of another kind gives it to nothing
+pub none-given : (g : Association) (form : Form) → given_kind g (kind_of form) ≡ false → given_word g form ≡ None
+none-given Actual (block w) not_given = refl
+none-given Common (block w) not_given = refl
+none-given Actual (optional w) not_given = refl
+none-given Common (optional w) not_given = refl
+none-given Actual (type_name w) not_given = refl
+none-given Common (type_name w) not_given = refl
+none-given Actual (type_alias w) not_given = refl
+none-given Common (type_alias w) not_given = refl
+none-given Actual (alias_actual x y) not_given = absurd (true≢false not_given)
+none-given Common (alias_actual x y) not_given = refl
+none-given Actual (type_attribute w) not_given = refl
+none-given Common (type_attribute w) not_given = refl
+none-given Actual (attribute_set w e) not_given = refl
+none-given Common (attribute_set w e) not_given = refl
+none-given Actual (common w l) not_given = refl
+none-given Common (common w l) not_given = refl
+none-given Actual (class w l) not_given = refl
+none-given Common (class w l) not_given = refl
+none-given Actual (class_common x y) not_given = refl
+none-given Common (class_common x y) not_given = absurd (true≢false not_given)
+none-given Actual (class_order l) not_given = refl
+none-given Common (class_order l) not_given = refl
+none-given Actual (rule k x itself y l) not_given = refl
+none-given Actual (rule k x (the_named z) y l) not_given = refl
+none-given Common (rule k x itself y l) not_given = refl
+none-given Common (rule k x (the_named z) y l) not_given = refl
+
+pub none-lead : (g : Association) (policy : List Placed) (s : Placed) → given_kind g (kind_of s.form) ≡ false → IsLead (association_table g) policy None (given_lead g policy s)
+none-lead g policy s not_given = record { is = ap (option_and_then (λ w. leads policy (association_table g) s.namespace w.text)) (sym (none-given g s.form not_given)); within = tt; first = tt }
 
 -- the word of what a statement gives something to is its first
 given-first : (g : Association) (form : Form) (word : Word) → given_word g form ≡ Some word → slice_get (words_in form) 0 ≡ Some word

@@ -15,6 +15,7 @@ use Rattle.cil_parse.specs.Parsed.{texts_of, Spells}
 use Rattle.cil_parse.specs.View.{IsShown}
 use Rattle.cil_parse.specs.declared.view.StatementView.{StatementView}
 use Rattle.cil_parse.specs.declared.row.NumberedWord.{NumberedWord}
+use Rattle.cil_parse.specs.declared.row.StatementKind.{StatementKind}
 use Rattle.cil_bind.specs.Binding.{AreLeads, AreBound}
 use Rattle.cil_bind.specs.Lookup.{IsLead}
 use Rattle.cil_bind.specs.Scope.{IsFrom}
@@ -138,6 +139,21 @@ pub row-there : {A : Type 0} (b : BoundPolicy A) (policy : List Placed) (i : ℕ
 row-there b policy i row is less here =
     let long = is-long b policy is in
     from-at b.joined.now.modules.items b.policy.now.rows.items policy i row is.bound.from (slice_get-get_or b.policy.now.rows.items i row (omega (arith, less, long)) ∙ ap Some (sym here))
+
+-- and its statement
+pub form-there : {A : Type 0} (b : BoundPolicy A) (policy : List Placed) (i : ℕ) (row : Row) (d : NamedModule A) (s : Placed) → IsOf b policy → slice_get policy i ≡ Some s
+    → row ≡ get_or b.policy.now.rows.items i row → d ≡ get_or b.joined.now.modules.items row.«module» d → IsThere b.joined.now.modules.items row d s
+form-there b policy i row d s is at here there =
+    let (t, found, from) = row-there b policy i row is (slice_get_within policy i s at) here in
+    subst (IsThere b.joined.now.modules.items row d) (same_Some t s (sym found ∙ at)) (is-there b.joined.now.modules.items row d t from there)
+
+-- the kind of it
+pub kind-there : {A : Type 0} (b : BoundPolicy A) (policy : List Placed) (i : ℕ) (row : Row) (d : NamedModule A) (kind : StatementKind) (s : Placed) → IsOf b policy → slice_get policy i ≡ Some s
+    → row ≡ get_or b.policy.now.rows.items i row → d ≡ get_or b.joined.now.modules.items row.«module» d
+    → ((statements : Statements) (f : FlatStatement) → Spells d.«module».now statements → slice_get (flat 0 0 0 statements) row.index ≡ Some f → kind ≡ kind_of f.form) → kind ≡ kind_of s.form
+kind-there b policy i row d kind s is at here there told =
+    let t = form-there b policy i row d s is at here there in
+    told t.statements t.f t.spells t.is ∙ ap kind_of t.form
 
 -- what is seen of it
 pub seen-there : {A : Type 0} (b : BoundPolicy A) (policy : List Placed) (i : ℕ) (row : Row) (d : NamedModule A) (view : StatementView) (bound : Bor (List (Option ℕ))) (words : Bor (List ℕ)) (s : Placed) → IsOf b policy → slice_get policy i ≡ Some s

@@ -34,7 +34,7 @@ impl<A: Allocator + Copy> AttributeNumbers<A> {
         let mut places = Vec::new(alloc);
         for i in 0..bound.len() {
             numbers.push(places.len())?;
-            if Kind::Attribute.is(bound.seen(i).view.kind) {
+            if Kind::Attribute.is(bound.kind(i)) {
                 places.push(i)?;
             }
         }

@@ -4,6 +4,7 @@ ghost use Rattle.std.specs.Prelude.{◌≡◌, ◌<◌, ◌∷◌, [], ℕ, List
 ghost use Rattle.cil_specs.specs.Names.{Word, components};
 ghost use Rattle.cil_specs.specs.Joined.{Placed};
 ghost use Rattle.cil_parse.specs.Builder.{read};
+ghost use Rattle.cil_parse.specs.Forms.{kind_of};
 ghost use Rattle.cil_parse.specs.Parsed.{texts_of, names_of};
 ghost use Rattle.cil_parse.specs.Lexicon.{AreNumbersOf};
 ghost use Rattle.cil_check.specs.Kinds.{test_of};
@@ -13,7 +14,7 @@ ghost use Rattle.cil_check.specs.Image.{policy_kind_of, fault_at, IsFoundFault};
 use crate::fault::{PolicyFault, PolicyFaultKind};
 use crate::kinds::Kind;
 use cil_bind::{Joined, Policy};
-use cil_parse::{NumberedWord, ParsedModule, StatementView};
+use cil_parse::{NumberedWord, ParsedModule, StatementKind, StatementView};
 use std::alloc::{Allocator, Global};
 
 /// A statement as it is seen: its module and the module's name, its view, what its references are bound to, and the numbers of the
@@ -113,6 +114,16 @@ impl<'p, 'm, A: Allocator> BoundPolicy<'p, 'm, A> {
         }
     }
 
+    /// The kind of the statement of a place, without its words.
+    pub fn kind(&self, i: usize) -> StatementKind
+        requires { (policy : List Placed) × IsOf self.now policy × (i < length policy) }
+        ensures { (policy : List Placed) (s : Placed) → IsOf self.now policy → slice_get policy i ≡ Some s → result ≡ kind_of s.form }
+    {
+        let row = self.policy.rows[i];
+        let named = &self.joined.modules[row.module as usize];
+        named.module.kind(row.index as usize)
+    }
+
     /// Whether the statement of a place declares a thing of a kind.
     pub fn is(&self, place: u32, kind: Kind) -> bool
         requires { (policy : List Placed) × IsOf self.now policy }
@@ -121,6 +132,6 @@ impl<'p, 'm, A: Allocator> BoundPolicy<'p, 'm, A> {
         if place as usize >= self.len() {
             return false;
         }
-        kind.is(self.seen(place as usize).view.kind)
+        kind.is(self.kind(place as usize))
     }
 }

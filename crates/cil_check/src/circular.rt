@@ -24,7 +24,7 @@ impl<'p, 'm, A: Allocator> BoundPolicy<'p, 'm, A> {
         ensures { (policy : List Placed) → IsOf self.now policy → IsTrue result ↔ (sets_of policy ≢ []) }
     {
         for i in 0..self.len() {
-            if let StatementKind::TypeAttributeSet = self.seen(i).view.kind {
+            if let StatementKind::TypeAttributeSet = self.kind(i) {
                 return true;
             }
         }

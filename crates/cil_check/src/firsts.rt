@@ -1,6 +1,6 @@
 //! Which statement is the first that gives something to a declaration.
 
-ghost use Rattle.std.specs.Prelude.{◌≡◌, List, is_some, IfOk, OnOk, OnErr};
+ghost use Rattle.std.specs.Prelude.{◌<◌, length, slice_get, ◌≡◌, List, is_some, IfOk, OnOk, OnErr};
 ghost use Rattle.cil_specs.specs.Joined.{Placed};
 ghost use Rattle.cil_bind.specs.Lookup.{IsLead};
 ghost use Rattle.cil_check.specs.Bound.{IsOf, IsSeen};
@@ -56,6 +56,17 @@ impl Association {
             None
         }
     }
+
+    /// The same of the statement of a place of a policy. Only a statement that gives this is looked at whole.
+    pub fn lead_at<A: Allocator>(self, bound: &BoundPolicy<'_, '_, A>, i: usize) -> Option<u32>
+        requires { (policy : List Placed) × IsOf bound.now policy × (i < length policy) }
+        ensures { (policy : List Placed) (s : Placed) → IsOf bound.now policy → slice_get policy i ≡ Some s → IsLead (association_table self) policy result (given_lead self policy s) }
+    {
+        if !self.is_given_by(bound.kind(i)) {
+            return None;
+        }
+        self.lead(&bound.seen(i))
+    }
 }
 
 impl<A: Allocator + Copy> Firsts<A> {
@@ -76,8 +87,7 @@ impl<A: Allocator + Copy> Firsts<A> {
             return Err(AllocError);
         }
         for i in 0..count {
-            let seen = bound.seen(i);
-            let Some(to) = association.lead(&seen) else {
+            let Some(to) = association.lead_at(bound, i) else {
                 continue;
             };
             firsts.insert(to, i as u32)?;

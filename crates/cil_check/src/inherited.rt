@@ -20,10 +20,10 @@ pub fn given_commons<A: Allocator + Copy>(
 {
     let mut inherited = Groups::new(alloc);
     for i in 0..bound.len() {
-        let seen = bound.seen(i);
-        let Some(class) = Association::Common.lead(&seen) else {
+        let Some(class) = Association::Common.lead_at(bound, i) else {
             continue;
         };
+        let seen = bound.seen(i);
         let Some(common) = seen.lead(1) else {
             continue;
         };

@@ -103,8 +103,8 @@ impl<A: Allocator + Copy> Permissions<A> {
             words: Lists::with_capacity(alloc, count, 0)?,
         };
         for i in 0..count {
-            let seen = bound.seen(i);
-            if lists_own(seen.view.kind) {
+            if lists_own(bound.kind(i)) {
+                let seen = bound.seen(i);
                 permissions.add_words(i as u32, &seen, seen.view.permissions())?;
             }
             permissions.words.close()?;

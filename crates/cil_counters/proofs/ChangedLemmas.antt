@@ -46,11 +46,11 @@ pub record IsByKey (symbols : List (List ℕ)) (a : spec.Atom) : Type 0 where
 
 module _ {A : Type 0} (symbols : List (List ℕ)) (r : Resolved A) (members : ℕ → ℕ → ℕ) (counts : RuleKind → SymbolKey → ℕ → ℕ) (is : IsCounted symbols r members counts) where
   -- a counter tells how many rules give the access of its names
-  counted-atom : (kind : RuleKind) (key : SymbolKey) (t : ℕ) → is_named symbols key t ≡ true → counts kind key t ≡ count_of (meaning_in r) (atom_of symbols kind key t)
+  pub counted-atom : (kind : RuleKind) (key : SymbolKey) (t : ℕ) → is_named symbols key t ≡ true → counts kind key t ≡ count_of (meaning_in r) (atom_of symbols kind key t)
   counted-atom kind key t listed = is.are_counts kind key t ∙ ap (λ b. cond b (count_of (meaning_in r) (atom_of symbols kind key t)) 0) listed
 
   -- and is 0 where there are no such names
-  counted-listed : (kind : RuleKind) (key : SymbolKey) (t : ℕ) → 0 < counts kind key t → is_named symbols key t ≡ true
+  pub counted-listed : (kind : RuleKind) (key : SymbolKey) (t : ℕ) → 0 < counts kind key t → is_named symbols key t ≡ true
   counted-listed kind key t some =
       elim (cases_Bool (is_named symbols key t)) [
         | inl listed ↦ listed
@@ -63,7 +63,7 @@ module _ {A : Type 0} (symbols : List (List ℕ)) (r : Resolved A) (members : �
   symbol-at n low = symbol-name symbols is.symbols r.names.items is.numbers n (get_or is.symbols n 0) (symbol-some symbols is.symbols r.names.items is.numbers n low)
 
   -- an access of the table has symbols
-  table-key : (a : spec.Atom) → IsTrue (is_in_table (meaning_in r) a) → IsByKey symbols a
+  pub table-key : (a : spec.Atom) → IsTrue (is_in_table (meaning_in r) a) → IsByKey symbols a
   table-key a there =
       let (n, within, same) = table-numbered r a there in
       let source = symbol-at n.source within.source in

@@ -25,7 +25,10 @@ use Rattle.cil_member_updates.proofs.GrowthLemmas.{count-more, numbers-more}
 use Rattle.cil_rule_reach.specs.Named.{atom_of, is_named, name_at, AreMembersOf}
 use Rattle.cil_table_updates.proofs.GivenLemmas.{counted-named}
 use Rattle.cil_table_updates.proofs.PlaceLemmas.{names-apart}
-use Rattle.cil_counters.specs.Counted.{IsCounted}
+use Rattle.cil_member_rows.specs.Rows as member_rows
+use Rattle.cil_symbol_tables.specs.Tables as access_tables
+use Rattle.cil_counters.specs.Counted.{AreSettled, AreTakenBack, IsCounted, IsNow, WasBefore}
+use Rattle.cil_counters.specs.declared.counters.Counters.{Counters}
 
 none-counted : {X : Type 0} (test : X → Bool) (xs : List X) → ((x : X) → test x ≡ false) → count_by test xs ≡ 0
 none-counted test [] none = refl
@@ -33,7 +36,7 @@ none-counted test (x ∷ xs) none =
     sum_by-cons (λ y. cond (test y) 1 0) x xs ∙ ap (λ b. cond b 1 0 + count_by test xs) (none x) ∙ zero-add (count_by test xs) ∙ none-counted test xs none
 
 -- whether the set statement makes the type a member, by names
-gives-by-names : (names : List (List ℕ)) (meaning : Meaning) (a t : ℕ) → a < length names → t < length names → (s : SetStatement) → gives names meaning a t s ≡ gives_member meaning (name_at names a) (name_at names t) s
+pub gives-by-names : (names : List (List ℕ)) (meaning : Meaning) (a t : ℕ) → a < length names → t < length names → (s : SetStatement) → gives names meaning a t s ≡ gives_member meaning (name_at names a) (name_at names t) s
 unfolding is_of holds
 gives-by-names names meaning a t a_low t_low s =
     ap (λ n. of_name (λ name. bytes_eq name s.attribute) n && of_name (is_in meaning s.expr) (slice_get names t)) (slice_get-get_or names a [] a_low)
@@ -118,3 +121,24 @@ counted-alike r names others members new_members counts new_counts is same same_
   are_members = λ a t. same_members a t ∙ is.are_members a t;
   are_counts = λ kind key t. same_counts kind key t ∙ is.are_counts kind key t;
 })
+
+module _ {A B : Type 0} (r : Resolved A) (old new : Counters B) where
+  -- counters that were taken back are those of the policy before the steps
+  pub back-now : WasBefore r old → AreTakenBack old new → IsNow r new
+  back-now was back =
+      counted-alike r old.names new.names (member_rows.count_before old.rows) (member_rows.count_now new.rows) (access_tables.count_before old.tables) (access_tables.count_now new.tables) was back.names back.members back.accesses
+
+  pub back-before : WasBefore r old → AreTakenBack old new → WasBefore r new
+  back-before was back =
+      counted-alike r old.names new.names (member_rows.count_before old.rows) (member_rows.count_before new.rows) (access_tables.count_before old.tables) (access_tables.count_before new.tables) was back.names back.members_before
+      back.accesses_before
+
+  -- counters that are kept are those of the policy now
+  pub settled-now : IsNow r old → AreSettled old new → IsNow r new
+  settled-now is kept =
+      counted-alike r old.names new.names (member_rows.count_now old.rows) (member_rows.count_now new.rows) (access_tables.count_now old.tables) (access_tables.count_now new.tables) is kept.names kept.members kept.accesses
+
+  pub settled-before : IsNow r old → AreSettled old new → WasBefore r new
+  settled-before is kept =
+      counted-alike r old.names new.names (member_rows.count_now old.rows) (member_rows.count_before new.rows) (access_tables.count_now old.tables) (access_tables.count_before new.tables) is kept.names kept.members_before
+      kept.accesses_before

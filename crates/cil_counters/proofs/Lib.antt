@@ -3,3 +3,5 @@ pub mod SymbolRankLemmas
 pub mod ToldLemmas
 pub mod ChangedLemmas
 pub mod FoundLemmas
+pub mod TableLemmas
+pub mod MemberLemmas

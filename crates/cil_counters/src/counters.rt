@@ -1,20 +1,23 @@
 //! The counters of a policy.
 
-ghost use Rattle.std.specs.Prelude.{◌≡◌, ◌-◌, ◌≤◌, ◌^◌, ◌++◌, ℕ, List, bytes_eq, false, length, min, IfOk, OnOk};
+ghost use Rattle.std.specs.Prelude.{◌≡◌, ◌-◌, ◌/◌, ◌≤◌, ◌^◌, ◌++◌, ℕ, List, bytes_eq, false, length, min, nat_lt, IfOk, OnOk};
 ghost use Rattle.std.specs.List.{IsDistinct};
-ghost use Rattle.cil_delta_specs.specs.Work.{AdjustsFew};
+ghost use Rattle.cil_delta_specs.specs.Work.{AdjustsFew, EvaluatesFew};
 ghost use Rattle.cil_member_rows.specs.Rows as member_rows;
 ghost use Rattle.cil_specs.specs.Meaning.{is_in_table};
 ghost use Rattle.cil_specs.specs.Report as report;
-ghost use Rattle.cil_specs.specs.Report.{AreChanges};
+ghost use Rattle.cil_specs.specs.Report.{AreAtoms, AreChanges};
+ghost use Rattle.cil_specs.specs.Sets.{differ};
 ghost use Rattle.cil_member_updates.specs.Policy.{AreCounts};
 ghost use Rattle.cil_parse.specs.Lexicon.{AreNumbersOf};
-ghost use Rattle.cil_resolve.specs.Meter.{adjustments_in};
+ghost use Rattle.cil_resolve.specs.Meter.{adjustments_in, evaluations_in};
 ghost use Rattle.cil_resolve.specs.Resolved.{meaning_in};
 ghost use Rattle.cil_resolve.specs.Sets.{sets_in};
-ghost use Rattle.cil_counters.specs.Counted.{count_with, has_named, AreSettled, AreTakenBack, IsNow, WasBefore};
+ghost use Rattle.cil_sets.specs.Members.{AreMembers};
+ghost use Rattle.cil_counters.specs.Counted.{count_with, had_named, has_named, AreSettled, AreTakenBack, IsNow, WasBefore};
 ghost use Rattle.cil_symbol_tables.specs.Tables as access_tables;
 
+use crate::member_counts::members_of;
 use crate::more_rows::add_rows;
 use crate::symbol_ranks::symbol_ranks;
 use cil_keyed_lines::SymbolKey;
@@ -25,7 +28,8 @@ use cil_resolve::{
     Meter, Resolved, resolved_is_consistent, resolved_is_sound, resolved_names_are_kept,
     resolved_sets_are_in_order,
 };
-use cil_rules::{Changes, names_of, rank};
+use cil_rules::{Changes, Table, names_of, rank};
+use cil_sets::Members;
 use cil_symbol_tables::SymbolTables;
 use cil_symbols::{Numbering, Symbols};
 use cil_table_updates::Named;
@@ -57,6 +61,19 @@ impl<A: Allocator + Copy> Counters<A> {
             rows: MemberRows::new(alloc),
             tables: SymbolTables::new(alloc),
         })
+    }
+
+    /// The counters of a policy, made from those of a policy without set statements and rules.
+    pub fn of(alloc: A, nothing: &Resolved<A>, policy: &Resolved<A>) -> Result<Self, AllocError>
+        requires sets { length (sets_in nothing.now) ≡ 0 }
+        requires rules { length (meaning_in nothing.now).rules ≡ 0 }
+        ensures now { IfOk result (IsNow policy.now) }
+        ensures before { IfOk result (WasBefore policy.now) }
+    {
+        let mut counters = Counters::none(alloc, nothing)?;
+        counters.take_steps(alloc, nothing, policy, &mut Meter::new())?;
+        counters.settle();
+        Ok(counters)
     }
 
     /// The symbols of a policy's names, of which those come that there aren't yet. What is counted of another policy stays.
@@ -103,6 +120,8 @@ impl<A: Allocator + Copy> Counters<A> {
         ensures before { (a t : ℕ) → member_rows.count_before self.new.rows a t ≡ member_rows.count_before self.old.rows a t }
         ensures names { self.new.names ≡ self.old.names }
         ensures tables { self.new.tables ≡ self.old.tables }
+        ensures evaluations { OnOk result (EvaluatesFew (meaning_in old.entry.resolved.now) (meaning_in new.entry.resolved.now)
+            (evaluations_in meter.old) (evaluations_in meter.new)) }
         ensures adjustments { adjustments_in meter.new ≡ adjustments_in meter.old }
     {
         let old_kept = KeptTypes::of(alloc, &self.names, old.resolved, old.numbering)?;
@@ -142,6 +161,7 @@ impl<A: Allocator + Copy> Counters<A> {
         requires before { WasBefore old.now self.old }
         ensures now { OnOk result (IsNow new.now self.new) }
         ensures before { WasBefore old.now self.new }
+        ensures evaluations { OnOk result (EvaluatesFew (meaning_in old.now) (meaning_in new.now) (evaluations_in meter.old) (evaluations_in meter.new)) }
         ensures adjustments { OnOk result ((changes : report.Changes) → AreChanges (is_in_table (meaning_in old.now)) (is_in_table (meaning_in new.now)) changes
             → AdjustsFew (meaning_in old.now) (meaning_in new.now) changes (adjustments_in meter.old) (adjustments_in meter.new)) }
     {
@@ -194,9 +214,29 @@ impl<A: Allocator + Copy> Counters<A> {
         Changes::of(ranks.names, found.added, found.removed)
     }
 
+    /// The access table of the policy whose counters stand now. No rule is gone over.
+    pub fn table(&self, alloc: A, policy: &Resolved<A>) -> Result<Table<A>, AllocError>
+        requires { IsNow policy.now self.now }
+        ensures { IfOk result (λ table. AreAtoms (is_in_table (meaning_in policy.now)) table) }
+    {
+        let names = names_of(alloc, policy)?;
+        let numbers = symbol_ranks(alloc, &self.names, names.as_slice())?;
+        let accesses = cil_symbol_changes::accesses(alloc, &self.tables, numbers.as_slice())?;
+        Table::numbered(names, accesses)
+    }
+
+    /// The members of the attributes of the policy whose counters stand now. No set statement is evaluated.
+    pub fn members(&self, alloc: A, policy: &Resolved<A>) -> Result<Members<A>, AllocError>
+        requires { IsNow policy.now self.now }
+        ensures { IfOk result (AreMembers policy.now) }
+    {
+        members_of(alloc, &self.names, &self.rows, policy)
+    }
+
     /// Brings the counters from those of an old policy, which they hold, to those of a new one, in steps, and answers the changes from
     /// the access table of the old policy to that of the new one. The meter counts as an adjustment each counter of an access that it
-    /// moves. Also after an out of memory `undo` leads back to the old policy.
+    /// moves, and as an evaluation each look whether a set statement holds a type. Also after an out of memory `undo` leads back to
+    /// the old policy.
     pub fn update(
         &mut self,
         alloc: A,
@@ -209,6 +249,7 @@ impl<A: Allocator + Copy> Counters<A> {
         ensures now { OnOk result (IsNow new.now self.new) }
         ensures before { WasBefore old.now self.new }
         ensures changes { IfOk result (AreChanges (is_in_table (meaning_in old.now)) (is_in_table (meaning_in new.now))) }
+        ensures evaluations { OnOk result (EvaluatesFew (meaning_in old.now) (meaning_in new.now) (evaluations_in meter.old) (evaluations_in meter.new)) }
         ensures adjustments { IfOk result (λ changes. AdjustsFew (meaning_in old.now) (meaning_in new.now) changes (adjustments_in meter.old) (adjustments_in meter.new)) }
     {
         self.take_steps(alloc, old, new, meter)?;
@@ -223,6 +264,16 @@ impl<A: Allocator> Counters<A> {
     {
         match (self.names.find(attribute), self.names.find(ty)) {
             (Some(row), Some(ty)) => self.rows.has(row, ty),
+            _ => false,
+        }
+    }
+
+    /// Whether a type became a member of an attribute in the steps, or is none any more, by full names. It takes no memory.
+    pub fn has_changed(&self, attribute: &[u8], ty: &[u8]) -> bool
+        ensures { result ≡ differ (had_named self.now attribute.now ty.now) (has_named self.now attribute.now ty.now) }
+    {
+        match (self.names.find(attribute), self.names.find(ty)) {
+            (Some(row), Some(ty)) => self.rows.had(row, ty) != self.rows.has(row, ty),
             _ => false,
         }
     }
@@ -256,6 +307,13 @@ impl<A: Allocator> Counters<A> {
             permission,
         };
         self.tables.count(kind, key, target)
+    }
+
+    /// Whether a policy has fewer names than half of those that have symbols, so that most symbols are out of use.
+    pub fn is_sparse(&self, policy: &Resolved<A>) -> bool
+        ensures { result ≡ nat_lt (length policy.now.names.items) (length self.now.names / 2) }
+    {
+        policy.names_len() < self.names.len() / 2
     }
 
     /// Whether counters may differ from those before the steps. No means that `undo` and `settle` would change nothing.

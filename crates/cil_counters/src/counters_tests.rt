@@ -1,6 +1,6 @@
 //! The counters of small policies, brought from one to another, kept and taken back.
 
-ghost use Rattle.std.specs.Prelude.{List, IfOk, ℕ};
+ghost use Rattle.std.specs.Prelude.{◌<◌, List, IfOk, ℕ};
 ghost use Rattle.cil_specs.specs.Joined.{Module};
 ghost use Rattle.cil_parse.specs.Parsed.{IsParsed};
 ghost use Rattle.cil_resolve.specs.Modules.{AreParsedFrom};
@@ -258,10 +258,13 @@ fn a_changed_attribute_and_a_changed_rule(rt: HostRuntime) {
     assert_counters(&rt, &counters, false);
     let changes = bring(&rt, rt.alloc(), &mut counters, &old, &new);
     assert_changes(&rt, &changes);
+    assert!(&rt; counters.has_changed(b"s", b"a") && counters.has_changed(b"s", b"b"));
+    assert!(&rt; !counters.has_changed(b"s", b"z") && !counters.has_changed(b"a", b"a"));
     assert!(&rt; counters.is_pending());
     assert_counters(&rt, &counters, true);
     take_back(&mut counters, &old);
     assert!(&rt; !counters.is_pending());
+    assert!(&rt; !counters.has_changed(b"s", b"a"));
     assert_counters(&rt, &counters, false);
     bring(&rt, rt.alloc(), &mut counters, &old, &new);
     keep(&mut counters, &new);
@@ -311,4 +314,99 @@ fn only_what_differs_is_adjusted(rt: HostRuntime) {
         .expect(&rt, "memory");
     // From b to a and to b, and from a to a and from b to b; the last rule stays as it is.
     assert_eq!(&rt; meter.adjustments(), 4);
+    // The set statement that goes at the type it names, and the one that comes at its own.
+    assert_eq!(&rt; meter.evaluations(), 2);
+}
+
+// How many types there are in the largest policy.
+const TYPES: u32 = 80;
+
+// The name of a type by its number.
+const fn type_name(n: u32) -> [u8; 3]
+    requires { n < 80 }
+{
+    [b't', b'0' + (n / 10) as u8, b'0' + (n % 10) as u8]
+}
+
+// Types that have the permission use to one another: all, or those with an odd number.
+fn types(rt: &impl Abort, alloc: Global, even: bool) -> Resolved {
+    let mut text = Vec::new(alloc);
+    text.extend_from_slice(
+        b"(class p (use))(typeattribute s)(typeattributeset s (all))(allow s s (p (use)))",
+    ).expect(rt, "memory");
+    for n in 0..TYPES {
+        if even || n % 2 == 1 {
+            text.extend_from_slice(b"(type ").expect(rt, "memory");
+            text.extend_from_slice(&type_name(n)).expect(rt, "memory");
+            text.extend_from_slice(b")").expect(rt, "memory");
+        }
+    }
+    policy(rt, alloc, text.as_slice())
+}
+
+#[test]
+fn a_table_has_all_accesses_in_the_order_of_names(rt: HostRuntime) {
+    let alloc = rt.alloc();
+    // The types with an even number come later.
+    let odd = types(&rt, alloc, false);
+    let all = types(&rt, alloc, true);
+    let mut counters = counted(&rt, alloc, &odd);
+    bring(&rt, alloc, &mut counters, &odd, &all);
+    keep(&mut counters, &all);
+    let table = counters.table(alloc, &all).expect(&rt, "memory");
+    assert!(&rt; table.len() == 6400);
+    for source in 0..TYPES {
+        for target in 0..TYPES {
+            let found = table.get((80 * source + target) as usize);
+            let (source, target) = (type_name(source), type_name(target));
+            assert_access(&rt, found, RuleKind::Allow, &source, &target);
+        }
+    }
+}
+
+#[test]
+fn a_table_follows_the_counters(rt: HostRuntime) {
+    let alloc = rt.alloc();
+    let old = policy(&rt, alloc, OLD);
+    let new = policy(&rt, alloc, NEW);
+    let mut counters = counted(&rt, alloc, &old);
+    bring(&rt, alloc, &mut counters, &old, &new);
+    let table = counters.table(alloc, &new).expect(&rt, "memory");
+    assert!(&rt; table.len() == 2);
+    assert_access(&rt, table.get(0), RuleKind::Allow, b"b", b"b");
+    assert_access(&rt, table.get(1), RuleKind::AuditAllow, b"a", b"a");
+    take_back(&mut counters, &old);
+    let table = counters.table(alloc, &old).expect(&rt, "memory");
+    assert!(&rt; table.len() == 2);
+    assert_access(&rt, table.get(0), RuleKind::Allow, b"a", b"a");
+    assert_access(&rt, table.get(1), RuleKind::Allow, b"a", b"b");
+}
+
+#[test]
+fn members_are_those_of_the_policy(rt: HostRuntime) {
+    let alloc = rt.alloc();
+    let odd = types(&rt, alloc, false);
+    let all = types(&rt, alloc, true);
+    let mut counters = counted(&rt, alloc, &odd);
+    bring(&rt, alloc, &mut counters, &odd, &all);
+    let members = counters.members(alloc, &all).expect(&rt, "memory");
+    let Some(s) = all.number(b"s") else {
+        panic!(&rt; "the attribute has a number")
+    };
+    for n in 0..TYPES {
+        let has = match all.number(&type_name(n)) {
+            Some(ty) => members.has(s, ty) && !members.has(ty, s),
+            None => false,
+        };
+        assert!(&rt; has);
+    }
+    let listed = members.members(alloc, s).expect(&rt, "memory");
+    assert!(&rt; listed.len() == 80);
+    take_back(&mut counters, &odd);
+    let members = counters.members(alloc, &odd).expect(&rt, "memory");
+    let Some(s) = odd.number(b"s") else {
+        panic!(&rt; "the attribute has a number")
+    };
+    let listed = members.members(alloc, s).expect(&rt, "memory");
+    assert!(&rt; listed.len() == 40);
 }

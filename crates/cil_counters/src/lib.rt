@@ -5,8 +5,9 @@ mod counters;
 #[cfg(test)]
 mod counters_tests;
 mod laws;
+mod member_counts;
 mod more_rows;
 mod symbol_ranks;
 
 pub use counters::Counters;
-pub use laws::{counters_tell_accesses, counters_tell_members};
+pub use laws::{counters_tell_accesses, counters_tell_changes, counters_tell_members};

@@ -1,19 +1,16 @@
 -- Set statements and rules of a resolved policy stand at spots of their own.
 use Rattle.std.proofs.Common.{◌≡◌, ◌∙◌, ℕ, zero, suc, ◌<◌, inl, inr, List, [], ◌∷◌, map, slice_get, AllPairs, Some, refl, sym, ap}
 use Rattle.std.specs.List.Sorted.{IsStrictlySortedBy}
-use Rattle.std.specs.Ordering.{nat_cmp, ordering_then}
-use Rattle.std.specs.declared.cmp.Ordering.{Ordering}
 use Rattle.std.specs.declared.cmp.Ordering.TheVariants.{Less, Equal}
 use Rattle.std.proofs.lemmas.Bool.{cases_order}
 use Rattle.std.proofs.lemmas.Cmp.{tied_itself}
 use Rattle.std.proofs.lemmas.Option.{none-some, same_Some, slice_get_within, get_or_from_slice_get}
-use Rattle.cil_specs.specs.Report.{name_cmp}
 use Rattle.cil_specs.specs.Rule.{Rule, SetStatement, IsSameRule, IsSameSet}
 use Rattle.cil_specs.specs.Violations.{rule_cmp}
 use Rattle.cil_specs.proofs.ViolationLemmas.{rule_total}
 use Rattle.cil_check.proofs.PositionLemmas.{all-at}
 use Rattle.cil_resolve.specs.Apart.{StandApart}
-use Rattle.cil_matching.specs.Spot.{Spot, set_spot, rule_spot, AreApart}
+use Rattle.cil_matching.specs.Spot.{Spot, spot_cmp, set_spot, rule_spot, AreApart}
 use Rattle.cil_matching.proofs.MatchedLemmas.{from-mapped}
 
 -- Set statements that are the same stand at one spot.
@@ -43,12 +40,7 @@ apart-sets sets apart i j p first second =
         pair (ap (λ (x : SetStatement). x.module_name) one ∙ ap (λ (x : Spot). x.module_name) same ∙ sym (ap (λ (x : SetStatement). x.module_name) two))
         (ap (λ (x : SetStatement). x.at.offset) one ∙ ap (λ (x : Spot). x.offset) same ∙ sym (ap (λ (x : SetStatement). x.at.offset) two))
 
--- rules by the order of their spots
-spot_cmp : Spot → Spot → Ordering
-spot_cmp p q = ordering_then (name_cmp p.module_name q.module_name) (nat_cmp p.offset q.offset)
-
 less-apart : (r s : Rule) → rule_cmp r s ≡ Less → rule_spot r ≡ rule_spot s → ⊥
-unfolding spot_cmp
 less-apart r s less same = never (sym (tied_itself rule_total r) ∙ ap (spot_cmp (rule_spot r)) same ∙ less)
   where
     never : Equal ≡ Less → ⊥

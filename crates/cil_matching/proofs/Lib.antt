@@ -3,3 +3,7 @@ pub mod InverseLemmas
 pub mod MatchedLemmas
 pub mod ApartLemmas
 pub mod RuleLemmas
+pub mod MergedLemmas
+pub mod NumberLemmas
+pub mod ContentLemmas
+pub mod PlaceLemmas

@@ -5,7 +5,7 @@ use Rattle.std.proofs.lemmas.List.{length-append}
 use Rattle.std.proofs.lemmas.Option.{none-some, same_Some, slice_get_within, slice_get-map}
 use Rattle.cil_check.proofs.PositionLemmas.{get-append, get-last}
 use Rattle.cil_optionals.proofs.GreatestLemmas.{got-push}
-use Rattle.cil_matching.specs.Matching.{AreSameAt, AreMatched}
+use Rattle.cil_matching.specs.Matching.{AreSameAt, AreMatched, ArePlaces}
 use Rattle.cil_matching.specs.Spot.{Spot, same_spot, AreApart}
 use Rattle.cil_matching.proofs.SpotLemmas.{found-spot, stands-found}
 
@@ -19,11 +19,6 @@ from-mapped f xs i y at = by (slice_get xs i) refl
 
 pub to-mapped : {X Y : Type 0} (f : X → Y) (xs : List X) (i : ℕ) (x : X) → slice_get xs i ≡ Some x → slice_get (map f xs) i ≡ Some (f x)
 to-mapped f xs i x at = slice_get-map f xs i ∙ ap (option_map f) at
-
--- the places of the same statements as a loop has found them
-pub record ArePlaces {S : Type 0} (IsSame : S → S → Type 0) (old new : List S) (count : ℕ) (ahead : List (Option ℕ)) : Type 0 where
-  pub long : length ahead ≡ count
-  pub exact : (i j : ℕ) → i < count → (slice_get ahead i ≡ Some (Some j)) ↔ AreSameAt IsSame old new i j
 
 module _ {S : Type 0} (IsSame : S → S → Type 0) (old new : List S) where
   pub places-none : (ahead : List (Option ℕ)) → ahead ≡ [] → ArePlaces IsSame old new 0 ahead

@@ -4,8 +4,11 @@
 mod inverse;
 #[cfg(test)]
 mod matching_tests;
+mod name_numbers;
 mod positions;
 mod rule_matching;
+mod rule_places;
+mod same_content;
 mod same_rule;
 mod set_matching;
 

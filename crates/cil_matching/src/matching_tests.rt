@@ -36,14 +36,56 @@ fn joined<'m>(alloc: Global, name: &'m [u8], m: &'m ParsedModule) -> Result<Join
     Ok(Joined { modules })
 }
 
-// The policy of one module.
-fn policy(rt: &impl Abort, alloc: Global, name: &[u8], texts: &[&[u8]]) -> Resolved {
+// The modules m and n.
+fn joined_two<'m>(
+    alloc: Global,
+    m: &'m ParsedModule,
+    n: &'m ParsedModule,
+) -> Result<Joined<'m>, AllocError>
+    requires first { (text : List ℕ) × IsParsed text m.now }
+    requires second { (text : List ℕ) × IsParsed text n.now }
+    ensures { IfOk result (λ joined. (modules : List Module) × AreParsedFrom joined.modules.items modules) }
+{
+    let modules = Vec::from_array(
+        alloc,
+        [
+            NamedModule {
+                name: b"m",
+                module: m,
+            },
+            NamedModule {
+                name: b"n",
+                module: n,
+            },
+        ],
+    )?;
+    Ok(Joined { modules })
+}
+
+// The text of these parts.
+fn text_of(rt: &impl Abort, alloc: Global, parts: &[&[u8]]) -> Vec<u8> {
     let mut text = Vec::new(alloc);
-    for part in texts {
+    for part in parts {
         text.extend_from_slice(part).expect(rt, "memory");
     }
+    text
+}
+
+// The policy of one module.
+fn policy(rt: &impl Abort, alloc: Global, name: &[u8], texts: &[&[u8]]) -> Resolved {
+    let text = text_of(rt, alloc, texts);
     let m = module_of(rt, alloc, text.as_slice());
     let joined = joined(alloc, name, &m).expect(rt, "memory");
+    resolve(alloc, &joined).expect(rt, "a policy")
+}
+
+// The policy of the modules m and n.
+fn policy_of_two(rt: &impl Abort, alloc: Global, first: &[&[u8]], second: &[&[u8]]) -> Resolved {
+    let m_text = text_of(rt, alloc, first);
+    let n_text = text_of(rt, alloc, second);
+    let m = module_of(rt, alloc, m_text.as_slice());
+    let n = module_of(rt, alloc, n_text.as_slice());
+    let joined = joined_two(alloc, &m, &n).expect(rt, "memory");
     resolve(alloc, &joined).expect(rt, "a policy")
 }
 
@@ -62,6 +104,21 @@ fn assert_first_rule(rt: &impl Abort, alloc: Global, old: &Resolved, new: &Resol
     let as_wanted = matching.new_place(0) == place && matching.old_place(0) == place;
     assert!(rt; as_wanted);
     assert!(rt; is_same_rule(old, 0, new, 0) == same);
+}
+
+// Asserts the place in the new policy of each rule of the old one, and back.
+fn assert_rules(
+    rt: &impl Abort,
+    matching: &RuleMatching,
+    ahead: &[Option<usize>],
+    back: &[Option<usize>],
+) {
+    for (i, place) in ahead.iter().enumerate() {
+        assert!(rt; matching.new_place(i) == *place);
+    }
+    for (j, place) in back.iter().enumerate() {
+        assert!(rt; matching.old_place(j) == *place);
+    }
 }
 
 // Two set statements behind the start, and whether they are the same.
@@ -253,11 +310,73 @@ fn a_rule_that_comes_in(rt: HostRuntime) {
         ],
     );
     let matching = RuleMatching::of(rt.alloc(), &old, &new).expect(&rt, "memory");
-    for (i, place) in [Some(0), Some(2), None].iter().enumerate() {
-        assert!(&rt; matching.new_place(i) == *place);
-    }
-    for (j, place) in [Some(0), None, Some(1), None].iter().enumerate() {
-        assert!(&rt; matching.old_place(j) == *place);
+    assert_rules(
+        &rt,
+        &matching,
+        &[Some(0), Some(2), None],
+        &[Some(0), None, Some(1), None],
+    );
+}
+
+// The second rule of m moves by one, and n declares a type whose name stands between others, so that these get other numbers.
+#[test]
+fn rules_of_two_modules(rt: HostRuntime) {
+    let old = policy_of_two(
+        &rt,
+        rt.alloc(),
+        &[START, b"(allow a b (p (see use))) (allow b a (p (see)))"],
+        &[b"         (allow a a (p (use)))(allow b self (q (see use)))"],
+    );
+    let new = policy_of_two(
+        &rt,
+        rt.alloc(),
+        &[START, b"(allow a b (p (see use)))(allow b a (p (see)))"],
+        &[b"(type aa)(allow a a (p (use)))(allow b self (q (see use)))"],
+    );
+    let matching = RuleMatching::of(rt.alloc(), &old, &new).expect(&rt, "memory");
+    let want = [Some(0), None, Some(2), Some(3), None];
+    assert_rules(&rt, &matching, &want, &want);
+}
+
+// The rules of n go one place on.
+#[test]
+fn a_module_that_comes_in(rt: HostRuntime) {
+    let text: &[&[u8]] = &[START, b"(allow a b (p (use)))(allow b s (q (see)))"];
+    let old = policy(&rt, rt.alloc(), b"n", text);
+    let new = policy_of_two(&rt, rt.alloc(), &[b"(type aa)(allow aa b (p (use)))"], text);
+    let matching = RuleMatching::of(rt.alloc(), &old, &new).expect(&rt, "memory");
+    assert_rules(
+        &rt,
+        &matching,
+        &[Some(1), Some(2), None],
+        &[None, Some(0), Some(1), None],
+    );
+    let back = RuleMatching::of(rt.alloc(), &new, &old).expect(&rt, "memory");
+    assert_rules(
+        &rt,
+        &back,
+        &[None, Some(0), Some(1), None],
+        &[Some(1), Some(2), None],
+    );
+}
+
+// The old policy's x is no name of the new one.
+#[test]
+fn a_rule_of_a_name_that_goes(rt: HostRuntime) {
+    let old = policy(
+        &rt,
+        rt.alloc(),
+        b"m",
+        &[START, b"(type x)(allow x b (p (use)))"],
+    );
+    for (text, same) in [
+        (b"(type x)(allow x b (p (use)))", true),
+        (b"(type y)(allow y b (p (use)))", false),
+        (b"(type y)(allow a b (p (use)))", false),
+    ] {
+        let new = policy(&rt, rt.alloc(), b"m", &[START, text]);
+        assert_first_rule(&rt, rt.alloc(), &old, &new, same);
+        assert_first_rule(&rt, rt.alloc(), &new, &old, same);
     }
 }
 

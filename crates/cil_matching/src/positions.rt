@@ -2,10 +2,11 @@
 
 ghost use Rattle.std.specs.Prelude.{◌≡◌, ◌++◌, ◌∷◌, [], false, position, OnOk};
 ghost use Rattle.std.specs.List.{list_any};
-ghost use Rattle.cil_matching.specs.Spot.{same_spot, spot_of};
+ghost use Rattle.cil_matching.specs.Spot.{same_spot, spot_cmp, spot_of};
 
 use indexmap::IndexSet;
 use std::alloc::{AllocError, Allocator, Global};
+use std::cmp::Ordering;
 use std::hash::{BuildHasherDefault, FoldHasher};
 use std::marker::Model;
 
@@ -14,6 +15,17 @@ use std::marker::Model;
 pub struct Position<'r> {
     pub module: &'r [u8],
     pub offset: u32,
+}
+
+impl Position<'_> {
+    /// The order by the names of the modules, and then the offsets.
+    pub fn order(self, other: Position<'_>) -> Ordering
+        ensures { result ≡ spot_cmp (spot_of self.entry) (spot_of other.entry) }
+    {
+        self.module
+            .cmp(other.module)
+            .then(self.offset.cmp(&other.offset))
+    }
 }
 
 /// Positions, each of which finds its place among them. Contracts see it as the list of them.

@@ -1,7 +1,7 @@
 //! Rows of counters by type, with the bits of who was a member before the steps.
 
-ghost use Rattle.std.specs.Prelude.{◌≡◌, ◌↔◌, ℕ, ◌+◌, ◌-◌, ◌<◌, ◌≤◌, ◌^◌, false, min, IfOk, IsTrue, OnErr, OnOk};
-ghost use Rattle.cil_lines.specs.Line.{hit, IsPresence};
+ghost use Rattle.std.specs.Prelude.{◌≡◌, ◌↔◌, ℕ, ◌+◌, ◌-◌, ◌<◌, ◌≤◌, ◌^◌, false, min, IfOk, IsTrue, MatchOption, OnErr, OnOk};
+ghost use Rattle.cil_lines.specs.Line.{hit, IsNextPresent, IsPresence, NonePresent};
 ghost use Rattle.cil_recorded.specs.Differences.{appeared_at, change_key, gone_at, Ascends};
 ghost use Rattle.cil_recorded.specs.Log.{hit_at};
 ghost use Rattle.cil_member_rows.specs.Rows.{count_before, count_now, rows_in, steps_in, IsChange};
@@ -131,6 +131,20 @@ impl<A: Allocator> MemberRows<A> {
     {
         let bits = self.held(row, target / WORD);
         (bits >> (target % WORD)) & 1 == 1
+    }
+
+    /// How many set statements of the attribute of a row hold a type, or the greatest `u64` where they are more.
+    pub fn count(&self, row: usize, target: usize) -> u64
+        ensures { result ≡ min (count_now self.now row target) (2 ^ 64 - 1) }
+    {
+        self.rows.count(row, target)
+    }
+
+    /// The first word of a row, from one on, with a type that is a member.
+    pub fn next_present_word(&self, row: usize, from: usize) -> Option<usize>
+        ensures { MatchOption result (NonePresent (count_now self.now row) from) (IsNextPresent (count_now self.now row) from) }
+    {
+        self.rows.next_present_word(row, from)
     }
 
     /// The members among the types of a word.

@@ -141,3 +141,22 @@ fn changes_stand_in_order_and_once(rt: HostRuntime) {
     let changes = rows.changes(alloc).expect(&rt, "memory");
     assert!(&rt; changes.as_slice() == wanted.as_slice());
 }
+
+#[test]
+fn statements_are_counted_and_words_with_members_found(rt: HostRuntime) {
+    let alloc = rt.alloc();
+    let mut rows = rows(&rt, alloc, 2);
+    shift(&rt, alloc, &mut rows, 1, 1, 0, 0b10);
+    shift(&rt, alloc, &mut rows, 1, 1, 0, 0b11);
+    shift(&rt, alloc, &mut rows, 1, 3, 0, 0b100);
+    let counted = rows.count(1, 64) == 1
+        && rows.count(1, 65) == 2
+        && rows.count(1, 66) == 0
+        && rows.count(0, 65) == 0
+        && rows.count(9, 65) == 0;
+    assert!(&rt; counted);
+    let found = rows.next_present_word(1, 0) == Some(1) && rows.next_present_word(1, 2) == Some(3);
+    assert!(&rt; found);
+    let ended = rows.next_present_word(1, 4).is_none() && rows.next_present_word(0, 0).is_none();
+    assert!(&rt; ended);
+}

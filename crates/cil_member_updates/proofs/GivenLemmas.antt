@@ -39,7 +39,7 @@ none-behind (s ∷ sets) d order (suc j) zero behind within a m = absurd (omega 
 none-behind (s ∷ sets) d order (suc j) (suc k) behind within a m = none-behind sets d order.1 j k (omega (arith, behind)) (omega (arith, within)) a m
 
 module _ (symbols : List (List ℕ)) (meaning : Meaning) where
-  gives-named : (a t : ℕ) (attribute name : List ℕ) → slice_get symbols a ≡ Some attribute → slice_get symbols t ≡ Some name → (s : SetStatement) → gives symbols meaning a t s ≡ gives_member meaning attribute name s
+  pub gives-named : (a t : ℕ) (attribute name : List ℕ) → slice_get symbols a ≡ Some attribute → slice_get symbols t ≡ Some name → (s : SetStatement) → gives symbols meaning a t s ≡ gives_member meaning attribute name s
   gives-named a t attribute name at_a at_t s =
       ap (λ b. b && holds symbols meaning s t) (is-of-named symbols s a attribute at_a) ∙ ap (λ b. bytes_eq attribute s.attribute && b) (holds-named symbols meaning s t name at_t)
 

@@ -1,4 +1,7 @@
 pub mod BitLemmas
+pub mod ComesLemmas
+pub mod DirtyLemmas
+pub mod EvaluatedLemmas
 pub mod GivenLemmas
 pub mod GrowthLemmas
 pub mod KeptLemmas
@@ -8,4 +11,5 @@ pub mod PassLemmas
 pub mod RenewLemmas
 pub mod SideLemmas
 pub mod SymbolLemmas
+pub mod TurnedLemmas
 pub mod WordLemmas

@@ -3,7 +3,7 @@ use Rattle.std.proofs.Common.{◌≡◌, ◌≢◌, ◌==◌, ◌+◌, ◌-◌, 
 use Rattle.std.specs.List.{AllByRecursion, IsDistinct}
 use Rattle.std.specs.Int.{bit_at}
 use Rattle.std.proofs.Math.Bool.{and-false}
-use Rattle.std.proofs.lemmas.Bool.{cases_eq, cases_lt, eq-eqb, ne_eqb, lt-ltb, le-ltb}
+use Rattle.std.proofs.lemmas.Bool.{cases_Bool, cases_eq, cases_lt, eq-eqb, ne_eqb, lt-ltb, le-ltb}
 use Rattle.std.proofs.lemmas.Nat.Bits.{bit_at_or}
 use Rattle.std.proofs.lemmas.Option.{none-some, same_Some}
 use Rattle.std.proofs.lemmas.Slice.Eq.{bytes_eq-Decides}
@@ -93,6 +93,13 @@ module _ (symbols : List (List ℕ)) where
         by : (name : Option (List ℕ)) → of_name (keeps_type meaning) name ≡ false → of_name (is_in meaning s.expr) name ≡ false
         by None e = refl
         by (Some n) e = ap (λ b. b && holds_with meaning.sets (length meaning.attributes) s.expr n) e
+
+    pub holds-keeps : (s : SetStatement) (t : ℕ) → holds symbols meaning s t ≡ true → keeps symbols meaning t ≡ true
+    holds-keeps s t is =
+        elim (cases_Bool (keeps symbols meaning t)) [
+          | inl kept ↦ kept
+          | inr none ↦ absurd (true≢false (sym is ∙ holds-kept s t none))
+        ]
 
     -- a symbol without a name is in none
     pub holds-past : (s : SetStatement) (t : ℕ) → slice_get symbols t ≡ None → holds symbols meaning s t ≡ false

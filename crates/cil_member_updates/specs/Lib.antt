@@ -1,4 +1,5 @@
 pub mod Bits
+pub mod Evaluated
 pub mod Given
 pub mod Moved
 pub mod Passes

@@ -1,14 +1,16 @@
 //! The types of a word that a set statement holds.
 
-ghost use Rattle.std.specs.Prelude.{◌≡◌, ◌+◌, ◌*◌, ◌%◌, ◌<◌, ◌^◌, ℕ, IsTrue, length, slice_get, Some, nat_lt};
-ghost use Rattle.cil_resolve.specs.Meter.{adjustments_in};
+ghost use Rattle.std.specs.Prelude.{◌≡◌, ◌+◌, ◌-◌, ◌*◌, ◌%◌, ◌<◌, ◌^◌, ℕ, IsTrue, length, min, slice_get, slice_index, Some, nat_lt};
+ghost use Rattle.cil_resolve.specs.Meter.{adjustments_in, evaluations_in};
 ghost use Rattle.cil_resolve.specs.Resolved.{meaning_in};
 ghost use Rattle.cil_resolve.specs.Sets.{sets_in};
 ghost use Rattle.cil_sets.specs.Counts.{one_if};
 ghost use Rattle.cil_sets.specs.Places.{set_at};
 ghost use Rattle.cil_member_updates.specs.Given.{holds, keeps, Tell};
 ghost use Rattle.cil_member_updates.specs.Policy.{counts_at, IsSide};
+ghost use Rattle.cil_sums.specs.Rises.{RisesBy};
 ghost use Rattle.cil_member_updates.specs.Bits.{AreHeld};
+ghost use Rattle.cil_member_updates.specs.Evaluated.{is_asked};
 
 use crate::side::Side;
 use crate::when::{When, is_member};
@@ -51,6 +53,7 @@ fn is_held<A: Allocator>(
     requires tell { Tell symbols.now (meaning_in side.now.resolved.now) (set_at side.now.resolved.now i) (counts_at when.now rows.now) }
     requires kept { IsTrue (keeps symbols.now (meaning_in side.now.resolved.now) t) }
     ensures held { result ≡ holds symbols.now (meaning_in side.now.resolved.now) (set_at side.now.resolved.now i) t }
+    ensures evaluations { evaluations_in meter.new ≡ min (evaluations_in meter.old + 1) (2 ^ 128 - 1) }
     ensures adjustments { adjustments_in meter.new ≡ adjustments_in meter.old }
 {
     resolved_names_are_kept(side.resolved);
@@ -80,6 +83,7 @@ fn held_bit<A: Allocator>(
     requires tell { Tell symbols.now (meaning_in side.now.resolved.now) (set_at side.now.resolved.now i) (counts_at when.now rows.now) }
     requires kept { IsTrue (keeps symbols.now (meaning_in side.now.resolved.now) t) }
     ensures bit { result ≡ one_if (holds symbols.now (meaning_in side.now.resolved.now) (set_at side.now.resolved.now i) t) * 2 ^ (t % 64) }
+    ensures evaluations { evaluations_in meter.new ≡ min (evaluations_in meter.old + 1) (2 ^ 128 - 1) }
     ensures adjustments { adjustments_in meter.new ≡ adjustments_in meter.old }
 {
     if is_held(symbols, side, rows, when, i, t, meter) {
@@ -105,6 +109,7 @@ pub fn masked<A: Allocator>(
     requires tell { Tell symbols.now (meaning_in side.now.resolved.now) (set_at side.now.resolved.now i) (counts_at when.now rows.now) }
     requires word { word < 2 ^ 58 }
     ensures held { AreHeld visits (holds symbols.now (meaning_in side.now.resolved.now) (set_at side.now.resolved.now i)) word result }
+    ensures evaluations { RisesBy (is_asked visits (slice_index side.now.kept.now word)) (evaluations_in meter.old) (evaluations_in meter.new) }
     ensures adjustments { adjustments_in meter.new ≡ adjustments_in meter.old }
 {
     let kept = visits & side.kept.word(word);

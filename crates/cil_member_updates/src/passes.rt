@@ -1,14 +1,16 @@
 //! The members of a policy made those of another one.
 
 ghost use Rattle.std.specs.Prelude.{◌≡◌, ◌<◌, ◌≤◌, ◌+◌, ℕ, length, OnOk};
+ghost use Rattle.cil_delta_specs.specs.Work.{EvaluatesFew};
 ghost use Rattle.cil_matching.specs.Matching.{AreMatched};
-ghost use Rattle.cil_resolve.specs.Meter.{adjustments_in};
+ghost use Rattle.cil_resolve.specs.Meter.{adjustments_in, evaluations_in};
 ghost use Rattle.cil_resolve.specs.Resolved.{meaning_in};
 ghost use Rattle.cil_resolve.specs.Sets.{sets_in};
 ghost use Rattle.cil_sets.specs.Places.{set_at};
 ghost use Rattle.cil_specs.specs.Rule.{IsSameSet};
 ghost use Rattle.cil_sums.specs.Sums.{sum_below};
 ghost use Rattle.cil_member_rows.specs.Rows.{count_before, count_now, rows_in};
+ghost use Rattle.cil_member_updates.specs.Evaluated.{EvaluatesGone, EvaluatesGoneAt, EvaluatesNew, EvaluatesNewAt};
 ghost use Rattle.cil_member_updates.specs.Given.{Tell};
 ghost use Rattle.cil_member_updates.specs.Passes.{gone, given_by, stayed};
 ghost use Rattle.cil_member_updates.specs.Policy.{given, AreCounts, IsSide};
@@ -17,7 +19,10 @@ use crate::sets::{lower_set, move_set, raise_set};
 use crate::side::Side;
 use cil_matching::SetMatching;
 use cil_member_rows::MemberRows;
-use cil_resolve::{Meter, resolved_is_sound, resolved_sets_are_in_order};
+use cil_resolve::{
+    Meter, resolved_is_sound, resolved_names_are_kept, resolved_sets_are_apart,
+    resolved_sets_are_in_order,
+};
 use cil_symbols::Symbols;
 use std::alloc::{AllocError, Allocator};
 
@@ -39,6 +44,7 @@ fn lower_gone_set<A: Allocator + Copy>(
     ensures now { OnOk result ((a t : ℕ) → count_now rows.new a t + gone symbols.now old.now.resolved.now matching.now a t i ≡ count_now rows.old a t) }
     ensures before { (a t : ℕ) → count_before rows.new a t ≡ count_before rows.old a t }
     ensures rows { rows_in rows.new ≡ rows_in rows.old }
+    ensures evaluations { OnOk result (EvaluatesGoneAt symbols.now old.now.resolved.now matching.now i (evaluations_in meter.old) (evaluations_in meter.new)) }
     ensures adjustments { adjustments_in meter.new ≡ adjustments_in meter.old }
 {
     match matching.new_place(i) {
@@ -64,6 +70,8 @@ fn lower_gone<A: Allocator + Copy>(
         ≡ sum_below (given_by symbols.now old.now.resolved.now a t) (length (sets_in old.now.resolved.now))) }
     ensures before { (a t : ℕ) → count_before rows.new a t ≡ count_before rows.old a t }
     ensures rows { rows_in rows.new ≡ rows_in rows.old }
+    ensures evaluations { OnOk result (EvaluatesGone symbols.now old.now.resolved.now matching.now (length (sets_in old.now.resolved.now))
+        (evaluations_in meter.old) (evaluations_in meter.new)) }
     ensures adjustments { adjustments_in meter.new ≡ adjustments_in meter.old }
 {
     resolved_is_sound(old.resolved);
@@ -97,6 +105,8 @@ fn renew_set<A: Allocator + Copy>(
         ≡ count_now rows.old a t + given symbols.now new.now.resolved.now j a t) }
     ensures before { (a t : ℕ) → count_before rows.new a t ≡ count_before rows.old a t }
     ensures rows { rows_in rows.new ≡ rows_in rows.old }
+    ensures evaluations { OnOk result (EvaluatesNewAt symbols.now old.now.resolved.now new.now.resolved.now matching.now j
+        (evaluations_in meter.old) (evaluations_in meter.new)) }
     ensures adjustments { adjustments_in meter.new ≡ adjustments_in meter.old }
 {
     resolved_is_sound(old.resolved);
@@ -126,6 +136,8 @@ fn renew<A: Allocator + Copy>(
     ensures now { OnOk result (AreCounts symbols.now new.now.resolved.now (count_now rows.new)) }
     ensures before { (a t : ℕ) → count_before rows.new a t ≡ count_before rows.old a t }
     ensures rows { rows_in rows.new ≡ rows_in rows.old }
+    ensures evaluations { OnOk result (EvaluatesNew symbols.now old.now.resolved.now new.now.resolved.now matching.now (length (sets_in new.now.resolved.now))
+        (evaluations_in meter.old) (evaluations_in meter.new)) }
     ensures adjustments { adjustments_in meter.new ≡ adjustments_in meter.old }
 {
     resolved_is_sound(new.resolved);
@@ -156,8 +168,16 @@ pub fn update<A: Allocator + Copy>(
     ensures now { OnOk result (AreCounts symbols.now new.now.resolved.now (count_now rows.new)) }
     ensures before { (a t : ℕ) → count_before rows.new a t ≡ count_before rows.old a t }
     ensures rows { rows_in rows.new ≡ rows_in rows.old }
+    ensures evaluations { OnOk result (EvaluatesFew (meaning_in old.now.resolved.now) (meaning_in new.now.resolved.now) (evaluations_in meter.old) (evaluations_in meter.new)) }
     ensures adjustments { adjustments_in meter.new ≡ adjustments_in meter.old }
 {
+    resolved_is_sound(old.resolved);
+    resolved_is_sound(new.resolved);
+    resolved_names_are_kept(new.resolved);
+    resolved_sets_are_in_order(old.resolved);
+    resolved_sets_are_in_order(new.resolved);
+    resolved_sets_are_apart(old.resolved);
+    resolved_sets_are_apart(new.resolved);
     lower_gone(rows, alloc, symbols, old, matching, meter)?;
     renew(rows, alloc, symbols, old, new, matching, meter)
 }

@@ -1,12 +1,13 @@
 //! One set statement at all types.
 
 ghost use Rattle.std.specs.Prelude.{◌≡◌, ◌+◌, ◌<◌, ◌≤◌, ℕ, length, OnOk};
-ghost use Rattle.cil_resolve.specs.Meter.{adjustments_in};
+ghost use Rattle.cil_resolve.specs.Meter.{adjustments_in, evaluations_in};
 ghost use Rattle.cil_resolve.specs.Resolved.{meaning_in};
 ghost use Rattle.cil_resolve.specs.Sets.{sets_in};
 ghost use Rattle.cil_sets.specs.Places.{set_at};
 ghost use Rattle.cil_specs.specs.Rule.{IsSameSet};
 ghost use Rattle.cil_member_rows.specs.Rows.{count_before, count_now, rows_in};
+ghost use Rattle.cil_member_updates.specs.Evaluated.{EvaluatesSet, MovesSet};
 ghost use Rattle.cil_member_updates.specs.Given.{Tell};
 ghost use Rattle.cil_member_updates.specs.Moved.{AreMoved, nothing};
 ghost use Rattle.cil_member_updates.specs.Policy.{given, IsSide};
@@ -38,6 +39,7 @@ pub fn lower_set<A: Allocator + Copy>(
     ensures now { OnOk result (AreMoved (given symbols.now old.now.resolved.now i) nothing (count_now rows.old) (count_now rows.new)) }
     ensures before { (a t : ℕ) → count_before rows.new a t ≡ count_before rows.old a t }
     ensures rows { rows_in rows.new ≡ rows_in rows.old }
+    ensures evaluations { OnOk result (EvaluatesSet symbols.now old.now.resolved.now i (evaluations_in meter.old) (evaluations_in meter.new)) }
     ensures adjustments { adjustments_in meter.new ≡ adjustments_in meter.old }
 {
     for word in 0..symbols.len() / WORD + 1 {
@@ -62,6 +64,7 @@ pub fn raise_set<A: Allocator + Copy>(
     ensures now { OnOk result (AreMoved nothing (given symbols.now new.now.resolved.now j) (count_now rows.old) (count_now rows.new)) }
     ensures before { (a t : ℕ) → count_before rows.new a t ≡ count_before rows.old a t }
     ensures rows { rows_in rows.new ≡ rows_in rows.old }
+    ensures evaluations { OnOk result (EvaluatesSet symbols.now new.now.resolved.now j (evaluations_in meter.old) (evaluations_in meter.new)) }
     ensures adjustments { adjustments_in meter.new ≡ adjustments_in meter.old }
 {
     resolved_sets_are_in_order(new.resolved);
@@ -94,6 +97,7 @@ pub fn move_set<A: Allocator + Copy>(
     ensures now { OnOk result (AreMoved (given symbols.now old.now.resolved.now i) (given symbols.now new.now.resolved.now j) (count_now rows.old) (count_now rows.new)) }
     ensures before { (a t : ℕ) → count_before rows.new a t ≡ count_before rows.old a t }
     ensures rows { rows_in rows.new ≡ rows_in rows.old }
+    ensures evaluations { OnOk result (MovesSet symbols.now old.now.resolved.now i new.now.resolved.now j (evaluations_in meter.old) (evaluations_in meter.new)) }
     ensures adjustments { adjustments_in meter.new ≡ adjustments_in meter.old }
 {
     resolved_sets_are_in_order(new.resolved);

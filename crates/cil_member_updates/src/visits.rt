@@ -10,6 +10,7 @@ ghost use Rattle.cil_specs.specs.Expr.{leaves};
 ghost use Rattle.cil_specs.specs.Rule.{IsSameSet};
 ghost use Rattle.cil_specs.specs.Sets.{differ};
 ghost use Rattle.cil_member_rows.specs.Rows.{count_before, count_now};
+ghost use Rattle.cil_member_updates.specs.Evaluated.{AreTurnedAt, AreUnsettledAt, IsTurnedAt};
 ghost use Rattle.cil_member_updates.specs.Given.{element_holds, holds, IsUnchanged, Tell};
 ghost use Rattle.cil_member_updates.specs.Policy.{counts_at, AreUnchanged, CoverNames, IsSide};
 ghost use Rattle.cil_member_updates.specs.Bits.{Cover};
@@ -119,7 +120,8 @@ fn changed_by_name<A: Allocator>(
 ) -> u64
     requires side { IsSide symbols.now side.now }
     requires below { IsTrue (is_element_below (length side.now.resolved.now.names.items) element) }
-    ensures { IsUnchanged symbols.now (count_before rows.now) (count_now rows.now) (element_of side.now.resolved.now.names.items element) word result }
+    ensures unchanged { IsUnchanged symbols.now (count_before rows.now) (count_now rows.now) (element_of side.now.resolved.now.names.items element) word result }
+    ensures turned { IsTurnedAt symbols.now (count_before rows.now) (count_now rows.now) (element_of side.now.resolved.now.names.items element) word result }
 {
     match element {
         Element::Type(_) => 0,
@@ -139,7 +141,8 @@ fn changed_by_names<A: Allocator>(
 ) -> u64
     requires side { IsSide symbols.now side.now }
     requires within { i < length (sets_in side.now.resolved.now) }
-    ensures { AreUnchanged symbols.now (count_before rows.now) (count_now rows.now) side.now.resolved.now i word result }
+    ensures unchanged { AreUnchanged symbols.now (count_before rows.now) (count_now rows.now) side.now.resolved.now i word result }
+    ensures turned { AreTurnedAt symbols.now (count_before rows.now) (count_now rows.now) side.now.resolved.now i word result }
 {
     let names = side.resolved.set_names(i);
     let mut bits = 0;
@@ -166,8 +169,9 @@ pub fn unsettled<A: Allocator>(
     requires same { IsSameSet (set_at old.now.resolved.now i) (set_at new.now.resolved.now j) }
     requires was { Tell symbols.now (meaning_in old.now.resolved.now) (set_at old.now.resolved.now i) (count_before rows.now) }
     requires is { Tell symbols.now (meaning_in new.now.resolved.now) (set_at new.now.resolved.now j) (count_now rows.now) }
-    ensures { Cover (λ t. differ (holds symbols.now (meaning_in old.now.resolved.now) (set_at old.now.resolved.now i) t)
+    ensures cover { Cover (λ t. differ (holds symbols.now (meaning_in old.now.resolved.now) (set_at old.now.resolved.now i) t)
         (holds symbols.now (meaning_in new.now.resolved.now) (set_at new.now.resolved.now j) t)) word result }
+    ensures unsettled { AreUnsettledAt symbols.now (meaning_in old.now.resolved.now) (meaning_in new.now.resolved.now) (set_at new.now.resolved.now j) word result }
 {
     expressions_agree();
     resolved_is_sound(new.resolved);

@@ -1,12 +1,13 @@
 //! One set statement at the types of a word.
 
 ghost use Rattle.std.specs.Prelude.{◌≡◌, ◌+◌, ◌/◌, ◌<◌, ◌≤◌, ◌^◌, ℕ, length, OnOk};
-ghost use Rattle.cil_resolve.specs.Meter.{adjustments_in};
+ghost use Rattle.cil_resolve.specs.Meter.{adjustments_in, evaluations_in};
 ghost use Rattle.cil_resolve.specs.Resolved.{meaning_in};
 ghost use Rattle.cil_resolve.specs.Sets.{sets_in};
 ghost use Rattle.cil_sets.specs.Places.{set_at};
 ghost use Rattle.cil_specs.specs.Rule.{IsSameSet};
 ghost use Rattle.cil_member_rows.specs.Rows.{count_before, count_now, rows_in};
+ghost use Rattle.cil_member_updates.specs.Evaluated.{EvaluatesWord, MovesWord};
 ghost use Rattle.cil_member_updates.specs.Given.{Tell};
 ghost use Rattle.cil_member_updates.specs.Moved.{IsMoved, nothing};
 ghost use Rattle.cil_member_updates.specs.Policy.{given, IsSide};
@@ -39,6 +40,7 @@ pub fn lower_word<A: Allocator + Copy>(
     ensures now { OnOk result (IsMoved word (given symbols.now old.now.resolved.now i) nothing (count_now rows.old) (count_now rows.new)) }
     ensures before { (a t : ℕ) → count_before rows.new a t ≡ count_before rows.old a t }
     ensures rows { rows_in rows.new ≡ rows_in rows.old }
+    ensures evaluations { EvaluatesWord symbols.now old.now.resolved.now i word (evaluations_in meter.old) (evaluations_in meter.new) }
     ensures adjustments { adjustments_in meter.new ≡ adjustments_in meter.old }
 {
     let row = row_of(symbols, old, i);
@@ -68,6 +70,7 @@ pub fn raise_word<A: Allocator + Copy>(
     ensures now { OnOk result (IsMoved word nothing (given symbols.now new.now.resolved.now j) (count_now rows.old) (count_now rows.new)) }
     ensures before { (a t : ℕ) → count_before rows.new a t ≡ count_before rows.old a t }
     ensures rows { rows_in rows.new ≡ rows_in rows.old }
+    ensures evaluations { EvaluatesWord symbols.now new.now.resolved.now j word (evaluations_in meter.old) (evaluations_in meter.new) }
     ensures adjustments { adjustments_in meter.new ≡ adjustments_in meter.old }
 {
     let row = row_of(symbols, new, j);
@@ -104,6 +107,7 @@ pub fn move_word<A: Allocator + Copy>(
     ensures now { OnOk result (IsMoved word (given symbols.now old.now.resolved.now i) (given symbols.now new.now.resolved.now j) (count_now rows.old) (count_now rows.new)) }
     ensures before { (a t : ℕ) → count_before rows.new a t ≡ count_before rows.old a t }
     ensures rows { rows_in rows.new ≡ rows_in rows.old }
+    ensures evaluations { MovesWord symbols.now old.now.resolved.now i new.now.resolved.now j word (evaluations_in meter.old) (evaluations_in meter.new) }
     ensures adjustments { adjustments_in meter.new ≡ adjustments_in meter.old }
 {
     let row = row_of(symbols, new, j);

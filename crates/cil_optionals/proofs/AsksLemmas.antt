@@ -1,18 +1,18 @@
 -- Needs of statements.
-use Rattle.std.proofs.Common.{◌≡◌, ℕ, zero, suc, ◌+◌, ◌<◌, ◌≤◌, ◌==◌, Bool, true, false, not, ◌&&◌, ◌||◌, nat_lt, List, [], ◌∷◌, ◌++◌, map, length, get_or, slice_get, take, Option, Some, None, is_some, IfSome, refl, sym, ap, ◌∙◌, subst, arith, add-one, append_assoc, append-nil, if◌then◌else◌}
+use Rattle.std.proofs.Common.{◌≡◌, inl, inr, ℕ, zero, suc, ◌+◌, ◌<◌, ◌≤◌, ◌==◌, Bool, true, false, not, ◌&&◌, ◌||◌, nat_lt, List, [], ◌∷◌, ◌++◌, map, length, get_or, slice_get, take, Option, Some, None, is_some, IfSome, refl, sym, ap, ◌∙◌, subst, arith, add-one, append_assoc, append-nil, if◌then◌else◌}
 use Rattle.std.specs.List.{list_all, list_any}
 use Rattle.std.specs.Option.{option_to_list}
 use Rattle.std.proofs.lemmas.Bool.{eq-eqb, lt-ltb}
 use Rattle.std.proofs.lemmas.List.{take_all}
 use Rattle.std.proofs.lemmas.List.Folds.{list_all-append}
-use Rattle.std.proofs.lemmas.Option.{none-some, same_Some, slice_get_within, slice_get_read}
+use Rattle.std.proofs.lemmas.Option.{none-some, same_Some, slice_get_within, slice_get_cases, slice_get_read}
 use Rattle.cil_specs.specs.Names.{Word}
 use Rattle.cil_specs.specs.Statements.{Form, block, optional, type_name, type_alias, alias_actual, type_attribute, attribute_set, common, class, class_common, class_order, rule, itself, the_named}
 use Rattle.cil_specs.specs.Expr.{leaves}
 use Rattle.cil_specs.specs.Joined.{Placed}
-use Rattle.cil_specs.specs.Lookup.{Table, types, classes, scopes, holds_of, leads, references}
-use Rattle.cil_specs.specs.PolicyFault.{is_unfound}
-use Rattle.cil_specs.specs.Kept.{Optionals, is_within, restricted}
+use Rattle.cil_specs.specs.Lookup.{Table, types, classes, scopes, holds_of, leads, outward, references}
+use Rattle.cil_specs.specs.PolicyFault.{PolicyFault, twice, is_unfound, IsFaultOf}
+use Rattle.cil_specs.specs.Kept.{Optionals, is_within, restricted, AreApart}
 use Rattle.cil_specs.specs.Statements.{Statements}
 use Rattle.cil_parse.specs.Builder.{read}
 use Rattle.cil_parse.specs.Flat.{FlatStatement, flat}
@@ -33,12 +33,12 @@ use Rattle.cil_bind.proofs.DeclareLemmas.{rows-length}
 use Rattle.cil_bind.proofs.PositionLemmas.{take-next}
 use Rattle.cil_optionals.specs.Needs.{is_met}
 use Rattle.cil_bind.specs.Nested.{IsInnermost}
-use Rattle.cil_optionals.specs.Nodes.{is_provided, is_plain, AreNodesOf}
-use Rattle.cil_optionals.specs.Providers.{IsReady}
-use Rattle.cil_optionals.specs.Asks.{has_node, is_need_of, are_found, optional_at, row_optional, AddsNeed, Asks, IsOf}
+use Rattle.cil_optionals.specs.Nodes.{declared_table, declared_text, is_naming, is_provided, is_plain, AreNodesOf}
+use Rattle.cil_optionals.specs.Providers.{further_out, IsReady}
+use Rattle.cil_optionals.specs.Asks.{has_node, is_need_of, are_found, optional_at, row_optional, AddsNeed, Asks, IsOf, LeadsOutside}
 use Rattle.cil_optionals.specs.declared.greatest.Need.{Need}
 use Rattle.cil_optionals.proofs.FoundLemmas.{leads-found}
-use Rattle.cil_optionals.proofs.ProviderLemmas.{row-within, place-provided, HasRow, row-of}
+use Rattle.cil_optionals.proofs.ProviderLemmas.{row-within, place-provided, provided-by, naming-declaration, HasRow, row-of}
 
 -- what is led to has a row
 pub lead-low : {A : Type 0} (p : Policy A) (parsed : List (NamedModule A)) (all : List Placed) (table : Table) (found : Option ℕ) (q : ℕ) (lead : Option Placed) → IsReady p parsed all → found ≡ Some q → IsLead table all found lead
@@ -83,6 +83,24 @@ around-low p parsed all q row ready low at = by row.optional (ready.nested.aroun
     by : (n : ℕ) → IsInnermost all q n here.s → n < length p.rows.items + 1
     by zero outside = omega arith
     by (suc k) inside = (let before = inside.1 in omega (arith, low, before))
+
+-- what is led to stands in no optional where its row has none
+pub leads-outside : {A : Type 0} (p : Policy A) (parsed : List (NamedModule A)) (all : List Placed) (table : Table) (found : Option ℕ) (q : ℕ) (lead : Option Placed) (row : Row) → IsReady p parsed all → found ≡ Some q
+    → IsLead table all found lead → row ≡ get_or p.rows.items q row → row.optional ≡ 0 → LeadsOutside all lead
+leads-outside p parsed all table found q lead row ready e is at none =
+    let here = row-of p parsed all q row ready (lead-low p parsed all table found q lead ready e is) at in
+    let led = subst (λ f. IsLead table all f lead) e is in
+    record {
+      place = q;
+      found = here.s;
+      at = here.at;
+      is = sym led.is ∙ here.at;
+      outside = by here.s row.optional none (ready.nested.around q row here.s here.row_at here.at);
+    }
+  where
+    by : (s : Placed) (n : ℕ) → n ≡ 0 → IsInnermost all q n s → s.optionals ≡ []
+    by s zero e is = is
+    by s (suc k) e is = absurd (omega (arith, e))
 
 pub asks-none : {A : Type 0} (policy : List Placed) (o : ℕ) (needs : List (Need A)) → Asks policy o (λ set. true) needs needs
 asks-none policy o needs = record { more = []; is = sym (append-nil needs); below = refl; met = λ set has nodes. by (has o) }
@@ -199,6 +217,34 @@ reference-met p parsed all s k table word text found plain met_by ready at named
     twice-not true = refl
     twice-not false = refl
 
+-- a statement in no optional is provided in every restriction
+provided-outside : (all : List Placed) (set : Optionals) → AreApart all → ((fault : PolicyFault) → IsFaultOf twice all fault → ⊥) → (i : ℕ) (s : Placed) → slice_get all i ≡ Some s → s.optionals ≡ []
+    → is_provided (restricted set all) s ≡ true
+provided-outside all set apart once i s at outside = by (is_naming s.form) refl
+  where
+    by : (b : Bool) → is_naming s.form ≡ b → is_provided (restricted set all) s ≡ true
+    by true e =
+        provided-by all set apart once i s at (naming-declaration s e)
+        ∙ ap (λ o. list_all (set s.module_name) o || holds_of (is_provided (restricted set all)) (further_out all (declared_table s.form) s.namespace (declared_text s.form))) outside
+    by false e = ap (λ b. if b then is_some (outward (restricted set all) (declared_table s.form) s.namespace (declared_text s.form)) else true) e
+
+-- a reference that leads outside optionals is found in every restriction
+pub reference-outside : {A : Type 0} (p : Policy A) (parsed : List (NamedModule A)) (all : List Placed) (s : Placed) (k : ℕ) (r : Table × Word) → IsReady p parsed all → slice_get (references s.form) k ≡ Some r
+    → LeadsOutside all (leads all r.0 s.namespace r.1.text) → (set : Optionals) → not (is_unfound (restricted set all) s.namespace r) ≡ true
+reference-outside p parsed all s k (table, word) ready at out set =
+    sym (twice-not (is_some (leads (restricted set all) table s.namespace word.text)))
+    ∙ leads-found all set ready.apart ready.bound.once table (other-at (references s.form) k (table, word) (references-other s.form) at) s.namespace word.text
+    ∙ ap (holds_of (λ t. if is_plain word.text then is_provided (restricted set all) t else is_within set t)) out.is
+    ∙ by (is_plain word.text)
+  where
+    twice-not : (b : Bool) → b ≡ not (not b)
+    twice-not true = refl
+    twice-not false = refl
+
+    by : (b : Bool) → (if b then is_provided (restricted set all) out.found else is_within set out.found) ≡ true
+    by true = provided-outside all set ready.apart ready.bound.once out.place out.found out.at out.outside
+    by false = ap (list_all (set out.found.module_name)) out.outside
+
 -- one reference more
 pub found-next : (policy : List Placed) (namespace : List (List ℕ)) (refs : List (Table × Word)) (k : ℕ) (r : Table × Word) → slice_get refs k ≡ Some r
     → (are_found policy namespace (take k refs) && not (is_unfound policy namespace r)) ≡ are_found policy namespace (take (k + 1) refs)
@@ -224,6 +270,11 @@ row-one p module_at i s row of is =
     let there : slice_get p.rows.items i ≡ Some row = slice_get_read p.rows.items (length p.rows.items) i row refl low is in
     (same_Some of.row row (sym of.at ∙ there), ap row_optional there)
 
+-- the references of the statement at a place are bound to what they lead to
+pub leads-of : {A : Type 0} (p : Policy A) (parsed : List (NamedModule A)) (all : List Placed) (i : ℕ) (s : Placed) (bound : List (Option ℕ)) → IsReady p parsed all → slice_get all i ≡ Some s → bound ≡ get_or p.bound.0 i []
+    → AreLeads all s.namespace (references s.form) bound
+leads-of p parsed all i s bound ready at here = subst (AreLeads all s.namespace (references s.form)) (sym here) (bound-at all all p.bound.0 i s ready.bound.bound at).1
+
 pub seen-of : {A : Type 0} (p : Policy A) (parsed : List (NamedModule A)) (module_at : ParsedModule A) (all : List Placed) (i : ℕ) (s : Placed) (row : Row) (v : StatementView) (bound : List (Option ℕ)) → IsReady p parsed all
     → slice_get all i ≡ Some s → (of : IsOf p module_at i s) → row ≡ get_or p.rows.items i row
     → ((statements : Statements) (f : FlatStatement) → Spells module_at statements → slice_get (flat 0 0 0 statements) row.index ≡ Some f → IsShown (texts_of module_at) v f)
@@ -232,7 +283,7 @@ seen-of p parsed module_at all i s row v bound ready at of is shows here = recor
   f = of.f;
   shown = shows of.statements of.f of.spells (ap (λ r. slice_get (flat 0 0 0 of.statements) r.index) (sym (row-one p module_at i s row of is).0) ∙ of.is);
   form = of.form;
-  leads_are = subst (AreLeads all s.namespace (references s.form)) (sym here) (bound-at all all p.bound.0 i s ready.bound.bound at).1;
+  leads_are = leads-of p parsed all i s bound ready at here;
 }
 
 -- a reference of a statement that is seen
@@ -268,9 +319,29 @@ reference-there p module_at all i s v bound k seen none low =
     past (x ∷ xs) zero e less = none-some x (sym e)
     past (x ∷ xs) (suc j) e less = past xs j e (omega (arith, less))
 
+-- each reference of a statement is bound to what it leads to
+pub reference-lead : (all : List Placed) (s : Placed) (bound : List (Option ℕ)) (k : ℕ) → AreLeads all s.namespace (references s.form) bound → k < length bound
+    → (r : Table × Word) × (slice_get (references s.form) k ≡ Some r) × IsLead r.0 all (get_or bound k None) (leads all r.0 s.namespace r.1.text)
+reference-lead all s bound k are low = elim (slice_get_cases (references s.form) k).1 [
+  | inl (r, less, at, same) ↦ (r, at, lead-at all s.namespace (references s.form) bound k r (get_or bound k None) None are at refl)
+  | inr (past, none) ↦ absurd (let long = leads-long all s.namespace (references s.form) bound are in omega (arith, long, low, past))
+]
+
+-- one reference more that leads outside optionals
+pub found-outside : {A : Type 0} (p : Policy A) (parsed : List (NamedModule A)) (all : List Placed) (s : Placed) (k : ℕ) (r : Table × Word) → IsReady p parsed all → slice_get (references s.form) k ≡ Some r
+    → LeadsOutside all (leads all r.0 s.namespace r.1.text) → (set : Optionals)
+    → are_found (restricted set all) s.namespace (take k (references s.form)) ≡ are_found (restricted set all) s.namespace (take (k + 1) (references s.form))
+found-outside p parsed all s k r ready at out set =
+    and-yes (are_found (restricted set all) s.namespace (take k (references s.form)))
+    ∙ ap (λ b. are_found (restricted set all) s.namespace (take k (references s.form)) && b) (sym (reference-outside p parsed all s k r ready at out set))
+    ∙ found-next (restricted set all) s.namespace (references s.form) k r at
+  where
+    and-yes : (b : Bool) → b ≡ (b && true)
+    and-yes true = refl
+    and-yes false = refl
+
 -- all references
-pub found-all : {A : Type 0} (p : Policy A) (module_at : ParsedModule A) (all : List Placed) (i : ℕ) (s : Placed) (v : StatementView) (bound : List (Option ℕ)) (k : ℕ) (seen : IsSeen p module_at all i s v bound) → length bound ≤ k
-    → take k (references s.form) ≡ references s.form
-found-all p module_at all i s v bound k seen past =
-    let long = leads-long all s.namespace (references s.form) bound seen.leads_are in
+pub found-all : (all : List Placed) (s : Placed) (bound : List (Option ℕ)) (k : ℕ) → AreLeads all s.namespace (references s.form) bound → length bound ≤ k → take k (references s.form) ≡ references s.form
+found-all all s bound k are past =
+    let long = leads-long all s.namespace (references s.form) bound are in
     take_all k (references s.form) (omega (arith, long, past))

@@ -1,16 +1,17 @@
 -- What is listed and given the other way round.
-use Rattle.std.proofs.Common.{◌≡◌, ℕ, zero, suc, ◌<◌, ◌==◌, ◌&&◌, ◌||◌, Bool, true, false, List, [], ◌∷◌, ◌++◌, length, set, position, get_or, slice_get, Option, Some, None, is_some, Vec, Bor, Result, Ok, Err, OnOk, OnErr, bytes_eq, refl, sym, ap, ◌∙◌, true≢false, arith, inl, inr, if◌then◌else◌}
+use Rattle.std.proofs.Common.{◌≡◌, ℕ, zero, suc, ◌<◌, ◌==◌, ◌&&◌, ◌||◌, Bool, true, false, List, [], ◌∷◌, ◌++◌, length, set, position, replicate, get_or, slice_get, Option, Some, None, is_some, Vec, Bor, Result, Ok, Err, OnOk, OnErr, bytes_eq, refl, sym, ap, ◌∙◌, true≢false, arith, inl, inr, if◌then◌else◌}
 use Rattle.std.specs.List.{list_any}
 use Rattle.std.specs.Option.{option_or, option_and_then}
 use Rattle.std.proofs.lemmas.Bool.{eqb-true, eq-eqb, ne_eqb, cases_eq}
 use Rattle.std.proofs.lemmas.List.Folds.{list_any-append}
 use Rattle.std.proofs.lemmas.List.Quantifiers.{position-Some}
+use Rattle.std.proofs.lemmas.Option.{none-some, same_Some}
 use Rattle.std.proofs.Math.Bool.{or-false}
 use Rattle.std.proofs.lemmas.Slice.Eq.{bytes_eq-Decides}
 use Rattle.indexmap.specs.IndexSet.{insert_key}
 use Rattle.cil_specs.proofs.Runs.{first_true, second_true}
 use Rattle.cil_bind.proofs.PositionLemmas.{at_if, position-append, any-position}
-use Rattle.cil_optionals.specs.Given.{lists, places_in, commons_at, listers_at, has_gift, given_at, IsInverse, AreAnswers}
+use Rattle.cil_optionals.specs.Given.{lists, places_in, commons_at, listers_at, has_gift, given_at, IsInverse, AreAnswers, AreRecent}
 use Rattle.cil_optionals.specs.declared.listed.Gift.{Gift}
 use Rattle.cil_optionals.specs.declared.listed.Listed.{Listed}
 use Rattle.cil_optionals.specs.declared.listed.Permission.{Permission}
@@ -215,3 +216,19 @@ pub answers-after : {T E : Type 0} (r : Result T E) (has : ℕ → List ℕ → 
     → has p.place p.name.now ≡ answer → AreAnswers has keys answer → AreAnswers has after answer
 answers-after (Ok x) has keys after p answer is same answered so_far = answers-next has keys after p answer is answered so_far
 answers-after (Err e) has keys after p answer is same answered so_far = λ i name there. so_far i name (sym (ap (λ l. lists l i name) same) ∙ there)
+
+-- a value that isn't there
+pub only-none : {X : Type 0} (P : Option X → Type 0) → ((x : X) → P (Some x) → ⊥) → (o : Option X) → P o → o ≡ None
+only-none P never None is = refl
+only-none P never (Some x) is = absurd (never x is)
+
+-- at first none is at hand
+pub recent-none : (has : ℕ → List ℕ → Bool) (n : ℕ) → AreRecent has (replicate n None)
+recent-none has zero i p at = absurd (none-some (Some p) at)
+recent-none has (suc n) zero p at = absurd (none-some p (same_Some None (Some p) at))
+recent-none has (suc n) (suc i) p at = recent-none has n i p at
+
+-- the answer of a question that is at hand
+pub recent-recalled : (has : ℕ → List ℕ → Bool) (recent : List (Option Permission)) (slot : ℕ) (p : Permission) (place : ℕ) (name : List ℕ) → AreRecent has recent → slice_get recent slot ≡ Some (Some p)
+    → p.place ≡ place → p.name.now ≡ name → has place name ≡ true
+recent-recalled has recent slot p place name are at same named = (λ k. has (sym same k) (sym named k)) ∙ are slot p at

@@ -40,6 +40,14 @@ pub record Asks {A : Type 0} (policy : List Placed) (optional : ℕ) (found : Op
   pub below : list_all (is_need_of (length policy) optional) more ≡ true
   pub met : (set : Optionals) (has : ℕ → Bool) → AreNodesOf policy set has → are_met has more ≡ (not (has optional) || found set)
 
+-- a look-up leads to a statement that stands in no optional
+pub record LeadsOutside (policy : List Placed) (lead : Option Placed) : Type 0 where
+  pub place : ℕ
+  pub found : Placed
+  pub at : slice_get policy place ≡ Some found
+  pub is : lead ≡ Some found
+  pub outside : found.optionals ≡ []
+
 -- whether these references are found
 abbrev pub are_found : List Placed → List (List ℕ) → List (Table × Word) → Bool
 are_found policy namespace references = list_all (λ r. not (is_unfound policy namespace r)) references

@@ -95,3 +95,7 @@ pub record IsInverse {A : Type 0} (p : Listed A) : Type 0 where
 -- these questions are answered so
 abbrev pub AreAnswers : (ℕ → List ℕ → Bool) → List Permission → Bool → Type 0
 AreAnswers has questions answer = (the_class : ℕ) (name : List ℕ) → lists questions the_class name ≡ true → has the_class name ≡ answer
+
+-- the questions at hand are answered with yes
+abbrev pub AreRecent : (ℕ → List ℕ → Bool) → List (Option Permission) → Type 0
+AreRecent has recent = (i : ℕ) (p : Permission) → slice_get recent i ≡ Some (Some p) → has p.place p.name.now ≡ true

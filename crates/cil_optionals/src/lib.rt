@@ -3,6 +3,8 @@
 
 mod greatest;
 mod kept;
+#[cfg(test)]
+mod kept_tests;
 mod listed;
 mod others;
 mod permissions;

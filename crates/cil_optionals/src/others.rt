@@ -114,7 +114,7 @@ fn others_by_listed<'m, A: Allocator + Copy>(
     ensures { IfOk result (λ needs. (all : List Placed) → IsReady policy.now joined.now.modules.items all → HavePermissions all (permissions_in listed.now)
         → AreOthers all policy.now.rows.items needs.items) }
 {
-    let mut permissions = Permissions::of(alloc, listed);
+    let mut permissions = Permissions::of(alloc, listed)?;
     others_by(alloc, joined, policy, &mut permissions)
 }
 

@@ -1,6 +1,6 @@
 //! The permissions of classes, as they are asked.
 
-ghost use Rattle.std.specs.Prelude.{◌≡◌, ◌<◌, ℕ, List, Some, true, false, map, slice_get, IfOk};
+ghost use Rattle.std.specs.Prelude.{◌≡◌, ◌<◌, ℕ, List, Some, true, false, bytes_eq, map, slice_get, IfOk, IsTrue};
 ghost use Rattle.std.specs.List.{list_all};
 ghost use Rattle.cil_specs.specs.Names.{Word};
 ghost use Rattle.cil_specs.specs.Joined.{Placed};
@@ -9,7 +9,7 @@ ghost use Rattle.cil_bind.specs.declared.joined.NamedModule.{NamedModule};
 ghost use Rattle.cil_parse.specs.Builder.{read};
 ghost use Rattle.cil_parse.specs.Parsed.{texts_of};
 ghost use Rattle.cil_optionals.specs.Asks.{are_there as all_there, IsOf};
-ghost use Rattle.cil_optionals.specs.Given.{permissions_in, last_bound as last_of, is_rule as is_rule_kind, AreAnswers, IsInverse};
+ghost use Rattle.cil_optionals.specs.Given.{permissions_in, last_bound as last_of, is_rule as is_rule_kind, AreAnswers, AreRecent, IsInverse};
 ghost use Rattle.cil_optionals.specs.Permissions.{HavePermissions};
 ghost use Rattle.cil_optionals.specs.Providers.{IsReady};
 
@@ -20,15 +20,21 @@ use indexmap::IndexSet;
 use std::alloc::{AllocError, Allocator, Global};
 use std::hash::{BuildHasherDefault, FoldHasher};
 
-/// The permissions of classes, and the questions that were answered: no question is gone over twice.
+/// How many questions are at hand.
+const RECENT: usize = 4096;
+
+/// The permissions of classes, and the questions that were answered: no question is gone over twice. Statements ask for the same
+/// permissions again and again, so of the questions that were answered with yes some are at hand without a hash.
 #[derive(Drop)]
 pub struct Permissions<'l, 'm, A: Allocator = Global> {
     listed: &'l Listed<'m, A>,
     held: IndexSet<Permission<'m>, BuildHasherDefault<FoldHasher>, A>,
     lacked: IndexSet<Permission<'m>, BuildHasherDefault<FoldHasher>, A>,
+    recent: Vec<Option<Permission<'m>>, A>,
     ghost inverse: { IsInverse listed.now },
     ghost held_are: { AreAnswers (permissions_in listed.now) held.keys true },
     ghost lacked_are: { AreAnswers (permissions_in listed.now) lacked.keys false },
+    ghost recent_are: { AreRecent (permissions_in listed.now) recent.items },
 }
 
 /// Whether statements of a kind are rules.
@@ -46,21 +52,79 @@ fn last_bound(bound: &[Option<u32>]) -> Option<u32>
     *found
 }
 
+/// Where a question is at hand, by the number of the name's text in its module. Other questions may be there.
+fn slot_of(class: u32, text: u32) -> usize {
+    (class as usize * 31 + text as usize) % RECENT
+}
+
+/// Whether two names are the same. Names are short, and a loop over their bytes takes less than the comparison of slices.
+fn is_same(name: &[u8], other: &[u8]) -> bool
+    ensures { result ≡ bytes_eq name.now other.now }
+{
+    if name.len() != other.len() {
+        return false;
+    }
+    for i in 0..name.len() {
+        if name[i] != other[i] {
+            return false;
+        }
+    }
+    true
+}
+
 impl<'l, 'm, A: Allocator + Copy> Permissions<'l, 'm, A> {
     /// The permissions of classes by what statements list and give, where no question was answered yet.
-    pub fn of(alloc: A, listed: &'l Listed<'m, A>) -> Self
+    pub fn of(alloc: A, listed: &'l Listed<'m, A>) -> Result<Self, AllocError>
         requires { IsInverse listed.now }
-        ensures { result.listed.now ≡ listed.now }
+        ensures { IfOk result (λ permissions. permissions.listed.now ≡ listed.now) }
     {
-        Permissions {
+        let recent = vec![in alloc; None; RECENT]?;
+        Ok(Permissions {
             listed,
             held: IndexSet::new(alloc),
             lacked: IndexSet::new(alloc),
+            recent,
+        })
+    }
+
+    /// Whether the question at hand in a slot is this one.
+    fn recalls(&self, slot: usize, class: u32, name: &'m [u8]) -> bool
+        ensures { IsTrue result → permissions_in self.now.listed.now class name.now ≡ true }
+    {
+        match self.recent.get(slot) {
+            Some(Some(last)) => last.place == class && is_same(last.name, name),
+            _ => false,
         }
     }
 
-    /// Whether the class at a place has a permission.
-    fn has(&mut self, class: u32, name: &'m [u8]) -> Result<bool, AllocError>
+    /// Puts a question that was answered with yes at hand, in the place of the one in its slot.
+    fn note(&mut self, slot: usize, question: Permission<'m>)
+        requires { permissions_in self.old.listed.now question.place question.name.now ≡ true }
+        ensures listed { self.new.listed ≡ self.old.listed }
+    {
+        if let Some(last) = self.recent.get_mut(slot) {
+            *last = Some(question);
+        }
+    }
+
+    /// Whether the class at a place has a permission, whose text has this number in its module.
+    fn has(&mut self, class: u32, text: u32, name: &'m [u8]) -> Result<bool, AllocError>
+        ensures has { IfOk result (λ has. has ≡ permissions_in self.old.listed.now class name.now) }
+        ensures listed { self.new.listed ≡ self.old.listed }
+    {
+        let slot = slot_of(class, text);
+        if self.recalls(slot, class, name) {
+            return Ok(true);
+        }
+        let has = self.answer(class, name)?;
+        if has {
+            self.note(slot, Permission { place: class, name });
+        }
+        Ok(has)
+    }
+
+    /// Whether the class at a place has a permission, by the questions that were answered before.
+    fn answer(&mut self, class: u32, name: &'m [u8]) -> Result<bool, AllocError>
         ensures has { IfOk result (λ has. has ≡ permissions_in self.old.listed.now class name.now) }
         ensures listed { self.new.listed ≡ self.old.listed }
     {
@@ -91,7 +155,7 @@ impl<'l, 'm, A: Allocator + Copy> Permissions<'l, 'm, A> {
         ensures listed { self.new.listed ≡ self.old.listed }
     {
         for word in words {
-            if !self.has(class, module.text(word.text as usize))? {
+            if !self.has(class, word.text, module.text(word.text as usize))? {
                 return Ok(false);
             }
         }

@@ -1,6 +1,6 @@
 //! What the references of statements in optionals need.
 
-ghost use Rattle.std.specs.Prelude.{◌≡◌, ◌<◌, ◌+◌, ℕ, List, Bool, Some, [], length, slice_get, slice_index_or, IfOk, IfSome, OnOk, Option, if◌then◌else◌};
+ghost use Rattle.std.specs.Prelude.{◌≡◌, ◌<◌, ◌+◌, ℕ, List, Bool, Some, [], length, slice_get, slice_index_or, IfOk, IfSome, IsTrue, OnOk, Option, if◌then◌else◌};
 ghost use Rattle.std.specs.Option.{option_to_list};
 ghost use Rattle.cil_specs.specs.Joined.{Placed};
 ghost use Rattle.cil_specs.specs.Kept.{Optionals, is_within, restricted};
@@ -8,7 +8,7 @@ ghost use Rattle.cil_specs.specs.Lookup.{Table as TableOf, holds_of, references 
 ghost use Rattle.cil_bind.specs.Lookup.{IsLead};
 ghost use Rattle.cil_bind.specs.declared.joined.NamedModule.{NamedModule};
 ghost use Rattle.cil_parse.specs.Parsed.{texts_of};
-ghost use Rattle.cil_optionals.specs.Asks.{has_node, are_found, optional_at, AddsNeed, Asks, IsOf};
+ghost use Rattle.cil_optionals.specs.Asks.{has_node, are_found, optional_at, AddsNeed, Asks, IsOf, LeadsOutside};
 ghost use Rattle.cil_optionals.specs.Nodes.{is_provided, is_plain as is_plain_text, is_single as are_single, AreNodesOf};
 ghost use Rattle.cil_optionals.specs.Providers.{IsReady};
 
@@ -56,14 +56,26 @@ fn meeting<A: Allocator>(policy: &Policy<'_, A>, plain: bool, found: Option<u32>
     Some(policy.rows[place as usize].optional as usize)
 }
 
-/// A node, if there is one, as a list.
+/// Whether a reference leads to what stands in no optional, which is there whatever falls away.
+fn is_outside<A: Allocator>(policy: &Policy<'_, A>, found: Option<u32>) -> bool
+    requires { (parsed : List (NamedModule _)) × (all : List Placed) × (table : TableOf) × (lead : Option Placed) × IsReady policy.now parsed all × IsLead table all found lead }
+    ensures { IsTrue result → (parsed : List (NamedModule _)) (all : List Placed) (table : TableOf) (lead : Option Placed) → IsReady policy.now parsed all → IsLead table all found lead → LeadsOutside all lead }
+{
+    match found {
+        Some(place) => policy.rows[place as usize].optional == 0,
+        None => false,
+    }
+}
+
+/// A node, if there is one, as a list. None takes no memory.
 fn nodes<A: Allocator + Copy>(alloc: A, node: Option<usize>) -> Result<Vec<usize, A>, AllocError>
     ensures { IfOk result (λ nodes. nodes.items ≡ option_to_list node) }
 {
+    let Some(node) = node else {
+        return Ok(Vec::new(alloc));
+    };
     let mut nodes = Vec::with_capacity(alloc, 1)?;
-    if let Some(node) = node {
-        nodes.push(node)?;
-    }
+    nodes.push(node)?;
     Ok(nodes)
 }
 
@@ -81,7 +93,7 @@ pub fn add_need<A: Allocator + Copy>(
     Ok(())
 }
 
-/// Puts what the references of the statement at a place need behind others.
+/// Puts what the references of the statement at a place need behind others. One that leads outside optionals needs nothing.
 pub fn references<A: Allocator + Copy>(
     alloc: A,
     policy: &Policy<'_, A>,
@@ -94,9 +106,12 @@ pub fn references<A: Allocator + Copy>(
         → Asks all (optional_at policy.now i) (λ set. are_found (restricted set all) s.namespace (references_of s.form)) needs.old.items needs.new.items) }
 {
     let row = policy.rows[i];
-    let view = module.statement(row.index as usize);
     let bound = policy.bound.get(i);
     for k in 0..bound.len() {
+        if is_outside(policy, bound[k]) {
+            continue;
+        }
+        let view = module.statement(row.index as usize);
         let Some((_table, word)) = view.reference(k) else {
             continue;
         };

@@ -7,7 +7,7 @@ use Rattle.cil_specs.specs.Names.{components}
 use Rattle.cil_specs.specs.Statements.{Statements}
 use Rattle.cil_text.specs.Image.{place_of}
 use Rattle.cil_parse.specs.Lexicon.{texts_in, AreNumbersOf, AreSplit}
-use Rattle.cil_parse.specs.Forms.{words_in, nodes_in}
+use Rattle.cil_parse.specs.Forms.{words_in, nodes_in, kind_of}
 use Rattle.cil_parse.specs.Flat.{FlatStatement, flat, count}
 use Rattle.cil_parse.specs.Builder.{read, row_of, row_for, IsAt}
 use Rattle.cil_parse.specs.Parsed.{texts_of, statement_count, Spells, IsOwned}
@@ -62,6 +62,11 @@ shown p statements f i d v spells here within at kind block optional each_words 
       words = ap (map (read (texts_of p))) words ∙ same-at (map (read (texts_of p))) (λ f. map Some (words_in f.form)) p.words.0 list i [] f spells.words many here;
       nodes = nodes ∙ sets;
     }
+
+-- the kind of a row
+pub shown-kind : {A : Type 0} (p : ParsedModule A) (statements : Statements) (f : FlatStatement) (i : ℕ) (d : Row) → Spells p statements → slice_get (flat 0 0 0 statements) i ≡ Some f → i < statement_count p
+    → (get_or p.rows.items i d).kind ≡ kind_of f.form
+shown-kind p statements f i d spells here within = ap (λ r. r.1) (same-at row_of row_for p.rows.items (flat 0 0 0 statements) i d f spells.rows within here)
 
 pub split-at : (names lists texts : List (List ℕ)) (n : ℕ) (numbers : List ℕ) → AreSplit names lists texts → n < length texts → numbers ≡ get_or lists n [] → AreNumbersOf names numbers (components (get_or texts n []))
 split-at names lists texts n numbers split within is =

@@ -8,10 +8,11 @@ ghost use Rattle.cil_text.specs.Image.{FaultIs};
 ghost use Rattle.cil_text.specs.Forest.{forest_of};
 ghost use Rattle.cil_parse.specs.Lexicon.{seen, AreNumbersOf, AreSplit};
 ghost use Rattle.cil_parse.specs.Flat.{FlatStatement, flat, count};
+ghost use Rattle.cil_parse.specs.Forms.{kind_of};
 
 use crate::builder::Builder;
 use crate::lists::Lists;
-use crate::row::{NumberedWord, Row, SetNode};
+use crate::row::{NumberedWord, Row, SetNode, StatementKind};
 use crate::view::StatementView;
 use cil_text::{Forest, TextFault};
 use std::alloc::{AllocError, Allocator, Global};
@@ -117,6 +118,14 @@ impl<A: Allocator> ParsedModule<A> {
             words: self.words.get(i),
             nodes: self.nodes.get(i),
         }
+    }
+
+    /// The kind of the statement of an index, without its words.
+    pub fn kind(&self, i: usize) -> StatementKind
+        requires { i < statement_count self.now }
+        ensures { (statements : Statements) (f : FlatStatement) → Spells self.now statements → slice_get (flat 0 0 0 statements) i ≡ Some f → result ≡ kind_of f.form }
+    {
+        self.rows[i].kind
     }
 
     /// How many distinct texts its words have.

@@ -57,7 +57,7 @@ fn element_at<A: Allocator>(checker: &Checker<'_, '_, A>, places: &[usize], i: u
     ensures { (names : List (List ℕ)) (policy : List Placed) (s : Placed) → IsNoted checker.now policy → IsFaultless policy → HavePlaces names policy places.now → slice_get policy i ≡ Some s
         → IsFirstOf types policy i → IsTrue (is_set policy s) → IsElement names result (element_led policy s s.form) }
 {
-    match checker.bound.seen(i as usize).view.kind {
+    match checker.bound.kind(i as usize) {
         StatementKind::TypeAttribute => Element::Attribute(number_at(places, i as usize)),
         StatementKind::TypeAlias => {
             let place = actual_of(checker, i).unwrap_or(0);

@@ -114,7 +114,7 @@ fn place_numbers<A: Allocator + Copy>(
 {
     let mut places = Vec::with_capacity(alloc, bound.len())?;
     for i in 0..bound.len() {
-        if is_numbered(bound.seen(i).view.kind) {
+        if is_numbered(bound.kind(i)) {
             places.push(names.number(full_names.get(i)))?;
         } else {
             places.push(0)?;
@@ -153,8 +153,8 @@ fn permission_numbers<A: Allocator + Copy>(
 {
     let mut permissions = vec![in alloc; 0; bound.policy.names.len()]?;
     for i in 0..bound.len() {
-        let seen = bound.seen(i);
-        if lists_own(seen.view.kind) {
+        if lists_own(bound.kind(i)) {
+            let seen = bound.seen(i);
             note_words(&mut permissions, names, &seen, seen.view.permissions());
         }
     }

@@ -7,16 +7,16 @@ use cil_stream::MemorySink;
 use std::alloc::Global;
 use std::process::Abort;
 
-// What an edit is answered, and the evaluations and adjustments that it may take.
+/// What an edit is answered, and the evaluations and adjustments that it may take.
 #[derive(Clone, Copy)]
-struct Answered {
+pub struct Answered {
     changes: (u128, u128),
     evaluations: (u128, u128),
     adjustments: u128,
 }
 
-// An install of a module at the priority of most.
-const fn install(name: &'static [u8], text: &'static [u8]) -> Edit<'static> {
+/// An install of a module at the priority of most.
+pub const fn install(name: &'static [u8], text: &'static [u8]) -> Edit<'static> {
     Edit::Install {
         name,
         priority: 400,
@@ -24,14 +24,16 @@ const fn install(name: &'static [u8], text: &'static [u8]) -> Edit<'static> {
     }
 }
 
-const fn remove(name: &'static [u8]) -> Edit<'static> {
+/// A removal at that priority.
+pub const fn remove(name: &'static [u8]) -> Edit<'static> {
     Edit::Remove {
         name,
         priority: 400,
     }
 }
 
-const fn told(changes: (u128, u128), evaluations: (u128, u128), adjustments: u128) -> Answered {
+/// The accesses that came and went, the least and the most evaluations, and the adjustments.
+pub const fn told(changes: (u128, u128), evaluations: (u128, u128), adjustments: u128) -> Answered {
     Answered {
         changes,
         evaluations,
@@ -39,8 +41,8 @@ const fn told(changes: (u128, u128), evaluations: (u128, u128), adjustments: u12
     }
 }
 
-// Asserts what each edit of a list is answered, and what it takes, and gives the engine.
-fn assert_edits(rt: &impl Abort, alloc: Global, edits: &[(Edit<'static>, Answered)]) -> Delta {
+/// Asserts what each edit of a list is answered, and what it takes, and gives the engine.
+pub fn assert_edits(rt: &impl Abort, alloc: Global, edits: &[(Edit<'static>, Answered)]) -> Delta {
     let mut engine = Delta::new(alloc);
     for (edit, want) in edits {
         let mut meter = Meter::new();

@@ -10,6 +10,8 @@ mod bound;
 #[cfg(test)]
 mod cases;
 #[cfg(test)]
+mod comings;
+#[cfg(test)]
 mod commands;
 #[cfg(test)]
 mod cuts;

@@ -1,3 +1,4 @@
 pub mod ReachLemmas
 pub mod ShiftLemmas
 pub mod MoveLemmas
+pub mod TurnedLemmas

@@ -1,8 +1,8 @@
 -- How many counters move, word by word, permission by permission and source by source.
-use Rattle.std.proofs.Common.{◌≡◌, ℕ, ◌+◌, ◌*◌, ◌/◌, ◌%◌, ◌^◌, ◌<◌, ◌≤◌, ◌==◌, ◌&&◌, ◌||◌, ◌-◌, Bool, true, false, cond, nat_lt, List, length, take, get_or, min, bit_xor, count_ones, refl, sym, ap, ◌∙◌, inl, inr, arith, true≢false}
+use Rattle.std.proofs.Common.{◌≡◌, ℕ, ◌+◌, ◌*◌, ◌/◌, ◌%◌, ◌^◌, ◌<◌, ◌==◌, ◌&&◌, ◌||◌, ◌-◌, Bool, true, false, nat_lt, List, length, take, get_or, max, min, bit_xor, count_ones, refl, sym, ap, ◌∙◌, inl, inr, arith, true≢false}
 use Rattle.std.specs.Int.{bit_at}
 use Rattle.std.specs.List.Sorted.{IsStrictlyIncreasing}
-use Rattle.std.proofs.lemmas.Bool.{cases_eq, cases_lt, eq-eqb, ne_eqb, eqb-true}
+use Rattle.std.proofs.lemmas.Bool.{cases_eq, cases_lt, eq-eqb, le-ltb, ne_eqb, eqb-true}
 use Rattle.std.proofs.lemmas.Nat.{xor_lt}
 use Rattle.std.proofs.lemmas.Nat.Bits.{bit_at_above, bit_at_xor}
 use Rattle.cil_lines.specs.Line.{hit}
@@ -10,14 +10,27 @@ use Rattle.cil_lines.proofs.StepLemmas.{hit-here, hit-there}
 use Rattle.cil_keyed_lines.specs.Keyed.{is_key}
 use Rattle.cil_keyed_lines.specs.declared.symbol_key.SymbolKey.{SymbolKey}
 use Rattle.cil_keyed_lines.proofs.KeyedLemmas.{key_itself, one_key}
-use Rattle.cil_rule_shifts.specs.Moves.{differs, moves_for, moves_in, moves_of, moves_where, turns}
-use Rattle.cil_rule_shifts.specs.Reach.{gives, has_permission, has_source, one_if, takes, IsNext, IsNextWord, NoneFrom, NoneFromWord}
+use Rattle.cil_rule_shifts.specs.Moves.{differs, has_either, has_word, moves_for, moves_in, moves_of, moves_where, turns, AreSame, AreTurned}
+use Rattle.cil_rule_shifts.specs.Reach.{gives, has_permission, has_source, is_line, one_if, reaches, takes, IsNext, NoneFrom}
 use Rattle.cil_rule_shifts.specs.declared.reach.Reach.{Reach}
 use Rattle.cil_rule_shifts.specs.declared.targets.Targets.{Targets}
-use Rattle.cil_rule_shifts.proofs.ReachLemmas.{no-first, no-second, word-all, word-more}
-use Rattle.cil_rule_shifts.proofs.ShiftLemmas.{line-more, source-all, source-more}
+use Rattle.cil_rule_shifts.proofs.ReachLemmas.{no-first, no-second}
+use Rattle.cil_rule_shifts.proofs.ShiftLemmas.{line-more, same-either-way, source-all, source-gives, source-more}
 use Rattle.cil_sums.specs.Rises.{RisesBy}
-use Rattle.cil_sums.proofs.RiseLemmas.{rises-bits, rises-map, rises-more, rises-same, same-from_counts}
+use Rattle.cil_sums.proofs.RiseLemmas.{rises-bits, rises-map, rises-more, rises-none, rises-same, same-from_counts}
+
+-- a bit that either mask has, and one in which they differ
+pub bit-either : (x y : ℕ) (f g : Bool) → x ≡ one_if f → y ≡ one_if g → max x y ≡ one_if (f || g)
+bit-either x y true true one other = omega (arith, one, other)
+bit-either x y true false one other = omega (arith, one, other)
+bit-either x y false true one other = omega (arith, one, other)
+bit-either x y false false one other = omega (arith, one, other)
+
+pub bit-turned : (x y : ℕ) (f g : Bool) → x ≡ one_if f → y ≡ one_if g → (x + y) % 2 ≡ one_if (differs f g)
+bit-turned x y true true one other = omega (arith, one, other)
+bit-turned x y true false one other = omega (arith, one, other)
+bit-turned x y false true one other = omega (arith, one, other)
+bit-turned x y false false one other = omega (arith, one, other)
 
 -- the bits in which two masks of a word differ
 pub hit-differs : (word a b t : ℕ) (f g : Bool) → hit word a t ≡ one_if ((t / 64 == word) && f) → hit word b t ≡ one_if ((t / 64 == word) && g) → hit word (bit_xor a b) t ≡ one_if ((t / 64 == word) && differs f g)
@@ -25,18 +38,12 @@ hit-differs word a b t f g first second =
     elim (cases_eq (t / 64) word) [
       | inl same ↦
           hit-here word (bit_xor a b) t same ∙ bit_at_xor a b (t % 64)
-          ∙ by f g (sym (hit-here word a t same) ∙ first ∙ in-word f same) (sym (hit-here word b t same) ∙ second ∙ in-word g same) ∙ sym (in-word (differs f g) same)
+          ∙ bit-turned (bit_at a (t % 64)) (bit_at b (t % 64)) f g (sym (hit-here word a t same) ∙ first ∙ in-word f same) (sym (hit-here word b t same) ∙ second ∙ in-word g same) ∙ sym (in-word (differs f g) same)
       | inr other ↦ hit-there word (bit_xor a b) t other ∙ sym (ap (λ c. one_if (c && differs f g)) (ne_eqb (t / 64) word other))
     ]
   where
     in-word : (h : Bool) → t / 64 ≡ word → one_if ((t / 64 == word) && h) ≡ one_if h
     in-word h same = ap (λ c. one_if (c && h)) (eq-eqb (t / 64) word same)
-
-    by : (f g : Bool) → bit_at a (t % 64) ≡ one_if f → bit_at b (t % 64) ≡ one_if g → (bit_at a (t % 64) + bit_at b (t % 64)) % 2 ≡ one_if (differs f g)
-    by true true one other = omega (arith, one, other)
-    by true false one other = omega (arith, one, other)
-    by false true one other = omega (arith, one, other)
-    by false false one other = omega (arith, one, other)
 
 -- the counters of a word in the line of a key at which a test holds are as many as the bits of their mask
 module _ (key : SymbolKey) (word mask : ℕ) (f : ℕ → Bool) (fits : mask < 2 ^ 64) (hits : (t : ℕ) → hit word mask t ≡ one_if ((t / 64 == word) && f t)) where
@@ -81,47 +88,57 @@ module _ (key : SymbolKey) (word mask : ℕ) (f : ℕ → Bool) (fits : mask < 2
   pub word-count : RisesBy in_word 0 (count_ones mask)
   word-count = rises-map place (λ a b same. let e = ap (λ p. p.1) same in omega (arith, e)) (λ b. bit_at mask b == 1) in_word there back 0 (count_ones mask) (rises-bits 64 mask fits)
 
--- the targets of the words below one, and those of that word, are those below the next
-pub word-joined : (b : Bool) (f : ℕ → Bool) (from word mask t : ℕ) → from ≤ word → (from ≤ t / 64 → t / 64 < word → f t ≡ false) → hit word mask t ≡ one_if ((t / 64 == word) && f t)
-    → one_if (b && (nat_lt (t / 64) from && f t)) + one_if (b && ((t / 64 == word) && f t)) ≡ one_if (b && (nat_lt (t / 64) (word + 1) && f t))
-word-joined b f from word mask t low none hits = ap (λ n. one_if (b && (nat_lt (t / 64) from && f t)) + n) (sym (kept b)) ∙ word-more b f from word mask t low none hits
-  where
-    kept : (c : Bool) → cond c (hit word mask t) 0 ≡ one_if (c && ((t / 64 == word) && f t))
-    kept true = hits
-    kept false = refl
-
 pub differs-none : (a b : Bool) → a ≡ false → b ≡ false → differs a b ≡ false
 differs-none false false a_is b_is = refl
 differs-none true b a_is b_is = absurd (true≢false a_is)
 differs-none false true a_is b_is = absurd (true≢false b_is)
 
--- the counters of the line of a key that move in the words below one
-abbrev pub moves_below : {A : Type 0} → SymbolKey → Targets A → Targets A → ℕ → SymbolKey × ℕ → Bool
-moves_below key was is from p = is_key key p.0 && (nat_lt (p.1 / 64) from && turns was is key.source p.1)
+pub differs-same : (a b : Bool) → differs a b ≡ false → a ≡ b
+differs-same true true same = refl
+differs-same true false other = absurd (true≢false other)
+differs-same false b same = sym same
 
-module _ {A : Type 0} (key : SymbolKey) (was is : Targets A) (from count : ℕ) (moved : RisesBy (moves_below key was is from) 0 count) where
-  abbrev either : ℕ → Bool
-  either t = takes was key.source t || takes is key.source t
+-- the counters of the line of a key that move in some words
+abbrev pub moves_in_words : {A : Type 0} → SymbolKey → Targets A → Targets A → List ℕ → SymbolKey × ℕ → Bool
+moves_in_words key was is words p = (is_key key p.0 && has_word words p.1) && turns was is key.source p.1
 
-  still : (t : ℕ) → either t ≡ false → turns was is key.source t ≡ false
-  still t none = differs-none (takes was key.source t) (takes is key.source t) (no-first _ _ none) (no-second _ _ none)
-
+module _ {A : Type 0} (key : SymbolKey) (was is : Targets A) (words : List ℕ) (turned : AreTurned (takes was key.source) (takes is key.source) words) where
   -- one word more
-  pub line-step : (word gone come here after : ℕ) → IsNextWord either from word → gone < 2 ^ 64 → come < 2 ^ 64 → ((t : ℕ) → hit word gone t ≡ one_if ((t / 64 == word) && takes was key.source t))
-      → ((t : ℕ) → hit word come t ≡ one_if ((t / 64 == word) && takes is key.source t)) → here ≡ count_ones (bit_xor gone come) → after ≡ min (count + here) (2 ^ 128 - 1) → RisesBy (moves_below key was is (word + 1)) 0 after
-  line-step word gone come here after next gone_fits come_fits gone_hits come_hits counted sum =
+  pub line-step : (i count gone come here after : ℕ) → i < length words → RisesBy (moves_in_words key was is (take i words)) 0 count → gone < 2 ^ 64 → come < 2 ^ 64
+      → ((t : ℕ) → hit (get_or words i 0) gone t ≡ one_if ((t / 64 == get_or words i 0) && takes was key.source t)) → ((t : ℕ) → hit (get_or words i 0) come t ≡ one_if ((t / 64 == get_or words i 0) && takes is key.source t))
+      → here ≡ count_ones (bit_xor gone come) → after ≡ min (count + here) (2 ^ 128 - 1) → RisesBy (moves_in_words key was is (take (i + 1) words)) 0 after
+  line-step i count gone come here after within moved gone_fits come_fits gone_hits come_hits counted sum =
+      let word : ℕ = get_or words i 0 in
       let mask : ℕ = bit_xor gone come in
       let f : ℕ → Bool = turns was is key.source in
       let hits : (t : ℕ) → hit word mask t ≡ one_if ((t / 64 == word) && f t) = λ t. hit-differs word gone come t (takes was key.source t) (takes is key.source t) (gone_hits t) (come_hits t) in
-      rises-more (moves_below key was is from) (λ p. is_key key p.0 && ((p.1 / 64 == word) && f p.1)) (moves_below key was is (word + 1))
-      (λ p. word-joined (is_key key p.0) f from word mask p.1 next.from_on (λ low high. still p.1 (next.first p.1 low high)) (hits p.1)) 0 count (count_ones mask) after moved
+      rises-more (moves_in_words key was is (take i words)) (λ p. is_key key p.0 && ((p.1 / 64 == word) && f p.1)) (moves_in_words key was is (take (i + 1) words))
+      (λ p. ap (λ n. one_if (moves_in_words key was is (take i words) p) + n) (regrouped (is_key key p.0) (f p.1) (p.1 / 64) word)
+      ∙ line-more words turned.rising i word within refl (is_key key p.0) true (f p.1) (p.1 / 64)) 0 count (count_ones mask) after moved
       (word-count key word mask f (xor_lt 64 gone come gone_fits come_fits) hits) (omega (arith, sum, counted))
+    where
+      regrouped : (b w : Bool) (n word : ℕ) → one_if (b && ((n == word) && w)) ≡ one_if ((b && (word == n)) && w)
+      regrouped true w n word = ap (λ c. one_if (c && w)) (same-either-way n word)
+      regrouped false w n word = refl
 
-  -- no word follows
-  pub line-done : NoneFromWord either from → RisesBy (moves_in key was is) 0 count
-  line-done none =
-      rises-same (moves_below key was is from) (moves_in key was is) 0 count
-      (λ p. same-from_counts (moves_below key was is from p) (moves_in key was is p) (word-all (is_key key p.0) (turns was is key.source) from p.1 (λ past. still p.1 (none p.1 past)))) moved
+  -- in no other word does one move
+  pub line-done : (count : ℕ) → RisesBy (moves_in_words key was is words) 0 count → RisesBy (moves_in key was is) 0 count
+  line-done count =
+      rises-same (moves_in_words key was is words) (moves_in key was is) 0 count (λ p. by (is_key key p.0) (has_word words p.1) (turns was is key.source p.1) (turned.rest p.1))
+    where
+      by : (b h w : Bool) → (h ≡ false → w ≡ false) → ((b && h) && w) ≡ (b && w)
+      by false h w rest = refl
+      by true true w rest = refl
+      by true false w rest = sym (rest refl)
+
+  pub line-moved : (b : Bool) (t after before : ℕ) → after + one_if ((b && has_word words t) && takes was key.source t) ≡ before + one_if ((b && has_word words t) && takes is key.source t)
+      → after + one_if (b && takes was key.source t) ≡ before + one_if (b && takes is key.source t)
+  line-moved b t after before = by b (has_word words t) (takes was key.source t) (takes is key.source t) (turned.rest t)
+    where
+      by : (b h w v : Bool) → (h ≡ false → differs w v ≡ false) → after + one_if ((b && h) && w) ≡ before + one_if ((b && h) && v) → after + one_if (b && w) ≡ before + one_if (b && v)
+      by false h w v rest moved = moved
+      by true true w v rest moved = moved
+      by true false w v rest moved = let same = ap one_if (differs-same w v (rest refl)) in omega (arith, moved, same)
 
 module _ {A : Type 0} (source class : ℕ) (permissions : List ℕ) (rising : IsStrictlyIncreasing permissions) (was is : Targets A) (i count : ℕ) where
   -- one permission more
@@ -140,22 +157,54 @@ gives-none reach class permissions p none = ap (λ b. (b && takes reach.targets 
 abbrev pub moves_up_to : {A : Type 0} → Reach A → Reach A → ℕ → List ℕ → ℕ → SymbolKey × ℕ → Bool
 moves_up_to was is class permissions from p = nat_lt p.0.source from && moves_where was is class permissions p
 
-module _ {A : Type 0} (was is : Reach A) (class : ℕ) (permissions : List ℕ) (from count : ℕ) (moved : RisesBy (moves_up_to was is class permissions from) 0 count) where
-  abbrev either-source : ℕ → Bool
-  either-source s = has_source was s || has_source is s
+pub source-first : {A : Type 0} (was is : Reach A) (class : ℕ) (permissions : List ℕ) → RisesBy (moves_up_to was is class permissions 0) 0 0
+source-first was is class permissions = rises-none (moves_up_to was is class permissions 0) 0 (λ p. ap (λ b. b && moves_where was is class permissions p) (le-ltb p.0.source 0 (omega arith)))
 
-  idle : (p : SymbolKey × ℕ) → either-source p.0.source ≡ false → moves_where was is class permissions p ≡ false
-  idle p none = differs-none (gives was class permissions p.0 p.1) (gives is class permissions p.0 p.1) (gives-none was class permissions p (no-first _ _ none)) (gives-none is class permissions p (no-second _ _ none))
+-- the lines of a source with the targets that a rule had and has for it
+pub source-moves : {A : Type 0} (was is : Reach A) (gone come : Targets A) (source class : ℕ) (permissions : List ℕ) → ((t : ℕ) → takes gone source t ≡ reaches was source t) → ((t : ℕ) → takes come source t ≡ reaches is source t)
+    → (n : ℕ) → RisesBy (moves_for source class permissions gone come) 0 n → RisesBy (moves_of source was is class permissions) 0 n
+source-moves was is gone come source class permissions first second n =
+    rises-same (moves_for source class permissions gone come) (moves_of source was is class permissions) 0 n
+    (λ p. within (is_line source class permissions p.0) (takes gone source p.1) (takes come source p.1) ∙ ap (λ b. differs b (is_line source class permissions p.0 && takes come source p.1)) (source-gives was gone source class permissions p.0 p.1 (first p.1))
+    ∙ ap (differs ((source == p.0.source) && gives was class permissions p.0 p.1)) (source-gives is come source class permissions p.0 p.1 (second p.1)) ∙ sym (within (source == p.0.source) (gives was class permissions p.0 p.1) (gives is class permissions p.0 p.1)))
+  where
+    within : (b x y : Bool) → (b && differs x y) ≡ differs (b && x) (b && y)
+    within true x y = refl
+    within false x y = refl
 
-  -- one source more
-  pub source-step : (source here after : ℕ) → IsNext either-source from source → RisesBy (moves_of source was is class permissions) 0 here → after ≡ min (count + here) (2 ^ 128 - 1)
-      → RisesBy (moves_up_to was is class permissions (source + 1)) 0 after
-  source-step source here after next =
-      rises-more (moves_up_to was is class permissions from) (moves_of source was is class permissions) (moves_up_to was is class permissions (source + 1))
-      (λ p. source-more from source p.0.source (moves_where was is class permissions p) next.from_on (λ low high. idle p (next.first p.0.source low high))) 0 count here after moved
+module _ {A : Type 0} (all : Bool) (was is : Reach A) (class : ℕ) (permissions : List ℕ) (same : all ≡ false → AreSame was.targets is.targets) where
+  -- what is no source of either, or, where the targets stayed, one of both, has the same as before
+  pub idle : (p : SymbolKey × ℕ) → has_either all was is p.0.source ≡ false → moves_where was is class permissions p ≡ false
+  idle p = by all same
+    where
+      itself : (b : Bool) → differs b b ≡ false
+      itself true = refl
+      itself false = refl
 
-  -- no source follows
-  pub source-done : NoneFrom either-source from → RisesBy (moves_where was is class permissions) 0 count
-  source-done none =
-      rises-same (moves_up_to was is class permissions from) (moves_where was is class permissions) 0 count
-      (λ p. same-from_counts (moves_up_to was is class permissions from p) (moves_where was is class permissions p) (source-all from p.0.source (moves_where was is class permissions p) (λ past. idle p (none p.0.source past)))) moved
+      stayed : (a b t u c : Bool) → differs a b ≡ false → differs t u ≡ false → differs ((a && t) && c) ((b && u) && c) ≡ false
+      stayed a b t u c sources targets =
+          ap (λ x. differs ((a && t) && c) ((x && u) && c)) (sym (differs-same a b sources)) ∙ ap (λ x. differs ((a && t) && c) ((a && x) && c)) (sym (differs-same t u targets))
+          ∙ itself ((a && t) && c)
+
+      by : (all : Bool) → (all ≡ false → AreSame was.targets is.targets) → has_either all was is p.0.source ≡ false → moves_where was is class permissions p ≡ false
+      by true same none = differs-none (gives was class permissions p.0 p.1) (gives is class permissions p.0 p.1) (gives-none was class permissions p (no-first _ _ none)) (gives-none is class permissions p (no-second _ _ none))
+      by false same none =
+          stayed (has_source was p.0.source) (has_source is p.0.source) (takes was.targets p.0.source p.1) (takes is.targets p.0.source p.1) ((class == p.0.class) && has_permission permissions p.0.permission) none
+          (same refl p.0.source p.1)
+
+  pub same-given : (k : SymbolKey) (t : ℕ) → has_either all was is k.source ≡ false → gives was class permissions k t ≡ gives is class permissions k t
+  same-given k t none = differs-same (gives was class permissions k t) (gives is class permissions k t) (idle (k, t) none)
+
+  module _ (from count : ℕ) (moved : RisesBy (moves_up_to was is class permissions from) 0 count) where
+    -- one source more
+    pub source-step : (source here after : ℕ) → IsNext (has_either all was is) from source → RisesBy (moves_of source was is class permissions) 0 here → after ≡ min (count + here) (2 ^ 128 - 1)
+        → RisesBy (moves_up_to was is class permissions (source + 1)) 0 after
+    source-step source here after next =
+        rises-more (moves_up_to was is class permissions from) (moves_of source was is class permissions) (moves_up_to was is class permissions (source + 1))
+        (λ p. source-more from source p.0.source (moves_where was is class permissions p) next.from_on (λ low high. idle p (next.first p.0.source low high))) 0 count here after moved
+
+    -- no source follows
+    pub source-done : NoneFrom (has_either all was is) from → RisesBy (moves_where was is class permissions) 0 count
+    source-done none =
+        rises-same (moves_up_to was is class permissions from) (moves_where was is class permissions) 0 count
+        (λ p. same-from_counts (moves_up_to was is class permissions from p) (moves_where was is class permissions p) (source-all from p.0.source (moves_where was is class permissions p) (λ past. idle p (none p.0.source past)))) moved

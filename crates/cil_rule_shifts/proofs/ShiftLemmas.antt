@@ -9,10 +9,23 @@ use Rattle.cil_lines.specs.Line.{hit}
 use Rattle.cil_lines.proofs.StepLemmas.{hit-here, hit-there}
 use Rattle.cil_keyed_lines.specs.Keyed.{hit_of, is_key}
 use Rattle.cil_keyed_lines.specs.declared.symbol_key.SymbolKey.{SymbolKey}
+use Rattle.cil_rule_shifts.specs.Moves.{differs, has_either, has_word}
 use Rattle.cil_rule_shifts.specs.Reach.{gives, has_permission, has_source, is_line, one_if, takes, IsNext, IsShort}
 use Rattle.cil_rule_shifts.specs.declared.reach.Reach.{Reach}
 use Rattle.cil_rule_shifts.specs.declared.targets.Targets.{Targets}
 use Rattle.cil_rule_shifts.proofs.ReachLemmas.{and-no}
+
+-- two numbers are the same either way
+pub same-either-way : (a b : ℕ) → (a == b) ≡ (b == a)
+same-either-way a b = elim (cases_eq a b) [
+  | inl same ↦ eq-eqb a b same ∙ sym (eq-eqb b a (sym same))
+  | inr other ↦ ne_eqb a b other ∙ sym (ne_eqb b a (λ e. other (sym e)))
+]
+
+-- the targets of a word in the line of a key
+pub hit-line : (b : Bool) (word mask t : ℕ) (w : Bool) → hit word mask t ≡ one_if ((t / 64 == word) && w) → cond b (hit word mask t) 0 ≡ one_if ((b && (word == t / 64)) && w)
+hit-line true word mask t w hits = hits ∙ ap (λ c. one_if (c && w)) (same-either-way (t / 64) word)
+hit-line false word mask t w hits = refl
 
 pub hit-keyed : (key : SymbolKey) (word mask : ℕ) (k : SymbolKey) (t : ℕ) → hit_of key word mask k t ≡ cond (is_key key k) (hit word mask t) 0
 unfolding hit_of
@@ -27,21 +40,6 @@ hit-less word a b t =
           let other = hit-here word a t same in
           omega (arith, one, other)
       | inr apart ↦ let none = hit-there word (bit_and a b) t apart in omega (arith, none)
-    ]
-
--- the targets of a word that go have counters
-pub above-word : (was is : ℕ → Bool) (b : Bool) (from word gone mask now before t : ℕ) → from ≤ word → hit word gone t ≡ one_if ((t / 64 == word) && was t) → one_if (was t) ≤ before
-    → now + one_if (b && (nat_lt (t / 64) from && was t)) ≡ before + one_if (b && (nat_lt (t / 64) from && is t)) → hit word (bit_and gone mask) t ≤ now
-above-word was is b from word gone mask now before t low hits counted moved =
-    elim (cases_eq (t / 64) word) [
-      | inl same ↦
-          let high = le-ltb (t / 64) from (omega (arith, same, low)) in
-          let no_was : one_if (b && (nat_lt (t / 64) from && was t)) ≡ 0 = ap (λ c. one_if (b && (c && was t))) high ∙ and-no b in
-          let no_is : one_if (b && (nat_lt (t / 64) from && is t)) ≡ 0 = ap (λ c. one_if (b && (c && is t))) high ∙ and-no b in
-          let hit_was : hit word gone t ≡ one_if (was t) = hits ∙ ap (λ c. one_if (c && was t)) (eq-eqb (t / 64) word same) in
-          let less = hit-less word gone mask t in
-          omega (arith, no_was, no_is, hit_was, less, counted, moved)
-      | inr other ↦ let none = hit-there word (bit_and gone mask) t other in omega (arith, none)
     ]
 
 -- a permission that stands in the front of a rising list is below the next
@@ -74,18 +72,31 @@ module _ (xs : List ℕ) (rising : IsStrictlyIncreasing xs) (i p : ℕ) (within 
   more : (q : ℕ) → has_permission (take (i + 1) xs) q ≡ (has_permission (take i xs) q || (p == q))
   more q =
       list_any_more (nat_eq q) xs i 0 within ∙ ap (λ n. has_permission (take i xs) q || nat_eq q n) at
-      ∙ ap (λ b. has_permission (take i xs) q || b) (turned q p)
-    where
-      turned : (a b : ℕ) → nat_eq a b ≡ (b == a)
-      turned a b = elim (cases_eq a b) [
-        | inl same ↦ eq-eqb a b same ∙ sym (eq-eqb b a (sym same))
-        | inr other ↦ ne_eqb a b other ∙ sym (ne_eqb b a (λ e. other (sym e)))
-      ]
+      ∙ ap (λ b. has_permission (take i xs) q || b) (same-either-way q p)
 
   either-one : (h e w : Bool) → (e ≡ true → h ≡ false) → one_if (h && w) + one_if (e && w) ≡ one_if ((h || e) && w)
   either-one true true w apart = absurd (true≢false (apart refl))
   either-one true false w apart = add-zero (one_if w)
   either-one false e w apart = zero-add (one_if (e && w))
+
+  -- the targets of the next word that go have counters
+  pub above-word : (b : Bool) (gone mask now before t : ℕ) (was is : Bool) → hit p gone t ≡ one_if ((t / 64 == p) && was) → one_if was ≤ before
+      → now + one_if ((b && has_word (take i xs) t) && was) ≡ before + one_if ((b && has_word (take i xs) t) && is) → hit p (bit_and gone mask) t ≤ now
+  above-word b gone mask now before t was is hits counted moved =
+      elim (cases_eq (t / 64) p) [
+        | inl same ↦
+            let no : has_word (take i xs) t ≡ false = ap (has_permission (take i xs)) same ∙ new-permission in
+            let no_was : one_if ((b && has_word (take i xs) t) && was) ≡ 0 = ap (λ c. one_if ((b && c) && was)) no ∙ nothing b was in
+            let no_is : one_if ((b && has_word (take i xs) t) && is) ≡ 0 = ap (λ c. one_if ((b && c) && is)) no ∙ nothing b is in
+            let hit_was : hit p gone t ≡ one_if was = hits ∙ ap (λ c. one_if (c && was)) (eq-eqb (t / 64) p same) in
+            let less = hit-less p gone mask t in
+            omega (arith, no_was, no_is, hit_was, less, counted, moved)
+        | inr other ↦ let none = hit-there p (bit_and gone mask) t other in omega (arith, none)
+      ]
+    where
+      nothing : (b w : Bool) → one_if ((b && false) && w) ≡ 0
+      nothing true w = refl
+      nothing false w = refl
 
   -- the lines of one more permission
   pub line-more : (s c w : Bool) (q : ℕ) → one_if ((s && (c && has_permission (take i xs) q)) && w) + one_if ((s && (c && (p == q))) && w) ≡ one_if ((s && (c && has_permission (take (i + 1) xs) q)) && w)
@@ -171,6 +182,54 @@ source-all from s g none =
       | inr behind ↦ ap (λ b. one_if (nat_lt s from && b)) (none behind) ∙ and-no (nat_lt s from) ∙ sym (ap one_if (none behind))
     ]
 
+kept : (b w : Bool) → b ≡ true → one_if (b && w) ≡ one_if w
+kept b w is = ap (λ c. one_if (c && w)) is
+
+left-out : (b w : Bool) → b ≡ false → one_if (b && w) ≡ 0
+left-out b w is = ap (λ c. one_if (c && w)) is
+
+-- no source is below the first
+pub none-below : (s count : ℕ) (was is : Bool) → count + one_if (nat_lt s 0 && was) ≡ count + one_if (nat_lt s 0 && is)
+none-below s count was is = let none = le-ltb s 0 (omega arith) in omega (arith, left-out _ was none, left-out _ is none)
+
+-- one source more is moved; those passed over have the same as before
+pub source-moved : (from source s after between before : ℕ) (was is : Bool) → from ≤ source → (from ≤ s → s < source → was ≡ is) → between + one_if (nat_lt s from && was) ≡ before + one_if (nat_lt s from && is)
+    → after + one_if ((source == s) && was) ≡ between + one_if ((source == s) && is) → after + one_if (nat_lt s (source + 1) && was) ≡ before + one_if (nat_lt s (source + 1) && is)
+source-moved from source s after between before was is low same so_far step =
+    elim (cases_lt s from) [
+      | inl first ↦
+          let front = lt-ltb s from first in
+          let here = ne_eqb source s (λ e. omega (arith, e, first, low)) in
+          let more = lt-ltb s (source + 1) (omega (arith, first, low)) in
+          omega (arith, so_far, step, kept _ was front, kept _ is front, left-out _ was here, left-out _ is here, kept _ was more, kept _ is more)
+      | inr behind ↦
+          let front = le-ltb s from behind in
+          elim (cases_eq source s) [
+            | inl at ↦
+                let here = eq-eqb source s at in
+                let more = lt-ltb s (source + 1) (omega (arith, at)) in
+                omega (arith, so_far, step, left-out _ was front, left-out _ is front, kept _ was here, kept _ is here, kept _ was more, kept _ is more)
+            | inr apart ↦
+                let here = ne_eqb source s apart in
+                elim (cases_lt s source) [
+                  | inl earlier ↦
+                      let more = lt-ltb s (source + 1) (omega (arith, earlier)) in
+                      omega (arith, so_far, step, left-out _ was front, left-out _ is front, left-out _ was here, left-out _ is here, kept _ was more, kept _ is more, ap one_if (same behind earlier))
+                  | inr later ↦
+                      let more = le-ltb s (source + 1) (omega (arith, later, apart)) in
+                      omega (arith, so_far, step, left-out _ was front, left-out _ is front, left-out _ was here, left-out _ is here, left-out _ was more, left-out _ is more)
+                ]
+          ]
+    ]
+
+-- no source follows; those passed over have the same as before
+pub sources-moved : (from s after before : ℕ) (was is : Bool) → (from ≤ s → was ≡ is) → after + one_if (nat_lt s from && was) ≡ before + one_if (nat_lt s from && is) → after + one_if was ≡ before + one_if is
+sources-moved from s after before was is same so_far =
+    elim (cases_lt s from) [
+      | inl first ↦ let front = lt-ltb s from first in omega (arith, so_far, kept _ was front, kept _ is front)
+      | inr behind ↦ let front = le-ltb s from behind in omega (arith, so_far, left-out _ was front, left-out _ is front, ap one_if (same behind))
+    ]
+
 -- what the source that comes next gave has counters
 pub above-source : (from source s now before : ℕ) (was is : Bool) → from ≤ source → one_if was ≤ before → now + one_if (nat_lt s from && was) ≡ before + one_if (nat_lt s from && is) → one_if ((source == s) && was) ≤ now
 above-source from source s now before was is low counted moved =
@@ -184,10 +243,23 @@ above-source from source s now before was is low counted moved =
       | inr other ↦ let none : one_if ((source == s) && was) ≡ 0 = ap (λ b. one_if (b && was)) (ne_eqb source s other) in omega (arith, none)
     ]
 
+-- what is no source of either rule is none of one alone
+pub either-none : {A : Type 0} (all : Bool) (was is : Reach A) (s : ℕ) → has_either true was is s ≡ false → has_either all was is s ≡ false
+either-none true was is s none = none
+either-none false was is s none = neither (has_source was s) (has_source is s) none
+  where
+    neither : (a b : Bool) → (a || b) ≡ false → differs a b ≡ false
+    neither false b none = none
+    neither true b none = absurd (true≢false none)
+
 -- a source of either is a number of the code with one to spare
-pub short-source : {A : Type 0} (was is : Reach A) (from source : ℕ) → IsShort was → IsShort is → IsNext (λ s. has_source was s || has_source is s) from source → source < 2 ^ 64 - 1
-short-source was is from source was_short is_short next =
+pub short-either : {A : Type 0} (all : Bool) (was is : Reach A) → IsShort was → IsShort is → (s : ℕ) → 2 ^ 64 - 1 ≤ s → has_either all was is s ≡ false
+short-either true was is was_short is_short s high = ap (λ b. b || has_source is s) (was_short.sources s high) ∙ is_short.sources s high
+short-either false was is was_short is_short s high = ap (λ b. differs b (has_source is s)) (was_short.sources s high) ∙ is_short.sources s high
+
+pub short-source : {A : Type 0} (all : Bool) (was is : Reach A) (from source : ℕ) → IsShort was → IsShort is → IsNext (has_either all was is) from source → source < 2 ^ 64 - 1
+short-source all was is from source was_short is_short next =
     elim (cases_lt source (2 ^ 64 - 1)) [
       | inl low ↦ low
-      | inr high ↦ absurd (true≢false (sym next.holds ∙ ap (λ b. b || has_source is source) (was_short.sources source high) ∙ is_short.sources source high))
+      | inr high ↦ absurd (true≢false (sym next.holds ∙ short-either all was is was_short is_short source high))
     ]

@@ -1,8 +1,9 @@
 -- Which counters move where a rule gives something else than it gave.
-use Rattle.std.specs.Prelude.{◌&&◌, ◌==◌, ℕ, Bool, true, false, List, not}
+use Rattle.std.specs.Prelude.{◌≡◌, ◌<◌, ◌/◌, ◌^◌, ◌&&◌, ◌||◌, ◌==◌, ℕ, Bool, true, false, List, Option, MatchOption, Vec, length, not, slice_index}
+use Rattle.std.specs.List.Sorted.{IsStrictlyIncreasing}
 use Rattle.cil_keyed_lines.specs.Keyed.{is_key}
 use Rattle.cil_keyed_lines.specs.declared.symbol_key.SymbolKey.{SymbolKey}
-use Rattle.cil_rule_shifts.specs.Reach.{gives, is_line, takes}
+use Rattle.cil_rule_shifts.specs.Reach.{gives, has_permission, has_source, is_line, takes}
 use Rattle.cil_rule_shifts.specs.declared.reach.Reach.{Reach}
 use Rattle.cil_rule_shifts.specs.declared.targets.Targets.{Targets}
 
@@ -30,3 +31,34 @@ moves_where was is class permissions p = differs (gives was class permissions p.
 -- of these, in the lines of a source
 abbrev pub moves_of : {A : Type 0} → ℕ → Reach A → Reach A → ℕ → List ℕ → SymbolKey × ℕ → Bool
 moves_of source was is class permissions p = (source == p.0.source) && moves_where was is class permissions p
+
+-- whether a list has the word of a target
+abbrev pub has_word : List ℕ → ℕ → Bool
+has_word words t = has_permission words (t / 64)
+
+-- the words of two sets of targets, each once and in their order, in none but which they differ
+pub record AreTurned (was is : ℕ → Bool) (words : List ℕ) : Type 0 where
+  pub rising : IsStrictlyIncreasing words
+  pub short : (i : ℕ) → i < length words → slice_index words i < 2 ^ 58
+  pub rest : (t : ℕ) → has_word words t ≡ false → differs (was t) (is t) ≡ false
+
+-- those of the targets of each source
+abbrev pub AreTurnedForAll : {A : Type 0} → Targets A → Targets A → List ℕ → Type 0
+AreTurnedForAll was is words = (source : ℕ) → AreTurned (takes was source) (takes is source) words
+
+-- there is a list of words, and it has none
+abbrev pub HasNone : {A : Type 0} → Option (Vec ℕ A) → Type 0
+HasNone common = MatchOption common ⊥ (λ words. length words.items ≡ 0)
+
+-- each source has the same targets as before
+abbrev pub AreSame : {A : Type 0} → Targets A → Targets A → Type 0
+AreSame was is = (source t : ℕ) → turns was is source t ≡ false
+
+-- whether a thing is gone over: where one of two has it alone, or where either has it
+abbrev pub goes_over : Bool → Bool → Bool → Bool
+goes_over true was is = was || is
+goes_over false was is = differs was is
+
+-- whether a source of one rule alone, or of either, is one
+abbrev pub has_either : {A : Type 0} → Bool → Reach A → Reach A → ℕ → Bool
+has_either all was is s = goes_over all (has_source was s) (has_source is s)

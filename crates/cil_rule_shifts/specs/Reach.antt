@@ -1,5 +1,6 @@
 -- What a rule gives, by symbols.
-use Rattle.std.specs.Prelude.{◌≡◌, ◌≤◌, ◌-◌, ◌^◌, ◌/◌, ◌&&◌, ◌==◌, ◌<◌, ℕ, Bool, true, false, List, cond, nat_eq, nat_lt}
+use Rattle.std.specs.Prelude.{◌≡◌, ◌≤◌, ◌+◌, ◌-◌, ◌*◌, ◌^◌, ◌/◌, ◌&&◌, ◌==◌, ◌<◌, ℕ, Bool, true, false, List, cond, nat_eq, nat_lt}
+use Rattle.std.specs.Int.{bit_at}
 use Rattle.std.specs.List.{list_any}
 use Rattle.cil_lines.specs.Line.{Counters, count_of}
 use Rattle.cil_keyed_lines.specs.declared.symbol_key.SymbolKey.{SymbolKey}
@@ -69,3 +70,7 @@ pub record IsNextWord (test : ℕ → Bool) (from next : ℕ) : Type 0 where
 -- it holds at no number of a word from one on
 abbrev pub NoneFromWord : (ℕ → Bool) → ℕ → Type 0
 NoneFromWord test from = (t : ℕ) → from ≤ t / 64 → test t ≡ false
+
+-- the bits of a word of those of its numbers at which the test holds
+abbrev pub IsMask : (ℕ → Bool) → ℕ → ℕ → Type 0
+IsMask test word mask = (b : ℕ) → b < 64 → bit_at mask b ≡ one_if (test (64 * word + b))

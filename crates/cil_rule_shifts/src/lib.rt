@@ -6,6 +6,7 @@ mod shift;
 #[cfg(test)]
 mod shift_tests;
 mod targets;
+mod turned;
 mod words;
 
 pub use reach::Reach;

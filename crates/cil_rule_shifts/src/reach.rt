@@ -1,9 +1,11 @@
 //! What a rule reaches.
 
-ghost use Rattle.std.specs.Prelude.{◌≡◌, ◌≤◌, ◌^◌, ◌||◌, ℕ, false, MatchOption};
-ghost use Rattle.cil_rule_shifts.specs.Reach.{has_source, is_present, IsNext, IsShort, NoneFrom};
+ghost use Rattle.std.specs.Prelude.{◌≡◌, ◌≤◌, ◌^◌, ℕ, false, true, MatchOption};
+ghost use Rattle.cil_rule_shifts.specs.Moves.{has_either};
+ghost use Rattle.cil_rule_shifts.specs.Reach.{has_source, is_present, IsMask, IsNext, IsNextWord, IsShort, NoneFrom, NoneFromWord};
 
 use crate::targets::Targets;
+use crate::words::earlier;
 use cil_lines::Line;
 use std::alloc::{Allocator, Global};
 
@@ -31,32 +33,62 @@ impl<A: Allocator + Copy> Reach<A> {
     }
 }
 
-/// The first symbol from one on whose counter is above 0.
-fn next_present<A: Allocator>(line: &Line<A>, from: usize) -> Option<usize>
-    requires { (s : ℕ) → 2 ^ 64 ≤ s → is_present line.now s ≡ false }
-    ensures { MatchOption result (NoneFrom (is_present line.now) from) (IsNext (is_present line.now) from) }
+/// The sources of a word that are of one of two rules alone, or all of either.
+fn mask<A: Allocator>(was: &Reach<A>, is: &Reach<A>, all: bool, word: usize) -> u64
+    ensures { IsMask (has_either all was.now is.now) word result }
 {
-    let bits = line.present(from / WORD) >> (from % WORD);
+    let gone = was.sources.present(word);
+    let come = is.sources.present(word);
+    if all { gone | come } else { gone ^ come }
+}
+
+/// The first word from one on with a source of either.
+fn next_word<A: Allocator>(was: &Reach<A>, is: &Reach<A>, from: usize) -> Option<usize>
+    ensures { MatchOption result (NoneFromWord (has_either true was.now is.now) from) (IsNextWord (has_either true was.now is.now) from) }
+{
+    earlier(
+        was.sources.next_present_word(from),
+        is.sources.next_present_word(from),
+    )
+}
+
+/// The first word from one on with a source of one rule alone, or with one of either.
+fn next_turned_word<A: Allocator>(
+    was: &Reach<A>,
+    is: &Reach<A>,
+    all: bool,
+    from: usize,
+) -> Option<usize>
+    requires was { IsShort was.now }
+    requires is { IsShort is.now }
+    ensures { MatchOption result (NoneFromWord (has_either all was.now is.now) from) (IsNextWord (has_either all was.now is.now) from) }
+{
+    let mut at = from;
+    while let Some(word) = next_word(was, is, at) {
+        if mask(was, is, all, word) != 0 {
+            return Some(word);
+        }
+        at = word + 1;
+    }
+    None
+}
+
+/// The first symbol from one on that is a source of one rule alone, or one of either.
+pub fn next_source<A: Allocator>(
+    was: &Reach<A>,
+    is: &Reach<A>,
+    all: bool,
+    from: usize,
+) -> Option<usize>
+    requires was { IsShort was.now }
+    requires is { IsShort is.now }
+    ensures { MatchOption result (NoneFrom (has_either all was.now is.now) from) (IsNext (has_either all was.now is.now) from) }
+{
+    let bits = mask(was, is, all, from / WORD) >> (from % WORD);
     if bits != 0 {
         return Some(from + bits.trailing_zeros() as usize);
     }
-    let word = line.next_present_word(from / WORD + 1)?;
-    let bits = line.present(word);
+    let word = next_turned_word(was, is, all, from / WORD + 1)?;
+    let bits = mask(was, is, all, word);
     Some(WORD * word + bits.trailing_zeros() as usize)
-}
-
-/// The first symbol from one on that is a source of either.
-pub fn next_source<A: Allocator>(was: &Reach<A>, is: &Reach<A>, from: usize) -> Option<usize>
-    requires was { IsShort was.now }
-    requires is { IsShort is.now }
-    ensures { MatchOption result (NoneFrom (λ s. has_source was.now s || has_source is.now s) from) (IsNext (λ s. has_source was.now s || has_source is.now s) from) }
-{
-    match (
-        next_present(&was.sources, from),
-        next_present(&is.sources, from),
-    ) {
-        (Some(first), Some(second)) => Some(first.min(second)),
-        (Some(first), None) => Some(first),
-        (None, second) => second,
-    }
 }

@@ -1,59 +1,59 @@
 //! The counters of keyed lines, moved from what a rule gave to what it gives.
 
-ghost use Rattle.std.specs.Prelude.{◌≡◌, ◌+◌, ◌≤◌, ◌<◌, ◌^◌, ◌/◌, ◌&&◌, ◌||◌, ◌==◌, ℕ, false, IfOk, OnOk};
+ghost use Rattle.std.specs.Prelude.{◌≡◌, ◌+◌, ◌≤◌, ◌<◌, ◌^◌, ◌/◌, ◌&&◌, ◌||◌, ◌==◌, ℕ, false, true, IfOk, IfSome, OnOk};
 ghost use Rattle.std.specs.List.Sorted.{IsStrictlyIncreasing};
 ghost use Rattle.cil_keyed_lines.specs.Keyed.{count_before, count_now, is_key};
-ghost use Rattle.cil_rule_shifts.specs.Moves.{moves_for, moves_in, moves_of, moves_where};
+ghost use Rattle.cil_rule_shifts.specs.Moves.{moves_for, moves_in, moves_of, moves_where, AreTurned, AreTurnedForAll};
 ghost use Rattle.cil_rule_shifts.specs.Reach.{gives, is_line, one_if, reaches, takes, AreShort, IsShort};
 ghost use Rattle.cil_sums.specs.Rises.{RisesBy};
 
 use crate::reach::{Reach, next_source};
 use crate::targets::Targets;
-use crate::words::next_word;
+use crate::turned::{common_words, may_differ, turned_words};
 use cil_keyed_lines::{KeyedLines, SymbolKey};
 use std::alloc::{AllocError, Allocator};
 
-/// Moves the counters of a line from the targets that its source had to those that it has, and answers how many moved.
+/// Moves the counters of a line from the targets that its source had to those that it has, in the words in which they differ, and
+/// answers how many moved.
 fn shift_line<A: Allocator + Copy>(
     lines: &mut KeyedLines<A>,
     alloc: A,
     key: SymbolKey,
+    words: &[usize],
     was: &Targets<A>,
     is: &Targets<A>,
 ) -> Result<u128, AllocError>
-    requires was { AreShort was.now }
-    requires is { AreShort is.now }
+    requires words { AreTurned (takes was.now key.source) (takes is.now key.source) words.now }
     requires counted { (t : ℕ) → one_if (takes was.now key.source t) ≤ count_now lines.old key t }
-    ensures now { OnOk result ((k : SymbolKey) (t : ℕ) → count_now lines.new k t + one_if (is_key key k && takes was.now key.source t) ≡ count_now lines.old k t + one_if (is_key key k && takes is.now key.source t)) }
+    ensures now { OnOk result ((k : SymbolKey) (t : ℕ) → count_now lines.new k t + one_if (is_key key k && takes was.now key.source t)
+        ≡ count_now lines.old k t + one_if (is_key key k && takes is.now key.source t)) }
     ensures before { (k : SymbolKey) (t : ℕ) → count_before lines.new k t ≡ count_before lines.old k t }
     ensures moved { IfOk result (RisesBy (moves_in key was.now is.now) 0) }
 {
     let mut moved: u128 = 0;
-    let mut from = 0;
-    while let Some(word) = next_word(was, is, key.source, from) {
-        let gone = was.word(key.source, word);
-        let come = is.word(key.source, word);
-        let here = lines.shift(alloc, key, word, gone, come)?;
+    for word in words {
+        let gone = was.word(key.source, *word);
+        let come = is.word(key.source, *word);
+        let here = lines.shift(alloc, key, *word, gone, come)?;
         moved = moved.saturating_add(here as u128);
-        from = word + 1;
     }
     Ok(moved)
 }
 
-/// Moves the counters of the lines of a source, of a class and its permissions, from the targets that it had to those that it has, and
-/// answers how many moved.
+/// Moves the counters of the lines of a source, of a class and its permissions, from the targets that it had to those that it has, in
+/// the words in which they differ, and answers how many moved.
 fn shift_lines<A: Allocator + Copy>(
     lines: &mut KeyedLines<A>,
     alloc: A,
     source: usize,
     class: usize,
     permissions: &[usize],
+    words: &[usize],
     was: &Targets<A>,
     is: &Targets<A>,
 ) -> Result<u128, AllocError>
     requires permissions { IsStrictlyIncreasing permissions.now }
-    requires was { AreShort was.now }
-    requires is { AreShort is.now }
+    requires words { AreTurned (takes was.now source) (takes is.now source) words.now }
     requires counted { (k : SymbolKey) (t : ℕ) → one_if (is_line source class permissions.now k && takes was.now source t) ≤ count_now lines.old k t }
     ensures now { OnOk result ((k : SymbolKey) (t : ℕ) → count_now lines.new k t + one_if (is_line source class permissions.now k && takes was.now source t)
         ≡ count_now lines.old k t + one_if (is_line source class permissions.now k && takes is.now source t)) }
@@ -67,7 +67,7 @@ fn shift_lines<A: Allocator + Copy>(
             class,
             permission: *permission,
         };
-        let here = shift_line(lines, alloc, key, was, is)?;
+        let here = shift_line(lines, alloc, key, words, was, is)?;
         moved = moved.saturating_add(here);
     }
     Ok(moved)
@@ -91,17 +91,30 @@ fn targets_of<'r, A: Allocator>(
     }
 }
 
-/// Moves the counters of the lines of a source from what a rule gave it to what it gives it, and answers how many moved.
+/// Whether a source has the targets of a rule: where it is a source of it, or where the rule has no targets.
+fn has_targets<A: Allocator>(reach: &Reach<A>, source: usize) -> bool
+    ensures { result ≡ true → (t : ℕ) → reaches reach.now source t ≡ takes reach.now.targets source t }
+{
+    match reach.targets {
+        Targets::Nothing => true,
+        _ => reach.sources.count(source) > 0,
+    }
+}
+
+/// Moves the counters of the lines of a source from what a rule gave it to what it gives it, and answers how many moved. The words in
+/// which the targets of every source differ are given, if there are such.
 fn shift_source<A: Allocator + Copy>(
     lines: &mut KeyedLines<A>,
     alloc: A,
     source: usize,
     class: usize,
     permissions: &[usize],
+    common: &Option<Vec<usize, A>>,
     was: &Reach<A>,
     is: &Reach<A>,
 ) -> Result<u128, AllocError>
     requires permissions { IsStrictlyIncreasing permissions.now }
+    requires common { IfSome common.now (λ words. AreTurnedForAll was.now.targets is.now.targets words.items) }
     requires was { IsShort was.now }
     requires is { IsShort is.now }
     requires counted { (k : SymbolKey) (t : ℕ) → one_if ((source == k.source) && gives was.now class permissions.now k t) ≤ count_now lines.old k t }
@@ -113,7 +126,47 @@ fn shift_source<A: Allocator + Copy>(
     let none = Targets::Nothing;
     let gone = targets_of(was, &none, source);
     let come = targets_of(is, &none, source);
-    shift_lines(lines, alloc, source, class, permissions, gone, come)
+    match common {
+        Some(words) if has_targets(was, source) && has_targets(is, source) => {
+            shift_lines(lines, alloc, source, class, permissions, words, gone, come)
+        }
+        _ => {
+            let words = turned_words(alloc, source, gone, come)?;
+            shift_lines(lines, alloc, source, class, permissions, &words, gone, come)
+        }
+    }
+}
+
+/// Moves the counters of what a rule of a class gave by its permissions to those of what it gives, source by source, and answers how many
+/// moved. The words in which the targets of every source differ are given, if there are such.
+fn shift_sources<A: Allocator + Copy>(
+    lines: &mut KeyedLines<A>,
+    alloc: A,
+    class: usize,
+    permissions: &[usize],
+    common: &Option<Vec<usize, A>>,
+    was: &Reach<A>,
+    is: &Reach<A>,
+) -> Result<u128, AllocError>
+    requires permissions { IsStrictlyIncreasing permissions.now }
+    requires common { IfSome common.now (λ words. AreTurnedForAll was.now.targets is.now.targets words.items) }
+    requires was { IsShort was.now }
+    requires is { IsShort is.now }
+    requires counted { (k : SymbolKey) (t : ℕ) → one_if (gives was.now class permissions.now k t) ≤ count_now lines.old k t }
+    ensures now { OnOk result ((k : SymbolKey) (t : ℕ) → count_now lines.new k t + one_if (gives was.now class permissions.now k t)
+        ≡ count_now lines.old k t + one_if (gives is.now class permissions.now k t)) }
+    ensures before { (k : SymbolKey) (t : ℕ) → count_before lines.new k t ≡ count_before lines.old k t }
+    ensures moved { IfOk result (RisesBy (moves_where was.now is.now class permissions.now) 0) }
+{
+    let all = may_differ(common);
+    let mut moved: u128 = 0;
+    let mut from = 0;
+    while let Some(source) = next_source(was, is, all, from) {
+        let here = shift_source(lines, alloc, source, class, permissions, common, was, is)?;
+        moved = moved.saturating_add(here);
+        from = source + 1;
+    }
+    Ok(moved)
 }
 
 /// Moves the counters of what a rule of a class gave by its permissions to those of what it gives, and answers how many moved, or the
@@ -136,12 +189,6 @@ pub fn shift_rule<A: Allocator + Copy>(
     ensures before { (k : SymbolKey) (t : ℕ) → count_before lines.new k t ≡ count_before lines.old k t }
     ensures moved { IfOk result (RisesBy (moves_where was.now is.now class permissions.now) 0) }
 {
-    let mut moved: u128 = 0;
-    let mut from = 0;
-    while let Some(source) = next_source(was, is, from) {
-        let here = shift_source(lines, alloc, source, class, permissions, was, is)?;
-        moved = moved.saturating_add(here);
-        from = source + 1;
-    }
-    Ok(moved)
+    let common = common_words(alloc, &was.targets, &is.targets)?;
+    shift_sources(lines, alloc, class, permissions, &common, was, is)
 }

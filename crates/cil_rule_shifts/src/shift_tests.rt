@@ -136,3 +136,85 @@ fn sources_themselves(rt: HostRuntime) {
     take(&rt, rt.alloc(), &mut lines, &rule);
     assert_count(&rt, &lines, 64, 64, 0);
 }
+
+#[test]
+fn sources_and_targets_that_changed(rt: HostRuntime) {
+    let mut lines = KeyedLines::new(rt.alloc());
+    let was = rule(&rt, rt.alloc(), &[1, 65, 130], &[10, 70, 200, 300]);
+    let is = rule(&rt, rt.alloc(), &[1, 130, 131], &[10, 70, 201, 300, 400]);
+    add(&rt, rt.alloc(), &mut lines, &was);
+    lines.settle();
+    let moved = shift_rule(&mut lines, rt.alloc(), CLASS, PERMISSIONS, &was, &is).expect(
+        &rt, "memory",
+    );
+    // By each permission sources 1 and 130 have one target in place of another and one more, 65 loses four, and 131 comes with five.
+    assert_eq!(&rt; moved, 30);
+    for source in [1, 130, 131] {
+        for target in [10, 70, 201, 300, 400] {
+            assert_count(&rt, &lines, source, target, 1);
+        }
+        assert_count(&rt, &lines, source, 200, 0);
+    }
+    for target in [10, 70, 200, 201, 300, 400] {
+        assert_count(&rt, &lines, 65, target, 0);
+    }
+    let changes = lines.changes(rt.alloc()).expect(&rt, "memory");
+    // By each permission two words of 1 and of 130, four of 65, and five of 131.
+    assert_eq!(&rt; changes.len(), 26);
+    lines.undo();
+    assert_count(&rt, &lines, 130, 200, 1);
+    assert_count(&rt, &lines, 130, 400, 0);
+    assert_count(&rt, &lines, 65, 300, 1);
+}
+
+// Asserts that nothing moves from one rule to another.
+fn assert_stays(rt: &impl Abort, alloc: Global, lines: &mut KeyedLines, was: &Reach, is: &Reach)
+    requires was { IsShort was.now }
+    requires is { IsShort is.now }
+    requires counted { (k : SymbolKey) (t : ℕ) → one_if (gives was.now 7 (3 ∷ 5 ∷ []) k t) ≤ count_now lines.old k t }
+{
+    lines.settle();
+    let moved = shift_rule(lines, alloc, CLASS, PERMISSIONS, was, is).expect(rt, "memory");
+    assert_eq!(rt; moved, 0);
+    let changes = lines.changes(alloc).expect(rt, "memory");
+    assert!(rt; changes.is_empty());
+}
+
+#[test]
+fn a_rule_whose_sets_stayed(rt: HostRuntime) {
+    let mut lines = KeyedLines::new(rt.alloc());
+    let was = rule(&rt, rt.alloc(), &[0, 64, 200], &[63, 64, 500]);
+    let is = rule(&rt, rt.alloc(), &[0, 64, 200], &[63, 64, 500]);
+    add(&rt, rt.alloc(), &mut lines, &was);
+    assert_stays(&rt, rt.alloc(), &mut lines, &was, &is);
+    assert_count(&rt, &lines, 200, 500, 1);
+}
+
+#[test]
+fn a_rule_to_itself_whose_sources_stayed(rt: HostRuntime) {
+    let mut lines = KeyedLines::new(rt.alloc());
+    let was = rule_to_itself(&rt, rt.alloc(), &[3, 90]);
+    let is = rule_to_itself(&rt, rt.alloc(), &[3, 90]);
+    add(&rt, rt.alloc(), &mut lines, &was);
+    assert_stays(&rt, rt.alloc(), &mut lines, &was, &is);
+    assert_count(&rt, &lines, 90, 90, 1);
+}
+
+#[test]
+fn sources_themselves_that_become_a_set(rt: HostRuntime) {
+    let mut lines = KeyedLines::new(rt.alloc());
+    let was = rule_to_itself(&rt, rt.alloc(), &[5, 64, 70]);
+    let is = rule(&rt, rt.alloc(), &[5, 70, 200], &[5, 64]);
+    add(&rt, rt.alloc(), &mut lines, &was);
+    let moved = shift_rule(&mut lines, rt.alloc(), CLASS, PERMISSIONS, &was, &is).expect(
+        &rt, "memory",
+    );
+    // By each permission 5 has one more, 64 loses itself, 70 has two in place of itself, and 200 comes with two.
+    assert_eq!(&rt; moved, 14);
+    assert_count(&rt, &lines, 5, 5, 1);
+    assert_count(&rt, &lines, 5, 64, 1);
+    assert_count(&rt, &lines, 64, 64, 0);
+    assert_count(&rt, &lines, 70, 70, 0);
+    assert_count(&rt, &lines, 70, 64, 1);
+    assert_count(&rt, &lines, 200, 5, 1);
+}

@@ -1,6 +1,6 @@
 //! Collects the accesses of the access tables of a policy.
 
-ghost use Rattle.std.specs.Prelude.{◌≡◌, ◌<◌, ◌≤◌, ◌/◌, ◌^◌, ◌↔◌, ⊤, IfOk, IsPermutation, OnOk, length, map};
+ghost use Rattle.std.specs.Prelude.{◌≡◌, ◌<◌, ◌≤◌, ◌/◌, ◌^◌, ◌↔◌, ⊤, IfOk, OnOk, length, map};
 ghost use Rattle.std.specs.List.{All};
 ghost use Rattle.cil_specs.specs.Meaning.{is_in_table};
 ghost use Rattle.cil_specs.specs.Report.{AreAtoms};
@@ -13,7 +13,7 @@ ghost use Rattle.cil_rules.specs.Atoms.{atom_at, AreNumbered};
 ghost use Rattle.cil_rules.specs.Collected.{chunk_of, head_at, key_of, AreGained, AreWithin, IsBetween, IsCounted, IsMarked, IsShort, IsTo};
 
 use crate::numbers::number;
-use cil_accesses::{Accesses, Chunk};
+use cil_accesses::{Accesses, Chunk, sort_from};
 use cil_lines::Line;
 use cil_resolve::Resolved;
 use cil_tables::{LineKey, Lines, Tables};
@@ -231,15 +231,6 @@ fn push_lines<A: Allocator>(
         }
     }
     Ok(())
-}
-
-/// Puts the chunks from a place on in order.
-fn sort_from<A: Allocator>(chunks: &mut Vec<Chunk, A>, start: usize)
-    ensures { IsPermutation chunks.old.items chunks.new.items }
-{
-    if start < chunks.len() {
-        chunks[start..].sort_unstable();
-    }
 }
 
 /// Appends the accesses that the lines from one place of the order up to another count, in order where the lines are of one source and

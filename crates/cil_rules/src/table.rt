@@ -1,6 +1,6 @@
 //! The access table.
 
-ghost use Rattle.std.specs.Prelude.{◌≡◌, ◌≤◌, ◌==◌, Bool, List, [], length, slice_get, option_map, IfOk, OnErr};
+ghost use Rattle.std.specs.Prelude.{◌≡◌, ◌≤◌, ◌==◌, Bool, List, [], length, map, slice_get, option_map, IfOk, OnErr};
 ghost use Rattle.std.specs.List.{flat_map};
 ghost use Rattle.cil_specs.specs.Rule as spec;
 ghost use Rattle.cil_specs.specs.Meaning.{is_in_table};
@@ -8,7 +8,7 @@ ghost use Rattle.cil_specs.specs.Report.{AreAtoms, Row, AreRows, row_line};
 ghost use Rattle.cil_resolve.specs.Resolved.{meaning_in};
 ghost use Rattle.cil_tables.specs.Tables.{AreTables};
 ghost use Rattle.cil_stream.specs.Device.{HasFailed, Gains, GainsFront};
-ghost use Rattle.cil_rules.specs.Atoms.{atom_of};
+ghost use Rattle.cil_rules.specs.Atoms.{atom_at, atom_of, AreNumbered};
 
 use crate::atom::Atom;
 use crate::collect::accesses_of;
@@ -17,7 +17,7 @@ use crate::name_list::{NameList, names_of};
 use crate::numbers::named;
 use crate::rows::Rows;
 use cil_accesses::Accesses;
-use cil_resolve::Resolved;
+use cil_resolve::{Resolved, Text};
 use cil_stream::{Sink, SinkFault};
 use cil_tables::Tables;
 use std::alloc::{AllocError, Allocator, Global};
@@ -62,6 +62,17 @@ impl<A: Allocator + Copy> Table<A> {
         let accesses = accesses_of(alloc, resolved, tables)?;
         Ok(Table {
             names: NameList::of(names_of(alloc, resolved)?)?,
+            accesses,
+        })
+    }
+
+    /// The table of these accesses by the numbers of names, which it takes over.
+    pub fn numbered(names: Vec<Text<A>, A>, accesses: Accesses<A>) -> Result<Self, AllocError>
+        requires { AreNumbered names.items accesses }
+        ensures { IfOk result (λ table. table ≡ map (atom_at names.items) accesses) }
+    {
+        Ok(Table {
+            names: NameList::of(names)?,
             accesses,
         })
     }

@@ -263,3 +263,15 @@ fn a_complement_is_evaluated_at_each_type(rt: HostRuntime) {
     );
     assert!(&rt; made == 40);
 }
+
+#[test]
+fn members_that_are_put(rt: HostRuntime) {
+    let alloc = rt.alloc();
+    let mut members = Members::none(alloc, 130).expect(&rt, "memory");
+    members.put(alloc, 2, 64, 1).expect(&rt, "memory");
+    members.put(alloc, 2, 129, 3).expect(&rt, "memory");
+    let found = members.has(2, 64) && members.has(2, 129) && !members.has(2, 63);
+    assert!(&rt; found);
+    let found = members.next_member(2, 65) == Some(129) && members.next_member(64, 0).is_none();
+    assert!(&rt; found);
+}

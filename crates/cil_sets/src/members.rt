@@ -66,7 +66,7 @@ impl<A: Allocator> Members<A> {
 }
 
 impl<A: Allocator + Copy> Members<A> {
-    ghost use Rattle.std.specs.Prelude.{◌≡◌, ◌+◌, ◌<◌, ◌^◌, ◌&&◌, ◌==◌, ℕ, [], length, slice_index_or, IfOk, OnOk};
+    ghost use Rattle.std.specs.Prelude.{◌≡◌, ◌+◌, ◌<◌, ◌^◌, ◌&&◌, ◌==◌, ℕ, [], length, slice_index_or, if◌then◌else◌, IfOk, OnOk};
     ghost use Rattle.cil_sets.specs.Counts.{AreWide, one_if};
     ghost use Rattle.cil_sets.specs.Members.{count_in, AreMembers, IsListOf};
 
@@ -112,7 +112,7 @@ impl<A: Allocator + Copy> Members<A> {
     }
 
     /// No members, for so many names.
-    pub(crate) fn none(alloc: A, names: usize) -> Result<Self, AllocError>
+    pub fn none(alloc: A, names: usize) -> Result<Self, AllocError>
         ensures none { IfOk result (λ members. (a t : ℕ) → count_in members a t ≡ 0) }
         ensures len { IfOk result (λ members. length members.rows.items ≡ names) }
         ensures wide { IfOk result (λ members. AreWide names members.rows.items) }
@@ -155,6 +155,29 @@ impl<A: Allocator + Copy> Members<A> {
         self.widen(alloc, attribute)?;
         let row = &mut self.rows[attribute];
         row.add_one(ty);
+        Ok(())
+    }
+
+    /// So many statements make the type a member, and not as many as were counted before.
+    pub fn put(
+        &mut self,
+        alloc: A,
+        attribute: usize,
+        ty: usize,
+        count: u32,
+    ) -> Result<(), AllocError>
+        requires attribute { attribute < length self.old.rows.items }
+        requires ty { ty < length self.old.rows.items }
+        requires wide { AreWide (length self.old.rows.items) self.old.rows.items }
+        requires some { 0 < count }
+        ensures counts { OnOk result ((a t : ℕ) →
+            count_in self.new a t ≡ (if (a == attribute) && (t == ty) then count else count_in self.old a t)) }
+        ensures len { OnOk result (length self.new.rows.items ≡ length self.old.rows.items) }
+        ensures wide { OnOk result (AreWide (length self.new.rows.items) self.new.rows.items) }
+    {
+        self.widen(alloc, attribute)?;
+        let row = &mut self.rows[attribute];
+        row.put(ty, count);
         Ok(())
     }
 }

@@ -129,6 +129,16 @@ impl<A: Allocator> Row<A> {
         set_bit(&mut self.words, column);
     }
 
+    /// A counter comes to a value above 0.
+    pub fn put(&mut self, column: usize, count: u32)
+        requires within { column < length self.old }
+        requires some { 0 < count }
+        ensures { self.new ≡ slice_set self.old column count }
+    {
+        self.counts[column] = count;
+        set_bit(&mut self.words, column);
+    }
+
     /// The first column from one on whose counter is above 0. Words of zeros are skipped.
     pub fn next(&self, from: usize) -> Option<usize>
         ensures { MatchOption result (NoCount self.now from) (IsNextCount self.now from) }

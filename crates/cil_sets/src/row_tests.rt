@@ -83,3 +83,16 @@ fn what_is_behind_a_row(rt: HostRuntime) {
     let none = !row.has(65) && !row.has(128) && row.next(65).is_none() && row.next(1000).is_none();
     assert!(&rt; none);
 }
+
+#[test]
+fn counters_that_are_put(rt: HostRuntime) {
+    let mut row = Row::new(rt.alloc(), 130).expect(&rt, "memory");
+    for column in [0, 63, 64, 129] {
+        if column < row.len() {
+            row.put(column, 3);
+            assert!(&rt; row.has(column));
+        }
+    }
+    let found = row.next(1) == Some(63) && row.next(65) == Some(129) && row.word(1) == 1;
+    assert!(&rt; found);
+}

@@ -4,15 +4,13 @@ use Rattle.std.specs.Result.{is_err}
 use Rattle.std.specs.Rc.{rc_value}
 use Rattle.cil_specs.specs.Dependence.{AreTheSame}
 use Rattle.cil_specs.specs.Meaning.{Meaning, is_in_table}
-use Rattle.cil_specs.specs.Report.{AreAtoms, Changes, AreChanges, Row, AreRows}
+use Rattle.cil_specs.specs.Report.{AreAtoms, Changes, Row, AreRows}
 use Rattle.cil_specs.specs.Violations.{Violation, AreViolations}
 use Rattle.cil_specs.specs.Rule.{Atom, SetStatement}
 use Rattle.cil_specs.proofs.NamesLemmas.{contains-first}
 use Rattle.cil_counters.specs.Counted.{AreSettled, AreTakenBack, IsNow, WasBefore}
 use Rattle.cil_counters.specs.declared.counters.Counters.{Counters}
-use Rattle.cil_counters.proofs.CountedLemmas.{counted-alike}
-use Rattle.cil_member_rows.specs.Rows as member_rows
-use Rattle.cil_symbol_tables.specs.Tables as access_tables
+use Rattle.cil_counters.proofs.CountedLemmas.{back-before, back-now, settled-before, settled-now}
 use Rattle.cil_resolve.specs.declared.resolved.Resolved.{Resolved}
 use Rattle.cil_store_specs.specs.Next.{Edit, IsMeaningOf, changed}
 use Rattle.cil_store_specs.specs.Run.{AreRowsOf, AreViolationsOf}
@@ -26,27 +24,6 @@ use Rattle.cil_store.specs.declared.counted_policy.CountedPolicy.{CountedPolicy}
 pub none-listed : (sets others : List SetStatement) → sets ≡ [] → AreTheSame sets others → length others ≡ 0
 none-listed sets [] none same = refl
 none-listed sets (s ∷ others) none same = let has : Contains [] s = subst (λ xs. Contains xs s) none ((same s).1 (contains-first s others)) in absurd (omega (arith, has.1))
-
-module _ {A B : Type 0} (r : Resolved A) (old new : Counters B) where
-  -- counters that were taken back are those of the policy before the steps
-  pub back-now : WasBefore r old → AreTakenBack old new → IsNow r new
-  back-now was back =
-      counted-alike r old.names new.names (member_rows.count_before old.rows) (member_rows.count_now new.rows) (access_tables.count_before old.tables) (access_tables.count_now new.tables) was back.names back.members back.accesses
-
-  pub back-before : WasBefore r old → AreTakenBack old new → WasBefore r new
-  back-before was back =
-      counted-alike r old.names new.names (member_rows.count_before old.rows) (member_rows.count_before new.rows) (access_tables.count_before old.tables) (access_tables.count_before new.tables) was back.names back.members_before
-      back.accesses_before
-
-  -- counters that are kept are those of the policy now
-  pub settled-now : IsNow r old → AreSettled old new → IsNow r new
-  settled-now is kept =
-      counted-alike r old.names new.names (member_rows.count_now old.rows) (member_rows.count_now new.rows) (access_tables.count_now old.tables) (access_tables.count_now new.tables) is kept.names kept.members kept.accesses
-
-  pub settled-before : IsNow r old → AreSettled old new → WasBefore r new
-  settled-before is kept =
-      counted-alike r old.names new.names (member_rows.count_now old.rows) (member_rows.count_before new.rows) (access_tables.count_now old.tables) (access_tables.count_before new.tables) is kept.names kept.members_before
-      kept.accesses_before
 
 -- what is so of the meaning of what is kept is so of each meaning of the store
 pub of-kept : {A : Type 0} (store : Store) (policy : Option (CountedPolicy A)) (P : Meaning → Type 0) → IsCountedTo store policy → P (meaning_kept policy) → (meaning : Meaning) → IsMeaningOf store meaning → P meaning
@@ -83,13 +60,13 @@ module _ {X E : Type 0} (old new : Store) (edit : Edit) (before now next : Meani
   means-after (Ok x) made is kept same = subst (IsMeaningOf new) (sym is) (subst (λ s. IsMeaningOf s next) (sym made) means)
   means-after (Err e) made is kept same = subst (IsMeaningOf new) (sym same) (subst (λ s. IsMeaningOf s before) (sym kept) meant)
 
-  -- the changes are those between what the store meant and what it means
-  pub changes-after : (changes : X → Changes) (r : Result X E) → OnOk r (new ≡ changed old edit) → IfOk r (λ x. AreChanges (is_in_table before) (is_in_table next) (changes x))
-      → IfOk r (λ x. (m n : Meaning) → IsMeaningOf old m → IsMeaningOf new n → AreChanges (is_in_table m) (is_in_table n) (changes x))
-  changes-after changes (Ok x) made are = λ m n was is.
-      subst (λ y. AreChanges (is_in_table y) (is_in_table n) (changes x)) (meaning-same old before m meant was)
-      (subst (λ y. AreChanges (is_in_table before) (is_in_table y) (changes x)) (meaning-same new next n (subst (λ s. IsMeaningOf s next) (sym made) means) is) are)
-  changes-after changes (Err e) made are = tt
+  -- what is told of the changes is told between what the store meant and what it means
+  pub told-after : (P : Meaning → Meaning → Changes → Type 0) (changes : X → Changes) (r : Result X E) → OnOk r (new ≡ changed old edit) → IfOk r (λ x. P before next (changes x))
+      → IfOk r (λ x. (m n : Meaning) → IsMeaningOf old m → IsMeaningOf new n → P m n (changes x))
+  told-after P changes (Ok x) made are = λ m n was is.
+      subst (λ y. P y n (changes x)) (meaning-same old before m meant was)
+      (subst (λ y. P before y (changes x)) (meaning-same new next n (subst (λ s. IsMeaningOf s next) (sym made) means) is) are)
+  told-after P changes (Err e) made are = tt
 
 pub counted-empty : {A : Type 0} (policy : Option (CountedPolicy A)) → policy ≡ None → IsCountedTo empty policy
 counted-empty policy none = subst (IsCountedTo empty) (sym none) (record { is_meaning = none-meant; is_kept = tt })

@@ -1,7 +1,11 @@
 -- What the engine keeps that changes its counters in place.
 use Rattle.std.specs.Prelude.{◌≡◌, [], Option, Some, None}
 use Rattle.std.specs.Rc.{rc_value}
-use Rattle.cil_specs.specs.Meaning.{Meaning, meaning_of}
+use Rattle.cil_specs.specs.Meaning.{Meaning, is_in_table, meaning_of}
+use Rattle.cil_specs.specs.Report.{AreChanges, Changes}
+use Rattle.cil_delta_specs.specs.Work.{AdjustsFew, EvaluatesFew}
+use Rattle.cil_resolve.specs.Meter.{adjustments_in, evaluations_in}
+use Rattle.cil_resolve.specs.declared.meter.Meter.{Meter}
 use Rattle.cil_resolve.specs.Resolved.{meaning_in}
 use Rattle.cil_counters.specs.Counted.{IsNow, WasBefore}
 use Rattle.cil_store_specs.specs.Next.{IsMeaningOf}
@@ -32,3 +36,18 @@ meaning_kept (Some policy) = counted_meaning policy
 pub record IsCountedTo {A : Type 0} (store : Store) (policy : Option (CountedPolicy A)) : Type 0 where
   pub is_meaning : IsMeaningOf store (meaning_kept policy)
   pub is_kept : IsKeptWhere policy
+
+-- The changes from one meaning to another, with how much a meter counted for them.
+pub record AreCountedChanges (old new : Meaning) (before after : Meter) (changes : Changes) : Type 0 where
+  pub are_changes : AreChanges (is_in_table old) (is_in_table new) changes
+  pub evaluations : EvaluatesFew old new (evaluations_in before) (evaluations_in after)
+  pub adjustments : AdjustsFew old new changes (adjustments_in before) (adjustments_in after)
+
+-- the same from what one store means to what another one does
+abbrev pub AreCountedBetween : Store → Store → Meter → Meter → Changes → Type 0
+AreCountedBetween old new before after changes = (m n : Meaning) → IsMeaningOf old m → IsMeaningOf new n → AreCountedChanges m n before after changes
+
+-- A meter counted nothing more.
+pub record CountsStay (before after : Meter) : Type 0 where
+  pub evaluations : evaluations_in after ≡ evaluations_in before
+  pub adjustments : adjustments_in after ≡ adjustments_in before

@@ -4,12 +4,13 @@ ghost use Rattle.std.specs.Prelude.{◌≡◌, [], IfOk, OnErr, OnOk};
 ghost use Rattle.std.specs.Rc.{rc_value};
 ghost use Rattle.cil_specs.specs.Meaning.{count_of, is_in_table, meaning_of};
 ghost use Rattle.cil_specs.specs.Members.{is_member};
-ghost use Rattle.cil_specs.specs.Report.{AreAtoms, AreChanges};
+ghost use Rattle.cil_specs.specs.Report.{AreAtoms};
 ghost use Rattle.cil_specs.specs.Violations.{AreViolations};
+ghost use Rattle.cil_counters.specs.Counted.{IsNow, WasBefore};
 ghost use Rattle.cil_resolve.specs.Resolved.{meaning_in};
 ghost use Rattle.cil_rules.specs.Atoms.{atom_of};
 ghost use Rattle.cil_store_specs.specs.Next.{changed};
-ghost use Rattle.cil_store.specs.Counted.{counted_meaning, IsKept};
+ghost use Rattle.cil_store.specs.Counted.{counted_meaning, AreCountedChanges, IsKept};
 ghost use Rattle.cil_store.specs.Ready.{ready_edit};
 
 use crate::dropped::Dropped;
@@ -19,8 +20,6 @@ use crate::resolving::resolve_nothing;
 use cil_counters::{Counters, counters_tell_accesses, counters_tell_members};
 use cil_resolve::{Meter, Resolved, resolved_sets_are_in_order};
 use cil_rules::{Atom, Changes, Table};
-use cil_sets::Members;
-use cil_tables::Tables;
 use cil_violations::Violations;
 use std::alloc::{AllocError, Allocator, Global};
 use std::rc::Rc;
@@ -53,6 +52,19 @@ pub struct CountedPolicy<A: Allocator = Global> {
     counters: Counters<A>,
 }
 
+/// The counters of a policy, made anew.
+fn counters_of<A: Allocator + Copy>(
+    alloc: A,
+    policy: &Resolved<A>,
+) -> Result<Counters<A>, AllocError>
+    ensures now { IfOk result (IsNow policy.now) }
+    ensures before { IfOk result (WasBefore policy.now) }
+{
+    let nothing = resolve_nothing(alloc)?;
+    resolved_sets_are_in_order(&nothing);
+    Counters::of(alloc, &nothing, policy)
+}
+
 impl<A: Allocator + Copy> CountedPolicy<A> {
     /// The policy of no statement.
     pub fn empty(alloc: A) -> Result<Self, AllocError>
@@ -70,7 +82,8 @@ impl<A: Allocator + Copy> CountedPolicy<A> {
     }
 
     /// Brings the counters to those of another policy, makes the edit that leads to it, and puts that policy in place of this one. All
-    /// other memory that this needs is taken before, so that an out of memory comes of the counters alone. It leaves all as it was.
+    /// other memory that this needs is taken before, so that an out of memory comes of the counters alone. It leaves all as it was but
+    /// the meter.
     pub fn replace(
         &mut self,
         alloc: A,
@@ -81,7 +94,7 @@ impl<A: Allocator + Copy> CountedPolicy<A> {
     ) -> Result<Changes<A>, AllocError>
         requires { IsKept self.old }
         ensures kept { IsKept self.new }
-        ensures changes { IfOk result (AreChanges (is_in_table (counted_meaning self.old)) (is_in_table (meaning_in (rc_value next.resolved)))) }
+        ensures changes { IfOk result (AreCountedChanges (counted_meaning self.old) (meaning_in (rc_value next.resolved)) meter.old meter.new) }
         ensures store { OnOk result (store.new ≡ changed store.old (ready_edit edit.entry)) }
         ensures meaning { OnOk result (counted_meaning self.new ≡ meaning_in (rc_value next.resolved)) }
         ensures err_store { OnErr result (store.new ≡ store.old) }
@@ -104,13 +117,27 @@ impl<A: Allocator + Copy> CountedPolicy<A> {
         Ok(changes)
     }
 
+    /// Makes the counters anew where most of the names that they have symbols for are out of use, so that they don't grow from edit to
+    /// edit. That takes as long as a load, and comes once in as many edits as bring so many names. Where memory lacks, they stay.
+    pub fn renumber(&mut self, alloc: A)
+        requires { IsKept self.old }
+        ensures kept { IsKept self.new }
+        ensures meaning { counted_meaning self.new ≡ counted_meaning self.old }
+    {
+        if !self.counters.is_sparse(&self.resolved) {
+            return;
+        }
+        if let Ok(counters) = counters_of(alloc, &self.resolved) {
+            self.counters = counters;
+        }
+    }
+
     /// The accesses that its rules give.
     pub fn table(&self, alloc: A) -> Result<Table<A>, AllocError>
+        requires { IsKept self.now }
         ensures { IfOk result (λ table. AreAtoms (is_in_table (counted_meaning self.now)) table) }
     {
-        let members = Members::plain(alloc, &self.resolved)?;
-        let tables = Tables::plain(alloc, &self.resolved, &members)?;
-        Table::of(alloc, &self.resolved, &tables)
+        self.counters.table(alloc, &self.resolved)
     }
 
     /// The optionals that drop.
@@ -123,9 +150,10 @@ impl<A: Allocator + Copy> CountedPolicy<A> {
 
     /// Its violations.
     pub fn violations(&self, alloc: A) -> Result<Violations<A>, AllocError>
+        requires { IsKept self.now }
         ensures { IfOk result (AreViolations (counted_meaning self.now)) }
     {
-        let members = Members::plain(alloc, &self.resolved)?;
+        let members = self.counters.members(alloc, &self.resolved)?;
         Violations::of(alloc, &self.resolved, &members)
     }
 }

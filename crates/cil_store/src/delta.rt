@@ -3,14 +3,13 @@
 ghost use Rattle.std.specs.Prelude.{◌≡◌, ◌⊎◌, IfErr, IfOk, OnErr, OnOk};
 ghost use Rattle.std.specs.Rc.{rc_value};
 ghost use Rattle.cil_specs.specs.Meaning.{Meaning, is_in_table};
-ghost use Rattle.cil_specs.specs.Report.{AreAtoms, AreChanges};
-ghost use Rattle.cil_resolve.specs.Meter.{adjustments_in, evaluations_in};
+ghost use Rattle.cil_specs.specs.Report.{AreAtoms};
 ghost use Rattle.cil_resolve.specs.Resolved.{meaning_in};
 ghost use Rattle.cil_store_specs.specs.Next.{IsMeaningOf, changed, for_memory};
 ghost use Rattle.cil_store_specs.specs.Run.{an_edit, Step};
 ghost use Rattle.cil_store_specs.specs.Store.{empty};
 ghost use Rattle.cil_store.specs.Calls.{edit_reply};
-ghost use Rattle.cil_store.specs.Counted.{counted_meaning, meaning_kept, IsKept, IsKeptWhere};
+ghost use Rattle.cil_store.specs.Counted.{counted_meaning, meaning_kept, AreCountedBetween, CountsStay, IsKept, IsKeptWhere};
 ghost use Rattle.cil_store.specs.Edits.{edit_of, refusal_of};
 ghost use Rattle.cil_store.specs.Ready.{ready_edit};
 
@@ -88,23 +87,26 @@ impl<A: Allocator + Copy> Delta<A> {
     ) -> Result<Changes<A>, AllocError>
         requires { IsMeaningOf (changed self.old (ready_edit edit)) (meaning_in (rc_value next.resolved)) }
         ensures ok { OnOk result (self.new ≡ changed self.old (ready_edit edit.entry)) }
-        ensures changes { IfOk result (λ changes. (old new : Meaning) → IsMeaningOf self.old old → IsMeaningOf self.new new → AreChanges (is_in_table old) (is_in_table new) changes) }
+        ensures changes { IfOk result (AreCountedBetween self.old self.new meter.old meter.new) }
         ensures err { OnErr result (self.new ≡ self.old) }
     {
         let mut policy = take_policy(self.alloc, &mut self.policy)?;
         let changes = policy.replace(self.alloc, &mut self.store, edit, next, meter);
+        policy.renumber(self.alloc);
         self.policy = Some(policy);
         changes
     }
 
-    /// `edit`, which counts in a meter how often set statements are evaluated and counters of accesses adjusted.
+    /// `edit`, which counts in a meter how often set statements are evaluated and counters of accesses adjusted. After an out of memory
+    /// the meter may have counted some.
     pub fn edit_metered(
         &mut self,
         edit: Edit<'_>,
         meter: &mut Meter,
     ) -> Result<Changes<A>, Refusal<A>>
         ensures step { Step self.old (an_edit (edit_of edit.entry)) (edit_reply result) self.new }
-        ensures uncounted { IfErr result (λ refusal. (refusal_of refusal ≡ for_memory) ⊎ ((evaluations_in meter.new ≡ evaluations_in meter.old) × (adjustments_in meter.new ≡ adjustments_in meter.old))) }
+        ensures counted { IfOk result (AreCountedBetween self.old self.new meter.old meter.new) }
+        ensures uncounted { IfErr result (λ refusal. (refusal_of refusal ≡ for_memory) ⊎ CountsStay meter.old meter.new) }
     {
         let admitted = admit(self.alloc, &self.store, edit)?;
         let resolved = resolve_after(self.alloc, &self.store, &admitted)?;

@@ -77,6 +77,7 @@ impl<A: Allocator + Copy> StoredEntry<A> {
 impl<A: Allocator> StoredEntry<A> {
     ghost use Rattle.cil_store.specs.Stored.{entry_of};
 
+    /// The entry, borrowed.
     pub fn as_entry(&self) -> Entry<'_>
         ensures { entry_of result ≡ self.now }
     {

@@ -1,3 +1,4 @@
 pub mod SumLemmas
 pub mod PairLemmas
 pub mod RiseLemmas
+pub mod WithinLemmas

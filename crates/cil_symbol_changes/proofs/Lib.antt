@@ -1,2 +1,3 @@
 pub mod GainedLemmas
 pub mod ChangeLemmas
+pub mod PresentLemmas

@@ -39,3 +39,15 @@ pub record IsNewOf (numbers : List ℕ) (kind : RuleKind) (was is : SymbolKey �
 -- the same of some kind
 abbrev pub IsNew : List ℕ → (RuleKind → SymbolKey → ℕ → ℕ) → (RuleKind → SymbolKey → ℕ → ℕ) → AccessNumbers → Type 0
 IsNew numbers was is a = (kind : RuleKind) × IsNewOf numbers kind (was kind) (is kind) a
+
+-- the symbols of each counter that is above 0 have numbers
+abbrev pub ArePresentNumbered : List ℕ → (RuleKind → SymbolKey → ℕ → ℕ) → Type 0
+ArePresentNumbered numbers counts = (kind : RuleKind) (key : SymbolKey) (t : ℕ) → 0 < counts kind key t → IsNumbered numbers key t
+
+-- an access of a kind, by numbers, whose counter is above 0: it is new where nothing was
+abbrev pub IsPresentOf : List ℕ → RuleKind → (SymbolKey → ℕ → ℕ) → AccessNumbers → Type 0
+IsPresentOf numbers kind counts = IsNewOf numbers kind (λ key t. 0) counts
+
+-- the same of some kind
+abbrev pub IsPresent : List ℕ → (RuleKind → SymbolKey → ℕ → ℕ) → AccessNumbers → Type 0
+IsPresent numbers counts = IsNew numbers (λ kind key t. 0) counts

@@ -7,7 +7,7 @@ ghost use Rattle.cil_rule_shifts.specs.Reach.{gives, is_present, one_if, reaches
 ghost use Rattle.cil_symbol_tables.specs.Tables.{count_now};
 ghost use Rattle.cil_symbol_changes.specs.Numbered.{AreNumbered};
 
-use crate::changes;
+use crate::{accesses, changes};
 use cil_accesses::{AccessNumbers, Accesses};
 use cil_lines::Line;
 use cil_rule_shifts::{Reach, Targets};
@@ -145,6 +145,20 @@ fn assert_changes(
     assert_listed(rt, &found.removed, removed);
 }
 
+// Asserts that these accesses stand in the tables, in their order.
+fn assert_present(
+    rt: &impl Abort,
+    alloc: Global,
+    numbers: &[u32],
+    tables: &SymbolTables,
+    present: &[AccessNumbers],
+)
+    requires { AreNumbered numbers.now tables.now }
+{
+    let found = accesses(alloc, tables, numbers).expect(rt, "memory");
+    assert_listed(rt, &found, present);
+}
+
 // Asserts that these are the accesses.
 fn assert_listed(rt: &impl Abort, accesses: &Accesses, listed: &[AccessNumbers]) {
     assert!(rt; accesses.len() == listed.len() as u128);
@@ -246,4 +260,41 @@ fn kinds_stand_in_their_order(rt: HostRuntime) {
         &KINDS.map(|kind| access(kind, 127)),
         &[],
     );
+}
+
+#[test]
+fn accesses_stand_while_a_rule_gives_them(rt: HostRuntime) {
+    let alloc = rt.alloc();
+    let numbers = numbers(&rt, alloc);
+    for kind in KINDS {
+        let mut tables = SymbolTables::new(alloc);
+        assert_present(&rt, alloc, &numbers, &tables, &[]);
+        let first = rule(&rt, alloc, &[5, 63]);
+        let second = rule(&rt, alloc, &[63, 64, 130]);
+        add(&rt, alloc, &numbers, &mut tables, kind, &first);
+        settle(&numbers, &mut tables);
+        add(&rt, alloc, &numbers, &mut tables, kind, &second);
+        let all = [
+            access(kind, 61),
+            access(kind, 127),
+            access(kind, 128),
+            access(kind, 186),
+        ];
+        assert_present(&rt, alloc, &numbers, &tables, &all);
+        take(&rt, alloc, &numbers, &mut tables, kind, &first);
+        assert_present(&rt, alloc, &numbers, &tables, &all[..3]);
+    }
+}
+
+#[test]
+fn standing_kinds_are_in_their_order(rt: HostRuntime) {
+    let alloc = rt.alloc();
+    let numbers = numbers(&rt, alloc);
+    let mut tables = SymbolTables::new(alloc);
+    let rule = rule(&rt, alloc, &[64]);
+    let (allow, never) = (RuleKind::Allow, RuleKind::NeverAllow);
+    add(&rt, alloc, &numbers, &mut tables, never, &rule);
+    add(&rt, alloc, &numbers, &mut tables, allow, &rule);
+    let present = [access(allow, 127), access(never, 127)];
+    assert_present(&rt, alloc, &numbers, &tables, &present);
 }

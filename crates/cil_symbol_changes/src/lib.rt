@@ -1,10 +1,14 @@
-//! Which accesses appeared and which went in access tables changed in steps, by numbers that the caller gives the symbols.
+//! Which accesses stand in access tables changed in steps, which appeared and which went, by numbers that the caller gives the symbols.
 #![tactic(auto)]
 
 mod access_changes;
 #[cfg(test)]
 mod change_tests;
 mod changed_chunks;
+mod present_accesses;
+mod present_chunks;
+mod source_order;
 mod targets;
 
 pub use access_changes::{AccessChanges, changes};
+pub use present_accesses::accesses;

@@ -22,7 +22,7 @@ loop-i-preserved-in_default g c = record {
       let count = c.len-i-end.ensures policy is in
       let less : c.loop-i.i < length policy = omega (arith, count) in
       let (t, at) = there-at policy c.loop-i.i less in
-      let led = subst (λ found. IsLead classes policy found (given_lead Common policy t)) c.in_default.is (c.lead.ensures policy t (c.seen-seen.ensures.seen policy t is at)) in
+      let led = subst (λ found. IsLead classes policy found (given_lead Common policy t)) c.in_default.is (c.lead_at.ensures policy t is at) in
       no-class-stay policy c.loop-i.i t c.loop-i.inherited at led (c.loop-i.invariant.noted policy is);
 }
 
@@ -34,7 +34,7 @@ loop-i-preserved-in_default-lead g c = record {
       let less : c.loop-i.i < length policy = omega (arith, count) in
       let (t, at) = there-at policy c.loop-i.i less in
       let seen = c.seen-seen.ensures.seen policy t is at in
-      let led = subst (λ found. IsLead commons policy found (common_lead policy t)) (sym c.in_default-lead.ensures) (common-led c.seen-seen.result policy t c.in-Some.class seen (c.in-Some.ensures policy t seen)) in
+      let led = subst (λ found. IsLead commons policy found (common_lead policy t)) (sym c.in_default-lead.ensures) (common-led c.seen-seen.result policy t c.in-Some.class seen (c.in-Some.ensures policy t is at)) in
       no-common-stay policy c.loop-i.i t c.loop-i.inherited at led (c.loop-i.invariant.noted policy is);
 }
 
@@ -46,8 +46,8 @@ loop-i-preserved g c = record {
       let less : c.loop-i.i < length policy = omega (arith, count) in
       let (t, at) = there-at policy c.loop-i.i less in
       let seen = c.seen-seen.ensures.seen policy t is at in
-      let led = subst (λ found. IsLead commons policy found (common_lead policy t)) (sym c.in-Some-lead.ensures) (common-led c.seen-seen.result policy t c.in-Some.class seen (c.in-Some.ensures policy t seen)) in
-      inherited-next policy c.loop-i.i t c.in-Some.class c.in-Some-lead.common c.loop-i.inherited c.insert.new.self at (c.in-Some.ensures policy t seen) led c.in_ok-insert.ensures.listed
+      let led = subst (λ found. IsLead commons policy found (common_lead policy t)) (sym c.in-Some-lead.ensures) (common-led c.seen-seen.result policy t c.in-Some.class seen (c.in-Some.ensures policy t is at)) in
+      inherited-next policy c.loop-i.i t c.in-Some.class c.in-Some-lead.common c.loop-i.inherited c.insert.new.self at (c.in-Some.ensures policy t is at) led c.in_ok-insert.ensures.listed
       (c.loop-i.invariant.noted policy is);
 }
 

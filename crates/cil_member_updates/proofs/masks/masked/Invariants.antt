@@ -1,7 +1,9 @@
-use Rattle.std.proofs.Common.{◌≡◌}
-use Rattle.cil_resolve.specs.Meter.{adjustments_in}
+use Rattle.std.proofs.Common.{◌≡◌, ◌==◌}
+use Rattle.std.specs.Int.{bit_at}
+use Rattle.cil_resolve.specs.Meter.{adjustments_in, evaluations_in}
 use Rattle.cil_resolve.specs.Resolved.{meaning_in}
 use Rattle.cil_sets.specs.Places.{set_at}
+use Rattle.cil_sums.specs.Rises.{up_to, RisesBy}
 use Rattle.cil_member_updates.specs.Given.{holds}
 use Rattle.cil_member_updates.proofs.BitLemmas.{HeldBelow}
 use Rattle.cil_member_updates.proofs.masks.masked.Given as goal
@@ -11,5 +13,6 @@ abbrev pub invariant-loop-b : goal.invariant-loop-b
 invariant-loop-b g l =
     record {
       held : HeldBelow l.visits (holds l.symbols (meaning_in l.side.resolved.now) (set_at l.side.resolved.now l.i)) l.word l.b l.mask;
+      evaluations : RisesBy (up_to (λ k. bit_at l.kept k == 1) l.b) (evaluations_in l.fn.meter) (evaluations_in l.meter);
       adjustments : adjustments_in l.meter ≡ adjustments_in l.fn.meter;
     }

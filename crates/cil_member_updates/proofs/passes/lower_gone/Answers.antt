@@ -1,9 +1,12 @@
-use Rattle.std.proofs.Common.{◌≡◌, ◌∙◌, length, refl, ap, arith}
+use Rattle.std.proofs.Common.{◌≡◌, ◌∙◌, length, refl, ap, subst, arith}
 use Rattle.cil_member_rows.specs.Rows.{count_before, count_now}
+use Rattle.cil_resolve.specs.Meter.{evaluations_in}
 use Rattle.cil_resolve.specs.Sets.{sets_in}
 use Rattle.cil_sets.specs.Places.{set_at}
 use Rattle.cil_sums.specs.Sums.{sum_below}
 use Rattle.cil_sums.proofs.SumLemmas.{sum-none}
+use Rattle.cil_sums.proofs.WithinLemmas.{within-first, within-next}
+use Rattle.cil_member_updates.specs.Evaluated.{EvaluatesGone, Goes, MayGo}
 use Rattle.cil_member_updates.specs.Passes.{given_by, gone}
 use Rattle.cil_member_updates.proofs.PassLemmas.{gone-counted, gone-more}
 use Rattle.cil_member_updates.proofs.SideLemmas.{counts-members, counts-sum}
@@ -17,6 +20,7 @@ loop-i-init g c = record {
       omega (arith, start, none);
   before = λ a t. refl;
   rows = refl;
+  evaluations = within-first (MayGo c.args.symbols.now c.args.old.now.resolved.now c.args.matching.now) (Goes c.args.symbols.now c.args.old.now.resolved.now c.args.matching.now) (evaluations_in c.args.meter.now);
   adjustments = refl;
 }
 
@@ -40,6 +44,8 @@ loop-i-preserved g c =
           gone-more (given_by c.args.symbols.now r a t) (length (sets_in r)) c.args.matching.now.ahead (count_now c.loop-i.rows a t) (count_now c.lower_gone_set.new.rows a t) c.loop-i.i (c.loop-i.invariant.now a t) (step.now a t);
       before = λ a t. step.before a t ∙ c.loop-i.invariant.before a t;
       rows = step.rows ∙ c.loop-i.invariant.rows;
+      evaluations = within-next (MayGo c.args.symbols.now r c.args.matching.now) (Goes c.args.symbols.now r c.args.matching.now) c.loop-i.i (evaluations_in c.args.meter.now) (evaluations_in c.loop-i.meter)
+          (evaluations_in c.lower_gone_set.new.meter) c.loop-i.invariant.evaluations step.evaluations;
       adjustments = step.adjustments ∙ c.loop-i.invariant.adjustments;
     }
 
@@ -53,3 +59,12 @@ returns-clause-now g c a t =
     let now = c.loop-i.invariant.now a t in
     let same = ap (sum_below (gone c.args.symbols.now r c.args.matching.now a t)) last in
     omega (arith, now, same)
+
+pub returns-clause-evaluations : goal.returns-clause-evaluations
+returns-clause-evaluations g c =
+    let r = c.args.old.now.resolved.now in
+    let end = c.loop-i-test.false in
+    let within = c.loop-i.auto.i-end in
+    let all = c.sets_len-i-end.ensures in
+    let last : c.loop-i.i ≡ length (sets_in r) = omega (arith, end, within, all) in
+    subst (λ n. EvaluatesGone c.args.symbols.now r c.args.matching.now n (evaluations_in c.args.meter.now) (evaluations_in c.loop-i.meter)) last c.loop-i.invariant.evaluations

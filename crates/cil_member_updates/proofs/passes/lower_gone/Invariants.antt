@@ -1,8 +1,9 @@
 use Rattle.std.proofs.Common.{◌≡◌, ◌+◌, ℕ, length}
 use Rattle.cil_member_rows.specs.Rows.{count_before, count_now, rows_in}
-use Rattle.cil_resolve.specs.Meter.{adjustments_in}
+use Rattle.cil_resolve.specs.Meter.{adjustments_in, evaluations_in}
 use Rattle.cil_resolve.specs.Sets.{sets_in}
 use Rattle.cil_sums.specs.Sums.{sum_below}
+use Rattle.cil_member_updates.specs.Evaluated.{EvaluatesGone}
 use Rattle.cil_member_updates.specs.Passes.{gone, given_by}
 use Rattle.cil_member_updates.proofs.passes.lower_gone.Given as goal
 
@@ -13,5 +14,6 @@ invariant-loop-i g l =
       now : (a t : ℕ) → count_now l.rows a t + sum_below (gone l.symbols l.old.resolved.now l.matching a t) l.i ≡ sum_below (given_by l.symbols l.old.resolved.now a t) (length (sets_in l.old.resolved.now));
       before : (a t : ℕ) → count_before l.rows a t ≡ count_before l.fn.rows a t;
       rows : rows_in l.rows ≡ rows_in l.fn.rows;
+      evaluations : EvaluatesGone l.symbols l.old.resolved.now l.matching l.i (evaluations_in l.fn.meter) (evaluations_in l.meter);
       adjustments : adjustments_in l.meter ≡ adjustments_in l.fn.meter;
     }

@@ -2,7 +2,12 @@ use Rattle.std.proofs.Common.{refl, arith}
 use Rattle.std.proofs.lemmas.Option.{none-some}
 use Rattle.std.proofs.lemmas.Result.{on_ok_weaker}
 use Rattle.cil_member_rows.specs.Rows.{count_now}
+use Rattle.cil_resolve.specs.Meter.{evaluations_in}
+use Rattle.cil_resolve.specs.Resolved.{meaning_in}
+use Rattle.cil_sets.specs.Places.{set_at}
 use Rattle.cil_sums.proofs.SumLemmas.{alone-none, alone-some}
+use Rattle.cil_sums.proofs.WithinLemmas.{within-none, within-weaker}
+use Rattle.cil_member_updates.specs.Evaluated.{Goes, IsHeld, IsKept, MayGo}
 use Rattle.cil_member_updates.specs.Moved.{nothing, AreMoved}
 use Rattle.cil_member_updates.specs.Passes.{given_by}
 use Rattle.cil_member_updates.specs.Policy.{given}
@@ -27,3 +32,16 @@ returns-in-None-clause-now g c =
     let step = moved a t in
     omega (arith, all, step))
     c.lower_set.ensures.now
+
+pub returns-in-Some-clause-evaluations : goal.returns-in-Some-clause-evaluations
+returns-in-Some-clause-evaluations g c =
+    within-none (MayGo c.args.symbols.now c.args.old.now.resolved.now c.args.matching.now c.args.i) (Goes c.args.symbols.now c.args.old.now.resolved.now c.args.matching.now c.args.i) (evaluations_in c.args.meter.now)
+    (λ t goes. goes.0 c.in-Some.field-0 ((c.in-Some.ensures c.in-Some.field-0).0 refl))
+
+pub returns-in-None-clause-evaluations : goal.returns-in-None-clause-evaluations
+returns-in-None-clause-evaluations g c =
+    let r = c.args.old.now.resolved.now in
+    on_ok_weaker c.lower_set.result
+    (within-weaker (IsKept c.args.symbols.now (meaning_in r)) (IsHeld c.args.symbols.now (meaning_in r) (set_at r c.args.i)) (MayGo c.args.symbols.now r c.args.matching.now c.args.i) (Goes c.args.symbols.now r c.args.matching.now c.args.i)
+    (evaluations_in c.args.meter.now) (evaluations_in c.lower_set.new.meter) (λ t kept. (λ j at. none-some j ((c.in-None.ensures j).1 at), kept)) (λ t goes. goes.1))
+    c.lower_set.ensures.evaluations

@@ -1,8 +1,11 @@
-use Rattle.std.proofs.Common.{◌≡◌, ◌∙◌, length, refl, ap, arith}
+use Rattle.std.proofs.Common.{◌≡◌, ◌∙◌, length, refl, ap, subst, arith}
 use Rattle.cil_member_rows.specs.Rows.{count_now}
+use Rattle.cil_resolve.specs.Meter.{evaluations_in}
 use Rattle.cil_resolve.specs.Sets.{sets_in}
 use Rattle.cil_sums.specs.Sums.{sum_below}
 use Rattle.cil_sums.proofs.SumLemmas.{sum-none}
+use Rattle.cil_sums.proofs.WithinLemmas.{within-first, within-next}
+use Rattle.cil_member_updates.specs.Evaluated.{Comes, EvaluatesNew, MayTurn}
 use Rattle.cil_member_updates.specs.Passes.{given_by, stayed}
 use Rattle.cil_member_updates.proofs.PassLemmas.{renewed-more, stayed-counted}
 use Rattle.cil_member_updates.proofs.SideLemmas.{renewed-tell, sum-counts}
@@ -17,6 +20,7 @@ loop-j-init g c = record {
       omega (arith, start, none_was, none_is);
   before = λ a t. refl;
   rows = refl;
+  evaluations = within-first (MayTurn c.args.symbols.now c.args.old.now.resolved.now c.args.new.now.resolved.now c.args.matching.now) (Comes c.args.symbols.now c.args.old.now.resolved.now c.args.new.now.resolved.now c.args.matching.now) (evaluations_in c.args.meter.now);
   adjustments = refl;
 }
 
@@ -42,6 +46,9 @@ loop-j-preserved g c =
           (count_now c.renew_set.new.rows a t) c.loop-j.j (c.loop-j.invariant.now a t) (step.now a t);
       before = λ a t. step.before a t ∙ c.loop-j.invariant.before a t;
       rows = step.rows ∙ c.loop-j.invariant.rows;
+      evaluations = within-next (MayTurn c.args.symbols.now c.args.old.now.resolved.now c.args.new.now.resolved.now c.args.matching.now)
+          (Comes c.args.symbols.now c.args.old.now.resolved.now c.args.new.now.resolved.now c.args.matching.now) c.loop-j.j (evaluations_in c.args.meter.now) (evaluations_in c.loop-j.meter)
+          (evaluations_in c.renew_set.new.meter) c.loop-j.invariant.evaluations step.evaluations;
       adjustments = step.adjustments ∙ c.loop-j.invariant.adjustments;
     }
 
@@ -58,3 +65,12 @@ returns-clause-now g c =
     let same_was = ap (sum_below (stayed c.args.symbols.now c.args.old.now.resolved.now c.args.matching.now a t)) last in
     let same_is = ap (sum_below (given_by c.args.symbols.now r a t)) last in
     omega (arith, now, same_was, same_is))
+
+pub returns-clause-evaluations : goal.returns-clause-evaluations
+returns-clause-evaluations g c =
+    let r = c.args.new.now.resolved.now in
+    let end = c.loop-j-test.false in
+    let within = c.loop-j.auto.j-end in
+    let all = c.sets_len-j-end.ensures in
+    let last : c.loop-j.j ≡ length (sets_in r) = omega (arith, end, within, all) in
+    subst (λ n. EvaluatesNew c.args.symbols.now c.args.old.now.resolved.now c.args.new.now.resolved.now c.args.matching.now n (evaluations_in c.args.meter.now) (evaluations_in c.loop-j.meter)) last c.loop-j.invariant.evaluations

@@ -1,8 +1,9 @@
 use Rattle.std.proofs.Common.{◌≡◌, ◌+◌, ℕ, length}
 use Rattle.cil_member_rows.specs.Rows.{count_before, count_now, rows_in}
-use Rattle.cil_resolve.specs.Meter.{adjustments_in}
+use Rattle.cil_resolve.specs.Meter.{adjustments_in, evaluations_in}
 use Rattle.cil_resolve.specs.Sets.{sets_in}
 use Rattle.cil_sums.specs.Sums.{sum_below}
+use Rattle.cil_member_updates.specs.Evaluated.{EvaluatesNew}
 use Rattle.cil_member_updates.specs.Passes.{given_by, stayed}
 use Rattle.cil_member_updates.proofs.passes.renew.Given as goal
 
@@ -14,5 +15,6 @@ invariant-loop-j g l =
           ≡ sum_below (given_by l.symbols l.new.resolved.now a t) l.j + sum_below (stayed l.symbols l.old.resolved.now l.matching a t) (length (sets_in l.new.resolved.now));
       before : (a t : ℕ) → count_before l.rows a t ≡ count_before l.fn.rows a t;
       rows : rows_in l.rows ≡ rows_in l.fn.rows;
+      evaluations : EvaluatesNew l.symbols l.old.resolved.now l.new.resolved.now l.matching l.j (evaluations_in l.fn.meter) (evaluations_in l.meter);
       adjustments : adjustments_in l.meter ≡ adjustments_in l.fn.meter;
     }

@@ -1,14 +1,19 @@
-use Rattle.std.proofs.Common.{refl, arith}
+use Rattle.std.proofs.Common.{refl, inl, inr, arith}
 use Rattle.std.proofs.lemmas.Option.{none-some}
 use Rattle.std.proofs.lemmas.Result.{on_ok_weaker}
 use Rattle.cil_member_rows.specs.Rows.{count_before, count_now}
+use Rattle.cil_resolve.specs.Meter.{evaluations_in}
+use Rattle.cil_resolve.specs.Resolved.{meaning_in}
 use Rattle.cil_resolve.specs.Sets.{sets_in}
 use Rattle.cil_sets.specs.Places.{no_set, set_at}
 use Rattle.cil_sums.proofs.SumLemmas.{across-none, across-some}
+use Rattle.cil_sums.proofs.WithinLemmas.{within-weaker}
+use Rattle.cil_member_updates.specs.Evaluated.{Comes, IsHeld, IsKept, IsMovedAt, IsUnsettled, MayTurn}
 use Rattle.cil_member_updates.specs.Moved.{nothing, AreMoved}
 use Rattle.cil_member_updates.specs.Passes.{given_by}
 use Rattle.cil_member_updates.specs.Policy.{given}
-use Rattle.cil_member_updates.proofs.RenewLemmas.{same-at}
+use Rattle.cil_member_updates.proofs.ComesLemmas.{comes-held, comes-moved}
+use Rattle.cil_member_updates.proofs.RenewLemmas.{same-at, same-attribute}
 use Rattle.cil_member_updates.proofs.SideLemmas.{counts-members}
 use Rattle.cil_member_updates.proofs.passes.renew_set.Goals as goal
 
@@ -48,3 +53,24 @@ returns-in-None-clause-now g c =
     let step = moved a t in
     omega (arith, none, step))
     c.raise_set.ensures.now
+
+pub returns-in-Some-clause-evaluations : goal.returns-in-Some-clause-evaluations
+returns-in-Some-clause-evaluations g c =
+    let p = c.args.old.now.resolved.now in
+    let q = c.args.new.now.resolved.now in
+    let i = c.in-Some.i in
+    let place = (c.in-Some.ensures i).0 refl in
+    on_ok_weaker c.move_set.result
+    (within-weaker (IsUnsettled c.args.symbols.now (meaning_in p) (meaning_in q) (set_at q c.args.j)) (IsMovedAt c.args.symbols.now (meaning_in p) (set_at p i) (meaning_in q) (set_at q c.args.j)) (MayTurn c.args.symbols.now c.args.old.now.resolved.now c.args.new.now.resolved.now c.args.matching.now c.args.j) (Comes c.args.symbols.now c.args.old.now.resolved.now c.args.new.now.resolved.now c.args.matching.now c.args.j)
+    (evaluations_in c.args.meter.now) (evaluations_in c.move_set.new.meter) (λ t unsettled. inr (i, place, unsettled))
+    (λ t comes. comes-moved c.args.symbols.now p q c.args.matching.now i c.args.j place (same-attribute (set_at p i) (set_at q c.args.j) (same-at (sets_in p) (sets_in q) no_set i c.args.j ((c.requires.matched.back i c.args.j).0 place)).2) t comes))
+    c.move_set.ensures.evaluations
+
+pub returns-in-None-clause-evaluations : goal.returns-in-None-clause-evaluations
+returns-in-None-clause-evaluations g c =
+    let q = c.args.new.now.resolved.now in
+    on_ok_weaker c.raise_set.result
+    (within-weaker (IsKept c.args.symbols.now (meaning_in q)) (IsHeld c.args.symbols.now (meaning_in q) (set_at q c.args.j)) (MayTurn c.args.symbols.now c.args.old.now.resolved.now c.args.new.now.resolved.now c.args.matching.now c.args.j) (Comes c.args.symbols.now c.args.old.now.resolved.now c.args.new.now.resolved.now c.args.matching.now c.args.j)
+    (evaluations_in c.args.meter.now) (evaluations_in c.raise_set.new.meter) (λ t kept. inl (λ i at. none-some i ((c.in-None.ensures i).1 at), kept))
+    (λ t comes. comes-held c.args.symbols.now c.args.old.now.resolved.now c.args.new.now.resolved.now c.args.matching.now c.args.j t comes))
+    c.raise_set.ensures.evaluations

@@ -1,8 +1,13 @@
 use Rattle.std.proofs.Common.{◌≡◌, ℕ}
 use Rattle.cil_member_rows.specs.Rows.{count_before, count_now, rows_in}
-use Rattle.cil_resolve.specs.Meter.{adjustments_in}
+use Rattle.cil_resolve.specs.Meter.{adjustments_in, evaluations_in}
+use Rattle.cil_resolve.specs.Resolved.{meaning_in}
+use Rattle.cil_sets.specs.Places.{set_at}
+use Rattle.cil_sums.specs.Rises.{RisesWithin}
 use Rattle.cil_member_updates.specs.Moved.{nothing}
+use Rattle.cil_member_updates.specs.Evaluated.{IsHeld, IsKept}
 use Rattle.cil_member_updates.specs.Policy.{given}
+use Rattle.cil_member_updates.proofs.EvaluatedLemmas.{Beneath}
 use Rattle.cil_member_updates.proofs.MovedLemmas.{MovedBelow}
 use Rattle.cil_member_updates.proofs.sets.lower_set.Given as goal
 
@@ -13,5 +18,6 @@ invariant-loop-word g l =
       moved : MovedBelow l.word (given l.symbols l.old.resolved.now l.i) nothing (count_now l.fn.rows) (count_now l.rows);
       before : (a t : ℕ) → count_before l.rows a t ≡ count_before l.fn.rows a t;
       rows : rows_in l.rows ≡ rows_in l.fn.rows;
+      evaluations : RisesWithin (Beneath l.word (IsKept l.symbols (meaning_in l.old.resolved.now))) (Beneath l.word (IsHeld l.symbols (meaning_in l.old.resolved.now) (set_at l.old.resolved.now l.i))) (evaluations_in l.fn.meter) (evaluations_in l.meter);
       adjustments : adjustments_in l.meter ≡ adjustments_in l.fn.meter;
     }

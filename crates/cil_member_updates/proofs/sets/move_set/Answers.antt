@@ -1,8 +1,11 @@
 use Rattle.std.proofs.Common.{◌∙◌, ◌≤◌, length, refl, sym, arith}
 use Rattle.cil_member_rows.specs.Rows.{count_before, count_now}
+use Rattle.cil_resolve.specs.Meter.{evaluations_in}
 use Rattle.cil_resolve.specs.Resolved.{meaning_in}
 use Rattle.cil_sets.specs.Places.{set_at}
+use Rattle.cil_member_updates.specs.Evaluated.{IsMovedAt, IsUnsettled}
 use Rattle.cil_member_updates.specs.Policy.{given}
+use Rattle.cil_member_updates.proofs.EvaluatedLemmas.{moved-within, words-all, words-first, words-next}
 use Rattle.cil_member_updates.proofs.GivenLemmas.{tell-same}
 use Rattle.cil_member_updates.proofs.MovedLemmas.{moved-none, moved-more, moved-all, moved-other}
 use Rattle.cil_member_updates.proofs.SideLemmas.{gave-mentioned, given-mentioned, given-past}
@@ -31,15 +34,25 @@ move_word-requires-clause-above g c a t here =
     omega (arith, same, above)
 
 pub loop-word-init : goal.loop-word-init
-loop-word-init g c = record {
-  moved = moved-none (given c.args.symbols.now c.args.old.now.resolved.now c.args.i) (given c.args.symbols.now c.args.new.now.resolved.now c.args.j) (count_now c.args.rows.now);
-  before = λ a t. refl;
-  rows = refl;
-  adjustments = refl;
-}
+loop-word-init g c =
+    let p = c.args.old.now.resolved.now in
+    let q = c.args.new.now.resolved.now in
+    let may = IsUnsettled c.args.symbols.now (meaning_in p) (meaning_in q) (set_at q c.args.j) in
+    let must = IsMovedAt c.args.symbols.now (meaning_in p) (set_at p c.args.i) (meaning_in q) (set_at q c.args.j) in
+    record {
+      moved = moved-none (given c.args.symbols.now c.args.old.now.resolved.now c.args.i) (given c.args.symbols.now c.args.new.now.resolved.now c.args.j) (count_now c.args.rows.now);
+      before = λ a t. refl;
+      rows = refl;
+      evaluations = words-first may must (evaluations_in c.args.meter.now);
+      adjustments = refl;
+    }
 
 pub loop-word-preserved : goal.loop-word-preserved
 loop-word-preserved g c =
+    let p = c.args.old.now.resolved.now in
+    let q = c.args.new.now.resolved.now in
+    let may = IsUnsettled c.args.symbols.now (meaning_in p) (meaning_in q) (set_at q c.args.j) in
+    let must = IsMovedAt c.args.symbols.now (meaning_in p) (set_at p c.args.i) (meaning_in q) (set_at q c.args.j) in
     let step = c.in_ok-move_word.ensures in
     record {
       moved =
@@ -47,6 +60,7 @@ loop-word-preserved g c =
           c.loop-word.invariant.moved step.now;
       before = λ a t. step.before a t ∙ c.loop-word.invariant.before a t;
       rows = step.rows ∙ c.loop-word.invariant.rows;
+      evaluations = words-next may must c.loop-word.word (evaluations_in c.args.meter.now) (evaluations_in c.loop-word.meter) (evaluations_in c.move_word.new.meter) c.loop-word.invariant.evaluations step.evaluations;
       adjustments = step.adjustments ∙ c.loop-word.invariant.adjustments;
     }
 
@@ -56,3 +70,12 @@ returns-clause-now g c =
     (λ a t past.
     let behind : length c.args.symbols.now ≤ t = (let end = c.loop-word-test.false in let len = c.len.ensures.len in omega (arith, past, end, len)) in
     given-past c.args.symbols.now c.args.old.now.resolved.now c.args.i a t behind ∙ sym (given-past c.args.symbols.now c.args.new.now.resolved.now c.args.j a t behind))
+
+pub returns-clause-evaluations : goal.returns-clause-evaluations
+returns-clause-evaluations g c =
+    let p = c.args.old.now.resolved.now in
+    let q = c.args.new.now.resolved.now in
+    let may = IsUnsettled c.args.symbols.now (meaning_in p) (meaning_in q) (set_at q c.args.j) in
+    let must = IsMovedAt c.args.symbols.now (meaning_in p) (set_at p c.args.i) (meaning_in q) (set_at q c.args.j) in
+    words-all may must c.loop-word.word (evaluations_in c.args.meter.now) (evaluations_in c.loop-word.meter)
+    (λ t held. let low = moved-within c.args.symbols.now (meaning_in p) (meaning_in q) (set_at p c.args.i) (set_at q c.args.j) t held in let end = c.loop-word-test.false in let len = c.len.ensures.len in omega (arith, low, end, len)) c.loop-word.invariant.evaluations

@@ -3,9 +3,13 @@ use Rattle.cil_expression.specs.declared.expression.Element.TheVariants.{«Type�
 use Rattle.cil_member_rows.specs.Rows.{count_before, count_now}
 use Rattle.cil_resolve.specs.Numbers.{element_of}
 use Rattle.cil_member_updates.specs.Given.{IsUnchanged}
+use Rattle.cil_member_updates.proofs.TurnedLemmas.{TurnedBelow}
 use Rattle.cil_member_updates.proofs.visits.changed_by_names.Given as goal
 
--- nothing changed of the names so far
+-- nothing changed of the names so far where no bit is, and something where one is
 abbrev pub invariant-loop-k : goal.invariant-loop-k
 invariant-loop-k g l =
-    (m : ℕ) → m < l.k → IsUnchanged l.symbols (count_before l.rows) (count_now l.rows) (element_of l.side.resolved.now.names.items (get_or l.names m («Type» 0))) l.word l.bits
+    record {
+      unchanged : (m : ℕ) → m < l.k → IsUnchanged l.symbols (count_before l.rows) (count_now l.rows) (element_of l.side.resolved.now.names.items (get_or l.names m («Type» 0))) l.word l.bits;
+      turned : TurnedBelow l.symbols (count_before l.rows) (count_now l.rows) (λ m. element_of l.side.resolved.now.names.items (get_or l.names m («Type» 0))) l.k l.word l.bits;
+    }

@@ -1,12 +1,16 @@
-use Rattle.std.proofs.Common.{refl, arith}
+use Rattle.std.proofs.Common.{refl, arith, slice_index}
 use Rattle.std.proofs.lemmas.Option.{slice_get_within}
 use Rattle.std.proofs.lemmas.Result.{on_ok_weaker}
 use Rattle.cil_member_rows.specs.Rows.{count_now}
+use Rattle.cil_resolve.specs.Meter.{evaluations_in}
 use Rattle.cil_resolve.specs.Resolved.{meaning_in}
 use Rattle.cil_sets.specs.Places.{set_at}
-use Rattle.cil_member_updates.specs.Given.{holds}
+use Rattle.cil_member_updates.specs.Evaluated.{IsKept}
+use Rattle.cil_member_updates.specs.Given.{holds, keeps}
 use Rattle.cil_member_updates.specs.Policy.{given}
 use Rattle.cil_member_updates.proofs.BitLemmas.{held-zero}
+use Rattle.cil_member_updates.proofs.EvaluatedLemmas.{word-none, word-once}
+use Rattle.cil_member_updates.proofs.NameLemmas.{holds-keeps}
 use Rattle.cil_member_updates.proofs.WordLemmas.{lower-above, lowered-word}
 use Rattle.cil_member_updates.proofs.words.lower_word.Goals as goal
 
@@ -33,3 +37,16 @@ returns-then-visits-eq0-clause-now g c =
     let r = c.args.old.now.resolved.now in
     lowered-word c.args.symbols.now c.requires.old.distinct c.row_of-row.result c.args.word c.reached-visits.result (count_now c.args.rows.now) (meaning_in r) (set_at r c.args.i) c.row_of-row.ensures 0 c.reached-visits.ensures
     (held-zero c.reached-visits.result (holds c.args.symbols.now (meaning_in r) (set_at r c.args.i)) c.args.word c.if-visits-eq0.true) (count_now c.args.rows.now) (λ a t. refl)
+
+pub returns-clause-evaluations : goal.returns-clause-evaluations
+returns-clause-evaluations g c =
+    let r = c.args.old.now.resolved.now in
+    let symbols = c.args.symbols.now in
+    word-once c.args.word c.reached-visits.result (keeps symbols (meaning_in r)) (holds symbols (meaning_in r) (set_at r c.args.i)) (slice_index c.args.old.now.kept.now c.args.word) (evaluations_in c.args.meter.now) (evaluations_in c.masked-was.new.meter)
+    (c.requires.old.kept c.args.word) c.reached-visits.ensures (holds-keeps symbols (meaning_in r) (set_at r c.args.i)) c.masked-was.ensures.evaluations
+
+pub returns-then-visits-eq0-clause-evaluations : goal.returns-then-visits-eq0-clause-evaluations
+returns-then-visits-eq0-clause-evaluations g c =
+    let r = c.args.old.now.resolved.now in
+    let symbols = c.args.symbols.now in
+    word-none c.args.word c.reached-visits.result (IsKept symbols (meaning_in r)) (holds symbols (meaning_in r) (set_at r c.args.i)) (evaluations_in c.args.meter.now) c.reached-visits.ensures c.if-visits-eq0.true

@@ -6,13 +6,31 @@ use Rattle.cil_bind.proofs.DeclareLemmas.{rows-length}
 use Rattle.cil_parse.specs.Parsed.{texts_of}
 use Rattle.cil_bind.specs.Lookup.{table_of}
 use Rattle.cil_optionals.specs.Asks.{are_found, optional_at, AddsNeed}
-use Rattle.cil_optionals.proofs.AsksLemmas.{asks-none, asks-same, asks-need, bound-at, row-one, seen-of, reference-of, reference-there, reference-met, found-next, found-all}
+use Rattle.cil_optionals.proofs.AsksLemmas.{asks-none, asks-same, asks-need, bound-at, row-one, leads-of, seen-of, reference-of, reference-there, reference-met, reference-lead, found-next, found-outside, found-all}
 use Rattle.cil_optionals.proofs.references.references.Goals as goal
 
 pub get-bound-requires : goal.get-bound-requires
 get-bound-requires g c =
     let r = c.requires.ready in
     (bound-at r.1 r.1 c.args.policy.now.bound.0 c.args.i r.2 r.3.bound.bound r.4).0
+
+pub is_outside-requires : goal.is_outside-requires
+is_outside-requires g c =
+    let p = c.args.policy.now in
+    let r = c.requires.ready in
+    let are = leads-of p r.0 r.1 c.args.i r.2 c.get-bound.result.now r.3 r.4 c.get-bound.ensures in
+    let (reference, at, lead) = reference-lead r.1 r.2 c.get-bound.result.now c.loop-k.k are c.loop-k-test.true in
+    (r.0, r.1, reference.0, leads r.1 reference.0 r.2.namespace reference.1.text, r.3, lead)
+
+pub loop-k-preserved-then-is_outside : goal.loop-k-preserved-then-is_outside
+loop-k-preserved-then-is_outside g c = λ parsed all s ready at of.
+    let p = c.args.policy.now in
+    let are = leads-of p parsed all c.args.i s c.get-bound.result.now ready at c.get-bound.ensures in
+    let (reference, there, lead) = reference-lead all s c.get-bound.result.now c.loop-k.k are c.loop-k-test.true in
+    let out = c.is_outside.ensures c.if-is_outside.true parsed all reference.0 (leads all reference.0 s.namespace reference.1.text) ready lead in
+    asks-same all (optional_at p c.args.i) (λ set. are_found (restricted set all) s.namespace (take c.loop-k.k (references s.form)))
+    (λ set. are_found (restricted set all) s.namespace (take (c.loop-k.k + 1) (references s.form))) c.args.needs.now.items c.loop-k.needs.items
+    (found-outside p parsed all s c.loop-k.k reference ready there out) (c.loop-k.invariant parsed all s ready at of)
 
 pub loop-k-preserved-in_default : goal.loop-k-preserved-in_default
 loop-k-preserved-in_default g c = λ parsed all s ready at of.
@@ -67,9 +85,8 @@ loop-k-init g c = λ parsed all s ready at of. asks-none all (optional_at c.args
 pub returns : goal.returns
 returns g c = λ parsed all s ready at of.
     let p = c.args.policy.now in
-    let m = c.args.«module».now in
-    let seen = seen-of p parsed m all c.args.i s c.index-row.result.now c.statement-view.result c.get-bound.result.now ready at of c.index-row.ensures c.statement-view.ensures c.get-bound.ensures in
+    let are = leads-of p parsed all c.args.i s c.get-bound.result.now ready at c.get-bound.ensures in
     let past : length c.get-bound.result.now ≤ c.loop-k.k = omega arith in
-    let end = found-all p m all c.args.i s c.statement-view.result c.get-bound.result.now c.loop-k.k seen past in
+    let end = found-all all s c.get-bound.result.now c.loop-k.k are past in
     asks-same all (optional_at p c.args.i) (λ set. are_found (restricted set all) s.namespace (take c.loop-k.k (references s.form))) (λ set. are_found (restricted set all) s.namespace (references s.form))
     c.args.needs.now.items c.loop-k.needs.items (λ set. ap (are_found (restricted set all) s.namespace) end) (c.loop-k.invariant parsed all s ready at of)

@@ -1,7 +1,6 @@
 use Rattle.std.proofs.Common.{◌≡◌, ◌∙◌, Some, get_or, sym, ap, subst, refl}
 use Rattle.cil_specs.specs.Lookup.{types}
 use Rattle.cil_specs.specs.Rule.{element_at}
-use Rattle.cil_check.proofs.SeenLemmas.{seen-kind}
 use Rattle.cil_resolve.specs.Lowering.{IsElement}
 use Rattle.cil_expression.specs.declared.expression.Element.TheVariants as elements
 use Rattle.cil_resolve.proofs.ElementLemmas.{first-declares, element-type, element-attribute, element-alias, actual-here, set-given, alias-kind}
@@ -9,13 +8,13 @@ use Rattle.cil_resolve.proofs.elements.element_at.Goals as goal
 
 pub returns-in-TypeAttribute : goal.returns-in-TypeAttribute
 returns-in-TypeAttribute g c names policy s noted faultless have at first set =
-    let kind = sym (seen-kind c.seen.result policy s (c.seen.ensures.seen policy s noted.is at)) ∙ c.in-TypeAttribute.is in
+    let kind = sym (c.kind.ensures policy s noted.is at) ∙ c.in-TypeAttribute.is in
     subst (λ n. IsElement names (elements.Attribute n) (element_at policy s s.form)) (sym c.number_at.ensures)
     (element-attribute names policy c.args.places.now have c.args.i s at (first-declares types policy c.args.i s at first) kind)
 
 pub returns-in-TypeAlias : goal.returns-in-TypeAlias
 returns-in-TypeAlias g c names policy s noted faultless have at first set =
-    let kind = sym (seen-kind c.seen.result policy s (c.seen.ensures.seen policy s noted.is at)) ∙ c.in-TypeAlias.is in
+    let kind = sym (c.kind.ensures policy s noted.is at) ∙ c.in-TypeAlias.is in
     let declared = first-declares types policy c.args.i s at first in
     let some = set-given policy s set (alias-kind s.form kind declared) in
     let a = actual-here policy faultless c.args.checker.now.actuals c.args.i s noted.has_actuals first at some in
@@ -24,6 +23,6 @@ returns-in-TypeAlias g c names policy s noted faultless have at first set =
 
 pub returns-in_default : goal.returns-in_default
 returns-in_default g c names policy s noted faultless have at first set =
-    let kind = seen-kind c.seen.result policy s (c.seen.ensures.seen policy s noted.is at) in
+    let kind = c.kind.ensures policy s noted.is at in
     subst (λ n. IsElement names (elements.«Type» n) (element_at policy s s.form)) (sym c.number_at-in_default.ensures)
     (element-type names policy c.args.places.now have c.args.i s at (first-declares types policy c.args.i s at first) (λ e. c.in_default.not-TypeAttribute (kind ∙ e)) (λ e. c.in_default.not-TypeAlias (kind ∙ e)))

@@ -7,7 +7,7 @@ use Rattle.cil_parse.specs.Parsed.{texts_of}
 use Rattle.cil_bind.specs.Written.{IsOneName}
 use Rattle.cil_check.specs.Permissions.{lists_own}
 use Rattle.cil_check.proofs.PermissionLemmas.{own-listed, none-listed}
-use Rattle.cil_check.proofs.SeenLemmas.{there-at, seen-kind}
+use Rattle.cil_check.proofs.SeenLemmas.{there-at}
 use Rattle.cil_resolve.specs.Numbering.{names_with, listed_names, HavePermissionsOf}
 use Rattle.cil_resolve.proofs.NumberLemmas.{has-words, named-in, own-named}
 use Rattle.cil_resolve.proofs.StatementLemmas.{at-place, flat-one}
@@ -22,7 +22,7 @@ note_words-requires g c =
     let (s, at) = there-at policy i (omega (arith, count)) in
     let seen = c.seen-seen.ensures.seen policy s is at in
     let there = (at-place policy i s at).1 in
-    let kind = sym (c.lists_own.ensures ∙ ap lists_own (seen-kind c.seen-seen.result policy s seen)) ∙ c.if-lists_own.true in
+    let kind = sym (c.lists_own.ensures ∙ ap lists_own (c.kind.ensures policy s is at)) ∙ c.if-lists_own.true in
     let list = permissions_in seen.f.form in
     let own : list ≡ own_permissions s.form = ap permissions_in seen.form ∙ own-listed s.form kind in
     record {
@@ -46,16 +46,16 @@ loop-i-preserved g c = elim c.if-lists_own.branch [
         let i = c.loop-i.i in
         let count = c.len-i-end.ensures policy is in
         let (s, at) = there-at policy i (omega (arith, count)) in
-        let seen = c.seen-seen.ensures.seen policy s is at in
+        let seen = w.seen-seen.ensures.seen policy s is at in
         let there = (at-place policy i s at).1 in
-        let kind = sym (c.lists_own.ensures ∙ ap lists_own (seen-kind c.seen-seen.result policy s seen)) ∙ w.if-lists_own.true in
+        let kind = sym (c.lists_own.ensures ∙ ap lists_own (c.kind.ensures policy s is at)) ∙ w.if-lists_own.true in
         let list = permissions_in seen.f.form in
         let own : list ≡ own_permissions s.form = ap permissions_in seen.form ∙ own-listed s.form kind in
         let all : listed_names (take i policy) ++ texts list ≡ listed_names (take (i + 1) policy) =
         ap (λ l. listed_names (take i policy) ++ texts l) own ∙ sym (flat-one (λ t. texts (own_permissions t.form)) policy i s at) in
         subst (λ some. HavePermissionsOf names c.args.names.now some c.if-lists_own.permissions.items) all
         (subst (HavePermissionsOf names c.args.names.now (listed_names (take i policy) ++ texts list)) (sym (ap (λ v. v.items) w.permissions-is))
-        (w.note_words.ensures.noted names (listed_names (take i policy)) list (c.seen-seen.ensures.worded policy is) (w.permissions.ensures (texts_of c.seen-seen.result.«module».now) seen.f seen.shown)
+        (w.note_words.ensures.noted names (listed_names (take i policy)) list (w.seen-seen.ensures.worded policy is) (w.permissions.ensures (texts_of w.seen-seen.result.«module».now) seen.f seen.shown)
         is.bound.stands.numbered.names_distinct (subst (λ f. AllByRecursion IsOneName (permissions_in f)) (sym seen.form) (is.spelt s there).permissions)
         c.loop-i.invariant.long (c.loop-i.invariant.noted policy is)));
   }
@@ -66,8 +66,7 @@ loop-i-preserved g c = elim c.if-lists_own.branch [
         let i = c.loop-i.i in
         let count = c.len-i-end.ensures policy is in
         let (s, at) = there-at policy i (omega (arith, count)) in
-        let seen = c.seen-seen.ensures.seen policy s is at in
-        let kind = sym (c.lists_own.ensures ∙ ap lists_own (seen-kind c.seen-seen.result policy s seen)) ∙ w.if-lists_own.false in
+        let kind = sym (c.lists_own.ensures ∙ ap lists_own (c.kind.ensures policy s is at)) ∙ w.if-lists_own.false in
         let all : listed_names (take i policy) ≡ listed_names (take (i + 1) policy) =
         sym (append-nil (listed_names (take i policy))) ∙ ap (λ l. listed_names (take i policy) ++ texts l) (sym (none-listed s.form kind))
         ∙ sym (flat-one (λ t. texts (own_permissions t.form)) policy i s at) in

@@ -2,7 +2,7 @@ use Rattle.std.proofs.Common.{◌≡◌, ◌≤◌, ◌<◌, ◌+◌, ◌++◌, 
 use Rattle.std.proofs.lemmas.List.{length_push}
 use Rattle.std.proofs.lemmas.Option.{slice_get_within}
 use Rattle.cil_specs.specs.Lookup.{has_name}
-use Rattle.cil_check.proofs.SeenLemmas.{there-at, seen-kind}
+use Rattle.cil_check.proofs.SeenLemmas.{there-at}
 use Rattle.cil_resolve.specs.FullNames.{is_numbered, is_numbered_kind, full_name_of}
 use Rattle.cil_resolve.specs.Numbering.{names_with, number_in}
 use Rattle.cil_resolve.proofs.FullNamesLemmas.{kind-numbered}
@@ -17,7 +17,7 @@ number-requires g c =
     let count = c.len-i-end.ensures policy is in
     let i = c.loop-i.i in
     let (s, at) = there-at policy i (omega (arith, count)) in
-    let numbered = sym (c.is_numbered.ensures ∙ ap is_numbered_kind (seen-kind c.seen.result policy s (c.seen.ensures.seen policy s is at)) ∙ kind-numbered s.form) ∙ c.if-is_numbered.true in
+    let numbered = sym (c.is_numbered.ensures ∙ ap is_numbered_kind (c.kind.ensures policy s is at) ∙ kind-numbered s.form) ∙ c.if-is_numbered.true in
     ap (has_name c.args.names.now) (c.get.ensures ∙ ap (λ l. get_or l i []) full ∙ mapped-at full_name_of policy i s [] at)
     ∙ are (full_name_of s) ∙ named-in names_with policy s (full_name_of s) (at-place policy i s at).1 (full-named s numbered)
 
@@ -40,7 +40,7 @@ loop-i-preserved g c = elim c.if-is_numbered.branch [
         let i = c.loop-i.i in
         let count = c.len-i-end.ensures policy is in
         let (s, at) = there-at policy i (omega (arith, count)) in
-        let kind = sym (c.is_numbered.ensures ∙ ap is_numbered_kind (seen-kind c.seen.result policy s (c.seen.ensures.seen policy s is at)) ∙ kind-numbered s.form) ∙ w.if-is_numbered.false in
+        let kind = sym (c.is_numbered.ensures ∙ ap is_numbered_kind (c.kind.ensures policy s is at) ∙ kind-numbered s.form) ∙ w.if-is_numbered.false in
         subst (HavePlacesBelow c.args.names.now policy (i + 1)) (sym (ap (λ v. v.items) w.places-is ∙ w.in_ok-push-2.ensures.items))
         (place-next c.args.names.now policy i 0 s c.loop-i.places.items c.loop-i.invariant.long at (λ numbered. absurd (true≢false (sym numbered ∙ kind))) (c.loop-i.invariant.placed policy is full));
   }

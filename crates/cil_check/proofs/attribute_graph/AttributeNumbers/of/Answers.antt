@@ -3,7 +3,7 @@ use Rattle.cil_specs.specs.Lookup.{is_attribute}
 use Rattle.cil_check.specs.Kinds.{is_kind}
 use Rattle.cil_check.specs.declared.kinds.Kind.TheVariants.{Attribute}
 use Rattle.cil_check.proofs.GraphLemmas.{places_with, numbers-next}
-use Rattle.cil_check.proofs.SeenLemmas.{there-at, seen-kind, kind-form}
+use Rattle.cil_check.proofs.SeenLemmas.{there-at, kind-form}
 use Rattle.cil_check.proofs.attribute_graph.AttributeNumbers.of.Goals as goal
 use Rattle.cil_check.proofs.attribute_graph.AttributeNumbers.of.Goals.{then-is+in_ok-push-2, else-is}
 
@@ -14,8 +14,7 @@ loop-i-preserved g c = λ policy is.
     let count = c.len-i-end.ensures policy is in
     let less : i < length policy = omega (arith, count) in
     let (s, at) = there-at policy i less in
-    let seen = c.seen.ensures.seen policy s is at in
-    let told : c.is.result ≡ is_attribute s.form = c.is.ensures ∙ ap (is_kind Attribute) (seen-kind c.seen.result policy s seen) ∙ kind-form Attribute s.form in
+    let told : c.is.result ≡ is_attribute s.form = c.is.ensures ∙ ap (is_kind Attribute) (c.kind.ensures policy s is at) ∙ kind-form Attribute s.form in
     let many : c.len-in-loop-i.result ≡ length places = omega (arith, c.len-in-loop-i.ensures, c.loop-i.places.ok.0) in
     let more : c.push.new.self.items ≡ c.loop-i.numbers.items ++ length places ∷ [] = c.in_ok-push.ensures.items ∙ ap (λ n. c.loop-i.numbers.items ++ n ∷ []) many in
     let new : c.if-is.places.items ≡ places_with places c.is.result i = elim c.if-is.branch [

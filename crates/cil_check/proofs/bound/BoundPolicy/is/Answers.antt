@@ -1,8 +1,8 @@
 use Rattle.std.proofs.Common.{ap, ◌∙◌}
 use Rattle.cil_check.specs.Kinds.{is_kind}
-use Rattle.cil_check.proofs.SeenLemmas.{seen-kind, kind-form}
+use Rattle.cil_check.proofs.SeenLemmas.{kind-form}
 use Rattle.cil_check.proofs.bound.BoundPolicy.is.Goals as goal
 
 pub returns : goal.returns
 returns g c policy s is at =
-    c.is.ensures ∙ ap (is_kind c.args.kind) (seen-kind c.seen.result policy s (c.seen.ensures.seen policy s is at)) ∙ kind-form c.args.kind s.form
+    c.is.ensures ∙ ap (is_kind c.args.kind) (c.kind.ensures policy s is at) ∙ kind-form c.args.kind s.form

@@ -14,7 +14,7 @@ loop-i-preserved-in_default g c = λ policy is.
     let count = c.len-count.ensures policy is in
     let less : c.loop-i.i < length policy = omega (arith, count) in
     let t = there-at policy c.loop-i.i less in
-    let led = subst (λ found. IsLead (association_table c.args.association) policy found (given_lead c.args.association policy t.0)) c.in_default.is (c.lead.ensures policy t.0 (c.seen-seen.ensures.seen policy t.0 is t.1)) in
+    let led = subst (λ found. IsLead (association_table c.args.association) policy found (given_lead c.args.association policy t.0)) c.in_default.is (c.lead_at.ensures policy t.0 is t.1) in
     firsts-next c.args.association policy c.loop-i.i t.0 None c.loop-i.firsts c.loop-i.firsts t.1 led refl (c.loop-i.invariant policy is)
 
 pub loop-i-preserved : goal.loop-i-preserved
@@ -22,7 +22,7 @@ loop-i-preserved g c = λ policy is.
     let count = c.len-count.ensures policy is in
     let less : c.loop-i.i < length policy = omega (arith, count) in
     let t = there-at policy c.loop-i.i less in
-    firsts-next c.args.association policy c.loop-i.i t.0 (Some c.in-Some.to) c.loop-i.firsts c.insert.new.self t.1 (c.in-Some.ensures policy t.0 (c.seen-seen.ensures.seen policy t.0 is t.1)) c.in_ok-insert.ensures.ok (c.loop-i.invariant policy is)
+    firsts-next c.args.association policy c.loop-i.i t.0 (Some c.in-Some.to) c.loop-i.firsts c.insert.new.self t.1 (c.in-Some.ensures policy t.0 is t.1) c.in_ok-insert.ensures.ok (c.loop-i.invariant policy is)
 
 pub returns : goal.returns
 returns g c = λ policy is.

@@ -5,6 +5,7 @@ use Rattle.std.proofs.lemmas.Option.{get_or_from_slice_get}
 use Rattle.cil_specs.specs.Lookup.{has_name, texts, distinct, own_permissions}
 use Rattle.std.proofs.lemmas.Bool.{le-ltb}
 use Rattle.cil_specs.specs.Joined.{Placed}
+use Rattle.cil_specs.specs.Statements.{Form}
 use Rattle.cil_bind.specs.Lookup.{word_at}
 use Rattle.cil_parse.specs.Forms.{permissions_in, kind_of}
 use Rattle.cil_parse.specs.Lexicon.{AreNumbersOf}
@@ -12,7 +13,7 @@ use Rattle.cil_parse.specs.Parsed.{texts_of}
 use Rattle.cil_check.specs.Bound.{IsOf}
 use Rattle.cil_bind.specs.Written.{IsOneName}
 use Rattle.cil_check.specs.Permissions.{is_listed, HaveWords, lists_own}
-use Rattle.cil_check.proofs.SeenLemmas.{there-at, seen-kind}
+use Rattle.cil_check.proofs.SeenLemmas.{there-at}
 use Rattle.cil_check.proofs.PermissionLemmas.{HaveListedBelow, own-listed, none-listed, listed-next, listed-stay, listed-all, none-below, lists-next}
 use Rattle.cil_check.proofs.permissions.Permissions.of.Goals as goal
 use Rattle.cil_check.proofs.permissions.Permissions.of.Goals.{then-lists_own+in_ok-add_words, else-lists_own}
@@ -41,12 +42,12 @@ loop-i-preserved g c = record {
       let (t, at) = there-at policy i (less policy is) in
       elim c.if-lists_own.branch [
         | then-lists_own+in_ok-add_words w ↦
-            let seen = c.seen-seen.ensures.seen policy t is at in
+            let seen = w.seen-seen.ensures.seen policy t is at in
             let own = ap permissions_in seen.form ∙ own-listed t.form (sym (kind policy is t at) ∙ w.if-lists_own.true) in
             subst (λ p. HaveListedBelow names policy (i + 1) p.listed.keys) (sym w.permissions-is)
             (listed-next names policy i t (permissions_in seen.f.form) c.loop-i.permissions.listed.keys w.add_words.new.self.listed.keys at own
-            (w.in_ok-add_words.ensures.listed names (permissions_in seen.f.form) is.bound.stands.numbered.names_distinct (c.seen-seen.ensures.worded policy is)
-            (w.permissions.ensures (texts_of c.seen-seen.result.«module».now) seen.f seen.shown) (single policy is t at)) (c.loop-i.invariant.listed policy is))
+            (w.in_ok-add_words.ensures.listed names (permissions_in seen.f.form) is.bound.stands.numbered.names_distinct (w.seen-seen.ensures.worded policy is)
+            (w.permissions.ensures (texts_of w.seen-seen.result.«module».now) seen.f seen.shown) (single policy is t at seen.f.form seen.form)) (c.loop-i.invariant.listed policy is))
         | else-lists_own w ↦
             subst (λ p. HaveListedBelow names policy (i + 1) p.listed.keys) (sym w.permissions-is)
             (listed-stay names policy i t c.loop-i.permissions.listed.keys at (none-listed t.form (sym (kind policy is t at) ∙ w.if-lists_own.false)) (c.loop-i.invariant.listed policy is))
@@ -68,12 +69,11 @@ loop-i-preserved g c = record {
     less policy is = let count = c.len-count.ensures policy is in omega (arith, count)
 
     kind : (policy : List Placed) → IsOf c.args.bound.now policy → (t : Placed) → slice_get policy i ≡ Some t → c.lists_own.result ≡ lists_own (kind_of t.form)
-    kind policy is t at = c.lists_own.ensures ∙ ap lists_own (seen-kind c.seen-seen.result policy t (c.seen-seen.ensures.seen policy t is at))
+    kind policy is t at = c.lists_own.ensures ∙ ap lists_own (c.kind.ensures policy t is at)
 
-    single : (policy : List Placed) (is : IsOf c.args.bound.now policy) (t : Placed) (at : slice_get policy i ≡ Some t)
-        → AllByRecursion IsOneName (permissions_in (c.seen-seen.ensures.seen policy t is at).f.form)
-    single policy is t at =
-        subst (λ f. AllByRecursion IsOneName (permissions_in f)) (sym (c.seen-seen.ensures.seen policy t is at).form) (is.spelt t (i, less policy is, get_or_from_slice_get policy i t t at)).permissions
+    single : (policy : List Placed) → IsOf c.args.bound.now policy → (t : Placed) → slice_get policy i ≡ Some t → (form : Form) → form ≡ t.form → AllByRecursion IsOneName (permissions_in form)
+    single policy is t at form same =
+        subst (λ f. AllByRecursion IsOneName (permissions_in f)) (sym same) (is.spelt t (i, less policy is, get_or_from_slice_get policy i t t at)).permissions
 
     closed : c.if-lists_own.permissions.words.0 ≡ c.loop-i.permissions.words.0
     closed = elim c.if-lists_own.branch [
@@ -84,11 +84,11 @@ loop-i-preserved g c = record {
     numbered : (policy : List Placed) → IsOf c.args.bound.now policy → (t : Placed) → slice_get policy i ≡ Some t → AreNumbersOf names c.if-lists_own.permissions.words.1 (distinct (texts (own_permissions t.form)))
     numbered policy is t at = elim c.if-lists_own.branch [
       | then-lists_own+in_ok-add_words w ↦
-          let seen = c.seen-seen.ensures.seen policy t is at in
+          let seen = w.seen-seen.ensures.seen policy t is at in
           let own = ap permissions_in seen.form ∙ own-listed t.form (sym (kind policy is t at) ∙ w.if-lists_own.true) in
           ap (λ p. map (slice_get names) p.words.1) w.permissions-is
-          ∙ w.in_ok-add_words.ensures.words names (permissions_in seen.f.form) is.bound.stands.numbered.names_distinct (c.seen-seen.ensures.worded policy is)
-          (w.permissions.ensures (texts_of c.seen-seen.result.«module».now) seen.f seen.shown) (single policy is t at)
+          ∙ w.in_ok-add_words.ensures.words names (permissions_in seen.f.form) is.bound.stands.numbered.names_distinct (w.seen-seen.ensures.worded policy is)
+          (w.permissions.ensures (texts_of w.seen-seen.result.«module».now) seen.f seen.shown) (single policy is t at seen.f.form seen.form)
           (none-below names policy i t c.loop-i.permissions.listed.keys at (c.loop-i.invariant.listed policy is)) c.loop-i.invariant.open_list
           ∙ ap (λ l. map Some (distinct (texts l))) own
       | else-lists_own w ↦

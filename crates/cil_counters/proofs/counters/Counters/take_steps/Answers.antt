@@ -1,13 +1,13 @@
 use Rattle.std.proofs.Common.{◌≡◌, ◌∙◌, ap, length, refl, subst, sym, true}
 use Rattle.std.specs.List.{list_all}
 use Rattle.std.proofs.lemmas.Result.{on_ok_weaker}
-use Rattle.cil_delta_specs.specs.Work.{AdjustsFew}
+use Rattle.cil_delta_specs.specs.Work.{AdjustsFew, EvaluatesFew}
 use Rattle.cil_member_rows.specs.Rows as member_rows
 use Rattle.cil_member_updates.specs.Policy.{AreCounts}
 use Rattle.cil_member_updates.proofs.GrowthLemmas.{numbers-more}
 use Rattle.cil_parse.specs.Lexicon.{AreNumbersOf}
 use Rattle.cil_resolve.specs.Below.{is_rule_below}
-use Rattle.cil_resolve.specs.Meter.{adjustments_in}
+use Rattle.cil_resolve.specs.Meter.{adjustments_in, evaluations_in}
 use Rattle.cil_resolve.specs.Resolved.{meaning_in}
 use Rattle.cil_symbol_tables.specs.Tables as access_tables
 use Rattle.cil_table_updates.specs.Adjusted.{AdjustsAtLeast, AdjustsAtMost}
@@ -71,6 +71,11 @@ returns-clause-before g c =
     (λ kind key t. ap (λ tables. access_tables.count_before tables kind key t) c.update_members.ensures.tables) in
     counted-alike c.args.old.now c.update_members.new.self.names c.update_members.new.self.names (member_rows.count_before c.update_members.new.self.rows) (member_rows.count_before c.update_members.new.self.rows)
     (access_tables.count_before c.update_members.new.self.tables) (access_tables.count_before c.update.new.tables) was refl (λ a t. refl) c.update.ensures.before
+
+pub returns-clause-evaluations : goal.returns-clause-evaluations
+returns-clause-evaluations g c =
+    on_ok_weaker c.update.result
+    (λ moved. subst (EvaluatesFew (meaning_in c.args.old.now) (meaning_in c.args.new.now) (evaluations_in c.args.meter.now)) (sym c.update.ensures.evaluations) c.in_ok-update_members.ensures.evaluations) c.update.ensures.now
 
 pub returns-clause-adjustments : goal.returns-clause-adjustments
 returns-clause-adjustments g c =

@@ -1,6 +1,6 @@
 use Rattle.cil_specs.specs.Rule.{IsSameSet}
 use Rattle.cil_resolve.specs.Sets.{sets_in}
-use Rattle.cil_matching.proofs.MatchedLemmas.{ArePlaces}
+use Rattle.cil_matching.specs.Matching.{ArePlaces}
 use Rattle.cil_matching.proofs.set_matching.SetMatching.of.Given as goal
 
 -- so many have their places

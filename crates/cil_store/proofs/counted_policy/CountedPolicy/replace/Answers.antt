@@ -1,4 +1,7 @@
-use Rattle.std.proofs.Common.{◌∙◌, sym}
+use Rattle.std.proofs.Common.{◌∙◌, subst, sym}
+use Rattle.std.specs.Rc.{rc_value}
+use Rattle.cil_resolve.specs.Resolved.{meaning_in}
+use Rattle.cil_store.specs.Counted.{AreCountedChanges}
 use Rattle.cil_store.proofs.CountedPolicyLemmas.{kept-back, kept-settled, on-err}
 use Rattle.cil_store.proofs.counted_policy.CountedPolicy.replace.Goals as goal
 
@@ -14,3 +17,17 @@ returns-then-is_err-clause-err_store g c = on-err c.put.result _ c.put.ensures.e
 pub returns-clause-kept : goal.returns-clause-kept
 returns-clause-kept g c =
     kept-settled (record { resolved = c.args.next.resolved; dropped = c.args.next.dropped; counters = c.settle.new.self }) c.update-updated.new.self c.deref-2.result.now c.deref-2.ensures c.args.next.are_dropped c.in-Ok.ensures.now c.settle.ensures
+
+pub returns-clause-changes : goal.returns-clause-changes
+returns-clause-changes g c =
+    let old = c.deref.result.now in
+    let new = c.deref-2.result.now in
+    let before = c.args.meter.now in
+    let after = c.update-updated.new.meter in
+    let changes = c.in-Ok.changes in
+    let are : AreCountedChanges (meaning_in old) (meaning_in new) before after changes = record {
+      are_changes = c.in-Ok.ensures.changes;
+      evaluations = c.in-Ok.ensures.evaluations;
+      adjustments = c.in-Ok.ensures.adjustments;
+    } in
+    subst (λ r. AreCountedChanges (meaning_in r) (meaning_in (rc_value c.args.next.resolved)) before after changes) c.deref.ensures (subst (λ r. AreCountedChanges (meaning_in old) (meaning_in r) before after changes) c.deref-2.ensures are)

@@ -6,7 +6,7 @@ use Rattle.cil_store_specs.specs.Next.{Edit, HasGoodText, IsMeaningOf, changed, 
 use Rattle.cil_store_specs.specs.Run.{Step, an_edit, changed_by, refused, out_of_memory}
 use Rattle.cil_store_specs.specs.Store.{Store}
 use Rattle.cil_store.specs.Admitted.{admitted_edit}
-use Rattle.cil_store.specs.Counted.{meaning_kept, IsCountedTo}
+use Rattle.cil_store.specs.Counted.{meaning_kept, AreCountedBetween, IsCountedTo}
 use Rattle.cil_store.specs.Edits.{edit_of, refusal_of}
 use Rattle.cil_store.specs.Ready.{ready_edit}
 use Rattle.cil_store.specs.Refusing.{IsRefusedEdit, IsRefusedPolicy}
@@ -68,6 +68,12 @@ returns-clause-step g c =
     let made : new ≡ changed inside edit = c.in_ok-changes.ensures.ok ∙ (λ i. changed (kept i) (c.in_ok-ready.ensures.edit i)) in
     let taken = subst (λ e. store_refusal inside e ≡ None) (sym same) c.in_ok-admitted.ensures.taken in
     let are = c.in_ok-changes.ensures.changes before after (subst (λ (s : Store). IsMeaningOf s before) (sym kept) c.self.invariant.is_meaning) (subst (λ s. IsMeaningOf s after) (sym made) c.in_ok-resolved.ensures.ok) in
-    let step = made-step inside edit before after changes taken (admitted-text admitted c.in_ok-admitted.ensures.ok.0) c.self.invariant.is_meaning c.in_ok-resolved.ensures.ok are in
+    let told = are.are_changes in
+    let step = made-step inside edit before after changes taken (admitted-text admitted c.in_ok-admitted.ensures.ok.0) c.self.invariant.is_meaning c.in_ok-resolved.ensures.ok told in
     let stored = subst (λ (s : Store). Step inside (an_edit edit) (changed_by changes) s) (sym made) step in
     subst (λ (s : Store). Step s (an_edit (edit_of c.args.edit)) (changed_by changes) new) c.self.view_is (subst (λ e. Step inside (an_edit e) (changed_by changes) new) same stored)
+
+pub returns-clause-counted : goal.returns-clause-counted
+returns-clause-counted g c =
+    let new : Store = c.replace.new.self in
+    subst (λ (s : Store). AreCountedBetween s new c.args.meter.now c.replace.new.meter c.in_ok-changes.changes) (c.in_ok-ready.ensures.kept ∙ c.self.view_is) c.in_ok-changes.ensures.changes

@@ -1,13 +1,11 @@
 use Rattle.std.proofs.Common.{◌≡◌, ◌∙◌, Some, sym, subst, IfOk}
 use Rattle.std.specs.Rc.{rc_value}
-use Rattle.cil_specs.specs.Meaning.{Meaning, is_in_table}
-use Rattle.cil_specs.specs.Report.{AreChanges}
 use Rattle.cil_resolve.specs.Resolved.{meaning_in}
 use Rattle.cil_store_specs.specs.Next.{IsMeaningOf, changed}
 use Rattle.cil_store_specs.specs.Store.{Store}
-use Rattle.cil_store.specs.Counted.{counted_meaning}
+use Rattle.cil_store.specs.Counted.{counted_meaning, AreCountedBetween, AreCountedChanges}
 use Rattle.cil_store.specs.Ready.{ready_edit}
-use Rattle.cil_store.proofs.CountedPolicyLemmas.{means-after, changes-after}
+use Rattle.cil_store.proofs.CountedPolicyLemmas.{means-after, told-after}
 use Rattle.cil_store.proofs.delta.Delta.replace.Goals as goal
 
 pub invariant_of-self-2 : goal.invariant_of-self-2
@@ -18,11 +16,12 @@ invariant_of-self-2 g c =
     let next = meaning_in (rc_value c.args.next.resolved) in
     let before = counted_meaning c.in_ok-policy.policy in
     record {
-      is_meaning = means-after inside c.replace-changes.new.store edit before (counted_meaning c.replace-changes.new.self) next
+      is_meaning = subst (IsMeaningOf c.replace-changes.new.store) (sym c.renumber.ensures.meaning)
+          (means-after inside c.replace-changes.new.store edit before (counted_meaning c.replace-changes.new.self) next
           (subst (IsMeaningOf inside) (sym c.in_ok-policy.ensures.meaning) c.self.invariant.is_meaning)
           (subst (λ s. IsMeaningOf (changed s edit) next) (sym c.self.view_is) c.requires)
-          c.replace-changes.result c.replace-changes.ensures.store c.replace-changes.ensures.meaning c.replace-changes.ensures.err_store c.replace-changes.ensures.err_meaning;
-      is_kept = c.replace-changes.ensures.kept;
+          c.replace-changes.result c.replace-changes.ensures.store c.replace-changes.ensures.meaning c.replace-changes.ensures.err_store c.replace-changes.ensures.err_meaning);
+      is_kept = c.renumber.ensures.kept;
     }
 
 pub returns-clause-changes : goal.returns-clause-changes
@@ -33,8 +32,9 @@ returns-clause-changes g c =
     let edit = ready_edit c.args.edit in
     let next = meaning_in (rc_value c.args.next.resolved) in
     let before = counted_meaning c.in_ok-policy.policy in
-    subst (λ s. IfOk c.replace-changes.result (λ changes. (m n : Meaning) → IsMeaningOf s m → IsMeaningOf new n → AreChanges (is_in_table m) (is_in_table n) changes)) c.self.view_is
-    (changes-after inside new edit before (counted_meaning c.replace-changes.new.self) next
+    let meter = c.args.meter.now in
+    subst (λ s. IfOk c.replace-changes.result (AreCountedBetween s new meter c.replace-changes.new.meter)) c.self.view_is
+    (told-after inside new edit before (counted_meaning c.replace-changes.new.self) next
     (subst (IsMeaningOf inside) (sym c.in_ok-policy.ensures.meaning) c.self.invariant.is_meaning)
     (subst (λ s. IsMeaningOf (changed s edit) next) (sym c.self.view_is) c.requires)
-    (λ changes. changes) c.replace-changes.result c.replace-changes.ensures.store c.replace-changes.ensures.changes)
+    (λ m n changes. AreCountedChanges m n meter c.replace-changes.new.meter changes) (λ changes. changes) c.replace-changes.result c.replace-changes.ensures.store c.replace-changes.ensures.changes)

@@ -1,0 +1,103 @@
+-- The places of one policy's rules in another one.
+use Rattle.std.proofs.Common.{◌≡◌, ◌∙◌, ◌↔◌, ℕ, ◌<◌, Bool, true, false, true≢false, List, [], ◌∷◌, length, map, get_or, slice_get, Option, None, Some, IsTrue, sym, ap, subst, arith}
+use Rattle.std.specs.List.Sorted.{IsStrictlySortedBy}
+use Rattle.std.specs.Ordering.{nat_cmp}
+use Rattle.std.specs.declared.cmp.Ordering.{Ordering}
+use Rattle.std.specs.declared.cmp.Ordering.TheVariants.{Equal}
+use Rattle.std.proofs.lemmas.Cmp.{tied_itself}
+use Rattle.std.proofs.lemmas.List.{length-map}
+use Rattle.std.proofs.lemmas.Map.Lookups.{exact_bytes, exact_unsigned}
+use Rattle.std.proofs.lemmas.Option.{none-some, same_Some, slice_get-get_or}
+use Rattle.cil_specs.specs.Report.{name_cmp}
+use Rattle.cil_specs.specs.Rule.{Rule, IsSameRule, content_of}
+use Rattle.cil_specs.specs.Violations.{rule_cmp}
+use Rattle.cil_specs.proofs.ReportLemmas.{then_equal}
+use Rattle.cil_specs.proofs.ViolationLemmas.{rule_total}
+use Rattle.cil_optionals.proofs.GreatestLemmas.{all-got}
+use Rattle.cil_resolve.specs.Below.{is_rule_below}
+use Rattle.cil_resolve.specs.Numbers.{rule_of}
+use Rattle.cil_resolve.specs.Resolved.{meaning_in}
+use Rattle.cil_resolve.specs.declared.numbered.NumberedRule.{NumberedRule}
+use Rattle.cil_resolve.specs.declared.resolved.Resolved.{Resolved}
+use Rattle.cil_matching.specs.Content.{SayTheSame}
+use Rattle.cil_matching.specs.Matching.{AreNumbers, AreSameAt}
+use Rattle.cil_matching.specs.Merged.{IsFoundAt, IsMissedAt}
+use Rattle.cil_matching.specs.Spot.{Spot, spot_cmp, rule_spot}
+use Rattle.cil_matching.proofs.ApartLemmas.{rules-agree}
+use Rattle.cil_matching.proofs.ContentLemmas.{content-tells, is-below}
+use Rattle.cil_matching.proofs.MatchedLemmas.{to-mapped}
+use Rattle.cil_matching.proofs.MergedLemmas.{found-place}
+
+-- rules that are the same stand at one spot
+same-alike : (r s : Rule) → IsSameRule r s → rule_cmp s r ≡ Equal
+same-alike r s same = ap (spot_cmp (rule_spot s)) (rules-agree r s same) ∙ tied_itself rule_total s
+
+-- the order of two rules is that of their spots
+pub spots-tell : (olds news : List Rule) (i j : ℕ) (p q : Spot) (o : Ordering) → slice_get (map rule_spot olds) i ≡ Some p → slice_get (map rule_spot news) j ≡ Some q → o ≡ spot_cmp q p
+    → (r s : Rule) → slice_get olds i ≡ Some r → slice_get news j ≡ Some s → rule_cmp s r ≡ o
+spots-tell olds news i j p q o mine its is r s here there =
+    let one = same_Some (rule_spot r) p (sym (to-mapped rule_spot olds i r here) ∙ mine) in
+    let two = same_Some (rule_spot s) q (sym (to-mapped rule_spot news j s there) ∙ its) in
+    (λ k. spot_cmp (two k) (one k)) ∙ sym is
+
+pub rule-missed : (olds news : List Rule) (i j : ℕ) → IsMissedAt rule_cmp olds news i j → (k : ℕ) → (◌≡◌ {A = Option ℕ} None (Some k)) ↔ AreSameAt IsSameRule olds news i k
+rule-missed olds news i j missed k = (
+  λ is. absurd (none-some k is),
+  λ same. absurd (missed.never k same.statement same.other same.here same.there (same-alike same.statement same.other same.same)),
+)
+
+-- alike rules are the same where they say the same
+alike-same : (r s : Rule) → rule_cmp s r ≡ Equal → content_of r ≡ content_of s → IsSameRule r s
+alike-same r s alike content =
+    let (name, offset) = then_equal (name_cmp s.module_name r.module_name) (nat_cmp s.at.offset r.at.offset) alike in
+    (sym (exact_bytes s.module_name r.module_name name), sym (exact_unsigned s.at.offset r.at.offset offset), content)
+
+module _ (olds news : List Rule) (i j : ℕ) (low : i < length olds) (sorted : IsStrictlySortedBy rule_cmp news) (found : IsFoundAt rule_cmp olds news i j) where
+  only-there : (k : ℕ) (same : AreSameAt IsSameRule olds news i k) → k ≡ j
+  only-there k same = found-place rule_cmp rule_total olds news i j k same.statement same.other sorted found same.here same.there (same-alike same.statement same.other same.same)
+
+  -- the test of what two rules say, where they stand at one spot
+  module _ (test : Bool) (tells : (r s : Rule) → slice_get olds i ≡ Some r → slice_get news j ≡ Some s → IsTrue test ↔ (content_of r ≡ content_of s)) where
+    pub rule-found : test ≡ true → (k : ℕ) → (◌≡◌ {A = Option ℕ} (Some j) (Some k)) ↔ AreSameAt IsSameRule olds news i k
+    rule-found passes k = (
+      λ is. subst (AreSameAt IsSameRule olds news i) (same_Some j k is) stands,
+      λ same. ap Some (sym (only-there k same)),
+    )
+      where
+        stands : AreSameAt IsSameRule olds news i j
+        stands =
+            let (r, here) = taken olds i low in
+            let (s, there) = taken news j found.within in
+            record { statement = r; other = s; here = here; there = there; same = alike-same r s (found.alike r s here there) ((tells r s here there).0 passes) }
+          where
+            taken : (rules : List Rule) (n : ℕ) → n < length rules → (r : Rule) × (slice_get rules n ≡ Some r)
+            taken [] n within = absurd (omega (arith, within))
+            taken (r ∷ rules) n within = (get_or (r ∷ rules) n r, slice_get-get_or (r ∷ rules) n r within)
+
+    pub rule-other : test ≡ false → (k : ℕ) → (◌≡◌ {A = Option ℕ} None (Some k)) ↔ AreSameAt IsSameRule olds news i k
+    rule-other fails k = (
+      λ is. absurd (none-some k is),
+      λ same.
+          let there = ap (slice_get news) (sym (only-there k same)) ∙ same.there in
+          absurd (true≢false (sym ((tells same.statement same.other same.here there).1 same.same.2) ∙ fails)),
+    )
+
+-- the test of two rules that stand somewhere, by their numbers
+pub contents-tell : {A : Type 0} (p q : Resolved A) (numbers : List (Option ℕ)) → AreNumbers p.names.items q.names.items numbers → (i j : ℕ) (x y : NumberedRule A) (test : Bool)
+    → slice_get p.rules.items i ≡ Some x → slice_get q.rules.items j ≡ Some y → (IsTrue test ↔ SayTheSame numbers x y)
+    → (r s : Rule) → slice_get (meaning_in p).rules i ≡ Some r → slice_get (meaning_in q).rules j ≡ Some s → IsTrue test ↔ (content_of r ≡ content_of s)
+contents-tell p q numbers are i j x y test mine its tells r s here there =
+    let one : rule_of p.modules.items p.names.items x ≡ r = same_Some (rule_of p.modules.items p.names.items x) r (sym (to-mapped (rule_of p.modules.items p.names.items) p.rules.items i x mine) ∙ here) in
+    let two : rule_of q.modules.items q.names.items y ≡ s = same_Some (rule_of q.modules.items q.names.items y) s (sym (to-mapped (rule_of q.modules.items q.names.items) q.rules.items j y its) ∙ there) in
+    let low = is-below (length p.names.items) x (all-got (is_rule_below (length p.names.items)) p.rules.items i x p.rules_within mine) in
+    let below = is-below (length q.names.items) y (all-got (is_rule_below (length q.names.items)) q.rules.items j y q.rules_within its) in
+    let (to, from) = content-tells p.names.items q.names.items numbers are p.modules.items q.modules.items x y low below in (
+      λ passes. ap content_of (sym one) ∙ to (tells.0 passes) ∙ ap content_of two,
+      λ same. tells.1 (from (ap content_of one ∙ same ∙ ap content_of (sym two))),
+    )
+
+-- what is read of the rules at a place
+pub read-rule : {A : Type 0} (p : Resolved A) (i : ℕ) (x : NumberedRule A) (rules : List (NumberedRule A)) → i < length (meaning_in p).rules → rules ≡ p.rules.items → x ≡ get_or rules i x → slice_get p.rules.items i ≡ Some x
+read-rule p i x rules low are is =
+    let long = length-map p.rules.items (rule_of p.modules.items p.names.items) in
+    slice_get-get_or p.rules.items i x (omega (arith, low, long)) ∙ ap Some (ap (λ l. get_or l i x) (sym are) ∙ sym is)

@@ -1,0 +1,46 @@
+-- Rules of two policies that say the same, by the numbers of their names.
+use Rattle.std.specs.Prelude.{◌≡◌, ◌==◌, ◌&&◌, ◌<◌, ℕ, Bool, true, false, List, Option, None, Some, length, slice_get, slice_index}
+use Rattle.cil_specs.specs.Rule.{kind_index}
+use Rattle.cil_text.specs.Image.{rule_kind_of}
+use Rattle.cil_expression.specs.declared.expression.Element.{Element}
+use Rattle.cil_expression.specs.declared.expression.Element.TheVariants.{«Type», Attribute}
+use Rattle.cil_resolve.specs.declared.numbered.NumberedRule.{NumberedRule}
+use Rattle.cil_resolve.specs.declared.numbered.ResolvedTarget.{ResolvedTarget}
+use Rattle.cil_resolve.specs.declared.numbered.ResolvedTarget.TheVariants as aims
+
+-- whether a name's number in the new policy is this one
+abbrev pub is_that : Option (Option ℕ) → ℕ → Bool
+is_that None b = false
+is_that (Some None) b = false
+is_that (Some (Some n)) b = n == b
+
+-- the same of the name that has a number in the old policy
+abbrev pub is_number_of : List (Option ℕ) → ℕ → ℕ → Bool
+is_number_of numbers a b = is_that (slice_get numbers a) b
+
+abbrev pub is_element_by : List (Option ℕ) → Element → Element → Bool
+is_element_by numbers («Type» a) («Type» b) = is_number_of numbers a b
+is_element_by numbers («Type» a) (Attribute b) = false
+is_element_by numbers (Attribute a) («Type» b) = false
+is_element_by numbers (Attribute a) (Attribute b) = is_number_of numbers a b
+
+abbrev pub is_target_by : List (Option ℕ) → ResolvedTarget → ResolvedTarget → Bool
+is_target_by numbers aims.Itself aims.Itself = true
+is_target_by numbers aims.Itself (aims.Element y) = false
+is_target_by numbers (aims.Element x) aims.Itself = false
+is_target_by numbers (aims.Element x) (aims.Element y) = is_element_by numbers x y
+
+-- whether two rules say the same but for their permissions, of which they have as many
+abbrev pub is_head_by : {A : Type 0} → List (Option ℕ) → NumberedRule A → NumberedRule A → Bool
+is_head_by numbers r s =
+    ((((kind_index (rule_kind_of r.kind) == kind_index (rule_kind_of s.kind)) && is_element_by numbers r.source s.source) && is_target_by numbers r.target s.target)
+    && is_number_of numbers r.class s.class) && (length r.permissions.items == length s.permissions.items)
+
+-- the same permissions in the same order
+abbrev pub ArePermissionsBy : List (Option ℕ) → List ℕ → List ℕ → Type 0
+ArePermissionsBy numbers ps qs = (k : ℕ) → k < length ps → is_number_of numbers (slice_index ps k) (slice_index qs k) ≡ true
+
+-- Two rules say the same.
+pub record SayTheSame {A : Type 0} (numbers : List (Option ℕ)) (r s : NumberedRule A) : Type 0 where
+  pub head : is_head_by numbers r s ≡ true
+  pub permissions : ArePermissionsBy numbers r.permissions.items s.permissions.items

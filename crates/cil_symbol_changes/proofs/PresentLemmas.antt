@@ -1,0 +1,219 @@
+-- The accesses of the targets whose counters are above 0, word by word and line by line.
+use Rattle.std.proofs.Common.{◌≡◌, ◌⊎◌, ℕ, ◌+◌, ◌*◌, ◌/◌, ◌%◌, ◌<◌, ◌≤◌, ◌++◌, ◌∷◌, List, [], Some, IsPermutation, get_or, length, min, slice_get, refl, sym, ap, subst, ◌∙◌, inl, inr, arith}
+use Rattle.std.specs.Int.{bit_at}
+use Rattle.std.proofs.lemmas.Bool.{cases_eq, cases_lt}
+use Rattle.std.specs.List.{All}
+use Rattle.std.proofs.lemmas.List.{get_or_default}
+use Rattle.std.proofs.lemmas.List.Sorted.{All-permutation, Contains-permutation, IsPermutation-sym}
+use Rattle.std.proofs.lemmas.Option.{same_Some, slice_get_within}
+use Rattle.cil_accesses.specs.declared.access.AccessNumbers.{AccessNumbers}
+use Rattle.cil_accesses.specs.declared.chunk.Chunk.{Chunk}
+use Rattle.cil_accesses.proofs.Made.{given-moved}
+use Rattle.cil_accesses.proofs.Renumbering.{any-push}
+use Rattle.cil_keyed_lines.specs.Keyed.{Keyed, IsLineOf, IsNoLine, now_at}
+use Rattle.cil_keyed_lines.specs.Keyed as keyed
+use Rattle.cil_keyed_lines.specs.declared.symbol_key.SymbolKey.{SymbolKey}
+use Rattle.cil_lines.specs.Line.{hit, IsNextPresent, IsPresence, NonePresent}
+use Rattle.cil_lines.proofs.StepLemmas.{hit-here, hit-there}
+use Rattle.cil_symbol_tables.specs.Tables.{count_now, lines_of}
+use Rattle.cil_symbol_tables.specs.declared.symbol_tables.SymbolTables.{SymbolTables}
+use Rattle.cil_text.specs.declared.statement.RuleKind.{RuleKind}
+use Rattle.cil_symbol_changes.specs.Gained.{AreGained, AreKnown, AreKnownIn, IsIn, IsShort, IsTo}
+use Rattle.cil_symbol_changes.specs.Numbered.{access_by, ArePresentNumbered, IsPresentOf}
+use Rattle.cil_symbol_changes.specs.SourceOrder.{AreAllPlaces, IsAt, IsBetween}
+use Rattle.cil_symbol_changes.specs.declared.source_order.LinePlace.{LinePlace}
+use Rattle.cil_symbol_changes.proofs.ChangeLemmas.{line-now}
+use Rattle.cil_symbol_changes.proofs.GainedLemmas.{gained-alike, gained-more, gained-none}
+
+-- the targets of the mask of a word are those that are counted
+hit-counted : (counts : ℕ → ℕ) (word mask : ℕ) → IsPresence counts word mask → (t : ℕ) → 0 < hit word mask t → (t / 64 ≡ word) × (0 < counts t)
+hit-counted counts word mask present t some =
+    elim (cases_eq (t / 64) word) [
+      | inl here ↦
+          let at : 64 * word + t % 64 ≡ t = omega (arith, here) in
+          let is = hit-here word mask t here in
+          let bit : bit_at mask (t % 64) ≡ min 1 (counts t) = present (t % 64) (omega arith) ∙ ap (λ n. min 1 (counts n)) at in
+          (here, omega (arith, some, is, bit))
+      | inr there ↦ let none = hit-there word mask t there in absurd (omega (arith, some, none))
+    ]
+
+counted-hit : (counts : ℕ → ℕ) (word mask : ℕ) → IsPresence counts word mask → (t : ℕ) → t / 64 ≡ word → 0 < counts t → 0 < hit word mask t
+counted-hit counts word mask present t here some =
+    let at : 64 * word + t % 64 ≡ t = omega (arith, here) in
+    let is = hit-here word mask t here in
+    let bit : bit_at mask (t % 64) ≡ min 1 (counts t) = present (t % 64) (omega arith) ∙ ap (λ n. min 1 (counts n)) at in
+    omega (arith, some, is, bit)
+
+-- a target that is counted, in a word before one
+abbrev pub IsBefore : (ℕ → ℕ) → ℕ → ℕ → Type 0
+IsBefore counts from t = (0 < counts t) × (t / 64 < from)
+
+-- ---- the words of a line
+
+module _ (numbers : List ℕ) (kind : RuleKind) (key : SymbolKey) (counts : ℕ → ℕ) where
+  moved : (f g : ℕ → Type 0) (a : AccessNumbers) (told : IsTo numbers kind key f a) → g told.target → IsTo numbers kind key g a
+  moved f g a told among = record { target = told.target; among = among; same = told.same }
+
+  pub words-none : (old : List Chunk) → AreGained (IsTo numbers kind key (IsBefore counts 0)) old old
+  words-none old = gained-none (IsTo numbers kind key (IsBefore counts 0)) old (λ a told. let low = told.among.1 in omega (arith, low))
+
+  pub words-more : (from word mask : ℕ) (old mid new : List Chunk) → IsNextPresent counts from word → IsPresence counts word mask → AreGained (IsTo numbers kind key (IsBefore counts from)) old mid
+      → AreGained (IsTo numbers kind key (λ t. 0 < hit word mask t)) mid new → AreGained (IsTo numbers kind key (IsBefore counts (word + 1))) old new
+  words-more from word mask old mid new next present first second =
+      gained-more (IsTo numbers kind key (IsBefore counts from)) (IsTo numbers kind key (λ t. 0 < hit word mask t)) (IsTo numbers kind key (IsBefore counts (word + 1))) old mid new first second split left right
+    where
+      split : (a : AccessNumbers) → IsTo numbers kind key (IsBefore counts (word + 1)) a → IsTo numbers kind key (IsBefore counts from) a ⊎ IsTo numbers kind key (λ t. 0 < hit word mask t) a
+      split a told =
+          let (some, low) = told.among in
+          elim (cases_lt (told.target / 64) from) [
+            | inl before ↦ inl (moved (IsBefore counts (word + 1)) (IsBefore counts from) a told (some, before))
+            | inr behind ↦ elim (cases_eq (told.target / 64) word) [
+              | inl here ↦ inr (moved (IsBefore counts (word + 1)) (λ t. 0 < hit word mask t) a told (counted-hit counts word mask present told.target here some))
+              | inr there ↦ let none = next.first told.target behind (omega (arith, low, there)) in absurd (omega (arith, some, none))
+            ]
+          ]
+
+      left : (a : AccessNumbers) → IsTo numbers kind key (IsBefore counts from) a → IsTo numbers kind key (IsBefore counts (word + 1)) a
+      left a told = let on = next.from_on in let low = told.among.1 in moved (IsBefore counts from) (IsBefore counts (word + 1)) a told (told.among.0, omega (arith, on, low))
+
+      right : (a : AccessNumbers) → IsTo numbers kind key (λ t. 0 < hit word mask t) a → IsTo numbers kind key (IsBefore counts (word + 1)) a
+      right a told =
+          let (here, some) = hit-counted counts word mask present told.target told.among in
+          moved (λ t. 0 < hit word mask t) (IsBefore counts (word + 1)) a told (some, omega (arith, here))
+
+  pub words-all : (from : ℕ) (old new : List Chunk) → NonePresent counts from → AreGained (IsTo numbers kind key (IsBefore counts from)) old new → AreGained (IsTo numbers kind key (λ t. 0 < counts t)) old new
+  words-all from old new none gained =
+      gained-alike (IsTo numbers kind key (IsBefore counts from)) (IsTo numbers kind key (λ t. 0 < counts t)) old new gained
+      (λ a told. moved (IsBefore counts from) (λ t. 0 < counts t) a told told.among.0)
+      (λ a told. moved (λ t. 0 < counts t) (IsBefore counts from) a told (told.among, before told.target told.among))
+    where
+      before : (t : ℕ) → 0 < counts t → t / 64 < from
+      before t some = elim (cases_lt (t / 64) from) [ inl low ↦ low | inr past ↦ let zero = none t past in absurd (omega (arith, some, zero)) ]
+
+  -- the symbols of a word's targets have numbers, and there are more numbers than words up to it
+  pub known-present : (word mask : ℕ) → IsPresence counts word mask → AreKnown numbers key counts → AreKnown numbers key (hit word mask)
+  known-present word mask present known t some = known t (hit-counted counts word mask present t some).1
+
+  pub word-low : (from word : ℕ) → IsNextPresent counts from word → AreKnown numbers key counts → word < length numbers
+  word-low from word next known = let (t, here, some) = next.present in let low = (known t some).among in omega (arith, here, low)
+
+-- ---- the lines of a kind
+
+-- any place of a line
+abbrev pub any_place : LinePlace
+any_place = record { source = 0; place = 0 }
+
+-- one place more
+pub places-more : (n : ℕ) (order : List LinePlace) (x : LinePlace) → x.place ≡ n → AreAllPlaces n order → AreAllPlaces (n + 1) (order ++ x ∷ [])
+places-more n order x is all place low =
+    elim (cases_eq place n) [
+      | inl last ↦ any-push (λ y. y.place ≡ place) order x (inr (is ∙ sym last))
+      | inr before ↦ any-push (λ y. y.place ≡ place) order x (inl (all place (omega (arith, low, before))))
+    ]
+
+-- the places in another order
+pub places-moved : (n : ℕ) (order sorted : List LinePlace) → IsPermutation order sorted → AreAllPlaces n order → AreAllPlaces n sorted
+places-moved n order sorted moved all place low =
+    let (k, x, within, at, is) = all place low in
+    let (j, inside, there) = Contains-permutation order sorted x moved (k, within, at) in
+    (j, x, inside, there, is)
+
+-- what is gained stays gained where the chunks are put in order
+pub gained-moved : (told : AccessNumbers → Type 0) (old mid new : List Chunk) → AreGained told old mid → IsPermutation mid new → AreGained told old new
+gained-moved told old mid new gained moved = record {
+  are = λ a. (λ h. (gained.are a).0 (given-moved new mid (IsPermutation-sym mid new moved) a h), λ some. given-moved mid new moved a ((gained.are a).1 some));
+  short = λ h. All-permutation IsShort mid new moved (gained.short h);
+}
+
+module _ (numbers : List ℕ) (kind : RuleKind) (lines : Keyed) where
+  pub in-place : (place : ℕ) (key : SymbolKey) (old new : List Chunk) → IsLineOf lines place key → AreGained (IsTo numbers kind key (λ t. 0 < now_at lines place t)) old new → AreGained (IsAt numbers kind lines place) old new
+  in-place place key old new line gained =
+      gained-alike (IsTo numbers kind key (λ t. 0 < now_at lines place t)) (IsAt numbers kind lines place) old new gained
+      (λ a told. record { told = record { place = place; key = key; line = line; target = told.target; among = told.among; same = told.same }; here = refl }) from
+    where
+      from : (a : AccessNumbers) → IsAt numbers kind lines place a → IsTo numbers kind key (λ t. 0 < now_at lines place t) a
+      from a at =
+          let told = at.told in
+          let keys : told.key ≡ key = same_Some told.key key (sym told.line.at ∙ ap (slice_get lines.keys) at.here ∙ line.at) in
+          record { target = told.target; among = subst (λ n. 0 < now_at lines n told.target) at.here told.among; same = told.same ∙ ap (λ k. access_by numbers kind k told.target) keys }
+
+  pub in-no_place : (place : ℕ) (old : List Chunk) → IsNoLine lines place → AreGained (IsAt numbers kind lines place) old old
+  in-no_place place old none = gained-none (IsAt numbers kind lines place) old (λ a at.
+      let within = slice_get_within lines.keys at.told.place at.told.key at.told.line.at in
+      let here = at.here in
+      let behind = none.behind in
+      omega (arith, within, here, behind))
+
+  -- ---- the lines of an order
+
+  module _ (order : List LinePlace) where
+    moved-to : (from to other end : ℕ) (a : AccessNumbers) (b : IsBetween numbers kind lines order from to a) → other ≤ b.at → b.at < end → IsBetween numbers kind lines order other end a
+    moved-to from to other end a b on low = record { at = b.at; from_on = on; before = low; told = b.told }
+
+    pub between-none : (n : ℕ) (old : List Chunk) → AreGained (IsBetween numbers kind lines order n n) old old
+    between-none n old = gained-none (IsBetween numbers kind lines order n n) old (λ a b. let on = b.from_on in let low = b.before in omega (arith, on, low))
+
+    pub between-more : (from i : ℕ) (old mid new : List Chunk) → from ≤ i → AreGained (IsBetween numbers kind lines order from i) old mid → AreGained (IsAt numbers kind lines (get_or order i any_place).place) mid new
+        → AreGained (IsBetween numbers kind lines order from (i + 1)) old new
+    between-more from i old mid new on first second =
+        gained-more (IsBetween numbers kind lines order from i) (IsAt numbers kind lines (get_or order i any_place).place) (IsBetween numbers kind lines order from (i + 1)) old mid new first second split
+        (λ a b. let low = b.before in moved-to from i from (i + 1) a b b.from_on (omega (arith, low)))
+        (λ a at. record { at = i; from_on = on; before = omega arith; told = at })
+      where
+        split : (a : AccessNumbers) → IsBetween numbers kind lines order from (i + 1) a → IsBetween numbers kind lines order from i a ⊎ IsAt numbers kind lines (get_or order i any_place).place a
+        split a b =
+            let low = b.before in
+            elim (cases_eq b.at i) [
+              | inl here ↦ inr (subst (λ k. IsAt numbers kind lines (get_or order k any_place).place a) here b.told)
+              | inr there ↦ inl (moved-to from (i + 1) from i a b b.from_on (omega (arith, low, there)))
+            ]
+
+    pub between-join : (from mid to : ℕ) (old between new : List Chunk) → from ≤ mid → mid ≤ to → AreGained (IsBetween numbers kind lines order from mid) old between → AreGained (IsBetween numbers kind lines order mid to) between new
+        → AreGained (IsBetween numbers kind lines order from to) old new
+    between-join from mid to old between new on upto first second =
+        gained-more (IsBetween numbers kind lines order from mid) (IsBetween numbers kind lines order mid to) (IsBetween numbers kind lines order from to) old between new first second split
+        (λ a b. let low = b.before in moved-to from mid from to a b b.from_on (omega (arith, low, upto)))
+        (λ a b. let later = b.from_on in moved-to mid to from to a b (omega (arith, later, on)) b.before)
+      where
+        split : (a : AccessNumbers) → IsBetween numbers kind lines order from to a → IsBetween numbers kind lines order from mid a ⊎ IsBetween numbers kind lines order mid to a
+        split a b =
+            elim (cases_lt b.at mid) [
+              | inl low ↦ inl (moved-to from to from mid a b b.from_on low)
+              | inr past ↦ inr (moved-to from to mid to a b past b.before)
+            ]
+
+    -- an order that has all lines
+    pub between-all : (n : ℕ) (old new : List Chunk) → AreAllPlaces (length lines.keys) order → length order ≤ n → AreGained (IsBetween numbers kind lines order 0 n) old new → AreGained (IsIn numbers kind lines (now_at lines)) old new
+    between-all n old new all past gained =
+        gained-alike (IsBetween numbers kind lines order 0 n) (IsIn numbers kind lines (now_at lines)) old new gained (λ a b. b.told.told) from
+      where
+        from : (a : AccessNumbers) → IsIn numbers kind lines (now_at lines) a → IsBetween numbers kind lines order 0 n a
+        from a told =
+            let (k, x, low, at, is) = all told.place (slice_get_within lines.keys told.place told.key told.line.at) in
+            record {
+              at = k;
+              from_on = omega arith;
+              before = omega (arith, low, past);
+              told = record { told = told; here = sym (ap (λ (y : LinePlace). y.place) (get_or_default order k any_place x low ∙ at) ∙ is) };
+            }
+
+-- ---- one kind of tables
+
+module _ {A : Type 0} (tables : SymbolTables A) (numbers : List ℕ) (kind : RuleKind) (lines : Keyed) (at : lines ≡ lines_of tables kind) where
+  pub known-now : ArePresentNumbered numbers (count_now tables) → AreKnownIn numbers lines (now_at lines)
+  unfolding count_now
+  known-now numbered place key line t some = numbered kind key t (subst (λ (k : Keyed). 0 < keyed.count_now k key t) at (subst (λ n. 0 < n) (line.now t) some))
+
+  pub in-present : (old new : List Chunk) → AreGained (IsIn numbers kind lines (now_at lines)) old new → AreGained (IsPresentOf numbers kind (count_now tables kind)) old new
+  unfolding count_now
+  in-present old new gained =
+      subst (λ (k : Keyed). AreGained (IsPresentOf numbers kind (keyed.count_now k)) old new) at
+      (gained-alike (IsIn numbers kind lines (now_at lines)) (IsPresentOf numbers kind (keyed.count_now lines)) old new gained to from)
+    where
+      to : (a : AccessNumbers) → IsIn numbers kind lines (now_at lines) a → IsPresentOf numbers kind (keyed.count_now lines) a
+      to a told = record { key = told.key; target = told.target; absent = refl; present = subst (λ n. 0 < n) (told.line.now told.target) told.among; same = told.same }
+
+      from : (a : AccessNumbers) → IsPresentOf numbers kind (keyed.count_now lines) a → IsIn numbers kind lines (now_at lines) a
+      from a told =
+          let (l, line) = line-now lines told.key told.target told.present in
+          record { place = l; key = told.key; line = line; target = told.target; among = subst (λ n. 0 < n) (sym (line.now told.target)) told.present; same = told.same }

@@ -1,0 +1,174 @@
+//! The accesses that some rule gives, before they are put in order.
+
+ghost use Rattle.std.specs.Prelude.{◌<◌, ◌≤◌, ◌↔◌, ℕ, length, IfOk, OnOk};
+ghost use Rattle.std.specs.List.{All};
+ghost use Rattle.cil_accesses.specs.Chunks.{IsGiven};
+ghost use Rattle.cil_accesses.specs.declared.access.AccessNumbers.{AccessNumbers};
+ghost use Rattle.cil_keyed_lines.specs.Keyed.{now_at, IsLineOf};
+ghost use Rattle.cil_symbol_tables.specs.Tables.{count_now};
+ghost use Rattle.cil_symbol_changes.specs.Gained.{AreGained, AreKnownIn, IsIn, IsShort, IsTo};
+ghost use Rattle.cil_symbol_changes.specs.Numbered.{ArePresentNumbered, IsPresent, IsPresentOf};
+ghost use Rattle.cil_symbol_changes.specs.SourceOrder.{AreAllPlaces, IsAt, IsBetween};
+
+use crate::source_order::{LinePlace, by_source, source_end};
+use crate::targets::push_targets;
+use cil_accesses::{Chunk, sort_from};
+use cil_keyed_lines::{KeyedLines, SymbolKey};
+use cil_symbol_tables::SymbolTables;
+use cil_text::RuleKind;
+use std::alloc::{AllocError, Allocator};
+
+/// How many words of the line of a place have a target whose counter is above 0.
+fn line_words<A: Allocator>(lines: &KeyedLines<A>, place: usize) -> usize {
+    let mut words: usize = 0;
+    let mut from = 0;
+    while let Some(word) = lines.next_present_word(place, from) {
+        words = words.saturating_add(1);
+        let Some(next) = word.checked_add(1) else {
+            return words;
+        };
+        from = next;
+    }
+    words
+}
+
+/// The same of all lines of a kind.
+fn kind_words<A: Allocator>(tables: &SymbolTables<A>, kind: RuleKind) -> usize {
+    let lines = tables.lines(kind);
+    let mut words: usize = 0;
+    for place in 0..lines.len() {
+        words = words.saturating_add(line_words(lines, place));
+    }
+    words
+}
+
+/// About how many chunks the accesses take that tables count: a list of them that grew would take twice the room.
+fn chunks_len<A: Allocator>(tables: &SymbolTables<A>) -> usize {
+    kind_words(tables, RuleKind::Allow)
+        .saturating_add(kind_words(tables, RuleKind::AuditAllow))
+        .saturating_add(kind_words(tables, RuleKind::DontAudit))
+        .saturating_add(kind_words(tables, RuleKind::NeverAllow))
+}
+
+/// Appends the accesses of a key to the targets whose counters in its line are above 0.
+fn push_line<A: Allocator>(
+    chunks: &mut Vec<Chunk, A>,
+    kind: RuleKind,
+    lines: &KeyedLines<A>,
+    place: usize,
+    key: SymbolKey,
+    numbers: &[u32],
+) -> Result<(), AllocError>
+    requires line { IsLineOf lines.now place key }
+    requires known { AreKnownIn numbers.now lines.now (now_at lines.now) }
+    requires short { All IsShort chunks.old.items }
+    ensures { OnOk result (AreGained (IsTo numbers.now kind key (λ t. 0 < now_at lines.now place t)) chunks.old.items chunks.new.items) }
+{
+    let mut from = 0;
+    while let Some(word) = lines.next_present_word(place, from) {
+        let mask = lines.present(place, word);
+        push_targets(chunks, kind, key, word, mask, numbers)?;
+        from = word + 1;
+    }
+    Ok(())
+}
+
+/// Appends the accesses to the targets whose counters in the line of a place are above 0.
+fn push_place<A: Allocator>(
+    chunks: &mut Vec<Chunk, A>,
+    kind: RuleKind,
+    lines: &KeyedLines<A>,
+    place: usize,
+    numbers: &[u32],
+) -> Result<(), AllocError>
+    requires known { AreKnownIn numbers.now lines.now (now_at lines.now) }
+    requires short { All IsShort chunks.old.items }
+    ensures { OnOk result (AreGained (IsAt numbers.now kind lines.now place) chunks.old.items chunks.new.items) }
+{
+    match lines.at(place) {
+        Some(key) => push_line(chunks, kind, lines, place, key, numbers),
+        None => Ok(()),
+    }
+}
+
+/// Appends the accesses of the lines from one place of an order up to another, and puts them in order: a few at a time, where these
+/// lines are of one source.
+fn push_source<A: Allocator>(
+    chunks: &mut Vec<Chunk, A>,
+    kind: RuleKind,
+    lines: &KeyedLines<A>,
+    order: &[LinePlace],
+    from: usize,
+    to: usize,
+    numbers: &[u32],
+) -> Result<(), AllocError>
+    requires order { from ≤ to }
+    requires within { to ≤ length order.now }
+    requires known { AreKnownIn numbers.now lines.now (now_at lines.now) }
+    requires short { All IsShort chunks.old.items }
+    ensures { OnOk result (AreGained (IsBetween numbers.now kind lines.now order.now from to) chunks.old.items chunks.new.items) }
+{
+    let start = chunks.len();
+    for i in from..to {
+        push_place(chunks, kind, lines, order[i].place, numbers)?;
+    }
+    sort_from(chunks, start);
+    Ok(())
+}
+
+/// Appends the accesses of the targets whose counters are above 0, source by source.
+fn push_lines<A: Allocator>(
+    chunks: &mut Vec<Chunk, A>,
+    kind: RuleKind,
+    lines: &KeyedLines<A>,
+    order: &[LinePlace],
+    numbers: &[u32],
+) -> Result<(), AllocError>
+    requires all { AreAllPlaces (length lines.now.keys) order.now }
+    requires known { AreKnownIn numbers.now lines.now (now_at lines.now) }
+    requires short { All IsShort chunks.old.items }
+    ensures { OnOk result (AreGained (IsIn numbers.now kind lines.now (now_at lines.now)) chunks.old.items chunks.new.items) }
+{
+    let mut from = 0;
+    while from < order.len() {
+        let to = source_end(order, from);
+        push_source(chunks, kind, lines, order, from, to, numbers)?;
+        from = to;
+    }
+    Ok(())
+}
+
+/// Appends the accesses of a kind that some rule gives.
+fn push_kind<A: Allocator + Copy>(
+    chunks: &mut Vec<Chunk, A>,
+    alloc: A,
+    tables: &SymbolTables<A>,
+    kind: RuleKind,
+    numbers: &[u32],
+) -> Result<(), AllocError>
+    requires numbered { ArePresentNumbered numbers.now (count_now tables.now) }
+    requires short { All IsShort chunks.old.items }
+    ensures { OnOk result (AreGained (IsPresentOf numbers.now kind (count_now tables.now kind)) chunks.old.items chunks.new.items) }
+{
+    let lines = tables.lines(kind);
+    let order = by_source(alloc, lines, numbers)?;
+    push_lines(chunks, kind, lines, &order, numbers)
+}
+
+/// The accesses of all kinds that some rule gives.
+pub fn collect_present<A: Allocator + Copy>(
+    alloc: A,
+    tables: &SymbolTables<A>,
+    numbers: &[u32],
+) -> Result<Vec<Chunk, A>, AllocError>
+    requires { ArePresentNumbered numbers.now (count_now tables.now) }
+    ensures given { IfOk result (λ chunks. (a : AccessNumbers) → IsGiven chunks.items a ↔ IsPresent numbers.now (count_now tables.now) a) }
+    ensures short { IfOk result (λ chunks. All IsShort chunks.items) }
+{
+    let mut chunks = Vec::with_capacity(alloc, chunks_len(tables))?;
+    push_kind(&mut chunks, alloc, tables, RuleKind::Allow, numbers)?;
+    push_kind(&mut chunks, alloc, tables, RuleKind::AuditAllow, numbers)?;
+    push_kind(&mut chunks, alloc, tables, RuleKind::DontAudit, numbers)?;
+    push_kind(&mut chunks, alloc, tables, RuleKind::NeverAllow, numbers)?;
+    Ok(chunks)
+}
