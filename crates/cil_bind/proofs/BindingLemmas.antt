@@ -1,7 +1,7 @@
 -- References that are bound.
-use Rattle.std.proofs.Common.{◌≡◌, ℕ, zero, suc, ◌+◌, ◌<◌, ◌≤◌, List, [], ◌∷◌, ◌++◌, map, length, get_or, slice_get, take, Option, Some, None, refl, sym, ap, ◌∙◌, subst, add-one, arith}
-use Rattle.std.proofs.lemmas.List.{length-map, take_all}
-use Rattle.std.proofs.lemmas.Option.{none-some}
+use Rattle.std.proofs.Common.{◌≡◌, ℕ, zero, suc, ◌+◌, ◌≤◌, List, [], ◌∷◌, ◌++◌, map, length, get_or, slice_get, take, Option, Some, None, refl, sym, ap, ◌∙◌, subst, add-one, arith}
+use Rattle.std.proofs.lemmas.List.{length-map, map-append, take_all}
+use Rattle.std.proofs.lemmas.Option.{none-some, same_Some}
 use Rattle.cil_specs.specs.Names.{Word}
 use Rattle.cil_specs.specs.Expr.{leaves}
 use Rattle.cil_specs.specs.Statements.{Form, block, optional, type_name, type_alias, alias_actual, type_attribute, attribute_set, common, class, class_common, class_order, rule, itself, the_named}
@@ -12,13 +12,17 @@ use Rattle.cil_parse.specs.Flat.{FlatStatement}
 use Rattle.cil_parse.specs.Forms.{words_in}
 use Rattle.cil_bind.specs.Rows.{AreRows}
 use Rattle.cil_bind.specs.declared.rows.Row.{Row}
-use Rattle.cil_bind.proofs.DeclareLemmas.{row-at, rows-length}
+use Rattle.cil_bind.proofs.DeclareLemmas.{rows-length}
 use Rattle.cil_parse.specs.View.{IsShown}
 use Rattle.cil_parse.specs.declared.row.NumberedWord.{NumberedWord}
 use Rattle.cil_parse.specs.declared.view.StatementView.{StatementView}
-use Rattle.cil_bind.specs.Lookup.{namespace_at, IsLead}
-use Rattle.cil_bind.specs.Binding.{AreLeads, AreBound, Binds}
-use Rattle.cil_bind.proofs.PositionLemmas.{take-next}
+use Rattle.cil_bind.specs.Lookup.{IsLead}
+use Rattle.cil_parse.specs.Forms.{kind_of}
+use Rattle.cil_parse.specs.declared.row.StatementKind.{StatementKind}
+use Rattle.cil_bind.specs.Binding.{AreLeads, AreBound, Binds, kinds_of}
+use Rattle.cil_bind.specs.Scope.{AreFrom}
+use Rattle.cil_bind.specs.declared.joined.NamedModule.{NamedModule}
+use Rattle.cil_bind.proofs.PositionLemmas.{take-next, take-last}
 use Rattle.cil_bind.proofs.ScopeLemmas.{read-text}
 
 leads-push : (policy : List Placed) (namespace : List (List ℕ)) (refs : List (Table × Word)) (bound : List (Option ℕ)) (r : Table × Word) (found : Option ℕ) → AreLeads policy namespace refs bound
@@ -89,18 +93,61 @@ bound-next policy statements s namespace form old new are binds here same =
     subst (AreBound policy (statements ++ s ∷ [])) (sym (ap (λ p. p.0) binds.added))
     (bound-push policy statements old.0 s binds.bound are (subst (λ n. AreLeads policy n (references s.form) binds.bound) here (subst (λ f. AreLeads policy namespace (references f) binds.bound) same binds.leads_are)))
 
--- one row more
-pub row-bound : (names spaces : List (List ℕ)) (rows : List Row) (policy : List Placed) (i : ℕ) (row : Row) (s : Placed) (n : ℕ) (form : Form) (old new : List (List (Option ℕ)) × List (Option ℕ)) → AreRows names spaces rows policy
-    → slice_get rows i ≡ Some row → slice_get policy i ≡ Some s → (row.namespace < length spaces → n ≡ row.namespace) → form ≡ s.form → Binds policy (namespace_at names spaces n) form old new → AreBound policy (take i policy) old.0
-    → AreBound policy (take (i + 1) policy) new.0
-row-bound names spaces rows policy i row s n form old new are at here known same binds so_far =
-    let is = row-at names spaces rows policy i row s are at here in
-    let next : take (i + 1) policy ≡ take i policy ++ s ∷ [] = rw add-one (take-next policy i s here) in
-    subst (λ l. AreBound policy l new.0) (sym next)
-    (bound-next policy (take i policy) s (namespace_at names spaces n) form old new so_far binds (ap (namespace_at names spaces) (known is.within) ∙ is.here) same)
+-- one statement of the policy more
+pub next-bound : (policy statements : List Placed) (i : ℕ) (s : Placed) (old new : List (List (Option ℕ)) × List (Option ℕ)) → slice_get statements i ≡ Some s → Binds policy s.namespace s.form old new → AreBound policy (take i statements) old.0
+    → AreBound policy (take (i + 1) statements) new.0
+next-bound policy statements i s old new here binds so_far =
+    let next : take (i + 1) statements ≡ take i statements ++ s ∷ [] = rw add-one (take-next statements i s here) in
+    subst (λ l. AreBound policy l new.0) (sym next) (bound-next policy (take i statements) s s.namespace s.form old new so_far binds refl refl)
+
+-- the references of a statement from its namespace and by what it says
+pub binds-same : (policy : List Placed) (namespace other : List (List ℕ)) (form same : Form) (old new : List (List (Option ℕ)) × List (Option ℕ)) → namespace ≡ other → form ≡ same → Binds policy namespace form old new → Binds policy other same old new
+binds-same policy namespace other form same old new here e binds = subst (λ n. Binds policy n same old new) here (subst (λ f. Binds policy namespace f old new) e binds)
 
 pub rows-all : (names spaces : List (List ℕ)) (rows : List Row) (policy statements : List Placed) (i : ℕ) (bound : List (List (Option ℕ))) → AreRows names spaces rows statements → length rows ≤ i → AreBound policy (take i statements) bound
     → AreBound policy statements bound
 rows-all names spaces rows policy statements i bound are past so_far =
     let long = rows-length names spaces rows statements are in
     subst (λ l. AreBound policy l bound) (take_all i statements (omega arith)) so_far
+
+pub bound-length : (policy statements : List Placed) (bound : List (List (Option ℕ))) → AreBound policy statements bound → length bound ≡ length statements
+bound-length policy [] [] are = refl
+bound-length policy [] (b ∷ bound) are = absurd are
+bound-length policy (s ∷ statements) [] are = absurd are
+bound-length policy (s ∷ statements) (b ∷ bound) are = ap suc (bound-length policy statements bound are.1)
+
+-- the references of a statement are bound
+pub bound-at : (policy statements : List Placed) (bound : List (List (Option ℕ))) (i : ℕ) (s : Placed) → AreBound policy statements bound → slice_get statements i ≡ Some s
+    → AreLeads policy s.namespace (references s.form) (get_or bound i [])
+bound-at policy [] bound i s are at = absurd (none-some s at)
+bound-at policy (t ∷ statements) [] i s are at = absurd are
+bound-at policy (t ∷ statements) (b ∷ bound) zero s are at = subst (λ u. AreLeads policy u.namespace (references u.form) b) (same_Some t s at) are.0
+bound-at policy (t ∷ statements) (b ∷ bound) (suc i) s are at = bound-at policy statements bound i s are.1 at
+
+-- one kind more
+pub kinds-push : (statements : List Placed) (s : Placed) (old new : List StatementKind) (kind : StatementKind) → old ≡ kinds_of statements → kind ≡ kind_of s.form → new ≡ old ++ kind ∷ [] → new ≡ kinds_of (statements ++ s ∷ [])
+kinds-push statements s old new kind so_far is pushed = pushed ∙ (λ k. so_far k ++ is k ∷ []) ∙ sym (map-append (λ t. kind_of t.form) statements (s ∷ []))
+
+pub kinds-next : (policy : List Placed) (i : ℕ) (s : Placed) (old new : List StatementKind) (kind : StatementKind) → slice_get policy i ≡ Some s → old ≡ kinds_of (take i policy) → kind ≡ kind_of s.form → new ≡ old ++ kind ∷ []
+    → new ≡ kinds_of (take (i + 1) policy)
+kinds-next policy i s old new kind at so_far is pushed = kinds-push (take i policy) s old new kind so_far is pushed ∙ ap kinds_of (sym (take-last policy i s at))
+
+from-length : {A : Type 0} (parsed : List (NamedModule A)) (rows : List Row) (policy : List Placed) → AreFrom parsed rows policy → length rows ≡ length policy
+from-length parsed [] [] are = refl
+from-length parsed [] (s ∷ policy) are = absurd are
+from-length parsed (row ∷ rows) [] are = absurd are
+from-length parsed (row ∷ rows) (s ∷ policy) are = ap suc (from-length parsed rows policy are.1)
+
+pub kinds-all : {A : Type 0} (parsed : List (NamedModule A)) (rows : List Row) (policy : List Placed) (i : ℕ) (kinds : List StatementKind) → AreFrom parsed rows policy → length rows ≤ i → kinds ≡ kinds_of (take i policy) → kinds ≡ kinds_of policy
+kinds-all parsed rows policy i kinds are past so_far =
+    let long = from-length parsed rows policy are in
+    so_far ∙ ap kinds_of (take_all i policy (omega arith))
+
+-- the kind of a statement
+pub kind-at : (policy : List Placed) (kinds : List StatementKind) (i : ℕ) (s : Placed) (d : StatementKind) → kinds ≡ kinds_of policy → slice_get policy i ≡ Some s → get_or kinds i d ≡ kind_of s.form
+kind-at policy kinds i s d are at = ap (λ l. get_or l i d) are ∙ there policy i at
+  where
+    there : (xs : List Placed) (i : ℕ) → slice_get xs i ≡ Some s → get_or (kinds_of xs) i d ≡ kind_of s.form
+    there [] i e = absurd (none-some s e)
+    there (x ∷ xs) zero e = ap (λ t. kind_of t.form) (same_Some x s e)
+    there (x ∷ xs) (suc i) e = there xs i e

@@ -11,9 +11,12 @@ pub mod BindingLemmas
 pub mod FromLemmas
 pub mod RestrictLemmas
 pub mod MemoLemmas
+pub mod StayLemmas
+pub mod MoveLemmas
 pub mod AroundLemmas
 pub mod OrderedLemmas
 pub mod NestedLemmas
 pub mod WrittenLemmas
 pub mod TwiceLemmas
 pub mod PermissionLemmas
+pub mod KnownListLemmas

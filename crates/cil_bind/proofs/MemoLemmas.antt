@@ -5,7 +5,7 @@ use Rattle.cil_specs.specs.Joined.{Placed}
 use Rattle.cil_specs.specs.Lookup.{leads}
 use Rattle.cil_parse.specs.Parsed.{texts_of}
 use Rattle.cil_parse.specs.declared.table.Table as code
-use Rattle.cil_bind.specs.Lookup.{namespace_at, table_of, table_index, IsLead}
+use Rattle.cil_bind.specs.Lookup.{namespace_at, table_index, IsLead}
 use Rattle.cil_bind.specs.Words.{LeadsTo, Remembers, RemembersNothing}
 use Rattle.cil_bind.specs.declared.joined.NamedModule.{NamedModule}
 use Rattle.cil_bind.specs.declared.memo.Remembered.{Remembered}

@@ -26,7 +26,7 @@ use Rattle.cil_bind.proofs.ScopeLemmas.{stands-next, kind-optional}
 same-long : {X Y Z : Type 0} (f : X → Z) (g : Y → Z) (xs : List X) (ys : List Y) → map f xs ≡ map g ys → length xs ≡ length ys
 same-long f g xs ys e = sym (length-map xs f) ∙ ap length e ∙ length-map ys g
 
-get-there : {X : Type 0} (xs : List X) (i : ℕ) → i < length xs → (x : X) × (slice_get xs i ≡ Some x)
+pub get-there : {X : Type 0} (xs : List X) (i : ℕ) → i < length xs → (x : X) × (slice_get xs i ≡ Some x)
 get-there [] i low = absurd (omega arith)
 get-there (x ∷ xs) zero low = (x, refl)
 get-there (x ∷ xs) (suc i) low = get-there xs i (omega arith)

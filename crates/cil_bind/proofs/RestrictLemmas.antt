@@ -1,5 +1,5 @@
 -- The statements of a policy that stand in kept optionals alone.
-use Rattle.std.proofs.Common.{◌≡◌, ◌⊎◌, inl, inr, ℕ, suc, ◌<◌, ◌≤◌, ◌^◌, length, Bool, true, false, cond, List, [], ◌∷◌, filter, get_or, Contains, refl, sym, ap, ◌∙◌, subst, arith}
+use Rattle.std.proofs.Common.{◌≡◌, ◌⊎◌, inl, inr, ℕ, suc, ◌<◌, ◌≤◌, ◌^◌, length, Bool, true, false, cond, if◌then◌else◌, List, [], ◌∷◌, filter, get_or, Some, None, Contains, refl, sym, ap, ◌∙◌, subst, arith}
 use Rattle.cil_specs.specs.Statements.{stands_apart}
 use Rattle.cil_specs.specs.Joined.{Placed}
 use Rattle.std.specs.List.{list_all}
@@ -8,11 +8,12 @@ use Rattle.cil_specs.proofs.Runs.{first_true, second_true}
 use Rattle.cil_specs.proofs.NamesLemmas.{contains-cases, contains-first, contains-other}
 use Rattle.cil_bind.specs.Rows.{AreRows}
 use Rattle.cil_bind.specs.Scope.{IsOpenedIn, Stands, AreFrom}
+use Rattle.cil_bind.specs.Binding.{places_from}
 use Rattle.cil_bind.specs.Policy.{AreMarked}
 use Rattle.cil_bind.specs.declared.joined.NamedModule.{NamedModule}
 use Rattle.cil_bind.specs.declared.rows.Row.{Row}
 
-abbrev mark : List Bool → Row → Bool
+abbrev pub mark : List Bool → Row → Bool
 mark kept row = get_or kept row.optional false
 
 rows-kept : (names spaces : List (List ℕ)) (set : Optionals) (kept : List Bool) (rows : List Row) (policy : List Placed) → AreMarked set kept rows policy → AreRows names spaces rows policy → AreRows names spaces (filter (mark kept) rows) (restricted set policy)
@@ -101,3 +102,12 @@ all-restricted set kept rows seen policy same all marked = whole rows policy (ap
     whole (row ∷ rows) (s ∷ policy) all marked =
         ap (λ b. cond b (s ∷ restricted set policy) (restricted set policy)) (sym marked.0 ∙ first_true (mark kept row) (list_all (mark kept) rows) all)
         ∙ ap (λ l. s ∷ l) (whole rows policy (second_true (mark kept row) (list_all (mark kept) rows) all) marked.1)
+
+-- the new places of the rows are those of their statements
+pub places-marked : (set : Optionals) (kept : List Bool) (n : ℕ) (rows : List Row) (policy : List Placed) → AreMarked set kept rows policy → places_from (mark kept) n rows ≡ places_from (is_within set) n policy
+places-marked set kept n [] [] marked = refl
+places-marked set kept n [] (s ∷ policy) marked = absurd marked
+places-marked set kept n (row ∷ rows) [] marked = absurd marked
+places-marked set kept n (row ∷ rows) (s ∷ policy) marked =
+    (λ i. (if marked.0 i then Some n else None) ∷ places_from (mark kept) (if marked.0 i then suc n else n) rows)
+    ∙ ap (λ l. (if is_within set s then Some n else None) ∷ l) (places-marked set kept (if is_within set s then suc n else n) rows policy marked.1)

@@ -5,7 +5,7 @@ use Rattle.std.specs.Option.{option_map}
 use Rattle.std.proofs.lemmas.List.{get_or_append_left}
 use Rattle.std.proofs.lemmas.Option.{none-some, same_Some}
 use Rattle.cil_specs.specs.Names.{Word}
-use Rattle.cil_specs.specs.Statements.{Form, block, optional, rule, itself, the_named, is_optional}
+use Rattle.cil_specs.specs.Statements.{Form, block, rule, itself, the_named, is_optional}
 use Rattle.cil_specs.specs.Joined.{Placed}
 use Rattle.cil_specs.specs.Lookup.{Table, types, classes, commons, scopes, declared_in}
 use Rattle.cil_text.specs.Image.{place_of}

@@ -1,17 +1,16 @@
 -- What holds of the statements of modules that are spelt by texts.
-use Rattle.std.proofs.Common.{◌≡◌, ℕ, Bool, true, false, not, ◌&&◌, ◌||◌, ◌==◌, cond, nat_le, List, [], ◌∷◌, length, map, None, Some, if◌then◌else◌, refl, sym, ap, ◌∙◌, true≢false}
+use Rattle.std.proofs.Common.{◌≡◌, ℕ, Bool, true, false, not, ◌||◌, List, [], ◌∷◌, map, None, Some, if◌then◌else◌, refl, sym}
 use Rattle.std.specs.List.{AllByRecursion, list_any}
 use Rattle.std.specs.Option.{IfSome}
 use Rattle.std.proofs.lemmas.Option.{none-some}
 use Rattle.cil_specs.specs.TextFault.{bad_name, reserved}
-use Rattle.cil_specs.specs.Names.{Word, declared, begins_name, is_name_byte, is_name, components, is_reserved}
+use Rattle.cil_specs.specs.Names.{Word, declared, is_name, components, is_reserved}
 use Rattle.cil_specs.specs.Shape.{IsGoodWord, Shapes}
 use Rattle.cil_specs.specs.Statements.{Form, block, optional, type_name, type_alias, alias_actual, type_attribute, attribute_set, common, class, class_common, class_order, rule, target_words, words_of, as_declared, as_referred, is_optional, Statements, no_more, statement, are_apart}
-use Rattle.cil_specs.specs.Joined.{Module, Placed, namespace_inside, optionals_inside, placed, joined}
+use Rattle.cil_specs.specs.Joined.{Module, namespace_inside, optionals_inside, placed, joined}
 use Rattle.cil_specs.specs.Kept.{AreApart}
 use Rattle.cil_specs.specs.Lookup.{types, declared_in}
 use Rattle.cil_specs.specs.Trees.{Trees}
-use Rattle.cil_specs.proofs.Runs.{first_true, second_true}
 use Rattle.cil_specs.proofs.NamesLemmas.{all-weaker, all-append, all-second, all-contained}
 use Rattle.cil_specs.proofs.ShapeLemmas.{shapes_apart}
 use Rattle.cil_specs.proofs.ApartLemmas.{joined-apart}

@@ -9,3 +9,4 @@ pub mod Ordered
 pub mod Nested
 pub mod Written
 pub mod Listing
+pub mod KnownLists

@@ -10,7 +10,7 @@ use Rattle.cil_bind.specs.Lookup.{Knows}
 use Rattle.cil_bind.specs.Rows.{IsOnce}
 use Rattle.cil_bind.specs.Scope.{Stands, AreFrom, AreAround}
 use Rattle.cil_bind.specs.Words.{AreWorded}
-use Rattle.cil_bind.specs.Binding.{AreBound}
+use Rattle.cil_bind.specs.Binding.{AreBound, kinds_of}
 use Rattle.cil_bind.specs.declared.joined.NamedModule.{NamedModule}
 use Rattle.cil_bind.specs.declared.redeclaration.Redeclaration.{Redeclaration}
 use Rattle.cil_bind.specs.declared.policy.Policy.{Policy}
@@ -18,7 +18,7 @@ use Rattle.cil_bind.specs.declared.policy.Joining.{Joining}
 use Rattle.cil_bind.specs.declared.policy.Joining.TheVariants.{Once, Twice}
 
 -- The words, the namespaces and the rows are those of this policy; each name has its first declaration, and none is declared twice;
--- each reference is bound to what it leads to; and places have 32 bits.
+-- each reference is bound to what it leads to; the kinds are those of the statements; and places have 32 bits.
 pub record IsBoundTo {A : Type 0} (p : Policy A) (parsed : List (NamedModule A)) (policy : List Placed) : Type 0 where
   pub stands : Stands p.names p.lookup.namespaces p.rows.items policy
   pub from : AreFrom parsed p.rows.items policy
@@ -26,6 +26,7 @@ pub record IsBoundTo {A : Type 0} (p : Policy A) (parsed : List (NamedModule A))
   pub once : IsOnce policy
   pub worded : AreWorded p.names p.words.items parsed
   pub bound : AreBound policy policy p.bound.0
+  pub kinds : p.kinds.items ≡ kinds_of policy
   pub few : length p.rows.items < 2 ^ 32
 
 -- a word of a statement, by its module and its place

@@ -3,21 +3,22 @@
 ghost use Rattle.std.specs.Prelude.{◌≡◌, ◌<◌, ℕ, List, [], length, OnOk, IfOk};
 ghost use Rattle.cil_specs.specs.Joined.{Placed};
 ghost use Rattle.cil_parse.specs.Flat.{FlatStatement};
+ghost use Rattle.cil_parse.specs.Forms.{kind_of};
 ghost use Rattle.cil_parse.specs.Lexicon.{AreNumbersOf};
 ghost use Rattle.cil_parse.specs.Parsed.{names_of, texts_of};
 ghost use Rattle.cil_parse.specs.View.{IsShown};
 ghost use Rattle.cil_bind.specs.Lookup.{namespace_at as namespace_of, Knows};
-ghost use Rattle.cil_bind.specs.Binding.{Binds, AreBound};
-ghost use Rattle.cil_bind.specs.Rows.{AreRows};
-ghost use Rattle.cil_bind.specs.Scope.{AreFrom};
-ghost use Rattle.cil_bind.specs.Words.{AreWorded, AsKnown, Remembers};
+ghost use Rattle.cil_bind.specs.Binding.{Binds, AreBound, kinds_of};
+ghost use Rattle.cil_bind.specs.Rows.{IsRow, AreRows};
+ghost use Rattle.cil_bind.specs.Scope.{IsFrom, AreFrom};
+ghost use Rattle.cil_bind.specs.Words.{AreWorded, AsKnown, Remembers, RemembersOf};
 
 use crate::joined::Joined;
 use crate::lookup::Lookup;
 use crate::memo::Memo;
 use crate::rows::Row;
-use cil_parse::{Lists, ParsedModule, StatementView};
-use std::alloc::{AllocError, Allocator};
+use cil_parse::{Lists, ParsedModule, StatementKind, StatementView};
+use std::alloc::{AllocError, Allocator, Global};
 
 /// Binds the references of a statement of a module from a namespace, in a list of their own. The words are the numbers of the module's
 /// names.
@@ -67,38 +68,86 @@ fn known<A: Allocator>(lookup: &Lookup<A>, namespace: u32) -> u32
     0
 }
 
-/// Binds the references of all rows: a list for each.
+/// Binds the references of the statement of a row, in a list of their own, and tells its kind.
+pub fn bind_row<A: Allocator + Copy>(
+    alloc: A,
+    lookup: &Lookup<A>,
+    joined: &Joined<'_, A>,
+    words: &[Vec<u32, A>],
+    row: &Row,
+    memo: &mut Memo<A>,
+    bound: &mut Lists<Option<u32>, A>,
+) -> Result<StatementKind, AllocError>
+    requires worded { (names : List (List ℕ)) × AreWorded names words.now joined.now.modules.items }
+    requires from { (s : Placed) × IsFrom joined.now.modules.items row.now s }
+    requires closed { bound.old.1 ≡ [] }
+    ensures closed { OnOk result (bound.new.1 ≡ []) }
+    ensures binds { OnOk result ((names : List (List ℕ)) (policy : List Placed) (s : Placed) → Knows lookup.now.namespaces lookup.now.declared.entries names policy
+        → AreWorded names words.now joined.now.modules.items → RemembersOf joined.now.modules.items names lookup.now.namespaces policy memo.old
+        → IsRow names lookup.now.namespaces row.now s → IsFrom joined.now.modules.items row.now s → Binds policy s.namespace s.form bound.old bound.new) }
+    ensures remembers { OnOk result ((names : List (List ℕ)) (policy : List Placed) → Knows lookup.now.namespaces lookup.now.declared.entries names policy
+        → AreWorded names words.now joined.now.modules.items → RemembersOf joined.now.modules.items names lookup.now.namespaces policy memo.old
+        → RemembersOf joined.now.modules.items names lookup.now.namespaces policy memo.new) }
+    ensures kind { IfOk result (λ kind. (s : Placed) → IsFrom joined.now.modules.items row.now s → kind ≡ kind_of s.form) }
+{
+    let number = row.module as usize;
+    let module = joined.modules[number].module;
+    let view = module.statement(row.index as usize);
+    let namespace = known(lookup, row.namespace);
+    memo.turn_to(alloc, row.module, module.text_count())?;
+    bind_statement(
+        lookup,
+        module,
+        words[number].as_slice(),
+        namespace,
+        &view,
+        memo,
+        bound,
+    )?;
+    Ok(view.kind)
+}
+
+/// What is read of the statements of rows: what their references are bound to, a list for each, and their kinds.
+#[derive(Drop)]
+pub struct Bound<A: Allocator = Global> {
+    pub references: Lists<Option<u32>, A>,
+    pub kinds: Vec<StatementKind, A>,
+}
+
+/// About how many references so many statements have: most are rules, which have three. A list that grew would be copied.
+pub fn room(statements: usize) -> usize {
+    statements.saturating_mul(3)
+}
+
+/// Binds the references of all rows.
 pub fn bind<A: Allocator + Copy>(
     alloc: A,
     lookup: &Lookup<A>,
     joined: &Joined<'_, A>,
     words: &[Vec<u32, A>],
     rows: &[Row],
-) -> Result<Lists<Option<u32>, A>, AllocError>
+) -> Result<Bound<A>, AllocError>
     requires worded { (names : List (List ℕ)) × AreWorded names words.now joined.now.modules.items }
     requires from { (policy : List Placed) × AreFrom joined.now.modules.items rows.now policy }
-    ensures { IfOk result (λ bound. (names : List (List ℕ)) (policy : List Placed) → Knows lookup.now.namespaces lookup.now.declared.entries names policy
+    ensures references { IfOk result (λ bound. (names : List (List ℕ)) (policy : List Placed) → Knows lookup.now.namespaces lookup.now.declared.entries names policy
         → AreWorded names words.now joined.now.modules.items → AreRows names lookup.now.namespaces rows.now policy → AreFrom joined.now.modules.items rows.now policy
-        → AreBound policy policy bound.0) }
+        → AreBound policy policy bound.references.0) }
+    ensures kinds { IfOk result (λ bound. (policy : List Placed) → AreFrom joined.now.modules.items rows.now policy → bound.kinds.items ≡ kinds_of policy) }
 {
-    let mut bound = Lists::with_capacity(alloc, rows.len(), rows.len())?;
+    let mut references = Lists::with_capacity(alloc, rows.len(), room(rows.len()))?;
+    let mut kinds = Vec::with_capacity(alloc, rows.len())?;
     let mut memo = Memo::new(alloc);
     for i in 0..rows.len() {
-        let row = rows[i];
-        let number = row.module as usize;
-        let module = joined.modules[number].module;
-        let view = module.statement(row.index as usize);
-        let namespace = known(lookup, row.namespace);
-        memo.turn_to(alloc, row.module, module.text_count())?;
-        bind_statement(
+        let kind = bind_row(
+            alloc,
             lookup,
-            module,
-            words[number].as_slice(),
-            namespace,
-            &view,
+            joined,
+            words,
+            &rows[i],
             &mut memo,
-            &mut bound,
+            &mut references,
         )?;
+        kinds.push(kind)?;
     }
-    Ok(bound)
+    Ok(Bound { references, kinds })
 }

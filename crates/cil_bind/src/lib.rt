@@ -4,9 +4,11 @@
 mod binding;
 mod declarations;
 mod joined;
+mod known_lists;
 mod laws;
 mod lookup;
 mod memo;
+mod moving;
 mod names;
 mod namespaces;
 mod policy;
@@ -16,6 +18,7 @@ mod scope;
 mod words;
 
 pub use joined::{Joined, NamedModule, join};
+pub use known_lists::{KnownLists, PermissionList};
 pub use laws::{
     first_again_is_first_fault, first_again_is_least, kept_is_once, kept_is_ordered,
     kept_permissions_are_names, names_are_in_order, permissions_are_names, policies_are_apart,

@@ -14,15 +14,16 @@ use crate::binding::bind;
 use crate::declarations::{Declarations, Declared};
 use crate::joined::Joined;
 use crate::lookup::Lookup;
+use crate::moving::{kept_kinds, places_of, rebind};
 use crate::names::Names;
 use crate::redeclaration::Redeclaration;
-use crate::rows::Row;
+use crate::rows::{Row, is_kept};
 use crate::scope::Scope;
-use cil_parse::Lists;
+use cil_parse::{Lists, StatementKind};
 use std::alloc::{AllocError, Allocator, Global};
 
 /// A joined policy: its words in one numbering, with the numbers of each module's names; its namespaces and the first declaration of each
-/// name; its statements; and for each statement what its references are bound to, by places.
+/// name; its statements; and for each statement what its references are bound to, by places, and its kind.
 #[derive(Drop)]
 pub struct Policy<'m, A: Allocator = Global> {
     pub names: Names<'m, A>,
@@ -30,6 +31,7 @@ pub struct Policy<'m, A: Allocator = Global> {
     pub lookup: Lookup<A>,
     pub rows: Vec<Row, A>,
     pub bound: Lists<Option<u32>, A>,
+    pub kinds: Vec<StatementKind, A>,
 }
 
 /// A policy in which each name is declared once, or the first name that is declared again.
@@ -78,23 +80,40 @@ impl<'m, A: Allocator + Copy> Policy<'m, A> {
         if are_kept(self.rows.as_slice(), kept) {
             return Ok(self);
         }
+        let places = places_of(alloc, self.rows.as_slice(), kept)?;
         let Policy {
             names,
             words,
             lookup,
             rows,
-            bound: _,
+            bound,
+            kinds,
         } = self;
         let mut rows = rows;
         retain_kept(&mut rows, kept);
         let declarations = Declarations::of_once(alloc, rows.as_slice())?;
-        let scope = Scope {
-            names,
+        let lookup = Lookup {
             namespaces: lookup.namespaces,
-            rows,
+            declared: declarations.first,
         };
-        let policy = Policy::of_scope(alloc, joined, scope, words, declarations)?;
-        Ok(policy)
+        let bound = rebind(
+            alloc,
+            &lookup,
+            joined,
+            words.as_slice(),
+            rows.as_slice(),
+            &bound,
+            places.as_slice(),
+        )?;
+        let kinds = kept_kinds(alloc, kinds.as_slice(), places.as_slice())?;
+        Ok(Policy {
+            names,
+            words,
+            lookup,
+            rows,
+            bound,
+            kinds,
+        })
     }
 
     /// The policy of rows that declare each name once.
@@ -128,19 +147,13 @@ impl<'m, A: Allocator + Copy> Policy<'m, A> {
             words,
             lookup,
             rows,
-            bound,
+            bound: bound.references,
+            kinds: bound.kinds,
         })
     }
 }
 
-/// Whether the innermost optional of a row is marked, by its number.
-fn is_kept(row: &Row, kept: &[bool]) -> bool
-    ensures { result ≡ slice_index_or kept.now row.now.optional false }
-{
-    kept.get(row.optional as usize).copied().unwrap_or(false)
-}
-
-/// Whether those of all rows are.
+/// Whether the innermost optionals of all rows are marked.
 fn are_kept(rows: &[Row], kept: &[bool]) -> bool
     ensures { result ≡ list_all (λ row. slice_index_or kept.now row.optional false) rows.now }
 {

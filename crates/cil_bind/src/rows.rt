@@ -1,5 +1,7 @@
 //! Statements by numbers.
 
+ghost use Rattle.std.specs.Prelude.{◌≡◌, false, slice_index_or};
+
 use cil_parse::Table;
 
 /// A statement of a joined policy: the number of its module and its index there, the numbers of its namespace and, for a block, of the
@@ -14,4 +16,11 @@ pub struct Row {
     pub optional: u32,
     pub declares: Option<(Table, u32)>,
     pub is_optional: bool,
+}
+
+/// Whether the innermost optional of a row is marked, by its number.
+pub fn is_kept(row: &Row, kept: &[bool]) -> bool
+    ensures { result ≡ slice_index_or kept.now row.now.optional false }
+{
+    kept.get(row.optional as usize).copied().unwrap_or(false)
 }

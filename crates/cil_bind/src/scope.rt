@@ -29,6 +29,15 @@ pub struct Scope<'m, A: Allocator = Global> {
     pub rows: Vec<Row, A>,
 }
 
+/// How many statements modules have together.
+fn statement_count<A: Allocator>(joined: &Joined<'_, A>) -> usize {
+    let mut count: usize = 0;
+    for i in 0..joined.modules.len() {
+        count = count.saturating_add(joined.modules[i].module.len());
+    }
+    count
+}
+
 impl<'m, A: Allocator + Copy> Scope<'m, A> {
     /// The statements of a joined policy, over words that have numbers already.
     pub fn of(alloc: A, names: Names<'m, A>, joined: &Joined<'m, A>) -> Result<Self, AllocError>
@@ -42,7 +51,7 @@ impl<'m, A: Allocator + Copy> Scope<'m, A> {
         let mut scope = Scope {
             names,
             namespaces: Namespaces::new(alloc),
-            rows: Vec::new(alloc),
+            rows: Vec::with_capacity(alloc, statement_count(joined))?,
         };
         for i in 0..joined.modules.len() {
             if i > 0xFFFF_FFFF {

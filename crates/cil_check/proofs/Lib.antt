@@ -19,3 +19,4 @@ pub mod GraphLemmas
 pub mod CircleFaults
 pub mod CleanLemmas
 pub mod SetLemmas
+pub mod KnownLemmas

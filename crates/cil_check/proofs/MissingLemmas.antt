@@ -108,7 +108,7 @@ has-step names policy noted keys items owner n i found has have is within less t
     there = all-at (λ k. k < length policy) (list_at noted owner) i m (has.within owner) (ap (λ l. slice_get l i) (sym is) ∙ at)
 
 -- the permissions that a rule names are all that it lists
-named-of : (form : Form) (word : Word) → rule_class form ≡ Some word → named_permissions form ≡ map (λ w. (word, w)) (permissions_in form)
+pub named-of : (form : Form) (word : Word) → rule_class form ≡ Some word → named_permissions form ≡ map (λ w. (word, w)) (permissions_in form)
 named-of (block id) word is = absurd (none-some word is)
 named-of (optional id) word is = absurd (none-some word is)
 named-of (type_name id) word is = absurd (none-some word is)
@@ -136,7 +136,7 @@ named-none (class_common the_class the_common) is = refl
 named-none (class_order the_classes) is = refl
 named-none (rule kind source target the_class permissions) is = absurd (none-some the_class (sym is))
 
-second-of : (p : Word × Word → Bool) (word : Word) (words : List Word) → map (λ r. r.1) (filter p (map (λ w. (word, w)) words)) ≡ filter (λ w. p (word, w)) words
+pub second-of : (p : Word × Word → Bool) (word : Word) (words : List Word) → map (λ r. r.1) (filter p (map (λ w. (word, w)) words)) ≡ filter (λ w. p (word, w)) words
 second-of p word [] = refl
 second-of p word (w ∷ words) = by (p (word, w)) (second-of p word words)
   where

@@ -1,5 +1,6 @@
 -- What is seen of the statements of a bound policy.
 use Rattle.std.proofs.Common.{◌≡◌, ℕ, zero, suc, ◌<◌, List, [], ◌∷◌, length, map, get_or, slice_get, Option, Some, None, refl, sym, ap, ◌∙◌, subst, arith}
+use Rattle.std.proofs.lemmas.List.{length-map}
 use Rattle.std.proofs.lemmas.Option.{none-some, same_Some, slice_get-get_or, slice_get_within, get_or_from_slice_get}
 use Rattle.cil_specs.specs.Names.{Word}
 use Rattle.cil_specs.specs.Statements.{Form, block, optional, type_name, type_alias, alias_actual, type_attribute, attribute_set, common, class, class_common, class_order, rule, itself, the_named}
@@ -15,7 +16,6 @@ use Rattle.cil_parse.specs.Parsed.{texts_of, Spells}
 use Rattle.cil_parse.specs.View.{IsShown}
 use Rattle.cil_parse.specs.declared.view.StatementView.{StatementView}
 use Rattle.cil_parse.specs.declared.row.NumberedWord.{NumberedWord}
-use Rattle.cil_parse.specs.declared.row.StatementKind.{StatementKind}
 use Rattle.cil_bind.specs.Binding.{AreLeads, AreBound}
 use Rattle.cil_bind.specs.Lookup.{IsLead}
 use Rattle.cil_bind.specs.Scope.{IsFrom}
@@ -42,6 +42,9 @@ bound-length policy (s ∷ statements) (b ∷ bound) are = ap suc (bound-length 
 
 pub bound-long : {A : Type 0} (b : BoundPolicy A) (policy : List Placed) → IsOf b policy → length b.policy.now.bound.0 ≡ length policy
 bound-long b policy is = bound-length policy policy b.policy.now.bound.0 is.bound.bound
+
+pub kinds-long : {A : Type 0} (b : BoundPolicy A) (policy : List Placed) → IsOf b policy → length b.policy.now.kinds.items ≡ length policy
+kinds-long b policy is = ap length is.bound.kinds ∙ length-map policy (λ s. kind_of s.form)
 
 -- the references of a statement are bound
 pub bound-at : (policy statements : List Placed) (bound : List (List (Option ℕ))) (i : ℕ) (s : Placed) → AreBound policy statements bound → slice_get statements i ≡ Some s
@@ -146,14 +149,6 @@ pub form-there : {A : Type 0} (b : BoundPolicy A) (policy : List Placed) (i : �
 form-there b policy i row d s is at here there =
     let (t, found, from) = row-there b policy i row is (slice_get_within policy i s at) here in
     subst (IsThere b.joined.now.modules.items row d) (same_Some t s (sym found ∙ at)) (is-there b.joined.now.modules.items row d t from there)
-
--- the kind of it
-pub kind-there : {A : Type 0} (b : BoundPolicy A) (policy : List Placed) (i : ℕ) (row : Row) (d : NamedModule A) (kind : StatementKind) (s : Placed) → IsOf b policy → slice_get policy i ≡ Some s
-    → row ≡ get_or b.policy.now.rows.items i row → d ≡ get_or b.joined.now.modules.items row.«module» d
-    → ((statements : Statements) (f : FlatStatement) → Spells d.«module».now statements → slice_get (flat 0 0 0 statements) row.index ≡ Some f → kind ≡ kind_of f.form) → kind ≡ kind_of s.form
-kind-there b policy i row d kind s is at here there told =
-    let t = form-there b policy i row d s is at here there in
-    told t.statements t.f t.spells t.is ∙ ap kind_of t.form
 
 -- what is seen of it
 pub seen-there : {A : Type 0} (b : BoundPolicy A) (policy : List Placed) (i : ℕ) (row : Row) (d : NamedModule A) (view : StatementView) (bound : Bor (List (Option ℕ))) (words : Bor (List ℕ)) (s : Placed) → IsOf b policy → slice_get policy i ≡ Some s

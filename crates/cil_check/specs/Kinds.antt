@@ -29,6 +29,21 @@ is_kind Alias statements.TypeAlias = true
 is_kind Attribute statements.TypeAttribute = true
 is_kind _ _ = false
 
+abbrev pub is_rule : StatementKind → Bool
+is_rule (statements.Rule kind) = true
+is_rule (statements.RuleToSelf kind) = true
+is_rule _ = false
+
+-- whether statements of a kind have no reference and give nothing, and are no classes
+abbrev pub is_plain : StatementKind → Bool
+is_plain statements.Block = true
+is_plain statements.Optional = true
+is_plain statements.TypeName = true
+is_plain statements.TypeAlias = true
+is_plain statements.TypeAttribute = true
+is_plain statements.Common = true
+is_plain _ = false
+
 -- the words to which a statement gives something again
 abbrev pub again_words : Association → List Placed → List Placed → Placed → List Word
 again_words Actual policy before s = alias_twice_words policy before s

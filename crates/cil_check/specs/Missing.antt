@@ -1,11 +1,14 @@
 -- The permissions that rules name, and those that classes have.
-use Rattle.std.specs.Prelude.{List, map, filter, Option, Some, None}
+use Rattle.std.specs.Prelude.{ℕ, Bool, List, map, filter, slice_get, Option, Some, None}
+use Rattle.std.specs.List.{list_all}
 use Rattle.std.specs.Option.{option_and_then}
 use Rattle.cil_specs.specs.Names.{Word}
 use Rattle.cil_specs.specs.Statements.{Form, rule}
 use Rattle.cil_specs.specs.Joined.{Placed}
-use Rattle.cil_specs.specs.Lookup.{classes, leads, named_permissions}
+use Rattle.cil_specs.specs.Lookup.{classes, leads, holds_of, has_name, permissions_of, named_permissions}
 use Rattle.cil_specs.specs.PolicyFault.{is_lacking}
+use Rattle.cil_bind.specs.KnownLists.{texts_listed}
+use Rattle.cil_bind.specs.declared.joined.NamedModule.{NamedModule}
 
 -- the class of a rule
 abbrev pub rule_class : Form → Option Word
@@ -19,3 +22,7 @@ class_lead policy s = option_and_then (λ w. leads policy classes s.namespace w.
 -- the permissions that a statement names and its class lacks
 abbrev pub lacking_words : List Placed → Placed → List Word
 lacking_words policy s = map (λ p. p.1) (filter (is_lacking policy s.namespace) (named_permissions s.form))
+
+-- whether the class at a place has all permissions of a list, by the number of its module and its own
+abbrev pub has_list : {A : Type 0} → List (NamedModule A) → List Placed → ℕ → ℕ → ℕ → Bool
+has_list modules policy number list place = holds_of (λ c. list_all (has_name (permissions_of policy c)) (texts_listed modules number list)) (slice_get policy place)

@@ -119,9 +119,7 @@ impl<'p, 'm, A: Allocator> BoundPolicy<'p, 'm, A> {
         requires { (policy : List Placed) × IsOf self.now policy × (i < length policy) }
         ensures { (policy : List Placed) (s : Placed) → IsOf self.now policy → slice_get policy i ≡ Some s → result ≡ kind_of s.form }
     {
-        let row = self.policy.rows[i];
-        let named = &self.joined.modules[row.module as usize];
-        named.module.kind(row.index as usize)
+        self.policy.kinds[i]
     }
 
     /// Whether the statement of a place declares a thing of a kind.

@@ -1,6 +1,6 @@
 //! The first fault of a policy whose references are bound, but for names that are declared twice.
 
-ghost use Rattle.std.specs.Prelude.{◌≡◌, ◌≢◌, IsTrue, List, Some, None, slice_get, take, filter, IfOk, IfErr, OnOk};
+ghost use Rattle.std.specs.Prelude.{◌≡◌, ◌≢◌, List, Some, None, slice_get, take, filter, IfOk, IfErr, OnOk};
 ghost use Rattle.cil_specs.specs.Names.{Word};
 ghost use Rattle.cil_specs.specs.Expr.{WordExpr, leaves};
 ghost use Rattle.cil_specs.specs.Statements.{attribute_set};
@@ -16,7 +16,7 @@ ghost use Rattle.cil_check.specs.Checker.{IsNoted};
 ghost use Rattle.cil_check.specs.Associations.{HasFirsts};
 ghost use Rattle.cil_check.specs.Image.{policy_kind_of, IsFoundFault, PolicyFaultIs};
 ghost use Rattle.cil_bind.specs.Ordered.{IsLeast};
-ghost use Rattle.cil_check.specs.Ordered.{IsFaultIn, IsFaultless, HasNoneBelow, IsCleanAt};
+ghost use Rattle.cil_check.specs.Ordered.{IsFaultIn, IsFaultless, HasNoneBelow};
 ghost use Rattle.cil_check.specs.declared.fault.PolicyFault.TheVariants.{Memory};
 ghost use Rattle.cil_check.specs.declared.fault.PolicyFaultKind.TheVariants.{Twice, Circular};
 ghost use Rattle.cil_check.specs.Kinds.{test_of, word_if, again_words};
@@ -33,7 +33,7 @@ use cil_parse::{NumberedWord, StatementKind};
 use std::alloc::{AllocError, Allocator, Global};
 
 /// The kinds of faults that are seen at one statement, but for names that are declared twice, in the order of their codes.
-const CHECKED: [PolicyFaultKind; 6] = [
+pub(crate) const CHECKED: [PolicyFaultKind; 6] = [
     PolicyFaultKind::Missing,
     PolicyFaultKind::WrongKind,
     PolicyFaultKind::AliasTwice,
@@ -160,7 +160,7 @@ impl<'p, 'm, A: Allocator> Checker<'p, 'm, A> {
     }
 
     /// The first word of a rule's source and target, or of a set expression, that leads to an alias without an actual type.
-    fn unset_word(&self, seen: &Seen<'p, 'm, A>) -> Option<NumberedWord>
+    pub(crate) fn unset_word(&self, seen: &Seen<'p, 'm, A>) -> Option<NumberedWord>
         requires { (policy : List Placed) × IsOf self.now.bound policy }
         ensures { (policy : List Placed) (s : Placed) → IsNoted self.now policy → IsSeen seen.now policy s → Reads seen.now result (slice_get (alias_unset_words policy s) 0) }
     {
@@ -176,7 +176,7 @@ impl<'p, 'm, A: Allocator> Checker<'p, 'm, A> {
     }
 
     /// The first word at which the statement at a place has a fault of a kind.
-    fn faulty_word(
+    pub(crate) fn faulty_word(
         &self,
         kind: PolicyFaultKind,
         place: usize,
@@ -220,45 +220,17 @@ impl<'p, 'm, A: Allocator> Checker<'p, 'm, A> {
         }
         Ok(())
     }
+}
 
-    /// Whether a statement has no fault of the kinds that are seen at one statement.
-    fn is_clean_at(&self, place: usize, seen: &Seen<'p, 'm, A>) -> bool
-        requires { (policy : List Placed) × (s : Placed) × IsNoted self.now policy × IsSeen seen.now policy s
-            × (slice_get policy place ≡ Some s) }
-        ensures { IsTrue result → (policy : List Placed) (s : Placed) → IsNoted self.now policy → IsSeen seen.now policy s
-            → AreNumbersOf self.now.bound.policy.now.names seen.now.words.now (names_of seen.now.«module».now)
-            → slice_get policy place ≡ Some s → IsCleanAt policy place s }
-    {
-        for kind in CHECKED {
-            let None = self.faulty_word(kind, place, seen) else {
-                return false;
-            };
-        }
-        true
-    }
-
-    /// Whether no statement has a fault of these kinds: one pass over the policy for all of them.
-    fn is_clean(&self) -> bool
-        requires { (policy : List Placed) × IsNoted self.now policy }
-        ensures { IsTrue result → (policy : List Placed) → IsNoted self.now policy → HasNoneBelow 48 policy }
-    {
-        for i in 0..self.bound.len() {
-            let seen = self.bound.seen(i);
-            if !self.is_clean_at(i, &seen) {
-                return false;
-            }
-        }
-        true
-    }
-
+impl<'p, 'm, A: Allocator + Copy> Checker<'p, 'm, A> {
     /// The first fault of these kinds. They are gone over one by one only where there is a fault.
-    fn check_statements(&self) -> Result<(), PolicyFault<'m>>
+    fn check_statements(&self, alloc: A) -> Result<(), PolicyFault<'m>>
         requires { (policy : List Placed) × IsNoted self.now policy }
         ensures ok { OnOk result ((policy : List Placed) → IsNoted self.now policy → HasNoneBelow 48 policy) }
         ensures err { IfErr result (λ fault. (policy : List Placed) → IsNoted self.now policy
             → IsFoundFault fault (IsLeast (IsFaultIn policy))) }
     {
-        if self.is_clean() {
+        if self.is_clean(alloc) {
             return Ok(());
         }
         for kind in CHECKED {
@@ -266,9 +238,7 @@ impl<'p, 'm, A: Allocator> Checker<'p, 'm, A> {
         }
         Ok(())
     }
-}
 
-impl<'p, 'm, A: Allocator + Copy> Checker<'p, 'm, A> {
     /// The first fault but for names that are declared twice: of the least code, then of the least module name by bytes, then of the
     /// least offset. Memory may run out where no fault of a lesser code than 48 stands.
     pub fn check(&self, alloc: A) -> Result<(), PolicyFault<'m>>
@@ -279,7 +249,7 @@ impl<'p, 'm, A: Allocator + Copy> Checker<'p, 'm, A> {
         ensures memory { IfErr result (λ fault. fault ≡ Memory → (policy : List Placed) → IsNoted self.now policy
             → (other : _) → IsFaultIn policy other → other.kind ≡ circular) }
     {
-        self.check_statements()?;
+        self.check_statements(alloc)?;
         self.check_circles(alloc)
     }
 }

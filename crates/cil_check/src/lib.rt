@@ -5,6 +5,7 @@ mod attribute_graph;
 mod bound;
 mod checker;
 mod circular;
+mod clean;
 mod fault;
 mod few;
 mod firsts;

@@ -29,7 +29,7 @@ pub fn class_lead<A: Allocator>(seen: &Seen<'_, '_, A>) -> Option<u32>
 
 impl<'p, 'm, A: Allocator> Checker<'p, 'm, A> {
     /// The first reference of a statement that leads nowhere.
-    fn unfound(&self, seen: &Seen<'p, 'm, A>) -> Option<NumberedWord>
+    pub(crate) fn unfound(&self, seen: &Seen<'p, 'm, A>) -> Option<NumberedWord>
         ensures { (policy : List Placed) (s : Placed) → IsSeen seen.now policy s → Reads seen.now result (first_unfound policy s.namespace 0 (references s.form)) }
     {
         for k in 0..seen.bound.len() {
@@ -76,7 +76,7 @@ impl<'p, 'm, A: Allocator> Checker<'p, 'm, A> {
     }
 
     /// The first permission of a rule that its class lacks.
-    fn lacking(&self, seen: &Seen<'p, 'm, A>) -> Option<NumberedWord>
+    pub(crate) fn lacking(&self, seen: &Seen<'p, 'm, A>) -> Option<NumberedWord>
         requires { (policy : List Placed) × (s : Placed) × IsNoted self.now policy × IsSeen seen.now policy s }
         ensures { (policy : List Placed) (s : Placed) → IsNoted self.now policy → IsSeen seen.now policy s → AreNumbersOf self.now.bound.policy.now.names seen.now.words.now (names_of seen.now.«module».now)
             → Contains policy s → Reads seen.now result (slice_get (lacking_words policy s) 0) }

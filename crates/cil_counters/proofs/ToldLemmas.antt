@@ -157,7 +157,7 @@ module _ {A : Type 0} (names : List (List ℕ)) (r : Resolved A) (members : ℕ 
           class-false (kind_index whole.kind == kind_index (rule_kind_of kind)) (holds (meaning_in r) whole.source source) (aims (meaning_in r) whole.target source target) (bytes_eq whole.the_class class) (list_any (bytes_eq permission) whole.permissions) (other-name rule.class class (is-below r rule low).class at_class))
       told-by kind source target class permission (Some i) (Some j) (Some k) None at_source at_target at_class at_permission = told-none (atom_with kind source target class permission) (λ rule low.
           let whole = rule_of r.modules.items r.names.items rule in
-          permission-false (kind_index whole.kind == kind_index (rule_kind_of kind)) (holds (meaning_in r) whole.source source) (aims (meaning_in r) whole.target source target) (bytes_eq whole.the_class class) (list_any (bytes_eq permission) whole.permissions) (none-listed permission rule.permissions.items (is-below r rule low).permissions at_permission))
+          permission-false (kind_index whole.kind == kind_index (rule_kind_of kind)) (holds (meaning_in r) whole.source source) (aims (meaning_in r) whole.target source target) (bytes_eq whole.the_class class) (list_any (bytes_eq permission) whole.permissions) (none-listed permission rule.permissions (is-below r rule low).permissions at_permission))
       told-by kind source target class permission (Some i) (Some j) (Some k) (Some l) at_source at_target at_class at_permission =
           is.are_counts kind (record { source = i; class = k; permission = l }) j
           ∙ ap (λ b. cond b (count_of (meaning_in r) (atom_of names kind (record { source = i; class = k; permission = l }) j)) 0)

@@ -6,6 +6,7 @@ use crate::evaluation::{Rest, next_value};
 use crate::same::are_same_names;
 use cil_parse::SetNode;
 use std::alloc::{Allocator, Global};
+use std::slice::from_ref;
 
 /// What a name of a rule or of a set expression leads to, an alias to its type, by the place of its full name in a list
 /// of names.
@@ -15,17 +16,31 @@ pub enum Element {
     Attribute(usize),
 }
 
-/// A set expression: its nodes, each in front of those of its operands, and what its names lead to, in their order.
+/// The nodes of an expression, each in front of those of its operands, and what its names lead to, in their order.
 #[derive(Debug, Drop)]
-pub struct SetExpression<A: Allocator = Global> {
+pub(crate) struct Tree<A: Allocator = Global> {
     nodes: Vec<SetNode, A>,
     names: Vec<Element, A>,
     ghost spelt: { IsWhole nodes.items names.items },
 }
 
+/// How an expression is kept. Most are one name, alone or as the only element of a list: that takes no memory of its own.
+#[derive(Debug, Drop)]
+pub(crate) enum Form<A: Allocator = Global> {
+    Named(Element),
+    Listed(Element),
+    Tree(Tree<A>),
+}
+
+/// A set expression: its nodes, each in front of those of its operands, and what its names lead to, in their order.
+#[derive(Debug, Drop)]
+pub struct SetExpression<A: Allocator = Global> {
+    form: Form<A>,
+}
+
 impl<A: Allocator> SetExpression<A> {
     ghost use Rattle.std.specs.Prelude.{◌≡◌, Bool, false, Contains};
-    ghost use Rattle.cil_specs.specs.Expr.{Expr, leaves};
+    ghost use Rattle.cil_specs.specs.Expr.{Expr, leaves, named, nothing, elements};
     ghost use Rattle.cil_expression.specs.Expression.{expr_in};
     ghost use Rattle.cil_expression.specs.Holds.{holds_by, Answers};
     ghost use Rattle.cil_expression.specs.Same.{are_same, AnswersPairs};
@@ -37,14 +52,48 @@ impl<A: Allocator> SetExpression<A> {
         ensures { (expr : Expr Element) → nodes.items ≡ nodes_of expr → names.items ≡ leaves expr
             → expr_in result ≡ expr }
     {
-        SetExpression { nodes, names }
+        SetExpression {
+            form: Form::Tree(Tree { nodes, names }),
+        }
+    }
+
+    /// The expression of one name. It takes no memory.
+    pub fn named(element: Element) -> Self
+        ensures { expr_in result ≡ named element }
+    {
+        SetExpression {
+            form: Form::Named(element),
+        }
+    }
+
+    /// The expression of a list whose only element is one name. It takes no memory.
+    pub fn listed(element: Element) -> Self
+        ensures { expr_in result ≡ elements (named element) nothing }
+    {
+        SetExpression {
+            form: Form::Listed(element),
+        }
+    }
+
+    /// Its nodes, each in front of those of its operands.
+    fn nodes(&self) -> &[SetNode]
+        ensures { result.now ≡ nodes_of (expr_in self.now) }
+    {
+        match &self.form {
+            Form::Named(_) => &[SetNode::Name],
+            Form::Listed(_) => &[SetNode::Element, SetNode::Name, SetNode::Nothing],
+            Form::Tree(tree) => tree.nodes.as_slice(),
+        }
     }
 
     /// What its names lead to, in their order.
     pub fn names(&self) -> &[Element]
         ensures { result.now ≡ leaves (expr_in self.now) }
     {
-        self.names.as_slice()
+        match &self.form {
+            Form::Named(element) | Form::Listed(element) => from_ref(element),
+            Form::Tree(tree) => tree.names.as_slice(),
+        }
     }
 
     /// Whether it holds something, where known answers whether each of its names does. It takes no memory.
@@ -54,7 +103,7 @@ impl<A: Allocator> SetExpression<A> {
             → Answers (F.post known) (λ e. Contains (leaves (expr_in self.now)) e) value
             → result ≡ holds_by value (expr_in self.now) }
     {
-        let nodes = self.nodes.as_slice();
+        let nodes = self.nodes();
         let names = self.names();
         let (holds, _) = next_value(Rest { nodes, names }, &known);
         holds
@@ -78,7 +127,7 @@ impl<A: Allocator> SetExpression<A> {
             → AnswersPairs (F.post same) (leaves (expr_in self.now)) (leaves (expr_in other.now)) pairs
             → result ≡ are_same pairs (expr_in self.now) (expr_in other.now) }
     {
-        let nodes = self.nodes.as_slice() == other.nodes.as_slice();
+        let nodes = self.nodes() == other.nodes();
         nodes && are_same_names(self.names(), other.names(), &same)
     }
 }

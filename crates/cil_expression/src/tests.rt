@@ -204,6 +204,32 @@ fn names_stand_in_their_order(rt: HostRuntime) -> Result<(), Fail> {
 }
 
 #[test]
+fn one_name_needs_no_nodes(rt: HostRuntime) -> Result<(), Fail> {
+    let alloc = rt.alloc();
+    let x = SetExpression::named(B);
+    assert!(rt; x.names() == [B].as_slice());
+    assert_eq!(rt; held(&x, false, true), true);
+    assert_eq!(rt; held(&x, true, false), false);
+    assert!(rt; equal(&x, name(alloc, B)?));
+    assert!(rt; !equal(&x, name(alloc, A)?));
+    assert!(rt; !equal(&x, union(alloc, &[B])?));
+    Ok(())
+}
+
+#[test]
+fn a_list_of_one_name_needs_no_nodes(rt: HostRuntime) -> Result<(), Fail> {
+    let alloc = rt.alloc();
+    let x = SetExpression::listed(A);
+    assert!(rt; x.names() == [A].as_slice());
+    assert_eq!(rt; held(&x, true, false), true);
+    assert_eq!(rt; held(&x, false, true), false);
+    assert!(rt; equal(&x, union(alloc, &[A])?));
+    assert!(rt; !equal(&x, union(alloc, &[B])?));
+    assert!(rt; !equal(&x, name(alloc, A)?));
+    Ok(())
+}
+
+#[test]
 fn the_same_have_the_same_nodes_and_names(rt: HostRuntime) -> Result<(), Fail> {
     let alloc = rt.alloc();
     let x = expression(union(alloc, &[A, B])?);

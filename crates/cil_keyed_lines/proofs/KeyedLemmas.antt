@@ -5,7 +5,7 @@ use Rattle.std.specs.List.{list_any, position_or_len, IsDistinct}
 use Rattle.std.specs.Option.{option_map_or}
 use Rattle.std.proofs.lemmas.Bool.{cases_eq, cases_lt, eqb-true, eq-eqb, ltb-false, lt-ltb}
 use Rattle.std.proofs.lemmas.List.{length-append}
-use Rattle.std.proofs.lemmas.List.Folds.{position_or_len_push}
+use Rattle.std.proofs.lemmas.List.Folds.{list_any_at, position_or_len_push}
 use Rattle.std.proofs.lemmas.List.Quantifiers.{position-Some}
 use Rattle.std.proofs.lemmas.List.Sums.{position_or_len_is}
 use Rattle.std.proofs.lemmas.Map.Keys.{apart_from_distinct}
@@ -98,6 +98,11 @@ placed_at keys i key distinct at =
         position_or_len_is (is_key key) keys i key (omega (arith, within))
         (λ k less. other_key (get_or keys k key) key (ap (is_key (get_or keys k key)) (sym (here key)) ∙ apart_from_distinct is_key keys k i key distinct less within))
         (λ _. ap (is_key key) (here key) ∙ key_itself key)
+
+-- a key that stands somewhere is one of the keys
+pub listed_at : (keys : List SymbolKey) (i : ℕ) (key : SymbolKey) → slice_get keys i ≡ Some key → list_any (is_key key) keys ≡ true
+listed_at keys i key at =
+    list_any_at (is_key key) keys i key (slice_get_within keys i key at) (ap (is_key key) (get_or_from_slice_get keys i key key at) ∙ key_itself key)
 
 -- a key stands at its place
 pub key_placed : (keys : List SymbolKey) (key : SymbolKey) (place : ℕ) → position (is_key key) keys ≡ Some place → slice_get keys place ≡ Some key

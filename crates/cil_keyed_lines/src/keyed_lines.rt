@@ -2,6 +2,8 @@
 
 ghost use Rattle.std.specs.Prelude.{◌≡◌, ◌↔◌, ℕ, ◌+◌, ◌-◌, ◌<◌, ◌≤◌, ◌^◌, ◌==◌, false, length, min, bit_and, bit_xor, count_ones, position, slice_get, Some, if◌then◌else◌, IfOk, IsTrue, MatchOption, OnErr, OnOk};
 ghost use Rattle.std.specs.Int.{bit_not, w64};
+ghost use Rattle.std.specs.List.{list_any};
+ghost use Rattle.std.specs.Option.{is_some};
 ghost use Rattle.cil_lines.specs.Line.{IsPresence, IsNextPresent, NonePresent};
 ghost use Rattle.cil_lines.specs.Limit.{CanLower};
 ghost use Rattle.cil_recorded.specs.Differences.{appeared_at, change_key, gone_at, Ascends};
@@ -21,6 +23,9 @@ use std::marker::Model;
 pub struct KeyedLines<A: Allocator = Global> {
     keys: IndexSet<SymbolKey, BuildHasherDefault<FoldHasher>, A>,
     lines: RecordedLines<A>,
+    /// The place that the last step reached. The next step is often of the same key, or of that behind it: the keys of a source and a
+    /// class often came together.
+    hint: usize,
 }
 
 impl<A: Allocator> Model for KeyedLines<A> {
@@ -44,6 +49,7 @@ impl<A: Allocator + Copy> KeyedLines<A> {
         KeyedLines {
             keys: IndexSet::new(alloc),
             lines: RecordedLines::new(alloc),
+            hint: 0,
         }
     }
 
@@ -56,11 +62,13 @@ impl<A: Allocator + Copy> KeyedLines<A> {
         ensures now { (k : SymbolKey) (t : ℕ) → count_now self.new k t ≡ count_now self.old k t }
         ensures before { (k : SymbolKey) (t : ℕ) → count_before self.new k t ≡ count_before self.old k t }
     {
-        if let Some(place) = self.keys.get_index_of(&key) {
+        if let Some(place) = self.place_of(key) {
+            self.hint = place;
             return Ok(place);
         }
         line_steps::reach(&mut self.lines, alloc, self.keys.len())?;
         let (place, _new) = self.keys.insert_full(key)?;
+        self.hint = place;
         Ok(place)
     }
 
@@ -148,6 +156,31 @@ impl<A: Allocator> KeyedLines<A> {
         ensures place { result ≡ position (is_key key) self.now.keys }
         ensures line { MatchOption result (NoneCounted self.now key) (λ i. IsLineOf self.now i key) }
     {
+        self.place_of(key)
+    }
+
+    /// Whether the line of a place is that of a key.
+    fn is_at(&self, place: usize, key: SymbolKey) -> bool
+        ensures { IsTrue result → slice_get self.now.keys place ≡ Some key }
+    {
+        match self.keys.get_index(place) {
+            Some(found) => *found == key,
+            None => false,
+        }
+    }
+
+    /// The place of a key's line: that of the hint, or the one behind it. Where both are of other keys, it is looked up by the key's hash.
+    fn place_of(&self, key: SymbolKey) -> Option<usize>
+        ensures place { result ≡ position (is_key key) self.now.keys }
+        ensures found { is_some result ≡ list_any (is_key key) self.now.keys }
+    {
+        if self.is_at(self.hint, key) {
+            return Some(self.hint);
+        }
+        let next = self.hint.saturating_add(1);
+        if self.is_at(next, key) {
+            return Some(next);
+        }
         self.keys.get_index_of(&key)
     }
 

@@ -1,6 +1,6 @@
 //! One binary digit of the counters of a line.
 
-ghost use Rattle.std.specs.Prelude.{◌≡◌, ◌≢◌, ◌+◌, ◌/◌, ◌<◌, ◌≤◌, ◌^◌, ℕ, length, max, slice_index, vec_capacity, if◌then◌else◌, ltb, OnOk, MatchResult};
+ghost use Rattle.std.specs.Prelude.{◌≡◌, ◌≢◌, ◌+◌, ◌/◌, ◌<◌, ◌≤◌, ◌^◌, ℕ, length, max, slice_index, vec_capacity, if◌then◌else◌, ltb, IfOk, OnOk, MatchResult};
 ghost use Rattle.cil_lines.specs.Digit.{bits_in, bits_of, HasPlace, IsEntry, IsGap, IsLast, IsNext, Rises};
 
 use std::alloc::{AllocError, Allocator, Global};
@@ -111,6 +111,16 @@ impl<A: Allocator + Copy> Digit<A> {
             dense: Vec::new(alloc),
             sparse: Vec::new(alloc),
         }
+    }
+
+    /// No bit is set, and so many dense words take no further memory.
+    pub fn with_room(alloc: A, words: usize) -> Result<Self, AllocError>
+        ensures { IfOk result (λ digit. (w : ℕ) → bits_of digit w ≡ 0) }
+    {
+        Ok(Digit {
+            dense: Vec::with_capacity(alloc, words)?,
+            sparse: Vec::new(alloc),
+        })
     }
 
     /// Makes a place for a word, so that `put` takes no memory. No bit changes.

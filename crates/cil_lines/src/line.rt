@@ -1,6 +1,6 @@
 //! A line of counters, by the number of a target.
 
-ghost use Rattle.std.specs.Prelude.{◌≡◌, ◌+◌, ◌-◌, ◌<◌, ◌^◌, ◌∷◌, ℕ, min, MatchOption, OnErr, OnOk};
+ghost use Rattle.std.specs.Prelude.{◌≡◌, ◌+◌, ◌-◌, ◌<◌, ◌^◌, ◌∷◌, ℕ, min, IfOk, MatchOption, OnErr, OnOk};
 ghost use Rattle.cil_lines.specs.Digit.{IsNext};
 ghost use Rattle.cil_lines.specs.Line.{count_of, hit, total, IsPresence, IsNextPresent, NonePresent};
 
@@ -43,6 +43,17 @@ impl<A: Allocator + Copy> Line<A> {
             lowest: Digit::new(alloc),
             higher: Vec::new(alloc),
         }
+    }
+
+    /// The same with room for its first words: those of a line that is filled word by word take no further memory, where none has a
+    /// counter above 1.
+    pub fn with_room(alloc: A, words: usize) -> Result<Self, AllocError>
+        ensures { IfOk result (λ line. (t : ℕ) → count_of line t ≡ 0) }
+    {
+        Ok(Line {
+            lowest: Digit::with_room(alloc, words.saturating_add(words / 8))?,
+            higher: Vec::new(alloc),
+        })
     }
 
     /// Adds 1 to the counter of each target of a word that its mask has.

@@ -45,11 +45,11 @@ pub record IsBelow {A : Type 0} (n : ℕ) (r : NumberedRule A) : Type 0 where
   pub source : is_element_below n r.source ≡ true
   pub target : is_target_below n r.target ≡ true
   pub class : nat_lt r.class n ≡ true
-  pub permissions : list_all (λ p. nat_lt p n) r.permissions.items ≡ true
+  pub permissions : list_all (λ p. nat_lt p n) r.permissions ≡ true
 
 pub is-below : {A : Type 0} (n : ℕ) (r : NumberedRule A) → is_rule_below n r ≡ true → IsBelow n r
 is-below n r e =
-    let all = list_all (λ p. nat_lt p n) r.permissions.items in
+    let all = list_all (λ p. nat_lt p n) r.permissions in
     let one = and_parts (is_element_below n r.source) (is_target_below n r.target && (nat_lt r.class n && all)) e in
     let two = and_parts (is_target_below n r.target) (nat_lt r.class n && all) one.1 in
     let three = and_parts (nat_lt r.class n) all two.1 in
@@ -141,7 +141,7 @@ module _ (names others : List (List ℕ)) (numbers : List (Option ℕ)) (are : A
     classes = is_number_of numbers r.class s.class
 
     as_many : Bool
-    as_many = length r.permissions.items == length s.permissions.items
+    as_many = length r.permissions == length s.permissions
 
     content-is : SayTheSame numbers r s → content_of (rule_of modules names r) ≡ content_of (rule_of newer others s)
     unfolding kinds sources targets classes as_many
@@ -154,8 +154,8 @@ module _ (names others : List (List ℕ)) (numbers : List (Option ℕ)) (are : A
         let source = (element-tells r.source s.source low.source below.source).0 one.1 in
         let target = (target-tells r.target s.target low.target below.target).0 two.1 in
         let the_class = (number-tells r.class s.class low.class below.class).0 three.1 in
-        let long = eqb-true (length r.permissions.items) (length s.permissions.items) four.1 in
-        let permissions = permissions-are r.permissions.items s.permissions.items long low.permissions below.permissions are_same.permissions in
+        let long = eqb-true (length r.permissions) (length s.permissions) four.1 in
+        let permissions = permissions-are r.permissions s.permissions long low.permissions below.permissions are_same.permissions in
         λ i. record { kind = kind i; source = source i; target = target i; the_class = the_class i; permissions = permissions i }
 
     content-from : content_of (rule_of modules names r) ≡ content_of (rule_of newer others s) → SayTheSame numbers r s
@@ -166,14 +166,14 @@ module _ (names others : List (List ℕ)) (numbers : List (Option ℕ)) (are : A
         let target = (target-tells r.target s.target low.target below.target).1 (ap (λ (c : RuleContent). c.target) same) in
         let the_class = (number-tells r.class s.class low.class below.class).1 (ap (λ (c : RuleContent). c.the_class) same) in
         let permissions = ap (λ (c : RuleContent). c.permissions) same in
-        let long : length r.permissions.items ≡ length s.permissions.items =
-        sym (length-map r.permissions.items (λ p. slice_index_or names p [])) ∙ ap length permissions ∙ length-map s.permissions.items (λ q. slice_index_or others q []) in
+        let long : length r.permissions ≡ length s.permissions =
+        sym (length-map r.permissions (λ p. slice_index_or names p [])) ∙ ap length permissions ∙ length-map s.permissions (λ q. slice_index_or others q []) in
         record {
           head =
               both_true (((kinds && sources) && targets) && classes) as_many
               (both_true ((kinds && sources) && targets) classes (both_true (kinds && sources) targets (both_true kinds sources kind source) target) the_class)
-              (eq-eqb (length r.permissions.items) (length s.permissions.items) long);
-          permissions = permissions-from r.permissions.items s.permissions.items long low.permissions below.permissions permissions;
+              (eq-eqb (length r.permissions) (length s.permissions) long);
+          permissions = permissions-from r.permissions s.permissions long low.permissions below.permissions permissions;
         }
 
     pub content-tells : SayTheSame numbers r s ↔ (content_of (rule_of modules names r) ≡ content_of (rule_of newer others s))

@@ -1,10 +1,10 @@
 -- Statements that stand in two lists.
-use Rattle.std.proofs.Common.{◌≡◌, ◌∙◌, ◌↔◌, ℕ, ◌+◌, ◌<◌, ◌≤◌, inl, inr, Bool, true, false, true≢false, List, ◌∷◌, [], ◌++◌, length, map, position, slice_get, Option, None, Some, option_map, IsTrue, refl, sym, ap, subst, arith}
+use Rattle.std.proofs.Common.{◌≡◌, ◌∙◌, ◌↔◌, ℕ, zero, suc, ◌+◌, ◌<◌, ◌≤◌, inl, inr, Bool, true, false, true≢false, List, ◌∷◌, [], ◌++◌, length, map, position, slice_get, Option, None, Some, option_map, IsTrue, refl, sym, ap, subst, arith}
 use Rattle.std.proofs.lemmas.Bool.{cases_lt}
 use Rattle.std.proofs.lemmas.List.{length-append}
 use Rattle.std.proofs.lemmas.Option.{none-some, same_Some, slice_get_within, slice_get-map}
 use Rattle.cil_check.proofs.PositionLemmas.{get-append, get-last}
-use Rattle.cil_optionals.proofs.GreatestLemmas.{got-push}
+use Rattle.cil_optionals.proofs.DependentLemmas.{got-push}
 use Rattle.cil_matching.specs.Matching.{AreSameAt, AreMatched, ArePlaces}
 use Rattle.cil_matching.specs.Spot.{Spot, same_spot, AreApart}
 use Rattle.cil_matching.proofs.SpotLemmas.{found-spot, stands-found}
@@ -19,6 +19,12 @@ from-mapped f xs i y at = by (slice_get xs i) refl
 
 pub to-mapped : {X Y : Type 0} (f : X → Y) (xs : List X) (i : ℕ) (x : X) → slice_get xs i ≡ Some x → slice_get (map f xs) i ≡ Some (f x)
 to-mapped f xs i x at = slice_get-map f xs i ∙ ap (option_map f) at
+
+-- each place has an image
+pub mapped-there : {X Y : Type 0} (f : X → Y) (xs : List X) (i : ℕ) → i < length xs → (y : Y) × (slice_get (map f xs) i ≡ Some y)
+mapped-there f [] i low = absurd (omega (arith, low))
+mapped-there f (x ∷ xs) zero low = (f x, refl)
+mapped-there f (x ∷ xs) (suc i) low = mapped-there f xs i (omega (arith, low))
 
 module _ {S : Type 0} (IsSame : S → S → Type 0) (old new : List S) where
   pub places-none : (ahead : List (Option ℕ)) → ahead ≡ [] → ArePlaces IsSame old new 0 ahead

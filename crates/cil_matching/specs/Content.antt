@@ -34,7 +34,7 @@ is_target_by numbers (aims.Element x) (aims.Element y) = is_element_by numbers x
 abbrev pub is_head_by : {A : Type 0} → List (Option ℕ) → NumberedRule A → NumberedRule A → Bool
 is_head_by numbers r s =
     ((((kind_index (rule_kind_of r.kind) == kind_index (rule_kind_of s.kind)) && is_element_by numbers r.source s.source) && is_target_by numbers r.target s.target)
-    && is_number_of numbers r.class s.class) && (length r.permissions.items == length s.permissions.items)
+    && is_number_of numbers r.class s.class) && (length r.permissions == length s.permissions)
 
 -- the same permissions in the same order
 abbrev pub ArePermissionsBy : List (Option ℕ) → List ℕ → List ℕ → Type 0
@@ -43,4 +43,4 @@ ArePermissionsBy numbers ps qs = (k : ℕ) → k < length ps → is_number_of nu
 -- Two rules say the same.
 pub record SayTheSame {A : Type 0} (numbers : List (Option ℕ)) (r s : NumberedRule A) : Type 0 where
   pub head : is_head_by numbers r s ≡ true
-  pub permissions : ArePermissionsBy numbers r.permissions.items s.permissions.items
+  pub permissions : ArePermissionsBy numbers r.permissions s.permissions

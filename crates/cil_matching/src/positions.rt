@@ -1,6 +1,6 @@
 //! Positions of statements.
 
-ghost use Rattle.std.specs.Prelude.{◌≡◌, ◌++◌, ◌∷◌, [], false, position, OnOk};
+ghost use Rattle.std.specs.Prelude.{◌≡◌, ◌++◌, ◌∷◌, [], false, position, IfOk, OnOk};
 ghost use Rattle.std.specs.List.{list_any};
 ghost use Rattle.cil_matching.specs.Spot.{same_spot, spot_cmp, spot_of};
 
@@ -44,13 +44,12 @@ impl<'r, A: Allocator> Model for Positions<'r, A> {
 }
 
 impl<'r, A: Allocator + Copy> Positions<'r, A> {
-    /// No positions. It takes no memory.
-    pub fn new(alloc: A) -> Self
-        ensures { result ≡ [] }
+    /// No positions, with room for so many.
+    pub fn with_capacity(alloc: A, count: usize) -> Result<Self, AllocError>
+        ensures { IfOk result (λ made. made ≡ []) }
     {
-        Positions {
-            positions: IndexSet::new(alloc),
-        }
+        let positions = IndexSet::with_capacity(alloc, count)?;
+        Ok(Positions { positions })
     }
 
     /// Puts a new position last.

@@ -51,7 +51,7 @@ fn is_same_head<A: Allocator>(
     let source = is_element(numbers, rule.source, other.source);
     let target = is_target(numbers, rule.target, other.target);
     let class = is_number(numbers, rule.class, other.class);
-    let permissions = rule.permissions.len() == other.permissions.len();
+    let permissions = rule.permissions.as_slice().len() == other.permissions.as_slice().len();
     kind & source & target & class & permissions
 }
 
@@ -79,5 +79,9 @@ pub fn is_same_content<A: Allocator>(
     if !is_same_head(numbers, rule, other) {
         return false;
     }
-    are_same_permissions(numbers, &rule.permissions, &other.permissions)
+    are_same_permissions(
+        numbers,
+        rule.permissions.as_slice(),
+        other.permissions.as_slice(),
+    )
 }

@@ -1,10 +1,10 @@
 //! The set statements of one policy that stand in another one.
 
-ghost use Rattle.std.specs.Prelude.{◌≡◌, ◌↔◌, ◌<◌, ℕ, length, map, slice_get, Some, IfOk};
+ghost use Rattle.std.specs.Prelude.{◌≡◌, ◌↔◌, ◌<◌, ℕ, length, map, position as place_of, slice_get, Some, IfOk, IfSome, IsTrue};
 ghost use Rattle.cil_specs.specs.Rule.{IsSameSet};
 ghost use Rattle.cil_resolve.specs.Sets.{sets_in};
-ghost use Rattle.cil_matching.specs.Matching.{AreMatched, AreSameAt};
-ghost use Rattle.cil_matching.specs.Spot.{set_spot, spot_of};
+ghost use Rattle.cil_matching.specs.Matching.{AreMatched, ArePlaces, AreSameAt};
+ghost use Rattle.cil_matching.specs.Spot.{Spot, same_spot, set_spot, spot_of};
 
 use crate::inverse::{inverse, place_at};
 use crate::positions::{Position, Positions};
@@ -48,33 +48,84 @@ fn positions<A: Allocator + Copy>(
     ensures { IfOk result (λ positions. positions ≡ map set_spot (sets_in resolved.now)) }
 {
     resolved_sets_are_apart(resolved);
-    let mut positions = Positions::new(alloc);
+    let mut positions = Positions::with_capacity(alloc, resolved.sets_len())?;
     for i in 0..resolved.sets_len() {
         positions.add(position(resolved, i))?;
     }
     Ok(positions)
 }
 
-/// The place in the new policy of the same set statement.
+/// Whether the set statement at a place stands at a position.
+fn stands_at<A: Allocator>(resolved: &Resolved<A>, j: usize, wanted: Position<'_>) -> bool
+    ensures { IsTrue result ↔ (slice_get (map set_spot (sets_in resolved.now)) j ≡ Some (spot_of wanted.entry)) }
+{
+    j < resolved.sets_len() && position(resolved, j) == wanted
+}
+
+/// The place of the set statement at a position, if there is one. It looks at a likely place first: most statements of two policies
+/// stand in one order, and where all do, the positions are never put together.
+fn find<'r, A: Allocator + Copy>(
+    alloc: A,
+    resolved: &'r Resolved<A>,
+    positions: &mut Option<Positions<'r, A>>,
+    likely: usize,
+    wanted: Position<'_>,
+) -> Result<Option<usize>, AllocError>
+    requires { IfSome positions.old (λ known. known ≡ map set_spot (sets_in resolved.now)) }
+    ensures known { IfSome positions.new (λ known. known ≡ map set_spot (sets_in resolved.now)) }
+    ensures found { IfOk result (λ found. found ≡ place_of (same_spot (spot_of wanted.entry)) (map set_spot (sets_in resolved.now))) }
+{
+    resolved_sets_are_apart(resolved);
+    if stands_at(resolved, likely, wanted) {
+        return Ok(Some(likely));
+    }
+    if let Some(known) = positions {
+        return Ok(known.find(wanted));
+    }
+    let made = self::positions(alloc, resolved)?;
+    let found = made.find(wanted);
+    *positions = Some(made);
+    Ok(found)
+}
+
+/// The place in the new policy of the same set statement, by the place of that at its position.
 fn same<A: Allocator>(
     old: &Resolved<A>,
     i: usize,
     new: &Resolved<A>,
-    positions: &Positions<'_, A>,
+    found: Option<usize>,
 ) -> Option<usize>
     requires within { i < length (sets_in old.now) }
-    requires positions { positions.now ≡ map set_spot (sets_in new.now) }
+    requires found { (spot : Spot) → slice_get (map set_spot (sets_in old.now)) i ≡ Some spot
+        → found ≡ place_of (same_spot spot) (map set_spot (sets_in new.now)) }
     ensures { (j : ℕ) → (result ≡ Some j) ↔ AreSameAt IsSameSet (sets_in old.now) (sets_in new.now) i j }
 {
     resolved_sets_are_apart(new);
-    let Some(j) = positions.find(position(old, i)) else {
-        return None;
-    };
+    let j = found?;
     if old.is_same_set(i, new, j) {
         Some(j)
     } else {
         None
     }
+}
+
+/// For each set statement of the old policy the place of the same one in the new one, if that has it.
+fn set_places<A: Allocator + Copy>(
+    alloc: A,
+    old: &Resolved<A>,
+    new: &Resolved<A>,
+) -> Result<Vec<Option<usize>, A>, AllocError>
+    ensures { IfOk result (λ places. ArePlaces IsSameSet (sets_in old.now) (sets_in new.now) (length (sets_in old.now)) places.items) }
+{
+    let mut places = Vec::with_capacity(alloc, old.sets_len())?;
+    let mut positions = None;
+    let mut likely = 0;
+    for i in 0..old.sets_len() {
+        let found = find(alloc, new, &mut positions, likely, position(old, i))?;
+        places.push(same(old, i, new, found))?;
+        likely = found.map_or(likely, |j| j.saturating_add(1));
+    }
+    Ok(places)
 }
 
 impl<A: Allocator + Copy> SetMatching<A> {
@@ -84,11 +135,7 @@ impl<A: Allocator + Copy> SetMatching<A> {
         ensures { IfOk result (AreMatched IsSameSet (sets_in old.now) (sets_in new.now)) }
     {
         resolved_sets_are_apart(old);
-        let positions = positions(alloc, new)?;
-        let mut ahead = Vec::with_capacity(alloc, old.sets_len())?;
-        for i in 0..old.sets_len() {
-            ahead.push(same(old, i, new, &positions))?;
-        }
+        let ahead = set_places(alloc, old, new)?;
         let back = inverse(alloc, &ahead, new.sets_len())?;
         Ok(SetMatching { ahead, back })
     }

@@ -1,4 +1,5 @@
 pub mod BitLemmas
 pub mod HeldLemmas
 pub mod HoldLemmas
+pub mod MarkLemmas
 pub mod ShiftLemmas

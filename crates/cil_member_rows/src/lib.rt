@@ -4,6 +4,7 @@
 
 mod bit_row;
 mod held;
+mod marks;
 mod member_rows;
 
 pub use cil_recorded::Change;

@@ -1,6 +1,6 @@
 //! Rows of counters by type, with the bits of who was a member before the steps.
 
-ghost use Rattle.std.specs.Prelude.{◌≡◌, ◌↔◌, ℕ, ◌+◌, ◌-◌, ◌<◌, ◌≤◌, ◌^◌, false, min, IfOk, IsTrue, MatchOption, OnErr, OnOk};
+ghost use Rattle.std.specs.Prelude.{◌≡◌, ◌↔◌, ℕ, ◌+◌, ◌-◌, ◌<◌, ◌≤◌, ◌^◌, true, false, min, IfOk, IsTrue, MatchOption, OnErr, OnOk};
 ghost use Rattle.cil_lines.specs.Line.{hit, IsNextPresent, IsPresence, NonePresent};
 ghost use Rattle.cil_recorded.specs.Differences.{appeared_at, change_key, gone_at, Ascends};
 ghost use Rattle.cil_recorded.specs.Log.{hit_at};
@@ -10,7 +10,7 @@ mod settling;
 mod shifting;
 
 use crate::bit_row::BitRow;
-use crate::held;
+use crate::{held, marks};
 use cil_recorded::{Change, RecordedLines};
 use std::alloc::{AllocError, Allocator, Global};
 use std::marker::Model;
@@ -20,22 +20,23 @@ const WORD: usize = 64;
 
 /// For each attribute a row of counters by type: how many set statements of the attribute hold the type. A type whose
 /// counter is above 0 is a member. The rows are changed in steps; the steps since the last `settle` are logged, so that
-/// `undo` takes them back, and who was a member before them can still be asked.
+/// `undo` takes them back, and who was a member before them can still be asked. The rows that they are of are marked.
 #[derive(Drop)]
 pub struct MemberRows<A: Allocator = Global> {
     rows: RecordedLines<A>,
     held: Vec<BitRow<A>, A>,
+    turned: Vec<bool, A>,
 }
 
 impl<A: Allocator> Model for MemberRows<A> {
     ghost use Rattle.cil_recorded.specs.Recorded.{State};
-    ghost use Rattle.cil_member_rows.specs.Rows.{IsHeld};
+    ghost use Rattle.cil_member_rows.specs.Rows.{AreMarked, IsHeld};
 
     ghost Value = { State };
 
     ghost view = { λ m. m.rows };
 
-    ghost invariant = { λ m. IsHeld m.held.items m.rows };
+    ghost invariant = { λ m. IsHeld m.held.items m.rows × AreMarked m.turned.items m.rows };
 }
 
 impl<A: Allocator + Copy> MemberRows<A> {
@@ -49,6 +50,7 @@ impl<A: Allocator + Copy> MemberRows<A> {
         MemberRows {
             rows: RecordedLines::new(alloc),
             held: Vec::new(alloc),
+            turned: Vec::new(alloc),
         }
     }
 
@@ -62,6 +64,7 @@ impl<A: Allocator + Copy> MemberRows<A> {
     {
         let len = self.rows.len();
         held::add_row(&mut self.held, alloc, len)?;
+        marks::add_row(&mut self.turned, len)?;
         self.rows.put_in(alloc)
     }
 
@@ -85,10 +88,12 @@ impl<A: Allocator + Copy> MemberRows<A> {
         ensures steps { steps_in self.new ≤ steps_in self.old + 2 }
         ensures none { OnErr result (steps_in self.new ≡ steps_in self.old) }
     {
+        let gone = was & !is;
         let come = is & !was;
         shifting::make_room(&mut self.rows, &mut self.held, alloc, row, word, come)?;
-        shifting::lower(&mut self.rows, row, word, was & !is);
+        shifting::lower(&mut self.rows, row, word, gone);
         shifting::raise(&mut self.rows, row, word, come);
+        marks::mark(&mut self.turned, row, shifting::is_step(gone, come));
         Ok(())
     }
 
@@ -176,6 +181,14 @@ impl<A: Allocator> MemberRows<A> {
         self.rows.is_pending()
     }
 
+    /// Whether a row may have changed since the last settling: whether it had a step. This reads none of its counters.
+    pub fn has_turned(&self, row: usize) -> bool
+        ensures same { result ≡ false → (t : ℕ) → count_before self.now row t ≡ count_now self.now row t }
+        ensures steps { result ≡ true → 0 < steps_in self.now }
+    {
+        marks::is_marked(&self.turned, row)
+    }
+
     /// Takes the steps back. It takes no memory.
     pub fn undo(&mut self)
         ensures rows { rows_in self.new ≡ rows_in self.old }
@@ -184,6 +197,7 @@ impl<A: Allocator> MemberRows<A> {
         ensures before { (r t : ℕ) → count_before self.new r t ≡ count_before self.old r t }
     {
         self.rows.undo();
+        marks::clear(&mut self.turned);
     }
 
     /// Keeps the steps, so that they can't be taken back any more. It takes no memory.
@@ -195,5 +209,6 @@ impl<A: Allocator> MemberRows<A> {
     {
         settling::hold(&self.rows, &mut self.held);
         self.rows.settle();
+        marks::clear(&mut self.turned);
     }
 }

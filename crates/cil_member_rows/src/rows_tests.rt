@@ -160,3 +160,19 @@ fn statements_are_counted_and_words_with_members_found(rt: HostRuntime) {
     let ended = rows.next_present_word(1, 4).is_none() && rows.next_present_word(0, 0).is_none();
     assert!(&rt; ended);
 }
+
+#[test]
+fn a_row_has_turned_until_its_steps_are_kept_or_taken_back(rt: HostRuntime) {
+    let alloc = rt.alloc();
+    let mut rows = rows(&rt, alloc, 3);
+    shift(&rt, alloc, &mut rows, 1, 1, 0, 0b11);
+    assert!(&rt; rows.has_turned(1) && !rows.has_turned(0) && !rows.has_turned(9));
+    rows.settle();
+    shift(&rt, alloc, &mut rows, 1, 1, 0b11, 0b11);
+    assert!(&rt; !rows.has_turned(1));
+    shift(&rt, alloc, &mut rows, 1, 1, 0b11, 0b10);
+    shift(&rt, alloc, &mut rows, 2, 0, 0, 0b1);
+    assert!(&rt; rows.has_turned(1) && rows.has_turned(2));
+    rows.undo();
+    assert!(&rt; !rows.has_turned(1) && !rows.has_turned(2));
+}

@@ -6,6 +6,7 @@ use Rattle.std.proofs.Math.Bool.{and-false}
 use Rattle.std.specs.Int.{bit_at}
 use Rattle.cil_lines.specs.Line.{IsPresence}
 use Rattle.cil_sets.specs.Counts.{one_if}
+use Rattle.cil_specs.specs.Sets.{differ}
 use Rattle.cil_member_updates.specs.Bits.{AreBits, AreHeld, Cover}
 
 pub cover-first : (test : ℕ → Bool) (word one other : ℕ) → Cover test word one → Cover test word (bit_or one other)
@@ -108,6 +109,22 @@ answer-other false t b at k other = ap (λ n. bit_at n k) (none (2 ^ (t % 64))) 
   where
     none : (n : ℕ) → 0 * n ≡ 0
     none n = omega arith
+
+-- a bit that is set among others
+pub set-among : (bits among b : ℕ) → bit_at (bit_and bits among) b ≡ 1 → bit_at bits b ≡ 1
+set-among bits among b set = omega (arith, set, bit_at_and bits among b, bit_at-lt bits b, bit_at-lt among b)
+
+-- two tests differ where bits are set that cover this, among those where one of the two may hold
+pub cover-either : (was is : ℕ → Bool) (word bits one other : ℕ) → Cover (λ t. differ (was t) (is t)) word bits → Cover was word one → Cover is word other
+    → Cover (λ t. differ (was t) (is t)) word (bit_and bits (bit_or one other))
+cover-either was is word bits one other differs covers_was covers_is b within none = elim (cases_lt 0 (bit_at bits b)) [
+  | inl some ↦
+      let either : bit_at (bit_or one other) b ≡ 0 = omega (arith, some, none, bit_at_and bits (bit_or one other) b) in
+      let not_was : was (64 * word + b) ≡ false = covers_was b within (omega (arith, either, bit_at_or one other b)) in
+      let not_is : is (64 * word + b) ≡ false = covers_is b within (omega (arith, either, bit_at_or one other b)) in
+      ap (λ w. differ w (is (64 * word + b))) not_was ∙ not_is
+  | inr clear ↦ differs b within (omega (arith, clear))
+]
 
 -- one more test of several is covered
 pub cover-more : (tests : ℕ → ℕ → Bool) (k word bits more : ℕ) → ((m : ℕ) → m < k → Cover (tests m) word bits) → Cover (tests k) word more → (m : ℕ) → m < k + 1 → Cover (tests m) word (bit_or bits more)

@@ -10,6 +10,7 @@ pub mod NameLemmas
 pub mod PassLemmas
 pub mod RenewLemmas
 pub mod SideLemmas
+pub mod StayLemmas
 pub mod SymbolLemmas
 pub mod TurnedLemmas
 pub mod WordLemmas

@@ -1,6 +1,6 @@
 //! The kept types of a policy by symbols.
 
-ghost use Rattle.std.specs.Prelude.{◌≡◌, ◌<◌, length, slice_get, slice_index, slice_index_or, IfOk, Some};
+ghost use Rattle.std.specs.Prelude.{◌≡◌, ◌↔◌, ◌<◌, ℕ, IsTrue, length, slice_get, slice_index, slice_index_or, IfOk, Some};
 ghost use Rattle.cil_resolve.specs.Resolved.{meaning_in};
 ghost use Rattle.cil_sets.specs.Places.{no_declared};
 ghost use Rattle.cil_member_updates.specs.Policy.{AreKept, IsNumbering};
@@ -73,4 +73,16 @@ impl<A: Allocator> KeptTypes<A> {
             None => 0,
         }
     }
+}
+
+/// Whether two policies keep the same types.
+pub fn are_alike<A: Allocator>(one: &KeptTypes<A>, other: &KeptTypes<A>) -> bool
+    ensures { IsTrue result ↔ ((w : ℕ) → slice_index one.now w ≡ slice_index other.now w) }
+{
+    for word in 0..one.words.len().max(other.words.len()) {
+        if one.word(word) != other.word(word) {
+            return false;
+        }
+    }
+    true
 }

@@ -1,6 +1,6 @@
 //! Where a set statement may hold a type, word by word.
 
-ghost use Rattle.std.specs.Prelude.{◌≡◌, ◌<◌, ◌==◌, ℕ, Contains, IsTrue, length};
+ghost use Rattle.std.specs.Prelude.{◌≡◌, ◌<◌, ◌==◌, ℕ, Contains, IsTrue, false, length, slice_index};
 ghost use Rattle.cil_resolve.specs.Below.{is_element_below};
 ghost use Rattle.cil_resolve.specs.Numbers.{element_of};
 ghost use Rattle.cil_resolve.specs.Resolved.{meaning_in};
@@ -152,8 +152,8 @@ fn changed_by_names<A: Allocator>(
     bits
 }
 
-/// The types of a word at which a set statement that both policies have may hold in one of them alone.
-pub fn unsettled<A: Allocator>(
+/// The types of a word that one of two policies keeps alone, or that turned in an attribute that a set statement of both mentions.
+fn touched<A: Allocator>(
     symbols: &Symbols<A>,
     old: &Side<'_, A>,
     new: &Side<'_, A>,
@@ -179,4 +179,101 @@ pub fn unsettled<A: Allocator>(
     resolved_sets_are_in_order(new.resolved);
     let changed = changed_by_names(symbols, new, rows, j, word);
     changed | (old.kept.word(word) ^ new.kept.word(word))
+}
+
+/// The types of a word at which a set statement that both policies have may hold in one of them alone: of those that are touched, the
+/// types that it may hold in either.
+pub fn unsettled<A: Allocator>(
+    symbols: &Symbols<A>,
+    old: &Side<'_, A>,
+    new: &Side<'_, A>,
+    rows: &MemberRows<A>,
+    i: usize,
+    j: usize,
+    word: usize,
+) -> u64
+    requires old { IsSide symbols.now old.now }
+    requires new { IsSide symbols.now new.now }
+    requires i_within { i < length (sets_in old.now.resolved.now) }
+    requires j_within { j < length (sets_in new.now.resolved.now) }
+    requires same { IsSameSet (set_at old.now.resolved.now i) (set_at new.now.resolved.now j) }
+    requires was { Tell symbols.now (meaning_in old.now.resolved.now) (set_at old.now.resolved.now i) (count_before rows.now) }
+    requires is { Tell symbols.now (meaning_in new.now.resolved.now) (set_at new.now.resolved.now j) (count_now rows.now) }
+    ensures cover { Cover (λ t. differ (holds symbols.now (meaning_in old.now.resolved.now) (set_at old.now.resolved.now i) t)
+        (holds symbols.now (meaning_in new.now.resolved.now) (set_at new.now.resolved.now j) t)) word result }
+    ensures unsettled { AreUnsettledAt symbols.now (meaning_in old.now.resolved.now) (meaning_in new.now.resolved.now) (set_at new.now.resolved.now j) word result }
+{
+    let bits = touched(symbols, old, new, rows, i, j, word);
+    if bits == 0 {
+        return 0;
+    }
+    let was = reached(symbols, old, rows, &When::Before, i, word);
+    let is = reached(symbols, new, rows, &When::Now, j, word);
+    bits & (was | is)
+}
+
+/// Whether the attribute of a name of an expression may have changed its members.
+fn has_turned<A: Allocator>(
+    symbols: &Symbols<A>,
+    side: &Side<'_, A>,
+    rows: &MemberRows<A>,
+    element: Element,
+) -> bool
+    requires side { IsSide symbols.now side.now }
+    requires below { IsTrue (is_element_below (length side.now.resolved.now.names.items) element) }
+    ensures { result ≡ false → (w : ℕ) → IsUnchanged symbols.now (count_before rows.now) (count_now rows.now) (element_of side.now.resolved.now.names.items element) w 0 }
+{
+    match element {
+        Element::Type(_) => false,
+        Element::Attribute(attribute) => {
+            rows.has_turned(side.numbering.symbol(attribute).unwrap())
+        }
+    }
+}
+
+/// Whether an attribute that the set statement at a place mentions may have changed its members.
+fn any_has_turned<A: Allocator>(
+    symbols: &Symbols<A>,
+    side: &Side<'_, A>,
+    rows: &MemberRows<A>,
+    i: usize,
+) -> bool
+    requires side { IsSide symbols.now side.now }
+    requires within { i < length (sets_in side.now.resolved.now) }
+    ensures { result ≡ false → (w : ℕ) → AreUnchanged symbols.now (count_before rows.now) (count_now rows.now) side.now.resolved.now i w 0 }
+{
+    let names = side.resolved.set_names(i);
+    for k in 0..names.len() {
+        if has_turned(symbols, side, rows, names[k]) {
+            return true;
+        }
+    }
+    false
+}
+
+/// Whether a set statement that both policies have holds in one of them alone no type but those that one of them keeps alone.
+pub fn stays<A: Allocator>(
+    symbols: &Symbols<A>,
+    old: &Side<'_, A>,
+    new: &Side<'_, A>,
+    rows: &MemberRows<A>,
+    i: usize,
+    j: usize,
+) -> bool
+    requires old { IsSide symbols.now old.now }
+    requires new { IsSide symbols.now new.now }
+    requires i_within { i < length (sets_in old.now.resolved.now) }
+    requires j_within { j < length (sets_in new.now.resolved.now) }
+    requires same { IsSameSet (set_at old.now.resolved.now i) (set_at new.now.resolved.now j) }
+    requires was { Tell symbols.now (meaning_in old.now.resolved.now) (set_at old.now.resolved.now i) (count_before rows.now) }
+    requires is { Tell symbols.now (meaning_in new.now.resolved.now) (set_at new.now.resolved.now j) (count_now rows.now) }
+    ensures { IsTrue result → (w : ℕ) → slice_index old.now.kept.now w ≡ slice_index new.now.kept.now w
+        → Cover (λ t. differ (holds symbols.now (meaning_in old.now.resolved.now) (set_at old.now.resolved.now i) t)
+        (holds symbols.now (meaning_in new.now.resolved.now) (set_at new.now.resolved.now j) t)) w 0 }
+{
+    expressions_agree();
+    resolved_is_sound(new.resolved);
+    resolved_names_are_kept(new.resolved);
+    resolved_sets_are_in_order(new.resolved);
+    !any_has_turned(symbols, new, rows, j)
 }

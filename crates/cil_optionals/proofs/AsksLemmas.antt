@@ -1,9 +1,10 @@
 -- Needs of statements.
 use Rattle.std.proofs.Common.{◌≡◌, inl, inr, ℕ, zero, suc, ◌+◌, ◌<◌, ◌≤◌, ◌==◌, Bool, true, false, not, ◌&&◌, ◌||◌, nat_lt, List, [], ◌∷◌, ◌++◌, map, length, get_or, slice_get, take, Option, Some, None, is_some, IfSome, refl, sym, ap, ◌∙◌, subst, arith, add-one, append_assoc, append-nil, if◌then◌else◌}
+use Rattle.cil_parse.specs.Forms.{kind_of}
 use Rattle.std.specs.List.{list_all, list_any}
 use Rattle.std.specs.Option.{option_to_list}
 use Rattle.std.proofs.lemmas.Bool.{eq-eqb, lt-ltb}
-use Rattle.std.proofs.lemmas.List.{take_all}
+use Rattle.std.proofs.lemmas.List.{length-map, take_all}
 use Rattle.std.proofs.lemmas.List.Folds.{list_all-append}
 use Rattle.std.proofs.lemmas.Option.{none-some, same_Some, slice_get_within, slice_get_cases, slice_get_read}
 use Rattle.cil_specs.specs.Names.{Word}
@@ -31,11 +32,11 @@ use Rattle.cil_bind.specs.declared.policy.Policy.{Policy}
 use Rattle.cil_bind.specs.declared.joined.NamedModule.{NamedModule}
 use Rattle.cil_bind.proofs.DeclareLemmas.{rows-length}
 use Rattle.cil_bind.proofs.PositionLemmas.{take-next}
-use Rattle.cil_optionals.specs.Needs.{is_met}
+use Rattle.cil_optionals.specs.Needs.{is_met, meeting, has_node}
 use Rattle.cil_bind.specs.Nested.{IsInnermost}
 use Rattle.cil_optionals.specs.Nodes.{declared_table, declared_text, is_naming, is_provided, is_plain, AreNodesOf}
 use Rattle.cil_optionals.specs.Providers.{further_out, IsReady}
-use Rattle.cil_optionals.specs.Asks.{has_node, is_need_of, are_found, optional_at, row_optional, AddsNeed, Asks, IsOf, LeadsOutside}
+use Rattle.cil_optionals.specs.Asks.{is_need_of, are_found, optional_at, row_optional, AddsNeed, Asks, IsOf, LeadsOutside}
 use Rattle.cil_optionals.specs.declared.greatest.Need.{Need}
 use Rattle.cil_optionals.proofs.FoundLemmas.{leads-found}
 use Rattle.cil_optionals.proofs.ProviderLemmas.{row-within, place-provided, provided-by, naming-declaration, HasRow, row-of}
@@ -102,26 +103,26 @@ leads-outside p parsed all table found q lead row ready e is at none =
     by s zero e is = is
     by s (suc k) e is = absurd (omega (arith, e))
 
-pub asks-none : {A : Type 0} (policy : List Placed) (o : ℕ) (needs : List (Need A)) → Asks policy o (λ set. true) needs needs
+pub asks-none : (policy : List Placed) (o : ℕ) (needs : List Need) → Asks policy o (λ set. true) needs needs
 asks-none policy o needs = record { more = []; is = sym (append-nil needs); below = refl; met = λ set has nodes. by (has o) }
   where
     by : (b : Bool) → true ≡ (not b || true)
     by true = refl
     by false = refl
 
-pub asks-same : {A : Type 0} (policy : List Placed) (o : ℕ) (found others : Optionals → Bool) (old new : List (Need A)) → ((set : Optionals) → found set ≡ others set) → Asks policy o found old new → Asks policy o others old new
+pub asks-same : (policy : List Placed) (o : ℕ) (found others : Optionals → Bool) (old new : List Need) → ((set : Optionals) → found set ≡ others set) → Asks policy o found old new → Asks policy o others old new
 asks-same policy o found others old new same asks =
     record { more = asks.more; is = asks.is; below = asks.below; met = λ set has nodes. asks.met set has nodes ∙ ap (λ b. not (has o) || b) (same set) }
 
 -- one need more
-pub asks-need : {A : Type 0} (policy : List Placed) (o : ℕ) (found one : Optionals → Bool) (node : Option ℕ) (old mid new : List (Need A)) → IfSome node (λ n. n < length policy + length policy + 1)
+pub asks-need : (policy : List Placed) (o : ℕ) (found one : Optionals → Bool) (node : Option ℕ) (old mid new : List Need) → IfSome node (λ n. n < length policy + length policy + 1)
     → ((set : Optionals) (has : ℕ → Bool) → AreNodesOf policy set has → has_node has node ≡ one set) → AddsNeed mid new o node → Asks policy o found old mid → Asks policy o (λ set. found set && one set) old new
-asks-need {A} policy o found one node old mid new low meets adds asks = record {
+asks-need policy o found one node old mid new low meets adds asks = record {
   more = asks.more ++ adds.need ∷ [];
   is = adds.is ∙ ap (λ l. l ++ adds.need ∷ []) asks.is ∙ append_assoc old asks.more (adds.need ∷ []);
   below = list_all-append (is_need_of count o) asks.more (adds.need ∷ []) ∙ both_true (list_all (is_need_of count o) asks.more) (is_need_of count o adds.need && true) asks.below
       (both_true (is_need_of count o adds.need) true
-      (both_true (adds.need.optional == o) (list_all (λ n. nat_lt n (count + count + 1)) adds.need.from.items) (eq-eqb adds.need.optional o adds.optional_is)
+      (both_true (adds.need.optional == o) (list_all (λ n. nat_lt n (count + count + 1)) (meeting adds.need)) (eq-eqb adds.need.optional o adds.optional_is)
       (ap (list_all (λ n. nat_lt n (count + count + 1))) adds.from_is ∙ one-low node low)) refl);
   met = λ set has nodes.
       list_all-append (is_met has) asks.more (adds.need ∷ [])
@@ -269,6 +270,10 @@ row-one p module_at i s row of is =
     let low = slice_get_within p.rows.items i of.row of.at in
     let there : slice_get p.rows.items i ≡ Some row = slice_get_read p.rows.items (length p.rows.items) i row refl low is in
     (same_Some of.row row (sym of.at ∙ there), ap row_optional there)
+
+-- there is a kind for each statement
+pub kinds-long : {A : Type 0} (p : Policy A) (parsed : List (NamedModule A)) (all : List Placed) → IsReady p parsed all → length p.kinds.items ≡ length all
+kinds-long p parsed all ready = ap length ready.bound.kinds ∙ length-map all (λ s. kind_of s.form)
 
 -- the references of the statement at a place are bound to what they lead to
 pub leads-of : {A : Type 0} (p : Policy A) (parsed : List (NamedModule A)) (all : List Placed) (i : ℕ) (s : Placed) (bound : List (Option ℕ)) → IsReady p parsed all → slice_get all i ≡ Some s → bound ≡ get_or p.bound.0 i []

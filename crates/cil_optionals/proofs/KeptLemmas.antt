@@ -19,7 +19,7 @@ use Rattle.cil_bind.specs.Rows.{AreRows}
 use Rattle.cil_bind.proofs.DeclareLemmas.{rows-length}
 use Rattle.cil_bind.specs.declared.rows.Row.{Row}
 use Rattle.cil_bind.proofs.PositionLemmas.{any-position}
-use Rattle.cil_optionals.specs.Needs.{is_met, are_met, is_need_below}
+use Rattle.cil_optionals.specs.Needs.{is_met, are_met, is_need_below, meeting}
 use Rattle.cil_bind.specs.Nested.{IsInnermost, AreNested}
 use Rattle.cil_optionals.specs.Nested.{mark_at, set_of, ShowsKept}
 use Rattle.cil_optionals.specs.Nodes.{declared_table, declared_text, is_naming, is_provided, AreOptionalsOf, AreNodesOf}
@@ -148,35 +148,35 @@ rows-there rows policy same i s at = elim (slice_get_cases rows i).1 [
 ]
 
 -- the needs of statements are of nodes of the policy
-pub within-below : {A : Type 0} (count : ℕ) (needs : List (Need A)) → list_all (is_need_within count) needs ≡ true → list_all (is_need_below (count + count + 1)) needs ≡ true
+pub within-below : (count : ℕ) (needs : List Need) → list_all (is_need_within count) needs ≡ true → list_all (is_need_below (count + count + 1)) needs ≡ true
 within-below count [] all = refl
 within-below count (need ∷ needs) all =
     let first = first_true (is_need_within count need) (list_all (is_need_within count) needs) all in
-    let rest = second_true (nat_lt 0 need.optional) (nat_lt need.optional (count + 1) && list_all (λ n. nat_lt n (count + count + 1)) need.from.items) first in
-    let low : need.optional < count + 1 = ltb-true need.optional (count + 1) (first_true (nat_lt need.optional (count + 1)) (list_all (λ n. nat_lt n (count + count + 1)) need.from.items) rest) in
+    let rest = second_true (nat_lt 0 need.optional) (nat_lt need.optional (count + 1) && list_all (λ n. nat_lt n (count + count + 1)) (meeting need)) first in
+    let low : need.optional < count + 1 = ltb-true need.optional (count + 1) (first_true (nat_lt need.optional (count + 1)) (list_all (λ n. nat_lt n (count + count + 1)) (meeting need)) rest) in
     both_true (is_need_below (count + count + 1) need) (list_all (is_need_below (count + count + 1)) needs)
-    (both_true (nat_lt 0 need.optional) (nat_lt need.optional (count + count + 1) && list_all (λ n. nat_lt n (count + count + 1)) need.from.items)
-    (first_true (nat_lt 0 need.optional) (nat_lt need.optional (count + 1) && list_all (λ n. nat_lt n (count + count + 1)) need.from.items) first)
-    (both_true (nat_lt need.optional (count + count + 1)) (list_all (λ n. nat_lt n (count + count + 1)) need.from.items) (lt-ltb need.optional (count + count + 1) (omega (arith, low)))
-    (second_true (nat_lt need.optional (count + 1)) (list_all (λ n. nat_lt n (count + count + 1)) need.from.items) rest)))
+    (both_true (nat_lt 0 need.optional) (nat_lt need.optional (count + count + 1) && list_all (λ n. nat_lt n (count + count + 1)) (meeting need))
+    (first_true (nat_lt 0 need.optional) (nat_lt need.optional (count + 1) && list_all (λ n. nat_lt n (count + count + 1)) (meeting need)) first)
+    (both_true (nat_lt need.optional (count + count + 1)) (list_all (λ n. nat_lt n (count + count + 1)) (meeting need)) (lt-ltb need.optional (count + count + 1) (omega (arith, low)))
+    (second_true (nat_lt need.optional (count + 1)) (list_all (λ n. nat_lt n (count + count + 1)) (meeting need)) rest)))
     (within-below count needs (second_true (is_need_within count need) (list_all (is_need_within count) needs) all))
 
-pub all-below : {A : Type 0} (policy : List Placed) (rows : List Row) (lower others : List (Need A)) → AreProviders policy rows (length policy) lower → AreOthers policy rows others
+pub all-below : (policy : List Placed) (rows : List Row) (lower others : List Need) → AreProviders policy rows (length policy) lower → AreOthers policy rows others
     → list_all (is_need_below (length policy + length policy + 1)) (lower ++ others) ≡ true
 all-below policy rows lower others providers_are others_are =
     list_all-append (is_need_below (length policy + length policy + 1)) lower others
     ∙ both_true (list_all (is_need_below (length policy + length policy + 1)) lower) (list_all (is_need_below (length policy + length policy + 1)) others) providers_are.below (within-below (length policy) others others_are.below)
 
 -- what is asked of the marks: they are the greatest set in which the needs are met
-pub record AreGreatest {A : Type 0} (policy : List Placed) (rows : List Row) (lower others : List (Need A)) (marks : List Bool) : Type 0 where
+pub record AreGreatest (policy : List Placed) (rows : List Row) (lower others : List Need) (marks : List Bool) : Type 0 where
   pub providers_are : AreProviders policy rows (length policy) lower
   pub others_are : AreOthers policy rows others
   pub outside : get_or marks 0 false ≡ true
   pub met : are_met (λ n. get_or marks n false) (lower ++ others) ≡ true
   pub greatest : (has : ℕ → Bool) → are_met has (lower ++ others) ≡ true → (n : ℕ) → n ≤ length policy + length policy → has n ≡ true → get_or marks n false ≡ true
 
-module _ {A : Type 0} (policy : List Placed) (rows : List Row) (row-there : (i : ℕ) (s : Placed) → slice_get policy i ≡ Some s → (row : Row) × (slice_get rows i ≡ Some row)) (nested : AreNested rows policy) (apart : AreApart policy)
-    (once : (fault : PolicyFault) → IsFaultOf twice policy fault → ⊥) (lower others : List (Need A)) (marks : List Bool) (are : AreGreatest policy rows lower others marks) where
+module _ (policy : List Placed) (rows : List Row) (row-there : (i : ℕ) (s : Placed) → slice_get policy i ≡ Some s → (row : Row) × (slice_get rows i ≡ Some row)) (nested : AreNested rows policy) (apart : AreApart policy)
+    (once : (fault : PolicyFault) → IsFaultOf twice policy fault → ⊥) (lower others : List Need) (marks : List Bool) (are : AreGreatest policy rows lower others marks) where
   abbrev mark : ℕ → Bool
   mark n = get_or marks n false
 
@@ -285,7 +285,7 @@ module _ {A : Type 0} (policy : List Placed) (rows : List Row) (row-there : (i :
       by false e a more = right (has_kept n) (list_any has_kept ns) (more a)
 
   -- so the needs of statements are met by it
-  all-there : (needs : List (Need A)) → list_all (is_need_within (length policy)) needs ≡ true → are_met mark needs ≡ true → are_met has_kept needs ≡ true
+  all-there : (needs : List Need) → list_all (is_need_within (length policy)) needs ≡ true → are_met mark needs ≡ true → are_met has_kept needs ≡ true
   all-there [] low met = refl
   all-there (need ∷ needs) low met =
       both_true (is_met has_kept need) (are_met has_kept needs) one
@@ -294,13 +294,13 @@ module _ {A : Type 0} (policy : List Placed) (rows : List Row) (row-there : (i :
       first : is_need_within (length policy) need ≡ true
       first = first_true (is_need_within (length policy) need) (list_all (is_need_within (length policy)) needs) low
 
-      rest : (nat_lt need.optional (length policy + 1) && list_all (λ n. nat_lt n (length policy + length policy + 1)) need.from.items) ≡ true
-      rest = second_true (nat_lt 0 need.optional) (nat_lt need.optional (length policy + 1) && list_all (λ n. nat_lt n (length policy + length policy + 1)) need.from.items) first
+      rest : (nat_lt need.optional (length policy + 1) && list_all (λ n. nat_lt n (length policy + length policy + 1)) (meeting need)) ≡ true
+      rest = second_true (nat_lt 0 need.optional) (nat_lt need.optional (length policy + 1) && list_all (λ n. nat_lt n (length policy + length policy + 1)) (meeting need)) first
 
       same : has_kept need.optional ≡ mark need.optional
       same =
           node-low policy kept mark need.optional
-          (ltb-true need.optional (length policy + 1) (first_true (nat_lt need.optional (length policy + 1)) (list_all (λ n. nat_lt n (length policy + length policy + 1)) need.from.items) rest))
+          (ltb-true need.optional (length policy + 1) (first_true (nat_lt need.optional (length policy + 1)) (list_all (λ n. nat_lt n (length policy + length policy + 1)) (meeting need)) rest))
 
       either : (b c d : Bool) → (c ≡ true → d ≡ true) → (not b || c) ≡ true → (not b || d) ≡ true
       either true c d more e = more e
@@ -308,9 +308,9 @@ module _ {A : Type 0} (policy : List Placed) (rows : List Row) (row-there : (i :
 
       one : is_met has_kept need ≡ true
       one =
-          ap (λ b. not b || list_any has_kept need.from.items) same
-          ∙ either (mark need.optional) (list_any mark need.from.items) (list_any has_kept need.from.items)
-          (any-there need.from.items (second_true (nat_lt need.optional (length policy + 1)) (list_all (λ n. nat_lt n (length policy + length policy + 1)) need.from.items) rest))
+          ap (λ b. not b || list_any has_kept (meeting need)) same
+          ∙ either (mark need.optional) (list_any mark (meeting need)) (list_any has_kept (meeting need))
+          (any-there (meeting need) (second_true (nat_lt need.optional (length policy + 1)) (list_all (λ n. nat_lt n (length policy + length policy + 1)) (meeting need)) rest))
           (first_true (is_met mark need) (are_met mark needs) met)
 
   kept-found : AreFoundWithin policy kept

@@ -1,4 +1,5 @@
 pub mod ListLemmas
+pub mod DependentLemmas
 pub mod GreatestLemmas
 pub mod FoundLemmas
 pub mod ProviderLemmas
@@ -7,3 +8,4 @@ pub mod KeptLemmas
 pub mod OthersLemmas
 pub mod PermissionLemmas
 pub mod ListedLemmas
+pub mod KnownLemmas

@@ -12,7 +12,7 @@ use Rattle.cil_specs.specs.Kept.{Optionals, is_within, restricted, AreApart}
 use Rattle.cil_specs.proofs.KeptLemmas.{nil-append}
 use Rattle.cil_specs.proofs.Runs.{first_true, second_true, both_true}
 use Rattle.cil_bind.specs.declared.rows.Row.{Row}
-use Rattle.cil_optionals.specs.Needs.{is_met, are_met}
+use Rattle.cil_optionals.specs.Needs.{is_met, are_met, meeting}
 use Rattle.cil_bind.specs.Nested.{IsInnermost, AreNested}
 use Rattle.cil_optionals.specs.Asks.{is_need_of, are_found, are_there, AddsNeed, Asks, IsOf}
 use Rattle.cil_optionals.specs.Others.{is_need_within, AreOthersTo, AreOthers}
@@ -61,15 +61,15 @@ module _ (policy : List Placed) (s : Placed) where
       (all-left (λ r. r.1) (is_unfound policy s.namespace) (references s.form) words.0) (all-left (λ p. p.1) (is_lacking policy s.namespace) (named_permissions s.form) words.1)
 
 -- nothing is gone over
-pub others-none : {A : Type 0} (policy : List Placed) (rows : List Row) (needs : List (Need A)) → needs ≡ [] → AreOthersTo policy rows 0 0 needs
-others-none {A} policy rows needs none = subst (AreOthersTo policy rows 0 0) (sym none) (record {
+pub others-none : (policy : List Placed) (rows : List Row) (needs : List Need) → needs ≡ [] → AreOthersTo policy rows 0 0 needs
+others-none policy rows needs none = subst (AreOthersTo policy rows 0 0) (sym none) (record {
   below = refl;
   inside = λ has met zero_it k row s low. absurd (omega (arith, low));
   found = λ set has nodes. (λ met i s low. absurd (omega (arith, low)), λ all. refl);
 })
 
 -- a statement in no optional needs nothing
-pub others-skip : {A : Type 0} (policy : List Placed) (rows : List Row) (i : ℕ) (row : Row) (s : Placed) (needs : List (Need A)) → AreNested rows policy → slice_get rows i ≡ Some row → slice_get policy i ≡ Some s → row.optional ≡ 0
+pub others-skip : (policy : List Placed) (rows : List Row) (i : ℕ) (row : Row) (s : Placed) (needs : List Need) → AreNested rows policy → slice_get rows i ≡ Some row → slice_get policy i ≡ Some s → row.optional ≡ 0
     → AreOthersTo policy rows i i needs → AreOthersTo policy rows (i + 1) (i + 1) needs
 others-skip policy rows i row s needs nested at here none are = record {
   below = are.below;
@@ -95,13 +95,13 @@ others-skip policy rows i row s needs nested at here none are = record {
     outside (suc k) e is = absurd (omega (arith, e))
 
 -- an optional inside another needs that
-pub others-around : {A : Type 0} (policy : List Placed) (rows : List Row) (i : ℕ) (row : Row) (s : Placed) (old new : List (Need A)) → AreNested rows policy → slice_get rows i ≡ Some row → slice_get policy i ≡ Some s → is_optional s.form ≡ true
+pub others-around : (policy : List Placed) (rows : List Row) (i : ℕ) (row : Row) (s : Placed) (old new : List Need) → AreNested rows policy → slice_get rows i ≡ Some row → slice_get policy i ≡ Some s → is_optional s.form ≡ true
     → AddsNeed old new (i + 1) (Some row.optional) → AreOthersTo policy rows i i old → AreOthersTo policy rows i (i + 1) new
-others-around {A} policy rows i row s old new nested at here optional adds are = subst (AreOthersTo policy rows i (i + 1)) (sym adds.is) (record {
+others-around policy rows i row s old new nested at here optional adds are = subst (AreOthersTo policy rows i (i + 1)) (sym adds.is) (record {
   below = list_all-append (is_need_within count) old (need ∷ []) ∙ both_true (list_all (is_need_within count) old) (is_need_within count need && true) are.below
       (both_true (is_need_within count need) true
-      (both_true (nat_lt 0 need.optional) (nat_lt need.optional (count + 1) && list_all (λ n. nat_lt n (count + count + 1)) need.from.items) (lt-ltb 0 need.optional (omega (arith, number)))
-      (both_true (nat_lt need.optional (count + 1)) (list_all (λ n. nat_lt n (count + count + 1)) need.from.items) (lt-ltb need.optional (count + 1) (omega (arith, number, low)))
+      (both_true (nat_lt 0 need.optional) (nat_lt need.optional (count + 1) && list_all (λ n. nat_lt n (count + count + 1)) (meeting need)) (lt-ltb 0 need.optional (omega (arith, number)))
+      (both_true (nat_lt need.optional (count + 1)) (list_all (λ n. nat_lt n (count + count + 1)) (meeting need)) (lt-ltb need.optional (count + 1) (omega (arith, number, low)))
       (ap (list_all (λ n. nat_lt n (count + count + 1))) adds.from_is ∙ both_true (nat_lt row.optional (count + count + 1)) true (lt-ltb row.optional (count + count + 1) (omega (arith, around))) refl)))
       refl);
   inside = λ has met first k r t less r_at t_at is there.
@@ -128,7 +128,7 @@ others-around {A} policy rows i row s old new nested at here optional adds are =
     count : ℕ
     count = length policy
 
-    need : Need A
+    need : Need
     need = adds.need
 
     number : need.optional ≡ i + 1
@@ -154,7 +154,7 @@ others-around {A} policy rows i row s old new nested at here optional adds are =
     always false c = refl
 
 -- another statement needs nothing of the kind
-pub others-other : {A : Type 0} (policy : List Placed) (rows : List Row) (i : ℕ) (s : Placed) (needs : List (Need A)) → slice_get policy i ≡ Some s → is_optional s.form ≡ false
+pub others-other : (policy : List Placed) (rows : List Row) (i : ℕ) (s : Placed) (needs : List Need) → slice_get policy i ≡ Some s → is_optional s.form ≡ false
     → AreOthersTo policy rows i i needs → AreOthersTo policy rows i (i + 1) needs
 others-other policy rows i s needs here isnt are = record {
   below = are.below;
@@ -168,10 +168,10 @@ others-other policy rows i s needs here isnt are = record {
 }
 
 -- what a statement in an optional asks
-pub others-asks : {A : Type 0} (policy : List Placed) (rows : List Row) (i : ℕ) (row : Row) (s : Placed) (m : ℕ) (old new : List (Need A)) → AreNested rows policy → slice_get rows i ≡ Some row → slice_get policy i ≡ Some s → row.optional ≢ 0
+pub others-asks : (policy : List Placed) (rows : List Row) (i : ℕ) (row : Row) (s : Placed) (m : ℕ) (old new : List Need) → AreNested rows policy → slice_get rows i ≡ Some row → slice_get policy i ≡ Some s → row.optional ≢ 0
     → Asks policy row.optional (λ set. are_found (restricted set policy) s.namespace (references s.form) && are_there (restricted set policy) s.namespace (named_permissions s.form)) old new
     → AreOthersTo policy rows i m old → AreOthersTo policy rows (i + 1) m new
-others-asks {A} policy rows i row s m old new nested at here inside asks are = subst (AreOthersTo policy rows (i + 1) m) (sym asks.is) (record {
+others-asks policy rows i row s m old new nested at here inside asks are = subst (AreOthersTo policy rows (i + 1) m) (sym asks.is) (record {
   below = list_all-append (is_need_within count) old asks.more ∙ both_true (list_all (is_need_within count) old) (list_all (is_need_within count) asks.more) are.below (all-within asks.more asks.below);
   inside = λ has met. are.inside has (first_true (are_met has old) (are_met has asks.more) (sym (list_all-append (is_met has) old asks.more) ∙ met));
   found = λ set has nodes.
@@ -210,15 +210,15 @@ others-asks {A} policy rows i row s m old new nested at here inside asks are = s
     some_around zero other is = λ e. other refl
     some_around (suc k) other is = λ e. cc (sym e ∙ is.5)
 
-    all-within : (needs : List (Need A)) → list_all (is_need_of (length policy) row.optional) needs ≡ true → list_all (is_need_within (length policy)) needs ≡ true
+    all-within : (needs : List Need) → list_all (is_need_of (length policy) row.optional) needs ≡ true → list_all (is_need_within (length policy)) needs ≡ true
     all-within [] all = refl
     all-within (need ∷ needs) all =
         let first = first_true (is_need_of (length policy) row.optional need) (list_all (is_need_of (length policy) row.optional) needs) all in
-        let number : need.optional ≡ row.optional = eqb-true need.optional row.optional (first_true (need.optional == row.optional) (list_all (λ n. nat_lt n (length policy + length policy + 1)) need.from.items) first) in
+        let number : need.optional ≡ row.optional = eqb-true need.optional row.optional (first_true (need.optional == row.optional) (list_all (λ n. nat_lt n (length policy + length policy + 1)) (meeting need)) first) in
         both_true (is_need_within (length policy) need) (list_all (is_need_within (length policy)) needs)
-        (both_true (nat_lt 0 need.optional) (nat_lt need.optional (length policy + 1) && list_all (λ n. nat_lt n (length policy + length policy + 1)) need.from.items) (lt-ltb 0 need.optional (omega (arith, number, inside)))
-        (both_true (nat_lt need.optional (length policy + 1)) (list_all (λ n. nat_lt n (length policy + length policy + 1)) need.from.items) (lt-ltb need.optional (length policy + 1) (omega (arith, number, around)))
-        (second_true (need.optional == row.optional) (list_all (λ n. nat_lt n (length policy + length policy + 1)) need.from.items) first)))
+        (both_true (nat_lt 0 need.optional) (nat_lt need.optional (length policy + 1) && list_all (λ n. nat_lt n (length policy + length policy + 1)) (meeting need)) (lt-ltb 0 need.optional (omega (arith, number, inside)))
+        (both_true (nat_lt need.optional (length policy + 1)) (list_all (λ n. nat_lt n (length policy + length policy + 1)) (meeting need)) (lt-ltb need.optional (length policy + 1) (omega (arith, number, around)))
+        (second_true (need.optional == row.optional) (list_all (λ n. nat_lt n (length policy + length policy + 1)) (meeting need)) first)))
         (all-within needs (second_true (is_need_of (length policy) row.optional need) (list_all (is_need_of (length policy) row.optional) needs) all))
 
     taken : (b c : Bool) → b ≡ true → (not b || c) ≡ true → c ≡ true
@@ -230,7 +230,7 @@ others-asks {A} policy rows i row s m old new nested at here inside asks are = s
     given false c more = refl
 
 -- all are gone over
-pub others-all : {A : Type 0} (policy : List Placed) (rows : List Row) (n : ℕ) (needs : List (Need A)) → length policy ≤ n → AreOthersTo policy rows n n needs → AreOthers policy rows needs
+pub others-all : (policy : List Placed) (rows : List Row) (n : ℕ) (needs : List Need) → length policy ≤ n → AreOthersTo policy rows n n needs → AreOthers policy rows needs
 others-all policy rows n needs past are = record {
   below = are.below;
   inside = λ has met first k row s at here. are.inside has met first k row s (let low = slice_get_within policy k s here in omega (arith, low, past)) at here;
@@ -261,7 +261,7 @@ and-yes true = refl
 and-yes false = refl
 
 -- no permission is lacking
-pub asks-there : {A : Type 0} (policy : List Placed) (o : ℕ) (s : Placed) (old new : List (Need A)) → AreApart policy → are_there policy s.namespace (named_permissions s.form) ≡ true
+pub asks-there : (policy : List Placed) (o : ℕ) (s : Placed) (old new : List Need) → AreApart policy → are_there policy s.namespace (named_permissions s.form) ≡ true
     → Asks policy o (λ set. are_found (restricted set policy) s.namespace (references s.form)) old new
     → Asks policy o (λ set. are_found (restricted set policy) s.namespace (references s.form) && are_there (restricted set policy) s.namespace (named_permissions s.form)) old new
 asks-there policy o s old new apart there =
@@ -270,7 +270,7 @@ asks-there policy o s old new apart there =
     ∙ ap (λ b. are_found (restricted set policy) s.namespace (references s.form) && b) (sym (there-restricted set policy apart s.namespace (named_permissions s.form) ∙ there)))
 
 -- a permission is lacking
-pub asks-lacking : {A : Type 0} (policy : List Placed) (o : ℕ) (s : Placed) (old mid new : List (Need A)) → AreApart policy → are_there policy s.namespace (named_permissions s.form) ≡ false → AddsNeed mid new o None
+pub asks-lacking : (policy : List Placed) (o : ℕ) (s : Placed) (old mid new : List Need) → AreApart policy → are_there policy s.namespace (named_permissions s.form) ≡ false → AddsNeed mid new o None
     → Asks policy o (λ set. are_found (restricted set policy) s.namespace (references s.form)) old mid
     → Asks policy o (λ set. are_found (restricted set policy) s.namespace (references s.form) && are_there (restricted set policy) s.namespace (named_permissions s.form)) old new
 asks-lacking policy o s old mid new apart lacking adds =

@@ -21,7 +21,7 @@ use Rattle.cil_bind.specs.declared.joined.NamedModule.{NamedModule}
 use Rattle.cil_bind.proofs.DeclareLemmas.{same_namespace-refl, row-at, rows-length}
 use Rattle.cil_parse.specs.declared.table.Table as code
 use Rattle.cil_parse.specs.declared.table.Table.TheVariants.{Types, Classes, Commons, Scopes}
-use Rattle.cil_optionals.specs.Needs.{is_met, are_met, is_need_below}
+use Rattle.cil_optionals.specs.Needs.{is_met, are_met, is_need_below, meeting}
 use Rattle.cil_bind.specs.Nested.{IsInnermost, AreNested}
 use Rattle.cil_optionals.specs.Nodes.{declared_table, declared_text, is_naming, is_provided, AreOptionalsOf, AreNodesOf}
 use Rattle.cil_optionals.specs.Providers.{further_out, alternatives, IsReady, IsDeclaration, IsProvidedBy, AreProviders}
@@ -133,9 +133,9 @@ none-provided : (policy : List Placed) (set : Optionals) (table : Table) (lead :
 none-provided policy set table lead is = ap (holds_of (is_provided (restricted set policy))) (sym is.is)
 
 -- no need of a name: it stands in no optional, or there is none
-pub providers-skip : {A : Type 0} (policy : List Placed) (rows : List Row) (i : ℕ) (needs : List (Need A))
+pub providers-skip : (policy : List Placed) (rows : List Row) (i : ℕ) (needs : List Need)
     → ((row : Row) (s : Placed) → slice_get rows i ≡ Some row → slice_get policy i ≡ Some s → IsDeclaration s → row.optional ≡ 0) → AreProviders policy rows i needs → AreProviders policy rows (i + 1) needs
-providers-skip {A} policy rows i needs outside are = record {
+providers-skip policy rows i needs outside are = record {
   below = are.below;
   met = are.met;
   each = λ has met none p row s less at here declared there. elim (cases_lt p i) [
@@ -152,14 +152,14 @@ pub record IsNext (policy : List Placed) (row : Row) (s : Placed) (next : Option
   pub lead : IsLead (declared_table s.form) policy next (further_out policy (declared_table s.form) s.namespace (declared_text s.form))
 
 -- one need more
-pub providers-next : {A : Type 0} (policy : List Placed) (rows : List Row) (i : ℕ) (row : Row) (s : Placed) (next : Option ℕ) (need : Need A) (needs : List (Need A)) → AreApart policy
+pub providers-next : (policy : List Placed) (rows : List Row) (i : ℕ) (row : Row) (s : Placed) (next : Option ℕ) (need : Need) (needs : List Need) → AreApart policy
     → ((fault : PolicyFault) → IsFaultOf twice policy fault → ⊥) → AreNested rows policy → slice_get rows i ≡ Some row → slice_get policy i ≡ Some s → IsNext policy row s next
-    → need.optional ≡ length policy + 1 + i → need.from.items ≡ alternatives (length policy) row.optional next → AreProviders policy rows i needs → AreProviders policy rows (i + 1) (needs ++ need ∷ [])
-providers-next {A} policy rows i row s next need needs apart once nested at here is number from are = record {
+    → need.optional ≡ length policy + 1 + i → meeting need ≡ alternatives (length policy) row.optional next → AreProviders policy rows i needs → AreProviders policy rows (i + 1) (needs ++ need ∷ [])
+providers-next policy rows i row s next need needs apart once nested at here is number from are = record {
   below = list_all-append (is_need_below all) needs (need ∷ []) ∙ both_true (list_all (is_need_below all) needs) (is_need_below all need && true) are.below
       (both_true (is_need_below all need) true
-      (both_true (nat_lt 0 need.optional) (nat_lt need.optional all && list_all (λ m. nat_lt m all) need.from.items) (lt-ltb 0 need.optional (omega (arith, number)))
-      (both_true (nat_lt need.optional all) (list_all (λ m. nat_lt m all) need.from.items) (lt-ltb need.optional all (omega (arith, number, low)))
+      (both_true (nat_lt 0 need.optional) (nat_lt need.optional all && list_all (λ m. nat_lt m all) (meeting need)) (lt-ltb 0 need.optional (omega (arith, number)))
+      (both_true (nat_lt need.optional all) (list_all (λ m. nat_lt m all) (meeting need)) (lt-ltb need.optional all (omega (arith, number, low)))
       (ap (list_all (λ m. nat_lt m all)) from ∙ alternatives-below next is.lead)))
       refl);
   met = λ set has nodes.
@@ -180,7 +180,7 @@ providers-next {A} policy rows i row s next need needs apart once nested at here
             let s_is : s ≡ t = same_Some s t (sym here ∙ sym (ap (slice_get policy) same) ∙ here') in
             let there_is : has need.optional ≡ true = ap has (number ∙ ap (λ n. length policy + 1 + n) (sym same)) ∙ there in
             subst (λ q. IsProvidedBy policy has q t) row_is (subst (IsProvidedBy policy has row) s_is
-            (chosen has next is.lead (sym (ap (list_any has) from) ∙ taken (has need.optional) (list_any has need.from.items) there_is (first_true (is_met has need) true (second_true (are_met has needs) (is_met has need && true) parts)))))
+            (chosen has next is.lead (sym (ap (list_any has) from) ∙ taken (has need.optional) (list_any has (meeting need)) there_is (first_true (is_met has need) true (second_true (are_met has needs) (is_met has need && true) parts)))))
       ];
 }
   where
@@ -238,8 +238,8 @@ providers-next {A} policy rows i row s next need needs apart once nested at here
     ]
 
 -- no needs of no statements
-pub providers-none : {A : Type 0} (policy : List Placed) (rows : List Row) (needs : List (Need A)) → needs ≡ [] → AreProviders policy rows 0 needs
-providers-none {A} policy rows needs none = subst (AreProviders policy rows 0) (sym none) (record {
+pub providers-none : (policy : List Placed) (rows : List Row) (needs : List Need) → needs ≡ [] → AreProviders policy rows 0 needs
+providers-none policy rows needs none = subst (AreProviders policy rows 0) (sym none) (record {
   below = refl;
   met = λ set has nodes. refl;
   each = λ has met there p row s less. absurd (omega (arith, less));
@@ -304,7 +304,7 @@ row-next p all i row table w next has e other lead =
     }
 
 -- the names of all statements
-pub providers-all : {A : Type 0} (policy : List Placed) (rows : List Row) (i : ℕ) (needs : List (Need A)) → length policy ≤ i → AreProviders policy rows i needs → AreProviders policy rows (length policy) needs
+pub providers-all : (policy : List Placed) (rows : List Row) (i : ℕ) (needs : List Need) → length policy ≤ i → AreProviders policy rows i needs → AreProviders policy rows (length policy) needs
 providers-all policy rows i needs past are = record {
   below = are.below;
   met = are.met;

@@ -1,5 +1,5 @@
 -- What statements in optionals need.
-use Rattle.std.specs.Prelude.{◌≡◌, ◌<◌, ℕ, ◌+◌, ◌==◌, Bool, true, false, not, ◌&&◌, ◌||◌, nat_lt, List, [], ◌∷◌, ◌++◌, length, slice_get, Option, Some, None}
+use Rattle.std.specs.Prelude.{◌≡◌, ◌<◌, ℕ, ◌+◌, ◌==◌, Bool, true, not, ◌&&◌, ◌||◌, nat_lt, List, [], ◌∷◌, ◌++◌, length, slice_get, Option, Some, None}
 use Rattle.std.specs.List.{list_all}
 use Rattle.std.specs.Option.{option_to_list}
 use Rattle.cil_specs.specs.Names.{Word}
@@ -13,29 +13,24 @@ use Rattle.cil_parse.specs.Parsed.{Spells, statement_count}
 use Rattle.cil_parse.specs.declared.parsed.ParsedModule.{ParsedModule}
 use Rattle.cil_bind.specs.declared.rows.Row.{Row}
 use Rattle.cil_bind.specs.declared.policy.Policy.{Policy}
-use Rattle.cil_optionals.specs.Needs.{are_met}
+use Rattle.cil_optionals.specs.Needs.{are_met, meeting}
 use Rattle.cil_optionals.specs.Nodes.{AreNodesOf}
 use Rattle.cil_optionals.specs.declared.greatest.Need.{Need}
 
--- whether a set has a node, if there is one
-abbrev pub has_node : (ℕ → Bool) → Option ℕ → Bool
-has_node has None = false
-has_node has (Some n) = has n
-
 -- a need of a node came behind others: of one node, or what nothing meets
-pub record AddsNeed {A : Type 0} (old new : List (Need A)) (optional : ℕ) (node : Option ℕ) : Type 0 where
-  pub need : Need A
+pub record AddsNeed (old new : List Need) (optional : ℕ) (node : Option ℕ) : Type 0 where
+  pub need : Need
   pub is : new ≡ old ++ need ∷ []
   pub optional_is : need.optional ≡ optional
-  pub from_is : need.from.items ≡ option_to_list node
+  pub from_is : meeting need ≡ option_to_list node
 
 -- whether a need is that of an optional, and the nodes are those of a policy of so many statements
-abbrev pub is_need_of : {A : Type 0} → ℕ → ℕ → Need A → Bool
-is_need_of count optional need = (need.optional == optional) && list_all (λ n. nat_lt n (count + count + 1)) need.from.items
+abbrev pub is_need_of : ℕ → ℕ → Need → Bool
+is_need_of count optional need = (need.optional == optional) && list_all (λ n. nat_lt n (count + count + 1)) (meeting need)
 
 -- Behind other needs came such of an optional as are met by the sets that don't have it or find something.
-pub record Asks {A : Type 0} (policy : List Placed) (optional : ℕ) (found : Optionals → Bool) (old new : List (Need A)) : Type 0 where
-  pub more : List (Need A)
+pub record Asks (policy : List Placed) (optional : ℕ) (found : Optionals → Bool) (old new : List Need) : Type 0 where
+  pub more : List Need
   pub is : new ≡ old ++ more
   pub below : list_all (is_need_of (length policy) optional) more ≡ true
   pub met : (set : Optionals) (has : ℕ → Bool) → AreNodesOf policy set has → are_met has more ≡ (not (has optional) || found set)

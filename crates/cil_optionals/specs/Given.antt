@@ -1,12 +1,14 @@
 -- The permissions that are listed and the commons that are given.
 use Rattle.std.specs.Prelude.{◌≡◌, ℕ, ◌-◌, Bool, true, false, ◌||◌, ◌&&◌, ◌==◌, List, [], ◌∷◌, length, take, slice_get, slice_index_or, bytes_eq, Option, Some, None, Vec, position, if◌then◌else◌}
 use Rattle.std.specs.Borrow.{Bor}
-use Rattle.std.specs.List.{list_any}
+use Rattle.std.specs.List.{list_all, list_any}
 use Rattle.std.specs.Option.{option_and_then}
 use Rattle.cil_specs.specs.Statements.{Form, class_common}
 use Rattle.cil_specs.specs.Joined.{Placed}
 use Rattle.cil_specs.specs.Lookup.{classes, commons, holds_of, leads, gives_common as gives_common_to, has_name, texts, own_permissions}
 use Rattle.cil_bind.specs.Lookup.{IsFirstOf}
+use Rattle.cil_bind.specs.KnownLists.{texts_listed}
+use Rattle.cil_bind.specs.declared.joined.NamedModule.{NamedModule}
 use Rattle.cil_parse.specs.declared.row.StatementKind.{StatementKind}
 use Rattle.cil_parse.specs.declared.row.StatementKind.TheVariants as kinds
 use Rattle.cil_optionals.specs.declared.listed.Gift.{Gift}
@@ -99,3 +101,7 @@ AreAnswers has questions answer = (the_class : ℕ) (name : List ℕ) → lists 
 -- the questions at hand are answered with yes
 abbrev pub AreRecent : (ℕ → List ℕ → Bool) → List (Option Permission) → Type 0
 AreRecent has recent = (i : ℕ) (p : Permission) → slice_get recent i ≡ Some (Some p) → has p.place p.name.now ≡ true
+
+-- whether a class has all permissions of a list, by the number of its module and its own
+abbrev pub has_list : {A : Type 0} → List (NamedModule A) → (ℕ → List ℕ → Bool) → ℕ → ℕ → ℕ → Bool
+has_list modules has number list the_class = list_all (has the_class) (texts_listed modules number list)

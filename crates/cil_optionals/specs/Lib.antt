@@ -3,6 +3,7 @@ pub mod Nested
 pub mod Nodes
 pub mod Providers
 pub mod Asks
+pub mod Dependents
 pub mod Others
 pub mod Permissions
 pub mod Given

@@ -1,6 +1,7 @@
 -- What the nodes of names need.
 use Rattle.std.specs.Prelude.{◌≡◌, ◌⊎◌, ◌<◌, ◌^◌, ℕ, ◌+◌, Bool, true, List, [], ◌∷◌, length, slice_get, is_some, Option, Some, None, IsTrue}
 use Rattle.std.specs.List.{list_all}
+use Rattle.std.specs.Option.{option_to_list}
 use Rattle.cil_specs.specs.Joined.{Placed}
 use Rattle.cil_specs.specs.Lookup.{Table, scopes, declared_in, outward}
 use Rattle.cil_specs.specs.Kept.{Optionals, AreApart}
@@ -25,10 +26,14 @@ abbrev pub further_out : List Placed → Table → List (List ℕ) → List ℕ 
 further_out policy table [] name = None
 further_out policy table (inner ∷ outer) name = outward policy table outer name
 
--- a first node, and that of a declaration, if there is one, where the policy has so many statements
+-- the node of the name that the statement of a place declares, where the policy has so many statements
+abbrev pub node_of_name : ℕ → Option ℕ → Option ℕ
+node_of_name count None = None
+node_of_name count (Some q) = Some (count + 1 + q)
+
+-- a first node, and that of a declaration, if there is one
 abbrev pub alternatives : ℕ → ℕ → Option ℕ → List ℕ
-alternatives count first None = first ∷ []
-alternatives count first (Some q) = first ∷ (count + 1 + q) ∷ []
+alternatives count first next = first ∷ option_to_list (node_of_name count next)
 
 -- a statement declares a name that isn't that of a block or an optional
 pub record IsDeclaration (s : Placed) : Type 0 where
@@ -47,7 +52,7 @@ abbrev pub IsProvidedBy : List Placed → (ℕ → Bool) → Row → Placed → 
 IsProvidedBy policy has row s = (has row.optional ≡ true) ⊎ IsFurther policy has s
 
 -- the needs are met by what a set provides, and where they are met, each of the first declarations is provided
-pub record AreProviders {A : Type 0} (policy : List Placed) (rows : List Row) (n : ℕ) (needs : List (Need A)) : Type 0 where
+pub record AreProviders (policy : List Placed) (rows : List Row) (n : ℕ) (needs : List Need) : Type 0 where
   pub below : list_all (is_need_below (length policy + length policy + 1)) needs ≡ true
   pub met : (set : Optionals) (has : ℕ → Bool) → AreNodesOf policy set has → are_met has needs ≡ true
   pub each : (has : ℕ → Bool) → are_met has needs ≡ true → has 0 ≡ true → (p : ℕ) (row : Row) (s : Placed) → p < n → slice_get rows p ≡ Some row → slice_get policy p ≡ Some s

@@ -36,7 +36,7 @@ fn all_needs<'m, A: Allocator + Copy>(
     alloc: A,
     joined: &Joined<'m, A>,
     policy: &Policy<'m, A>,
-) -> Result<Vec<Need<A>, A>, AllocError>
+) -> Result<Vec<Need, A>, AllocError>
     requires ready { (all : List Placed) × IsReady policy.now joined.now.modules.items all }
     ensures { IfOk result (λ needs. (all : List Placed) → IsReady policy.now joined.now.modules.items all → AreNeeds all policy.now.rows.items needs.items) }
 {

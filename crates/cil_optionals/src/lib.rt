@@ -1,6 +1,7 @@
 //! The optionals that a policy keeps, whose references are bound.
 #![tactic(auto)]
 
+mod dependents;
 mod greatest;
 mod kept;
 #[cfg(test)]

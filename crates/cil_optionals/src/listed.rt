@@ -135,13 +135,14 @@ impl<'m, A: Allocator + Copy> Listed<'m, A> {
             → IsUpTo all i self.old → IsUpTo all (i + 1) self.new) }
         ensures inverse { OnOk result (IsInverse self.new) }
     {
-        let row = policy.rows[i];
-        let view = module.statement(row.index as usize);
-        if lists_own(view.kind) {
+        let kind = policy.kinds[i];
+        if lists_own(kind) {
+            let row = policy.rows[i];
+            let view = module.statement(row.index as usize);
             self.list(alloc, i as u32, module, view.permissions())?;
             return Ok(());
         }
-        if gives_common(view.kind) {
+        if gives_common(kind) {
             let bound = policy.bound.get(i);
             self.give(gift_of(bound))?;
         }

@@ -20,10 +20,9 @@ use std::alloc::{AllocError, Allocator};
 
 /// Puts what an optional inside another needs behind others: that.
 fn around<A: Allocator + Copy>(
-    alloc: A,
     policy: &Policy<'_, A>,
     i: usize,
-    needs: &mut Vec<Need<A>, A>,
+    needs: &mut Vec<Need, A>,
 ) -> Result<(), AllocError>
     requires ready { (parsed : List (NamedModule _)) × (all : List Placed) × IsReady policy.now parsed all }
     requires within { i < length policy.now.rows.items }
@@ -31,7 +30,7 @@ fn around<A: Allocator + Copy>(
 {
     let row = policy.rows[i];
     if row.is_optional {
-        add_need(alloc, i + 1, Some(row.optional as usize), needs)?;
+        add_need(i + 1, Some(row.optional as usize), needs)?;
     }
     Ok(())
 }
@@ -43,19 +42,21 @@ fn asked<'m, A: Allocator + Copy>(
     policy: &Policy<'m, A>,
     permissions: &mut Permissions<'_, 'm, A>,
     i: usize,
-    needs: &mut Vec<Need<A>, A>,
+    needs: &mut Vec<Need, A>,
 ) -> Result<(), AllocError>
     requires ready { (all : List Placed) × IsReady policy.now joined.now.modules.items all }
     requires within { i < length policy.now.rows.items }
+    requires same { permissions.old.joined.now ≡ joined.now }
     ensures listed { OnOk result (permissions.new.listed ≡ permissions.old.listed) }
+    ensures joined { OnOk result (permissions.new.joined ≡ permissions.old.joined) }
     ensures asks { OnOk result ((all : List Placed) (s : Placed) → IsReady policy.now joined.now.modules.items all → HavePermissions all (permissions_in permissions.old.listed.now) → slice_get all i ≡ Some s
         → Asks all (optional_at policy.now i) (λ set. are_found (restricted set all) s.namespace (references_of s.form) && are_there (restricted set all) s.namespace (named_permissions s.form)) needs.old.items needs.new.items) }
 {
     let row = policy.rows[i];
     let module = joined.modules[row.module as usize].module;
-    references(alloc, policy, module, i, needs)?;
-    if !permissions.are_there(policy, module, i)? {
-        add_need(alloc, row.optional as usize, None, needs)?;
+    references(policy, module, i, needs)?;
+    if !permissions.are_there(alloc, policy, module, i)? {
+        add_need(row.optional as usize, None, needs)?;
     }
     Ok(())
 }
@@ -67,11 +68,13 @@ fn need_at<'m, A: Allocator + Copy>(
     policy: &Policy<'m, A>,
     permissions: &mut Permissions<'_, 'm, A>,
     i: usize,
-    needs: &mut Vec<Need<A>, A>,
+    needs: &mut Vec<Need, A>,
 ) -> Result<(), AllocError>
     requires ready { (all : List Placed) × IsReady policy.now joined.now.modules.items all }
     requires within { i < length policy.now.rows.items }
+    requires same { permissions.old.joined.now ≡ joined.now }
     ensures listed { OnOk result (permissions.new.listed ≡ permissions.old.listed) }
+    ensures joined { OnOk result (permissions.new.joined ≡ permissions.old.joined) }
     ensures others { OnOk result ((all : List Placed) → IsReady policy.now joined.now.modules.items all → HavePermissions all (permissions_in permissions.old.listed.now)
         → AreOthersTo all policy.now.rows.items i i needs.old.items → AreOthersTo all policy.now.rows.items (i + 1) (i + 1) needs.new.items) }
 {
@@ -79,7 +82,7 @@ fn need_at<'m, A: Allocator + Copy>(
     if row.optional == 0 {
         return Ok(());
     }
-    around(alloc, policy, i, needs)?;
+    around(policy, i, needs)?;
     asked(alloc, joined, policy, permissions, i, needs)?;
     Ok(())
 }
@@ -90,8 +93,9 @@ fn others_by<'m, A: Allocator + Copy>(
     joined: &Joined<'m, A>,
     policy: &Policy<'m, A>,
     permissions: &mut Permissions<'_, 'm, A>,
-) -> Result<Vec<Need<A>, A>, AllocError>
+) -> Result<Vec<Need, A>, AllocError>
     requires ready { (all : List Placed) × IsReady policy.now joined.now.modules.items all }
+    requires same { permissions.old.joined.now ≡ joined.now }
     ensures { IfOk result (λ needs. (all : List Placed) → IsReady policy.now joined.now.modules.items all → HavePermissions all (permissions_in permissions.old.listed.now)
         → AreOthers all policy.now.rows.items needs.items) }
 {
@@ -108,13 +112,13 @@ fn others_by_listed<'m, A: Allocator + Copy>(
     joined: &Joined<'m, A>,
     policy: &Policy<'m, A>,
     listed: &Listed<'m, A>,
-) -> Result<Vec<Need<A>, A>, AllocError>
+) -> Result<Vec<Need, A>, AllocError>
     requires ready { (all : List Placed) × IsReady policy.now joined.now.modules.items all }
     requires inverse { IsInverse listed.now }
     ensures { IfOk result (λ needs. (all : List Placed) → IsReady policy.now joined.now.modules.items all → HavePermissions all (permissions_in listed.now)
         → AreOthers all policy.now.rows.items needs.items) }
 {
-    let mut permissions = Permissions::of(alloc, listed)?;
+    let mut permissions = Permissions::of(alloc, listed, joined)?;
     others_by(alloc, joined, policy, &mut permissions)
 }
 
@@ -124,7 +128,7 @@ fn others_listed<'m, A: Allocator + Copy>(
     joined: &Joined<'m, A>,
     policy: &Policy<'m, A>,
     listed: &mut Listed<'m, A>,
-) -> Result<Vec<Need<A>, A>, AllocError>
+) -> Result<Vec<Need, A>, AllocError>
     requires ready { (all : List Placed) × IsReady policy.now joined.now.modules.items all }
     requires none { (all : List Placed) → IsReady policy.now joined.now.modules.items all → IsUpTo all 0 listed.old }
     requires inverse { IsInverse listed.old }
@@ -139,7 +143,7 @@ pub fn others<'m, A: Allocator + Copy>(
     alloc: A,
     joined: &Joined<'m, A>,
     policy: &Policy<'m, A>,
-) -> Result<Vec<Need<A>, A>, AllocError>
+) -> Result<Vec<Need, A>, AllocError>
     requires ready { (all : List Placed) × IsReady policy.now joined.now.modules.items all }
     ensures { IfOk result (λ needs. (all : List Placed) → IsReady policy.now joined.now.modules.items all → AreOthers all policy.now.rows.items needs.items) }
 {

@@ -4,17 +4,18 @@ ghost use Rattle.std.specs.Prelude.{◌≡◌, ◌<◌, ℕ, List, Some, true, f
 ghost use Rattle.std.specs.List.{list_all};
 ghost use Rattle.cil_specs.specs.Names.{Word};
 ghost use Rattle.cil_specs.specs.Joined.{Placed};
-ghost use Rattle.cil_specs.specs.Lookup.{named_permissions};
+ghost use Rattle.cil_specs.specs.Lookup.{named_permissions, texts};
+ghost use Rattle.cil_bind.specs.KnownLists.{texts_listed, AreKnown};
 ghost use Rattle.cil_bind.specs.declared.joined.NamedModule.{NamedModule};
 ghost use Rattle.cil_parse.specs.Builder.{read};
 ghost use Rattle.cil_parse.specs.Parsed.{texts_of};
 ghost use Rattle.cil_optionals.specs.Asks.{are_there as all_there, IsOf};
-ghost use Rattle.cil_optionals.specs.Given.{permissions_in, last_bound as last_of, is_rule as is_rule_kind, AreAnswers, AreRecent, IsInverse};
+ghost use Rattle.cil_optionals.specs.Given.{permissions_in, last_bound as last_of, is_rule as is_rule_kind, has_list as has_listed, AreAnswers, AreRecent, IsInverse};
 ghost use Rattle.cil_optionals.specs.Permissions.{HavePermissions};
 ghost use Rattle.cil_optionals.specs.Providers.{IsReady};
 
 use crate::listed::{Listed, Permission};
-use cil_bind::Policy;
+use cil_bind::{Joined, KnownLists, PermissionList, Policy};
 use cil_parse::{NumberedWord, ParsedModule, StatementKind};
 use indexmap::IndexSet;
 use std::alloc::{AllocError, Allocator, Global};
@@ -24,17 +25,21 @@ use std::hash::{BuildHasherDefault, FoldHasher};
 const RECENT: usize = 4096;
 
 /// The permissions of classes, and the questions that were answered: no question is gone over twice. Statements ask for the same
-/// permissions again and again, so of the questions that were answered with yes some are at hand without a hash.
+/// permissions again and again, so of the questions that were answered with yes some are at hand without a hash, and a list of
+/// permissions that a class is known to have is not gone over.
 #[derive(Drop)]
 pub struct Permissions<'l, 'm, A: Allocator = Global> {
     listed: &'l Listed<'m, A>,
+    joined: &'l Joined<'m, A>,
     held: IndexSet<Permission<'m>, BuildHasherDefault<FoldHasher>, A>,
     lacked: IndexSet<Permission<'m>, BuildHasherDefault<FoldHasher>, A>,
     recent: Vec<Option<Permission<'m>>, A>,
+    known: KnownLists<A>,
     ghost inverse: { IsInverse listed.now },
     ghost held_are: { AreAnswers (permissions_in listed.now) held.keys true },
     ghost lacked_are: { AreAnswers (permissions_in listed.now) lacked.keys false },
     ghost recent_are: { AreRecent (permissions_in listed.now) recent.items },
+    ghost known_are: { AreKnown (has_listed joined.now.modules.items (permissions_in listed.now)) known },
 }
 
 /// Whether statements of a kind are rules.
@@ -74,16 +79,23 @@ fn is_same(name: &[u8], other: &[u8]) -> bool
 
 impl<'l, 'm, A: Allocator + Copy> Permissions<'l, 'm, A> {
     /// The permissions of classes by what statements list and give, where no question was answered yet.
-    pub fn of(alloc: A, listed: &'l Listed<'m, A>) -> Result<Self, AllocError>
+    pub fn of(
+        alloc: A,
+        listed: &'l Listed<'m, A>,
+        joined: &'l Joined<'m, A>,
+    ) -> Result<Self, AllocError>
         requires { IsInverse listed.now }
-        ensures { IfOk result (λ permissions. permissions.listed.now ≡ listed.now) }
+        ensures listed { IfOk result (λ permissions. permissions.listed.now ≡ listed.now) }
+        ensures joined { IfOk result (λ permissions. permissions.joined.now ≡ joined.now) }
     {
         let recent = vec![in alloc; None; RECENT]?;
         Ok(Permissions {
             listed,
+            joined,
             held: IndexSet::new(alloc),
             lacked: IndexSet::new(alloc),
             recent,
+            known: KnownLists::new(alloc),
         })
     }
 
@@ -101,6 +113,7 @@ impl<'l, 'm, A: Allocator + Copy> Permissions<'l, 'm, A> {
     fn note(&mut self, slot: usize, question: Permission<'m>)
         requires { permissions_in self.old.listed.now question.place question.name.now ≡ true }
         ensures listed { self.new.listed ≡ self.old.listed }
+        ensures joined { self.new.joined ≡ self.old.joined }
     {
         if let Some(last) = self.recent.get_mut(slot) {
             *last = Some(question);
@@ -111,6 +124,7 @@ impl<'l, 'm, A: Allocator + Copy> Permissions<'l, 'm, A> {
     fn has(&mut self, class: u32, text: u32, name: &'m [u8]) -> Result<bool, AllocError>
         ensures has { IfOk result (λ has. has ≡ permissions_in self.old.listed.now class name.now) }
         ensures listed { self.new.listed ≡ self.old.listed }
+        ensures joined { self.new.joined ≡ self.old.joined }
     {
         let slot = slot_of(class, text);
         if self.recalls(slot, class, name) {
@@ -127,6 +141,7 @@ impl<'l, 'm, A: Allocator + Copy> Permissions<'l, 'm, A> {
     fn answer(&mut self, class: u32, name: &'m [u8]) -> Result<bool, AllocError>
         ensures has { IfOk result (λ has. has ≡ permissions_in self.old.listed.now class name.now) }
         ensures listed { self.new.listed ≡ self.old.listed }
+        ensures joined { self.new.joined ≡ self.old.joined }
     {
         let question = Permission { place: class, name };
         if self.held.contains(&question) {
@@ -153,6 +168,7 @@ impl<'l, 'm, A: Allocator + Copy> Permissions<'l, 'm, A> {
         requires { (list : List Word) × (map (read (texts_of «module».now)) words.now ≡ map Some list) }
         ensures has { IfOk result (λ has. (list : List Word) → map (read (texts_of «module».now)) words.now ≡ map Some list → has ≡ list_all (λ word. permissions_in self.old.listed.now class word.text) list) }
         ensures listed { self.new.listed ≡ self.old.listed }
+        ensures joined { self.new.joined ≡ self.old.joined }
     {
         for word in words {
             if !self.has(class, word.text, module.text(word.text as usize))? {
@@ -162,17 +178,44 @@ impl<'l, 'm, A: Allocator + Copy> Permissions<'l, 'm, A> {
         Ok(true)
     }
 
+    /// Whether the class at a place has all of these permissions, which are those of a list. A list that it is known to have is not gone
+    /// over.
+    fn has_list(
+        &mut self,
+        alloc: A,
+        class: u32,
+        list: PermissionList,
+        module: &'m ParsedModule<A>,
+        words: &[NumberedWord],
+    ) -> Result<bool, AllocError>
+        requires { (l : List Word) × (map (read (texts_of «module».now)) words.now ≡ map Some l) × (texts_listed self.old.joined.now.modules.items list.«module» list.list ≡ texts l) }
+        ensures has { IfOk result (λ has. (l : List Word) → map (read (texts_of «module».now)) words.now ≡ map Some l → has ≡ list_all (λ word. permissions_in self.old.listed.now class word.text) l) }
+        ensures listed { self.new.listed ≡ self.old.listed }
+        ensures joined { self.new.joined ≡ self.old.joined }
+    {
+        if self.known.knows(list, class) {
+            return Ok(true);
+        }
+        let there = self.has_all(class, module, words)?;
+        if there {
+            self.known.note(alloc, list, class)?;
+        }
+        Ok(there)
+    }
+
     /// Whether the class that the statement at a place names has all permissions that it names.
     pub fn are_there(
         &mut self,
+        alloc: A,
         policy: &Policy<'m, A>,
         module: &'m ParsedModule<A>,
         i: usize,
     ) -> Result<bool, AllocError>
-        requires { (parsed : List (NamedModule _)) × (all : List Placed) × (s : Placed) × IsReady policy.now parsed all × slice_get all i ≡ Some s × IsOf policy.now «module».now i s }
+        requires { (all : List Placed) × (s : Placed) × IsReady policy.now self.old.joined.now.modules.items all × slice_get all i ≡ Some s × IsOf policy.now «module».now i s }
         ensures there { IfOk result (λ there. (parsed : List (NamedModule _)) (all : List Placed) (s : Placed) → IsReady policy.now parsed all → HavePermissions all (permissions_in self.old.listed.now) → slice_get all i ≡ Some s → IsOf policy.now «module».now i s
             → there ≡ all_there all s.namespace (named_permissions s.form)) }
         ensures listed { self.new.listed ≡ self.old.listed }
+        ensures joined { self.new.joined ≡ self.old.joined }
     {
         let row = policy.rows[i];
         let view = module.statement(row.index as usize);
@@ -183,7 +226,8 @@ impl<'l, 'm, A: Allocator + Copy> Permissions<'l, 'm, A> {
         let Some(class) = last_bound(bound) else {
             return Ok(true);
         };
-        let there = self.has_all(class, module, view.permissions())?;
+        let list = PermissionList::of(self.joined, &row);
+        let there = self.has_list(alloc, class, list, module, view.permissions())?;
         Ok(there)
     }
 }

@@ -5,29 +5,20 @@ ghost use Rattle.cil_parse.specs.declared.table.Table.TheVariants.{Scopes};
 ghost use Rattle.cil_specs.specs.Joined.{Placed};
 ghost use Rattle.cil_bind.specs.Lookup.{word_at, namespace_at, table_of, Knows, IsLead};
 ghost use Rattle.cil_bind.specs.declared.joined.NamedModule.{NamedModule};
-ghost use Rattle.cil_optionals.specs.Providers.{alternatives as alternative_nodes, further_out as looked_further, IsReady, AreProviders};
+ghost use Rattle.cil_optionals.specs.Providers.{node_of_name, further_out as looked_further, IsReady, AreProviders};
 
 use crate::greatest::Need;
 use cil_bind::{Lookup, Policy};
 use cil_parse::Table;
 use std::alloc::{AllocError, Allocator};
 
-/// A first node, and that of the declaration at a place, if there is one.
-fn alternatives<A: Allocator + Copy>(
-    alloc: A,
-    count: usize,
-    first: u32,
-    next: Option<u32>,
-) -> Result<Vec<usize, A>, AllocError>
+/// The node of the name that the statement of a place declares, where a policy has so many statements.
+fn name_node(count: usize, place: Option<u32>) -> Option<usize>
     requires { count < 2 ^ 32 }
-    ensures { IfOk result (λ from. from.items ≡ alternative_nodes count first next) }
+    ensures { result ≡ node_of_name count place }
 {
-    let mut from = Vec::with_capacity(alloc, 2)?;
-    from.push(first as usize)?;
-    if let Some(place) = next {
-        from.push(count + 1 + place as usize)?;
-    }
-    Ok(from)
+    let place = place?;
+    Some(count + 1 + place as usize)
 }
 
 /// Where a plain name leads from the namespace around one.
@@ -56,10 +47,9 @@ fn is_scopes(table: Table) -> bool
 /// Puts what the name that a statement declares needs behind others: the optional around the statement, or what the name leads to further
 /// out. Outside optionals it needs nothing.
 fn provide<A: Allocator + Copy>(
-    alloc: A,
     policy: &Policy<'_, A>,
     i: usize,
-    needs: &mut Vec<Need<A>, A>,
+    needs: &mut Vec<Need, A>,
 ) -> Result<(), AllocError>
     requires ready { (parsed : List (NamedModule _)) × (all : List Placed) × IsReady policy.now parsed all }
     requires within { i < length policy.now.rows.items }
@@ -77,10 +67,10 @@ fn provide<A: Allocator + Copy>(
         return Ok(());
     }
     let next = further_out(&policy.lookup, table, row.namespace, word);
-    let from = alternatives(alloc, policy.rows.len(), row.optional, next)?;
     needs.push(Need {
         optional: policy.rows.len() + 1 + i,
-        from,
+        first: Some(row.optional as usize),
+        second: name_node(policy.rows.len(), next),
     })?;
     Ok(())
 }
@@ -89,14 +79,14 @@ fn provide<A: Allocator + Copy>(
 pub fn providers<A: Allocator + Copy>(
     alloc: A,
     policy: &Policy<'_, A>,
-) -> Result<Vec<Need<A>, A>, AllocError>
+) -> Result<Vec<Need, A>, AllocError>
     requires ready { (parsed : List (NamedModule _)) × (all : List Placed) × IsReady policy.now parsed all }
     ensures { IfOk result (λ needs. (parsed : List (NamedModule _)) (all : List Placed) → IsReady policy.now parsed all
         → AreProviders all policy.now.rows.items (length all) needs.items) }
 {
     let mut needs = Vec::new(alloc);
     for i in 0..policy.rows.len() {
-        provide(alloc, policy, i, &mut needs)?;
+        provide(policy, i, &mut needs)?;
     }
     Ok(needs)
 }

@@ -1,14 +1,14 @@
 //! What the references of statements in optionals need.
 
 ghost use Rattle.std.specs.Prelude.{◌≡◌, ◌<◌, ◌+◌, ℕ, List, Bool, Some, [], length, slice_get, slice_index_or, IfOk, IfSome, IsTrue, OnOk, Option, if◌then◌else◌};
-ghost use Rattle.std.specs.Option.{option_to_list};
 ghost use Rattle.cil_specs.specs.Joined.{Placed};
 ghost use Rattle.cil_specs.specs.Kept.{Optionals, is_within, restricted};
 ghost use Rattle.cil_specs.specs.Lookup.{Table as TableOf, holds_of, references as references_of, is_global as is_global_text};
 ghost use Rattle.cil_bind.specs.Lookup.{IsLead};
 ghost use Rattle.cil_bind.specs.declared.joined.NamedModule.{NamedModule};
 ghost use Rattle.cil_parse.specs.Parsed.{texts_of};
-ghost use Rattle.cil_optionals.specs.Asks.{has_node, are_found, optional_at, AddsNeed, Asks, IsOf, LeadsOutside};
+ghost use Rattle.cil_optionals.specs.Asks.{are_found, optional_at, AddsNeed, Asks, IsOf, LeadsOutside};
+ghost use Rattle.cil_optionals.specs.Needs.{has_node};
 ghost use Rattle.cil_optionals.specs.Nodes.{is_provided, is_plain as is_plain_text, is_single as are_single, AreNodesOf};
 ghost use Rattle.cil_optionals.specs.Providers.{IsReady};
 
@@ -67,39 +67,28 @@ fn is_outside<A: Allocator>(policy: &Policy<'_, A>, found: Option<u32>) -> bool
     }
 }
 
-/// A node, if there is one, as a list. None takes no memory.
-fn nodes<A: Allocator + Copy>(alloc: A, node: Option<usize>) -> Result<Vec<usize, A>, AllocError>
-    ensures { IfOk result (λ nodes. nodes.items ≡ option_to_list node) }
-{
-    let Some(node) = node else {
-        return Ok(Vec::new(alloc));
-    };
-    let mut nodes = Vec::with_capacity(alloc, 1)?;
-    nodes.push(node)?;
-    Ok(nodes)
-}
-
 /// Puts a need of an optional behind others: of one node, or what nothing meets.
 pub fn add_need<A: Allocator + Copy>(
-    alloc: A,
     optional: usize,
     node: Option<usize>,
-    needs: &mut Vec<Need<A>, A>,
+    needs: &mut Vec<Need, A>,
 ) -> Result<(), AllocError>
     ensures { OnOk result (AddsNeed needs.old.items needs.new.items optional node) }
 {
-    let from = nodes(alloc, node)?;
-    needs.push(Need { optional, from })?;
+    needs.push(Need {
+        optional,
+        first: node,
+        second: None,
+    })?;
     Ok(())
 }
 
 /// Puts what the references of the statement at a place need behind others. One that leads outside optionals needs nothing.
 pub fn references<A: Allocator + Copy>(
-    alloc: A,
     policy: &Policy<'_, A>,
     module: &ParsedModule<A>,
     i: usize,
-    needs: &mut Vec<Need<A>, A>,
+    needs: &mut Vec<Need, A>,
 ) -> Result<(), AllocError>
     requires ready { (parsed : List (NamedModule _)) × (all : List Placed) × (s : Placed) × IsReady policy.now parsed all × slice_get all i ≡ Some s × IsOf policy.now «module».now i s }
     ensures { OnOk result ((parsed : List (NamedModule _)) (all : List Placed) (s : Placed) → IsReady policy.now parsed all → slice_get all i ≡ Some s → IsOf policy.now «module».now i s
@@ -117,7 +106,7 @@ pub fn references<A: Allocator + Copy>(
         };
         let plain = is_plain(module, word.text);
         let node = meeting(policy, plain, bound[k]);
-        add_need(alloc, row.optional as usize, node, needs)?;
+        add_need(row.optional as usize, node, needs)?;
     }
     Ok(())
 }

@@ -8,4 +8,5 @@ pub mod PlaceLemmas
 pub mod TreeLemmas
 pub mod ParsedLemmas
 pub mod ViewLemmas
+pub mod PermissionListLemmas
 pub mod AroundLemmas

@@ -5,7 +5,7 @@ use Rattle.cil_specs.specs.Names.{components}
 use Rattle.cil_parse.specs.declared.lexicon.Lexicon.{Lexicon}
 
 -- what is behind references
-abbrev pub seen : List (Bor (List ℕ)) → List (List ℕ)
+abbrev pub seen : {T : Type 0} → List (Bor (List T)) → List (List T)
 seen names = map (λ name. name.now) names
 
 abbrev pub texts_in : {A : Type 0} → Lexicon A → List (List ℕ)

@@ -6,5 +6,6 @@ pub mod Around
 pub mod Builder
 pub mod Kinds
 pub mod View
+pub mod PermissionLists
 pub mod Parsed
 pub mod FromTrees

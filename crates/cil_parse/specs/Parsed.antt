@@ -1,5 +1,5 @@
 -- Modules kept parsed.
-use Rattle.std.specs.Prelude.{◌≡◌, ℕ, List, [], map, length, Some}
+use Rattle.std.specs.Prelude.{◌≡◌, ℕ, List, [], map, length, slice_index_or, Some}
 use Rattle.cil_specs.specs.Statements.{Statements}
 use Rattle.cil_specs.specs.ModuleText.{IsModuleText}
 use Rattle.cil_parse.specs.Lexicon.{texts_in}
@@ -16,6 +16,10 @@ texts_of p = p.texts.0
 -- the distinct names between the dots of texts, by their numbers
 abbrev pub names_of : {A : Type 0} → ParsedModule A → List (List ℕ)
 names_of p = p.names.0
+
+-- the distinct lists of permissions of its statements, by their numbers
+abbrev pub permission_lists_of : {A : Type 0} → ParsedModule A → List (List (List ℕ))
+permission_lists_of p = map (map (λ n. slice_index_or (texts_of p) n [])) p.permission_lists.lists.0
 
 abbrev pub statement_count : {A : Type 0} → ParsedModule A → ℕ
 statement_count p = length p.rows.items

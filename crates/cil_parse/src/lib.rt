@@ -2,11 +2,13 @@
 #![tactic(auto)]
 
 mod builder;
+mod copied;
 mod from_text;
 mod laws;
 mod lexicon;
 mod lists;
 mod parsed;
+mod permission_lists;
 mod row;
 mod table;
 mod view;

@@ -1,17 +1,21 @@
 //! Modules that borrow nothing.
 
-ghost use Rattle.std.specs.Prelude.{◌≡◌, ◌<◌, [], List, length, map, slice_get, slice_index_or, Some, IfOk, IfErr};
+ghost use Rattle.std.specs.Prelude.{◌≡◌, ◌<◌, [], List, length, slice_get, slice_index_or, Some, IfOk, IfErr};
+ghost use Rattle.cil_specs.specs.Lookup.{texts};
 ghost use Rattle.cil_specs.specs.Names.{components as components_of};
 ghost use Rattle.cil_specs.specs.Shape.{IsFirstShapeFault};
 ghost use Rattle.cil_specs.specs.Statements.{Statements};
 ghost use Rattle.cil_text.specs.Image.{FaultIs};
 ghost use Rattle.cil_text.specs.Forest.{forest_of};
-ghost use Rattle.cil_parse.specs.Lexicon.{seen, AreNumbersOf, AreSplit};
+ghost use Rattle.cil_parse.specs.Lexicon.{AreNumbersOf, AreSplit};
 ghost use Rattle.cil_parse.specs.Flat.{FlatStatement, flat, count};
-ghost use Rattle.cil_parse.specs.Forms.{kind_of};
+ghost use Rattle.cil_parse.specs.Forms.{kind_of, permissions_in};
+ghost use Rattle.cil_parse.specs.PermissionLists.{AreListed};
 
 use crate::builder::Builder;
+use crate::copied::copies;
 use crate::lists::Lists;
+use crate::permission_lists::PermissionLists;
 use crate::row::{NumberedWord, Row, SetNode, StatementKind};
 use crate::view::StatementView;
 use cil_text::{Forest, TextFault};
@@ -19,7 +23,8 @@ use std::alloc::{AllocError, Allocator, Global};
 
 /// The statements of a module, one behind the other. It is a function of the module alone, borrows nothing and knows no other module.
 /// Each distinct text of a word has a number, and each distinct name between the dots of these texts, in the order of their first
-/// use. Numbers have 32 bits; a module that needs a greater one is answered as out of memory.
+/// use. Each distinct list of permissions has a number too. Numbers have 32 bits; a module that needs a greater one is answered as out
+/// of memory.
 #[derive(Drop)]
 pub struct ParsedModule<A: Allocator = Global> {
     texts: Lists<u8, A>,
@@ -28,30 +33,11 @@ pub struct ParsedModule<A: Allocator = Global> {
     words: Lists<NumberedWord, A>,
     nodes: Lists<SetNode, A>,
     rows: Vec<Row, A>,
+    permission_lists: PermissionLists<A>,
     ghost split: { AreSplit names.0 components.0 texts.0 },
     ghost each_words: { length words.0 ≡ length rows.items },
     ghost each_nodes: { length nodes.0 ≡ length rows.items },
-}
-
-/// How many bytes names have together.
-fn byte_count(names: &[&[u8]]) -> usize {
-    let mut bytes: usize = 0;
-    for name in names {
-        bytes = bytes.saturating_add(name.len());
-    }
-    bytes
-}
-
-/// Copies of names, one behind the other.
-fn copies<A: Allocator + Copy>(alloc: A, names: &[&[u8]]) -> Result<Lists<u8, A>, AllocError>
-    ensures { IfOk result (λ lists. lists ≡ (seen names.now, [])) }
-{
-    let mut lists = Lists::with_capacity(alloc, names.len(), byte_count(names))?;
-    for name in names {
-        lists.extend(*name)?;
-        lists.close()?;
-    }
-    Ok(lists)
+    ghost listed: { AreListed permission_lists rows.items words.0 },
 }
 
 impl<A: Allocator + Copy> ParsedModule<A> {
@@ -81,6 +67,7 @@ impl<A: Allocator + Copy> ParsedModule<A> {
         } = builder;
         let texts = copies(alloc, lexicon.texts.as_slice())?;
         let names = copies(alloc, lexicon.names.as_slice())?;
+        let permission_lists = PermissionLists::of(alloc, &rows, &words)?;
         Ok(ParsedModule {
             texts,
             names,
@@ -88,12 +75,13 @@ impl<A: Allocator + Copy> ParsedModule<A> {
             words,
             nodes,
             rows,
+            permission_lists,
         })
     }
 }
 
 impl<A: Allocator> ParsedModule<A> {
-    ghost use Rattle.cil_parse.specs.Parsed.{texts_of, names_of, statement_count, Spells};
+    ghost use Rattle.cil_parse.specs.Parsed.{texts_of, names_of, permission_lists_of, statement_count, Spells};
     ghost use Rattle.cil_parse.specs.View.{IsShown};
 
     /// How many statements there are, those inside others too.
@@ -126,6 +114,23 @@ impl<A: Allocator> ParsedModule<A> {
         ensures { (statements : Statements) (f : FlatStatement) → Spells self.now statements → slice_get (flat 0 0 0 statements) i ≡ Some f → result ≡ kind_of f.form }
     {
         self.rows[i].kind
+    }
+
+    /// The number of the permissions that the statement of an index lists. Those of another statement have the same number only if they
+    /// are the same texts in the same order.
+    pub fn permission_list(&self, i: usize) -> usize
+        requires { i < statement_count self.now }
+        ensures within { result < length (permission_lists_of self.now) }
+        ensures list { (statements : Statements) (f : FlatStatement) → Spells self.now statements → slice_get (flat 0 0 0 statements) i ≡ Some f → slice_index_or (permission_lists_of self.now) result [] ≡ texts (permissions_in f.form) }
+    {
+        self.permission_lists.numbers[i] as usize
+    }
+
+    /// How many distinct lists of permissions its statements have.
+    pub fn permission_list_count(&self) -> usize
+        ensures { result ≡ length (permission_lists_of self.now) }
+    {
+        self.permission_lists.lists.len()
     }
 
     /// How many distinct texts its words have.

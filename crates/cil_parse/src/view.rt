@@ -1,6 +1,6 @@
 //! Statements of parsed modules as they are seen.
 
-ghost use Rattle.std.specs.Prelude.{◌≡◌, ◌-◌, ℕ, List, map, drop, slice_get, length, Some, None, Option, IfSome, IfNone};
+ghost use Rattle.std.specs.Prelude.{◌≡◌, ℕ, List, map, slice_get, Some, None, Option, IfSome, IfNone};
 ghost use Rattle.cil_specs.specs.Names.{Word};
 ghost use Rattle.cil_specs.specs.Lookup as lookup;
 ghost use Rattle.cil_specs.specs.Lookup.{declared_in, references};
@@ -10,6 +10,7 @@ ghost use Rattle.cil_parse.specs.Forms.{permissions_in};
 ghost use Rattle.cil_parse.specs.Kinds.{table_of, declaring, reference_table};
 ghost use Rattle.cil_parse.specs.View.{IsShown};
 
+use crate::permission_lists::permission_words;
 use crate::row::{NumberedWord, SetNode, StatementKind};
 use crate::table::Table;
 use cil_text::Place;
@@ -61,17 +62,6 @@ impl StatementKind {
     }
 }
 
-/// The words behind so many.
-fn behind(words: &[NumberedWord], n: usize) -> &[NumberedWord]
-    ensures { result.now ≡ drop n words.now }
-{
-    if n < words.len() {
-        &words[n..]
-    } else {
-        &words[words.len()..]
-    }
-}
-
 impl<'p> StatementView<'p> {
     /// The name that the statement declares, and its table.
     pub fn declared(&self) -> Option<(Table, NumberedWord)>
@@ -97,11 +87,6 @@ impl<'p> StatementView<'p> {
     pub fn permissions(&self) -> &'p [NumberedWord]
         ensures { (texts : List (List ℕ)) (f : FlatStatement) → IsShown texts self.now f → map (read texts) result.now ≡ map Some (permissions_in f.form) }
     {
-        match self.kind {
-            StatementKind::Common | StatementKind::Class => behind(self.words, 1),
-            StatementKind::Rule(_) => behind(self.words, 3),
-            StatementKind::RuleToSelf(_) => behind(self.words, 2),
-            _ => behind(self.words, self.words.len()),
-        }
+        permission_words(self.kind, self.words)
     }
 }

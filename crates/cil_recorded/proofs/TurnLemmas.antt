@@ -1,14 +1,12 @@
 -- Turns and changes in the order of their words.
-use Rattle.std.proofs.Common.{zero, suc, ◌≡◌, ◌≢◌, ℕ, ◌+◌, ◌-◌, ◌*◌, ◌/◌, ◌%◌, ◌^◌, ◌<◌, ◌≤◌, List, [], ◌∷◌, ◌++◌, bit_xor, bit_and, w64, min, refl, sym, ◌∙◌, arith, inl, inr, Result, Ok, Err, IfOk}
+use Rattle.std.proofs.Common.{◌≡◌, ◌≢◌, ℕ, ◌+◌, ◌-◌, ◌*◌, ◌/◌, ◌%◌, ◌^◌, ◌<◌, ◌≤◌, List, [], ◌∷◌, ◌++◌, bit_xor, bit_and, min, refl, sym, arith, inl, inr, Result, Ok, Err, IfOk}
 use Rattle.std.proofs.lemmas.Bool.{cases_eq}
 use Rattle.std.proofs.lemmas.List.Sums.{sum_by-cons}
-use Rattle.std.proofs.lemmas.Nat.Bits.{bit_at_xor, bit_at_and, bit_at_not, bit_at-lt}
-use Rattle.std.specs.Int.{bit_not}
-use Rattle.cil_lines.specs.Line.{IsPresence}
+use Rattle.std.proofs.lemmas.Nat.Bits.{bit_at_xor, bit_at_and, bit_at-lt}
 use Rattle.cil_recorded.proofs.LogLemmas.{hit_on, hit_off, hit_out}
 use Rattle.cil_recorded.specs.declared.recorded_lines.changes.Change.{Change}
 use Rattle.cil_recorded.specs.declared.turn.Turn.{Turn}
-use Rattle.cil_recorded.specs.Differences.{Ascends, appeared_at, gone_at, key_of, turned_at, turn_key}
+use Rattle.cil_recorded.specs.Differences.{Ascends, alone_at, appeared_at, balance_at, gone_at, key_of, low_at, turn_key}
 use Rattle.cil_recorded.specs.Log.{hit_at, IsTurned}
 
 -- words of lines that differ have numbers that differ
@@ -35,122 +33,180 @@ module _ {X : Type 0} (key : X → ℕ) where
   ascends-less j k (x ∷ xs) le up = (omega (arith, up.0), up.1)
 
 -- a target is hit by turns of its own word alone
-hit_key : (s : Turn) (l t : ℕ) → turn_key s ≢ key_of l (t / 64) → hit_at s.line s.word s.mask l t ≡ 0
-hit_key s l t other =
-    elim (cases_eq l s.line) [
-      | inl e ↦
-          elim (cases_eq (t / 64) s.word) [
-            | inl e' ↦ absurd (other (λ i. key_of (sym e i) (sym e' i)))
-            | inr n ↦ hit_out s.line s.word s.mask l t n
-          ]
-      | inr n ↦ hit_off s.line s.word s.mask l t n
-    ]
-
-pub hit_le : (line word mask l t : ℕ) → hit_at line word mask l t ≤ 1
-hit_le line word mask l t =
+hit_key : (line word mask l t : ℕ) → key_of line word ≢ key_of l (t / 64) → hit_at line word mask l t ≡ 0
+hit_key line word mask l t other =
     elim (cases_eq l line) [
       | inl e ↦
           elim (cases_eq (t / 64) word) [
-            | inl e' ↦ omega (arith, hit_on line word mask l t e e', bit_at-lt mask (t % 64))
-            | inr n ↦ omega (arith, hit_out line word mask l t n)
+            | inl e' ↦ absurd (other (λ i. key_of (sym e i) (sym e' i)))
+            | inr n ↦ hit_out line word mask l t n
           ]
-      | inr n ↦ omega (arith, hit_off line word mask l t n)
+      | inr n ↦ hit_off line word mask l t n
     ]
 
-none_below : (k : ℕ) (xs : List Turn) (l t : ℕ) → Ascends turn_key k xs → key_of l (t / 64) < k → turned_at xs l t ≡ 0
+-- the targets whose upper digit stands alone
+abbrev pub alone : Turn → ℕ
+alone s = bit_xor s.high (bit_and s.low s.high)
+
+-- ---- the digits of one turn
+
+module _ (line word low high l t : ℕ) where
+  -- no target has both of these digits
+  digits-once : hit_at line word low l t + hit_at line word (bit_xor high (bit_and low high)) l t ≤ 1
+  digits-once =
+      let rest = bit_xor high (bit_and low high) in
+      elim (cases_eq l line) [
+        | inl e ↦
+            elim (cases_eq (t / 64) word) [
+              | inl e' ↦
+                  let b = t % 64 in
+                  omega (
+                    arith,
+                    hit_on line word low l t e e',
+                    hit_on line word rest l t e e',
+                    bit_at_and low high b,
+                    bit_at_xor high (bit_and low high) b,
+                    bit_at-lt low b,
+                    bit_at-lt high b,
+                  )
+              | inr n ↦ omega (arith, hit_out line word low l t n, hit_out line word rest l t n)
+            ]
+        | inr n ↦ omega (arith, hit_off line word low l t n, hit_off line word rest l t n)
+      ]
+
+  -- what appeared and what went is what has a lower digit
+  pub digits-low : hit_at line word (bit_xor low (bit_and low high)) l t + hit_at line word (bit_and low high) l t ≡ hit_at line word low l t
+  digits-low =
+      let came = bit_xor low (bit_and low high) in
+      let went = bit_and low high in
+      elim (cases_eq l line) [
+        | inl e ↦
+            elim (cases_eq (t / 64) word) [
+              | inl e' ↦
+                  let b = t % 64 in
+                  omega (
+                    arith,
+                    hit_on line word came l t e e',
+                    hit_on line word went l t e e',
+                    hit_on line word low l t e e',
+                    bit_at_and low high b,
+                    bit_at_xor low (bit_and low high) b,
+                    bit_at-lt low b,
+                    bit_at-lt high b,
+                  )
+              | inr n ↦ omega (arith, hit_out line word came l t n, hit_out line word went l t n, hit_out line word low l t n)
+            ]
+        | inr n ↦ omega (arith, hit_off line word came l t n, hit_off line word went l t n, hit_off line word low l t n)
+      ]
+
+  -- what went has both digits
+  pub digits-high : hit_at line word (bit_and low high) l t + hit_at line word (bit_xor high (bit_and low high)) l t ≡ hit_at line word high l t
+  digits-high =
+      let went = bit_and low high in
+      let rest = bit_xor high (bit_and low high) in
+      elim (cases_eq l line) [
+        | inl e ↦
+            elim (cases_eq (t / 64) word) [
+              | inl e' ↦
+                  let b = t % 64 in
+                  omega (
+                    arith,
+                    hit_on line word went l t e e',
+                    hit_on line word rest l t e e',
+                    hit_on line word high l t e e',
+                    bit_at_and low high b,
+                    bit_at_and low high b,
+                    bit_at_xor high (bit_and low high) b,
+                    bit_at-lt low b,
+                    bit_at-lt high b,
+                  )
+              | inr n ↦ omega (arith, hit_out line word went l t n, hit_out line word rest l t n, hit_out line word high l t n)
+            ]
+        | inr n ↦ omega (arith, hit_off line word went l t n, hit_off line word rest l t n, hit_off line word high l t n)
+      ]
+
+-- two turns of one word are one
+pub two_turns : (line word x y a b l t : ℕ)
+    → (hit_at line word (bit_xor x y) l t + 2 * hit_at line word (bit_xor (bit_xor a b) (bit_and x y)) l t) % 4
+    ≡ (hit_at line word x l t + 2 * hit_at line word a l t + (hit_at line word y l t + 2 * hit_at line word b l t)) % 4
+two_turns line word x y a b l t =
+    let low = bit_xor x y in
+    let high = bit_xor (bit_xor a b) (bit_and x y) in
+    elim (cases_eq l line) [
+      | inl e ↦
+          elim (cases_eq (t / 64) word) [
+            | inl e' ↦
+                let n = t % 64 in
+                omega (
+                  arith,
+                  hit_on line word low l t e e',
+                  hit_on line word high l t e e',
+                  hit_on line word x l t e e',
+                  hit_on line word y l t e e',
+                  hit_on line word a l t e e',
+                  hit_on line word b l t e e',
+                  bit_at_xor x y n,
+                  bit_at_xor a b n,
+                  bit_at_xor (bit_xor a b) (bit_and x y) n,
+                  bit_at_and x y n,
+                  bit_at-lt x n,
+                  bit_at-lt y n,
+                  bit_at-lt a n,
+                  bit_at-lt b n,
+                )
+            | inr n ↦
+                omega (arith, hit_out line word low l t n, hit_out line word high l t n, hit_out line word x l t n, hit_out line word y l t n, hit_out line word a l t n, hit_out line word b l t n)
+          ]
+      | inr n ↦
+          omega (arith, hit_off line word low l t n, hit_off line word high l t n, hit_off line word x l t n, hit_off line word y l t n, hit_off line word a l t n, hit_off line word b l t n)
+    ]
+
+-- ---- turns whose numbers rise
+
+none_below : (k : ℕ) (xs : List Turn) (l t : ℕ) → Ascends turn_key k xs → key_of l (t / 64) < k → low_at xs l t + alone_at xs l t ≡ 0
 none_below k [] l t up lt = refl
 none_below k (x ∷ xs) l t up lt =
+    let other : turn_key x ≢ key_of l (t / 64) = λ e. omega (arith, up.0, e, lt) in
     omega (
       arith,
-      sum_by-cons (λ s. hit_at s.line s.word s.mask l t) x xs,
-      hit_key x l t (λ e. omega (arith, up.0, e)),
+      sum_by-cons (λ s. hit_at s.line s.word s.low l t) x xs,
+      sum_by-cons (λ s. hit_at s.line s.word (alone s) l t) x xs,
+      hit_key x.line x.word x.low l t other,
+      hit_key x.line x.word (alone x) l t other,
       none_below (turn_key x + 1) xs l t up.1 (omega (arith, up.0)),
     )
 
--- no target stands twice where the numbers rise
-pub once : (k : ℕ) (xs : List Turn) (l t : ℕ) → Ascends turn_key k xs → turned_at xs l t ≤ 1
+-- no target stands twice there
+pub once : (k : ℕ) (xs : List Turn) (l t : ℕ) → Ascends turn_key k xs → low_at xs l t + alone_at xs l t ≤ 1
 once k [] l t up = omega arith
 once k (x ∷ xs) l t up =
-    let split = sum_by-cons (λ s. hit_at s.line s.word s.mask l t) x xs in
+    let low = sum_by-cons (λ s. hit_at s.line s.word s.low l t) x xs in
+    let rest = sum_by-cons (λ s. hit_at s.line s.word (alone s) l t) x xs in
     elim (cases_eq (turn_key x) (key_of l (t / 64))) [
-      | inl e ↦ omega (arith, split, hit_le x.line x.word x.mask l t, none_below (turn_key x + 1) xs l t up.1 (omega (arith, e)))
-      | inr n ↦ omega (arith, split, hit_key x l t n, once (turn_key x + 1) xs l t up.1)
+      | inl e ↦ omega (arith, low, rest, digits-once x.line x.word x.low x.high l t, none_below (turn_key x + 1) xs l t up.1 (omega (arith, e)))
+      | inr n ↦
+          omega (
+            arith,
+            low,
+            rest,
+            hit_key x.line x.word x.low l t n,
+            hit_key x.line x.word (alone x) l t n,
+            once (turn_key x + 1) xs l t up.1,
+          )
     ]
 
--- two turns of one word are one
-pub two_turns : (line word x y l t : ℕ) → (hit_at line word (bit_xor x y) l t + (hit_at line word x l t + hit_at line word y l t)) % 2 ≡ 0
-two_turns line word x y l t =
-    elim (cases_eq l line) [
-      | inl e ↦
-          elim (cases_eq (t / 64) word) [
-            | inl e' ↦ omega (arith, hit_on line word (bit_xor x y) l t e e', hit_on line word x l t e e', hit_on line word y l t e e', bit_at_xor x y (t % 64))
-            | inr n ↦ omega (arith, hit_out line word (bit_xor x y) l t n, hit_out line word x l t n, hit_out line word y l t n)
-          ]
-      | inr n ↦ omega (arith, hit_off line word (bit_xor x y) l t n, hit_off line word x l t n, hit_off line word y l t n)
-    ]
-
-times_one : (h p : ℕ) → h ≤ 1 → min h (min 1 p) ≡ h * min 1 p
-times_one zero p le = omega arith
-times_one (suc zero) p le = omega arith
-times_one (suc (suc h)) p le = absurd (omega arith)
-
-module _ (line word mask present : ℕ) (now : ℕ → ℕ → ℕ) (is : IsPresence (now line) word present) (l t : ℕ) where
-  pub hit_present : hit_at line word (bit_and mask present) l t ≡ hit_at line word mask l t * min 1 (now l t)
-  hit_present =
-      elim (cases_eq l line) [
-        | inl e ↦
-            elim (cases_eq (t / 64) word) [
-              | inl e' ↦
-                  let b = t % 64 in
-                  let place : 64 * word + b ≡ t = omega arith in
-                  let here : now line (64 * word + b) ≡ now l t = (λ i. now (sym e i) (place i)) in
-                  let small : hit_at line word mask l t ≤ 1 = hit_le line word mask l t in
-                  omega (arith, hit_on line word (bit_and mask present) l t e e', hit_on line word mask l t e e', bit_at_and mask present b, is b (omega arith), here, times_one (hit_at line word mask l t) (now l t) small)
-              | inr n ↦ rw (hit_out line word mask l t n) (omega (arith, hit_out line word (bit_and mask present) l t n))
-            ]
-        | inr n ↦ rw (hit_off line word mask l t n) (omega (arith, hit_off line word (bit_and mask present) l t n))
-      ]
-
-  pub hit_both : present < 2 ^ 64 → hit_at line word (bit_and mask present) l t + hit_at line word (bit_and mask (bit_not w64 present)) l t ≡ hit_at line word mask l t
-  hit_both fits =
-      let gone = bit_and mask (bit_not w64 present) in
-      elim (cases_eq l line) [
-        | inl e ↦
-            elim (cases_eq (t / 64) word) [
-              | inl e' ↦
-                  let b = t % 64 in
-                  let within : b < 64 = omega arith in
-                  omega (
-                    arith,
-                    hit_on line word (bit_and mask present) l t e e',
-                    hit_on line word gone l t e e',
-                    hit_on line word mask l t e e',
-                    bit_at_and mask present b,
-                    bit_at_and mask (bit_not w64 present) b,
-                    bit_at_not w64 present b fits within,
-                    bit_at-lt mask b,
-                    bit_at-lt present b,
-                  )
-              | inr n ↦ omega (arith, hit_out line word mask l t n, hit_out line word (bit_and mask present) l t n, hit_out line word gone l t n)
-            ]
-        | inr n ↦ omega (arith, hit_off line word mask l t n, hit_off line word (bit_and mask present) l t n, hit_off line word gone l t n)
-      ]
-
--- of what was turned once, what is present appeared, and what isn't went
-pub came : (turned steps now before a g : ℕ) → turned ≤ 1 → (turned + steps) % 2 ≡ 0 → (steps + (min 1 now + min 1 before)) % 2 ≡ 0 → a ≡ turned * min 1 now → a + g ≡ turned
+-- what came on the whole appeared, and what went is gone
+pub came : (balance steps now before a g rest : ℕ) → balance ≡ a + 3 * g + 2 * rest → a + g + rest ≤ 1 → balance % 4 ≡ steps % 4 → (steps + min 1 before) % 4 ≡ min 1 now
     → (a ≡ min 1 now - min 1 before) × (g ≡ min 1 before - min 1 now)
-came turned steps now before a g le odd even is all =
-    let e = sym (times_one turned now le) in
-    let p : a ≡ min turned (min 1 now) = is ∙ e in
-    let both : (turned + (min 1 now + min 1 before)) % 2 ≡ 0 = omega (arith, odd, even) in
-    (omega (arith, p, all, both, le), omega (arith, p, all, both, le))
+came balance steps now before a g rest is few same turned = (omega (arith, is, few, same, turned), omega (arith, is, few, same, turned))
 
--- turned targets that were split by what they are now are those that appeared and those that went
-pub split_changes : (ts : List Turn) (steps now before : ℕ → ℕ → ℕ) → Ascends turn_key 0 ts → ((l t : ℕ) → (turned_at ts l t + steps l t) % 2 ≡ 0) → IsTurned steps now before
-    → (cs : List Change) → ((l t : ℕ) → appeared_at cs l t ≡ turned_at ts l t * min 1 (now l t)) → ((l t : ℕ) → appeared_at cs l t + gone_at cs l t ≡ turned_at ts l t)
+-- so it is of the changes of turns
+pub split_changes : (ts : List Turn) (steps now before : ℕ → ℕ → ℕ) → Ascends turn_key 0 ts → ((l t : ℕ) → balance_at ts l t % 4 ≡ steps l t % 4) → IsTurned steps now before
+    → (cs : List Change) → ((l t : ℕ) → balance_at ts l t ≡ appeared_at cs l t + 3 * gone_at cs l t + 2 * alone_at ts l t) → ((l t : ℕ) → appeared_at cs l t + gone_at cs l t ≡ low_at ts l t)
     → (l t : ℕ) → (appeared_at cs l t ≡ min 1 (now l t) - min 1 (before l t)) × (gone_at cs l t ≡ min 1 (before l t) - min 1 (now l t))
-split_changes ts steps now before up odd even cs some all l t =
-    came (turned_at ts l t) (steps l t) (now l t) (before l t) (appeared_at cs l t) (gone_at cs l t) (once 0 ts l t up) (odd l t) (even l t) (some l t) (all l t)
+split_changes ts steps now before up same turned cs is low l t =
+    came (balance_at ts l t) (steps l t) (now l t) (before l t) (appeared_at cs l t) (gone_at cs l t) (alone_at ts l t) (is l t)
+    (let few = once 0 ts l t up in omega (arith, low l t, few)) (same l t) (turned l t)
 
 pub IfOk-both : {T E : Type 0} {P Q R : T → Type 0} (r : Result T E) → ((x : T) → P x → Q x → R x) → IfOk r P → IfOk r Q → IfOk r R
 IfOk-both (Ok x) f p q = f x p q

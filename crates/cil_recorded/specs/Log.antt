@@ -1,5 +1,5 @@
 -- What a log of steps says of the counters before them, by line and target.
-use Rattle.std.specs.Prelude.{◌≡◌, ℕ, ◌+◌, ◌-◌, ◌%◌, ◌<◌, ◌==◌, List, [], ◌∷◌, if◌then◌else◌, min, sum_by, MatchBool}
+use Rattle.std.specs.Prelude.{◌≡◌, ℕ, ◌+◌, ◌-◌, ◌*◌, ◌%◌, ◌<◌, ◌==◌, List, [], ◌∷◌, if◌then◌else◌, min, sum_by, MatchBool}
 use Rattle.cil_lines.specs.Line.{hit}
 use Rattle.cil_lines.specs.Limit.{CanRaise, CanLower}
 use Rattle.cil_recorded.specs.declared.step.Step.{Step}
@@ -26,10 +26,14 @@ abbrev pub CanUndo : ℕ → List Step → (ℕ → ℕ → ℕ) → (ℕ → �
 CanUndo n [] f limits = Unit {0}
 CanUndo n (s ∷ ss) f limits = CanTakeBack n s f limits × CanUndo n ss (taken_back s f) limits
 
--- how many steps let a target of a line appear or go
-abbrev pub turned_in : List Step → ℕ → ℕ → ℕ
-turned_in ss l t = sum_by (λ s. hit_at s.line s.word s.turned l t) ss
+-- 1 for a target of a line that a step let appear, 3 for one that it let go, and 0 for any other
+abbrev pub turned_by : Step → ℕ → ℕ → ℕ
+turned_by s l t = if s.up then hit_at s.line s.word s.turned l t else 3 * hit_at s.line s.word s.turned l t
 
--- a target was turned an odd number of times exactly where it is present now or was before, and not both
+-- the sum of these over steps: modulo 4, how often they let a target appear, less how often they let it go
+abbrev pub turned_in : List Step → ℕ → ℕ → ℕ
+turned_in ss l t = sum_by (λ s. turned_by s l t) ss
+
+-- modulo 4, that and whether a target was present make whether it is
 abbrev pub IsTurned : (ℕ → ℕ → ℕ) → (ℕ → ℕ → ℕ) → (ℕ → ℕ → ℕ) → Type 0
-IsTurned turns now before = (l t : ℕ) → (turns l t + (min 1 (now l t) + min 1 (before l t))) % 2 ≡ 0
+IsTurned turns now before = (l t : ℕ) → (turns l t + min 1 (before l t)) % 4 ≡ min 1 (now l t)

@@ -44,7 +44,7 @@ steps_in s = length s.log
 abbrev pub spare : State → ℕ
 spare s = s.room
 
--- the steps can be taken back, and say which targets are present now or were before, and not both
+-- the steps can be taken back, and say which targets came and went
 pub record IsSound (lines : List Counters) (log : List Step) : Type 0 where
   pub can : CanUndo (length lines) (reverse log) (count_in lines) (limit_in lines)
   pub turned : IsTurned (turned_in log) (count_in lines) (undone (reverse log) (count_in lines))

@@ -12,11 +12,13 @@ pub mod SoundLemmas
 pub mod RisingNames
 pub mod PlacedLemmas
 pub mod LoweringLemmas
+pub mod KnownLemmas
 pub mod PartLemmas
 pub mod CommonLemmas
 pub mod RuleLemmas
 pub mod RuleOrderLemmas
 pub mod SetLemmas
+pub mod OneNameLemmas
 pub mod FaultLemmas
 pub mod JudgedLemmas
 pub mod DroppedLemmas

@@ -33,18 +33,18 @@ use Rattle.cil_resolve.proofs.NumberLemmas.{named-in, number-is, numbers-are, nu
 pub rule-made : {A : Type 0} (modules names : List (List ℕ)) (policy : List Placed) (s : Placed) (r : NumberedRule A) (kind : RuleKind) (source : Word) (target : Target) (the_class : Word) (permissions : List Word)
     → get_or modules r.«module» [] ≡ s.module_name → place_of r.at ≡ s.at → rule_kind_of r.kind ≡ kind → IsElement names r.source (spec.element_of policy s.namespace source)
     → resolved_target_of names r.target ≡ spec.resolved_target_of policy s.namespace target → is_target_below (length names) r.target ≡ true → number_in names (class_name policy s.namespace the_class) ≡ Some r.class
-    → AreNumbersIn names (texts permissions) r.permissions.items → AreRules modules names (r ∷ []) (spec.rule_of policy s (rule kind source target the_class permissions))
+    → AreNumbersIn names (texts permissions) r.permissions → AreRules modules names (r ∷ []) (spec.rule_of policy s (rule kind source target the_class permissions))
 rule-made modules names policy s r kind source target the_class permissions m a k from aim aim_below cls numbers =
     let (low, named) = number-is names (class_name policy s.namespace the_class) r.class cls in
-    let all = numbers-are names (texts permissions) r.permissions.items numbers in
+    let all = numbers-are names (texts permissions) r.permissions numbers in
     record {
       is = λ j. record { module_name = m j; at = a j; kind = k j; source = from.named j; target = aim j; the_class = named j; permissions = all j } ∷ [];
       below =
           both_true (is_rule_below (length names) r) true
-          (both_true (is_element_below (length names) r.source) (is_target_below (length names) r.target && (nat_lt r.class (length names) && list_all (λ p. nat_lt p (length names)) r.permissions.items)) from.below
-          (both_true (is_target_below (length names) r.target) (nat_lt r.class (length names) && list_all (λ p. nat_lt p (length names)) r.permissions.items) aim_below
-          (both_true (nat_lt r.class (length names)) (list_all (λ p. nat_lt p (length names)) r.permissions.items) (lt-ltb r.class (length names) low)
-          (numbers-below names (texts permissions) r.permissions.items numbers)))) refl;
+          (both_true (is_element_below (length names) r.source) (is_target_below (length names) r.target && (nat_lt r.class (length names) && list_all (λ p. nat_lt p (length names)) r.permissions)) from.below
+          (both_true (is_target_below (length names) r.target) (nat_lt r.class (length names) && list_all (λ p. nat_lt p (length names)) r.permissions) aim_below
+          (both_true (nat_lt r.class (length names)) (list_all (λ p. nat_lt p (length names)) r.permissions) (lt-ltb r.class (length names) low)
+          (numbers-below names (texts permissions) r.permissions numbers)))) refl;
     }
 
 pub kind-back : (kind : RuleKind) → rule_kind_of (rule_kind kind) ≡ kind

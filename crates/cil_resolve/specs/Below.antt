@@ -22,7 +22,7 @@ is_target_below n aims.Itself = true
 is_target_below n (aims.Element e) = is_element_below n e
 
 abbrev pub is_rule_below : {A : Type 0} → ℕ → NumberedRule A → Bool
-is_rule_below n r = is_element_below n r.source && (is_target_below n r.target && (nat_lt r.class n && list_all (λ p. nat_lt p n) r.permissions.items))
+is_rule_below n r = is_element_below n r.source && (is_target_below n r.target && (nat_lt r.class n && list_all (λ p. nat_lt p n) r.permissions))
 
 abbrev pub is_set_below : {A : Type 0} → ℕ → NumberedSet A → Bool
 is_set_below n s = nat_lt s.attribute n && list_all (is_element_below n) (leaves (expr_in s.expression))

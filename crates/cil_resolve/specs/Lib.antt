@@ -8,6 +8,7 @@ pub mod Modules
 pub mod FullNames
 pub mod Numbering
 pub mod Lowering
+pub mod KnownPermissions
 pub mod Dropped
 pub mod Judged
 pub mod SetOrder

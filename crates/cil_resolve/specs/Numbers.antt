@@ -45,7 +45,7 @@ rule_of modules names r = record {
   source = element_of names r.source;
   target = resolved_target_of names r.target;
   the_class = slice_index_or names r.class [];
-  permissions = map (λ p. slice_index_or names p []) r.permissions.items;
+  permissions = map (λ p. slice_index_or names p []) r.permissions;
 }
 
 -- a set statement

@@ -6,6 +6,7 @@ mod elements;
 mod evaluate;
 mod full_names;
 mod judged;
+mod known_permissions;
 mod laws;
 mod lowered;
 mod lowering;
@@ -13,6 +14,8 @@ mod meter;
 mod name_set;
 mod numbered;
 mod numbering;
+mod one_name;
+mod permission_numbers;
 mod resolved;
 mod resolver;
 mod same;
@@ -34,6 +37,7 @@ pub use meter::Meter;
 pub use numbered::{
     DroppedOptional, NumberedClass, NumberedName, NumberedRule, NumberedSet, ResolvedTarget,
 };
+pub use permission_numbers::PermissionNumbers;
 pub use resolved::Resolved;
 pub use resolver::resolve;
 pub use text::Text;

@@ -18,11 +18,15 @@ ghost use Rattle.cil_bind.specs.Written.{IsOneName};
 ghost use Rattle.cil_check.specs.Permissions.{lists_own};
 ghost use Rattle.cil_resolve.specs.FullNames.{is_numbered};
 ghost use Rattle.cil_resolve.specs.Lowering.{IsElement, IsLowering, IsIn, IsDeclared, IsClass, AreElements, IsSet, IsExpression, AreSets, AreRules, ArePartsOf, common_of, modules_of, set_if, rule_if};
+ghost use Rattle.cil_resolve.specs.KnownPermissions.{KnowNumbers, list_at};
 ghost use Rattle.cil_resolve.specs.Numbering.{AreNumbersIn, listed_names, number_in};
 
 use crate::elements::{element_in, lead_at};
+use crate::known_permissions::{KnownPermissions, ListPlace};
 use crate::numbered::{NumberedClass, NumberedName, NumberedRule, NumberedSet, ResolvedTarget};
 use crate::numbering::Numbering;
+use crate::one_name::{is_list_of_name, is_name};
+use crate::permission_numbers::PermissionNumbers;
 use crate::words::number_at;
 use cil_check::{Checker, Seen};
 use cil_expression::{Element, SetExpression};
@@ -98,6 +102,43 @@ impl<'l, 'p, 'm, A: Allocator + Copy> Lowering<'l, 'p, 'm, A> {
             permissions.push(self.permission(seen, *word))?;
         }
         Ok(permissions)
+    }
+
+    /// The list of permissions of the statement of a place.
+    fn list_place(&self, i: usize) -> ListPlace
+        requires { (policy : List Placed) × IsLowering self.now policy × (i < length policy) }
+        ensures { (policy : List Placed) (s : Placed) → IsLowering self.now policy → slice_get policy i ≡ Some s → list_at self.now.checker.now.bound.joined.now result.«module» result.list ≡ texts (permissions_in s.form) }
+    {
+        let bound = &self.checker.bound;
+        let row = bound.policy.rows[i];
+        let named = &bound.joined.modules[row.module as usize];
+        ListPlace {
+            module: row.module as usize,
+            list: named.module.permission_list(row.index as usize),
+        }
+    }
+
+    /// The numbers of the permissions that the rule of a place names, which it shares with the rules of its module that name the same.
+    fn shared_permissions(
+        &self,
+        known: &mut KnownPermissions<A>,
+        seen: &Seen<'p, 'm, A>,
+        i: usize,
+    ) -> Result<PermissionNumbers<A>, AllocError>
+        requires { (policy : List Placed) × ((s : Placed) × IsIn self.now seen.now policy s × (slice_get policy i ≡ Some s)) }
+        ensures numbers { IfOk result (λ numbers. (policy : List Placed) (s : Placed) → IsIn self.now seen.now policy s → slice_get policy i ≡ Some s → KnowNumbers self.now known.old policy
+            → IsTrue (list_all (has_name (listed_names policy)) (texts (permissions_in s.form)))
+            → AreNumbersIn self.now.numbering.now.names.items (texts (permissions_in s.form)) numbers) }
+        ensures known { OnOk result ((policy : List Placed) (s : Placed) → IsIn self.now seen.now policy s → slice_get policy i ≡ Some s → KnowNumbers self.now known.old policy
+            → KnowNumbers self.now known.new policy) }
+    {
+        let at = self.list_place(i);
+        if let Some(numbers) = known.get(at) {
+            return numbers.share();
+        }
+        let numbers = PermissionNumbers::new(self.alloc, self.permissions(seen)?)?;
+        known.keep(at, numbers.share()?)?;
+        Ok(numbers)
     }
 
     /// Puts in the numbers of the permissions that the class or the common of a place lists, each once.
@@ -195,12 +236,18 @@ impl<'l, 'p, 'm, A: Allocator + Copy> Lowering<'l, 'p, 'm, A> {
         Ok(elements)
     }
 
-    /// The expression of a set statement.
+    /// The expression of a set statement. Most are one name, alone or as the only element of a list, which takes no memory.
     fn set_expression(&self, seen: &Seen<'p, 'm, A>) -> Result<SetExpression<A>, AllocError>
         requires { (policy : List Placed) × (s : Placed) × IsIn self.now seen.now policy s × IsSet s.form }
         ensures { IfOk result (λ e. (policy : List Placed) (s : Placed) (attribute : Word) (expr : WordExpr) → IsIn self.now seen.now policy s → s.form ≡ attribute_set attribute expr
             → IsExpression self.now.numbering.now.names.items e (map_leaves (element_led policy s.namespace) expr)) }
     {
+        if is_name(seen.view.nodes) {
+            return Ok(SetExpression::named(self.element(seen, 1)));
+        }
+        if is_list_of_name(seen.view.nodes) {
+            return Ok(SetExpression::listed(self.element(seen, 1)));
+        }
         let nodes = Vec::from_slice(self.alloc, seen.view.nodes)?;
         let names = self.set_elements(seen)?;
         Ok(SetExpression::new(nodes, names))
@@ -221,10 +268,17 @@ impl<'l, 'p, 'm, A: Allocator + Copy> Lowering<'l, 'p, 'm, A> {
     }
 
     /// The rule that the statement of a place is, if it is one.
-    fn rule(&self, seen: &Seen<'p, 'm, A>, i: usize) -> Result<Option<NumberedRule<A>>, AllocError>
+    fn rule(
+        &self,
+        known: &mut KnownPermissions<A>,
+        seen: &Seen<'p, 'm, A>,
+        i: usize,
+    ) -> Result<Option<NumberedRule<A>>, AllocError>
         requires { (policy : List Placed) × ((s : Placed) × IsIn self.now seen.now policy s × (slice_get policy i ≡ Some s)) }
-        ensures { IfOk result (λ rule. (policy : List Placed) (s : Placed) → IsIn self.now seen.now policy s → slice_get policy i ≡ Some s
+        ensures rule { IfOk result (λ rule. (policy : List Placed) (s : Placed) → IsIn self.now seen.now policy s → slice_get policy i ≡ Some s → KnowNumbers self.now known.old policy
             → AreRules (modules_of self.now.checker.now.bound.joined.now) self.now.numbering.now.names.items (option_to_list rule) (rule_if policy s)) }
+        ensures known { OnOk result ((policy : List Placed) (s : Placed) → IsIn self.now seen.now policy s → slice_get policy i ≡ Some s → KnowNumbers self.now known.old policy
+            → KnowNumbers self.now known.new policy) }
     {
         let (kind, target, class) = match seen.view.kind {
             StatementKind::Rule(kind) => (kind, ResolvedTarget::Element(self.element(seen, 1)), 2),
@@ -238,16 +292,23 @@ impl<'l, 'p, 'm, A: Allocator + Copy> Lowering<'l, 'p, 'm, A> {
             source: self.element(seen, 0),
             target,
             class: self.class(seen, class),
-            permissions: self.permissions(seen)?,
+            permissions: self.shared_permissions(known, seen, i)?,
         }))
     }
 
     /// Takes up what the statement of a place declares or says.
-    fn add(&self, parts: &mut Parts<A>, i: u32) -> Result<(), AllocError>
+    fn add(
+        &self,
+        known: &mut KnownPermissions<A>,
+        parts: &mut Parts<A>,
+        i: u32,
+    ) -> Result<(), AllocError>
         requires { (policy : List Placed) × IsLowering self.now policy × (i < length policy) }
-        ensures { OnOk result ((policy statements : List Placed) (s : Placed) → IsLowering self.now policy → slice_get policy i ≡ Some s
+        ensures parts { OnOk result ((policy statements : List Placed) (s : Placed) → IsLowering self.now policy → slice_get policy i ≡ Some s → KnowNumbers self.now known.old policy
             → ArePartsOf (modules_of self.now.checker.now.bound.joined.now) self.now.numbering.now.names.items policy statements parts.old
             → ArePartsOf (modules_of self.now.checker.now.bound.joined.now) self.now.numbering.now.names.items policy (statements ++ s ∷ []) parts.new) }
+        ensures known { OnOk result ((policy : List Placed) (s : Placed) → IsLowering self.now policy → slice_get policy i ≡ Some s → KnowNumbers self.now known.old policy
+            → KnowNumbers self.now known.new policy) }
     {
         let seen = self.checker.bound.seen(i as usize);
         match seen.view.kind {
@@ -258,12 +319,30 @@ impl<'l, 'p, 'm, A: Allocator + Copy> Lowering<'l, 'p, 'm, A> {
             StatementKind::Class => parts.classes.push(self.class_at(&seen, i)?)?,
             StatementKind::TypeAttributeSet => parts.sets.push(self.set(&seen, i as usize)?)?,
             _ => {
-                if let Some(rule) = self.rule(&seen, i as usize)? {
+                if let Some(rule) = self.rule(known, &seen, i as usize)? {
                     parts.rules.push(rule)?;
                 }
             }
         }
         Ok(())
+    }
+
+    /// How many set statements and rules there are. A list of them that grew would be copied.
+    fn room(&self) -> (usize, usize) {
+        let bound = &self.checker.bound;
+        let policy = bound.policy;
+        let mut sets: usize = 0;
+        let mut rules: usize = 0;
+        for kind in policy.kinds.as_slice() {
+            match kind {
+                StatementKind::TypeAttributeSet => sets = sets.saturating_add(1),
+                StatementKind::Rule(_) | StatementKind::RuleToSelf(_) => {
+                    rules = rules.saturating_add(1);
+                }
+                _ => {}
+            }
+        }
+        (sets, rules)
     }
 
     /// The types, attributes, classes, set statements and rules of the policy, in the order of their statements. A policy of more than 4294967295
@@ -277,15 +356,17 @@ impl<'l, 'p, 'm, A: Allocator + Copy> Lowering<'l, 'p, 'm, A> {
         if count > 0xFFFF_FFFF {
             return Err(AllocError);
         }
+        let (sets, rules) = self.room();
         let mut parts = Parts {
             types: Vec::new(self.alloc),
             attributes: Vec::new(self.alloc),
             classes: Vec::new(self.alloc),
-            sets: Vec::new(self.alloc),
-            rules: Vec::new(self.alloc),
+            sets: Vec::with_capacity(self.alloc, sets)?,
+            rules: Vec::with_capacity(self.alloc, rules)?,
         };
+        let mut known = KnownPermissions::new(self.alloc);
         for i in 0..count {
-            self.add(&mut parts, i as u32)?;
+            self.add(&mut known, &mut parts, i as u32)?;
         }
         Ok(parts)
     }

@@ -1,5 +1,6 @@
 //! Types, classes, set statements and rules by the numbers of their names.
 
+use crate::permission_numbers::PermissionNumbers;
 use crate::text::Text;
 use cil_expression::{Element, SetExpression};
 use cil_text::{Place, RuleKind};
@@ -48,7 +49,7 @@ pub struct NumberedRule<A: Allocator = Global> {
     pub source: Element,
     pub target: ResolvedTarget,
     pub class: usize,
-    pub permissions: Vec<usize, A>,
+    pub permissions: PermissionNumbers<A>,
 }
 
 /// An optional that drops, also one inside another: the place of its module's name, the place of its statement, and its full name.

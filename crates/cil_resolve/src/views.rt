@@ -268,7 +268,7 @@ impl<A: Allocator> Resolved<A> {
             source: self.element(rule.source),
             target: self.aim(rule.target),
             class: self.name(rule.class),
-            permissions: rule.permissions.len(),
+            permissions: rule.permissions.as_slice().len(),
         })
     }
 
@@ -277,7 +277,7 @@ impl<A: Allocator> Resolved<A> {
         ensures { option_map (λ name. name.now) result ≡ option_and_then (λ r. slice_get r.permissions k) (slice_get (meaning_in self.now).rules i) }
     {
         let rule = self.rules.get(i)?;
-        let permission = rule.permissions.get(k)?;
+        let permission = rule.permissions.as_slice().get(k)?;
         Some(self.name(*permission))
     }
 

@@ -143,3 +143,18 @@ fn a_set_expression_is_a_list_of_nodes(rt: HostRuntime) {
     assert_same(&rt, view.nodes, NODES);
     assert_words(&rt, &parsed, view.words, &["s", "a", "b"]);
 }
+
+const LISTS: &[u8] =
+    b"(class f (r w))(allow a a (f (r w)))(allow b b (f (w r)))(allow c self (f (r w)))(type t)";
+
+// The same permissions in the same order have one number, and others another.
+#[test]
+fn a_parsed_module_numbers_its_permission_lists(rt: HostRuntime) {
+    let parsed = parse(rt.alloc(), LISTS).expect(&rt, "a module");
+    assert!(rt; parsed.len() == 5);
+    assert!(rt; parsed.permission_list_count() == 3);
+    assert!(rt; parsed.permission_list(0) == parsed.permission_list(1));
+    assert!(rt; parsed.permission_list(1) == parsed.permission_list(3));
+    assert!(rt; parsed.permission_list(1) != parsed.permission_list(2));
+    assert!(rt; parsed.permission_list(1) != parsed.permission_list(4));
+}

@@ -55,17 +55,17 @@ module _ {A : Type 0} (r : Resolved A) where
     pub source : is_element_below (length r.names.items) rule.source ≡ true
     pub target : is_target_below (length r.names.items) rule.target ≡ true
     pub class : rule.class < length r.names.items
-    pub permissions : list_all (λ p. nat_lt p (length r.names.items)) rule.permissions.items ≡ true
+    pub permissions : list_all (λ p. nat_lt p (length r.names.items)) rule.permissions ≡ true
 
   pub is-below : (rule : NumberedRule A) → is_rule_below (length r.names.items) rule ≡ true → IsBelow rule
   is-below rule below =
-      let rest = and-second (is_element_below (length r.names.items) rule.source) (is_target_below (length r.names.items) rule.target && (nat_lt rule.class (length r.names.items) && list_all (λ p. nat_lt p (length r.names.items)) rule.permissions.items)) below in
-      let last = and-second (is_target_below (length r.names.items) rule.target) (nat_lt rule.class (length r.names.items) && list_all (λ p. nat_lt p (length r.names.items)) rule.permissions.items) rest in
+      let rest = and-second (is_element_below (length r.names.items) rule.source) (is_target_below (length r.names.items) rule.target && (nat_lt rule.class (length r.names.items) && list_all (λ p. nat_lt p (length r.names.items)) rule.permissions)) below in
+      let last = and-second (is_target_below (length r.names.items) rule.target) (nat_lt rule.class (length r.names.items) && list_all (λ p. nat_lt p (length r.names.items)) rule.permissions) rest in
       record {
-        source = and-first (is_element_below (length r.names.items) rule.source) (is_target_below (length r.names.items) rule.target && (nat_lt rule.class (length r.names.items) && list_all (λ p. nat_lt p (length r.names.items)) rule.permissions.items)) below;
-        target = and-first (is_target_below (length r.names.items) rule.target) (nat_lt rule.class (length r.names.items) && list_all (λ p. nat_lt p (length r.names.items)) rule.permissions.items) rest;
-        class = ltb-true rule.class (length r.names.items) (and-first (nat_lt rule.class (length r.names.items)) (list_all (λ p. nat_lt p (length r.names.items)) rule.permissions.items) last);
-        permissions = and-second (nat_lt rule.class (length r.names.items)) (list_all (λ p. nat_lt p (length r.names.items)) rule.permissions.items) last;
+        source = and-first (is_element_below (length r.names.items) rule.source) (is_target_below (length r.names.items) rule.target && (nat_lt rule.class (length r.names.items) && list_all (λ p. nat_lt p (length r.names.items)) rule.permissions)) below;
+        target = and-first (is_target_below (length r.names.items) rule.target) (nat_lt rule.class (length r.names.items) && list_all (λ p. nat_lt p (length r.names.items)) rule.permissions) rest;
+        class = ltb-true rule.class (length r.names.items) (and-first (nat_lt rule.class (length r.names.items)) (list_all (λ p. nat_lt p (length r.names.items)) rule.permissions) last);
+        permissions = and-second (nat_lt rule.class (length r.names.items)) (list_all (λ p. nat_lt p (length r.names.items)) rule.permissions) last;
       }
 
 module _ {A : Type 0} (r : Resolved A) (all : List (List ℕ)) (symbols : List ℕ) (apart : (i j : ℕ) (name : List ℕ) → slice_get all i ≡ Some name → slice_get all j ≡ Some name → i ≡ j) (numbers : AreNumbersOf all symbols r.names.items) where
@@ -166,14 +166,14 @@ module _ {A : Type 0} (r : Resolved A) (all : List (List ℕ)) (symbols : List �
         → covers_by members symbols rule key t ≡ covers (meaning_in r) (rule_of r.modules.items r.names.items rule) (name_at all key.source) (name_at all t) (name_at all key.class) (name_at all key.permission)
     unfolding covers_by
     covers-named rule key t below declared named =
-        ap (λ b. (b && aims_by members symbols rule.target key.source t) && ((slice_index symbols rule.class == key.class) && list_any (λ p. key.permission == slice_index symbols p) rule.permissions.items))
+        ap (λ b. (b && aims_by members symbols rule.target key.source t) && ((slice_index symbols rule.class == key.class) && list_any (λ p. key.permission == slice_index symbols p) rule.permissions))
         (has-named rule.source key.source bound.source (element-kept (meaning_in r) whole.source source_declared) source_within)
-        ∙ ap (λ b. (holds (meaning_in r) whole.source (name_at all key.source) && b) && ((slice_index symbols rule.class == key.class) && list_any (λ p. key.permission == slice_index symbols p) rule.permissions.items))
+        ∙ ap (λ b. (holds (meaning_in r) whole.source (name_at all key.source) && b) && ((slice_index symbols rule.class == key.class) && list_any (λ p. key.permission == slice_index symbols p) rule.permissions))
         (aims-named rule.target key.source t bound.target target_declared source_within target_within)
-        ∙ ap (λ b. (holds (meaning_in r) whole.source (name_at all key.source) && aims (meaning_in r) whole.target (name_at all key.source) (name_at all t)) && (b && list_any (λ p. key.permission == slice_index symbols p) rule.permissions.items))
+        ∙ ap (λ b. (holds (meaning_in r) whole.source (name_at all key.source) && aims (meaning_in r) whole.target (name_at all key.source) (name_at all t)) && (b && list_any (λ p. key.permission == slice_index symbols p) rule.permissions))
         (same-symbol rule.class key.class bound.class class_within)
         ∙ ap (λ b. (holds (meaning_in r) whole.source (name_at all key.source) && aims (meaning_in r) whole.target (name_at all key.source) (name_at all t)) && (bytes_eq whole.the_class (name_at all key.class) && b))
-        (listed-named key.permission rule.permissions.items permission_within bound.permissions)
+        (listed-named key.permission rule.permissions permission_within bound.permissions)
         ∙ and-again (holds (meaning_in r) whole.source (name_at all key.source)) (aims (meaning_in r) whole.target (name_at all key.source) (name_at all t)) _
       where
         whole : spec.Rule
@@ -211,18 +211,18 @@ module _ {A : Type 0} (r : Resolved A) (all : List (List ℕ)) (symbols : List �
     unfolding covers_by
     covers-none rule key t below unnamed =
         elim (cases_lt key.source (length all)) [
-          | inr past ↦ ap (λ b. (b && aims_by members symbols rule.target key.source t) && ((slice_index symbols rule.class == key.class) && list_any (λ p. key.permission == slice_index symbols p) rule.permissions.items)) (has-none rule.source key.source bound.source past)
+          | inr past ↦ ap (λ b. (b && aims_by members symbols rule.target key.source t) && ((slice_index symbols rule.class == key.class) && list_any (λ p. key.permission == slice_index symbols p) rule.permissions)) (has-none rule.source key.source bound.source past)
           | inl source_low ↦ elim (cases_lt t (length all)) [
             | inr past ↦
-                ap (λ b. (has_by members symbols rule.source key.source && b) && ((slice_index symbols rule.class == key.class) && list_any (λ p. key.permission == slice_index symbols p) rule.permissions.items)) (aims-none rule.target key.source t bound.target source_low past)
-                ∙ ap (λ b. b && ((slice_index symbols rule.class == key.class) && list_any (λ p. key.permission == slice_index symbols p) rule.permissions.items)) (and-false (has_by members symbols rule.source key.source))
+                ap (λ b. (has_by members symbols rule.source key.source && b) && ((slice_index symbols rule.class == key.class) && list_any (λ p. key.permission == slice_index symbols p) rule.permissions)) (aims-none rule.target key.source t bound.target source_low past)
+                ∙ ap (λ b. b && ((slice_index symbols rule.class == key.class) && list_any (λ p. key.permission == slice_index symbols p) rule.permissions)) (and-false (has_by members symbols rule.source key.source))
             | inl target_low ↦ elim (cases_lt key.class (length all)) [
               | inr past ↦
-                  ap (λ b. (has_by members symbols rule.source key.source && aims_by members symbols rule.target key.source t) && (b && list_any (λ p. key.permission == slice_index symbols p) rule.permissions.items)) (no-symbol rule.class key.class bound.class past)
+                  ap (λ b. (has_by members symbols rule.source key.source && aims_by members symbols rule.target key.source t) && (b && list_any (λ p. key.permission == slice_index symbols p) rule.permissions)) (no-symbol rule.class key.class bound.class past)
                   ∙ and-false (has_by members symbols rule.source key.source && aims_by members symbols rule.target key.source t)
               | inl class_low ↦ elim (cases_lt key.permission (length all)) [
                 | inr past ↦
-                    ap (λ b. (has_by members symbols rule.source key.source && aims_by members symbols rule.target key.source t) && ((slice_index symbols rule.class == key.class) && b)) (listed-none key.permission rule.permissions.items past bound.permissions)
+                    ap (λ b. (has_by members symbols rule.source key.source && aims_by members symbols rule.target key.source t) && ((slice_index symbols rule.class == key.class) && b)) (listed-none key.permission rule.permissions past bound.permissions)
                     ∙ ap (λ b. (has_by members symbols rule.source key.source && aims_by members symbols rule.target key.source t) && b) (and-false (slice_index symbols rule.class == key.class))
                     ∙ and-false (has_by members symbols rule.source key.source && aims_by members symbols rule.target key.source t)
                 | inl permission_low ↦ absurd (true≢false (sym (all-named source_low target_low class_low permission_low) ∙ unnamed))

@@ -34,4 +34,4 @@ aims_by members symbols (aims.Element element) s t = has_by members symbols elem
 -- whether a rule covers an access, by the symbols of its names
 unfoldable pub covers_by : {A : Type 0} → (ℕ → ℕ → ℕ) → List ℕ → NumberedRule A → SymbolKey → ℕ → Bool
 covers_by members symbols rule key t = (has_by members symbols rule.source key.source && aims_by members symbols rule.target key.source t)
-    && ((slice_index symbols rule.class == key.class) && list_any (λ p. key.permission == slice_index symbols p) rule.permissions.items)
+    && ((slice_index symbols rule.class == key.class) && list_any (λ p. key.permission == slice_index symbols p) rule.permissions)

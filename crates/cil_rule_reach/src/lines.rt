@@ -37,8 +37,9 @@ pub fn members_line<A: Allocator + Copy>(
     requires { (a t : ℕ) → members.now.symbols ≤ t → members_of members.now a t ≡ 0 }
     ensures { IfOk result (λ line. (t : ℕ) → is_present line t ≡ nat_lt 0 (members_of members.now row t)) }
 {
-    let mut line = Line::new(alloc);
-    for word in 0..members.symbols / WORD + 1 {
+    let words = members.symbols / WORD + 1;
+    let mut line = Line::with_room(alloc, words)?;
+    for word in 0..words {
         add_types(&mut line, alloc, word, members.word(row, word))?;
     }
     Ok(line)

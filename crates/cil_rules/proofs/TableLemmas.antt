@@ -74,14 +74,14 @@ module _ {A : Type 0} (r : Resolved A) where
       let classes = and_parts (bytes_eq named.the_class a.the_class) (list_any (bytes_eq a.permission) named.permissions) targets.1 in
       let below_source = and_parts (is_element_below (length names) rule.source) _ below in
       let below_target = and_parts (is_target_below (length names) rule.target) _ below_source.1 in
-      let below_class = and_parts (nat_lt rule.class (length names)) (list_all (λ p. nat_lt p (length names)) rule.permissions.items) below_target.1 in
+      let below_class = and_parts (nat_lt rule.class (length names)) (list_all (λ p. nat_lt p (length names)) rule.permissions) below_target.1 in
       let kind : rule_kind_of rule.kind ≡ a.kind = same-kind (rule_kind_of rule.kind) a.kind (eqb-true _ _ kinds.0) in
       let the_class : name_at names rule.class ≡ a.the_class = (bytes_decides (name_at names rule.class) a.the_class).0 classes.0 in
       let source : IsNamed names a.source = held-named named.source a.source sources.0 in
       let target : IsNamed names a.target = aimed-named named.target a.source a.target source targets.0 in
       let permission : IsNamed names a.permission =
-      number-named names a.permission rule.permissions.items below_class.1
-      (any_from_map (name_at names) (λ q. IsTrue (bytes_eq a.permission q)) rule.permissions.items (any_from_test (bytes_eq a.permission) named.permissions classes.1)) in (
+      number-named names a.permission rule.permissions below_class.1
+      (any_from_map (name_at names) (λ q. IsTrue (bytes_eq a.permission q)) rule.permissions (any_from_test (bytes_eq a.permission) named.permissions classes.1)) in (
         record { kind = rule.kind; source = source.0; target = target.0; class = rule.class; permission = permission.0 },
         record { source = source.1; target = target.1; the_class = ltb-true rule.class (length names) below_class.0; permission = permission.1 },
         λ i. record { kind = kind i; source = source.2 i; target = target.2 i; the_class = the_class i; permission = permission.2 i },

@@ -1,9 +1,10 @@
 -- The accesses of the targets that appeared or went, change by change and kind by kind.
-use Rattle.std.proofs.Common.{◌≡◌, ◌⊎◌, ◌↔◌, ℕ, ◌+◌, ◌-◌, ◌<◌, List, [], Option, None, Some, MatchOption, get_or, length, min, position, slice_get, refl, sym, ap, subst, ◌∙◌, inl, inr, arith}
+use Rattle.std.proofs.Common.{◌≡◌, ◌↔◌, ℕ, ◌-◌, ◌<◌, ◌≤◌, suc, List, [], ◌∷◌, Option, None, Some, MatchOption, get_or, length, min, position, slice_get, refl, sym, ap, subst, ◌∙◌, inl, inr, arith}
 use Rattle.std.specs.List.{All, sum_by}
-use Rattle.std.proofs.lemmas.Bool.{cases_eq}
+use Rattle.std.proofs.lemmas.Bool.{cases_eq, cases_lt}
+use Rattle.std.proofs.lemmas.List.{get_or_past}
 use Rattle.std.proofs.lemmas.List.Elements.{All-nil}
-use Rattle.std.proofs.lemmas.List.Sums.{sum_by_more_le}
+use Rattle.std.proofs.lemmas.List.Sums.{sum_by-cons, sum_by_more_le}
 use Rattle.std.proofs.lemmas.Option.{same_Some, slice_get_within}
 use Rattle.cil_accesses.specs.declared.access.AccessNumbers.{AccessNumbers}
 use Rattle.cil_accesses.specs.declared.chunk.Chunk.{Chunk}
@@ -23,7 +24,10 @@ use Rattle.cil_text.specs.declared.statement.RuleKind.{RuleKind}
 use Rattle.cil_text.specs.declared.statement.RuleKind.TheVariants.{Allow, AuditAllow, DontAudit, NeverAllow}
 use Rattle.cil_symbol_changes.specs.Gained.{AreGained, AreKnown, AreKnownIn, IsIn, IsShort, IsTo}
 use Rattle.cil_symbol_changes.specs.Numbered.{access_by, AreNumbered, IsNew, IsNewOf, IsNumbered}
-use Rattle.cil_symbol_changes.proofs.GainedLemmas.{gained-alike, gained-more, gained-none}
+use Rattle.cil_symbol_changes.specs.SourceOrder.{AreAllPlaces, IsBetween}
+use Rattle.cil_symbol_changes.specs.declared.source_order.LinePlace.{LinePlace}
+use Rattle.cil_symbol_changes.proofs.GainedLemmas.{gained-alike, gained-none}
+use Rattle.cil_symbol_changes.proofs.OrderLemmas.{any_place, between-from}
 
 -- one of two that follow from each other, and a third
 pub alike-trans : {X Y Z : Type 0} → X ↔ Y → Y ↔ Z → X ↔ Z
@@ -32,6 +36,15 @@ alike-trans f g = (λ x. g.0 (f.0 x), λ z. f.1 (g.1 z))
 -- any change
 abbrev pub no_change : Change
 no_change = record { line = 0; word = 0; appeared = 0; gone = 0 }
+
+-- where a sum over changes is above 0, it is so for one of them
+one_of : (f : Change → ℕ) (changes : List Change) → 0 < sum_by f changes → (i : ℕ) × (i < length changes) × (0 < f (get_or changes i no_change))
+one_of f [] some = absurd (omega (arith, some))
+one_of f (x ∷ xs) some =
+    elim (cases_eq (f x) 0) [
+      | inl none ↦ let (i, within, is) = one_of f xs (omega (arith, some, none, sum_by-cons f x xs)) in (suc i, omega (arith, within), is)
+      | inr one ↦ (0, omega arith, omega (arith, one))
+    ]
 
 module _ (numbers : List ℕ) (kind : RuleKind) (lines : Keyed) where
   -- ---- one change
@@ -77,33 +90,48 @@ module _ (numbers : List ℕ) (kind : RuleKind) (lines : Keyed) where
             let behind = none.behind in
             omega (arith, here, within, behind)
 
-  -- ---- changes in turn
+  -- ---- changes in an order of their places
 
   pub in-none : (stands : ℕ → ℕ → ℕ) (old : List Chunk) → ((l t : ℕ) → stands l t ≡ 0) → AreGained (IsIn numbers kind lines stands) old old
   in-none stands old none = gained-none (IsIn numbers kind lines stands) old (λ a told. let some = told.among in let zero = none told.place told.target in omega (arith, some, zero))
-
-  pub in-more : (stands more all : ℕ → ℕ → ℕ) (old mid new : List Chunk) → ((l t : ℕ) → all l t ≡ stands l t + more l t) → AreGained (IsIn numbers kind lines stands) old mid → AreGained (IsIn numbers kind lines more) mid new
-      → AreGained (IsIn numbers kind lines all) old new
-  in-more stands more all old mid new sum first second =
-      gained-more (IsIn numbers kind lines stands) (IsIn numbers kind lines more) (IsIn numbers kind lines all) old mid new first second split
-      (λ a told. let some = told.among in moved stands all a told (omega (arith, some, sum told.place told.target)))
-      (λ a told. let some = told.among in moved more all a told (omega (arith, some, sum told.place told.target)))
-    where
-      moved : (f g : ℕ → ℕ → ℕ) (a : AccessNumbers) (told : IsIn numbers kind lines f a) → 0 < g told.place told.target → IsIn numbers kind lines g a
-      moved f g a told some = record { place = told.place; key = told.key; line = told.line; target = told.target; among = some; same = told.same }
-
-      split : (a : AccessNumbers) → IsIn numbers kind lines all a → IsIn numbers kind lines stands a ⊎ IsIn numbers kind lines more a
-      split a told =
-          let some = told.among in
-          elim (cases_eq (stands told.place told.target) 0) [
-            | inl none ↦ inr (moved all more a told (omega (arith, some, none, sum told.place told.target)))
-            | inr one ↦ inl (moved all stands a told (omega (arith, one)))
-          ]
 
   -- what holds of the targets in all changes holds of those in one
   pub known-one : (at : Change → ℕ → ℕ → ℕ) (changes : List Change) (i : ℕ) (d : Change) → i < length changes → AreKnownIn numbers lines (λ l t. sum_by (λ x. at x l t) changes) → AreKnownIn numbers lines (at (get_or changes i d))
   known-one at changes i d within known l key line t some =
       known l key line t (let less = sum_by_more_le (λ x. at x l t) changes i d within in omega (arith, some, less))
+
+  module _ (at : Change → ℕ → ℕ → ℕ) (nothing : (l t : ℕ) → at no_change l t ≡ 0) (changes : List Change) where
+    -- the accesses of the change of a place
+    abbrev pub IsOfPlace : ℕ → AccessNumbers → Type 0
+    IsOfPlace place = IsIn numbers kind lines (at (get_or changes place no_change))
+
+    -- and those of all changes
+    abbrev pub IsOfAll : AccessNumbers → Type 0
+    IsOfAll = IsIn numbers kind lines (λ l t. sum_by (λ x. at x l t) changes)
+
+    past-changes : (place l t : ℕ) → length changes ≤ place → at (get_or changes place no_change) l t ≡ 0
+    past-changes place l t past = ap (λ d. at d l t) (get_or_past changes place no_change past) ∙ nothing l t
+
+    pub in-no_change : (place : ℕ) (old : List Chunk) → length changes ≤ place → AreGained (IsOfPlace place) old old
+    in-no_change place old past = in-none (at (get_or changes place no_change)) old (λ l t. past-changes place l t past)
+
+    pub in-all : (order : List LinePlace) (n : ℕ) (old new : List Chunk) → AreAllPlaces (length changes) order → length order ≤ n → AreGained (IsBetween IsOfPlace order 0 n) old new → AreGained IsOfAll old new
+    in-all order n old new all past gained = gained-alike (IsBetween IsOfPlace order 0 n) IsOfAll old new gained (λ a b. to a (get_or order b.at any_place).place b.told) from
+      where
+        to : (a : AccessNumbers) (place : ℕ) → IsOfPlace place a → IsOfAll a
+        to a place told =
+            let some = told.among in
+            elim (cases_lt place (length changes)) [
+              | inl within ↦
+                  let less = sum_by_more_le (λ x. at x told.place told.target) changes place no_change within in
+                  record { place = told.place; key = told.key; line = told.line; target = told.target; among = omega (arith, some, less); same = told.same }
+              | inr past ↦ let zero = past-changes place told.place told.target past in absurd (omega (arith, some, zero))
+            ]
+
+        from : (a : AccessNumbers) → IsOfAll a → IsBetween IsOfPlace order 0 n a
+        from a told =
+            let (i, within, some) = one_of (λ x. at x told.place told.target) changes told.among in
+            between-from IsOfPlace order (length changes) n all past i within a (record { place = told.place; key = told.key; line = told.line; target = told.target; among = some; same = told.same })
 
   -- ---- all changes of a kind
 

@@ -1,15 +1,10 @@
 -- The accesses of the targets whose counters are above 0, word by word and line by line.
-use Rattle.std.proofs.Common.{◌≡◌, ◌⊎◌, ℕ, ◌+◌, ◌*◌, ◌/◌, ◌%◌, ◌<◌, ◌≤◌, ◌++◌, ◌∷◌, List, [], Some, IsPermutation, get_or, length, min, slice_get, refl, sym, ap, subst, ◌∙◌, inl, inr, arith}
+use Rattle.std.proofs.Common.{◌≡◌, ◌⊎◌, ℕ, ◌+◌, ◌*◌, ◌/◌, ◌%◌, ◌<◌, ◌≤◌, List, length, min, slice_get, refl, sym, ap, subst, ◌∙◌, inl, inr, arith}
 use Rattle.std.specs.Int.{bit_at}
 use Rattle.std.proofs.lemmas.Bool.{cases_eq, cases_lt}
-use Rattle.std.specs.List.{All}
-use Rattle.std.proofs.lemmas.List.{get_or_default}
-use Rattle.std.proofs.lemmas.List.Sorted.{All-permutation, Contains-permutation, IsPermutation-sym}
 use Rattle.std.proofs.lemmas.Option.{same_Some, slice_get_within}
 use Rattle.cil_accesses.specs.declared.access.AccessNumbers.{AccessNumbers}
 use Rattle.cil_accesses.specs.declared.chunk.Chunk.{Chunk}
-use Rattle.cil_accesses.proofs.Made.{given-moved}
-use Rattle.cil_accesses.proofs.Renumbering.{any-push}
 use Rattle.cil_keyed_lines.specs.Keyed.{Keyed, IsLineOf, IsNoLine, now_at}
 use Rattle.cil_keyed_lines.specs.Keyed as keyed
 use Rattle.cil_keyed_lines.specs.declared.symbol_key.SymbolKey.{SymbolKey}
@@ -18,12 +13,13 @@ use Rattle.cil_lines.proofs.StepLemmas.{hit-here, hit-there}
 use Rattle.cil_symbol_tables.specs.Tables.{count_now, lines_of}
 use Rattle.cil_symbol_tables.specs.declared.symbol_tables.SymbolTables.{SymbolTables}
 use Rattle.cil_text.specs.declared.statement.RuleKind.{RuleKind}
-use Rattle.cil_symbol_changes.specs.Gained.{AreGained, AreKnown, AreKnownIn, IsIn, IsShort, IsTo}
+use Rattle.cil_symbol_changes.specs.Gained.{AreGained, AreKnown, AreKnownIn, IsIn, IsTo}
 use Rattle.cil_symbol_changes.specs.Numbered.{access_by, ArePresentNumbered, IsPresentOf}
 use Rattle.cil_symbol_changes.specs.SourceOrder.{AreAllPlaces, IsAt, IsBetween}
 use Rattle.cil_symbol_changes.specs.declared.source_order.LinePlace.{LinePlace}
 use Rattle.cil_symbol_changes.proofs.ChangeLemmas.{line-now}
 use Rattle.cil_symbol_changes.proofs.GainedLemmas.{gained-alike, gained-more, gained-none}
+use Rattle.cil_symbol_changes.proofs.OrderLemmas.{between-from}
 
 -- the targets of the mask of a word are those that are counted
 hit-counted : (counts : ℕ → ℕ) (word mask : ℕ) → IsPresence counts word mask → (t : ℕ) → 0 < hit word mask t → (t / 64 ≡ word) × (0 < counts t)
@@ -99,32 +95,6 @@ module _ (numbers : List ℕ) (kind : RuleKind) (key : SymbolKey) (counts : ℕ 
 
 -- ---- the lines of a kind
 
--- any place of a line
-abbrev pub any_place : LinePlace
-any_place = record { source = 0; place = 0 }
-
--- one place more
-pub places-more : (n : ℕ) (order : List LinePlace) (x : LinePlace) → x.place ≡ n → AreAllPlaces n order → AreAllPlaces (n + 1) (order ++ x ∷ [])
-places-more n order x is all place low =
-    elim (cases_eq place n) [
-      | inl last ↦ any-push (λ y. y.place ≡ place) order x (inr (is ∙ sym last))
-      | inr before ↦ any-push (λ y. y.place ≡ place) order x (inl (all place (omega (arith, low, before))))
-    ]
-
--- the places in another order
-pub places-moved : (n : ℕ) (order sorted : List LinePlace) → IsPermutation order sorted → AreAllPlaces n order → AreAllPlaces n sorted
-places-moved n order sorted moved all place low =
-    let (k, x, within, at, is) = all place low in
-    let (j, inside, there) = Contains-permutation order sorted x moved (k, within, at) in
-    (j, x, inside, there, is)
-
--- what is gained stays gained where the chunks are put in order
-pub gained-moved : (told : AccessNumbers → Type 0) (old mid new : List Chunk) → AreGained told old mid → IsPermutation mid new → AreGained told old new
-gained-moved told old mid new gained moved = record {
-  are = λ a. (λ h. (gained.are a).0 (given-moved new mid (IsPermutation-sym mid new moved) a h), λ some. given-moved mid new moved a ((gained.are a).1 some));
-  short = λ h. All-permutation IsShort mid new moved (gained.short h);
-}
-
 module _ (numbers : List ℕ) (kind : RuleKind) (lines : Keyed) where
   pub in-place : (place : ℕ) (key : SymbolKey) (old new : List Chunk) → IsLineOf lines place key → AreGained (IsTo numbers kind key (λ t. 0 < now_at lines place t)) old new → AreGained (IsAt numbers kind lines place) old new
   in-place place key old new line gained =
@@ -144,58 +114,12 @@ module _ (numbers : List ℕ) (kind : RuleKind) (lines : Keyed) where
       let behind = none.behind in
       omega (arith, within, here, behind))
 
-  -- ---- the lines of an order
-
-  module _ (order : List LinePlace) where
-    moved-to : (from to other end : ℕ) (a : AccessNumbers) (b : IsBetween numbers kind lines order from to a) → other ≤ b.at → b.at < end → IsBetween numbers kind lines order other end a
-    moved-to from to other end a b on low = record { at = b.at; from_on = on; before = low; told = b.told }
-
-    pub between-none : (n : ℕ) (old : List Chunk) → AreGained (IsBetween numbers kind lines order n n) old old
-    between-none n old = gained-none (IsBetween numbers kind lines order n n) old (λ a b. let on = b.from_on in let low = b.before in omega (arith, on, low))
-
-    pub between-more : (from i : ℕ) (old mid new : List Chunk) → from ≤ i → AreGained (IsBetween numbers kind lines order from i) old mid → AreGained (IsAt numbers kind lines (get_or order i any_place).place) mid new
-        → AreGained (IsBetween numbers kind lines order from (i + 1)) old new
-    between-more from i old mid new on first second =
-        gained-more (IsBetween numbers kind lines order from i) (IsAt numbers kind lines (get_or order i any_place).place) (IsBetween numbers kind lines order from (i + 1)) old mid new first second split
-        (λ a b. let low = b.before in moved-to from i from (i + 1) a b b.from_on (omega (arith, low)))
-        (λ a at. record { at = i; from_on = on; before = omega arith; told = at })
-      where
-        split : (a : AccessNumbers) → IsBetween numbers kind lines order from (i + 1) a → IsBetween numbers kind lines order from i a ⊎ IsAt numbers kind lines (get_or order i any_place).place a
-        split a b =
-            let low = b.before in
-            elim (cases_eq b.at i) [
-              | inl here ↦ inr (subst (λ k. IsAt numbers kind lines (get_or order k any_place).place a) here b.told)
-              | inr there ↦ inl (moved-to from (i + 1) from i a b b.from_on (omega (arith, low, there)))
-            ]
-
-    pub between-join : (from mid to : ℕ) (old between new : List Chunk) → from ≤ mid → mid ≤ to → AreGained (IsBetween numbers kind lines order from mid) old between → AreGained (IsBetween numbers kind lines order mid to) between new
-        → AreGained (IsBetween numbers kind lines order from to) old new
-    between-join from mid to old between new on upto first second =
-        gained-more (IsBetween numbers kind lines order from mid) (IsBetween numbers kind lines order mid to) (IsBetween numbers kind lines order from to) old between new first second split
-        (λ a b. let low = b.before in moved-to from mid from to a b b.from_on (omega (arith, low, upto)))
-        (λ a b. let later = b.from_on in moved-to mid to from to a b (omega (arith, later, on)) b.before)
-      where
-        split : (a : AccessNumbers) → IsBetween numbers kind lines order from to a → IsBetween numbers kind lines order from mid a ⊎ IsBetween numbers kind lines order mid to a
-        split a b =
-            elim (cases_lt b.at mid) [
-              | inl low ↦ inl (moved-to from to from mid a b b.from_on low)
-              | inr past ↦ inr (moved-to from to mid to a b past b.before)
-            ]
-
-    -- an order that has all lines
-    pub between-all : (n : ℕ) (old new : List Chunk) → AreAllPlaces (length lines.keys) order → length order ≤ n → AreGained (IsBetween numbers kind lines order 0 n) old new → AreGained (IsIn numbers kind lines (now_at lines)) old new
-    between-all n old new all past gained =
-        gained-alike (IsBetween numbers kind lines order 0 n) (IsIn numbers kind lines (now_at lines)) old new gained (λ a b. b.told.told) from
-      where
-        from : (a : AccessNumbers) → IsIn numbers kind lines (now_at lines) a → IsBetween numbers kind lines order 0 n a
-        from a told =
-            let (k, x, low, at, is) = all told.place (slice_get_within lines.keys told.place told.key told.line.at) in
-            record {
-              at = k;
-              from_on = omega arith;
-              before = omega (arith, low, past);
-              told = record { told = told; here = sym (ap (λ (y : LinePlace). y.place) (get_or_default order k any_place x low ∙ at) ∙ is) };
-            }
+  -- an order that has all lines
+  pub between-all : (order : List LinePlace) (n : ℕ) (old new : List Chunk) → AreAllPlaces (length lines.keys) order → length order ≤ n → AreGained (IsBetween (IsAt numbers kind lines) order 0 n) old new
+      → AreGained (IsIn numbers kind lines (now_at lines)) old new
+  between-all order n old new all past gained =
+      gained-alike (IsBetween (IsAt numbers kind lines) order 0 n) (IsIn numbers kind lines (now_at lines)) old new gained (λ a b. b.told.told)
+      (λ a told. between-from (IsAt numbers kind lines) order (length lines.keys) n all past told.place (slice_get_within lines.keys told.place told.key told.line.at) a (record { told = told; here = refl }))
 
 -- ---- one kind of tables
 

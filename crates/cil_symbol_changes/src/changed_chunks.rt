@@ -1,6 +1,6 @@
 //! The accesses that appeared and those that went, before they are put in order.
 
-ghost use Rattle.std.specs.Prelude.{◌↔◌, IfOk, OnOk};
+ghost use Rattle.std.specs.Prelude.{◌≤◌, ◌↔◌, length, IfOk, OnOk};
 ghost use Rattle.std.specs.List.{All};
 ghost use Rattle.cil_accesses.specs.Chunks.{IsGiven};
 ghost use Rattle.cil_accesses.specs.declared.access.AccessNumbers.{AccessNumbers};
@@ -9,16 +9,18 @@ ghost use Rattle.cil_recorded.specs.Log.{hit_at};
 ghost use Rattle.cil_symbol_tables.specs.Tables.{count_before, count_now};
 ghost use Rattle.cil_symbol_changes.specs.Gained.{AreGained, AreKnownIn, IsIn, IsShort};
 ghost use Rattle.cil_symbol_changes.specs.Numbered.{AreNumbered, IsNew, IsNewOf};
+ghost use Rattle.cil_symbol_changes.specs.SourceOrder.{appeared_in, gone_in, AreAllPlaces, IsBetween};
 
+use crate::source_order::{LinePlace, changes_by_source, source_end};
 use crate::targets::push_targets;
-use cil_accesses::Chunk;
+use cil_accesses::{Chunk, sort_from};
 use cil_keyed_lines::KeyedLines;
 use cil_recorded::Change;
 use cil_symbol_tables::SymbolTables;
 use cil_text::RuleKind;
 use std::alloc::{AllocError, Allocator, Global};
 
-/// Chunks of the accesses that appeared and of those that went, in no order.
+/// Chunks of the accesses that appeared and of those that went, source by source.
 #[derive(Debug, Drop)]
 pub struct ChangedChunks<A: Allocator = Global> {
     pub added: Vec<Chunk, A>,
@@ -61,14 +63,70 @@ fn push_change<A: Allocator>(
     Ok(())
 }
 
-/// Appends the accesses of the targets that appeared and went in lines.
+/// Appends the accesses of the targets that appeared and went in the change of a place.
+fn push_place<A: Allocator>(
+    chunks: &mut ChangedChunks<A>,
+    kind: RuleKind,
+    lines: &KeyedLines<A>,
+    changes: &[Change],
+    place: usize,
+    numbers: &[u32],
+) -> Result<(), AllocError>
+    requires appeared { AreKnownIn numbers.now lines.now (appeared_at changes.now) }
+    requires gone { AreKnownIn numbers.now lines.now (gone_at changes.now) }
+    requires short_added { All IsShort chunks.old.added.items }
+    requires short_removed { All IsShort chunks.old.removed.items }
+    ensures added { OnOk result (AreGained (IsIn numbers.now kind lines.now (appeared_in changes.now place)) chunks.old.added.items chunks.new.added.items) }
+    ensures removed { OnOk result (AreGained (IsIn numbers.now kind lines.now (gone_in changes.now place)) chunks.old.removed.items chunks.new.removed.items) }
+{
+    if place < changes.len() {
+        push_change(chunks, kind, lines, &changes[place], numbers)
+    } else {
+        Ok(())
+    }
+}
+
+/// Appends the accesses of the changes from one place of an order up to another, and puts them in order: a few at a time, where these
+/// changes are of one source.
+fn push_source<A: Allocator>(
+    chunks: &mut ChangedChunks<A>,
+    kind: RuleKind,
+    lines: &KeyedLines<A>,
+    changes: &[Change],
+    order: &[LinePlace],
+    from: usize,
+    to: usize,
+    numbers: &[u32],
+) -> Result<(), AllocError>
+    requires order { from ≤ to }
+    requires within { to ≤ length order.now }
+    requires appeared { AreKnownIn numbers.now lines.now (appeared_at changes.now) }
+    requires gone { AreKnownIn numbers.now lines.now (gone_at changes.now) }
+    requires short_added { All IsShort chunks.old.added.items }
+    requires short_removed { All IsShort chunks.old.removed.items }
+    ensures added { OnOk result (AreGained (IsBetween (λ place. IsIn numbers.now kind lines.now (appeared_in changes.now place)) order.now from to) chunks.old.added.items chunks.new.added.items) }
+    ensures removed { OnOk result (AreGained (IsBetween (λ place. IsIn numbers.now kind lines.now (gone_in changes.now place)) order.now from to) chunks.old.removed.items chunks.new.removed.items) }
+{
+    let added = chunks.added.len();
+    let removed = chunks.removed.len();
+    for i in from..to {
+        push_place(chunks, kind, lines, changes, order[i].place, numbers)?;
+    }
+    sort_from(&mut chunks.added, added);
+    sort_from(&mut chunks.removed, removed);
+    Ok(())
+}
+
+/// Appends the accesses of the targets that appeared and went in lines, source by source.
 fn push_changes<A: Allocator>(
     chunks: &mut ChangedChunks<A>,
     kind: RuleKind,
     lines: &KeyedLines<A>,
     changes: &[Change],
+    order: &[LinePlace],
     numbers: &[u32],
 ) -> Result<(), AllocError>
+    requires all { AreAllPlaces (length changes.now) order.now }
     requires appeared { AreKnownIn numbers.now lines.now (appeared_at changes.now) }
     requires gone { AreKnownIn numbers.now lines.now (gone_at changes.now) }
     requires short_added { All IsShort chunks.old.added.items }
@@ -76,8 +134,11 @@ fn push_changes<A: Allocator>(
     ensures added { OnOk result (AreGained (IsIn numbers.now kind lines.now (appeared_at changes.now)) chunks.old.added.items chunks.new.added.items) }
     ensures removed { OnOk result (AreGained (IsIn numbers.now kind lines.now (gone_at changes.now)) chunks.old.removed.items chunks.new.removed.items) }
 {
-    for change in changes {
-        push_change(chunks, kind, lines, change, numbers)?;
+    let mut from = 0;
+    while from < order.len() {
+        let to = source_end(order, from);
+        push_source(chunks, kind, lines, changes, order, from, to, numbers)?;
+        from = to;
     }
     Ok(())
 }
@@ -98,7 +159,8 @@ fn push_kind<A: Allocator + Copy>(
 {
     let lines = tables.lines(kind);
     let changes = lines.changes(alloc)?;
-    push_changes(chunks, kind, lines, &changes, numbers)
+    let order = changes_by_source(alloc, lines, &changes, numbers)?;
+    push_changes(chunks, kind, lines, &changes, &order, numbers)
 }
 
 /// The accesses of all kinds that appeared and went in tables.

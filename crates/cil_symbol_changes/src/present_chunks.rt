@@ -106,7 +106,7 @@ fn push_source<A: Allocator>(
     requires within { to ≤ length order.now }
     requires known { AreKnownIn numbers.now lines.now (now_at lines.now) }
     requires short { All IsShort chunks.old.items }
-    ensures { OnOk result (AreGained (IsBetween numbers.now kind lines.now order.now from to) chunks.old.items chunks.new.items) }
+    ensures { OnOk result (AreGained (IsBetween (IsAt numbers.now kind lines.now) order.now from to) chunks.old.items chunks.new.items) }
 {
     let start = chunks.len();
     for i in from..to {

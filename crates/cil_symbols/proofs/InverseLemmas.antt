@@ -8,7 +8,7 @@ use Rattle.std.proofs.lemmas.List.Folds.{list_any_at}
 use Rattle.std.proofs.lemmas.List.Sums.{sum_by-cons, sum_by-set}
 use Rattle.std.proofs.lemmas.Option.{slice_get_within, slice_get-get_or, get_or_from_slice_get, same_Some}
 use Rattle.cil_check.proofs.PositionLemmas.{get-append, get-last}
-use Rattle.cil_optionals.proofs.GreatestLemmas.{got-push}
+use Rattle.cil_optionals.proofs.DependentLemmas.{got-push}
 use Rattle.cil_optionals.proofs.ListLemmas.{get-set_same, get-set_other}
 use Rattle.cil_bind.proofs.PositionLemmas.{take-last, take-length}
 use Rattle.cil_symbols.specs.Numbered.{Numbered, AreApart, AreInverse, IsSparse, is_used, unused}

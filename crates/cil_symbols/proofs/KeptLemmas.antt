@@ -9,7 +9,7 @@ use Rattle.std.proofs.lemmas.Slice.Eq.{bytes_eq-Decides}
 use Rattle.cil_specs.specs.Lookup.{has_name, with_name}
 use Rattle.cil_bind.proofs.PositionLemmas.{any-position, take-last, take-length}
 use Rattle.cil_check.proofs.PositionLemmas.{get-append, get-last}
-use Rattle.cil_optionals.proofs.GreatestLemmas.{got-push}
+use Rattle.cil_optionals.proofs.DependentLemmas.{got-push}
 use Rattle.cil_symbols.specs.Kept.{AreKept, IsPut}
 use Rattle.cil_symbols.specs.Numbered.{Numbered, is_used}
 use Rattle.cil_symbols.proofs.InverseLemmas.{any-stands, listed}

@@ -93,7 +93,7 @@ module _ {A B : Type 0} (old : Resolved A) (new : Resolved B) (names : List (Lis
         record {
           kind = same-kind rule.kind other.kind (ap (λ c. c.kind) same);
           class = same-symbol rule.class other.class first.class second.class (ap (λ c. c.the_class) same);
-          permissions = λ p. same-permissions p rule.permissions.items other.permissions.items first.permissions second.permissions (ap (λ c. c.permissions) same);
+          permissions = λ p. same-permissions p rule.permissions other.permissions first.permissions second.permissions (ap (λ c. c.permissions) same);
         }
 
     -- the same members make it cover the same

@@ -14,7 +14,7 @@ use Rattle.cil_table_updates.specs.declared.policy.Policy.{Policy}
 
 -- whether a symbol is that of one of a rule's permissions
 abbrev pub lists : {A : Type 0} → List ℕ → NumberedRule A → ℕ → Bool
-lists symbols rule p = list_any (λ q. p == slice_index symbols q) rule.permissions.items
+lists symbols rule p = list_any (λ q. p == slice_index symbols q) rule.permissions
 
 -- whether a rule's class and permissions give an access to what a source reaches
 abbrev pub gives_as : {A B : Type 0} → List ℕ → NumberedRule A → Reach B → SymbolKey → ℕ → Bool

@@ -40,7 +40,7 @@ fn shift_as<A: Allocator + Copy>(
     ensures adjustments { OnOk result (RisesBy (shifts policy.now.numbering.now.symbols rule.now was.now is.now) (adjustments_in meter.old) (adjustments_in meter.new)) }
     ensures evaluations { evaluations_in meter.new ≡ evaluations_in meter.old }
 {
-    let permissions = permission_symbols(alloc, policy.numbering, &rule.permissions)?;
+    let permissions = permission_symbols(alloc, policy.numbering, rule.permissions.as_slice())?;
     let class = symbol_of(policy.numbering, rule.class);
     let moved = tables.shift(alloc, rule.kind, class, &permissions, was, is)?;
     meter.adjusted(moved);

@@ -63,24 +63,24 @@ module _ {A B : Type 0} (r : Resolved A) (members : Members B) (by : HoldByNumbe
       unfolding gives_at covers_at
       gives-named rule below declared =
           let named = rule_of r.modules.items r.names.items rule in
-          let source_below = and-first (is_element_below count rule.source) (is_target_below count rule.target && (nat_lt rule.class count && list_all (λ p. nat_lt p count) rule.permissions.items)) below in
-          let rest_below = and-second (is_element_below count rule.source) (is_target_below count rule.target && (nat_lt rule.class count && list_all (λ p. nat_lt p count) rule.permissions.items)) below in
-          let target_below = and-first (is_target_below count rule.target) (nat_lt rule.class count && list_all (λ p. nat_lt p count) rule.permissions.items) rest_below in
-          let last_below = and-second (is_target_below count rule.target) (nat_lt rule.class count && list_all (λ p. nat_lt p count) rule.permissions.items) rest_below in
-          let class_below = ltb-true rule.class count (and-first (nat_lt rule.class count) (list_all (λ p. nat_lt p count) rule.permissions.items) last_below) in
-          let permissions_below = and-second (nat_lt rule.class count) (list_all (λ p. nat_lt p count) rule.permissions.items) last_below in
+          let source_below = and-first (is_element_below count rule.source) (is_target_below count rule.target && (nat_lt rule.class count && list_all (λ p. nat_lt p count) rule.permissions)) below in
+          let rest_below = and-second (is_element_below count rule.source) (is_target_below count rule.target && (nat_lt rule.class count && list_all (λ p. nat_lt p count) rule.permissions)) below in
+          let target_below = and-first (is_target_below count rule.target) (nat_lt rule.class count && list_all (λ p. nat_lt p count) rule.permissions) rest_below in
+          let last_below = and-second (is_target_below count rule.target) (nat_lt rule.class count && list_all (λ p. nat_lt p count) rule.permissions) rest_below in
+          let class_below = ltb-true rule.class count (and-first (nat_lt rule.class count) (list_all (λ p. nat_lt p count) rule.permissions) last_below) in
+          let permissions_below = and-second (nat_lt rule.class count) (list_all (λ p. nat_lt p count) rule.permissions) last_below in
           let source_declared = and-first (is_element_of (meaning_in r).types (meaning_in r).attributes named.source) _ declared in
           let rest_declared = and-second (is_element_of (meaning_in r).types (meaning_in r).attributes named.source) _ declared in
           let target_declared = and-first (is_aim_of (meaning_in r).types (meaning_in r).attributes named.target) _ rest_declared in
           ap (λ b. (kind_index (rule_kind_of rule.kind) == kind_index (rule_kind_of kind)) && b)
-          (ap (λ b. b && (aims_at members rule.target key.source t && ((rule.class == key.class) && names_permission rule.permissions.items key.permission)))
+          (ap (λ b. b && (aims_at members rule.target key.source t && ((rule.class == key.class) && names_permission rule.permissions key.permission)))
           (by.of_kept rule.source key.source source_below source_low (by.declared named.source source_declared))
-          ∙ ap (λ b. holds (meaning_in r) named.source (name_in r key.source) && (b && ((rule.class == key.class) && names_permission rule.permissions.items key.permission)))
+          ∙ ap (λ b. holds (meaning_in r) named.source (name_in r key.source) && (b && ((rule.class == key.class) && names_permission rule.permissions key.permission)))
           (aim-named rule.target key.source t source_low target_low target_below target_declared)
-          ∙ ap (λ b. holds (meaning_in r) named.source (name_in r key.source) && (aims (meaning_in r) named.target (name_in r key.source) (name_in r t) && (b && names_permission rule.permissions.items key.permission)))
+          ∙ ap (λ b. holds (meaning_in r) named.source (name_in r key.source) && (aims (meaning_in r) named.target (name_in r key.source) (name_in r t) && (b && names_permission rule.permissions key.permission)))
           (sym (same-name r.names.items rule.class key.class r.ordered class_below class_low))
           ∙ ap (λ b. holds (meaning_in r) named.source (name_in r key.source) && (aims (meaning_in r) named.target (name_in r key.source) (name_in r t) && (bytes_eq named.the_class (name_in r key.class) && b)))
-          (permission-named key.permission rule.permissions.items permission_low permissions_below))
+          (permission-named key.permission rule.permissions permission_low permissions_below))
 
       counts-named : (rules : List (NumberedRule A)) → list_all (is_rule_below count) rules ≡ true
           → list_all (is_rule_of (meaning_in r).types (meaning_in r).attributes (meaning_in r).classes) (map (rule_of r.modules.items r.names.items) rules) ≡ true
@@ -112,17 +112,17 @@ module _ {A B : Type 0} (r : Resolved A) (members : Members B) (by : HoldByNumbe
     source : is_element_below count rule.source ≡ true
     target : is_target_below count rule.target ≡ true
     class : rule.class < count
-    permissions : list_all (λ p. nat_lt p count) rule.permissions.items ≡ true
+    permissions : list_all (λ p. nat_lt p count) rule.permissions ≡ true
 
   is-below : (rule : NumberedRule A) → is_rule_below count rule ≡ true → IsBelow rule
   is-below rule below =
-      let rest = and-second (is_element_below count rule.source) (is_target_below count rule.target && (nat_lt rule.class count && list_all (λ p. nat_lt p count) rule.permissions.items)) below in
-      let last = and-second (is_target_below count rule.target) (nat_lt rule.class count && list_all (λ p. nat_lt p count) rule.permissions.items) rest in
+      let rest = and-second (is_element_below count rule.source) (is_target_below count rule.target && (nat_lt rule.class count && list_all (λ p. nat_lt p count) rule.permissions)) below in
+      let last = and-second (is_target_below count rule.target) (nat_lt rule.class count && list_all (λ p. nat_lt p count) rule.permissions) rest in
       record {
-        source = and-first (is_element_below count rule.source) (is_target_below count rule.target && (nat_lt rule.class count && list_all (λ p. nat_lt p count) rule.permissions.items)) below;
-        target = and-first (is_target_below count rule.target) (nat_lt rule.class count && list_all (λ p. nat_lt p count) rule.permissions.items) rest;
-        class = ltb-true rule.class count (and-first (nat_lt rule.class count) (list_all (λ p. nat_lt p count) rule.permissions.items) last);
-        permissions = and-second (nat_lt rule.class count) (list_all (λ p. nat_lt p count) rule.permissions.items) last;
+        source = and-first (is_element_below count rule.source) (is_target_below count rule.target && (nat_lt rule.class count && list_all (λ p. nat_lt p count) rule.permissions)) below;
+        target = and-first (is_target_below count rule.target) (nat_lt rule.class count && list_all (λ p. nat_lt p count) rule.permissions) rest;
+        class = ltb-true rule.class count (and-first (nat_lt rule.class count) (list_all (λ p. nat_lt p count) rule.permissions) last);
+        permissions = and-second (nat_lt rule.class count) (list_all (λ p. nat_lt p count) rule.permissions) last;
       }
 
   aim-past : (target : ResolvedTarget) (s t : ℕ) → s < t → count ≤ t → is_target_below count target ≡ true → aims_at members target s t ≡ false
@@ -148,11 +148,11 @@ module _ {A B : Type 0} (r : Resolved A) (members : Members B) (by : HoldByNumbe
     falls h a c p (inr (inr (inl e))) = ap (λ b. h && (a && (b && p))) e ∙ ap (λ b. h && b) (and-false a) ∙ and-false h
     falls h a c p (inr (inr (inr e))) = ap (λ b. h && (a && (c && b))) e ∙ ap (λ b. h && (a && b)) (and-false c) ∙ ap (λ b. h && b) (and-false a) ∙ and-false h
 
-    gives-none : ((is_held_in members rule.source key.source ≡ false) ⊎ ((aims_at members rule.target key.source t ≡ false) ⊎ (((rule.class == key.class) ≡ false) ⊎ (names_permission rule.permissions.items key.permission ≡ false))))
+    gives-none : ((is_held_in members rule.source key.source ≡ false) ⊎ ((aims_at members rule.target key.source t ≡ false) ⊎ (((rule.class == key.class) ≡ false) ⊎ (names_permission rule.permissions key.permission ≡ false))))
         → gives_at members kind key t rule ≡ false
     unfolding gives_at covers_at
     gives-none one =
-        ap (λ b. is_kind && b) (falls (is_held_in members rule.source key.source) (aims_at members rule.target key.source t) (rule.class == key.class) (names_permission rule.permissions.items key.permission) one) ∙ and-false is_kind
+        ap (λ b. is_kind && b) (falls (is_held_in members rule.source key.source) (aims_at members rule.target key.source t) (rule.class == key.class) (names_permission rule.permissions key.permission) one) ∙ and-false is_kind
 
     none-source : count ≤ key.source → gives_at members kind key t rule ≡ false
     none-source past = gives-none (inl (by.past rule.source key.source is.source past))
@@ -168,7 +168,7 @@ module _ {A B : Type 0} (r : Resolved A) (members : Members B) (by : HoldByNumbe
     none-class past = let low = is.class in gives-none (inr (inr (inl (ne_eqb rule.class key.class (λ e. omega (arith, e, low, past))))))
 
     none-permission : count ≤ key.permission → gives_at members kind key t rule ≡ false
-    none-permission past = gives-none (inr (inr (inr (none-named key.permission rule.permissions.items past is.permissions))))
+    none-permission past = gives-none (inr (inr (inr (none-named key.permission rule.permissions past is.permissions))))
 
   -- where the counters are those by numbers, they are those of the access tables
   pub are-tables : {C : Type 0} (tables : Tables C) → is_consistent (meaning_in r) ≡ true

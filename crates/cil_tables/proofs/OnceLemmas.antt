@@ -87,7 +87,7 @@ given-once false aimed classed k xs rising = counted-none xs
 
 -- the counters where each permission is added once
 pub added-rule : {A B : Type 0} (members : Members B) (rule : NumberedRule A) (items list : List ℕ) (i : ℕ) (old now : LineKey → ℕ → ℕ) → length items ≤ i → items ≡ list → IsStrictlyIncreasing list
-    → ((p : ℕ) → names_permission list p ≡ names_permission rule.permissions.items p)
+    → ((p : ℕ) → names_permission list p ≡ names_permission rule.permissions p)
     → ((key : LineKey) (t : ℕ) → now key t ≡ old key t + count_by (λ p. covers_with members rule (p == key.permission) key t) (take i items))
     → (key : LineKey) (t : ℕ) → now key t ≡ old key t + one_if (covers_at members rule key t)
 unfolding covers_at

@@ -34,7 +34,7 @@ names_permission permissions p = list_any (nat_eq p) permissions
 
 -- whether a rule covers an access, by the numbers of the names
 unfoldable pub covers_at : {A B : Type 0} → Members B → NumberedRule A → LineKey → ℕ → Bool
-covers_at members rule key t = covers_with members rule (names_permission rule.permissions.items key.permission) key t
+covers_at members rule key t = covers_with members rule (names_permission rule.permissions key.permission) key t
 
 -- whether a rule of a kind gives it
 unfoldable pub gives_at : {A B : Type 0} → Members B → RuleKind → LineKey → ℕ → NumberedRule A → Bool

@@ -75,7 +75,7 @@ pub fn add_rule<A: Allocator + Copy>(
     requires { IsShort members.now rule.now }
     ensures { OnOk result ((key : LineKey) (t : ℕ) → counter lines.new key t ≡ counter lines.old key t + one_if (covers_at members.now rule.now key t)) }
 {
-    let permissions = distinct(alloc, &rule.permissions)?;
+    let permissions = distinct(alloc, rule.permissions.as_slice())?;
     for permission in &permissions {
         add_permission(lines, alloc, members, rule, *permission)?;
     }

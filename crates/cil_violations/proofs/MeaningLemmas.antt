@@ -81,7 +81,7 @@ pub record IsSound {A : Type 0} (r : Resolved A) (rule : NumberedRule A) : Type 
   pub source_below : is_element_below (length r.names.items) rule.source ≡ true
   pub target_below : is_target_below (length r.names.items) rule.target ≡ true
   pub class_below : rule.class < length r.names.items
-  pub permissions_below : list_all (λ p. nat_lt p (length r.names.items)) rule.permissions.items ≡ true
+  pub permissions_below : list_all (λ p. nat_lt p (length r.names.items)) rule.permissions ≡ true
   pub source_kept : is_element_of (meaning_in r).types (meaning_in r).attributes (element_of r.names.items rule.source) ≡ true
   pub target_kept : is_aim_of (meaning_in r).types (meaning_in r).attributes (resolved_target_of r.names.items rule.target) ≡ true
 
@@ -119,20 +119,20 @@ module _ {A B : Type 0} (r : Resolved A) (members : Members B) (hold : HoldByNum
   -- what a rule covers, by numbers and by names
   module _ (rule : NumberedRule A) (sound : IsSound r rule) (source target : ℕ) (source_low : source < length r.names.items) (target_low : target < length r.names.items) where
     pub covers-to : is_held_in members rule.source source ≡ true → is_held_in members (aim_of rule.target source) target ≡ true → (c p : List ℕ) → name_in r rule.class ≡ c
-        → list_any (bytes_eq p) (map (name_in r) rule.permissions.items) ≡ true → covers (meaning_in r) (rule_of r.modules.items r.names.items rule) (name_in r source) (name_in r target) c p ≡ true
+        → list_any (bytes_eq p) (map (name_in r) rule.permissions) ≡ true → covers (meaning_in r) (rule_of r.modules.items r.names.items rule) (name_in r source) (name_in r target) c p ≡ true
     covers-to held aimed c p the_class listed =
         let m = meaning_in r in
         and_from (holds m (element_of r.names.items rule.source) (name_in r source)) _ (sym (held-source rule.source sound.source_below sound.source_kept source source_low) ∙ held)
         (and_from (aims m (resolved_target_of r.names.items rule.target) (name_in r source) (name_in r target)) _ (sym (held-aim rule.target sound.target_below sound.target_kept source target source_low target_low) ∙ aimed)
-        (and_from (bytes_eq (name_in r rule.class) c) (list_any (bytes_eq p) (map (name_in r) rule.permissions.items)) (same-bytes (name_in r rule.class) c the_class) listed))
+        (and_from (bytes_eq (name_in r rule.class) c) (list_any (bytes_eq p) (map (name_in r) rule.permissions)) (same-bytes (name_in r rule.class) c the_class) listed))
 
     pub covers-from : (c p : List ℕ) → covers (meaning_in r) (rule_of r.modules.items r.names.items rule) (name_in r source) (name_in r target) c p ≡ true
-        → (is_held_in members rule.source source ≡ true) × (is_held_in members (aim_of rule.target source) target ≡ true) × (name_in r rule.class ≡ c) × (list_any (bytes_eq p) (map (name_in r) rule.permissions.items) ≡ true)
+        → (is_held_in members rule.source source ≡ true) × (is_held_in members (aim_of rule.target source) target ≡ true) × (name_in r rule.class ≡ c) × (list_any (bytes_eq p) (map (name_in r) rule.permissions) ≡ true)
     covers-from c p covered =
         let m = meaning_in r in
         let first = and_parts (holds m (element_of r.names.items rule.source) (name_in r source)) _ covered in
         let second = and_parts (aims m (resolved_target_of r.names.items rule.target) (name_in r source) (name_in r target)) _ first.1 in
-        let third = and_parts (bytes_eq (name_in r rule.class) c) (list_any (bytes_eq p) (map (name_in r) rule.permissions.items)) second.1 in (
+        let third = and_parts (bytes_eq (name_in r rule.class) c) (list_any (bytes_eq p) (map (name_in r) rule.permissions)) second.1 in (
           held-source rule.source sound.source_below sound.source_kept source source_low ∙ first.0,
           held-aim rule.target sound.target_below sound.target_kept source target source_low target_low ∙ second.0,
           bytes-same (name_in r rule.class) c third.0,

@@ -24,13 +24,13 @@ ordered-list xs ys zs moved sorted rid = record {
 }
 
 -- one more list, of the next rule
-pub each-more : {A : Type 0} (rules : List (NumberedRule A)) (lists : List (List ℕ)) (list : List ℕ) (k : ℕ) (rule : NumberedRule A) → length lists ≡ k → slice_get rules k ≡ Some rule → IsOrdered rule.permissions.items list
-    → ((i : ℕ) (r : NumberedRule A) → i < k → slice_get rules i ≡ Some r → IsOrdered r.permissions.items (get_or lists i []))
-    → (i : ℕ) (r : NumberedRule A) → i < k + 1 → slice_get rules i ≡ Some r → IsOrdered r.permissions.items (get_or (lists ++ list ∷ []) i [])
+pub each-more : {A : Type 0} (rules : List (NumberedRule A)) (lists : List (List ℕ)) (list : List ℕ) (k : ℕ) (rule : NumberedRule A) → length lists ≡ k → slice_get rules k ≡ Some rule → IsOrdered rule.permissions list
+    → ((i : ℕ) (r : NumberedRule A) → i < k → slice_get rules i ≡ Some r → IsOrdered r.permissions (get_or lists i []))
+    → (i : ℕ) (r : NumberedRule A) → i < k + 1 → slice_get rules i ≡ Some r → IsOrdered r.permissions (get_or (lists ++ list ∷ []) i [])
 each-more rules lists list k rule len at is each i r below there = elim (cases_eq i k) [
   | inl same ↦
-      subst (λ l. IsOrdered r.permissions.items l) (sym (ap (λ j. get_or (lists ++ list ∷ []) j []) (same ∙ sym len) ∙ get_or-append_seam lists list [] []))
-      (subst (λ (x : NumberedRule _). IsOrdered x.permissions.items list) (same_Some rule r (sym at ∙ ap (slice_get rules) (sym same) ∙ there)) is)
+      subst (λ l. IsOrdered r.permissions l) (sym (ap (λ j. get_or (lists ++ list ∷ []) j []) (same ∙ sym len) ∙ get_or-append_seam lists list [] []))
+      (subst (λ (x : NumberedRule _). IsOrdered x.permissions list) (same_Some rule r (sym at ∙ ap (slice_get rules) (sym same) ∙ there)) is)
   | inr apart ↦
-      subst (λ l. IsOrdered r.permissions.items l) (sym (get_or-append lists (list ∷ []) [] i (omega (arith, below, apart, len)))) (each i r (omega (arith, below, apart)) there)
+      subst (λ l. IsOrdered r.permissions l) (sym (get_or-append lists (list ∷ []) [] i (omega (arith, below, apart, len)))) (each i r (omega (arith, below, apart)) there)
 ]

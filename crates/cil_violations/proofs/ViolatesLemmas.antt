@@ -168,9 +168,9 @@ module _ {A : Type 0} (s : Search A) (is : IsSearch s) where
       (any-map f (λ y. y ≡ f rule) (rules_in s)
       (any_weaker (λ x. x ≡ rule) (λ x. f x ≡ f rule) (λ x e. ap f e) (rules_in s) (contains_to (rules_in s) rule (i, slice_get_within (rules_in s) i rule at, get_or_from_slice_get (rules_in s) i rule rule at))))
 
-  permission-low : (rule : NumberedRule A) → IsSound s.resolved.now rule → (q : ℕ) → Contains rule.permissions.items q → q < length s.resolved.now.names.items
+  permission-low : (rule : NumberedRule A) → IsSound s.resolved.now rule → (q : ℕ) → Contains rule.permissions q → q < length s.resolved.now.names.items
   permission-low rule sound q there =
-      ltb-true q (length s.resolved.now.names.items) (all-any (λ p. nat_lt p (length s.resolved.now.names.items)) rule.permissions.items q sound.permissions_below (contains_to rule.permissions.items q there))
+      ltb-true q (length s.resolved.now.names.items) (all-any (λ p. nat_lt p (length s.resolved.now.names.items)) rule.permissions q sound.permissions_below (contains_to rule.permissions q there))
 
   module _ (row : RowNumbers) (m : Meets row) where
     first : List ℕ
@@ -196,9 +196,9 @@ module _ {A : Type 0} (s : Search A) (is : IsSearch s) where
         let in_allowed = ((is.permissions.each row.allowed m.allowed m.allowed_at).same q).0 also in
         and_from _ _
         (covers-to r s.members.now hold m.never never_sound row.source row.target m.source_low m.target_low m.never_source m.never_target (name m.never.class) p refl
-        (subst (λ t. list_any (bytes_eq t) (map name m.never.permissions.items) ≡ true) (sym p_is) (listed-to name m.never.permissions.items q in_never)))
+        (subst (λ t. list_any (bytes_eq t) (map name m.never.permissions) ≡ true) (sym p_is) (listed-to name m.never.permissions q in_never)))
         (covers-to r s.members.now hold m.allowed allowed_sound row.source row.target m.source_low m.target_low m.allowed_source m.allowed_target (name m.never.class) p classes
-        (subst (λ t. list_any (bytes_eq t) (map name m.allowed.permissions.items) ≡ true) (sym p_is) (listed-to name m.allowed.permissions.items q in_allowed)))
+        (subst (λ t. list_any (bytes_eq t) (map name m.allowed.permissions) ≡ true) (sym p_is) (listed-to name m.allowed.permissions q in_allowed)))
 
     uncovered : (p : List ℕ) → (covers (meaning_in s.resolved.now) (violation_of row m.never m.allowed).never (name_in s.resolved.now row.source) (name_in s.resolved.now row.target) (name_in s.resolved.now m.never.class) p
         && covers (meaning_in s.resolved.now) (violation_of row m.never m.allowed).allowed (name_in s.resolved.now row.source) (name_in s.resolved.now row.target) (name_in s.resolved.now m.never.class) p) ≡ true
@@ -209,12 +209,12 @@ module _ {A : Type 0} (s : Search A) (is : IsSearch s) where
         let parts = and_parts _ _ both in
         let one = covers-from r s.members.now hold m.never never_sound row.source row.target m.source_low m.target_low (name m.never.class) p parts.0 in
         let two = covers-from r s.members.now hold m.allowed allowed_sound row.source row.target m.source_low m.target_low (name m.never.class) p parts.1 in
-        let (q, here, q_is) = listed-from name p m.never.permissions.items one.3 in
-        let (k, there, k_is) = listed-from name p m.allowed.permissions.items two.3 in
+        let (q, here, q_is) = listed-from name p m.never.permissions one.3 in
+        let (k, there, k_is) = listed-from name p m.allowed.permissions two.3 in
         let same = same-number r.names.items q k r.ordered (permission-low m.never never_sound q here) (permission-low m.allowed allowed_sound k there) (sym q_is ∙ k_is) in
         subst (Contains (map name (shared (permissions_at s row.never) (permissions_at s row.allowed)))) (sym q_is)
         (shared-to name (permissions_at s row.never) (permissions_at s row.allowed) q (((is.permissions.each row.never m.never m.never_at).same q).1 here)
-        (((is.permissions.each row.allowed m.allowed m.allowed_at).same q).1 (subst (Contains m.allowed.permissions.items) (sym same) there)))
+        (((is.permissions.each row.allowed m.allowed m.allowed_at).same q).1 (subst (Contains m.allowed.permissions) (sym same) there)))
 
     shared-low : AllByRecursion (λ k. k < length s.resolved.now.names.items) (shared (permissions_at s row.never) (permissions_at s row.allowed))
     shared-low =
@@ -292,8 +292,8 @@ module _ {A : Type 0} (s : Search A) (is : IsSearch s) where
       let two =
       covers-from r s.members.now hold a a_sound source target source_low target_low v.the_class p (subst (λ t. covers m (f a) t (name target) v.the_class p ≡ true) source_is (subst (λ t. covers m (f a) v.source t v.the_class p ≡ true) target_is a_covers)) in
       let same_class = same-number r.names.items a.class n.class r.ordered a_sound.class_below n_sound.class_below (two.2 ∙ sym one.2) in
-      let (q, here, q_is) = listed-from name p n.permissions.items one.3 in
-      let (k, there, k_is) = listed-from name p a.permissions.items two.3 in
+      let (q, here, q_is) = listed-from name p n.permissions one.3 in
+      let (k, there, k_is) = listed-from name p a.permissions two.3 in
       let same = same-number r.names.items q k r.ordered (permission-low n n_sound q here) (permission-low a a_sound k there) (sym q_is ∙ k_is) in
       let row : RowNumbers = record { never = i; allowed = j; source = source; target = target } in
       let met : Meets row = record {
@@ -306,7 +306,7 @@ module _ {A : Type 0} (s : Search A) (is : IsSearch s) where
         the_class = eq-eqb a.class n.class same_class;
         shares =
             share-to (permissions_at s i) (permissions_at s j) q (((is.permissions.each i n n_at).same q).1 here)
-            (((is.permissions.each j a a_at).same q).1 (subst (Contains a.permissions.items) (sym same) there));
+            (((is.permissions.each j a a_at).same q).1 (subst (Contains a.permissions) (sym same) there));
         source_low = source_low;
         target_low = target_low;
         never_source = one.0;

@@ -13,7 +13,7 @@ pub record IsOrdered (numbers ordered : List ℕ) : Type 0 where
 -- for each rule its permissions, ordered so
 pub record AreOrdered {A : Type 0} (rules : List (NumberedRule A)) (lists : List (List ℕ)) : Type 0 where
   pub len : length lists ≡ length rules
-  pub each : (i : ℕ) (r : NumberedRule A) → slice_get rules i ≡ Some r → IsOrdered r.permissions.items (slice_index_or lists i [])
+  pub each : (i : ℕ) (r : NumberedRule A) → slice_get rules i ≡ Some r → IsOrdered r.permissions (slice_index_or lists i [])
 
 -- whether a permission is among some
 abbrev pub is_among : List ℕ → ℕ → Bool

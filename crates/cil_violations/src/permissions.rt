@@ -28,7 +28,7 @@ pub fn ordered_permissions<A: Allocator + Copy>(
 {
     let mut lists = Lists::with_capacity(alloc, rules.len(), rules.len())?;
     for rule in rules {
-        lists.extend(&ordered(alloc, &rule.permissions)?)?;
+        lists.extend(&ordered(alloc, rule.permissions.as_slice())?)?;
         lists.close()?;
     }
     Ok(lists)

@@ -1,6 +1,6 @@
 //! The memory and the steps of a shift.
 
-ghost use Rattle.std.specs.Prelude.{◌≡◌, ℕ, ◌+◌, ◌<◌, ◌≤◌, ◌^◌, length, OnOk};
+ghost use Rattle.std.specs.Prelude.{◌≡◌, ◌↔◌, ℕ, ◌+◌, ◌<◌, ◌≤◌, ◌^◌, length, min, IsTrue, OnOk};
 ghost use Rattle.cil_lines.specs.Limit.{CanLower, CanRaise};
 ghost use Rattle.cil_recorded.specs.Log.{hit_at};
 ghost use Rattle.cil_recorded.specs.Recorded.{count_before, count_now, limit_now, lines_in, spare, steps_in};
@@ -45,7 +45,7 @@ pub fn lower<A: Allocator>(rows: &mut RecordedLines<A>, row: usize, word: usize,
     requires log { 0 < spare rows.old }
     requires above { CanLower (count_now rows.old row) word mask }
     ensures lines { lines_in rows.new ≡ lines_in rows.old }
-    ensures steps { steps_in rows.new ≤ steps_in rows.old + 1 }
+    ensures steps { steps_in rows.new ≡ steps_in rows.old + min 1 mask }
     ensures spare { spare rows.old ≤ spare rows.new + 1 }
     ensures now { (r t : ℕ) → count_now rows.new r t + hit_at row word mask r t ≡ count_now rows.old r t }
     ensures before { (r t : ℕ) → count_before rows.new r t ≡ count_before rows.old r t }
@@ -62,11 +62,18 @@ pub fn raise<A: Allocator>(rows: &mut RecordedLines<A>, row: usize, word: usize,
     requires log { 0 < spare rows.old }
     requires room { CanRaise (count_now rows.old row) (limit_now rows.old row) word mask }
     ensures lines { lines_in rows.new ≡ lines_in rows.old }
-    ensures steps { steps_in rows.new ≤ steps_in rows.old + 1 }
+    ensures steps { steps_in rows.new ≡ steps_in rows.old + min 1 mask }
     ensures now { (r t : ℕ) → count_now rows.new r t ≡ count_now rows.old r t + hit_at row word mask r t }
     ensures before { (r t : ℕ) → count_before rows.new r t ≡ count_before rows.old r t }
 {
     if mask != 0 {
         rows.raise(row, word, mask);
     }
+}
+
+/// Whether any types go or come.
+pub fn is_step(gone: u64, come: u64) -> bool
+    ensures { IsTrue result ↔ (0 < gone + come) }
+{
+    gone != 0 || come != 0
 }

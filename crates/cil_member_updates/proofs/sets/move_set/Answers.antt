@@ -1,4 +1,4 @@
-use Rattle.std.proofs.Common.{◌∙◌, ◌≤◌, length, refl, sym, arith}
+use Rattle.std.proofs.Common.{◌∙◌, ◌+◌, ◌/◌, ◌≤◌, length, refl, sym, ap, arith}
 use Rattle.cil_member_rows.specs.Rows.{count_before, count_now}
 use Rattle.cil_resolve.specs.Meter.{evaluations_in}
 use Rattle.cil_resolve.specs.Resolved.{meaning_in}
@@ -9,15 +9,18 @@ use Rattle.cil_member_updates.proofs.EvaluatedLemmas.{moved-within, words-all, w
 use Rattle.cil_member_updates.proofs.GivenLemmas.{tell-same}
 use Rattle.cil_member_updates.proofs.MovedLemmas.{moved-none, moved-more, moved-all, moved-other}
 use Rattle.cil_member_updates.proofs.SideLemmas.{gave-mentioned, given-mentioned, given-past}
+use Rattle.cil_member_updates.proofs.RenewLemmas.{same-attribute}
+use Rattle.cil_member_updates.proofs.StayLemmas.{stay-gives, stay-unmoved}
+use Rattle.cil_sums.proofs.WithinLemmas.{within-none}
 use Rattle.cil_member_updates.proofs.sets.move_set.Goals as goal
 
-pub move_word-requires-clause-was : goal.move_word-requires-clause-was
-move_word-requires-clause-was g c =
+pub move_word_unless_alike-requires-clause-was : goal.move_word_unless_alike-requires-clause-was
+move_word_unless_alike-requires-clause-was g c =
     let r = c.args.old.now.resolved.now in
     tell-same c.args.symbols.now (meaning_in r) (set_at r c.args.i) (count_before c.args.rows.now) (count_before c.loop-word.rows) c.requires.was (λ a t attribute at mentioned. c.loop-word.invariant.before a t)
 
-pub move_word-requires-clause-is : goal.move_word-requires-clause-is
-move_word-requires-clause-is g c =
+pub move_word_unless_alike-requires-clause-is : goal.move_word_unless_alike-requires-clause-is
+move_word_unless_alike-requires-clause-is g c =
     let p = c.args.old.now.resolved.now in
     let r = c.args.new.now.resolved.now in
     let order = c.resolved_sets_are_in_order.ensures.in_order in
@@ -27,8 +30,8 @@ move_word-requires-clause-is g c =
     (gave-mentioned c.args.symbols.now p r order c.args.i c.args.j c.requires.same c.requires.j_within a t attribute at mentioned
     ∙ sym (given-mentioned c.args.symbols.now r order c.args.j c.requires.j_within a t attribute at mentioned)))
 
-pub move_word-requires-clause-above : goal.move_word-requires-clause-above
-move_word-requires-clause-above g c a t here =
+pub move_word_unless_alike-requires-clause-above : goal.move_word_unless_alike-requires-clause-above
+move_word_unless_alike-requires-clause-above g c a t here =
     let same = c.loop-word.invariant.moved.behind a t (omega (arith, here)) in
     let above = c.requires.above a t in
     omega (arith, same, above)
@@ -53,14 +56,14 @@ loop-word-preserved g c =
     let q = c.args.new.now.resolved.now in
     let may = IsUnsettled c.args.symbols.now (meaning_in p) (meaning_in q) (set_at q c.args.j) in
     let must = IsMovedAt c.args.symbols.now (meaning_in p) (set_at p c.args.i) (meaning_in q) (set_at q c.args.j) in
-    let step = c.in_ok-move_word.ensures in
+    let step = c.in_ok-move_word_unless_alike.ensures in
     record {
       moved =
-          moved-more (given c.args.symbols.now c.args.old.now.resolved.now c.args.i) (given c.args.symbols.now c.args.new.now.resolved.now c.args.j) c.loop-word.word (count_now c.args.rows.now) (count_now c.loop-word.rows) (count_now c.move_word.new.rows)
+          moved-more (given c.args.symbols.now c.args.old.now.resolved.now c.args.i) (given c.args.symbols.now c.args.new.now.resolved.now c.args.j) c.loop-word.word (count_now c.args.rows.now) (count_now c.loop-word.rows) (count_now c.move_word_unless_alike.new.rows)
           c.loop-word.invariant.moved step.now;
       before = λ a t. step.before a t ∙ c.loop-word.invariant.before a t;
       rows = step.rows ∙ c.loop-word.invariant.rows;
-      evaluations = words-next may must c.loop-word.word (evaluations_in c.args.meter.now) (evaluations_in c.loop-word.meter) (evaluations_in c.move_word.new.meter) c.loop-word.invariant.evaluations step.evaluations;
+      evaluations = words-next may must c.loop-word.word (evaluations_in c.args.meter.now) (evaluations_in c.loop-word.meter) (evaluations_in c.move_word_unless_alike.new.meter) c.loop-word.invariant.evaluations step.evaluations;
       adjustments = step.adjustments ∙ c.loop-word.invariant.adjustments;
     }
 
@@ -79,3 +82,23 @@ returns-clause-evaluations g c =
     let must = IsMovedAt c.args.symbols.now (meaning_in p) (set_at p c.args.i) (meaning_in q) (set_at q c.args.j) in
     words-all may must c.loop-word.word (evaluations_in c.args.meter.now) (evaluations_in c.loop-word.meter)
     (λ t held. let low = moved-within c.args.symbols.now (meaning_in p) (meaning_in q) (set_at p c.args.i) (set_at q c.args.j) t held in let end = c.loop-word-test.false in let len = c.len.ensures.len in omega (arith, low, end, len)) c.loop-word.invariant.evaluations
+
+pub returns-then-alike-clause-now : goal.returns-then-alike-clause-now
+unfolding given
+returns-then-alike-clause-now g c a t =
+    let p = c.args.old.now.resolved.now in
+    let q = c.args.new.now.resolved.now in
+    let s = set_at p c.args.i in
+    let r = set_at q c.args.j in
+    let covers = c.stays-stays.ensures c.if-stays.true (t / 64) (c.requires.alike c.if-alike.true (t / 64)) in
+    ap (λ n. count_now c.args.rows.now a t + n) (stay-gives c.args.symbols.now (meaning_in p) (meaning_in q) s r (t / 64) covers (same-attribute s r c.requires.same) a t refl)
+
+pub returns-then-alike-clause-evaluations : goal.returns-then-alike-clause-evaluations
+returns-then-alike-clause-evaluations g c =
+    let p = c.args.old.now.resolved.now in
+    let q = c.args.new.now.resolved.now in
+    let s = set_at p c.args.i in
+    let r = set_at q c.args.j in
+    let symbols = c.args.symbols.now in
+    within-none (IsUnsettled symbols (meaning_in p) (meaning_in q) r) (IsMovedAt symbols (meaning_in p) s (meaning_in q) r) (evaluations_in c.args.meter.now)
+    (λ t. stay-unmoved symbols (meaning_in p) (meaning_in q) s r (t / 64) (c.stays-stays.ensures c.if-stays.true (t / 64) (c.requires.alike c.if-alike.true (t / 64))) t refl)

@@ -1,47 +1,35 @@
-use Rattle.std.proofs.Common.{◌≡◌, ℕ, List, IsTrue, Some, arith, bit_or, bit_xor, slice_get, subst, sym}
-use Rattle.std.proofs.lemmas.List.Elements.{Contains-get_or}
-use Rattle.std.proofs.lemmas.Nat.Bits.{bit_at_or, bit_at_xor, bit_at-lt}
-use Rattle.cil_specs.specs.Rule.{an_attribute}
-use Rattle.cil_specs.specs.Sets.{mentions}
-use Rattle.cil_member_rows.specs.Rows.{count_before, count_now}
+use Rattle.std.proofs.Common.{subst}
 use Rattle.cil_resolve.specs.Resolved.{meaning_in}
-use Rattle.cil_resolve.specs.Sets.{sets_in}
-use Rattle.cil_sets.specs.Places.{no_set, set_at}
-use Rattle.cil_member_updates.specs.Bits.{AreBits}
-use Rattle.cil_member_updates.specs.Given.{keeps}
-use Rattle.cil_member_updates.proofs.NameLemmas.{cover-stayed, mention-there, unchanged-first}
-use Rattle.cil_member_updates.proofs.RenewLemmas.{same-expr}
-use Rattle.cil_member_updates.proofs.SymbolLemmas.{symbol-of}
-use Rattle.cil_member_updates.proofs.TurnedLemmas.{unsettled-bits}
+use Rattle.cil_sets.specs.Places.{set_at}
+use Rattle.cil_specs.specs.Sets.{differ}
+use Rattle.cil_member_updates.specs.Bits.{Cover}
+use Rattle.cil_member_updates.specs.Evaluated.{AreUnsettledAt}
+use Rattle.cil_member_updates.specs.Given.{holds}
+use Rattle.cil_member_updates.proofs.BitLemmas.{cover-either, set-among}
 use Rattle.cil_member_updates.proofs.visits.unsettled.Goals as goal
+
+pub returns-then-bits-eq0-clause-cover : goal.returns-then-bits-eq0-clause-cover
+returns-then-bits-eq0-clause-cover g c =
+    let symbols = c.args.symbols.now in
+    let p = c.args.old.now.resolved.now in
+    let q = c.args.new.now.resolved.now in
+    subst (Cover (λ t. differ (holds symbols (meaning_in p) (set_at p c.args.i) t) (holds symbols (meaning_in q) (set_at q c.args.j) t)) c.args.word) c.if-bits-eq0.true c.touched-bits.ensures.cover
+
+pub returns-then-bits-eq0-clause-unsettled : goal.returns-then-bits-eq0-clause-unsettled
+returns-then-bits-eq0-clause-unsettled g c =
+    let symbols = c.args.symbols.now in
+    let p = c.args.old.now.resolved.now in
+    let q = c.args.new.now.resolved.now in
+    subst (AreUnsettledAt symbols (meaning_in p) (meaning_in q) (set_at q c.args.j) c.args.word) c.if-bits-eq0.true c.touched-bits.ensures.unsettled
 
 pub returns-clause-cover : goal.returns-clause-cover
 returns-clause-cover g c =
+    let symbols = c.args.symbols.now in
     let p = c.args.old.now.resolved.now in
     let q = c.args.new.now.resolved.now in
-    let s = set_at p c.args.i in
-    let r = set_at q c.args.j in
-    let symbols = c.args.symbols.now in
-    let before = count_before c.args.rows.now in
-    let now = count_now c.args.rows.now in
-    let of_attribute : (attribute : List ℕ) → IsTrue (mentions attribute r.expr) → (a : ℕ) × (slice_get symbols a ≡ Some attribute) =
-    (λ attribute mentioned.
-    symbol-of symbols c.args.new.now.numbering.now.symbols q.names.items c.requires.new.numbers attribute
-    (c.resolved_names_are_kept.ensures.attributes attribute
-    (c.resolved_is_sound.ensures.own.mentioned r (an_attribute attribute) ((c.resolved_sets_are_in_order.ensures.the_same r).1 (Contains-get_or (sets_in q) c.args.j no_set c.requires.j_within)) (mention-there attribute r.expr mentioned)))) in
-    cover-stayed symbols (meaning_in p) (meaning_in q) s r (same-expr s r c.requires.same) before now c.requires.was c.requires.is (λ t. c.expressions_agree.ensures (meaning_in p) (meaning_in q) r.expr t) of_attribute c.args.word (bit_or c.changed_by_names-changed.result (bit_xor c.word.result c.word-2.result)) c.word.result c.word-2.result
-    (subst (AreBits (keeps symbols (meaning_in p)) c.args.word) (sym c.word.ensures) (c.requires.old.kept c.args.word))
-    (subst (AreBits (keeps symbols (meaning_in q)) c.args.word) (sym c.word-2.ensures) (c.requires.new.kept c.args.word))
-    (λ element there. unchanged-first symbols before now element c.args.word c.changed_by_names-changed.result (bit_xor c.word.result c.word-2.result) (c.changed_by_names-changed.ensures.unchanged element there))
-    (λ b none. omega (arith, none, bit_at_or c.changed_by_names-changed.result (bit_xor c.word.result c.word-2.result) b, bit_at_xor c.word.result c.word-2.result b, bit_at-lt c.word.result b, bit_at-lt c.word-2.result b))
+    cover-either (holds symbols (meaning_in p) (set_at p c.args.i)) (holds symbols (meaning_in q) (set_at q c.args.j)) c.args.word c.touched-bits.result c.reached-was.result c.reached-is.result
+    c.touched-bits.ensures.cover c.reached-was.ensures c.reached-is.ensures
 
 pub returns-clause-unsettled : goal.returns-clause-unsettled
-returns-clause-unsettled g c =
-    let p = c.args.old.now.resolved.now in
-    let q = c.args.new.now.resolved.now in
-    let symbols = c.args.symbols.now in
-    unsettled-bits symbols (meaning_in p) (meaning_in q) (set_at p c.args.i) (set_at q c.args.j) (same-expr (set_at p c.args.i) (set_at q c.args.j) c.requires.same) (count_before c.args.rows.now) (count_now c.args.rows.now) c.requires.was c.requires.is
-    c.args.word c.changed_by_names-changed.result c.word.result c.word-2.result
-    (subst (AreBits (keeps symbols (meaning_in p)) c.args.word) (sym c.word.ensures) (c.requires.old.kept c.args.word))
-    (subst (AreBits (keeps symbols (meaning_in q)) c.args.word) (sym c.word-2.ensures) (c.requires.new.kept c.args.word))
-    c.changed_by_names-changed.ensures.turned
+returns-clause-unsettled g c = λ b within set keeps.
+    c.touched-bits.ensures.unsettled b within (set-among c.touched-bits.result _ b set) keeps

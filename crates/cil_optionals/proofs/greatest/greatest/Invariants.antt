@@ -1,5 +1,5 @@
-use Rattle.std.proofs.Common.{◌≡◌, ◌+◌, ◌*◌, ◌<◌, false, true, length, All, get_or, sum_by, count_by}
-use Rattle.cil_optionals.proofs.GreatestLemmas.{AllPassed, AreSettled, IsAbove}
+use Rattle.std.proofs.Common.{◌≡◌, ◌+◌, ◌*◌, ◌<◌, false, true, length, All, get_or, count_by}
+use Rattle.cil_optionals.proofs.GreatestLemmas.{AreSettled, IsAbove}
 use Rattle.cil_optionals.proofs.greatest.greatest.Given as goal
 
 abbrev pub invariant-loop-i : goal.invariant-loop-i
@@ -7,11 +7,9 @@ invariant-loop-i g l = record {
   len : length l.kept.items ≡ l.count + 1;
   outside : get_or l.kept.items 0 false ≡ true;
   above : IsAbove l.count l.kept.items l.needs;
-  within : All (λ i. i < length l.needs) l.open.items;
-  settled : AreSettled l.kept.items l.needs l.open.items;
-  marks : length l.passed.items ≡ length l.needs;
-  passed : AllPassed l.kept.items l.needs l.passed.items;
+  within : All (λ i. i < length l.needs) l.«open».items;
+  settled : AreSettled l.kept.items l.needs l.«open».items;
 }
 
 abbrev pub decreases-loop-i : goal.decreases-loop-i
-decreases-loop-i g l = count_by (λ b. b) l.kept.items * sum_by (λ needs. length needs.items) l.dependents.items + length l.open.items
+decreases-loop-i g l = count_by (λ b. b) l.kept.items * length l.dependents.items + length l.«open».items

@@ -1,6 +1,7 @@
 use Rattle.std.proofs.Common.{◌<◌, length, sym, ◌∙◌, subst, None, arith}
 use Rattle.std.proofs.lemmas.Option.{same_Some}
 use Rattle.cil_optionals.specs.Asks.{AddsNeed, IsOf, optional_at}
+use Rattle.cil_optionals.specs.Providers.{IsReady}
 use Rattle.cil_optionals.proofs.AsksLemmas.{row-one, around-low}
 use Rattle.cil_optionals.proofs.ProviderLemmas.{row-of}
 use Rattle.cil_optionals.proofs.OthersLemmas.{of-row, module-low, asks-there, asks-lacking}
@@ -50,7 +51,7 @@ are_there-requires g c =
     let parsed = c.args.joined.now.modules.items in
     let row = c.index-row.result.now in
     let has = row-of p parsed r.0 c.args.i row r.1 c.requires.within c.index-row.ensures in
-    (parsed, r.0, has.s, r.1, has.at, of-row p parsed r.0 c.args.i row c.index.result.now r.1 has c.index.ensures)
+    (r.0, has.s, subst (λ j. IsReady p j.modules.items r.0) (sym c.requires.same) r.1, has.at, of-row p parsed r.0 c.args.i row c.index.result.now r.1 has c.index.ensures)
 
 pub returns-in_ok-add_need-clause-asks : goal.returns-in_ok-add_need-clause-asks
 returns-in_ok-add_need-clause-asks g c = λ all s ready permissions at.

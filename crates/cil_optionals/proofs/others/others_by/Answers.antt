@@ -9,6 +9,7 @@ pub loop-i-init : goal.loop-i-init
 loop-i-init g c = record {
   others = λ all ready permissions. others-none all c.args.policy.now.rows.items _ c.new-needs.ensures.items;
   listed = refl;
+  joined = refl;
 }
 
 pub loop-i-preserved : goal.loop-i-preserved
@@ -16,6 +17,7 @@ loop-i-preserved g c = record {
   others = λ all ready permissions.
       c.in_ok-need_at.ensures.others all ready (subst (λ l. HavePermissions all (permissions_in l.now)) (sym c.loop-i.invariant.listed) permissions) (c.loop-i.invariant.others all ready permissions);
   listed = c.in_ok-need_at.ensures.listed ∙ c.loop-i.invariant.listed;
+  joined = c.in_ok-need_at.ensures.joined ∙ c.loop-i.invariant.joined;
 }
 
 pub returns : goal.returns

@@ -1,5 +1,6 @@
-use Rattle.std.proofs.Common.{◌+◌, sym, ap, ◌∙◌, subst, arith}
+use Rattle.std.proofs.Common.{◌+◌, ◌∷◌, sym, ap, ◌∙◌, subst, arith}
 use Rattle.std.proofs.lemmas.Option.{same_Some}
+use Rattle.std.specs.Option.{option_to_list}
 use Rattle.cil_bind.proofs.DeclareLemmas.{rows-length}
 use Rattle.cil_optionals.specs.Providers.{alternatives, IsDeclaration, AreProviders}
 use Rattle.cil_optionals.proofs.ProviderLemmas.{providers-skip, providers-next, row-nothing, row-scopes, row-of, row-next}
@@ -34,8 +35,8 @@ further_out-next-requires g c =
     let ready = c.requires.ready.2 in
     (row-of p c.requires.ready.0 c.requires.ready.1 c.args.i c.index-row.result.now ready c.requires.within c.index-row.ensures).is.within
 
-pub alternatives-requires : goal.alternatives-requires
-alternatives-requires g c =
+pub name_node-requires : goal.name_node-requires
+name_node-requires g c =
     let few = c.requires.ready.2.few in
     let size = c.args.policy.now.rows.ok.0 in
     let long = c.len.ensures in
@@ -53,5 +54,5 @@ returns g c = λ parsed all ready are.
     (providers-next all p.rows.items c.args.i row has.s c.further_out-next.result _ c.args.needs.now.items ready.apart ready.bound.once ready.nested has.row_at has.at
     (row-next p all c.args.i row c.in-Some.table c.in-Some.word c.further_out-next.result has c.in-Some.is (c.is_scopes.ensures.no c.if-is_scopes.false) (c.further_out-next.ensures p.names all ready.bound.knows))
     (omega (arith, size, count, long))
-    (c.in_ok-from.ensures ∙ ap (λ n. alternatives n row.optional c.further_out-next.result) (let first = c.len.ensures in omega (arith, first, size, long)))
+    (ap (λ n. row.optional ∷ option_to_list n) c.name_node.ensures ∙ ap (λ n. alternatives n row.optional c.further_out-next.result) (let first = c.len.ensures in omega (arith, first, size, long)))
     are)

@@ -2,15 +2,14 @@ use Rattle.std.proofs.Common.{◌≡◌, ◌≤◌, ℕ, length, refl, ap, get_o
 use Rattle.std.proofs.lemmas.List.{get_or_default}
 use Rattle.std.proofs.lemmas.List.Sums.{sum_by_more, sum_by_push}
 use Rattle.cil_recorded.proofs.LogLemmas.{hit_nothing}
-use Rattle.cil_recorded.proofs.TurnLemmas.{ascends-push, next-push, two_turns}
+use Rattle.cil_recorded.proofs.TurnLemmas.{ascends-push, next-push}
 use Rattle.cil_recorded.specs.declared.turn.Turn.{Turn}
-use Rattle.cil_recorded.specs.Differences.{turn_key, key_of}
-use Rattle.cil_recorded.specs.Log.{hit_at}
+use Rattle.cil_recorded.specs.Differences.{balance_of, turn_key, key_of}
 use Rattle.cil_recorded.proofs.turn.merge.Goals as goal
 use Rattle.cil_recorded.proofs.turn.merge.Goals.{then-is_same_word, else-is_same_word+in_ok-push}
 
 abbrev zeros : Turn
-zeros = record { line = 0; word = 0; mask = 0 }
+zeros = record { line = 0; word = 0; low = 0; high = 0 }
 
 least : key_of 0 0 ≡ 0
 unfolding key_of
@@ -18,7 +17,7 @@ least = refl
 
 pub loop-turn-init : goal.loop-turn-init
 loop-turn-init g c =
-    rw c.new-merged.ensures.items (record {
+    rw c.in_ok-merged.ensures.items (record {
       up = tt;
       above = omega arith;
       low = λ k d from within. omega (arith, least);
@@ -34,18 +33,15 @@ loop-turn-preserved g c =
     let ms = c.loop-turn.merged.items in
     let was = c.loop-turn.invariant in
     let low = was.low i zeros (omega arith) c.loop-turn-test.true in
-    let more = λ (l t : ℕ). sum_by_more (λ s. hit_at s.line s.word s.mask l t) xs i zeros c.loop-turn-test.true in
+    let more = λ (l t : ℕ). sum_by_more (λ s. balance_of s l t) xs i zeros c.loop-turn-test.true in
     elim c.if-is_same_word.branch [
       | then-is_same_word w ↦
-          let line : now.line ≡ x.line = c.is_same_word.ensures.line w.if-is_same_word.true in
-          let word : now.word ≡ x.word = c.is_same_word.ensures.word w.if-is_same_word.true in
+          let key : turn_key w.both-current.result ≡ turn_key now = w.both-current.ensures.key in
           rw (w.merged-is, w.current-is) (record {
             up = was.up;
-            above = was.above;
-            low = λ k d le lt. was.low k d (omega arith) lt;
-            turned = λ l t.
-                let here : hit_at now.line now.word x.mask l t ≡ hit_at x.line x.word x.mask l t = λ j. hit_at (line j) (word j) x.mask l t in
-                omega (arith, was.turned l t, more l t, two_turns now.line now.word now.mask x.mask l t, here);
+            above = omega (arith, was.above, key);
+            low = λ k d le lt. let behind = was.low k d (omega arith) lt in omega (arith, behind, key);
+            turned = λ l t. omega (arith, was.turned l t, more l t, w.both-current.ensures.sum l t);
           })
       | else-is_same_word+in_ok-push w ↦
           let other = c.is_same_word.ensures.other w.if-is_same_word.false in
@@ -53,7 +49,7 @@ loop-turn-preserved g c =
             up = ascends-push turn_key 0 ms now was.up was.above;
             above = omega (arith, next-push turn_key 0 ms now, low, other);
             low = λ k d le lt. omega (arith, c.requires i k zeros (omega arith) lt, ap turn_key (get_or_default xs k zeros d lt));
-            turned = λ l t. omega (arith, was.turned l t, more l t, sum_by_push (λ s. hit_at s.line s.word s.mask l t) ms now);
+            turned = λ l t. omega (arith, was.turned l t, more l t, sum_by_push (λ s. balance_of s l t) ms now);
           })
     ]
 
@@ -65,4 +61,4 @@ returns-clause-turned g c l t =
     let xs = c.args.turns.now in
     let past : length xs ≤ c.loop-turn.turn-index = c.loop-turn-test.false in
     let was = rw (take_all c.loop-turn.turn-index xs past) at (c.loop-turn.invariant.turned l t) in
-    rw c.in_ok-push-2.ensures.items (omega (arith, was, sum_by_push (λ s. hit_at s.line s.word s.mask l t) c.loop-turn.merged.items c.loop-turn.current))
+    rw c.in_ok-push-2.ensures.items (omega (arith, was, sum_by_push (λ s. balance_of s l t) c.loop-turn.merged.items c.loop-turn.current))

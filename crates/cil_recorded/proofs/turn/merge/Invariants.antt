@@ -1,7 +1,6 @@
 use Rattle.std.proofs.Common.{◌≡◌, ◌+◌, ◌%◌, ◌<◌, ◌≤◌, ℕ, length, take, get_or}
 use Rattle.cil_recorded.specs.declared.turn.Turn.{Turn}
-use Rattle.cil_recorded.specs.Differences.{Ascends, turned_at, turn_key}
-use Rattle.cil_recorded.specs.Log.{hit_at}
+use Rattle.cil_recorded.specs.Differences.{Ascends, balance_at, balance_of, turn_key}
 use Rattle.cil_recorded.proofs.TurnLemmas.{next}
 use Rattle.cil_recorded.proofs.turn.merge.Given as goal
 
@@ -11,5 +10,5 @@ invariant-loop-turn g l = record {
   up : Ascends turn_key 0 l.merged.items;
   above : next turn_key 0 l.merged.items ≤ turn_key l.current;
   low : (k : ℕ) (d : Turn) → l.turn-index ≤ k → k < length l.turns → turn_key l.current ≤ turn_key (get_or l.turns k d);
-  turned : (m t : ℕ) → (turned_at l.merged.items m t + hit_at l.current.line l.current.word l.current.mask m t + turned_at (take l.turn-index l.turns) m t) % 2 ≡ 0;
+  turned : (m t : ℕ) → (balance_at l.merged.items m t + balance_of l.current m t) % 4 ≡ balance_at (take l.turn-index l.turns) m t % 4;
 }

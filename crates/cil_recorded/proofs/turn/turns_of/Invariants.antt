@@ -1,7 +1,7 @@
 use Rattle.std.proofs.Common.{◌≡◌, ℕ, take}
-use Rattle.cil_recorded.specs.Differences.{turned_at}
+use Rattle.cil_recorded.specs.Differences.{balance_at}
 use Rattle.cil_recorded.specs.Log.{turned_in}
 use Rattle.cil_recorded.proofs.turn.turns_of.Given as goal
 
 abbrev pub invariant-loop-step : goal.invariant-loop-step
-invariant-loop-step g l = (m t : ℕ) → turned_at l.turns.items m t ≡ turned_in (take l.step-index l.log) m t
+invariant-loop-step g l = (m t : ℕ) → balance_at l.turns.items m t ≡ turned_in (take l.step-index l.log) m t

@@ -4,8 +4,13 @@ use Rattle.cil_dependence.specs.Graph.{IsEdge}
 use Rattle.cil_dependence.specs.Items.{AreEachOnce, ComesBefore}
 use Rattle.cil_dependence.proofs.ItemsLemmas.{order-length, order-once}
 use Rattle.cil_resolve.specs.SetOrder.{attributes_in, IsNext, IsSetOrder}
-use Rattle.cil_resolve.proofs.SetOrderLemmas.{attributes-below, both-ok, no-circle, set-order}
+use Rattle.cil_resolve.proofs.SetOrderLemmas.{attributes-below, both-ok, graph-nodes, no-circle, set-order}
 use Rattle.cil_resolve.proofs.set_order.order_of_some.Goals as goal
+
+pub dependence-requires : goal.dependence-requires
+dependence-requires g c =
+    let edges = subst (λ l. (a b : ℕ) → IsEdge l a b ↔ IsNext c.args.sets.now a b) (sym c.deref.ensures.value) c.in_ok-graph.ensures.edges in
+    record { nodes = graph-nodes c.args.sets.now c.deref.result.now edges c.args.names (ap length c.deref.ensures.value ∙ c.in_ok-graph.ensures.nodes) c.requires.within }
 
 pub unreachable-requires : goal.unreachable-requires
 unreachable-requires g c =

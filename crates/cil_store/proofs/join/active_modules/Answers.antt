@@ -25,3 +25,10 @@ pub returns : goal.returns
 returns g c =
     let store = changed c.args.store.now (admitted_edit c.args.edit.now) in
     subst (λ es. AreParsedOf (filter (is_active store) es) c.loop-i.modules.items) (take_all c.loop-i.i store.entries (omega (arith, c.loop-i-test.false, parsed-length store.entries c.args.entries.now c.requires))) c.loop-i.invariant
+
+pub loop-i-preserved-then-not-is_active_after : goal.loop-i-preserved-then-not-is_active_after
+loop-i-preserved-then-not-is_active_after g c =
+    let store = changed c.args.store.now (admitted_edit c.args.edit.now) in
+    let i = c.loop-i.i in
+    let within = subst (λ n. i < n) (parsed-length store.entries c.args.entries.now c.requires) c.loop-i-test.true in
+    active-same store store.entries i (entry_at [] 0) c.loop-i.modules.items within (sym c.is_active_after.ensures ∙ c.if-not-is_active_after.true) c.loop-i.invariant

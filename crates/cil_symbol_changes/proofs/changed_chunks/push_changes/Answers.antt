@@ -1,26 +1,36 @@
-use Rattle.std.proofs.Common.{◌+◌, get_or, take}
-use Rattle.cil_recorded.specs.Differences.{appeared_at, gone_at}
+use Rattle.std.proofs.Common.{arith}
 use Rattle.cil_recorded.specs.Log.{hit_at}
-use Rattle.std.proofs.lemmas.List.Sums.{sum_by_more}
-use Rattle.cil_symbol_changes.proofs.ChangeLemmas.{in-more, known-one, no_change}
+use Rattle.cil_recorded.proofs.LogLemmas.{hit_nothing}
+use Rattle.cil_symbol_changes.specs.Gained.{IsIn}
+use Rattle.cil_symbol_changes.specs.SourceOrder.{appeared_in, gone_in}
+use Rattle.cil_symbol_changes.proofs.ChangeLemmas.{in-all}
+use Rattle.cil_symbol_changes.proofs.OrderLemmas.{between-join, between-none}
 use Rattle.cil_symbol_changes.proofs.changed_chunks.push_changes.Goals as goal
 
-pub push_change-requires-clause-appeared : goal.push_change-requires-clause-appeared
-push_change-requires-clause-appeared g c =
-    known-one c.args.numbers.now c.args.kind c.args.lines.now (λ d l t. hit_at d.line d.word d.appeared l t) c.args.changes.now c.loop-change.change-index no_change c.loop-change-test.true c.requires.appeared
+pub loop-from-init : goal.loop-from-init
+loop-from-init g c = record {
+  added = between-none (λ place. IsIn c.args.numbers.now c.args.kind c.args.lines.now (appeared_in c.args.changes.now place)) c.args.order.now 0 c.args.chunks.now.added.items;
+  removed = between-none (λ place. IsIn c.args.numbers.now c.args.kind c.args.lines.now (gone_in c.args.changes.now place)) c.args.order.now 0 c.args.chunks.now.removed.items;
+}
 
-pub push_change-requires-clause-gone : goal.push_change-requires-clause-gone
-push_change-requires-clause-gone g c =
-    known-one c.args.numbers.now c.args.kind c.args.lines.now (λ d l t. hit_at d.line d.word d.gone l t) c.args.changes.now c.loop-change.change-index no_change c.loop-change-test.true c.requires.gone
-
-pub loop-change-preserved : goal.loop-change-preserved
-loop-change-preserved g c =
-    let i = c.loop-change.change-index in
-    let changes = c.args.changes.now in
-    let x = get_or changes i no_change in
+pub loop-from-preserved : goal.loop-from-preserved
+loop-from-preserved g c =
+    let behind = c.source_end-to.ensures.behind in
     record {
-      added = in-more c.args.numbers.now c.args.kind c.args.lines.now (appeared_at (take i changes)) (hit_at x.line x.word x.appeared) (appeared_at (take (i + 1) changes)) _ _ _
-          (λ l t. sum_by_more (λ d. hit_at d.line d.word d.appeared l t) changes i no_change c.loop-change-test.true) c.loop-change.invariant.added c.in_ok-push_change.ensures.added;
-      removed = in-more c.args.numbers.now c.args.kind c.args.lines.now (gone_at (take i changes)) (hit_at x.line x.word x.gone) (gone_at (take (i + 1) changes)) _ _ _
-          (λ l t. sum_by_more (λ d. hit_at d.line d.word d.gone l t) changes i no_change c.loop-change-test.true) c.loop-change.invariant.removed c.in_ok-push_change.ensures.removed;
+      added = between-join (λ place. IsIn c.args.numbers.now c.args.kind c.args.lines.now (appeared_in c.args.changes.now place)) c.args.order.now 0 c.loop-from.from c.source_end-to.result c.args.chunks.now.added.items c.loop-from.chunks.added.items c.push_source.new.chunks.added.items
+          (omega arith) (omega (arith, behind)) c.loop-from.invariant.added c.in_ok-push_source.ensures.added;
+      removed = between-join (λ place. IsIn c.args.numbers.now c.args.kind c.args.lines.now (gone_in c.args.changes.now place)) c.args.order.now 0 c.loop-from.from c.source_end-to.result c.args.chunks.now.removed.items c.loop-from.chunks.removed.items c.push_source.new.chunks.removed.items
+          (omega arith) (omega (arith, behind)) c.loop-from.invariant.removed c.in_ok-push_source.ensures.removed;
     }
+
+pub returns-clause-added : goal.returns-clause-added
+returns-clause-added g c =
+    let past = c.loop-from-test.false in
+    in-all c.args.numbers.now c.args.kind c.args.lines.now (λ d l t. hit_at d.line d.word d.appeared l t) (λ l t. hit_nothing 0 0 l t) c.args.changes.now c.args.order.now c.loop-from.from c.args.chunks.now.added.items c.loop-from.chunks.added.items c.requires.all past
+    c.loop-from.invariant.added
+
+pub returns-clause-removed : goal.returns-clause-removed
+returns-clause-removed g c =
+    let past = c.loop-from-test.false in
+    in-all c.args.numbers.now c.args.kind c.args.lines.now (λ d l t. hit_at d.line d.word d.gone l t) (λ l t. hit_nothing 0 0 l t) c.args.changes.now c.args.order.now c.loop-from.from c.args.chunks.now.removed.items c.loop-from.chunks.removed.items c.requires.all past
+    c.loop-from.invariant.removed

@@ -12,20 +12,20 @@ returns-clause-now g c kind key t =
     let symbols = c.args.policy.now.numbering.now.symbols in
     let rule = c.args.rule.now in
     sym (ap (λ b. count_now c.shift.new.self kind key t + one_if (is_kind rule.kind kind && b))
-    (gives-listed symbols rule c.args.was.now c.symbol_of-class.result c.deref-2.result.now c.symbol_of-class.ensures.is
-    (λ p. ap (λ l. has_permission l p) c.deref-2.ensures.value ∙ c.in_ok-permissions.ensures.same p ∙ ap (list_any (λ q. p == slice_index symbols q)) c.deref.ensures.value) key t))
+    (gives-listed symbols rule c.args.was.now c.symbol_of-class.result c.deref.result.now c.symbol_of-class.ensures.is
+    (λ p. ap (λ l. has_permission l p) c.deref.ensures.value ∙ c.in_ok-permissions.ensures.same p ∙ ap (list_any (λ q. p == slice_index symbols q)) c.as_slice.ensures) key t))
     ∙ c.in_ok-moved.ensures.now kind key t
     ∙ ap (λ b. count_now c.args.tables.now kind key t + one_if (is_kind rule.kind kind && b))
-    (gives-listed symbols rule c.args.is.now c.symbol_of-class.result c.deref-2.result.now c.symbol_of-class.ensures.is
-    (λ p. ap (λ l. has_permission l p) c.deref-2.ensures.value ∙ c.in_ok-permissions.ensures.same p ∙ ap (list_any (λ q. p == slice_index symbols q)) c.deref.ensures.value) key t)
+    (gives-listed symbols rule c.args.is.now c.symbol_of-class.result c.deref.result.now c.symbol_of-class.ensures.is
+    (λ p. ap (λ l. has_permission l p) c.deref.ensures.value ∙ c.in_ok-permissions.ensures.same p ∙ ap (list_any (λ q. p == slice_index symbols q)) c.as_slice.ensures) key t)
 
 pub returns-clause-adjustments : goal.returns-clause-adjustments
 returns-clause-adjustments g c =
     let symbols = c.args.policy.now.numbering.now.symbols in
     let rule = c.args.rule.now in
-    shift-rises symbols rule c.args.was.now c.args.is.now c.symbol_of-class.result c.deref-2.result.now
-    (gives-listed symbols rule c.args.was.now c.symbol_of-class.result c.deref-2.result.now c.symbol_of-class.ensures.is
-    (λ p. ap (λ l. has_permission l p) c.deref-2.ensures.value ∙ c.in_ok-permissions.ensures.same p ∙ ap (list_any (λ q. p == slice_index symbols q)) c.deref.ensures.value))
-    (gives-listed symbols rule c.args.is.now c.symbol_of-class.result c.deref-2.result.now c.symbol_of-class.ensures.is
-    (λ p. ap (λ l. has_permission l p) c.deref-2.ensures.value ∙ c.in_ok-permissions.ensures.same p ∙ ap (list_any (λ q. p == slice_index symbols q)) c.deref.ensures.value))
+    shift-rises symbols rule c.args.was.now c.args.is.now c.symbol_of-class.result c.deref.result.now
+    (gives-listed symbols rule c.args.was.now c.symbol_of-class.result c.deref.result.now c.symbol_of-class.ensures.is
+    (λ p. ap (λ l. has_permission l p) c.deref.ensures.value ∙ c.in_ok-permissions.ensures.same p ∙ ap (list_any (λ q. p == slice_index symbols q)) c.as_slice.ensures))
+    (gives-listed symbols rule c.args.is.now c.symbol_of-class.result c.deref.result.now c.symbol_of-class.ensures.is
+    (λ p. ap (λ l. has_permission l p) c.deref.ensures.value ∙ c.in_ok-permissions.ensures.same p ∙ ap (list_any (λ q. p == slice_index symbols q)) c.as_slice.ensures))
     (adjustments_in c.args.meter.now) c.in_ok-moved.moved (adjustments_in c.adjusted.new.self) c.in_ok-moved.ensures.moved c.adjusted.ensures.adjustments

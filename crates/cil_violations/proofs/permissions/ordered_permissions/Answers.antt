@@ -12,15 +12,15 @@ loop-rule-preserved g c =
     let list = c.in_ok-ordered.field-0.items in
     let extended = c.in_ok-extend.ensures.ok in
     let grown : c.close.new.self.0 ≡ lists ++ list ∷ [] =
-    ap (λ s. s.0) c.in_ok-close.ensures.ok ∙ (λ i. (extended i).0 ++ (extended i).1 ∷ []) ∙ (λ i. lists ++ (m.closed i ++ c.deref-in-loop-rule.ensures.value i) ∷ []) in
+    ap (λ s. s.0) c.in_ok-close.ensures.ok ∙ (λ i. (extended i).0 ++ (extended i).1 ∷ []) ∙ (λ i. lists ++ (m.closed i ++ c.deref.ensures.value i) ∷ []) in
     let long = length-append lists (list ∷ []) in
     let at = slice_get_read c.args.rules.now (length c.args.rules.now) k c.rule-item.result refl c.loop-rule-test.true c.rule-item.is in
     record {
       closed = ap (λ s. s.1) c.in_ok-close.ensures.ok;
       len = ap length grown ∙ omega (arith, long, m.len);
       each = λ i r below there.
-          subst (λ ls. IsOrdered r.permissions.items (get_or ls i [])) (sym grown)
-          (each-more c.args.rules.now lists list k c.rule-item.result m.len at (subst (λ xs. IsOrdered xs list) c.deref.ensures.value c.in_ok-ordered.ensures) m.each i r below there);
+          subst (λ ls. IsOrdered r.permissions (get_or ls i [])) (sym grown)
+          (each-more c.args.rules.now lists list k c.rule-item.result m.len at (subst (λ xs. IsOrdered xs list) c.as_slice.ensures c.in_ok-ordered.ensures) m.each i r below there);
     }
 
 pub returns : goal.returns

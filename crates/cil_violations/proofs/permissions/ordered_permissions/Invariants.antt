@@ -7,5 +7,5 @@ abbrev pub invariant-loop-rule : goal.invariant-loop-rule
 invariant-loop-rule g l = record {
   closed : l.lists.1 ≡ [];
   len : length l.lists.0 ≡ l.rule-index;
-  each : (i : ℕ) (r : NumberedRule _) → i < l.rule-index → slice_get l.rules i ≡ Some r → IsOrdered r.permissions.items (get_or l.lists.0 i []);
+  each : (i : ℕ) (r : NumberedRule _) → i < l.rule-index → slice_get l.rules i ≡ Some r → IsOrdered r.permissions (get_or l.lists.0 i []);
 }

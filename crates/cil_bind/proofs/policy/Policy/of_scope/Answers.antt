@@ -17,8 +17,9 @@ returns-clause-made g c = λ policy stands from worded declared once.
       knows = knows;
       once = once;
       worded = worded;
-      bound = c.in_ok-bound.ensures scope.names policy knows (subst (λ w. AreWorded scope.names w items) (sym c.as_slice.ensures.value) worded)
+      bound = c.in_ok-bound.ensures.references scope.names policy knows (subst (λ w. AreWorded scope.names w items) (sym c.as_slice.ensures.value) worded)
           (subst (λ r. AreRows scope.names scope.namespaces r policy) (sym c.as_slice-2.ensures.value) stands.rows_are)
           (subst (λ r. AreFrom items r policy) (sym c.as_slice-2.ensures.value) from);
+      kinds = c.in_ok-bound.ensures.kinds policy (subst (λ r. AreFrom items r policy) (sym c.as_slice-2.ensures.value) from);
       few = c.requires.few;
     }

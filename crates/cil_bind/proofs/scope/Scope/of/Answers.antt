@@ -9,9 +9,9 @@ use Rattle.cil_bind.proofs.scope.Scope.of.Goals as goal
 
 pub loop-i-init : goal.loop-i-init
 loop-i-init g c = record {
-  stands = λ modules are. stands-first _ _ _ _ c.new.ensures c.new-2.ensures.items refl c.requires.distinct;
-  from = λ modules are. subst (λ r. AreFrom c.args.joined.now.modules.items r []) (sym c.new-2.ensures.items) tt;
-  around = λ modules are. subst (λ r. AreAround (joined modules) 0 r []) (sym c.new-2.ensures.items) tt;
+  stands = λ modules are. stands-first _ _ _ _ c.new.ensures c.in_ok-with_capacity.ensures.items refl c.requires.distinct;
+  from = λ modules are. subst (λ r. AreFrom c.args.joined.now.modules.items r []) (sym c.in_ok-with_capacity.ensures.items) tt;
+  around = λ modules are. subst (λ r. AreAround (joined modules) 0 r []) (sym c.in_ok-with_capacity.ensures.items) tt;
   kept = ([], sym (append-nil _));
 }
 

@@ -1,18 +1,21 @@
-use Rattle.std.proofs.Common.{◌≤◌, ◌<◌, length, arith}
+use Rattle.std.proofs.Common.{◌≤◌, ◌<◌, length, sym, ◌∙◌, true≢false, arith}
 use Rattle.cil_check.proofs.CleanLemmas.{clean-first, clean-next, clean-end}
 use Rattle.cil_check.proofs.SeenLemmas.{there-at}
 use Rattle.cil_check.proofs.checker.Checker.is_clean.Goals as goal
 
 pub loop-i-init : goal.loop-i-init
-loop-i-init g c = λ policy noted. clean-first policy
+loop-i-init g c = record {
+  clean = λ policy noted. clean-first policy;
+  known = λ policy noted number list place is. absurd (true≢false (sym is ∙ c.new-known.ensures number list place));
+}
 
 pub seen-seen-requires : goal.seen-seen-requires
 seen-seen-requires g c =
     let count = c.len-i-end.ensures c.requires.0 c.requires.1.is in
     record { is = (c.requires.0, c.requires.1.is, omega (arith, count)) }
 
-pub is_clean_at-requires : goal.is_clean_at-requires
-is_clean_at-requires g c =
+pub is_clean_by-requires : goal.is_clean_by-requires
+is_clean_by-requires g c =
     let (policy, noted) = c.requires in
     let count = c.len-i-end.ensures policy noted.is in
     let less : c.loop-i.i < length policy = omega (arith, count) in
@@ -20,15 +23,25 @@ is_clean_at-requires g c =
     (policy, s, noted, c.seen-seen.ensures.seen policy s noted.is at, at)
 
 pub loop-i-preserved : goal.loop-i-preserved
-loop-i-preserved g c = λ policy noted.
-    let count = c.len-i-end.ensures policy noted.is in
-    let less : c.loop-i.i < length policy = omega (arith, count) in
-    let (s, at) = there-at policy c.loop-i.i less in
-    let seen = c.seen-seen.ensures.seen policy s noted.is at in
-    clean-next policy c.loop-i.i s at (c.is_clean_at.ensures c.if-not-is_clean_at.false policy s noted seen (c.seen-seen.ensures.worded policy noted.is) at) (c.loop-i.invariant policy noted)
+loop-i-preserved g c = record {
+  clean = λ policy noted.
+      let count = c.len-i-end.ensures policy noted.is in
+      let less : c.loop-i.i < length policy = omega (arith, count) in
+      let (s, at) = there-at policy c.loop-i.i less in
+      let seen = c.seen-seen.ensures.seen policy s noted.is at in
+      clean-next policy c.loop-i.i s at
+      (c.is_clean_by.ensures.clean c.if-not-is_clean_by.false policy s noted seen (c.seen-seen.ensures.worded policy noted.is) at (c.loop-i.invariant.known policy noted))
+      (c.loop-i.invariant.clean policy noted);
+  known = λ policy noted.
+      let count = c.len-i-end.ensures policy noted.is in
+      let less : c.loop-i.i < length policy = omega (arith, count) in
+      let (s, at) = there-at policy c.loop-i.i less in
+      let seen = c.seen-seen.ensures.seen policy s noted.is at in
+      c.is_clean_by.ensures.known policy s noted seen (c.seen-seen.ensures.worded policy noted.is) at (c.loop-i.invariant.known policy noted);
+}
 
 pub returns : goal.returns
 returns g c = λ is policy noted.
     let count = c.len-i-end.ensures policy noted.is in
     let past : length policy ≤ c.loop-i.i = omega (arith, count) in
-    clean-end policy c.loop-i.i past noted.is.bound.once (c.loop-i.invariant policy noted)
+    clean-end policy c.loop-i.i past noted.is.bound.once (c.loop-i.invariant.clean policy noted)

@@ -1,9 +1,14 @@
 use Rattle.std.proofs.Common.{List}
 use Rattle.cil_specs.specs.Joined.{Placed}
+use Rattle.cil_bind.specs.KnownLists.{AreKnown}
 use Rattle.cil_check.specs.Checker.{IsNoted}
+use Rattle.cil_check.specs.Missing.{has_list}
 use Rattle.cil_check.proofs.CleanLemmas.{AreCleanBelow}
 use Rattle.cil_check.proofs.checker.Checker.is_clean.Given as goal
 
--- the statements gone over are clean
+-- the statements gone over are clean, and what is known holds
 abbrev pub invariant-loop-i : goal.invariant-loop-i
-invariant-loop-i g l = (policy : List Placed) → IsNoted l.self policy → AreCleanBelow policy l.i
+invariant-loop-i g l = record {
+  clean : (policy : List Placed) → IsNoted l.self policy → AreCleanBelow policy l.i;
+  known : (policy : List Placed) → IsNoted l.self policy → AreKnown (has_list l.self.bound.joined.now.modules.items policy) l.known;
+}

@@ -10,7 +10,7 @@ returns g c value answers =
     let found =
     c.next_value-holds.ensures.value expr [] [] value
     (record {
-      nodes_are = c.as_slice-nodes.ensures.value ∙ c.args.self.now.spelt.nodes_are ∙ sym (append-nil (nodes_of expr));
+      nodes_are = c.nodes-nodes.ensures ∙ sym (append-nil (nodes_of expr));
       names_are = c.names-names.ensures ∙ sym (append-nil (leaves expr));
     })
     answers in

@@ -11,10 +11,10 @@ pub returns : goal.returns
 returns g c pairs answers =
     let e = expr_in c.args.self.now in
     let f = expr_in c.args.other.now in
-    let mine = c.as_slice.ensures.value ∙ c.args.self.now.spelt.nodes_are in
-    let others = c.as_slice-2.ensures.value ∙ c.args.other.now.spelt.nodes_are in
+    let mine = c.nodes.ensures in
+    let others = c.nodes-2.ensures in
     let nodes : c.eq-nodes.result ≡ all_same same_node (nodes_of e) (nodes_of f) =
-    c.eq-nodes.ensures ∙ pointwise-nodes c.as_slice.result.now c.as_slice-2.result.now ∙ (λ i. all_same same_node (mine i) (others i)) in
+    c.eq-nodes.ensures ∙ pointwise-nodes c.nodes.result.now c.nodes-2.result.now ∙ (λ i. all_same same_node (mine i) (others i)) in
     elim c.if-nodes.branch [
       | then-nodes w ↦ (let x = w.names.ensures in
           let y = w.names-then-nodes.ensures in

@@ -1,7 +1,9 @@
-use Rattle.std.proofs.Common.{◌^◌, ◌<◌, bit_and, arith, rules, w64}
+use Rattle.std.proofs.Common.{◌≡◌, ℕ, ◌+◌, ◌^◌, ◌<◌, bit_and, arith, rules, w64}
 use Rattle.std.specs.Int.{bit_not}
-use Rattle.cil_member_rows.specs.Rows.{count_now}
+use Rattle.cil_recorded.specs.Log.{hit_at}
+use Rattle.cil_member_rows.specs.Rows.{count_before, count_now}
 use Rattle.cil_member_rows.proofs.HeldLemmas.{held_shifted}
+use Rattle.cil_member_rows.proofs.MarkLemmas.{marked_shifted}
 use Rattle.cil_member_rows.proofs.ShiftLemmas.{hit_without, hit_at_without}
 use Rattle.cil_member_rows.proofs.member_rows.MemberRows.shift.Goals as goal
 
@@ -15,12 +17,19 @@ pub invariant_of-self-2 : goal.invariant_of-self-2
 invariant_of-self-2 g c =
     let old = c.self.inside.rows in
     let room = c.in_ok-make_room.ensures in
-    held_shifted c.self.inside.held.items c.make_room.new.held.items old c.raise.new.rows c.self.invariant c.args.row c.args.word
-    (bit_and c.args.was (bit_not w64 c.args.is)) (bit_and c.args.is (bit_not w64 c.args.was)) (count_now c.lower.new.rows)
-    (search rules) room.words room.bits room.reach
-    (λ r t. omega (arith, c.lower.ensures.now r t, room.now r t))
-    c.raise.ensures.now
-    (λ r t. omega (arith, c.raise.ensures.before r t, c.lower.ensures.before r t, room.before r t))
+    let gone = bit_and c.args.was (bit_not w64 c.args.is) in
+    let come = bit_and c.args.is (bit_not w64 c.args.was) in
+    let fell : (r t : ℕ) → count_now c.lower.new.rows r t + hit_at c.args.row c.args.word gone r t ≡ count_now old r t = λ r t. omega (arith, c.lower.ensures.now r t, room.now r t) in
+    let before : (r t : ℕ) → count_before c.raise.new.rows r t ≡ count_before old r t = λ r t. omega (arith, c.raise.ensures.before r t, c.lower.ensures.before r t, room.before r t) in (
+      held_shifted c.self.inside.held.items c.make_room.new.held.items old c.raise.new.rows c.self.invariant.0 c.args.row c.args.word
+          gone come (count_now c.lower.new.rows)
+          (search rules) room.words room.bits room.reach fell c.raise.ensures.now before,
+      marked_shifted c.self.inside.turned.items c.mark.new.marks.items old c.raise.new.rows c.self.invariant.1 (search rules) before c.args.row c.args.word
+          gone come (count_now c.lower.new.rows) c.is_step.result c.is_step.ensures
+          c.mark.ensures.here c.mark.ensures.others fell c.raise.ensures.now
+          (omega (arith, room.steps, c.lower.ensures.steps, c.raise.ensures.steps))
+          (λ some. omega (arith, some, c.lower.ensures.steps, c.raise.ensures.steps)),
+    )
 
 pub returns-clause-ok : goal.returns-clause-ok
 returns-clause-ok g c r t =

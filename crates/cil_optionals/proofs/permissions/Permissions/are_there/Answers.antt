@@ -1,11 +1,12 @@
 use Rattle.std.proofs.Common.{◌≡◌, true, false, [], map, get_or, Some, refl, sym, ap, ◌∙◌, subst}
-use Rattle.cil_specs.specs.Lookup.{classes, leads}
+use Rattle.cil_specs.specs.Lookup.{classes, leads, texts}
 use Rattle.cil_bind.specs.Lookup.{IsLead}
 use Rattle.cil_parse.specs.Forms.{kind_of, permissions_in as listed_in}
 use Rattle.cil_parse.specs.Parsed.{texts_of}
 use Rattle.cil_optionals.specs.Asks.{are_there}
 use Rattle.cil_optionals.specs.Given.{is_rule, permissions_in}
 use Rattle.cil_optionals.proofs.AsksLemmas.{bound-at, seen-of}
+use Rattle.cil_optionals.proofs.KnownLemmas.{row-from}
 use Rattle.cil_optionals.proofs.PermissionLemmas.{rule-class, names-none, there-none, there-some}
 use Rattle.cil_optionals.proofs.permissions.Permissions.are_there.Goals as goal
 
@@ -13,28 +14,36 @@ pub returns-then-not-is_rule-clause-there : goal.returns-then-not-is_rule-clause
 returns-then-not-is_rule-clause-there g c = λ parsed all s ready have at of.
     let p = c.args.policy.now in
     let m = c.args.«module».now in
-    let seen = seen-of p parsed m all c.args.i s c.index-row.result.now c.statement-view.result (get_or p.bound.0 c.args.i []) ready at of c.index-row.ensures c.statement-view.ensures refl in
+    let seen = seen-of p parsed m all c.args.i s c.index.result.now c.statement-view.result (get_or p.bound.0 c.args.i []) ready at of c.index.ensures c.statement-view.ensures refl in
     let isnt : is_rule (kind_of s.form) ≡ false = sym (c.is_rule.ensures ∙ ap is_rule (seen.shown.kind ∙ ap kind_of seen.form)) ∙ c.if-not-is_rule.true in
     sym (ap (are_there all s.namespace) (names-none s.form isnt))
 
 pub get-bound-requires : goal.get-bound-requires
 get-bound-requires g c =
     let r = c.requires in
-    (bound-at r.1 r.1 c.args.policy.now.bound.0 c.args.i r.2 r.3.bound.bound r.4).0
+    (bound-at r.0 r.0 c.args.policy.now.bound.0 c.args.i r.1 r.2.bound.bound r.3).0
 
-pub has_all-requires : goal.has_all-requires
-has_all-requires g c =
+pub of-list-requires : goal.of-list-requires
+of-list-requires g c =
+    let r = c.requires in
+    let from = row-from c.args.policy.now c.args.self.now.joined.now.modules.items c.args.«module».now r.0 c.args.i r.1 c.index.result.now r.2 r.3 r.4 c.index.ensures in
+    (r.1, from)
+
+pub has_list-requires : goal.has_list-requires
+has_list-requires g c =
     let r = c.requires in
     let p = c.args.policy.now in
     let m = c.args.«module».now in
-    let seen = seen-of p r.0 m r.1 c.args.i r.2 c.index-row.result.now c.statement-view.result c.get-bound.result.now r.3 r.4 r.5 c.index-row.ensures c.statement-view.ensures c.get-bound.ensures in
-    (listed_in seen.f.form, c.permissions.ensures (texts_of m) seen.f seen.shown)
+    let parsed = c.args.self.now.joined.now.modules.items in
+    let seen = seen-of p parsed m r.0 c.args.i r.1 c.index.result.now c.statement-view.result c.get-bound.result.now r.2 r.3 r.4 c.index.ensures c.statement-view.ensures c.get-bound.ensures in
+    let from = row-from p parsed m r.0 c.args.i r.1 c.index.result.now r.2 r.3 r.4 c.index.ensures in
+    (listed_in seen.f.form, c.permissions.ensures (texts_of m) seen.f seen.shown, c.of-list.ensures r.1 from ∙ ap (λ f. texts (listed_in f)) (sym seen.form))
 
 pub returns-clause-there : goal.returns-clause-there
 returns-clause-there g c = λ parsed all s ready have at of.
     let p = c.args.policy.now in
     let m = c.args.«module».now in
-    let seen = seen-of p parsed m all c.args.i s c.index-row.result.now c.statement-view.result c.get-bound.result.now ready at of c.index-row.ensures c.statement-view.ensures c.get-bound.ensures in
+    let seen = seen-of p parsed m all c.args.i s c.index.result.now c.statement-view.result c.get-bound.result.now ready at of c.index.ensures c.statement-view.ensures c.get-bound.ensures in
     let is : is_rule (kind_of s.form) ≡ true = sym (c.is_rule.ensures ∙ ap is_rule (seen.shown.kind ∙ ap kind_of seen.form)) ∙ c.if-not-is_rule.false in
     let rule = rule-class all s.namespace s.form is c.get-bound.result.now seen.leads_are in
     let led = subst (λ o. IsLead classes all o (leads all classes s.namespace rule.the_class.text)) (sym c.last_bound.ensures ∙ c.in-Some.is) rule.lead in
@@ -45,7 +54,7 @@ pub returns-in_default-clause-there : goal.returns-in_default-clause-there
 returns-in_default-clause-there g c = λ parsed all s ready have at of.
     let p = c.args.policy.now in
     let m = c.args.«module».now in
-    let seen = seen-of p parsed m all c.args.i s c.index-row.result.now c.statement-view.result c.get-bound.result.now ready at of c.index-row.ensures c.statement-view.ensures c.get-bound.ensures in
+    let seen = seen-of p parsed m all c.args.i s c.index.result.now c.statement-view.result c.get-bound.result.now ready at of c.index.ensures c.statement-view.ensures c.get-bound.ensures in
     let is : is_rule (kind_of s.form) ≡ true = sym (c.is_rule.ensures ∙ ap is_rule (seen.shown.kind ∙ ap kind_of seen.form)) ∙ c.if-not-is_rule.false in
     let rule = rule-class all s.namespace s.form is c.get-bound.result.now seen.leads_are in
     let led = subst (λ o. IsLead classes all o (leads all classes s.namespace rule.the_class.text)) (sym c.last_bound.ensures ∙ c.in_default.is) rule.lead in

@@ -31,6 +31,7 @@ loop-word-preserved g c = record {
       all-next (λ word. permissions_in c.args.self.now.listed.now c.args.class word.text) list c.loop-word.word-index found.0 found.1
       (ap (permissions_in c.args.self.now.listed.now c.args.class) (named ∙ sym c.text.ensures) ∙ ap (λ l. permissions_in l.now c.args.class c.text.result.now) (sym c.loop-word.invariant.listed) ∙ sym c.in_ok-has.ensures.has ∙ c.if-not-branch.false) (c.loop-word.invariant.has list shown);
   listed = c.in_ok-has.ensures.listed ∙ c.loop-word.invariant.listed;
+  joined = c.in_ok-has.ensures.joined ∙ c.loop-word.invariant.joined;
 }
 
 pub returns-clause-has : goal.returns-clause-has

@@ -1,5 +1,6 @@
-use Rattle.std.proofs.Common.{◌∙◌, ap, sym, subst}
+use Rattle.std.proofs.Common.{◌∙◌, length, ap, sym, subst}
 use Rattle.cil_parse.specs.Lexicon.{seen, AreSplit}
+use Rattle.cil_parse.specs.PermissionLists.{AreListed}
 use Rattle.cil_parse.proofs.ParsedLemmas.{words-length, nodes-length}
 use Rattle.cil_parse.proofs.parsed.ParsedModule.owned.Goals as goal
 
@@ -13,4 +14,8 @@ invariant_of-result g c =
       split = subst (λ n. AreSplit n b.lexicon.components.0 c.in_ok-texts.texts.0) (sym names) (subst (AreSplit (seen b.lexicon.names.keys) b.lexicon.components.0) (sym texts) at.is_lexicon.split);
       each_words = words-length b list at;
       each_nodes = nodes-length b list at;
+      listed = subst (λ rows. AreListed c.in_ok-permission_lists.permission_lists rows b.words.0) c.deref.ensures.value c.in_ok-permission_lists.ensures;
     }
+
+pub of-requires : goal.of-requires
+of-requires g c = words-length c.args.builder c.requires.0 c.requires.1 ∙ ap length (sym c.deref.ensures.value)

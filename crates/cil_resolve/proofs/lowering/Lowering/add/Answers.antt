@@ -1,7 +1,5 @@
-use Rattle.std.proofs.Common.{◌≡◌, ◌∙◌, ◌∷◌, ◌++◌, [], length, map, true, false, refl, sym, ap, subst, if◌then◌else◌}
-use Rattle.std.specs.List.{list_all}
+use Rattle.std.proofs.Common.{◌∙◌, ◌∷◌, [], length, true, refl, sym, ap, subst, if◌then◌else◌}
 use Rattle.std.specs.Option.{option_to_list}
-use Rattle.std.proofs.lemmas.List.Folds.{list_all-append}
 use Rattle.cil_specs.specs.Lookup.{types, declared_in}
 use Rattle.cil_specs.specs.Rule.{declared_as, class_as}
 use Rattle.cil_specs.proofs.Runs.{first_true}
@@ -35,8 +33,8 @@ rule-requires g c =
     let (s, at) = there-at policy c.args.i low in
     (policy, (s, record { lowering = is; there = contained policy c.args.i s at; seen_is = c.seen-seen.ensures.seen policy s is.noted.is at; worded = c.seen-seen.ensures.worded policy is.noted.is }, at))
 
-pub returns-in_ok-push-in-TypeName : goal.returns-in_ok-push-in-TypeName
-returns-in_ok-push-in-TypeName g c policy statements s is at so_far =
+pub returns-in_ok-push-in-TypeName-clause-parts : goal.returns-in_ok-push-in-TypeName-clause-parts
+returns-in_ok-push-in-TypeName-clause-parts g c policy statements s is at knows so_far =
     let modules = modules_of c.args.self.now.checker.now.bound.joined.now in
     let names = c.args.self.now.numbering.now.names.items in
     let parts = c.args.parts.now in
@@ -57,8 +55,8 @@ returns-in_ok-push-in-TypeName g c policy statements s is at so_far =
       rules_are = record { is = stay (rule_of modules names) (rule_if policy) parts.rules.items parts.rules.items statements s so_far.rules_are.is refl (kind.no_rule refl); below = so_far.rules_are.below };
     }
 
-pub returns-in_ok-push-in-TypeAttribute : goal.returns-in_ok-push-in-TypeAttribute
-returns-in_ok-push-in-TypeAttribute g c policy statements s is at so_far =
+pub returns-in_ok-push-in-TypeAttribute-clause-parts : goal.returns-in_ok-push-in-TypeAttribute-clause-parts
+returns-in_ok-push-in-TypeAttribute-clause-parts g c policy statements s is at knows so_far =
     let modules = modules_of c.args.self.now.checker.now.bound.joined.now in
     let names = c.args.self.now.numbering.now.names.items in
     let parts = c.args.parts.now in
@@ -79,8 +77,8 @@ returns-in_ok-push-in-TypeAttribute g c policy statements s is at so_far =
       rules_are = record { is = stay (rule_of modules names) (rule_if policy) parts.rules.items parts.rules.items statements s so_far.rules_are.is refl (kind.no_rule refl); below = so_far.rules_are.below };
     }
 
-pub returns-in_ok-push-in-Class : goal.returns-in_ok-push-in-Class
-returns-in_ok-push-in-Class g c policy statements s is at so_far =
+pub returns-in_ok-push-in-Class-clause-parts : goal.returns-in_ok-push-in-Class-clause-parts
+returns-in_ok-push-in-Class-clause-parts g c policy statements s is at knows so_far =
     let modules = modules_of c.args.self.now.checker.now.bound.joined.now in
     let names = c.args.self.now.numbering.now.names.items in
     let parts = c.args.parts.now in
@@ -100,8 +98,8 @@ returns-in_ok-push-in-Class g c policy statements s is at so_far =
       rules_are = record { is = stay (rule_of modules names) (rule_if policy) parts.rules.items parts.rules.items statements s so_far.rules_are.is refl (kind.no_rule refl); below = so_far.rules_are.below };
     }
 
-pub returns-in_ok-push-in-TypeAttributeSet : goal.returns-in_ok-push-in-TypeAttributeSet
-returns-in_ok-push-in-TypeAttributeSet g c policy statements s is at so_far =
+pub returns-in_ok-push-in-TypeAttributeSet-clause-parts : goal.returns-in_ok-push-in-TypeAttributeSet-clause-parts
+returns-in_ok-push-in-TypeAttributeSet-clause-parts g c policy statements s is at knows so_far =
     let modules = modules_of c.args.self.now.checker.now.bound.joined.now in
     let names = c.args.self.now.numbering.now.names.items in
     let parts = c.args.parts.now in
@@ -123,8 +121,8 @@ returns-in_ok-push-in-TypeAttributeSet g c policy statements s is at so_far =
       rules_are = record { is = stay (rule_of modules names) (rule_if policy) parts.rules.items parts.rules.items statements s so_far.rules_are.is refl (kind.no_rule refl); below = so_far.rules_are.below };
     }
 
-pub returns-in_ok-push-in_default : goal.returns-in_ok-push-in_default
-returns-in_ok-push-in_default g c policy statements s is at so_far =
+pub returns-in_ok-push-in_default-clause-parts : goal.returns-in_ok-push-in_default-clause-parts
+returns-in_ok-push-in_default-clause-parts g c policy statements s is at knows so_far =
     let modules = modules_of c.args.self.now.checker.now.bound.joined.now in
     let names = c.args.self.now.numbering.now.names.items in
     let parts = c.args.parts.now in
@@ -132,7 +130,7 @@ returns-in_ok-push-in_default g c policy statements s is at so_far =
     let is_in : IsIn c.args.self.now c.seen-seen.result policy s = record { lowering = is; there = contained policy c.args.i s at; seen_is = seen; worded = c.seen-seen.ensures.worded policy is.noted.is } in
     let kind = of-kind policy s c.seen-seen.result.view.kind (sym (seen-kind c.seen-seen.result policy s seen)) in
     let r = c.in-Some.rule in
-    let made : AreRules modules names (r ∷ []) (rule_if policy s) = subst (λ o. AreRules modules names (option_to_list o) (rule_if policy s)) c.in-Some.is (c.in_ok-rule-in_default.ensures policy s is_in at) in
+    let made : AreRules modules names (r ∷ []) (rule_if policy s) = subst (λ o. AreRules modules names (option_to_list o) (rule_if policy s)) c.in-Some.is (c.in_ok-rule-in_default.ensures.rule policy s is_in at knows) in
     record {
       types_are = stay (declared_of modules names) type_if parts.types.items parts.types.items statements s so_far.types_are refl (no-type s (kind.type ∙ no-type-kind c.seen-seen.result.view.kind c.in_default.not-TypeName));
       types_below = so_far.types_below;
@@ -144,15 +142,15 @@ returns-in_ok-push-in_default g c policy statements s is at so_far =
       rules_are = record { is = grow (rule_of modules names) (rule_if policy) parts.rules.items _ (r ∷ []) statements s so_far.rules_are.is c.in_ok-push-in_default.ensures.items made.is; below = below-more (is_rule_below (length names)) parts.rules.items _ r so_far.rules_are.below c.in_ok-push-in_default.ensures.items (first_true (is_rule_below (length names) r) true made.below) };
     }
 
-pub returns-in_default-2 : goal.returns-in_default-2
-returns-in_default-2 g c policy statements s is at so_far =
+pub returns-in_default-2-clause-parts : goal.returns-in_default-2-clause-parts
+returns-in_default-2-clause-parts g c policy statements s is at knows so_far =
     let modules = modules_of c.args.self.now.checker.now.bound.joined.now in
     let names = c.args.self.now.numbering.now.names.items in
     let parts = c.args.parts.now in
     let seen = c.seen-seen.ensures.seen policy s is.noted.is at in
     let is_in : IsIn c.args.self.now c.seen-seen.result policy s = record { lowering = is; there = contained policy c.args.i s at; seen_is = seen; worded = c.seen-seen.ensures.worded policy is.noted.is } in
     let kind = of-kind policy s c.seen-seen.result.view.kind (sym (seen-kind c.seen-seen.result policy s seen)) in
-    let made : AreRules modules names [] (rule_if policy s) = subst (λ o. AreRules modules names (option_to_list o) (rule_if policy s)) c.in_default-2.is (c.in_ok-rule-in_default.ensures policy s is_in at) in
+    let made : AreRules modules names [] (rule_if policy s) = subst (λ o. AreRules modules names (option_to_list o) (rule_if policy s)) c.in_default-2.is (c.in_ok-rule-in_default.ensures.rule policy s is_in at knows) in
     record {
       types_are = stay (declared_of modules names) type_if parts.types.items parts.types.items statements s so_far.types_are refl (no-type s (kind.type ∙ no-type-kind c.seen-seen.result.view.kind c.in_default.not-TypeName));
       types_below = so_far.types_below;
@@ -163,3 +161,13 @@ returns-in_default-2 g c policy statements s is at so_far =
       sets_are = record { is = stay (set_of modules names) (set_if policy) parts.sets.items parts.sets.items statements s so_far.sets_are.is refl (kind.no_set (no-set-kind c.seen-seen.result.view.kind c.in_default.not-TypeAttributeSet)); below = so_far.sets_are.below };
       rules_are = record { is = stay (rule_of modules names) (rule_if policy) parts.rules.items parts.rules.items statements s so_far.rules_are.is refl (sym made.is); below = so_far.rules_are.below };
     }
+
+pub returns-in_ok-push-in_default-clause-known : goal.returns-in_ok-push-in_default-clause-known
+returns-in_ok-push-in_default-clause-known g c policy s is at knows =
+    let seen = c.seen-seen.ensures.seen policy s is.noted.is at in
+    c.in_ok-rule-in_default.ensures.known policy s (record { lowering = is; there = contained policy c.args.i s at; seen_is = seen; worded = c.seen-seen.ensures.worded policy is.noted.is }) at knows
+
+pub returns-in_default-2-clause-known : goal.returns-in_default-2-clause-known
+returns-in_default-2-clause-known g c policy s is at knows =
+    let seen = c.seen-seen.ensures.seen policy s is.noted.is at in
+    c.in_ok-rule-in_default.ensures.known policy s (record { lowering = is; there = contained policy c.args.i s at; seen_is = seen; worded = c.seen-seen.ensures.worded policy is.noted.is }) at knows

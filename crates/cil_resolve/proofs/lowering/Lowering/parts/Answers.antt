@@ -1,5 +1,6 @@
-use Rattle.std.proofs.Common.{◌≡◌, ◌≤◌, ◌+◌, length, take, sym, ap, subst, arith}
+use Rattle.std.proofs.Common.{◌≤◌, ◌∙◌, rules, length, take, sym, subst, arith}
 use Rattle.std.proofs.lemmas.List.{take_all}
+use Rattle.std.proofs.lemmas.Option.{none-some}
 use Rattle.cil_check.proofs.SeenLemmas.{there-at}
 use Rattle.cil_resolve.specs.Lowering.{ArePartsOf, modules_of}
 use Rattle.cil_resolve.proofs.StatementLemmas.{take-one}
@@ -11,6 +12,9 @@ add-requires g c =
     let count = c.len-count.ensures policy is.noted.is in
     (policy, is, omega (arith, count))
 
+pub loop-i-init : goal.loop-i-init
+loop-i-init g c policy is = (search rules, λ m n numbers found. absurd (none-some numbers (sym (c.new-known.ensures m n) ∙ found)))
+
 pub loop-i-preserved : goal.loop-i-preserved
 loop-i-preserved g c policy is =
     let i = c.loop-i.i in
@@ -18,10 +22,13 @@ loop-i-preserved g c policy is =
     let (s, at) = there-at policy i (omega (arith, count)) in
     let modules = modules_of c.args.self.now.checker.now.bound.joined.now in
     let names = c.args.self.now.numbering.now.names.items in
-    subst (λ l. ArePartsOf modules names policy l c.add.new.parts) (sym (take-one policy i s at)) (c.in_ok-add.ensures policy (take i policy) s is at (c.loop-i.invariant policy is))
+    let (so_far, knows) = c.loop-i.invariant policy is in (
+      subst (λ l. ArePartsOf modules names policy l c.add.new.parts) (sym (take-one policy i s at)) (c.in_ok-add.ensures.parts policy (take i policy) s is at knows so_far),
+      c.in_ok-add.ensures.known policy s is at knows,
+    )
 
 pub returns : goal.returns
 returns g c policy is =
     let count = c.len-count.ensures policy is.noted.is in
     let past : length policy ≤ c.loop-i.i = omega (arith, count) in
-    subst (λ l. ArePartsOf (modules_of c.args.self.now.checker.now.bound.joined.now) c.args.self.now.numbering.now.names.items policy l c.loop-i.parts) (take_all c.loop-i.i policy past) (c.loop-i.invariant policy is)
+    subst (λ l. ArePartsOf (modules_of c.args.self.now.checker.now.bound.joined.now) c.args.self.now.numbering.now.names.items policy l c.loop-i.parts) (take_all c.loop-i.i policy past) (c.loop-i.invariant policy is).0

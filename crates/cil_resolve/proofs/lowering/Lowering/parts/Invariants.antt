@@ -1,7 +1,8 @@
 use Rattle.std.proofs.Common.{List, take}
 use Rattle.cil_specs.specs.Joined.{Placed}
+use Rattle.cil_resolve.specs.KnownPermissions.{KnowNumbers}
 use Rattle.cil_resolve.specs.Lowering.{IsLowering, ArePartsOf, modules_of}
 use Rattle.cil_resolve.proofs.lowering.Lowering.parts.Given as goal
 
 abbrev pub invariant-loop-i : goal.invariant-loop-i
-invariant-loop-i g l = (policy : List Placed) → IsLowering l.self policy → ArePartsOf (modules_of l.self.checker.now.bound.joined.now) l.self.numbering.now.names.items policy (take l.i policy) l.parts
+invariant-loop-i g l = (policy : List Placed) → IsLowering l.self policy → (ArePartsOf (modules_of l.self.checker.now.bound.joined.now) l.self.numbering.now.names.items policy (take l.i policy) l.parts) × KnowNumbers l.self l.known policy

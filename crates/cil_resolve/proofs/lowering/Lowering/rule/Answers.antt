@@ -1,6 +1,6 @@
-use Rattle.std.proofs.Common.{◌≡◌, ◌∙◌, ◌∷◌, [], Some, slice_get, Contains, refl, sym, ap, subst, length, true}
+use Rattle.std.proofs.Common.{◌≡◌, ◌∙◌, ◌∷◌, [], Some, slice_get, Contains, sym, ap, subst, length, true}
 use Rattle.std.specs.List.{list_all}
-use Rattle.cil_specs.specs.Lookup.{types, classes, references, named_permissions, has_name, texts}
+use Rattle.cil_specs.specs.Lookup.{classes, references, named_permissions, has_name, texts}
 use Rattle.cil_specs.specs.PolicyFault.{element_words}
 use Rattle.cil_specs.specs.Rule as spec
 use Rattle.cil_specs.specs.Rule.{at_element}
@@ -21,8 +21,8 @@ use Rattle.cil_resolve.proofs.StatementLemmas.{contained}
 use Rattle.cil_resolve.proofs.lowering.Lowering.rule.Goals as goal
 use Rattle.cil_resolve.proofs.lowering.Lowering.rule.Goals.{in-Rule, in-RuleToSelf}
 
-pub returns : goal.returns
-returns g c policy s is at =
+pub returns-clause-rule : goal.returns-clause-rule
+returns-clause-rule g c policy s is at knows =
     let modules = modules_of c.args.self.now.checker.now.bound.joined.now in
     let names = c.args.self.now.numbering.now.names.items in
     let r : NumberedRule g.row.A.Denot = record {
@@ -32,7 +32,7 @@ returns g c policy s is at =
       source = c.element-2.result;
       target = c.match-seen.kind.1;
       class = c.class.result;
-      permissions = c.in_ok-permissions.field-0;
+      permissions = c.in_ok-shared_permissions.field-0;
     } in
     elim c.match-seen.branch [
       | in-Rule w ↦
@@ -44,8 +44,8 @@ returns g c policy s is at =
           let lead = seen-lead c.args.seen.now policy s 2 classes the_class is.seen_is refers in
           let some = word-found policy is.lowering.faultless s is.there classes the_class (contained (references s.form) 2 (classes, the_class) refers) in
           let named = rule-listed policy c.args.self.now.checker.now.bound.policy.now.bound.0 is.lowering.noted.is.bound.bound is.lowering.faultless s is.there the_class permissions (ap named_permissions form) _ lead some in
-          let numbers = subst (λ f. AreNumbersIn names (texts (permissions_in f)) c.in_ok-permissions.field-0.items) form
-          (c.in_ok-permissions.ensures policy s is (subst (λ f. list_all (has_name (listed_names policy)) (texts (permissions_in f)) ≡ true) (sym form) named)) in
+          let numbers = subst (λ f. AreNumbersIn names (texts (permissions_in f)) c.in_ok-shared_permissions.field-0) form
+          (c.in_ok-shared_permissions.ensures.numbers policy s is at knows (subst (λ f. list_all (has_name (listed_names policy)) (texts (permissions_in f)) ≡ true) (sym form) named)) in
           let from = c.element-2.ensures policy s source is (ap (λ f. slice_get (references f) 0) form) (subst (λ f. Contains (element_words f) source) (sym form) (contains-first source (word ∷ []))) in
           let to = w.element.ensures policy s word is (ap (λ f. slice_get (references f) 1) form) (subst (λ f. Contains (element_words f) word) (sym form) (contains-other source (word ∷ []) word (contains-first word []))) in
           subst (λ f. AreRules modules names (r ∷ []) (spec.rule_of policy s f)) (sym form)
@@ -61,11 +61,14 @@ returns g c policy s is at =
           let lead = seen-lead c.args.seen.now policy s 1 classes the_class is.seen_is refers in
           let some = word-found policy is.lowering.faultless s is.there classes the_class (contained (references s.form) 1 (classes, the_class) refers) in
           let named = rule-listed policy c.args.self.now.checker.now.bound.policy.now.bound.0 is.lowering.noted.is.bound.bound is.lowering.faultless s is.there the_class permissions (ap named_permissions form) _ lead some in
-          let numbers = subst (λ f. AreNumbersIn names (texts (permissions_in f)) c.in_ok-permissions.field-0.items) form
-          (c.in_ok-permissions.ensures policy s is (subst (λ f. list_all (has_name (listed_names policy)) (texts (permissions_in f)) ≡ true) (sym form) named)) in
+          let numbers = subst (λ f. AreNumbersIn names (texts (permissions_in f)) c.in_ok-shared_permissions.field-0) form
+          (c.in_ok-shared_permissions.ensures.numbers policy s is at knows (subst (λ f. list_all (has_name (listed_names policy)) (texts (permissions_in f)) ≡ true) (sym form) named)) in
           let from = c.element-2.ensures policy s source is (ap (λ f. slice_get (references f) 0) form) (subst (λ f. Contains (element_words f) source) (sym form) (contains-first source [])) in
           subst (λ f. AreRules modules names (r ∷ []) (spec.rule_of policy s f)) (sym form)
           (rule-made modules names policy s r k source itself the_class permissions (c.module.ensures policy s is.lowering at) (is.seen_is.shown.at ∙ is.seen_is.place)
           (ap (λ t. rule_kind_of t.0) w.kind-is ∙ ap rule_kind_of (sym code) ∙ kind-back k) from
           (ap (λ t. resolved_target_of names t.1) w.kind-is) (ap (λ t. is_target_below (length names) t.1) w.kind-is) cls numbers)
     ]
+
+pub returns-clause-known : goal.returns-clause-known
+returns-clause-known g c policy s is at knows = c.in_ok-shared_permissions.ensures.known policy s is at knows

@@ -1,0 +1,43 @@
+use Rattle.std.proofs.Common.{◌≡◌, ◌+◌, Some, None, true, false, slice_get, get_or, length, filter, take, sym, ap, ◌∙◌, arith}
+use Rattle.std.proofs.lemmas.Option.{slice_get-get_or}
+use Rattle.cil_bind.specs.declared.rows.Row.{Row}
+use Rattle.cil_bind.proofs.MoveLemmas.{places-taken, places-count}
+use Rattle.cil_bind.proofs.RestrictLemmas.{mark}
+use Rattle.cil_bind.proofs.moving.places_of.Goals.{then-is_kept+in_ok-push, else-is_kept+in_ok-push-2}
+use Rattle.cil_bind.proofs.moving.places_of.Goals as goal
+
+-- what is read behind the end of the rows
+abbrev no_row : Row
+no_row = record { «module» = 0; index = 0; namespace = 0; inside = 0; optional = 0; declares = None; is_optional = false }
+
+pub loop-i-preserved : goal.loop-i-preserved
+loop-i-preserved g c =
+    let rows = c.args.rows.now in
+    let kept = c.args.kept.now in
+    let row = get_or rows c.loop-i.i no_row in
+    let here : slice_get rows c.loop-i.i ≡ Some row = slice_get-get_or rows c.loop-i.i no_row (omega arith) in
+    let so_far = c.loop-i.invariant in
+    (elim c.if-is_kept.branch [
+      | then-is_kept+in_ok-push w ↦
+          let passes : mark kept row ≡ true = sym c.is_kept.ensures ∙ w.if-is_kept.true in
+          let next : c.if-is_kept.next ≡ c.loop-i.next + 1 = w.next-is in
+          let low = so_far.low in
+          record {
+            places = ap (λ v. v.items) w.places-is
+                ∙ places-taken (mark kept) rows c.loop-i.i row true c.loop-i.next c.loop-i.places.items w.push.new.self.items here passes so_far.next so_far.places w.in_ok-push.ensures.items;
+            next = next ∙ ap (λ n. n + 1) so_far.next ∙ sym (places-count (mark kept) rows c.loop-i.i row true here passes);
+            low = omega (arith, next, low);
+          }
+      | else-is_kept+in_ok-push-2 w ↦
+          let fails : mark kept row ≡ false = sym c.is_kept.ensures ∙ w.if-is_kept.false in
+          let next : c.if-is_kept.next ≡ c.loop-i.next = w.next-is in
+          let count : length (filter (mark kept) (take (c.loop-i.i + 1) rows)) ≡ length (filter (mark kept) (take c.loop-i.i rows)) + 0 = places-count (mark kept) rows c.loop-i.i row false here fails in
+          let in_front = so_far.next in
+          let low = so_far.low in
+          record {
+            places = ap (λ v. v.items) w.places-is
+                ∙ places-taken (mark kept) rows c.loop-i.i row false c.loop-i.next c.loop-i.places.items w.push-else-is_kept.new.self.items here fails so_far.next so_far.places w.in_ok-push-2.ensures.items;
+            next = omega (arith, next, count, in_front);
+            low = omega (arith, next, low);
+          }
+    ])

@@ -1,0 +1,175 @@
+//! What references are bound to once statements have dropped.
+
+ghost use Rattle.std.specs.Prelude.{◌≡◌, ◌++◌, ◌∷◌, ◌<◌, ◌^◌, ℕ, List, [], true, false, map, length, slice_index_or, OnOk, IfOk};
+ghost use Rattle.std.specs.List.{list_all};
+ghost use Rattle.cil_specs.specs.Joined.{Placed};
+ghost use Rattle.cil_specs.specs.Lookup.{references};
+ghost use Rattle.cil_specs.specs.Kept.{Optionals, AreApart, is_within, restricted};
+ghost use Rattle.cil_bind.specs.Lookup.{Knows};
+ghost use Rattle.cil_bind.specs.Binding.{AreLeads, AreBound, AreMoved, Binds, kinds_of, places_from, moved_to, has_place as is_placed};
+ghost use Rattle.cil_bind.specs.Rows.{IsRow, AreRows};
+ghost use Rattle.cil_bind.specs.Scope.{IsFrom, AreFrom};
+ghost use Rattle.cil_bind.specs.Words.{AreWorded, RemembersOf};
+
+use crate::binding::{bind_row, room};
+use crate::joined::Joined;
+use crate::lookup::Lookup;
+use crate::memo::Memo;
+use crate::rows::{Row, is_kept};
+use cil_parse::{Lists, StatementKind};
+use std::alloc::{AllocError, Allocator};
+
+/// The place of each row among those whose innermost optional is marked; none for one that drops.
+pub fn places_of<A: Allocator>(
+    alloc: A,
+    rows: &[Row],
+    kept: &[bool],
+) -> Result<Vec<Option<u32>, A>, AllocError>
+    requires { length rows.now < 2 ^ 32 }
+    ensures { IfOk result (λ places. places.items ≡ places_from (λ row. slice_index_or kept.now row.optional false) 0 rows.now) }
+{
+    let mut places = Vec::with_capacity(alloc, rows.len())?;
+    let mut next: u32 = 0;
+    for i in 0..rows.len() {
+        if is_kept(&rows[i], kept) {
+            places.push(Some(next))?;
+            next += 1;
+        } else {
+            places.push(None)?;
+        }
+    }
+    Ok(places)
+}
+
+/// The new place of what was found at a place.
+fn moved(found: Option<u32>, places: &[Option<u32>]) -> Option<u32>
+    ensures { result ≡ moved_to places.now found }
+{
+    match places.get(found? as usize) {
+        Some(place) => *place,
+        None => None,
+    }
+}
+
+/// Whether what was found, if anything was, has a new place.
+fn has_place(found: Option<u32>, places: &[Option<u32>]) -> bool
+    ensures { result ≡ is_placed places.now found }
+{
+    found.is_none() || moved(found, places).is_some()
+}
+
+/// Whether all that references are bound to has new places.
+fn have_places(bound: &[Option<u32>], places: &[Option<u32>]) -> bool
+    ensures { result ≡ list_all (is_placed places.now) bound.now }
+{
+    bound.iter().all(|found| has_place(*found, places))
+}
+
+/// Binds references to the new places of what they are bound to, in a list of their own.
+fn move_references<A: Allocator + Copy>(
+    found: &[Option<u32>],
+    places: &[Option<u32>],
+    bound: &mut Lists<Option<u32>, A>,
+) -> Result<(), AllocError>
+    requires { bound.old.1 ≡ [] }
+    ensures { OnOk result (bound.new ≡ (bound.old.0 ++ map (moved_to places.now) found.now ∷ [], [])) }
+{
+    for i in 0..found.len() {
+        bound.push(moved(found[i], places))?;
+    }
+    bound.close()?;
+    Ok(())
+}
+
+/// Binds the references of the statement of a kept row: to the new places of what they were bound to, but looks them up where some of
+/// that has dropped.
+fn rebind_row<A: Allocator + Copy>(
+    alloc: A,
+    lookup: &Lookup<A>,
+    joined: &Joined<'_, A>,
+    words: &[Vec<u32, A>],
+    row: &Row,
+    found: &[Option<u32>],
+    places: &[Option<u32>],
+    memo: &mut Memo<A>,
+    bound: &mut Lists<Option<u32>, A>,
+) -> Result<(), AllocError>
+    requires worded { (names : List (List ℕ)) × AreWorded names words.now joined.now.modules.items }
+    requires from { (s : Placed) × IsFrom joined.now.modules.items row.now s }
+    requires closed { bound.old.1 ≡ [] }
+    ensures closed { OnOk result (bound.new.1 ≡ []) }
+    ensures binds { OnOk result ((names : List (List ℕ)) (policy : List Placed) (set : Optionals) (s : Placed) → AreApart policy → places.now ≡ places_from (is_within set) 0 policy
+        → AreLeads policy s.namespace (references s.form) found.now → Knows lookup.now.namespaces lookup.now.declared.entries names (restricted set policy)
+        → AreWorded names words.now joined.now.modules.items → RemembersOf joined.now.modules.items names lookup.now.namespaces (restricted set policy) memo.old
+        → IsRow names lookup.now.namespaces row.now s → IsFrom joined.now.modules.items row.now s → Binds (restricted set policy) s.namespace s.form bound.old bound.new) }
+    ensures remembers { OnOk result ((names : List (List ℕ)) (policy : List Placed) → Knows lookup.now.namespaces lookup.now.declared.entries names policy
+        → AreWorded names words.now joined.now.modules.items → RemembersOf joined.now.modules.items names lookup.now.namespaces policy memo.old
+        → RemembersOf joined.now.modules.items names lookup.now.namespaces policy memo.new) }
+{
+    if have_places(found, places) {
+        move_references(found, places, bound)?;
+        return Ok(());
+    }
+    bind_row(alloc, lookup, joined, words, row, memo, bound)?;
+    Ok(())
+}
+
+/// Binds the references of the kept rows of a whole policy, by what the references of all its rows are bound to and by the new places of
+/// the kept ones.
+pub fn rebind<A: Allocator + Copy>(
+    alloc: A,
+    lookup: &Lookup<A>,
+    joined: &Joined<'_, A>,
+    words: &[Vec<u32, A>],
+    rows: &[Row],
+    whole: &Lists<Option<u32>, A>,
+    places: &[Option<u32>],
+) -> Result<Lists<Option<u32>, A>, AllocError>
+    requires worded { (names : List (List ℕ)) × AreWorded names words.now joined.now.modules.items }
+    requires from { (policy : List Placed) × AreFrom joined.now.modules.items rows.now policy }
+    requires moved { AreMoved rows.now places.now (length whole.now.0) }
+    ensures { IfOk result (λ bound. (names : List (List ℕ)) (policy : List Placed) (set : Optionals) → AreApart policy → places.now ≡ places_from (is_within set) 0 policy
+        → AreBound policy policy whole.now.0 → Knows lookup.now.namespaces lookup.now.declared.entries names (restricted set policy)
+        → AreWorded names words.now joined.now.modules.items → AreRows names lookup.now.namespaces rows.now (restricted set policy)
+        → AreFrom joined.now.modules.items rows.now (restricted set policy) → AreBound (restricted set policy) (restricted set policy) bound.0) }
+{
+    let mut bound = Lists::with_capacity(alloc, rows.len(), room(rows.len()))?;
+    let mut memo = Memo::new(alloc);
+    for i in 0..places.len() {
+        let Some(place) = places[i] else {
+            continue;
+        };
+        rebind_row(
+            alloc,
+            lookup,
+            joined,
+            words,
+            &rows[place as usize],
+            whole.get(i),
+            places,
+            &mut memo,
+            &mut bound,
+        )?;
+    }
+    Ok(bound)
+}
+
+/// The kinds of the kept ones of some statements, by the kinds of all and by the new places of the kept ones.
+pub fn kept_kinds<A: Allocator>(
+    alloc: A,
+    kinds: &[StatementKind],
+    places: &[Option<u32>],
+) -> Result<Vec<StatementKind, A>, AllocError>
+    requires { length kinds.now ≡ length places.now }
+    ensures { IfOk result (λ kept. (policy : List Placed) (set : Optionals) → kinds.now ≡ kinds_of policy → places.now ≡ places_from (is_within set) 0 policy
+        → kept.items ≡ kinds_of (restricted set policy)) }
+{
+    let mut kept = Vec::with_capacity(alloc, kinds.len())?;
+    for i in 0..places.len() {
+        if places[i].is_none() {
+            continue;
+        }
+        kept.push(kinds[i])?;
+    }
+    Ok(kept)
+}

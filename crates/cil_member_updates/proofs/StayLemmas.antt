@@ -1,0 +1,50 @@
+-- A set statement of two policies that holds the same in both.
+use Rattle.std.proofs.Common.{◌≡◌, ◌+◌, ◌*◌, ◌/◌, ◌%◌, ◌&&◌, ℕ, Bool, true, false, List, Some, bytes_eq, slice_get, refl, sym, ap, ◌∙◌, arith}
+use Rattle.std.specs.List.{IsDistinct}
+use Rattle.std.specs.Int.{bit_at}
+use Rattle.std.proofs.lemmas.Bool.{true≢false}
+use Rattle.std.proofs.lemmas.Nat.Bits.{bit_at-zero}
+use Rattle.cil_specs.specs.Meaning.{Meaning}
+use Rattle.cil_specs.specs.Rule.{an_attribute, SetStatement}
+use Rattle.cil_specs.specs.Sets.{differ}
+use Rattle.cil_sets.specs.Counts.{one_if}
+use Rattle.cil_member_updates.specs.Bits.{Cover}
+use Rattle.cil_member_updates.specs.Evaluated.{IsMovedAt}
+use Rattle.cil_member_updates.specs.Given.{gives, holds, is_of, of_name, IsUnchanged}
+use Rattle.cil_member_updates.specs.Moved.{IsMoved}
+use Rattle.cil_member_updates.proofs.NameLemmas.{unchanged-row}
+
+-- the attribute of a row whose counters are the same before and now
+pub unchanged-all : (symbols : List (List ℕ)) (before now : ℕ → ℕ → ℕ) → IsDistinct bytes_eq symbols → (row : ℕ) (attribute : List ℕ) → slice_get symbols row ≡ Some attribute → ((t : ℕ) → before row t ≡ now row t)
+    → (w : ℕ) → IsUnchanged symbols before now (an_attribute attribute) w 0
+unchanged-all symbols before now distinct row attribute at same w =
+    unchanged-row symbols before now distinct row w 0 attribute at (λ b within. let here = same (64 * w + b) in omega (arith, bit_at-zero b, here))
+
+module _ (symbols : List (List ℕ)) (old new : Meaning) (s r : SetStatement) (word : ℕ) (covers : Cover (λ t. differ (holds symbols old s t) (holds symbols new r t)) word 0) where
+  none-differ : (t : ℕ) → t / 64 ≡ word → differ (holds symbols old s t) (holds symbols new r t) ≡ false
+  none-differ t at =
+      let here : 64 * word + t % 64 ≡ t = omega (arith, at) in
+      sym (ap (λ n. differ (holds symbols old s n) (holds symbols new r n)) here) ∙ covers (t % 64) (omega arith) (bit_at-zero (t % 64))
+
+  pub stay-unmoved : (t : ℕ) → t / 64 ≡ word → IsMovedAt symbols old s new r t → ⊥
+  stay-unmoved t at moved = true≢false (sym moved ∙ none-differ t at)
+
+  -- and gives the same
+  pub stay-gives : s.attribute ≡ r.attribute → (a t : ℕ) → t / 64 ≡ word → one_if (gives symbols old a t s) ≡ one_if (gives symbols new a t r)
+  unfolding is_of
+  stay-gives same a t at =
+      ap (λ h. one_if (is_of symbols s a && h)) (alike (holds symbols old s t) (holds symbols new r t) (none-differ t at))
+      ∙ ap (λ attribute. one_if (of_name (λ name. bytes_eq name attribute) (slice_get symbols a) && holds symbols new r t)) same
+    where
+      alike : (p q : Bool) → differ p q ≡ false → p ≡ q
+      alike true true e = refl
+      alike true false e = e
+      alike false true e = sym e
+      alike false false e = refl
+
+  -- so no counter of the word moves
+  pub stay-moved : s.attribute ≡ r.attribute → (count : ℕ → ℕ → ℕ) → IsMoved word (λ a t. one_if (gives symbols old a t s)) (λ a t. one_if (gives symbols new a t r)) count count
+  stay-moved same count = record {
+    here = λ a t at. ap (λ n. count a t + n) (stay-gives same a t at);
+    others = λ a t other. refl;
+  }

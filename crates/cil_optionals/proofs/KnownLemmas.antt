@@ -1,0 +1,44 @@
+-- Permissions of lists that classes are known to have.
+use Rattle.std.proofs.Common.{◌≡◌, ℕ, ◌&&◌, Bool, List, [], ◌∷◌, map, get_or, slice_get, Option, Some, refl, sym, ap, ◌∙◌, subst}
+use Rattle.std.specs.List.{list_all}
+use Rattle.std.proofs.lemmas.Option.{same_Some, get_or_from_slice_get}
+use Rattle.cil_specs.specs.Names.{Word}
+use Rattle.cil_specs.specs.Joined.{Placed}
+use Rattle.cil_specs.specs.Lookup.{texts}
+use Rattle.cil_parse.specs.Builder.{read}
+use Rattle.cil_parse.specs.declared.parsed.ParsedModule.{ParsedModule}
+use Rattle.cil_parse.specs.declared.row.NumberedWord.{NumberedWord}
+use Rattle.cil_bind.specs.Scope.{IsFrom}
+use Rattle.cil_bind.specs.declared.joined.NamedModule.{NamedModule}
+use Rattle.cil_bind.specs.declared.policy.Policy.{Policy}
+use Rattle.cil_bind.specs.declared.rows.Row.{Row}
+use Rattle.cil_bind.proofs.FromLemmas.{from-at}
+use Rattle.cil_optionals.specs.Asks.{IsOf}
+use Rattle.cil_optionals.specs.Providers.{IsReady}
+
+some-words : (a b : List Word) → map {B = Option Word} Some a ≡ map Some b → a ≡ b
+some-words [] [] same = refl
+some-words [] (w ∷ b) same = cc
+some-words (v ∷ a) [] same = cc
+some-words (v ∷ a) (w ∷ b) same =
+    let head : Some v ≡ Some w = cc in
+    let rest : map {A = Word} Some a ≡ map Some b = cc in
+    ap (λ u. u ∷ a) (same_Some v w head) ∙ ap (λ l. w ∷ l) (some-words a b rest)
+
+list-texts : (has : List ℕ → Bool) (words : List Word) → list_all has (texts words) ≡ list_all (λ w. has w.text) words
+list-texts has [] = refl
+list-texts has (w ∷ words) = ap (λ b. has w.text && b) (list-texts has words)
+
+-- the words that are shown are those of a list
+module _ (numbers : List (List ℕ)) (shown : List NumberedWord) (has : List ℕ → Bool) (listed : List (List ℕ)) (l words : List Word) (is : map (read numbers) shown ≡ map Some l)
+    (same : listed ≡ texts l) (other : map (read numbers) shown ≡ map Some words) where
+  pub listed-words : list_all has listed ≡ list_all (λ w. has w.text) words
+  listed-words = ap (list_all has) same ∙ list-texts has l ∙ ap (list_all (λ w. has w.text)) (some-words l words (sym is ∙ other))
+
+-- the row of a statement tells its module and its index
+pub row-from : {A : Type 0} (p : Policy A) (parsed : List (NamedModule A)) (m : ParsedModule A) (all : List Placed) (i : ℕ) (s : Placed) (row : Row) → IsReady p parsed all → slice_get all i ≡ Some s → IsOf p m i s → row ≡ get_or p.rows.items i row
+    → IsFrom parsed row s
+row-from p parsed m all i s row ready at of is =
+    let same : row ≡ of.row = is ∙ get_or_from_slice_get p.rows.items i of.row row of.at in
+    let from = from-at parsed p.rows.items all i row ready.bound.from (of.at ∙ ap Some (sym same)) in
+    subst (IsFrom parsed row) (same_Some from.0 s (sym from.1 ∙ at)) from.2

@@ -1,0 +1,11 @@
+use Rattle.std.proofs.Common.{rules}
+use Rattle.std.proofs.lemmas.List.Sorted.{IsNonDecreasingBy-from_sort_by_key}
+use Rattle.std.proofs.lemmas.Result.{on_ok_weaker}
+use Rattle.cil_optionals.specs.Dependents.{node_of}
+use Rattle.cil_optionals.proofs.dependents.sort.Goals as goal
+
+pub returns-clause-sorted : goal.returns-clause-sorted
+returns-clause-sorted g c =
+    on_ok_weaker c.sort_by_key.result
+    (λ sorted. IsNonDecreasingBy-from_sort_by_key node_of c.sort_by_key.new.self.items sorted (λ a r q k. search rules))
+    c.sort_by_key.ensures.sorted

@@ -1,0 +1,30 @@
+use Rattle.std.proofs.Common.{sym, ap, ◌∙◌}
+use Rattle.std.specs.List.{list_all}
+use Rattle.cil_bind.specs.KnownLists.{texts_listed}
+use Rattle.cil_parse.specs.Parsed.{texts_of}
+use Rattle.cil_optionals.specs.Given.{permissions_in, has_list}
+use Rattle.cil_optionals.proofs.KnownLemmas.{listed-words}
+use Rattle.cil_optionals.proofs.permissions.Permissions.has_list.Goals as goal
+
+pub returns-then-knows-clause-has : goal.returns-then-knows-clause-has
+returns-then-knows-clause-has g c = λ l shown.
+    let r = c.requires in
+    let has = permissions_in c.args.self.now.listed.now c.args.class in
+    let listed = texts_listed c.args.self.now.joined.now.modules.items c.args.list.«module» c.args.list.list in
+    sym (c.args.self.now.known_are c.args.list.«module» c.args.list.list c.args.class (sym c.knows.ensures ∙ c.if-knows.true))
+    ∙ listed-words (texts_of c.args.«module».now) c.args.words.now has listed r.0 l r.1 r.2 shown
+
+pub invariant_of-self-clause-known_are : goal.invariant_of-self-clause-known_are
+invariant_of-self-clause-known_are g c =
+    let r = c.requires in
+    let old = c.args.self.now in
+    let new = c.has_all.new.self in
+    let number = c.args.list.«module» in
+    let list = c.args.list.list in
+    let has = permissions_in old.listed.now c.args.class in
+    let listed = texts_listed old.joined.now.modules.items number list in
+    c.note.ensures (has_list new.joined.now.modules.items (permissions_in new.listed.now))
+    (ap (λ x. list_all (permissions_in x.now c.args.class) (texts_listed new.joined.now.modules.items number list)) c.in_ok-there.ensures.listed
+    ∙ ap (λ j. list_all has (texts_listed j.now.modules.items number list)) c.in_ok-there.ensures.joined
+    ∙ listed-words (texts_of c.args.«module».now) c.args.words.now has listed r.0 r.0 r.1 r.2 r.1 ∙ sym (c.in_ok-there.ensures.has r.0 r.1) ∙ c.if-there.true)
+    new.known_are

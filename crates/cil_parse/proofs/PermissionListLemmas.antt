@@ -1,0 +1,144 @@
+-- The lists of permissions of statements by their numbers.
+use Rattle.std.proofs.Common.{◌≡◌, ℕ, zero, suc, ◌+◌, ◌<◌, List, [], ◌∷◌, ◌++◌, map, length, get_or, take, drop, Option, Some, None, slice_get, refl, sym, ap, ◌∙◌, arith}
+use Rattle.std.proofs.lemmas.List.{drop-map}
+use Rattle.std.specs.Option.{option_map}
+use Rattle.std.proofs.lemmas.List.{length-map, get_or-map}
+use Rattle.std.proofs.lemmas.Option.{same_Some, slice_get_within, get_or_from_slice_get}
+use Rattle.cil_text.specs.Image.{place_of}
+use Rattle.cil_parse.specs.Flat.{flat}
+use Rattle.cil_parse.specs.Parsed.{texts_of, permission_lists_of, statement_count, Spells}
+use Rattle.cil_parse.specs.declared.parsed.ParsedModule.{ParsedModule}
+use Rattle.cil_parse.proofs.ParsedLemmas.{same-length, same-at, shown}
+use Rattle.cil_specs.specs.Statements.{Statements}
+use Rattle.cil_specs.specs.Names.{Word}
+use Rattle.cil_specs.specs.Lookup.{texts}
+use Rattle.cil_specs.specs.Statements.{itself, the_named, Form, block, optional, type_name, type_alias, alias_actual, type_attribute, attribute_set, common, class, class_common, class_order, rule}
+use Rattle.cil_parse.specs.Builder.{read}
+use Rattle.cil_parse.specs.Forms.{kind_of, words_in, permissions_in}
+use Rattle.cil_parse.specs.Flat.{FlatStatement}
+use Rattle.cil_parse.specs.PermissionLists.{permission_words, permission_texts}
+use Rattle.cil_parse.specs.View.{IsShown}
+use Rattle.cil_parse.specs.declared.row.NumberedWord.{NumberedWord}
+use Rattle.cil_parse.specs.declared.row.Row.{Row}
+use Rattle.cil_parse.specs.declared.row.StatementKind.TheVariants as kinds
+use Rattle.cil_parse.specs.declared.view.StatementView.{StatementView}
+
+-- the text of a word that is read
+text-read : (all : List (List ℕ)) (w : NumberedWord) (x : Word) → read all w ≡ Some x → get_or all w.text [] ≡ x.text
+text-read all w x is = by (slice_get all w.text) refl is
+  where
+    by : (o : Option (List ℕ)) → slice_get all w.text ≡ o → option_map (λ t. record { at = place_of w.at; text = t }) o ≡ Some x → get_or all w.text [] ≡ x.text
+    by None e is = cc
+    by (Some t) e is = get_or_from_slice_get all w.text t [] e ∙ ap (λ (y : Word). y.text) (same_Some (record { at = place_of w.at; text = t }) x is)
+
+pub texts-read : (all : List (List ℕ)) (ws : List NumberedWord) (words : List Word) → map (read all) ws ≡ map Some words → map (λ n. get_or all n []) (map (λ w. w.text) ws) ≡ texts words
+texts-read all [] [] is = refl
+texts-read all [] (x ∷ words) is = cc
+texts-read all (w ∷ ws) [] is = cc
+texts-read all (w ∷ ws) (x ∷ words) is =
+    let head : read all w ≡ Some x = cc in
+    let rest : map (read all) ws ≡ map {A = Word} Some words = cc in
+    let first = text-read all w x head in
+    let more = texts-read all ws words rest in
+    (λ i. first i ∷ more i)
+
+-- the texts of one statement more
+listed-suc : (rows : List Row) (lists : List (List NumberedWord)) (i : ℕ) (row : Row) → length lists ≡ length rows → i < length rows
+    → permission_texts (take (suc i) rows) (take (suc i) lists)
+    ≡ permission_texts (take i rows) (take i lists) ++ map (λ w. w.text) (permission_words (get_or rows i row).kind (get_or lists i [])) ∷ []
+listed-suc [] lists i row same within = absurd (omega arith)
+listed-suc (r ∷ rows) [] i row same within = absurd (omega arith)
+listed-suc (r ∷ rows) (l ∷ lists) zero row same within = refl
+listed-suc (r ∷ rows) (l ∷ lists) (suc i) row same within = ap (λ more. map (λ w. w.text) (permission_words r.kind l) ∷ more) (listed-suc rows lists i row (omega arith) (omega arith))
+
+pub listed-next : (rows : List Row) (lists : List (List NumberedWord)) (i : ℕ) (row : Row) → length lists ≡ length rows → i < length rows
+    → permission_texts (take (i + 1) rows) (take (i + 1) lists)
+    ≡ permission_texts (take i rows) (take i lists) ++ map (λ w. w.text) (permission_words (get_or rows i row).kind (get_or lists i [])) ∷ []
+listed-next rows lists i row same within =
+    let next : i + 1 ≡ suc i = omega arith in
+    ap (λ n. permission_texts (take n rows) (take n lists)) next ∙ listed-suc rows lists i row same within
+
+pub listed-length : (rows : List Row) (lists : List (List NumberedWord)) → length lists ≡ length rows → length (permission_texts rows lists) ≡ length rows
+listed-length [] lists same = refl
+listed-length (r ∷ rows) [] same = absurd (omega arith)
+listed-length (r ∷ rows) (l ∷ lists) same = ap suc (listed-length rows lists (omega arith))
+
+-- the texts of the statement of an index
+pub listed-at : (rows : List Row) (lists : List (List NumberedWord)) (i : ℕ) (row : Row) → length lists ≡ length rows → i < length rows
+    → slice_get (permission_texts rows lists) i ≡ Some (map (λ w. w.text) (permission_words (get_or rows i row).kind (get_or lists i [])))
+listed-at [] lists i row same within = absurd (omega arith)
+listed-at (r ∷ rows) [] i row same within = absurd (omega arith)
+listed-at (r ∷ rows) (l ∷ lists) zero row same within = refl
+listed-at (r ∷ rows) (l ∷ lists) (suc i) row same within = listed-at rows lists i row (omega arith) (omega arith)
+
+module _ {W X : Type 0} (f : W → X) (g : Word → X) where
+  behind-words : (n : ℕ) (ws : List W) (all : List Word) → map f ws ≡ map g all → map f (drop n ws) ≡ map g (drop n all)
+  behind-words n ws all is = sym (drop-map f n ws) ∙ ap (drop n) is ∙ drop-map g n all
+
+  -- the permissions are among the words
+  pub among-words : (form : Form) (ws : List W) → map f ws ≡ map g (words_in form) → map f (permission_words (kind_of form) ws) ≡ map g (permissions_in form)
+  among-words (block id) ws is = refl
+  among-words (optional id) ws is = refl
+  among-words (type_name id) ws is = refl
+  among-words (type_alias id) ws is = refl
+  among-words (alias_actual alias actual) ws is = refl
+  among-words (type_attribute id) ws is = refl
+  among-words (attribute_set attribute expr) ws is = refl
+  among-words (common id permissions) ws is = behind-words 1 ws (id ∷ permissions) is
+  among-words (class id permissions) ws is = behind-words 1 ws (id ∷ permissions) is
+  among-words (class_common the_class the_common) ws is = refl
+  among-words (class_order the_classes) ws is = refl
+  among-words (rule kind source itself the_class permissions) ws is = behind-words 2 ws (source ∷ the_class ∷ permissions) is
+  among-words (rule kind source (the_named word) the_class permissions) ws is = behind-words 3 ws (source ∷ word ∷ the_class ∷ permissions) is
+
+pub shown-permissions : (all : List (List ℕ)) (v : StatementView) (f : FlatStatement) → IsShown all v f → map (read all) (permission_words v.kind v.words.now) ≡ map Some (permissions_in f.form)
+shown-permissions all v f shown = ap (λ kind. map (read all) (permission_words kind v.words.now)) shown.kind ∙ among-words (read all) Some f.form v.words.now shown.words
+
+-- what is read behind the end of the rows
+no_row : Row
+no_row = record { at = record { offset = 0; line = 0; column = 0 }; kind = kinds.Block; around = record { block = 0; optional = 0 } }
+
+module _ {A : Type 0} (p : ParsedModule A) where
+  -- each statement has a number
+  pub numbers-long : length p.permission_lists.numbers.items ≡ statement_count p
+  numbers-long =
+      same-length (slice_get p.permission_lists.lists.0) Some p.permission_lists.numbers.items (permission_texts p.rows.items p.words.0) p.listed
+      ∙ listed-length p.rows.items p.words.0 p.each_words
+
+  -- and its list is that of the number
+  list-there : (i n d : ℕ) → i < statement_count p → n ≡ get_or p.permission_lists.numbers.items i d
+      → slice_get p.permission_lists.lists.0 n ≡ Some (map (λ w. w.text) (permission_words (get_or p.rows.items i no_row).kind (get_or p.words.0 i [])))
+  list-there i n d within is =
+      let long = numbers-long in
+      let there : i < length p.permission_lists.numbers.items = omega (arith, long, within) in
+      ap (slice_get p.permission_lists.lists.0) is
+      ∙ same-at (slice_get p.permission_lists.lists.0) Some p.permission_lists.numbers.items (permission_texts p.rows.items p.words.0) i d _ p.listed there (listed-at p.rows.items p.words.0 i no_row p.each_words within)
+
+  pub list-within : (i n d : ℕ) → i < statement_count p → n ≡ get_or p.permission_lists.numbers.items i d → n < length (permission_lists_of p)
+  list-within i n d within is =
+      let low = slice_get_within p.permission_lists.lists.0 n _ (list-there i n d within is) in
+      let long = length-map p.permission_lists.lists.0 (map (λ n. get_or (texts_of p) n [])) in
+      omega (arith, low, long)
+
+  -- the list of a statement of the module
+  pub list-is : (i n d : ℕ) (statements : Statements) (f : FlatStatement) → i < statement_count p → n ≡ get_or p.permission_lists.numbers.items i d → Spells p statements → slice_get (flat 0 0 0 statements) i ≡ Some f
+      → get_or (permission_lists_of p) n [] ≡ texts (permissions_in f.form)
+  list-is i n d statements f within is spells here =
+      get_or-map (map (λ n. get_or (texts_of p) n [])) p.permission_lists.lists.0 n [] [] (slice_get_within p.permission_lists.lists.0 n _ there)
+      ∙ ap (map (λ n. get_or (texts_of p) n [])) (get_or_from_slice_get p.permission_lists.lists.0 n _ [] there)
+      ∙ texts-read (texts_of p) (permission_words r.kind words) (permissions_in f.form) (shown-permissions (texts_of p) v f v_is)
+    where
+      r : Row
+      r = get_or p.rows.items i no_row
+
+      words : List NumberedWord
+      words = get_or p.words.0 i []
+
+      there : slice_get p.permission_lists.lists.0 n ≡ Some (map (λ w. w.text) (permission_words r.kind words))
+      there = list-there i n d within is
+
+      v : StatementView
+      v = record { at = r.at; kind = r.kind; block = r.around.block; optional = r.around.optional; words = record { ref_ptr = (0, 0); now = words }; nodes = record { ref_ptr = (0, 0); now = get_or p.nodes.0 i [] } }
+
+      v_is : IsShown (texts_of p) v f
+      v_is = shown p statements f i no_row v spells here within refl refl refl refl p.each_words p.each_nodes refl refl

@@ -1,0 +1,113 @@
+//! The distinct lists of permissions of a module's statements.
+
+ghost use Rattle.std.specs.Prelude.{◌≡◌, ◌++◌, [], length, map, drop, IfOk, OnOk};
+ghost use Rattle.cil_parse.specs.Lexicon.{seen, AreNumbersOf};
+ghost use Rattle.cil_parse.specs.PermissionLists.{permission_words, permission_texts, AreListed};
+
+use crate::copied::copies;
+use crate::lexicon::number;
+use crate::lists::Lists;
+use crate::row::{NumberedWord, Row, StatementKind};
+use indexmap::IndexSet;
+use std::alloc::{AllocError, Allocator, Global};
+use std::hash::{BuildHasherDefault, FoldHasher};
+
+/// For each statement the number of the permissions that it lists, and the distinct lists by the numbers of their texts.
+#[derive(Drop)]
+pub struct PermissionLists<A: Allocator = Global> {
+    pub numbers: Vec<u32, A>,
+    pub lists: Lists<u32, A>,
+}
+
+/// Lists, each once, and the number of each.
+#[derive(Drop)]
+struct Distinct<'l, A: Allocator = Global> {
+    lists: IndexSet<&'l [u32], BuildHasherDefault<FoldHasher>, A>,
+    numbers: Vec<u32, A>,
+}
+
+/// The words behind so many.
+fn behind(words: &[NumberedWord], n: usize) -> &[NumberedWord]
+    ensures { result.now ≡ drop n words.now }
+{
+    if n < words.len() {
+        &words[n..]
+    } else {
+        &words[words.len()..]
+    }
+}
+
+/// The permissions among the words of a statement of a kind.
+pub fn permission_words(kind: StatementKind, words: &[NumberedWord]) -> &[NumberedWord]
+    ensures { result.now ≡ permission_words kind words.now }
+{
+    match kind {
+        StatementKind::Common | StatementKind::Class => behind(words, 1),
+        StatementKind::Rule(_) => behind(words, 3),
+        StatementKind::RuleToSelf(_) => behind(words, 2),
+        _ => behind(words, words.len()),
+    }
+}
+
+/// Puts the texts of words at the end of the open list.
+fn push_texts<A: Allocator + Copy>(
+    lists: &mut Lists<u32, A>,
+    words: &[NumberedWord],
+) -> Result<(), AllocError>
+    ensures { OnOk result (lists.new ≡ (lists.old.0, lists.old.1 ++ map (λ w. w.text) words.now)) }
+{
+    for word in words {
+        lists.push(word.text)?;
+    }
+    Ok(())
+}
+
+/// For each statement the texts of its permissions.
+fn listed<A: Allocator + Copy>(
+    alloc: A,
+    rows: &[Row],
+    words: &Lists<NumberedWord, A>,
+) -> Result<Lists<u32, A>, AllocError>
+    requires { length words.now.0 ≡ length rows.now }
+    ensures { IfOk result (λ lists. lists ≡ (permission_texts rows.now words.now.0, [])) }
+{
+    let mut lists = Lists::with_capacity(alloc, rows.len(), 0)?;
+    for i in 0..rows.len() {
+        push_texts(&mut lists, permission_words(rows[i].kind, words.get(i)))?;
+        lists.close()?;
+    }
+    Ok(lists)
+}
+
+/// The lists, each once.
+fn each_once<'l, A: Allocator + Copy>(
+    alloc: A,
+    lists: &'l Lists<u32, A>,
+) -> Result<Distinct<'l, A>, AllocError>
+    ensures { IfOk result (λ d. AreNumbersOf (seen d.lists.keys) d.numbers.items lists.now.0) }
+{
+    let mut distinct = Distinct {
+        lists: IndexSet::new(alloc),
+        numbers: Vec::with_capacity(alloc, lists.len())?,
+    };
+    for i in 0..lists.len() {
+        let (n, _new) = distinct.lists.insert_full(lists.get(i))?;
+        distinct.numbers.push(number(n)?)?;
+    }
+    Ok(distinct)
+}
+
+impl<A: Allocator + Copy> PermissionLists<A> {
+    /// Those of statements with these words.
+    pub fn of(alloc: A, rows: &[Row], words: &Lists<NumberedWord, A>) -> Result<Self, AllocError>
+        requires { length words.now.0 ≡ length rows.now }
+        ensures { IfOk result (λ p. AreListed p rows.now words.now.0) }
+    {
+        let lists = listed(alloc, rows, words)?;
+        let distinct = each_once(alloc, &lists)?;
+        Ok(PermissionLists {
+            lists: copies(alloc, distinct.lists.as_slice())?,
+            numbers: distinct.numbers,
+        })
+    }
+}
