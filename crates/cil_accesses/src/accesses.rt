@@ -81,6 +81,9 @@ impl<A: Allocator> Accesses<A> {
     {
         Rows::of(&self.chunks)
     }
+}
+
+impl<A: Allocator + Copy> Accesses<A> {
     /// The accesses with the numbers at the places of their own in a list that rises.
     pub fn renumbered(&self, alloc: A, numbers: &[u32]) -> Result<Accesses<A>, AllocError>
         requires within { All (IsWithin (length numbers.now)) self.now }

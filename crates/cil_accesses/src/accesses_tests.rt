@@ -9,6 +9,7 @@ ghost use Rattle.cil_accesses.specs.declared.access.AccessNumbers.{AccessNumbers
 use crate::access::AccessNumbers;
 use crate::accesses::Accesses;
 use crate::chunk::Chunk;
+use crate::chunk_places::ChunkPlaces;
 use crate::difference::Difference;
 use crate::ordering::sort_from;
 use crate::renumber::push_renumbered;
@@ -426,12 +427,32 @@ fn assert_low_chunk(rt: &impl Abort, chunk: &Chunk, len: usize)
 // The accesses of chunks with the numbers at the places of their own, which come in any order.
 fn pushed(rt: &impl Abort, alloc: Global, chunks: &[Chunk], numbers: &[u32]) -> Accesses {
     let mut all = Vec::new(alloc);
+    let mut places = ChunkPlaces::new(alloc);
     for chunk in chunks {
         assert!(rt; chunk.word < 1 << 26);
         assert_low_chunk(rt, chunk, numbers.len());
-        push_renumbered(&mut all, chunk, numbers).expect(rt, "memory");
+        push_renumbered(&mut all, &mut places, chunk, numbers).expect(rt, "memory");
     }
     Accesses::of(all)
+}
+
+// Targets whose numbers stand in two words by turns.
+#[test]
+fn targets_of_two_words_by_turns(rt: HostRuntime) {
+    let alloc = rt.alloc();
+    let mut by_turns = Vec::new(alloc);
+    for target in 0..64u32 {
+        let number = target / 2 + 64 * (target % 2);
+        by_turns.push(number).expect(&rt, "memory");
+    }
+    let every = chunk(1, 0, 2, 3, ALL);
+    assert!(&rt; every.word < 1 << 26);
+    assert_low_chunk(&rt, &every, by_turns.len());
+    let mut all = Vec::new(alloc);
+    let mut places = ChunkPlaces::new(alloc);
+    push_renumbered(&mut all, &mut places, &every, &by_turns).expect(&rt, "memory");
+    assert!(&rt; all.len() == 2);
+    assert!(&rt; Accesses::of(all).len() == 64);
 }
 
 #[test]

@@ -6,6 +6,7 @@ mod accesses;
 #[cfg(test)]
 mod accesses_tests;
 mod chunk;
+mod chunk_places;
 mod difference;
 mod merge;
 mod moving;
@@ -18,6 +19,7 @@ mod run;
 pub use access::AccessNumbers;
 pub use accesses::Accesses;
 pub use chunk::Chunk;
+pub use chunk_places::ChunkPlaces;
 pub use difference::Difference;
 pub use ordering::sort_from;
 pub use renumber::push_renumbered;

@@ -8,43 +8,49 @@ ghost use Rattle.cil_accesses.specs.Chunks.{IsAccessOf, IsGiven};
 ghost use Rattle.cil_accesses.specs.Renumbered.{IsTarget, IsWithin, IsRenumbered, IsRenumberedIn, MovesUp};
 
 use crate::chunk::Chunk;
+use crate::chunk_places::ChunkPlaces;
 use crate::moving::{common_move, moved_up, rising_move};
 use std::alloc::{AllocError, Allocator};
 
-/// Adds the accesses of a chunk to the last one, where both are of one kind, source, word, class and permission, and says whether it
+/// Adds the accesses of a chunk to that of a place, where both are of one kind, source, word, class and permission, and says whether it
 /// does.
-fn add_to_last<A: Allocator>(chunks: &mut Vec<Chunk, A>, chunk: &Chunk) -> bool
+fn add_to<A: Allocator>(chunks: &mut Vec<Chunk, A>, place: usize, chunk: &Chunk) -> bool
     requires words { All (λ c. c.word < 2 ^ 26) chunks.old.items }
     ensures words { All (λ c. c.word < 2 ^ 26) chunks.new.items }
     ensures same { MatchBool result ((a : _) → IsGiven chunks.new.items a ↔ (IsGiven chunks.old.items a ⊎ IsAccessOf chunk.now a))
         (chunks.new.items ≡ chunks.old.items) }
 {
-    let len = chunks.len();
-    if len == 0 {
+    if place >= chunks.len() {
         return false;
     }
-    chunks[len - 1].take_up(chunk)
+    chunks[place].take_up(chunk)
 }
 
-/// Adds a chunk's accesses: to the last chunk, where it's of one kind, source, word, class and permission with that, and else as a
-/// chunk of their own.
-fn push_chunk<A: Allocator>(chunks: &mut Vec<Chunk, A>, chunk: Chunk) -> Result<(), AllocError>
+/// Adds a chunk's accesses: to the chunk that stands at the place of their word, where it's of one kind, source, word, class and
+/// permission with that, and else as a chunk of their own.
+fn push_chunk<A: Allocator>(
+    chunks: &mut Vec<Chunk, A>,
+    places: &mut ChunkPlaces<A>,
+    chunk: Chunk,
+) -> Result<(), AllocError>
     requires word { chunk.word < 2 ^ 26 }
     requires words { All (λ c. c.word < 2 ^ 26) chunks.old.items }
     ensures words { OnOk result (All (λ c. c.word < 2 ^ 26) chunks.new.items) }
     ensures same { OnOk result ((a : _) → IsGiven chunks.new.items a ↔ (IsGiven chunks.old.items a ⊎ IsAccessOf chunk a)) }
 {
-    if add_to_last(chunks, &chunk) {
+    if add_to(chunks, places.of(chunk.word), &chunk) {
         return Ok(());
     }
+    places.put(chunk.word, chunks.len())?;
     chunks.push(chunk)?;
     Ok(())
 }
 
 /// Adds the accesses of a chunk bit by bit, with the numbers at the places of their own. Those that come to one word in turn are put
-/// together before they are added, since a look at the last chunk for each takes longer.
+/// together before they are added, since a look at the chunk of their word for each takes longer.
 fn push_bits<A: Allocator>(
     made: &mut Vec<Chunk, A>,
+    places: &mut ChunkPlaces<A>,
     chunk: &Chunk,
     numbers: &[u32],
 ) -> Result<(), AllocError>
@@ -66,17 +72,18 @@ fn push_bits<A: Allocator>(
         if word == held.word {
             held.bits |= bits;
         } else {
-            push_chunk(made, held)?;
+            push_chunk(made, places, held)?;
             held = Chunk { word, bits, ..held };
         }
         from = bit + 1;
     }
-    push_chunk(made, held)
+    push_chunk(made, places, held)
 }
 
 /// Adds the accesses of a chunk, with the numbers at the places of their own, whose targets are those of a word's bits then.
 fn push_word<A: Allocator>(
     made: &mut Vec<Chunk, A>,
+    places: &mut ChunkPlaces<A>,
     chunk: &Chunk,
     numbers: &[u32],
     word: u32,
@@ -99,12 +106,13 @@ fn push_word<A: Allocator>(
         permission: numbers[chunk.permission as usize],
         bits,
     };
-    push_chunk(made, moved)
+    push_chunk(made, places, moved)
 }
 
 /// Adds the accesses of a chunk, with the numbers at the places of their own, where all targets move up by as much.
 fn push_moved<A: Allocator>(
     made: &mut Vec<Chunk, A>,
+    places: &mut ChunkPlaces<A>,
     chunk: &Chunk,
     numbers: &[u32],
     up: u32,
@@ -118,14 +126,15 @@ fn push_moved<A: Allocator>(
 {
     let word = chunk.word + up / 64;
     let (low, high) = moved_up(chunk.bits, up % 64);
-    push_word(made, chunk, numbers, word, low)?;
-    push_word(made, chunk, numbers, word + 1, high)
+    push_word(made, places, chunk, numbers, word, low)?;
+    push_word(made, places, chunk, numbers, word + 1, high)
 }
 
 /// Adds the accesses of a chunk, with the numbers at the places of their own, where it's known by how much all targets move up, or
 /// where that is left open.
 fn push_by<A: Allocator>(
     made: &mut Vec<Chunk, A>,
+    places: &mut ChunkPlaces<A>,
     chunk: &Chunk,
     numbers: &[u32],
     up: Option<u32>,
@@ -138,15 +147,17 @@ fn push_by<A: Allocator>(
     ensures same { OnOk result ((a : _) → IsGiven made.new.items a ↔ (IsGiven made.old.items a ⊎ IsRenumbered numbers.now chunk.now 64 a)) }
 {
     match up {
-        Some(up) => push_moved(made, chunk, numbers, up),
-        None => push_bits(made, chunk, numbers),
+        Some(up) => push_moved(made, places, chunk, numbers, up),
+        None => push_bits(made, places, chunk, numbers),
     }
 }
 
-/// Adds the accesses of a chunk, with the numbers at the places of their own, in any order. It takes them up into the last chunk
-/// where they are of one kind, source, word, class and permission, so those that come in order make few chunks.
+/// Adds the accesses of a chunk, with the numbers at the places of their own, in any order. It takes them up into the chunk that took
+/// up some of their word last, where they are of one kind, source, word, class and permission, so those of one kind, source, class and
+/// permission that come behind one another make one chunk for each word.
 pub fn push_renumbered<A: Allocator>(
     made: &mut Vec<Chunk, A>,
+    places: &mut ChunkPlaces<A>,
     chunk: &Chunk,
     numbers: &[u32],
 ) -> Result<(), AllocError>
@@ -156,12 +167,13 @@ pub fn push_renumbered<A: Allocator>(
     ensures words { OnOk result (All (λ c. c.word < 2 ^ 26) made.new.items) }
     ensures same { OnOk result ((a : _) → IsGiven made.new.items a ↔ (IsGiven made.old.items a ⊎ IsRenumbered numbers.now chunk.now 64 a)) }
 {
-    push_by(made, chunk, numbers, common_move(chunk, numbers))
+    push_by(made, places, chunk, numbers, common_move(chunk, numbers))
 }
 
 /// Adds the accesses of a chunk, with the numbers at the places of their own in a list that rises.
 fn push_rising<A: Allocator>(
     made: &mut Vec<Chunk, A>,
+    places: &mut ChunkPlaces<A>,
     chunk: &Chunk,
     numbers: &[u32],
 ) -> Result<(), AllocError>
@@ -172,12 +184,12 @@ fn push_rising<A: Allocator>(
     ensures words { OnOk result (All (λ c. c.word < 2 ^ 26) made.new.items) }
     ensures same { OnOk result ((a : _) → IsGiven made.new.items a ↔ (IsGiven made.old.items a ⊎ IsRenumbered numbers.now chunk.now 64 a)) }
 {
-    push_by(made, chunk, numbers, rising_move(chunk, numbers))
+    push_by(made, places, chunk, numbers, rising_move(chunk, numbers))
 }
 
 /// Chunks that have the accesses of these, with the numbers at the places of their own. Those of one kind, source, word, class and
 /// permission may be more than one.
-pub fn renumbered_chunks<A: Allocator>(
+pub fn renumbered_chunks<A: Allocator + Copy>(
     alloc: A,
     chunks: &[Chunk],
     numbers: &[u32],
@@ -189,8 +201,9 @@ pub fn renumbered_chunks<A: Allocator>(
     ensures same { IfOk result (λ made. (a : _) → IsGiven made.items a ↔ Any (λ c. IsRenumbered numbers.now c 64 a) chunks.now) }
 {
     let mut made = Vec::with_capacity(alloc, chunks.len())?;
+    let mut places = ChunkPlaces::new(alloc);
     for chunk in chunks {
-        push_rising(&mut made, chunk, numbers)?;
+        push_rising(&mut made, &mut places, chunk, numbers)?;
     }
     Ok(made)
 }

@@ -19,7 +19,7 @@ use Rattle.cil_parse.specs.declared.view.StatementView.{StatementView}
 use Rattle.cil_bind.specs.Lookup.{IsLead}
 use Rattle.cil_parse.specs.Forms.{kind_of}
 use Rattle.cil_parse.specs.declared.row.StatementKind.{StatementKind}
-use Rattle.cil_bind.specs.Binding.{AreLeads, AreBound, Binds, kinds_of}
+use Rattle.cil_bind.specs.Binding.{AreLeads, AreBound, Binds, kinds_of, most_references}
 use Rattle.cil_bind.specs.Scope.{AreFrom}
 use Rattle.cil_bind.specs.declared.joined.NamedModule.{NamedModule}
 use Rattle.cil_bind.proofs.PositionLemmas.{take-next, take-last}
@@ -71,13 +71,30 @@ references-few (class_order the_classes) = omega (arith, length-tagged classes t
 references-few (rule kind source itself the_class permissions) = omega arith
 references-few (rule kind source (the_named target) the_class permissions) = omega arith
 
+-- so are they among those that a kind can have
+references-most : (form : Form) → length (references form) ≤ most_references (kind_of form) (length (words_in form))
+references-most (rule kind source itself the_class permissions) = omega arith
+references-most (rule kind source (the_named target) the_class permissions) = omega arith
+references-most (block id) = references-few (block id)
+references-most (optional id) = references-few (optional id)
+references-most (type_name id) = references-few (type_name id)
+references-most (type_alias id) = references-few (type_alias id)
+references-most (alias_actual alias actual) = references-few (alias_actual alias actual)
+references-most (type_attribute id) = references-few (type_attribute id)
+references-most (attribute_set attribute expr) = references-few (attribute_set attribute expr)
+references-most (common id permissions) = references-few (common id permissions)
+references-most (class id permissions) = references-few (class id permissions)
+references-most (class_common the_class the_common) = references-few (class_common the_class the_common)
+references-most (class_order the_classes) = references-few (class_order the_classes)
+
 -- all references
-pub leads-all : (policy : List Placed) (namespace : List (List ℕ)) (texts : List (List ℕ)) (v : StatementView) (f : FlatStatement) (k : ℕ) (bound : List (Option ℕ)) → IsShown texts v f → length v.words.now ≤ k
+pub leads-all : (policy : List Placed) (namespace : List (List ℕ)) (texts : List (List ℕ)) (v : StatementView) (f : FlatStatement) (k : ℕ) (bound : List (Option ℕ)) → IsShown texts v f → most_references v.kind (length v.words.now) ≤ k
     → AreLeads policy namespace (take k (references f.form)) bound → AreLeads policy namespace (references f.form) bound
 leads-all policy namespace texts v f k bound shown past are =
     let long : length v.words.now ≡ length (words_in f.form) = sym (length-map v.words.now (read texts)) ∙ ap length shown.words ∙ length-map (words_in f.form) Some in
-    let few = references-few f.form in
-    subst (λ l. AreLeads policy namespace l bound) (take_all k (references f.form) (omega arith)) are
+    let most : most_references v.kind (length v.words.now) ≡ most_references (kind_of f.form) (length (words_in f.form)) = ap (λ kind. most_references kind (length v.words.now)) shown.kind ∙ ap (most_references (kind_of f.form)) long in
+    let few = references-most f.form in
+    subst (λ l. AreLeads policy namespace l bound) (take_all k (references f.form) (omega (arith, most, few, past))) are
 
 bound-push : (policy statements : List Placed) (bound : List (List (Option ℕ))) (s : Placed) (b : List (Option ℕ)) → AreBound policy statements bound → AreLeads policy s.namespace (references s.form) b
     → AreBound policy (statements ++ s ∷ []) (bound ++ b ∷ [])

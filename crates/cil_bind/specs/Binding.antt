@@ -6,6 +6,7 @@ use Rattle.cil_specs.specs.Joined.{Placed}
 use Rattle.cil_specs.specs.Lookup.{Table, leads, references}
 use Rattle.cil_parse.specs.Forms.{kind_of}
 use Rattle.cil_parse.specs.declared.row.StatementKind.{StatementKind}
+use Rattle.cil_parse.specs.declared.row.StatementKind.TheVariants as kinds
 use Rattle.cil_bind.specs.Lookup.{IsLead}
 use Rattle.cil_bind.specs.declared.rows.Row.{Row}
 
@@ -28,6 +29,12 @@ pub record Binds (policy : List Placed) (namespace : List (List ℕ)) (form : Fo
   pub bound : List (Option ℕ)
   pub added : new ≡ (old.0 ++ bound ∷ [], [])
   pub leads_are : AreLeads policy namespace (references form) bound
+
+-- how many of so many words of a statement of a kind are references at most: behind those of a rule its permissions stand
+abbrev pub most_references : StatementKind → ℕ → ℕ
+most_references (kinds.Rule kind) n = 3
+most_references (kinds.RuleToSelf kind) n = 2
+most_references _ n = n
 
 -- the kinds of statements
 abbrev pub kinds_of : List Placed → List StatementKind

@@ -8,7 +8,7 @@ ghost use Rattle.cil_parse.specs.Lexicon.{AreNumbersOf};
 ghost use Rattle.cil_parse.specs.Parsed.{names_of, texts_of};
 ghost use Rattle.cil_parse.specs.View.{IsShown};
 ghost use Rattle.cil_bind.specs.Lookup.{namespace_at as namespace_of, Knows};
-ghost use Rattle.cil_bind.specs.Binding.{Binds, AreBound, kinds_of};
+ghost use Rattle.cil_bind.specs.Binding.{Binds, AreBound, kinds_of, most_references};
 ghost use Rattle.cil_bind.specs.Rows.{IsRow, AreRows};
 ghost use Rattle.cil_bind.specs.Scope.{IsFrom, AreFrom};
 ghost use Rattle.cil_bind.specs.Words.{AreWorded, AsKnown, Remembers, RemembersOf};
@@ -19,6 +19,17 @@ use crate::memo::Memo;
 use crate::rows::Row;
 use cil_parse::{Lists, ParsedModule, StatementKind, StatementView};
 use std::alloc::{AllocError, Allocator, Global};
+
+/// How many of a statement's words are references at most: behind those of a rule its permissions stand, and they are many.
+fn most_references(view: &StatementView<'_>) -> usize
+    ensures { result ≡ most_references view.now.kind (length view.now.words.now) }
+{
+    match view.kind {
+        StatementKind::Rule(_) => 3,
+        StatementKind::RuleToSelf(_) => 2,
+        _ => view.words.len(),
+    }
+}
 
 /// Binds the references of a statement of a module from a namespace, in a list of their own. The words are the numbers of the module's
 /// names.
@@ -44,7 +55,7 @@ fn bind_statement<A: Allocator + Copy>(
         → Remembers names lookup.now.namespaces (texts_of «module».now) policy memo.new.last.items)) }
     ensures same { memo.new.«module» ≡ memo.old.«module» }
 {
-    for k in 0..view.words.len() {
+    for k in 0..most_references(view) {
         let Some((table, word)) = view.reference(k) else {
             continue;
         };

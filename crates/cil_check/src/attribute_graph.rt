@@ -1,6 +1,6 @@
 //! The attributes of a policy by numbers, and which of them set statements mention.
 
-ghost use Rattle.std.specs.Prelude.{◌≡◌, ◌⊎◌, ◌↔◌, ℕ, List, Some, length, slice_get, IfOk, OnOk};
+ghost use Rattle.std.specs.Prelude.{◌≡◌, ◌<◌, ◌⊎◌, ◌↔◌, ℕ, List, Some, length, slice_get, IfOk, OnOk};
 ghost use Rattle.cil_specs.specs.Names.{Word};
 ghost use Rattle.cil_specs.specs.Joined.{Placed};
 ghost use Rattle.cil_specs.specs.Lookup.{types, references};
@@ -92,6 +92,26 @@ impl<A: Allocator> AttributeNumbers<A> {
         }
         Ok(())
     }
+
+    /// The same of the statement of a place of a policy. Only a set statement is looked at whole.
+    fn add_set_at(
+        &self,
+        bound: &BoundPolicy<'_, '_, A>,
+        i: usize,
+        graph: &mut Vec<Vec<usize, A>, A>,
+    ) -> Result<(), AllocError>
+        requires { (policy : List Placed) × IsOf bound.now policy × AreAttributesOf self.now policy
+            × (i < length policy) × (length graph.old.items ≡ attribute_count policy) }
+        ensures nodes { OnOk result (length graph.new.items ≡ length graph.old.items) }
+        ensures edges { OnOk result ((policy : List Placed) (s : Placed) → IsOf bound.now policy
+            → AreAttributesOf self.now policy → slice_get policy i ≡ Some s
+            → (a b : ℕ) → IsEdge graph.new.items a b ↔ (IsEdge graph.old.items a b ⊎ Mentions policy s a b)) }
+    {
+        let StatementKind::TypeAttributeSet = bound.kind(i) else {
+            return Ok(());
+        };
+        self.add_set(bound, &bound.seen(i), graph)
+    }
 }
 
 impl<A: Allocator + Copy> AttributeNumbers<A> {
@@ -107,8 +127,7 @@ impl<A: Allocator + Copy> AttributeNumbers<A> {
     {
         let mut graph = without_edges(alloc, self.places.len())?;
         for i in 0..bound.len() {
-            let seen = bound.seen(i);
-            self.add_set(bound, &seen, &mut graph)?;
+            self.add_set_at(bound, i, &mut graph)?;
         }
         Ok(graph)
     }

@@ -26,7 +26,7 @@ fn is_rule(kind: StatementKind) -> bool
     matches!(kind, StatementKind::Rule(_) | StatementKind::RuleToSelf(_))
 }
 
-/// Whether statements of a kind can't be at fault, but for a name that is declared twice.
+/// Whether statements of a kind can't have a fault of those that are seen at one statement.
 fn is_plain(kind: StatementKind) -> bool
     ensures { result ≡ is_plain_kind kind }
 {
@@ -148,7 +148,7 @@ impl<'p, 'm, A: Allocator + Copy> Checker<'p, 'm, A> {
         self.is_clean_at(place, seen)
     }
 
-    /// Whether no statement has a fault of these kinds: one pass over the policy for all of them.
+    /// Whether no statement has a fault of the kinds 42 to 47: one pass over the policy for all of them.
     pub(crate) fn is_clean(&self, alloc: A) -> bool
         requires { (policy : List Placed) × IsNoted self.now policy }
         ensures { IsTrue result → (policy : List Placed) → IsNoted self.now policy → HasNoneBelow 48 policy }

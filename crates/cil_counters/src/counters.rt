@@ -206,9 +206,7 @@ impl<A: Allocator + Copy> Counters<A> {
         requires before { WasBefore old.now self.now }
         ensures { IfOk result (AreChanges (is_in_table (meaning_in old.now)) (is_in_table (meaning_in new.now))) }
     {
-        let old_names = names_of(alloc, old)?;
-        let new_names = names_of(alloc, new)?;
-        let ranks = rank(alloc, old_names.as_slice(), new_names.as_slice())?;
+        let ranks = rank(alloc, old.names(), new.names())?;
         let numbers = symbol_ranks(alloc, &self.names, ranks.names.as_slice())?;
         let found = cil_symbol_changes::changes(alloc, &self.tables, numbers.as_slice())?;
         Changes::of(ranks.names, found.added, found.removed)

@@ -32,7 +32,7 @@ pub(crate) enum Form<A: Allocator = Global> {
     Tree(Tree<A>),
 }
 
-/// A set expression: its nodes, each in front of those of its operands, and what its names lead to, in their order.
+/// A set expression whose names lead to types and attributes.
 #[derive(Debug, Drop)]
 pub struct SetExpression<A: Allocator = Global> {
     form: Form<A>,

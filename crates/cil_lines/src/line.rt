@@ -45,8 +45,8 @@ impl<A: Allocator + Copy> Line<A> {
         }
     }
 
-    /// The same with room for its first words: those of a line that is filled word by word take no further memory, where none has a
-    /// counter above 1.
+    /// A line whose counters are all 0, with room for its first words: those of a line that is filled word by word, without gaps, take no
+    /// further memory where none has a counter above 1.
     pub fn with_room(alloc: A, words: usize) -> Result<Self, AllocError>
         ensures { IfOk result (λ line. (t : ℕ) → count_of line t ≡ 0) }
     {

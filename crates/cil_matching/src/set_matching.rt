@@ -62,8 +62,8 @@ fn stands_at<A: Allocator>(resolved: &Resolved<A>, j: usize, wanted: Position<'_
     j < resolved.sets_len() && position(resolved, j) == wanted
 }
 
-/// The place of the set statement at a position, if there is one. It looks at a likely place first: most statements of two policies
-/// stand in one order, and where all do, the positions are never put together.
+/// The place of the set statement at a position, if there is one. It looks at a likely place first, since most statements of two policies
+/// stand in one order. Where each is at its likely place, the positions are never put together.
 fn find<'r, A: Allocator + Copy>(
     alloc: A,
     resolved: &'r Resolved<A>,
@@ -88,7 +88,7 @@ fn find<'r, A: Allocator + Copy>(
     Ok(found)
 }
 
-/// The place in the new policy of the same set statement, by the place of that at its position.
+/// The place in the new policy of the same set statement, given the place of the one at its position, if there is one.
 fn same<A: Allocator>(
     old: &Resolved<A>,
     i: usize,

@@ -20,7 +20,7 @@ const WORD: usize = 64;
 
 /// For each attribute a row of counters by type: how many set statements of the attribute hold the type. A type whose
 /// counter is above 0 is a member. The rows are changed in steps; the steps since the last `settle` are logged, so that
-/// `undo` takes them back, and who was a member before them can still be asked. The rows that they are of are marked.
+/// `undo` takes them back, and who was a member before them can still be asked. A row with a step since then is marked.
 #[derive(Drop)]
 pub struct MemberRows<A: Allocator = Global> {
     rows: RecordedLines<A>,

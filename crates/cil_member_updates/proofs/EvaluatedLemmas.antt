@@ -180,6 +180,10 @@ module _ (May Must : ℕ → Type 0) where
   pub words-first : (count : ℕ) → RisesWithin (Beneath 0 May) (Beneath 0 Must) count count
   words-first count = within-none (Beneath 0 May) (Beneath 0 Must) count (λ t must. let low = must.0 in omega (arith, low))
 
+  -- in the first words nothing has to be asked
+  pub words-from : (word count : ℕ) → ((t : ℕ) → t / 64 < word → Must t → ⊥) → RisesWithin (Beneath word May) (Beneath word Must) count count
+  words-from word count none = within-none (Beneath word May) (Beneath word Must) count (λ t must. none t must.0 must.1)
+
   pub words-next : (word before between after : ℕ) → RisesWithin (Beneath word May) (Beneath word Must) before between → RisesWithin (InWord word May) (InWord word Must) between after
       → RisesWithin (Beneath (word + 1) May) (Beneath (word + 1) Must) before after
   words-next word before between after first second =

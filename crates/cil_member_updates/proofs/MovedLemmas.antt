@@ -24,6 +24,13 @@ module _ (was is : ℕ → ℕ → ℕ) where
     behind = λ a t high. refl;
   }
 
+  -- nothing has to move in the first words
+  pub moved-from : (word : ℕ) (old : ℕ → ℕ → ℕ) → ((a t : ℕ) → t / 64 < word → was a t ≡ is a t) → MovedBelow word was is old old
+  moved-from word old same = record {
+    below = λ a t low. ap (λ n. old a t + n) (same a t low);
+    behind = λ a t high. refl;
+  }
+
   pub moved-more : (word : ℕ) (old mid new : ℕ → ℕ → ℕ) → MovedBelow word was is old mid → IsMoved word was is mid new → MovedBelow (word + 1) was is old new
   moved-more word old mid new moved more = record {
     below = λ a t low. elim (cases_lt (t / 64) word) [

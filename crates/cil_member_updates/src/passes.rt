@@ -1,6 +1,6 @@
 //! The members of a policy made those of another one.
 
-ghost use Rattle.std.specs.Prelude.{◌≡◌, ◌<◌, ◌≤◌, ◌+◌, ℕ, IsTrue, length, slice_index, OnOk};
+ghost use Rattle.std.specs.Prelude.{◌≡◌, ◌<◌, ◌≤◌, ◌+◌, ℕ, length, slice_index, OnOk};
 ghost use Rattle.cil_delta_specs.specs.Work.{EvaluatesFew};
 ghost use Rattle.cil_matching.specs.Matching.{AreMatched};
 ghost use Rattle.cil_resolve.specs.Meter.{adjustments_in, evaluations_in};
@@ -15,7 +15,7 @@ ghost use Rattle.cil_member_updates.specs.Given.{Tell};
 ghost use Rattle.cil_member_updates.specs.Passes.{gone, given_by, stayed};
 ghost use Rattle.cil_member_updates.specs.Policy.{given, AreCounts, IsSide};
 
-use crate::kept::are_alike;
+use crate::kept::{UnlikeWords, unlike_words};
 use crate::sets::{lower_set, move_set, raise_set};
 use crate::side::Side;
 use cil_matching::SetMatching;
@@ -92,7 +92,7 @@ fn renew_set<A: Allocator + Copy>(
     new: &Side<'_, A>,
     matching: &SetMatching<A>,
     j: usize,
-    alike: bool,
+    unlike: UnlikeWords,
     meter: &mut Meter,
 ) -> Result<(), AllocError>
     requires old { IsSide symbols.now old.now }
@@ -103,7 +103,8 @@ fn renew_set<A: Allocator + Copy>(
     requires before { AreCounts symbols.now old.now.resolved.now (count_before rows.old) }
     requires is { Tell symbols.now (meaning_in new.now.resolved.now) (set_at new.now.resolved.now j) (count_now rows.old) }
     requires above { (a t : ℕ) → stayed symbols.now old.now.resolved.now matching.now a t j ≤ count_now rows.old a t }
-    requires alike { IsTrue alike → (w : ℕ) → slice_index old.now.kept.now w ≡ slice_index new.now.kept.now w }
+    requires first { (w : ℕ) → w < unlike.first → slice_index old.now.kept.now w ≡ slice_index new.now.kept.now w }
+    requires end { (w : ℕ) → unlike.end ≤ w → slice_index old.now.kept.now w ≡ slice_index new.now.kept.now w }
     ensures now { OnOk result ((a t : ℕ) → count_now rows.new a t + stayed symbols.now old.now.resolved.now matching.now a t j
         ≡ count_now rows.old a t + given symbols.now new.now.resolved.now j a t) }
     ensures before { (a t : ℕ) → count_before rows.new a t ≡ count_before rows.old a t }
@@ -115,7 +116,7 @@ fn renew_set<A: Allocator + Copy>(
     resolved_is_sound(old.resolved);
     resolved_sets_are_in_order(old.resolved);
     match matching.old_place(j) {
-        Some(i) => move_set(rows, alloc, symbols, old, new, i, j, alike, meter),
+        Some(i) => move_set(rows, alloc, symbols, old, new, i, j, unlike, meter),
         None => raise_set(rows, alloc, symbols, new, j, meter),
     }
 }
@@ -145,9 +146,9 @@ fn renew<A: Allocator + Copy>(
 {
     resolved_is_sound(new.resolved);
     resolved_sets_are_in_order(new.resolved);
-    let alike = are_alike(old.kept, new.kept);
+    let unlike = unlike_words(old.kept, new.kept);
     for j in 0..new.resolved.sets_len() {
-        renew_set(rows, alloc, symbols, old, new, matching, j, alike, meter)?;
+        renew_set(rows, alloc, symbols, old, new, matching, j, unlike, meter)?;
     }
     Ok(())
 }

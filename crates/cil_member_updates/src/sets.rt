@@ -1,6 +1,6 @@
 //! One set statement at all types.
 
-ghost use Rattle.std.specs.Prelude.{◌≡◌, ◌+◌, ◌<◌, ◌≤◌, ℕ, IsTrue, length, slice_index, OnOk};
+ghost use Rattle.std.specs.Prelude.{◌≡◌, ◌+◌, ◌<◌, ◌≤◌, ℕ, length, slice_index, OnOk};
 ghost use Rattle.cil_resolve.specs.Meter.{adjustments_in, evaluations_in};
 ghost use Rattle.cil_resolve.specs.Resolved.{meaning_in};
 ghost use Rattle.cil_resolve.specs.Sets.{sets_in};
@@ -12,6 +12,7 @@ ghost use Rattle.cil_member_updates.specs.Given.{Tell};
 ghost use Rattle.cil_member_updates.specs.Moved.{AreMoved, nothing};
 ghost use Rattle.cil_member_updates.specs.Policy.{given, IsSide};
 
+use crate::kept::{UnlikeWords, span};
 use crate::side::Side;
 use crate::visits::stays;
 use crate::words::{lower_word, move_word_unless_alike, raise_word};
@@ -75,8 +76,8 @@ pub fn raise_set<A: Allocator + Copy>(
     Ok(())
 }
 
-/// Moves the counters from what a set statement gave in the old policy to what it gives in the new one. If both policies
-/// keep the same types, and nothing changed of the attributes that it mentions, then no word is gone over.
+/// Moves the counters from what a set statement gave in the old policy to what it gives in the new one. Where no attribute that it
+/// mentions had a step, only the words are gone over in which the two policies keep different types.
 pub fn move_set<A: Allocator + Copy>(
     rows: &mut MemberRows<A>,
     alloc: A,
@@ -85,7 +86,7 @@ pub fn move_set<A: Allocator + Copy>(
     new: &Side<'_, A>,
     i: usize,
     j: usize,
-    alike: bool,
+    unlike: UnlikeWords,
     meter: &mut Meter,
 ) -> Result<(), AllocError>
     requires old { IsSide symbols.now old.now }
@@ -97,7 +98,8 @@ pub fn move_set<A: Allocator + Copy>(
     requires is { Tell symbols.now (meaning_in new.now.resolved.now) (set_at new.now.resolved.now j) (count_now rows.old) }
     requires room { length symbols.now ≤ rows_in rows.old }
     requires above { (a t : ℕ) → given symbols.now old.now.resolved.now i a t ≤ count_now rows.old a t }
-    requires alike { IsTrue alike → (w : ℕ) → slice_index old.now.kept.now w ≡ slice_index new.now.kept.now w }
+    requires first { (w : ℕ) → w < unlike.first → slice_index old.now.kept.now w ≡ slice_index new.now.kept.now w }
+    requires end { (w : ℕ) → unlike.end ≤ w → slice_index old.now.kept.now w ≡ slice_index new.now.kept.now w }
     ensures now { OnOk result (AreMoved (given symbols.now old.now.resolved.now i) (given symbols.now new.now.resolved.now j) (count_now rows.old) (count_now rows.new)) }
     ensures before { (a t : ℕ) → count_before rows.new a t ≡ count_before rows.old a t }
     ensures rows { rows_in rows.new ≡ rows_in rows.old }
@@ -106,10 +108,8 @@ pub fn move_set<A: Allocator + Copy>(
 {
     resolved_sets_are_in_order(new.resolved);
     let stays = stays(symbols, old, new, rows, i, j);
-    if stays && alike {
-        return Ok(());
-    }
-    for word in 0..symbols.len() / WORD + 1 {
+    let span = span(unlike, stays, symbols.len() / WORD + 1);
+    for word in span.first..span.end {
         move_word_unless_alike(rows, alloc, symbols, old, new, i, j, word, stays, meter)?;
     }
     Ok(())

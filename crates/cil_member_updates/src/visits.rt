@@ -251,7 +251,8 @@ fn any_has_turned<A: Allocator>(
     false
 }
 
-/// Whether a set statement that both policies have holds in one of them alone no type but those that one of them keeps alone.
+/// Whether no attribute that a set statement of both policies mentions had a step. Then it holds in one of them alone only types that one of
+/// them keeps alone.
 pub fn stays<A: Allocator>(
     symbols: &Symbols<A>,
     old: &Side<'_, A>,

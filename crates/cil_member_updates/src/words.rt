@@ -122,7 +122,8 @@ fn move_word<A: Allocator + Copy>(
     rows.shift(alloc, row, word, was, is)
 }
 
-/// Moves the counters of a word so, unless the set statement stays and the two policies keep the same types of the word.
+/// Moves the counters of a word from what a set statement gave to what it gives, unless it stays and the two policies keep the same types of
+/// the word.
 pub fn move_word_unless_alike<A: Allocator + Copy>(
     rows: &mut MemberRows<A>,
     alloc: A,

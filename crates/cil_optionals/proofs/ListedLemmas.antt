@@ -61,15 +61,23 @@ get-last : {X : Type 0} (xs : List X) (x : X) → slice_get (xs ++ x ∷ []) (le
 get-last [] x = refl
 get-last (y ∷ xs) x = get-last xs x
 
--- one more place to which no common is given
-pub commons-none : {A : Type 0} (given after : List (Vec ℕ A)) (new : Vec ℕ A) → ((i : ℕ) → commons_at given i ≡ []) → after ≡ given ++ new ∷ [] → new.items ≡ [] → (i : ℕ) → commons_at after i ≡ []
-commons-none {A} given after new none more empty i = ap (λ l. commons_at l i) more ∙ by given i none
+-- where there is no place no common is given
+pub commons-empty : {A : Type 0} (given : List (Vec ℕ A)) → given ≡ [] → (i : ℕ) → commons_at given i ≡ []
+commons-empty {A} given none i = ap (λ l. commons_at l i) none ∙ by i
   where
-    by : (xs : List (Vec ℕ A)) (j : ℕ) → ((k : ℕ) → commons_at xs k ≡ []) → commons_at (xs ++ new ∷ []) j ≡ []
-    by [] zero none_yet = empty
-    by [] (suc j) none_yet = refl
-    by (x ∷ xs) zero none_yet = none_yet 0
-    by (x ∷ xs) (suc j) none_yet = by xs j (λ k. none_yet (suc k))
+    by : (j : ℕ) → commons_at {A = A} [] j ≡ []
+    by zero = refl
+    by (suc j) = refl
+
+-- one more place to which no common is given
+pub commons-kept : {A : Type 0} (given after : List (Vec ℕ A)) (new : Vec ℕ A) → after ≡ given ++ new ∷ [] → new.items ≡ [] → (i : ℕ) → commons_at after i ≡ commons_at given i
+commons-kept {A} given after new more empty i = ap (λ l. commons_at l i) more ∙ by given i
+  where
+    by : (xs : List (Vec ℕ A)) (j : ℕ) → commons_at (xs ++ new ∷ []) j ≡ commons_at xs j
+    by [] zero = empty
+    by [] (suc j) = refl
+    by (x ∷ xs) zero = refl
+    by (x ∷ xs) (suc j) = by xs j
 
 -- nothing is taken up
 pub inverse-none : {A : Type 0} (p : Listed A) → p.listed.keys ≡ [] → p.gifts.keys ≡ [] → p.names.keys ≡ [] → p.listers.items ≡ [] → ((i : ℕ) → commons_at p.given.items i ≡ []) → IsInverse p

@@ -1,5 +1,5 @@
 -- The permissions of classes.
-use Rattle.std.proofs.Common.{◌≡◌, ℕ, zero, suc, ◌+◌, ◌<◌, ◌≤◌, ◌==◌, ◌&&◌, ◌||◌, not, Bool, true, false, List, [], ◌∷◌, ◌++◌, map, flat_map, length, take, position, get_or, slice_get, Option, Some, None, IfSome, bytes_eq, refl, sym, ap, ◌∙◌, true≢false, add-one, arith, inl, inr, if◌then◌else◌}
+use Rattle.std.proofs.Common.{◌≡◌, ℕ, zero, suc, ◌+◌, ◌<◌, ◌≤◌, ◌==◌, ◌&&◌, ◌||◌, not, Bool, true, false, List, [], ◌∷◌, ◌++◌, map, flat_map, length, take, position, get_or, slice_get, Option, Some, None, bytes_eq, refl, sym, ap, ◌∙◌, true≢false, add-one, arith, inl, inr, if◌then◌else◌}
 use Rattle.std.specs.List.{list_all, list_any}
 use Rattle.std.proofs.lemmas.Option.{none-some, same_Some, get_or_from_slice_get, slice_get-get_or}
 use Rattle.std.proofs.lemmas.Bool.{eqb-true, eq-eqb, ne_eqb, cases_eq}
@@ -158,15 +158,14 @@ upto-next : {A : Type 0} (policy : List Placed) (i : ℕ) (t : Placed) (old new 
     → ((place : ℕ) (name : List ℕ) → lists new.listed.keys place name ≡ (lists old.listed.keys place name || (place == i && has_name (texts (own_permissions t.form)) name)))
     → ((k : ℕ) (s : Placed) (test : Placed → Bool) → slice_get policy k ≡ Some s → IsFirstOf classes policy k → list_any (λ c. holds_of test (slice_get policy c)) (commons_at new.given.items k)
     ≡ (list_any (λ c. holds_of test (slice_get policy c)) (commons_at old.given.items k) || gives_passing policy s test t))
-    → length new.given.items ≡ length old.given.items → IsUpTo policy i old → IsUpTo policy (i + 1) new
-upto-next policy i t old new at listed given long are = record {
+    → IsUpTo policy i old → IsUpTo policy (i + 1) new
+upto-next policy i t old new at listed given are = record {
   listed = λ place name.
       listed place name ∙ ap (λ b. b || (place == i && has_name (texts (own_permissions t.form)) name)) (are.listed place name)
       ∙ sym (ap (λ l. lists_at l place name) (take-last policy i t at) ∙ holds-last (λ s. has_name (texts (own_permissions s.form)) name) (take i policy) t i place (take-length policy i t at));
   given = λ k s test here first.
       given k s test here first ∙ ap (λ b. b || gives_passing policy s test t) (are.given k s test here first)
       ∙ sym (ap (list_any (gives_passing policy s test)) (take-last policy i t at) ∙ any-last (gives_passing policy s test) (take i policy) t);
-  long = long ∙ are.long;
 }
 
 adds-none : (form : Form) → lists_own (kind_of form) ≡ false → (name : List ℕ) (a e : Bool) → a ≡ (a || (e && has_name (texts (own_permissions form)) name))
@@ -182,7 +181,7 @@ upto-lists policy i t old new at own listed same are =
     (λ k s test here first.
     ap (λ l. list_any (λ c. holds_of test (slice_get policy c)) (commons_at l k)) same ∙ sym (or-false (list_any (λ c. holds_of test (slice_get policy c)) (commons_at old.given.items k)))
     ∙ ap (λ b. list_any (λ c. holds_of test (slice_get policy c)) (commons_at old.given.items k) || b) (sym (gives-none policy s t test (own-gives t.form own))))
-    (ap length same) are
+    are
 
 -- it gives nothing
 pub upto-other : {A : Type 0} (policy : List Placed) (i : ℕ) (t : Placed) (p : Listed A) → slice_get policy i ≡ Some t → lists_own (kind_of t.form) ≡ false → gives_common (kind_of t.form) ≡ false
@@ -193,7 +192,7 @@ upto-other policy i t p at own gives are =
     (λ k s test here first.
     sym (or-false (list_any (λ c. holds_of test (slice_get policy c)) (commons_at p.given.items k)))
     ∙ ap (λ b. list_any (λ c. holds_of test (slice_get policy c)) (commons_at p.given.items k) || b) (sym (gives-none policy s t test gives)))
-    refl are
+    are
 
 -- what it gives by what its references are bound to
 given-by : (policy : List Placed) (k : ℕ) (s : Placed) (test : Placed → Bool) → slice_get policy k ≡ Some s → IsFirstOf classes policy k → (namespace : List (List ℕ)) (form : Form) → gives_common (kind_of form) ≡ true
@@ -227,36 +226,20 @@ gives-lists _ is = absurd (true≢false (sym is))
 -- it gives a common to a class
 pub upto-gives : {A : Type 0} (policy : List Placed) (i : ℕ) (t : Placed) (bound : List (Option ℕ)) (old new : Listed A) → slice_get policy i ≡ Some t → gives_common (kind_of t.form) ≡ true
     → AreLeads policy t.namespace (references t.form) bound → ((k : ℕ) → commons_at new.given.items k ≡ commons_at old.given.items k ++ given_at (gift bound) k)
-    → length new.given.items ≡ length old.given.items → new.listed.keys ≡ old.listed.keys → IsUpTo policy i old → IsUpTo policy (i + 1) new
-upto-gives policy i t bound old new at gives leads_are given long same are =
+    → new.listed.keys ≡ old.listed.keys → IsUpTo policy i old → IsUpTo policy (i + 1) new
+upto-gives policy i t bound old new at gives leads_are given same are =
     upto-next policy i t old new at
     (λ place name. ap (λ l. lists l place name) same ∙ adds-none t.form (gives-lists t.form gives) name (lists old.listed.keys place name) (place == i))
     (λ k s test here first.
     ap (list_any (λ c. holds_of test (slice_get policy c))) (given k) ∙ list_any-append (λ c. holds_of test (slice_get policy c)) (commons_at old.given.items k) (given_at (gift bound) k)
     ∙ ap (λ b. list_any (λ c. holds_of test (slice_get policy c)) (commons_at old.given.items k) || b) (given-by policy k s test here first t.namespace t.form gives bound leads_are))
-    long are
-
--- the class of a gift is a place
-pub gift-within : (policy : List Placed) (namespace : List (List ℕ)) (form : Form) → gives_common (kind_of form) ≡ true → (bound : List (Option ℕ)) → AreLeads policy namespace (references form) bound
-    → IfSome (gift bound) (λ given. given.0 < length policy)
-gift-within policy namespace (class_common the_class the_common) is (None ∷ second ∷ []) are = tt
-gift-within policy namespace (class_common the_class the_common) is (Some c ∷ None ∷ []) are = tt
-gift-within policy namespace (class_common the_class the_common) is (Some c ∷ Some d ∷ []) are = are.0.within
-gift-within policy namespace (class_common the_class the_common) is [] are = absurd are
-gift-within policy namespace (class_common the_class the_common) is (b ∷ []) are = absurd are.1
-gift-within policy namespace (class_common the_class the_common) is (None ∷ b ∷ e ∷ more) are = absurd are.1.1
-gift-within policy namespace (class_common the_class the_common) is (Some c ∷ None ∷ e ∷ more) are = absurd are.1.1
-gift-within policy namespace (class_common the_class the_common) is (Some c ∷ Some d ∷ e ∷ more) are = absurd are.1.1
-gift-within policy namespace (rule kind source itself the_class permissions) is bound are = absurd (true≢false (sym is))
-gift-within policy namespace (rule kind source (the_named word) the_class permissions) is bound are = absurd (true≢false (sym is))
-gift-within policy namespace _ is bound are = absurd (true≢false (sym is))
+    are
 
 -- nothing is taken up
-pub upto-none : {A : Type 0} (policy : List Placed) (p : Listed A) → p.listed.keys ≡ [] → ((i : ℕ) → commons_at p.given.items i ≡ []) → length p.given.items ≡ length policy → IsUpTo policy 0 p
-upto-none policy p none empty long = record {
+pub upto-none : {A : Type 0} (policy : List Placed) (p : Listed A) → p.listed.keys ≡ [] → ((i : ℕ) → commons_at p.given.items i ≡ []) → IsUpTo policy 0 p
+upto-none policy p none empty = record {
   listed = λ place name. ap (λ l. lists l place name) none;
   given = λ i s test here first. ap (list_any (λ c. holds_of test (slice_get policy c))) (empty i);
-  long = long;
 }
 
 -- whether one of several lists has a name

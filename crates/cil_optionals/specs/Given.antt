@@ -86,7 +86,6 @@ pub record IsUpTo {A : Type 0} (policy : List Placed) (n : ℕ) (p : Listed A) :
   pub listed : (place : ℕ) (name : List ℕ) → lists p.listed.keys place name ≡ lists_at (take n policy) place name
   pub given : (i : ℕ) (s : Placed) (test : Placed → Bool) → slice_get policy i ≡ Some s → IsFirstOf classes policy i
       → list_any (λ common. holds_of test (slice_get policy common)) (commons_at p.given.items i) ≡ list_any (gives_passing policy s test) (take n policy)
-  pub long : length p.given.items ≡ length policy
 
 -- The pairs are those of the commons that are given, and for each name there are the statements that list it.
 pub record IsInverse {A : Type 0} (p : Listed A) : Type 0 where

@@ -41,7 +41,7 @@ fn by_need<A: Allocator + Copy>(alloc: A, needs: &[Need]) -> Result<Vec<Dependen
     Ok(dependents)
 }
 
-/// Sorts them by their nodes. Statements stand in the order of their optionals, so they stand in runs, which are merged.
+/// Sorts them by their nodes. They often stand in runs already, which are merged.
 fn sort<A: Allocator + Copy>(dependents: &mut Vec<Dependent, A>) -> Result<(), AllocError>
     ensures sorted { OnOk result (IsNonDecreasingBy node_of dependents.new.items) }
     ensures permutation { IsPermutation dependents.old.items dependents.new.items }

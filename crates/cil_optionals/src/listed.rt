@@ -1,6 +1,6 @@
 //! What classes and commons list, and the commons that are given to classes.
 
-ghost use Rattle.std.specs.Prelude.{◌≡◌, ◌<◌, ◌+◌, ◌&&◌, ◌||◌, ◌==◌, ◌++◌, ℕ, [], List, Some, map, length, bytes_eq, position, slice_get, IfOk, IfSome, OnOk};
+ghost use Rattle.std.specs.Prelude.{◌≡◌, ◌<◌, ◌+◌, ◌&&◌, ◌||◌, ◌==◌, ◌++◌, ℕ, [], List, Some, map, length, bytes_eq, position, slice_get, IfOk, OnOk};
 ghost use Rattle.std.specs.List.{list_any};
 ghost use Rattle.cil_specs.specs.Names.{Word};
 ghost use Rattle.cil_specs.specs.Joined.{Placed};
@@ -34,7 +34,7 @@ pub struct Gift {
     pub common: u32,
 }
 
-/// The permissions that classes and commons list, and for the place of each statement the commons that are given to it. A class has what
+/// The permissions that classes and commons list, and for the places of classes the commons that are given to them. A class has what
 /// its commons list, which is never copied to it. Both stand the other way round too: the commons that are given as pairs, and for each
 /// name the places of the statements that list it.
 #[derive(Drop)]
@@ -70,31 +70,30 @@ fn gift_of(bound: &[Option<u32>]) -> Option<(u32, u32)>
     }
 }
 
-/// For each of so many places no commons.
-pub fn no_commons<A: Allocator + Copy>(
+/// Makes room for the commons that are given to the class at a place. Classes are few, and mostly stand early in a policy.
+fn make_room<A: Allocator + Copy>(
+    given: &mut Vec<Vec<u32, A>, A>,
     alloc: A,
-    count: usize,
-) -> Result<Vec<Vec<u32, A>, A>, AllocError>
-    ensures len { IfOk result (λ given. length given.items ≡ count) }
-    ensures none { IfOk result (λ given. (i : ℕ) → commons_at given.items i ≡ []) }
+    class: usize,
+) -> Result<(), AllocError>
+    ensures room { OnOk result (class < length given.new.items) }
+    ensures same { OnOk result ((i : ℕ) → commons_at given.new.items i ≡ commons_at given.old.items i) }
 {
-    let mut given = Vec::with_capacity(alloc, count)?;
-    for _ in 0..count {
+    while given.len() <= class {
         given.push(Vec::new(alloc))?;
     }
-    Ok(given)
+    Ok(())
 }
 
 impl<'m, A: Allocator + Copy> Listed<'m, A> {
     /// What nothing lists, where at no place a common is given yet.
-    pub fn without(alloc: A, given: Vec<Vec<u32, A>, A>) -> Self
-        requires { (i : ℕ) → commons_at given.items i ≡ [] }
-        ensures up_to { (all : List Placed) → length given.items ≡ length all → IsUpTo all 0 result }
+    pub fn new(alloc: A) -> Self
+        ensures up_to { (all : List Placed) → IsUpTo all 0 result }
         ensures inverse { IsInverse result }
     {
         Listed {
             listed: IndexSet::new(alloc),
-            given,
+            given: Vec::new(alloc),
             gifts: IndexSet::new(alloc),
             names: IndexSet::new(alloc),
             listers: Vec::new(alloc),
@@ -144,7 +143,7 @@ impl<'m, A: Allocator + Copy> Listed<'m, A> {
         }
         if gives_common(kind) {
             let bound = policy.bound.get(i);
-            self.give(gift_of(bound))?;
+            self.give(alloc, gift_of(bound))?;
         }
         Ok(())
     }
@@ -203,17 +202,16 @@ impl<'m, A: Allocator + Copy> Listed<'m, A> {
     }
 
     /// Takes up a common that is given to a class, if one is, by their places.
-    fn give(&mut self, gift: Option<(u32, u32)>) -> Result<(), AllocError>
+    fn give(&mut self, alloc: A, gift: Option<(u32, u32)>) -> Result<(), AllocError>
         requires inverse { IsInverse self.old }
-        requires within { IfSome gift (λ given. given.0 < length self.old.given.items) }
         ensures given { OnOk result ((i : ℕ) → commons_at self.new.given.items i ≡ commons_at self.old.given.items i ++ given_at gift i) }
-        ensures len { OnOk result (length self.new.given.items ≡ length self.old.given.items) }
         ensures listed { OnOk result (self.new.listed.keys ≡ self.old.listed.keys) }
         ensures inverse { OnOk result (IsInverse self.new) }
     {
         let Some((class, common)) = gift else {
             return Ok(());
         };
+        make_room(&mut self.given, alloc, class as usize)?;
         self.given[class as usize].push(common)?;
         self.gifts.insert(Gift { class, common })?;
         Ok(())

@@ -12,7 +12,7 @@ ghost use Rattle.cil_optionals.specs.Permissions.{HavePermissions};
 ghost use Rattle.cil_optionals.specs.Providers.{IsReady};
 
 use crate::greatest::Need;
-use crate::listed::{Listed, no_commons};
+use crate::listed::Listed;
 use crate::permissions::Permissions;
 use crate::references::{add_need, references};
 use cil_bind::{Joined, Policy};
@@ -147,7 +147,6 @@ pub fn others<'m, A: Allocator + Copy>(
     requires ready { (all : List Placed) × IsReady policy.now joined.now.modules.items all }
     ensures { IfOk result (λ needs. (all : List Placed) → IsReady policy.now joined.now.modules.items all → AreOthers all policy.now.rows.items needs.items) }
 {
-    let given = no_commons(alloc, policy.rows.len())?;
-    let mut listed = Listed::without(alloc, given);
+    let mut listed = Listed::new(alloc);
     others_listed(alloc, joined, policy, &mut listed)
 }

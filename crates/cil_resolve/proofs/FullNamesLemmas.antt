@@ -111,6 +111,14 @@ kind-numbered (class_order the_classes) = refl
 kind-numbered (rule kind source itself the_class permissions) = refl
 kind-numbered (rule kind source (the_named word) the_class permissions) = refl
 
+-- a statement of another kind declares no such name
+pub kind-absent : (form : Form) → is_numbered_kind (kind_of form) ≡ false → numbered_id form ≡ None
+kind-absent form is = by (numbered_id form) (sym (kind-numbered form) ∙ is)
+  where
+    by : (o : Option Word) → is_some o ≡ false → o ≡ None
+    by None none = refl
+    by (Some word) none = absurd (true≢false none)
+
 -- nothing is read where there is no word
 pub reads-absent : {A : Type 0} (seen : Seen A) (o : Option Word) → Reads seen None o → o ≡ None
 reads-absent seen None reads = refl

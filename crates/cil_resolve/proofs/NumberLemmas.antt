@@ -17,8 +17,12 @@ use Rattle.cil_specs.specs.Joined.{Placed}
 use Rattle.cil_specs.specs.Lookup.{has_name, with_name, distinct, texts, own_permissions}
 use Rattle.cil_specs.proofs.Runs.{both_true, first_true, second_true}
 use Rattle.cil_specs.proofs.NamesLemmas.{around}
+use Rattle.cil_parse.specs.Forms.{kind_of}
+use Rattle.cil_check.specs.Permissions.{lists_own}
+use Rattle.cil_check.proofs.PermissionLemmas.{none-listed}
 use Rattle.cil_check.proofs.WordLemmas.{has-distinct}
-use Rattle.cil_resolve.specs.FullNames.{is_numbered, full_name_of}
+use Rattle.cil_resolve.specs.FullNames.{is_numbered, is_numbered_kind, full_name_of}
+use Rattle.cil_resolve.proofs.FullNamesLemmas.{kind-numbered}
 use Rattle.cil_resolve.specs.Numbering.{names_with, names_of, AreNamesOf, listed_names, number_in, AreNumbersIn, HavePermissionsOf}
 use Rattle.cil_resolve.proofs.ListLemmas.{any-of-flat}
 use Rattle.cil_resolve.proofs.StatementLemmas.{map-one}
@@ -177,3 +181,12 @@ word-listed policy s i w there at = named-in (λ t. texts (own_permissions t.for
     among [] i at = absurd (none-some w at)
     among (v ∷ list) zero at = ap (λ b. b || has_name (texts list) w.text) (ap (λ u. bytes_eq w.text u.text) (same_Some v w at) ∙ bytes_eq-refl w.text)
     among (v ∷ list) (suc i) at = ap (λ b. bytes_eq w.text v.text || b) (among list i at) ∙ or-true (bytes_eq w.text v.text)
+
+-- a statement of another kind brings no name
+pub none-brought : (s : Placed) → (is_numbered_kind (kind_of s.form) || lists_own (kind_of s.form)) ≡ false → names_with s ≡ []
+none-brought s is = by (is_numbered_kind (kind_of s.form)) (lists_own (kind_of s.form)) (sym (kind-numbered s.form)) (none-listed s.form) is
+  where
+    by : (numbered listing : Bool) → is_numbered s.form ≡ numbered → (listing ≡ false → own_permissions s.form ≡ []) → (numbered || listing) ≡ false → names_with s ≡ []
+    by true listing _ _ is = absurd (true≢false is)
+    by false listing numbered none is =
+        ap (λ b. (if b then full_name_of s ∷ [] else []) ++ texts (own_permissions s.form)) numbered ∙ ap texts (none is)

@@ -119,7 +119,8 @@ fn add_name<A: Allocator + Copy>(
     Ok(())
 }
 
-/// Puts in the full name of the statement of a place, if it declares a type, an attribute or a class, and closes its list.
+/// Puts in the full name of the statement of a place, if it declares a type, an attribute or a class, and closes its list. Only such a
+/// statement is looked at whole.
 fn add_statement<A: Allocator + Copy>(
     names: &mut Lists<u8, A>,
     bound: &BoundPolicy<'_, '_, A>,
@@ -131,6 +132,10 @@ fn add_statement<A: Allocator + Copy>(
     requires closed { names.old.1 ≡ [] }
     ensures { OnOk result ((policy : List Placed) (s : Placed) → IsOf bound.now policy → slice_get policy i ≡ Some s → names.new ≡ (names.old.0 ++ full_name_of s ∷ [], [])) }
 {
+    if !is_numbered(bound.kind(i)) {
+        names.close()?;
+        return Ok(());
+    }
     let seen = bound.seen(i);
     if let Some(word) = numbered_word(&seen) {
         let row = bound.policy.rows[i];

@@ -1,6 +1,6 @@
 //! The names of a policy, and their numbers.
 
-ghost use Rattle.std.specs.Prelude.{◌≡◌, ◌<◌, ◌++◌, ℕ, List, [], fold, map, length, slice_get, slice_index_or, bytes_eq, IsTrue, Some, IfOk, OnOk};
+ghost use Rattle.std.specs.Prelude.{◌≡◌, ◌<◌, ◌++◌, ◌||◌, ℕ, List, [], fold, map, length, slice_get, slice_index_or, bytes_eq, IsTrue, Some, IfOk, OnOk};
 ghost use Rattle.std.specs.List.{AllByRecursion, IsDistinct};
 ghost use Rattle.cil_specs.specs.Names.{Word};
 ghost use Rattle.cil_specs.specs.Joined.{Placed};
@@ -11,7 +11,8 @@ ghost use Rattle.cil_parse.specs.Lexicon.{AreNumbersOf};
 ghost use Rattle.cil_parse.specs.Parsed.{texts_of, names_of as module_names};
 ghost use Rattle.cil_check.specs.Bound.{IsOf, IsSeen};
 ghost use Rattle.cil_bind.specs.Written.{IsOneName};
-ghost use Rattle.cil_resolve.specs.FullNames.{full_name_of};
+ghost use Rattle.cil_check.specs.Permissions.{lists_own as is_listing};
+ghost use Rattle.cil_resolve.specs.FullNames.{full_name_of, is_numbered_kind};
 ghost use Rattle.cil_resolve.specs.Numbering.{names_with, AreNamesOf, HavePlaces, HavePermissions, HavePermissionsOf};
 
 use crate::full_names::{full_names, is_numbered};
@@ -19,7 +20,7 @@ use crate::name_set::NameSet;
 use crate::text::Text;
 use crate::words::{lists_own, text_of};
 use cil_check::{BoundPolicy, Seen};
-use cil_parse::{Lists, NumberedWord};
+use cil_parse::{Lists, NumberedWord, StatementKind};
 use std::alloc::{AllocError, Allocator, Global};
 
 /// The names of types, attributes, classes and permissions in the order of their bytes. For each statement that declares a type, an
@@ -83,6 +84,30 @@ fn insert_names<'t, 'm: 't, A: Allocator + Copy>(
     Ok(())
 }
 
+/// Whether statements of a kind bring names: that of what they declare, or those of permissions.
+fn brings_names(kind: StatementKind) -> bool
+    ensures { result ≡ (is_numbered_kind kind || is_listing kind) }
+{
+    is_numbered(kind) || lists_own(kind)
+}
+
+/// Puts in the names that the statement of a place brings. Only a statement of a kind that brings some is looked at whole.
+fn insert_names_at<'t, 'm: 't, A: Allocator + Copy>(
+    names: &mut NameSet<'t, A>,
+    bound: &BoundPolicy<'_, 'm, A>,
+    full_names: &'t Lists<u8, A>,
+    i: usize,
+) -> Result<(), AllocError>
+    requires is { (policy : List Placed) × IsOf bound.now policy × (i < length policy) × (full_names.now.0 ≡ map full_name_of policy) }
+    ensures { OnOk result ((policy : List Placed) (s : Placed) → IsOf bound.now policy → full_names.now.0 ≡ map full_name_of policy → slice_get policy i ≡ Some s → names.new ≡ fold with_name names.old (names_with s)) }
+{
+    if !brings_names(bound.kind(i)) {
+        return Ok(());
+    }
+    let seen = bound.seen(i);
+    insert_names(names, &seen, full_names.get(i))
+}
+
 /// The full names of types, attributes and classes and the names of permissions, in the order of their bytes.
 fn sorted_names<'t, 'm: 't, A: Allocator + Copy>(
     alloc: A,
@@ -95,8 +120,7 @@ fn sorted_names<'t, 'm: 't, A: Allocator + Copy>(
 {
     let mut names = NameSet::new(alloc);
     for i in 0..bound.len() {
-        let seen = bound.seen(i);
-        insert_names(&mut names, &seen, full_names.get(i))?;
+        insert_names_at(&mut names, bound, full_names, i)?;
     }
     names.sort()?;
     Ok(names)

@@ -34,7 +34,7 @@ impl<A: Allocator + Copy> PermissionNumbers<A> {
 }
 
 impl<A: Allocator> PermissionNumbers<A> {
-    /// The same numbers, for one more rule.
+    /// The same numbers, for one more rule. Out of memory stands where no more owners can be counted.
     pub fn share(&self) -> Result<Self, AllocError>
         ensures { IfOk result (λ s. s ≡ self.now) }
     {

@@ -89,6 +89,13 @@ impl<A: Allocator> Resolved<A> {
         self.names.len()
     }
 
+    /// The names in the order of their bytes, each at the place of its number.
+    pub fn names(&self) -> &[Text<A>]
+        ensures { result.now ≡ self.now.names.items }
+    {
+        &self.names
+    }
+
     /// A name by its number, which is its place in the order of the bytes; empty where there is none.
     pub fn name(&self, i: usize) -> &[u8]
         ensures { result.now ≡ slice_index_or self.now.names.items i [] }

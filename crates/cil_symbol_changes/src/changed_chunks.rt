@@ -13,7 +13,7 @@ ghost use Rattle.cil_symbol_changes.specs.SourceOrder.{appeared_in, gone_in, Are
 
 use crate::source_order::{LinePlace, changes_by_source, source_end};
 use crate::targets::push_targets;
-use cil_accesses::{Chunk, sort_from};
+use cil_accesses::{Chunk, ChunkPlaces, sort_from};
 use cil_keyed_lines::KeyedLines;
 use cil_recorded::Change;
 use cil_symbol_tables::SymbolTables;
@@ -25,6 +25,8 @@ use std::alloc::{AllocError, Allocator, Global};
 pub struct ChangedChunks<A: Allocator = Global> {
     pub added: Vec<Chunk, A>,
     pub removed: Vec<Chunk, A>,
+    added_places: ChunkPlaces<A>,
+    removed_places: ChunkPlaces<A>,
 }
 
 /// Appends the accesses of the targets that appeared and went in a word of a line.
@@ -45,6 +47,7 @@ fn push_change<A: Allocator>(
     if let Some(key) = lines.at(change.line) {
         push_targets(
             &mut chunks.added,
+            &mut chunks.added_places,
             kind,
             key,
             change.word,
@@ -53,6 +56,7 @@ fn push_change<A: Allocator>(
         )?;
         push_targets(
             &mut chunks.removed,
+            &mut chunks.removed_places,
             kind,
             key,
             change.word,
@@ -110,7 +114,14 @@ fn push_source<A: Allocator>(
     let added = chunks.added.len();
     let removed = chunks.removed.len();
     for i in from..to {
-        push_place(chunks, kind, lines, changes, order[i].place, numbers)?;
+        push_place(
+            chunks,
+            kind,
+            lines,
+            changes,
+            order[i].place as usize,
+            numbers,
+        )?;
     }
     sort_from(&mut chunks.added, added);
     sort_from(&mut chunks.removed, removed);
@@ -178,6 +189,8 @@ pub fn collect<A: Allocator + Copy>(
     let mut chunks = ChangedChunks {
         added: Vec::new(alloc),
         removed: Vec::new(alloc),
+        added_places: ChunkPlaces::new(alloc),
+        removed_places: ChunkPlaces::new(alloc),
     };
     push_kind(&mut chunks, alloc, tables, RuleKind::Allow, numbers)?;
     push_kind(&mut chunks, alloc, tables, RuleKind::AuditAllow, numbers)?;

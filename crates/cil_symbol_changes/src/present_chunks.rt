@@ -12,7 +12,7 @@ ghost use Rattle.cil_symbol_changes.specs.SourceOrder.{AreAllPlaces, IsAt, IsBet
 
 use crate::source_order::{LinePlace, by_source, source_end};
 use crate::targets::push_targets;
-use cil_accesses::{Chunk, sort_from};
+use cil_accesses::{Chunk, ChunkPlaces, sort_from};
 use cil_keyed_lines::{KeyedLines, SymbolKey};
 use cil_symbol_tables::SymbolTables;
 use cil_text::RuleKind;
@@ -53,6 +53,7 @@ fn chunks_len<A: Allocator>(tables: &SymbolTables<A>) -> usize {
 /// Appends the accesses of a key to the targets whose counters in its line are above 0.
 fn push_line<A: Allocator>(
     chunks: &mut Vec<Chunk, A>,
+    places: &mut ChunkPlaces<A>,
     kind: RuleKind,
     lines: &KeyedLines<A>,
     place: usize,
@@ -67,7 +68,7 @@ fn push_line<A: Allocator>(
     let mut from = 0;
     while let Some(word) = lines.next_present_word(place, from) {
         let mask = lines.present(place, word);
-        push_targets(chunks, kind, key, word, mask, numbers)?;
+        push_targets(chunks, places, kind, key, word, mask, numbers)?;
         from = word + 1;
     }
     Ok(())
@@ -76,6 +77,7 @@ fn push_line<A: Allocator>(
 /// Appends the accesses to the targets whose counters in the line of a place are above 0.
 fn push_place<A: Allocator>(
     chunks: &mut Vec<Chunk, A>,
+    places: &mut ChunkPlaces<A>,
     kind: RuleKind,
     lines: &KeyedLines<A>,
     place: usize,
@@ -86,7 +88,7 @@ fn push_place<A: Allocator>(
     ensures { OnOk result (AreGained (IsAt numbers.now kind lines.now place) chunks.old.items chunks.new.items) }
 {
     match lines.at(place) {
-        Some(key) => push_line(chunks, kind, lines, place, key, numbers),
+        Some(key) => push_line(chunks, places, kind, lines, place, key, numbers),
         None => Ok(()),
     }
 }
@@ -95,6 +97,7 @@ fn push_place<A: Allocator>(
 /// lines are of one source.
 fn push_source<A: Allocator>(
     chunks: &mut Vec<Chunk, A>,
+    places: &mut ChunkPlaces<A>,
     kind: RuleKind,
     lines: &KeyedLines<A>,
     order: &[LinePlace],
@@ -110,7 +113,14 @@ fn push_source<A: Allocator>(
 {
     let start = chunks.len();
     for i in from..to {
-        push_place(chunks, kind, lines, order[i].place, numbers)?;
+        push_place(
+            chunks,
+            places,
+            kind,
+            lines,
+            order[i].place as usize,
+            numbers,
+        )?;
     }
     sort_from(chunks, start);
     Ok(())
@@ -119,6 +129,7 @@ fn push_source<A: Allocator>(
 /// Appends the accesses of the targets whose counters are above 0, source by source.
 fn push_lines<A: Allocator>(
     chunks: &mut Vec<Chunk, A>,
+    places: &mut ChunkPlaces<A>,
     kind: RuleKind,
     lines: &KeyedLines<A>,
     order: &[LinePlace],
@@ -132,7 +143,7 @@ fn push_lines<A: Allocator>(
     let mut from = 0;
     while from < order.len() {
         let to = source_end(order, from);
-        push_source(chunks, kind, lines, order, from, to, numbers)?;
+        push_source(chunks, places, kind, lines, order, from, to, numbers)?;
         from = to;
     }
     Ok(())
@@ -152,7 +163,8 @@ fn push_kind<A: Allocator + Copy>(
 {
     let lines = tables.lines(kind);
     let order = by_source(alloc, lines, numbers)?;
-    push_lines(chunks, kind, lines, &order, numbers)
+    let mut places = ChunkPlaces::new(alloc);
+    push_lines(chunks, &mut places, kind, lines, &order, numbers)
 }
 
 /// The accesses of all kinds that some rule gives.

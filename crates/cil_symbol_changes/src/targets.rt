@@ -5,13 +5,13 @@ ghost use Rattle.std.specs.List.{All};
 ghost use Rattle.cil_lines.specs.Line.{hit};
 ghost use Rattle.cil_symbol_changes.specs.Gained.{AreGained, AreKnown, chunk_by, IsShort, IsTo};
 
-use cil_accesses::{Chunk, push_renumbered};
+use cil_accesses::{Chunk, ChunkPlaces, push_renumbered};
 use cil_keyed_lines::SymbolKey;
 use cil_text::RuleKind;
 use std::alloc::{AllocError, Allocator};
 
-/// A symbol in 32 bits. More names than these can number don't fit in memory.
-fn short(symbol: usize) -> Result<u32, AllocError>
+/// A symbol or a place in 32 bits. More than these can number don't fit in memory.
+pub fn short(symbol: usize) -> Result<u32, AllocError>
     ensures { IfOk result (λ n. n ≡ symbol) }
 {
     match u32::try_from(symbol) {
@@ -47,9 +47,10 @@ fn by_symbols(kind: RuleKind, key: SymbolKey, word: usize, mask: u64) -> Result<
     })
 }
 
-/// Appends the accesses of a key to the targets of a word that a mask has, by numbers.
+/// Appends the accesses of a key to the targets of a word that a mask has, by numbers. The places are those of the chunks.
 pub fn push_targets<A: Allocator>(
     chunks: &mut Vec<Chunk, A>,
+    places: &mut ChunkPlaces<A>,
     kind: RuleKind,
     key: SymbolKey,
     word: usize,
@@ -64,6 +65,6 @@ pub fn push_targets<A: Allocator>(
         return Ok(());
     }
     let symbols = by_symbols(kind, key, word, mask)?;
-    push_renumbered(chunks, &symbols, numbers)?;
+    push_renumbered(chunks, places, &symbols, numbers)?;
     Ok(())
 }

@@ -3,7 +3,7 @@ use Rattle.cil_specs.specs.Lookup.{references}
 use Rattle.cil_parse.specs.Kinds.{table_of}
 use Rattle.cil_parse.specs.Parsed.{texts_of}
 use Rattle.cil_bind.specs.Lookup.{namespace_at}
-use Rattle.cil_bind.specs.Binding.{AreLeads}
+use Rattle.cil_bind.specs.Binding.{AreLeads, most_references}
 use Rattle.cil_bind.proofs.BindingLemmas.{leads-next, leads-stay, leads-all}
 use Rattle.cil_bind.proofs.ScopeLemmas.{read-within}
 use Rattle.cil_bind.proofs.binding.bind_statement.Goals as goal
@@ -51,6 +51,6 @@ returns-clause-binds g c = λ names policy f knows nums remembers shown. record 
   bound = c.loop-k.bound.1;
   added = c.in_ok-close.ensures.ok ∙ (λ i. (c.loop-k.invariant.closed i ++ c.loop-k.bound.1 ∷ [], []));
   leads_are =
-      let past : length c.args.view.now.words.now ≤ c.loop-k.k = search rules in
+      let past : most_references c.args.view.now.kind (length c.args.view.now.words.now) ≤ c.loop-k.k = search rules in
       leads-all policy (namespace_at names c.args.lookup.now.namespaces c.args.namespace) (texts_of c.args.«module».now) c.args.view.now f c.loop-k.k c.loop-k.bound.1 shown past (c.loop-k.invariant.leads_are names policy f knows nums remembers shown);
 }

@@ -1,17 +1,17 @@
-use Rattle.std.proofs.Common.{◌∙◌, ◌+◌, ◌/◌, ◌≤◌, length, refl, sym, ap, arith}
+use Rattle.std.proofs.Common.{◌∙◌, ◌+◌, ◌/◌, ◌<◌, ◌≤◌, ℕ, length, refl, sym, inl, inr, arith}
+use Rattle.std.proofs.lemmas.Bool.{cases_lt}
 use Rattle.cil_member_rows.specs.Rows.{count_before, count_now}
 use Rattle.cil_resolve.specs.Meter.{evaluations_in}
 use Rattle.cil_resolve.specs.Resolved.{meaning_in}
 use Rattle.cil_sets.specs.Places.{set_at}
 use Rattle.cil_member_updates.specs.Evaluated.{IsMovedAt, IsUnsettled}
 use Rattle.cil_member_updates.specs.Policy.{given}
-use Rattle.cil_member_updates.proofs.EvaluatedLemmas.{moved-within, words-all, words-first, words-next}
+use Rattle.cil_member_updates.proofs.EvaluatedLemmas.{moved-within, words-all, words-from, words-next}
 use Rattle.cil_member_updates.proofs.GivenLemmas.{tell-same}
-use Rattle.cil_member_updates.proofs.MovedLemmas.{moved-none, moved-more, moved-all, moved-other}
+use Rattle.cil_member_updates.proofs.MovedLemmas.{moved-from, moved-more, moved-all, moved-other}
 use Rattle.cil_member_updates.proofs.SideLemmas.{gave-mentioned, given-mentioned, given-past}
 use Rattle.cil_member_updates.proofs.RenewLemmas.{same-attribute}
 use Rattle.cil_member_updates.proofs.StayLemmas.{stay-gives, stay-unmoved}
-use Rattle.cil_sums.proofs.WithinLemmas.{within-none}
 use Rattle.cil_member_updates.proofs.sets.move_set.Goals as goal
 
 pub move_word_unless_alike-requires-clause-was : goal.move_word_unless_alike-requires-clause-was
@@ -37,16 +37,23 @@ move_word_unless_alike-requires-clause-above g c a t here =
     omega (arith, same, above)
 
 pub loop-word-init : goal.loop-word-init
+unfolding given
 loop-word-init g c =
+    let symbols = c.args.symbols.now in
     let p = c.args.old.now.resolved.now in
     let q = c.args.new.now.resolved.now in
-    let may = IsUnsettled c.args.symbols.now (meaning_in p) (meaning_in q) (set_at q c.args.j) in
-    let must = IsMovedAt c.args.symbols.now (meaning_in p) (set_at p c.args.i) (meaning_in q) (set_at q c.args.j) in
+    let s = set_at p c.args.i in
+    let r = set_at q c.args.j in
+    let may = IsUnsettled symbols (meaning_in p) (meaning_in q) r in
+    let must = IsMovedAt symbols (meaning_in p) s (meaning_in q) r in
+    let covers = λ (w : ℕ) (low : w < c.span-span.result.first). (let is = c.span-span.ensures.first w low in c.stays-stays.ensures is.0 w (c.requires.first w is.1)) in
     record {
-      moved = moved-none (given c.args.symbols.now c.args.old.now.resolved.now c.args.i) (given c.args.symbols.now c.args.new.now.resolved.now c.args.j) (count_now c.args.rows.now);
+      moved =
+          moved-from (given symbols p c.args.i) (given symbols q c.args.j) c.span-span.result.first (count_now c.args.rows.now)
+          (λ a t low. stay-gives symbols (meaning_in p) (meaning_in q) s r (t / 64) (covers (t / 64) low) (same-attribute s r c.requires.same) a t refl);
       before = λ a t. refl;
       rows = refl;
-      evaluations = words-first may must (evaluations_in c.args.meter.now);
+      evaluations = words-from may must c.span-span.result.first (evaluations_in c.args.meter.now) (λ t low. stay-unmoved symbols (meaning_in p) (meaning_in q) s r (t / 64) (covers (t / 64) low) t refl);
       adjustments = refl;
     }
 
@@ -68,37 +75,42 @@ loop-word-preserved g c =
     }
 
 pub returns-clause-now : goal.returns-clause-now
+unfolding given
 returns-clause-now g c =
-    moved-all (given c.args.symbols.now c.args.old.now.resolved.now c.args.i) (given c.args.symbols.now c.args.new.now.resolved.now c.args.j) c.loop-word.word (count_now c.args.rows.now) (count_now c.loop-word.rows) c.loop-word.invariant.moved
-    (λ a t past.
-    let behind : length c.args.symbols.now ≤ t = (let end = c.loop-word-test.false in let len = c.len.ensures.len in omega (arith, past, end, len)) in
-    given-past c.args.symbols.now c.args.old.now.resolved.now c.args.i a t behind ∙ sym (given-past c.args.symbols.now c.args.new.now.resolved.now c.args.j a t behind))
+    let symbols = c.args.symbols.now in
+    let p = c.args.old.now.resolved.now in
+    let q = c.args.new.now.resolved.now in
+    let s = set_at p c.args.i in
+    let r = set_at q c.args.j in
+    let end = c.loop-word-test.false in
+    let len = c.len.ensures.len in
+    moved-all (given symbols p c.args.i) (given symbols q c.args.j) c.loop-word.word (count_now c.args.rows.now) (count_now c.loop-word.rows) c.loop-word.invariant.moved
+    (λ a t past. elim (cases_lt (t / 64) (c.len.result / 64 + 1)) [
+      | inl low ↦
+          let is = c.span-span.ensures.end (t / 64) (omega (arith, past, end)) low in
+          stay-gives symbols (meaning_in p) (meaning_in q) s r (t / 64) (c.stays-stays.ensures is.0 (t / 64) (c.requires.end (t / 64) is.1)) (same-attribute s r c.requires.same) a t refl
+      | inr high ↦
+          let behind : length symbols ≤ t = omega (arith, high, len) in
+          given-past symbols p c.args.i a t behind ∙ sym (given-past symbols q c.args.j a t behind)
+    ])
 
 pub returns-clause-evaluations : goal.returns-clause-evaluations
 returns-clause-evaluations g c =
-    let p = c.args.old.now.resolved.now in
-    let q = c.args.new.now.resolved.now in
-    let may = IsUnsettled c.args.symbols.now (meaning_in p) (meaning_in q) (set_at q c.args.j) in
-    let must = IsMovedAt c.args.symbols.now (meaning_in p) (set_at p c.args.i) (meaning_in q) (set_at q c.args.j) in
-    words-all may must c.loop-word.word (evaluations_in c.args.meter.now) (evaluations_in c.loop-word.meter)
-    (λ t held. let low = moved-within c.args.symbols.now (meaning_in p) (meaning_in q) (set_at p c.args.i) (set_at q c.args.j) t held in let end = c.loop-word-test.false in let len = c.len.ensures.len in omega (arith, low, end, len)) c.loop-word.invariant.evaluations
-
-pub returns-then-alike-clause-now : goal.returns-then-alike-clause-now
-unfolding given
-returns-then-alike-clause-now g c a t =
-    let p = c.args.old.now.resolved.now in
-    let q = c.args.new.now.resolved.now in
-    let s = set_at p c.args.i in
-    let r = set_at q c.args.j in
-    let covers = c.stays-stays.ensures c.if-stays.true (t / 64) (c.requires.alike c.if-alike.true (t / 64)) in
-    ap (λ n. count_now c.args.rows.now a t + n) (stay-gives c.args.symbols.now (meaning_in p) (meaning_in q) s r (t / 64) covers (same-attribute s r c.requires.same) a t refl)
-
-pub returns-then-alike-clause-evaluations : goal.returns-then-alike-clause-evaluations
-returns-then-alike-clause-evaluations g c =
-    let p = c.args.old.now.resolved.now in
-    let q = c.args.new.now.resolved.now in
-    let s = set_at p c.args.i in
-    let r = set_at q c.args.j in
     let symbols = c.args.symbols.now in
-    within-none (IsUnsettled symbols (meaning_in p) (meaning_in q) r) (IsMovedAt symbols (meaning_in p) s (meaning_in q) r) (evaluations_in c.args.meter.now)
-    (λ t. stay-unmoved symbols (meaning_in p) (meaning_in q) s r (t / 64) (c.stays-stays.ensures c.if-stays.true (t / 64) (c.requires.alike c.if-alike.true (t / 64))) t refl)
+    let p = c.args.old.now.resolved.now in
+    let q = c.args.new.now.resolved.now in
+    let s = set_at p c.args.i in
+    let r = set_at q c.args.j in
+    let may = IsUnsettled symbols (meaning_in p) (meaning_in q) r in
+    let must = IsMovedAt symbols (meaning_in p) s (meaning_in q) r in
+    let end = c.loop-word-test.false in
+    let len = c.len.ensures.len in
+    words-all may must c.loop-word.word (evaluations_in c.args.meter.now) (evaluations_in c.loop-word.meter)
+    (λ t held. elim (cases_lt (t / 64) c.loop-word.word) [
+      | inl low ↦ low
+      | inr past ↦
+          let within = moved-within symbols (meaning_in p) (meaning_in q) s r t held in
+          let is = c.span-span.ensures.end (t / 64) (omega (arith, past, end)) (omega (arith, within, len)) in
+          absurd (stay-unmoved symbols (meaning_in p) (meaning_in q) s r (t / 64) (c.stays-stays.ensures is.0 (t / 64) (c.requires.end (t / 64) is.1)) t refl held)
+    ])
+    c.loop-word.invariant.evaluations

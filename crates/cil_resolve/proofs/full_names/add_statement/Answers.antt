@@ -3,8 +3,8 @@ use Rattle.std.proofs.lemmas.List.{length-map}
 use Rattle.cil_specs.specs.Lookup.{full_name}
 use Rattle.cil_check.proofs.AskedLemmas.{reads-word}
 use Rattle.cil_check.proofs.SeenLemmas.{is-long, there-at}
-use Rattle.cil_resolve.specs.FullNames.{name_in, numbered_id, full_name_or}
-use Rattle.cil_resolve.proofs.FullNamesLemmas.{space_name_of, name-here, reads-absent}
+use Rattle.cil_resolve.specs.FullNames.{name_in, numbered_id, full_name_or, is_numbered_kind}
+use Rattle.cil_resolve.proofs.FullNamesLemmas.{space_name_of, kind-absent, name-here, reads-absent}
 use Rattle.cil_resolve.proofs.StatementLemmas.{row-of}
 use Rattle.cil_resolve.proofs.full_names.add_statement.Goals as goal
 use Rattle.cil_resolve.proofs.full_names.add_statement.Goals.{in-Some+in_ok-add_name, in_default}
@@ -32,6 +32,11 @@ add_name-requires g c =
     let named = ap length c.requires.spaces ∙ length-map c.args.bound.now.policy.now.lookup.namespaces (space_name_of c.args.bound.now.policy.now.names) in
     omega (arith, within, named)
 
+pub returns-then-not-is_numbered : goal.returns-then-not-is_numbered
+returns-then-not-is_numbered g c policy s is at =
+    let none = kind-absent s.form (ap is_numbered_kind (sym (c.kind.ensures policy s is at)) ∙ sym c.is_numbered.ensures ∙ c.if-not-is_numbered.true) in
+    c.in_ok-close.ensures.ok ∙ ap (λ l. (c.args.names.now.0 ++ l ∷ [], [])) (c.requires.closed ∙ ap (full_name_or s.namespace) (sym none))
+
 pub returns : goal.returns
 returns g c policy s is at =
     let p = c.args.bound.now.policy.now in
@@ -47,4 +52,4 @@ returns g c policy s is at =
       | in_default w ↦
           w.names-is ∙ (λ j. (old.0, c.requires.closed j)) ∙ ap (λ o. (old.0, full_name_or s.namespace o)) (sym (reads-absent c.seen-seen.result (numbered_id s.form) (rw w.in_default.is at (c.numbered_word.ensures policy s seen))))
     ] in
-    c.in_ok-close.ensures.ok ∙ ap (λ l. (l.0 ++ l.1 ∷ [], [])) named
+    c.in_ok-close-2.ensures.ok ∙ ap (λ l. (l.0 ++ l.1 ∷ [], [])) named

@@ -1,27 +1,25 @@
-use Rattle.std.proofs.Common.{◌≡◌, ◌≤◌, ◌∙◌, get_or, [], fold, take, length, sym, ap, arith}
+use Rattle.std.proofs.Common.{◌≡◌, ◌≤◌, ◌∙◌, [], fold, take, length, sym, ap, arith}
 use Rattle.std.proofs.lemmas.List.{take_all}
 use Rattle.std.proofs.lemmas.List.Sums.{fold-append}
 use Rattle.cil_specs.specs.Lookup.{with_name, distinct}
 use Rattle.cil_check.proofs.SeenLemmas.{there-at}
-use Rattle.cil_resolve.specs.FullNames.{full_name_of}
 use Rattle.cil_resolve.specs.Numbering.{names_with, names_of}
 use Rattle.cil_resolve.proofs.NumberLemmas.{names-sorted}
-use Rattle.cil_resolve.proofs.StatementLemmas.{flat-one, mapped-at}
+use Rattle.cil_resolve.proofs.StatementLemmas.{flat-one}
 use Rattle.cil_resolve.proofs.numbering.sorted_names.Goals as goal
 
-pub insert_names-requires : goal.insert_names-requires
-insert_names-requires g c =
+pub insert_names_at-requires : goal.insert_names_at-requires
+insert_names_at-requires g c =
     let (policy, is, full) = c.requires.is in
     let count = c.len-i-end.ensures policy is in
-    let (s, at) = there-at policy c.loop-i.i (omega (arith, count)) in
-    (policy, (s, c.seen-seen.ensures.seen policy s is at))
+    record { is = (policy, is, omega (arith, count), full) }
 
 pub loop-i-preserved : goal.loop-i-preserved
 loop-i-preserved g c policy is full =
     let i = c.loop-i.i in
     let count = c.len-i-end.ensures policy is in
     let (s, at) = there-at policy i (omega (arith, count)) in
-    c.in_ok-insert_names.ensures policy s (c.seen-seen.ensures.seen policy s is at) (c.get.ensures ∙ ap (λ l. get_or l i []) full ∙ mapped-at full_name_of policy i s [] at)
+    c.in_ok-insert_names_at.ensures policy s is full at
     ∙ ap (λ n. fold with_name n (names_with s)) (c.loop-i.invariant policy is full) ∙ sym (fold-append with_name [] (names_of (take i policy)) (names_with s))
     ∙ ap distinct (sym (flat-one names_with policy i s at))
 

@@ -1,4 +1,4 @@
-use Rattle.std.proofs.Common.{◌∙◌, length, subst, sym}
+use Rattle.std.proofs.Common.{length, subst, sym}
 use Rattle.std.proofs.lemmas.Result.{IfOk-weaker}
 use Rattle.cil_member_rows.specs.Rows as member_rows
 use Rattle.cil_resolve.specs.Resolved.{meaning_in}
@@ -13,15 +13,15 @@ pub changes-requires : goal.changes-requires
 changes-requires g c =
     let symbols = c.args.self.now.names in
     let names = c.in_ok-ranks.ranks.names.items in
-    let merged = rw (c.as_slice.ensures.value ∙ c.in_ok-old_names.ensures, c.as_slice-2.ensures.value ∙ c.in_ok-new_names.ensures) at c.in_ok-ranks.ensures in
-    let ranks = subst (AreRanks names symbols (length names)) (sym c.as_slice-4.ensures.value) (rw c.as_slice-3.ensures.value at c.in_ok-numbers.ensures) in
+    let merged = rw (c.names.ensures, c.names-2.ensures) at c.in_ok-ranks.ensures in
+    let ranks = subst (AreRanks names symbols (length names)) (sym c.as_slice-2.ensures.value) (rw c.as_slice.ensures.value at c.in_ok-numbers.ensures) in
     record {
       known = record {
         now =
-            numbered-now symbols names c.as_slice-4.result.now c.in_ok-ranks.ranks.first.items c.in_ok-ranks.ranks.second.items c.args.old.now c.args.new.now merged ranks (member_rows.count_before c.args.self.now.rows)
+            numbered-now symbols names c.as_slice-2.result.now c.in_ok-ranks.ranks.first.items c.in_ok-ranks.ranks.second.items c.args.old.now c.args.new.now merged ranks (member_rows.count_before c.args.self.now.rows)
             (member_rows.count_now c.args.self.now.rows) (access_tables.count_before c.args.self.now.tables) (access_tables.count_now c.args.self.now.tables) c.requires.before c.requires.now;
         before =
-            numbered-before symbols names c.as_slice-4.result.now c.in_ok-ranks.ranks.first.items c.in_ok-ranks.ranks.second.items c.args.old.now c.args.new.now merged ranks (member_rows.count_before c.args.self.now.rows)
+            numbered-before symbols names c.as_slice-2.result.now c.in_ok-ranks.ranks.first.items c.in_ok-ranks.ranks.second.items c.args.old.now c.args.new.now merged ranks (member_rows.count_before c.args.self.now.rows)
             (member_rows.count_now c.args.self.now.rows) (access_tables.count_before c.args.self.now.tables) (access_tables.count_now c.args.self.now.tables) c.requires.before c.requires.now;
       };
     }
@@ -30,9 +30,9 @@ pub of-requires-clause-added : goal.of-requires-clause-added
 of-requires-clause-added g c =
     let symbols = c.args.self.now.names in
     let names = c.in_ok-ranks.ranks.names.items in
-    let merged = rw (c.as_slice.ensures.value ∙ c.in_ok-old_names.ensures, c.as_slice-2.ensures.value ∙ c.in_ok-new_names.ensures) at c.in_ok-ranks.ensures in
-    let ranks = subst (AreRanks names symbols (length names)) (sym c.as_slice-4.ensures.value) (rw c.as_slice-3.ensures.value at c.in_ok-numbers.ensures) in
-    added-numbered symbols names c.as_slice-4.result.now c.in_ok-ranks.ranks.first.items c.in_ok-ranks.ranks.second.items c.args.old.now c.args.new.now merged ranks (member_rows.count_before c.args.self.now.rows)
+    let merged = rw (c.names.ensures, c.names-2.ensures) at c.in_ok-ranks.ensures in
+    let ranks = subst (AreRanks names symbols (length names)) (sym c.as_slice-2.ensures.value) (rw c.as_slice.ensures.value at c.in_ok-numbers.ensures) in
+    added-numbered symbols names c.as_slice-2.result.now c.in_ok-ranks.ranks.first.items c.in_ok-ranks.ranks.second.items c.args.old.now c.args.new.now merged ranks (member_rows.count_before c.args.self.now.rows)
     (member_rows.count_now c.args.self.now.rows) (access_tables.count_before c.args.self.now.tables) (access_tables.count_now c.args.self.now.tables) c.requires.before c.requires.now c.in_ok-found.found.added
     c.in_ok-found.ensures.added_order c.in_ok-found.ensures.added
 
@@ -40,9 +40,9 @@ pub of-requires-clause-removed : goal.of-requires-clause-removed
 of-requires-clause-removed g c =
     let symbols = c.args.self.now.names in
     let names = c.in_ok-ranks.ranks.names.items in
-    let merged = rw (c.as_slice.ensures.value ∙ c.in_ok-old_names.ensures, c.as_slice-2.ensures.value ∙ c.in_ok-new_names.ensures) at c.in_ok-ranks.ensures in
-    let ranks = subst (AreRanks names symbols (length names)) (sym c.as_slice-4.ensures.value) (rw c.as_slice-3.ensures.value at c.in_ok-numbers.ensures) in
-    removed-numbered symbols names c.as_slice-4.result.now c.in_ok-ranks.ranks.first.items c.in_ok-ranks.ranks.second.items c.args.old.now c.args.new.now merged ranks (member_rows.count_before c.args.self.now.rows)
+    let merged = rw (c.names.ensures, c.names-2.ensures) at c.in_ok-ranks.ensures in
+    let ranks = subst (AreRanks names symbols (length names)) (sym c.as_slice-2.ensures.value) (rw c.as_slice.ensures.value at c.in_ok-numbers.ensures) in
+    removed-numbered symbols names c.as_slice-2.result.now c.in_ok-ranks.ranks.first.items c.in_ok-ranks.ranks.second.items c.args.old.now c.args.new.now merged ranks (member_rows.count_before c.args.self.now.rows)
     (member_rows.count_now c.args.self.now.rows) (access_tables.count_before c.args.self.now.tables) (access_tables.count_now c.args.self.now.tables) c.requires.before c.requires.now c.in_ok-found.found.removed
     c.in_ok-found.ensures.removed_order c.in_ok-found.ensures.removed
 
@@ -50,9 +50,9 @@ pub returns : goal.returns
 returns g c =
     let symbols = c.args.self.now.names in
     let names = c.in_ok-ranks.ranks.names.items in
-    let merged = rw (c.as_slice.ensures.value ∙ c.in_ok-old_names.ensures, c.as_slice-2.ensures.value ∙ c.in_ok-new_names.ensures) at c.in_ok-ranks.ensures in
-    let ranks = subst (AreRanks names symbols (length names)) (sym c.as_slice-4.ensures.value) (rw c.as_slice-3.ensures.value at c.in_ok-numbers.ensures) in
-    let are = are-changes symbols names c.as_slice-4.result.now c.in_ok-ranks.ranks.first.items c.in_ok-ranks.ranks.second.items c.args.old.now c.args.new.now merged ranks (member_rows.count_before c.args.self.now.rows)
+    let merged = rw (c.names.ensures, c.names-2.ensures) at c.in_ok-ranks.ensures in
+    let ranks = subst (AreRanks names symbols (length names)) (sym c.as_slice-2.ensures.value) (rw c.as_slice.ensures.value at c.in_ok-numbers.ensures) in
+    let are = are-changes symbols names c.as_slice-2.result.now c.in_ok-ranks.ranks.first.items c.in_ok-ranks.ranks.second.items c.args.old.now c.args.new.now merged ranks (member_rows.count_before c.args.self.now.rows)
     (member_rows.count_now c.args.self.now.rows) (access_tables.count_before c.args.self.now.tables) (access_tables.count_now c.args.self.now.tables) c.requires.before c.requires.now c.in_ok-found.found.added
     c.in_ok-found.found.removed c.in_ok-found.ensures.added_order c.in_ok-found.ensures.added c.in_ok-found.ensures.removed_order c.in_ok-found.ensures.removed in
     IfOk-weaker c.of.result _ _ (λ changes is. subst (AreChanges (is_in_table (meaning_in c.args.old.now)) (is_in_table (meaning_in c.args.new.now))) (sym is) are) c.of.ensures

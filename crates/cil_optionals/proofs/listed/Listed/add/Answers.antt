@@ -1,4 +1,4 @@
-use Rattle.std.proofs.Common.{arith, rules, ◌≡◌, ◌<◌, ◌++◌, true, false, [], map, length, get_or, Some, IfSome, refl, sym, ap, ◌∙◌, subst}
+use Rattle.std.proofs.Common.{arith, rules, ◌≡◌, ◌<◌, ◌++◌, true, false, [], map, length, get_or, Some, refl, sym, ap, ◌∙◌}
 use Rattle.std.proofs.lemmas.Option.{slice_get_within}
 use Rattle.cil_parse.specs.Forms.{kind_of, permissions_in}
 use Rattle.cil_parse.specs.Parsed.{texts_of}
@@ -6,7 +6,7 @@ use Rattle.cil_bind.specs.Listing.{lists_own}
 use Rattle.cil_optionals.specs.Given.{commons_at, gift, given_at, gives_common}
 use Rattle.cil_bind.proofs.BindingLemmas.{kind-at}
 use Rattle.cil_optionals.proofs.AsksLemmas.{bound-at, kinds-long, leads-of, seen-of}
-use Rattle.cil_optionals.proofs.PermissionLemmas.{upto-lists, upto-gives, upto-other, gift-within}
+use Rattle.cil_optionals.proofs.PermissionLemmas.{upto-lists, upto-gives, upto-other}
 use Rattle.cil_optionals.proofs.listed.Listed.add.Goals as goal
 
 pub index-kind-requires : goal.index-kind-requires
@@ -40,20 +40,12 @@ get-bound-requires g c =
     let r = c.requires in
     (bound-at r.1 r.1 c.args.policy.now.bound.0 c.args.i r.2 r.3.bound.bound r.4).0
 
-pub give-requires-clause-within : goal.give-requires-clause-within
-give-requires-clause-within g c =
-    let r = c.requires in
-    let p = c.args.policy.now in
-    let gives : gives_common (kind_of r.2.form) ≡ true = sym (c.gives_common.ensures ∙ ap gives_common (c.index-kind.ensures ∙ kind-at r.1 p.kinds.items c.args.i r.2 c.index-kind.result.now r.3.bound.kinds r.4)) ∙ c.if-gives_common.true in
-    subst (λ o. IfSome o (λ given. given.0 < length c.args.self.now.given.items)) (sym c.gift_of.ensures)
-    (subst (λ n. IfSome (gift c.get-bound.result.now) (λ given. given.0 < n)) (sym r.6.long) (gift-within r.1 r.2.namespace r.2.form gives c.get-bound.result.now (leads-of p r.0 r.1 c.args.i r.2 c.get-bound.result.now r.3 r.4 c.get-bound.ensures)))
-
 pub returns-in_ok-give-clause-up_to : goal.returns-in_ok-give-clause-up_to
 returns-in_ok-give-clause-up_to g c = λ parsed all s ready at of are.
     let p = c.args.policy.now in
     let gives : gives_common (kind_of s.form) ≡ true = sym (c.gives_common.ensures ∙ ap gives_common (c.index-kind.ensures ∙ kind-at all p.kinds.items c.args.i s c.index-kind.result.now ready.bound.kinds at)) ∙ c.if-gives_common.true in
     upto-gives all c.args.i s c.get-bound.result.now c.args.self.now c.give.new.self at gives (leads-of p parsed all c.args.i s c.get-bound.result.now ready at c.get-bound.ensures)
-    (λ k. c.in_ok-give.ensures.given k ∙ ap (λ o. commons_at c.args.self.now.given.items k ++ given_at o k) c.gift_of.ensures) c.in_ok-give.ensures.len c.in_ok-give.ensures.listed are
+    (λ k. c.in_ok-give.ensures.given k ∙ ap (λ o. commons_at c.args.self.now.given.items k ++ given_at o k) c.gift_of.ensures) c.in_ok-give.ensures.listed are
 
 pub returns-else-gives_common-clause-up_to : goal.returns-else-gives_common-clause-up_to
 returns-else-gives_common-clause-up_to g c = λ parsed all s ready at of are.

@@ -1,5 +1,5 @@
 use Rattle.std.proofs.Common.{◌≡◌, ◌<◌, ℕ, slice_index}
-use Rattle.cil_member_updates.proofs.kept.are_alike.Given as goal
+use Rattle.cil_member_updates.proofs.kept.first_unlike.Given as goal
 
 -- the words so far are the same
 abbrev pub invariant-loop-word : goal.invariant-loop-word
