@@ -96,17 +96,19 @@ def timed(session, rounds, name, edit, back):
     tell(name, min(edit[0] for edit in found), min(edit[1] for edit in found), found[0][2])
 
 
+TEXTS = {
+    "one more rule": b"(allow bin_t lib_t (file (read)))",
+    "one more type": b"(type one_more_t)",
+    "one more of domain": b"(type one_more_t)(typeattributeset domain (one_more_t))",
+}
+
+
 def main():
     program, folder, order, small = sys.argv[1:5]
     rounds = int(sys.argv[5])
     session = Session(program)
     load(session, as_one_text(folder, small) if order == "-" else one_by_one(folder, order))
-    texts = {
-        "one more rule": b"(allow bin_t lib_t (file (read)))",
-        "one more type": b"(type one_more_t)",
-        "one more of domain": b"(type one_more_t)(typeattributeset domain (one_more_t))",
-    }
-    for name, text in texts.items():
+    for name, text in TEXTS.items():
         timed(session, rounds, name, install("one_more", 400, text), remove("one_more", 400))
     disable, enable = b"disable %s\n" % small.encode(), b"enable %s\n" % small.encode()
     timed(session, rounds, "disable", disable, enable)
@@ -116,4 +118,5 @@ def main():
     session.process.wait()
 
 
-main()
+if __name__ == "__main__":
+    main()
