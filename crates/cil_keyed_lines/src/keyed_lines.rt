@@ -10,6 +10,7 @@ ghost use Rattle.cil_recorded.specs.Differences.{appeared_at, change_key, gone_a
 ghost use Rattle.cil_keyed_lines.specs.Keyed.{before_at, count_before, count_now, hit_of, is_key, now_at, steps_in, with_key, IsLineOf, IsNoLine, NoneCounted};
 
 use crate::line_steps;
+use crate::read_ahead::ReadAhead;
 use crate::symbol_key::SymbolKey;
 use cil_recorded::{Change, RecordedLines};
 use indexmap::IndexSet;
@@ -26,6 +27,7 @@ pub struct KeyedLines<A: Allocator = Global> {
     /// The place that the last step reached. The next step is often of the same key, or of that behind it: the keys of a source and a
     /// class often came together.
     hint: usize,
+    ahead: ReadAhead,
 }
 
 impl<A: Allocator> Model for KeyedLines<A> {
@@ -50,6 +52,7 @@ impl<A: Allocator + Copy> KeyedLines<A> {
             keys: IndexSet::new(alloc),
             lines: RecordedLines::new(alloc),
             hint: 0,
+            ahead: ReadAhead::new(),
         }
     }
 
@@ -122,6 +125,7 @@ impl<A: Allocator + Copy> KeyedLines<A> {
         ensures keys { self.new.keys ≡ self.old.keys }
         ensures before { (k : SymbolKey) (t : ℕ) → count_before self.new k t ≡ count_before self.old k t }
     {
+        self.ahead = self.ahead.read(&self.lines, place, word);
         line_steps::shift(&mut self.lines, alloc, place, word, gone, come)
     }
 

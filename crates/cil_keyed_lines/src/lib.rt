@@ -5,6 +5,7 @@ mod keyed_lines;
 #[cfg(test)]
 mod keyed_tests;
 mod line_steps;
+mod read_ahead;
 mod symbol_key;
 
 pub use keyed_lines::KeyedLines;

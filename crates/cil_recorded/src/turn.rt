@@ -9,10 +9,11 @@ use crate::step::Step;
 use std::alloc::{AllocError, Allocator};
 
 /// How often targets of a word of a line appeared, less how often they went, modulo 4: its lower digit for each of them, and its upper one.
+/// An edit sorts many of these, so the numbers have 32 bits.
 #[derive(Clone, Copy, Debug)]
 pub struct Turn {
-    pub line: usize,
-    pub word: usize,
+    pub line: u32,
+    pub word: u32,
     pub low: u64,
     pub high: u64,
 }
@@ -35,16 +36,26 @@ fn is_same_word(first: &Turn, second: &Turn) -> bool
     first.line == second.line && word == other
 }
 
-/// The turn of a step: 1 for each target that it let appear, and 3 for each that it let go.
-fn turn_of(step: &Step) -> Turn
-    ensures { (l t : ℕ) → balance_of result l t ≡ turned_by step.now l t }
+/// A line or a word in 32 bits. More than these can number don't fit in memory.
+fn in_32_bits(number: usize) -> Result<u32, AllocError>
+    ensures { IfOk result (λ n. n ≡ number) }
 {
-    Turn {
-        line: step.line,
-        word: step.word,
+    match u32::try_from(number) {
+        Ok(n) => Ok(n),
+        Err(_) => Err(AllocError),
+    }
+}
+
+/// The turn of a step: 1 for each target that it let appear, and 3 for each that it let go.
+fn turn_of(step: &Step) -> Result<Turn, AllocError>
+    ensures { IfOk result (λ turn. (l t : ℕ) → balance_of turn l t ≡ turned_by step.now l t) }
+{
+    Ok(Turn {
+        line: in_32_bits(step.line)?,
+        word: in_32_bits(step.word)?,
         low: step.turned,
         high: if step.up { 0 } else { step.turned },
-    }
+    })
 }
 
 /// The turns of steps, in their order.
@@ -54,7 +65,7 @@ fn turns_of<A: Allocator>(alloc: A, log: &[Step]) -> Result<Vec<Turn, A>, AllocE
     let mut turns = Vec::with_capacity(alloc, log.len())?;
     for step in log {
         if step.turned != 0 {
-            turns.push(turn_of(step))?;
+            turns.push(turn_of(step)?)?;
         }
     }
     Ok(turns)

@@ -30,8 +30,8 @@ fn split<A: Allocator + Copy>(alloc: A, turns: &[Turn]) -> Result<Vec<Change, A>
         if turn.low != 0 {
             let gone = turn.low & turn.high;
             changes.push(Change {
-                line: turn.line,
-                word: turn.word,
+                line: turn.line as usize,
+                word: turn.word as usize,
                 appeared: turn.low ^ gone,
                 gone,
             })?;

@@ -5,7 +5,7 @@ use Rattle.cil_recorded.specs.declared.step.Step.{Step}
 use Rattle.cil_recorded.specs.Differences.{balance_of}
 use Rattle.cil_recorded.specs.Log.{hit_at, turned_by}
 use Rattle.cil_recorded.proofs.turn.turns_of.Goals as goal
-use Rattle.cil_recorded.proofs.turn.turns_of.Goals.{then-step-ne0+in_ok-push, else-step-ne0}
+use Rattle.cil_recorded.proofs.turn.turns_of.Goals.{then-step-ne0+in_ok-turn_of+in_ok-push, else-step-ne0}
 
 abbrev none : Step
 none = record { line = 0; word = 0; mask = 0; turned = 0; up = false }
@@ -28,9 +28,9 @@ loop-step-preserved g c =
     let s = get_or log i none in
     let more = λ (l t : ℕ). sum_by_more (λ s. turned_by s l t) log i none c.loop-step-test.true in
     elim c.if-step-ne0.branch [
-      | then-step-ne0+in_ok-push w ↦
+      | then-step-ne0+in_ok-turn_of+in_ok-push w ↦
           rw (w.turns-is, w.in_ok-push.ensures.items)
-          (λ l t. omega (arith, c.loop-step.invariant l t, more l t, w.turn_of.ensures l t, sum_by_push (λ s. balance_of s l t) c.loop-step.turns.items w.turn_of.result))
+          (λ l t. omega (arith, c.loop-step.invariant l t, more l t, w.in_ok-turn_of.ensures l t, sum_by_push (λ s. balance_of s l t) c.loop-step.turns.items w.in_ok-turn_of.field-0))
       | else-step-ne0 w ↦ rw w.turns-is (λ l t. let nothing = turned-nothing s l t w.if-step-ne0.false in omega (arith, c.loop-step.invariant l t, more l t, nothing))
     ]
 
