@@ -5,7 +5,7 @@ DESTDIR ?=
 BIN = $(DESTDIR)$(PREFIX)/bin
 SHARE = $(DESTDIR)$(PREFIX)/share
 
-.PHONY: run try test examples engines wrong-bodies install uninstall
+.PHONY: run try test examples scripts engines wrong-bodies install uninstall
 
 # Proves and builds the program, and has it answer a first session.
 run:
@@ -15,15 +15,20 @@ run:
 try:
 	cd crates/cilsem && rt try -- session < ../../examples/first.session
 
-# The gate: every proof from nothing, the must-fail edits, the tests and the programs; and what the built program prints of the
-# examples.
+# The gate: every proof from nothing, the must-fail edits, the tests and the programs; and what the built programs print of the
+# examples and the scripts.
 test:
 	rt ci
 	examples/check.sh
+	scripts/check.sh
 
 # Has the program that `make run` or `make test` built answer the examples, and compares what it prints.
 examples:
 	examples/check.sh
+
+# Has the programs that `make test` built, one for each engine, answer the scripts, and compares what they print.
+scripts:
+	scripts/check.sh
 
 # Has the programs that `make test` built, one for each engine, answer 2000 random scripts, and compares what they print.
 engines:

@@ -27,6 +27,7 @@ pub struct KeyedLines<A: Allocator = Global> {
     /// The place that the last step reached. The next step is often of the same key, or of that behind it: the keys of a source and a
     /// class often came together.
     hint: usize,
+    /// Lines that were read ahead of their changes. No contract tells of it.
     ahead: ReadAhead,
 }
 

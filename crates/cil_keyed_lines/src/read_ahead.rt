@@ -6,13 +6,13 @@ use std::alloc::Allocator;
 // How many lines are read together.
 const TOGETHER: usize = 8;
 
-/// The places of the lines that were read last. Lines that are read together are fetched from memory in the time of one, where a change
-/// of one line waits for the changes before it.
+/// The places of the lines that were read last. Reads of several lines wait for memory together; changes, made one after the other, would
+/// each wait alone.
 #[derive(Clone, Copy, Debug)]
 pub struct ReadAhead {
     from: usize,
     to: usize,
-    /// What was read. It is of no use but that the compiler can't leave the reading out.
+    /// What was read. It is kept so that the compiler doesn't leave the reading out.
     seen: u64,
 }
 
@@ -26,7 +26,8 @@ impl ReadAhead {
         }
     }
 
-    /// Reads a word of the line of a place and of the lines behind it, unless the line is among those that were read last.
+    /// Reads a word of the line of a place and of the lines behind it, unless the line is among those that were read last. Which word was
+    /// read isn't kept: of several words of a line the first alone is read ahead.
     pub fn read<A: Allocator>(self, lines: &RecordedLines<A>, place: usize, word: usize) -> Self {
         if self.from <= place && place < self.to {
             return self;

@@ -36,7 +36,7 @@ fn is_same_word(first: &Turn, second: &Turn) -> bool
     first.line == second.line && word == other
 }
 
-/// A line or a word in 32 bits. More than these can number don't fit in memory.
+/// The number of a line or a word in 32 bits. One that needs more is answered as out of memory.
 fn in_32_bits(number: usize) -> Result<u32, AllocError>
     ensures { IfOk result (λ n. n ≡ number) }
 {

@@ -8,8 +8,6 @@ mod at_once;
 #[cfg(test)]
 mod bound;
 #[cfg(test)]
-mod cases;
-#[cfg(test)]
 mod comings;
 #[cfg(test)]
 mod commands;
@@ -36,23 +34,11 @@ mod lines;
 #[cfg(test)]
 mod names;
 #[cfg(test)]
-mod optionals;
-#[cfg(test)]
 mod parsed;
-#[cfg(test)]
-mod policies;
 #[cfg(test)]
 mod reading;
 #[cfg(test)]
 mod refusals;
-#[cfg(test)]
-mod rules;
-#[cfg(test)]
-mod sets;
-#[cfg(test)]
-mod shapes;
-#[cfg(test)]
-mod states;
 #[cfg(test)]
 mod statuses;
 #[cfg(test)]
@@ -63,10 +49,6 @@ mod streams;
 mod tables;
 #[cfg(test)]
 mod texts;
-#[cfg(test)]
-mod unchanged;
-#[cfg(test)]
-mod violations;
 #[cfg(test)]
 mod wide;
 #[cfg(test)]
