@@ -1,9 +1,11 @@
 #!/bin/sh
 # Runs the tests of memory of `Delta` without their proofs, in a copy: each growth of single edits is refused in turn, edits are made
 # and taken back a hundred times, and 10,000 names come and go within 256 KiB. They stand outside the gate, since the prover takes more
-# than a quarter of an hour to prepare them; they are read and run as `rt try` does it, where each test has 60 seconds: too few on a
-# busy machine.
+# than a quarter of an hour to prepare them; they are read and run as `rt try` does it, which gives each test as many seconds as
+# RT_SECONDS says. Its own 60 are too few on a busy machine.
 set -eu
+RT_SECONDS=${RT_SECONDS:-900}
+export RT_SECONDS
 top=$(cd "$(dirname "$0")/.." && pwd)
 room=$(mktemp -d)
 trap 'rm -rf "$room"' EXIT
