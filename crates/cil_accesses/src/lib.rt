@@ -3,8 +3,6 @@
 
 mod access;
 mod accesses;
-#[cfg(test)]
-mod accesses_tests;
 mod chunk;
 mod chunk_places;
 mod difference;

@@ -2,8 +2,6 @@
 #![tactic(auto)]
 
 mod counters;
-#[cfg(test)]
-mod counters_tests;
 mod laws;
 mod member_counts;
 mod more_rows;

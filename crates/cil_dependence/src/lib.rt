@@ -7,8 +7,6 @@ mod graph;
 mod items;
 mod order;
 mod search;
-#[cfg(test)]
-mod tests;
 
 ghost use Rattle.std.specs.Prelude.{IfOk, MatchOption};
 ghost use Rattle.cil_dependence.specs.Dependence.{IsDependence, IsFirst, IsStraight};

@@ -5,8 +5,6 @@ mod evaluation;
 mod expression;
 mod laws;
 mod same;
-#[cfg(test)]
-mod tests;
 
 pub use expression::{Element, SetExpression};
 pub use laws::{names_bound, names_decide, same_hold_the_same};

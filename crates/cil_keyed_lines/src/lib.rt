@@ -2,8 +2,6 @@
 #![tactic(auto)]
 
 mod keyed_lines;
-#[cfg(test)]
-mod keyed_tests;
 mod line_steps;
 mod read_ahead;
 mod symbol_key;

@@ -4,7 +4,5 @@
 mod digit;
 mod higher;
 mod line;
-#[cfg(test)]
-mod line_tests;
 
 pub use line::Line;

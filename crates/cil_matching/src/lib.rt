@@ -2,8 +2,6 @@
 #![tactic(auto)]
 
 mod inverse;
-#[cfg(test)]
-mod matching_tests;
 mod name_numbers;
 mod positions;
 mod rule_matching;

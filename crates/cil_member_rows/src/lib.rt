@@ -9,6 +9,3 @@ mod member_rows;
 
 pub use cil_recorded::Change;
 pub use member_rows::MemberRows;
-
-#[cfg(test)]
-mod rows_tests;

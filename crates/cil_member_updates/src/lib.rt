@@ -7,8 +7,6 @@ mod masks;
 mod passes;
 mod sets;
 mod side;
-#[cfg(test)]
-mod update_tests;
 mod visits;
 mod when;
 mod words;

@@ -4,8 +4,6 @@
 mod dependents;
 mod greatest;
 mod kept;
-#[cfg(test)]
-mod kept_tests;
 mod listed;
 mod others;
 mod permissions;

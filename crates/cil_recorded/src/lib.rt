@@ -7,6 +7,3 @@ mod turn;
 mod word_steps;
 
 pub use recorded_lines::{Change, Place, RecordedLines};
-
-#[cfg(test)]
-mod recorded_tests;

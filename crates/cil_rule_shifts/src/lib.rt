@@ -3,8 +3,6 @@
 
 mod reach;
 mod shift;
-#[cfg(test)]
-mod shift_tests;
 mod targets;
 mod turned;
 mod words;

@@ -2,8 +2,6 @@
 #![tactic(auto)]
 
 mod access_changes;
-#[cfg(test)]
-mod change_tests;
 mod changed_chunks;
 mod present_accesses;
 mod present_chunks;

@@ -2,7 +2,5 @@
 #![tactic(auto)]
 
 mod symbol_tables;
-#[cfg(test)]
-mod table_tests;
 
 pub use symbol_tables::SymbolTables;

@@ -3,8 +3,6 @@
 
 mod kept;
 mod numbering;
-#[cfg(test)]
-mod symbol_tests;
 mod symbols;
 
 pub use kept::Kept;

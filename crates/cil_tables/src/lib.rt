@@ -3,8 +3,6 @@
 
 mod adding;
 mod lines;
-#[cfg(test)]
-mod table_tests;
 mod tables;
 
 pub use lines::{KeyedLine, LineKey, Lines};

@@ -8,8 +8,6 @@ mod row;
 mod search;
 mod shared;
 mod violation;
-#[cfg(test)]
-mod violation_tests;
 mod violations;
 
 pub use violation::{Permissions, Violation};

@@ -1,6 +1,0 @@
-use Rattle.cil_counters.specs.Counted.{IsNow, WasBefore}
-use Rattle.cil_counters.proofs.counters_tests.the_same_edit_done_and_taken_back_a_hundred_times.Given as goal
-
--- the counters are those of the old policy
-abbrev pub invariant-loop : goal.invariant-loop
-invariant-loop g l = record { now : IsNow l.old l.counters; before : WasBefore l.old l.counters }
