@@ -34,9 +34,10 @@ scripts:
 engines:
 	bench/engines.sh
 
-# Tries the wrong bodies of bench/wrong_bodies one by one; it takes some hours.
+# Tries the wrong bodies of bench/wrong_bodies one by one, over what `rt check` kept; all of them take some hours, and those of one
+# crate, as `make wrong-bodies CRATE=cil_text`, minutes.
 wrong-bodies:
-	bench/wrong_bodies.sh
+	bench/wrong_bodies.py $(CRATE)
 
 # Installs the program that `make run` built, its manual page and its completions.
 install:
