@@ -13,7 +13,7 @@ mod entries;
 mod entry;
 mod install;
 mod join;
-mod laws;
+pub mod laws;
 mod modules;
 mod plain;
 mod policy;
@@ -29,10 +29,6 @@ pub use delta::Delta;
 pub use dropped::Dropped;
 pub use edit::Edit;
 pub use entry::Entry;
-pub use laws::{
-    no_meaning_beside_a_refusal, one_judgement, one_meaning, one_policy_refusal, one_run,
-    policies_are_apart, stores_are_in_order, stores_mean_something,
-};
 pub use modules::{State, Store};
 pub use plain::Plain;
 pub use refusal::{FaultKind, Refusal, StoreFault};
