@@ -53,6 +53,10 @@ has_at members (Some a) (Some t) = nat_lt 0 (members a t)
 abbrev pub has_named : {A : Type 0} → Counters A → List ℕ → List ℕ → Bool
 has_named c attribute ty = has_at (member_rows.count_now c.rows) (position (bytes_eq attribute) c.names) (position (bytes_eq ty) c.names)
 
+-- whether it was before the steps
+abbrev pub had_named : {A : Type 0} → Counters A → List ℕ → List ℕ → Bool
+had_named c attribute ty = has_at (member_rows.count_before c.rows) (position (bytes_eq attribute) c.names) (position (bytes_eq ty) c.names)
+
 -- the counter of an access, where all its names have symbols; 0 elsewhere
 abbrev pub count_at : (SymbolKey → ℕ → ℕ) → Option ℕ → Option ℕ → Option ℕ → Option ℕ → ℕ
 count_at counts None target class permission = 0

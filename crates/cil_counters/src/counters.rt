@@ -7,13 +7,14 @@ ghost use Rattle.cil_member_rows.specs.Rows as member_rows;
 ghost use Rattle.cil_specs.specs.Meaning.{is_in_table};
 ghost use Rattle.cil_specs.specs.Report as report;
 ghost use Rattle.cil_specs.specs.Report.{AreAtoms, AreChanges};
+ghost use Rattle.cil_specs.specs.Sets.{differ};
 ghost use Rattle.cil_member_updates.specs.Policy.{AreCounts};
 ghost use Rattle.cil_parse.specs.Lexicon.{AreNumbersOf};
 ghost use Rattle.cil_resolve.specs.Meter.{adjustments_in, evaluations_in};
 ghost use Rattle.cil_resolve.specs.Resolved.{meaning_in};
 ghost use Rattle.cil_resolve.specs.Sets.{sets_in};
 ghost use Rattle.cil_sets.specs.Members.{AreMembers};
-ghost use Rattle.cil_counters.specs.Counted.{count_with, has_named, AreSettled, AreTakenBack, IsNow, WasBefore};
+ghost use Rattle.cil_counters.specs.Counted.{count_with, had_named, has_named, AreSettled, AreTakenBack, IsNow, WasBefore};
 ghost use Rattle.cil_symbol_tables.specs.Tables as access_tables;
 
 use crate::member_counts::members_of;
@@ -261,6 +262,16 @@ impl<A: Allocator> Counters<A> {
     {
         match (self.names.find(attribute), self.names.find(ty)) {
             (Some(row), Some(ty)) => self.rows.has(row, ty),
+            _ => false,
+        }
+    }
+
+    /// Whether a type became a member of an attribute in the steps, or is none any more, by full names. It takes no memory.
+    pub fn has_changed(&self, attribute: &[u8], ty: &[u8]) -> bool
+        ensures { result ≡ differ (had_named self.now attribute.now ty.now) (has_named self.now attribute.now ty.now) }
+    {
+        match (self.names.find(attribute), self.names.find(ty)) {
+            (Some(row), Some(ty)) => self.rows.had(row, ty) != self.rows.has(row, ty),
             _ => false,
         }
     }

@@ -1,10 +1,12 @@
 //! What counters say by full names. The functions have no code.
 
-ghost use Rattle.std.specs.Prelude.{◌≡◌, ℕ, List};
+ghost use Rattle.std.specs.Prelude.{◌≡◌, ◌↔◌, ℕ, List, IsTrue};
+ghost use Rattle.cil_delta_specs.specs.Dirty.{IsChanged};
 ghost use Rattle.cil_specs.specs.Meaning.{count_of};
 ghost use Rattle.cil_specs.specs.Members.{is_member};
+ghost use Rattle.cil_specs.specs.Sets.{differ};
 ghost use Rattle.cil_resolve.specs.Resolved.{meaning_in};
-ghost use Rattle.cil_counters.specs.Counted.{atom_with, count_with, has_named, IsNow};
+ghost use Rattle.cil_counters.specs.Counted.{atom_with, count_with, had_named, has_named, IsNow, WasBefore};
 
 use crate::counters::Counters;
 use cil_resolve::{
@@ -21,6 +23,25 @@ pub fn counters_tell_members<A: Allocator>(resolved: &Resolved<A>, counters: &Co
     resolved_names_are_kept(resolved);
     resolved_is_sound(resolved);
     resolved_sets_are_in_order(resolved);
+}
+
+/// Counters that stand at one policy before the steps, and at another now, tell the members that changed between the two.
+pub fn counters_tell_changes<A: Allocator>(
+    old: &Resolved<A>,
+    new: &Resolved<A>,
+    counters: &Counters<A>,
+)
+    requires before { WasBefore old.now counters.now }
+    requires now { IsNow new.now counters.now }
+    ensures { (attribute ty : List ℕ) → IsTrue (differ (had_named counters.now attribute ty) (has_named counters.now attribute ty))
+        ↔ IsChanged (meaning_in old.now) (meaning_in new.now) attribute ty }
+{
+    resolved_names_are_kept(old);
+    resolved_names_are_kept(new);
+    resolved_is_sound(old);
+    resolved_is_sound(new);
+    resolved_sets_are_in_order(old);
+    resolved_sets_are_in_order(new);
 }
 
 /// They tell of every access how many rules give it.

@@ -8,4 +8,4 @@ mod more_rows;
 mod symbol_ranks;
 
 pub use counters::Counters;
-pub use laws::{counters_tell_accesses, counters_tell_members};
+pub use laws::{counters_tell_accesses, counters_tell_changes, counters_tell_members};

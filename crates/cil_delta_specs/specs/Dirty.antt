@@ -31,6 +31,10 @@ pub record AreGained (old new : Meaning) (pairs : List (List ℕ × List ℕ)) :
   pub each : All (λ p. (is_member old p.0 p.1 ≡ false) × IsTrue (is_member new p.0 p.1)) pairs
   pub once : AllPairs (λ p q. p ≢ q) pairs
 
+-- an attribute has a type as a member in exactly one of two policies
+abbrev pub IsChanged : Meaning → Meaning → List ℕ → List ℕ → Type 0
+IsChanged old new attribute t = IsTrue (differ (is_member old attribute t) (is_member new attribute t))
+
 -- a policy has a rule, as resolved, and the rule gives an access there
 abbrev pub HasGiver : Meaning → Rule → Atom → Type 0
 HasGiver meaning r a = (s : Rule) × Contains meaning.rules s × IsSameRule r s × IsTrue (gives meaning s a)
