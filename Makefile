@@ -20,7 +20,7 @@ try:
 test:
 	rt ci
 	examples/check.sh
-	scripts/check.py
+	scripts/check.sh
 
 # Has the program that `make run` or `make test` built answer the examples, and compares what it prints.
 examples:
@@ -28,7 +28,7 @@ examples:
 
 # Has the programs that `make test` built, one for each engine, answer the scripts, and compares what they print.
 scripts:
-	scripts/check.py
+	scripts/check.sh
 
 # Has the programs that `make test` built, one for each engine, answer 2000 random scripts, and compares what they print.
 engines:
