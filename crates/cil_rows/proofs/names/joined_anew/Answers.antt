@@ -1,7 +1,0 @@
-use Rattle.std.proofs.Common.{refl}
-use Rattle.std.specs.List.{IsDistinct}
-use Rattle.cil_rows.proofs.names.joined_anew.Goals as goal
-
-pub join-requires : goal.join-requires
-unfolding IsDistinct
-join-requires c = rw c.in_ok-modules.ensures.items ((refl, tt), (tt, tt))

@@ -1,0 +1,172 @@
+//! Modules kept parsed.
+
+use crate::shown::shown;
+use cil_parse::{NumberedWord, ParsedModule, SetNode, StatementKind, StatementView, Table, parse};
+use cil_text::{RuleKind, read};
+
+const TEXT: &[u8] = b"(class f (read))(block b (type t))
+(optional o (allow b.t .b.t (f (read))))(allow b.t self (f (read)))";
+
+// A statement: the offset and the line of its place, the numbers of its block and its optional, and how many words and nodes it has.
+type Shape = (u32, u32, u32, u32, usize, usize);
+
+const SHAPES: &[(Shape, StatementKind)] = &[
+    ((0, 1, 0, 0, 2, 0), StatementKind::Class),
+    ((16, 1, 0, 0, 1, 0), StatementKind::Block),
+    ((25, 1, 2, 0, 1, 0), StatementKind::TypeName),
+    ((35, 2, 0, 0, 1, 0), StatementKind::Optional),
+    ((47, 2, 0, 4, 4, 0), StatementKind::Rule(RuleKind::Allow)),
+    (
+        (75, 2, 0, 0, 3, 0),
+        StatementKind::RuleToSelf(RuleKind::Allow),
+    ),
+];
+
+fn shape_seen(view: StatementView<'_>) -> Shape {
+    (
+        view.at.offset,
+        view.at.line,
+        view.block,
+        view.optional,
+        view.words.len(),
+        view.nodes.len(),
+    )
+}
+
+#[test]
+fn statements_of_a_parsed_module(rt: HostRuntime) {
+    let parsed = parse(rt.alloc(), TEXT).expect(&rt, "a module");
+    assert_eq!(rt; parsed.len(), SHAPES.len());
+    for i in 0..parsed.len() {
+        let view = parsed.statement(i);
+        assert_eq!(rt; Some((shape_seen(view), view.kind)), SHAPES.get(i).copied());
+    }
+}
+
+// The text of the word of a number.
+fn text_seen(parsed: &ParsedModule, word: NumberedWord) -> &str {
+    let n = word.text as usize;
+    if n < parsed.text_count() {
+        shown(parsed.text(n))
+    } else {
+        "no text"
+    }
+}
+
+// A name, and the table that it stands in.
+type Named<'p> = Option<(Table, &'p str)>;
+
+fn named<'p>(parsed: &'p ParsedModule, found: Option<(Table, NumberedWord)>) -> Named<'p> {
+    let (table, word) = found?;
+    Some((table, text_seen(parsed, word)))
+}
+
+// A statement by its place, what it declares, its references and none behind them, and its first permission.
+type Names = (
+    usize,
+    Named<'static>,
+    [Named<'static>; 4],
+    Option<&'static str>,
+);
+
+const NAMES: &[Names] = &[
+    (0, Some((Table::Classes, "f")), [None; 4], Some("read")),
+    (1, Some((Table::Scopes, "b")), [None; 4], None),
+    (2, Some((Table::Types, "t")), [None; 4], None),
+    (
+        4,
+        None,
+        [
+            Some((Table::Types, "b.t")),
+            Some((Table::Types, ".b.t")),
+            Some((Table::Classes, "f")),
+            None,
+        ],
+        Some("read"),
+    ),
+    (
+        5,
+        None,
+        [
+            Some((Table::Types, "b.t")),
+            Some((Table::Classes, "f")),
+            None,
+            None,
+        ],
+        Some("read"),
+    ),
+];
+
+#[test]
+fn names_of_a_parsed_module(rt: HostRuntime) {
+    let parsed = parse(rt.alloc(), TEXT).expect(&rt, "a module");
+    for (i, declared, references, permission) in NAMES {
+        assert!(rt; *i < parsed.len());
+        let view = parsed.statement(*i);
+        assert_eq!(rt; named(&parsed, view.declared()), *declared);
+        for k in 0..4 {
+            let found = named(&parsed, view.reference(k));
+            assert_eq!(rt; Some(found), references.get(k).copied());
+        }
+        let listed = view.permissions();
+        assert_eq!(rt; listed.len(), if permission.is_some() { 1 } else { 0 });
+        let first = listed.first().map(|word| text_seen(&parsed, *word));
+        assert_eq!(rt; first, *permission);
+    }
+}
+
+// Each text once, and its names by their numbers, in the order of their first use.
+#[test]
+fn numbers_of_the_words_of_a_parsed_module(rt: HostRuntime) {
+    let parsed = parse(rt.alloc(), TEXT).expect(&rt, "a module");
+    assert!(rt; parsed.text_count() == 7);
+    assert_eq!(rt; shown(parsed.text(6)), ".b.t");
+    assert_eq!(rt; parsed.components(5), parsed.components(6));
+    assert_eq!(rt; parsed.components(5), [2, 3].as_slice());
+    assert!(rt; parsed.name_count() == 5);
+    assert_eq!(rt; shown(parsed.name(3)), "t");
+}
+
+// Nodes stand in front of their operands.
+const NODES: &[SetNode] = &[
+    SetNode::Element,
+    SetNode::And,
+    SetNode::Name,
+    SetNode::Not,
+    SetNode::Name,
+    SetNode::Element,
+    SetNode::All,
+    SetNode::Nothing,
+];
+
+#[test]
+fn nodes_of_a_set_expression(rt: HostRuntime) {
+    let text = b"(typeattributeset s ((and a (not b)) all))";
+    let forest = read(rt.alloc(), text).expect(&rt, "trees");
+    let parsed = ParsedModule::of(rt.alloc(), forest).expect(&rt, "statements");
+    assert!(rt; parsed.len() == 1);
+    let view = parsed.statement(0);
+    assert_eq!(rt; view.nodes, NODES);
+    for i in 0..4 {
+        let word = view.words.get(i).map(|word| text_seen(&parsed, *word));
+        assert_eq!(rt; word, [Some("s"), Some("a"), Some("b"), None][i]);
+    }
+}
+
+const LISTS: &[u8] =
+    b"(class f (r w))(allow a a (f (r w)))(allow b b (f (w r)))(allow c self (f (r w)))(type t)";
+
+// The same permissions in the same order have one number, and others another.
+#[test]
+fn numbers_of_permission_lists(rt: HostRuntime) {
+    let parsed = parse(rt.alloc(), LISTS).expect(&rt, "a module");
+    assert!(rt; parsed.len() == 5);
+    assert!(rt; parsed.permission_list_count() == 3);
+    let first = parsed.permission_list(1);
+    assert_eq!(rt;
+        (parsed.permission_list(0), parsed.permission_list(3)),
+        (first, first)
+    );
+    assert!(rt; first != parsed.permission_list(2));
+    assert!(rt; first != parsed.permission_list(4));
+}

@@ -1,0 +1,141 @@
+//! Sessions: the exit status of each end, answers of one line, and how faults are printed for a programmer.
+
+use crate::shown::shown;
+use crate::streams::{Page, Tape};
+use cil_program::command_line::{answer_session, exit_status};
+use cil_program::script::memory::answer_script;
+use cil_program::script::reply;
+use cil_program::script::session::{SessionFault, Status};
+use cil_resolve::{PolicyFault, PolicyFaultKind};
+use cil_store::{Plain, Refusal, WriteFault};
+use cil_stream::{MemorySink, ReaderSource, SinkFault, SourceFault, WriterSink};
+use cil_text::{Place, ShownWord, TextFault, TextFaultKind};
+use std::alloc::{AllocError, Global};
+use std::fmt::Display;
+
+// A module, its listing, and their answer.
+const SCRIPT: &[u8] =
+    b"install m 400 72\n(class file (read write))(type a)(type b)(allow a b (file (write read)))\nrules\n";
+
+const ANSWER: &str = "ok 2 0\nallow a b:file { read write };\nend 1\n";
+
+const EACH: &[(Result<Status, SessionFault>, u8)] = &[
+    (Ok(Status::Clean), 0),
+    (Ok(Status::Refused), 1),
+    (Ok(Status::Script), 2),
+    (Err(SessionFault::Read), 3),
+    (Err(SessionFault::Write), 3),
+];
+
+#[test]
+fn the_status_of_each_end(rt: HostRuntime) {
+    for (end, want) in EACH {
+        assert_eq!(rt; exit_status(*end), *want);
+    }
+}
+
+// How many bytes of the script a reader gives, and how many of the answer a writer takes; the status, and what is written.
+const SESSIONS: &[(usize, usize, u8, &str)] = &[
+    (1000, 1000, 0, ANSWER),
+    (92, 1000, 3, "ok 2 0\n"),
+    (1000, 9, 3, "ok 2 0\nal"),
+];
+
+#[test]
+fn the_status_of_a_session(rt: HostRuntime) {
+    for (given, taken, want, text) in SESSIONS {
+        let mut written = Vec::new(rt.alloc());
+        let mut source = ReaderSource::new(Tape {
+            left: SCRIPT,
+            limit: *given,
+        });
+        let mut sink = WriterSink::new(Page {
+            written: &mut written,
+            limit: *taken,
+        });
+        let status = answer_session(rt.alloc(), &mut source, &mut sink);
+        assert_eq!(rt; (status, shown(written.as_slice())), (*want, *text));
+    }
+}
+
+#[test]
+fn a_script_in_memory(rt: HostRuntime) {
+    let mut sink = MemorySink::new(rt.alloc());
+    let mut engine = Plain::new(rt.alloc());
+    let end = answer_script(rt.alloc(), SCRIPT, &mut sink, &mut engine);
+    assert_eq!(rt; (end, shown(sink.bytes())), (Ok(Status::Clean), ANSWER));
+}
+
+const LINES: &str = "end 17\nscript 1\nscript 18446744073709551616\nrefused 31 7\n\
+    refused 60 memory\nrefused 60 memory\n";
+
+#[test]
+fn answers_of_one_line(rt: HostRuntime) {
+    let mut sink = MemorySink::new(rt.alloc());
+    let refusal: Refusal = Refusal::from(AllocError);
+    let written = [
+        reply::write_end(&mut sink, 17),
+        reply::write_script_line(&mut sink, 0),
+        reply::write_script_line(&mut sink, u64::MAX),
+        reply::write_store_refusal(&mut sink, 31, b"7"),
+        reply::write_no_memory(&mut sink),
+        reply::write_refusal(&mut sink, &refusal),
+    ];
+    assert_eq!(rt; (written, shown(sink.bytes())), ([Ok(()); 6], LINES));
+}
+
+// How a fault is printed.
+fn printed<T: Display>(alloc: Global, fault: &T) -> Result<String, AllocError> {
+    format!(in alloc; "{fault}")
+}
+
+const AT: Place = Place {
+    offset: 9,
+    line: 2,
+    column: 3,
+};
+
+const TOO_DEEP: TextFault<'static> = TextFault::Found {
+    kind: TextFaultKind::TooDeep,
+    at: AT,
+    word: ShownWord::Text(b"("),
+};
+
+const MISSING: PolicyFault<'static> = PolicyFault::Found {
+    kind: PolicyFaultKind::Missing,
+    module: b"m",
+    at: AT,
+    word: b"a",
+};
+
+#[test]
+fn printed_faults(rt: HostRuntime) {
+    let alloc = rt.alloc();
+    let found = [
+        (printed(alloc, &TOO_DEEP), "TooDeep at 2:3"),
+        (printed(alloc, &MISSING), "Missing at 2:3"),
+        (
+            printed(alloc, &TextFault::from(AllocError)),
+            "out of memory",
+        ),
+        (
+            printed(alloc, &PolicyFault::from(AllocError)),
+            "out of memory",
+        ),
+        (printed(alloc, &WriteFault::Memory), "out of memory"),
+        (printed(alloc, &WriteFault::Sink), "the output failed"),
+        (printed(alloc, &SinkFault), "the output failed"),
+        (printed(alloc, &SourceFault), "the input failed"),
+        (
+            printed(alloc, &SessionFault::from(SourceFault)),
+            "the input failed",
+        ),
+        (
+            printed(alloc, &SessionFault::from(SinkFault)),
+            "the output failed",
+        ),
+    ];
+    for (printed, want) in found {
+        assert_eq!(rt; printed.expect(&rt, "memory").as_str(), want);
+    }
+}
