@@ -20,15 +20,15 @@ try:
 test:
 	rt ci
 	examples/check.sh
-	scripts/check.sh
+	scripts/check.py
 
 # Has the program that `make run` or `make test` built answer the examples, and compares what it prints.
 examples:
 	examples/check.sh
 
-# Has the programs that `make test` built, one for each engine, answer the scripts, and compares what they print.
+# Has the programs that `make test` built answer the scripts and make the trials, with both engines, and compares what they print.
 scripts:
-	scripts/check.sh
+	scripts/check.py
 
 # Has the programs that `make test` built, one for each engine, answer 2000 random scripts, and compares what they print.
 engines:
