@@ -295,25 +295,26 @@ fn is_access(found: Option<Atom<'_>>, want: Named<'_>) -> bool {
         })
 }
 
-// The accesses before the edit, and those behind it; and the first of each went, and the others came.
-const BEFORE: [Named<'static>; 2] = [(RuleKind::Allow, b"a", b"a"), (RuleKind::Allow, b"a", b"b")];
+// The accesses that go in the first edit, in their order, and those that come.
+const FIRST_GONE: Named<'static> = (RuleKind::Allow, b"a", b"a");
 
-const BEHIND: [Named<'static>; 2] = [
-    (RuleKind::Allow, b"b", b"b"),
-    (RuleKind::AuditAllow, b"a", b"a"),
-];
+const SECOND_GONE: Named<'static> = (RuleKind::Allow, b"a", b"b");
 
-fn is_table(table: &Table, want: &[Named<'static>; 2]) -> bool {
-    table.len() == 2 && is_access(table.get(0), want[0]) && is_access(table.get(1), want[1])
+const FIRST_COME: Named<'static> = (RuleKind::Allow, b"b", b"b");
+
+const SECOND_COME: Named<'static> = (RuleKind::AuditAllow, b"a", b"a");
+
+fn is_table(table: &Table, first: Named<'static>, second: Named<'static>) -> bool {
+    table.len() == 2 && is_access(table.get(0), first) && is_access(table.get(1), second)
 }
 
 fn are_changes(changes: &Changes) -> bool {
     changes.removed_len() == 2
-        && is_access(changes.removed(0), BEFORE[0])
-        && is_access(changes.removed(1), BEFORE[1])
+        && is_access(changes.removed(0), FIRST_GONE)
+        && is_access(changes.removed(1), SECOND_GONE)
         && changes.added_len() == 2
-        && is_access(changes.added(0), BEHIND[0])
-        && is_access(changes.added(1), BEHIND[1])
+        && is_access(changes.added(0), FIRST_COME)
+        && is_access(changes.added(1), SECOND_COME)
 }
 
 #[test]
@@ -325,10 +326,10 @@ fn changes_and_tables_in_order(rt: HostRuntime) {
     let (changes, _work) = bring(&rt, alloc, &mut counters, &old, &new);
     assert!(&rt; are_changes(&changes));
     let table = counters.table(alloc, &new).expect(&rt, "memory");
-    assert!(&rt; is_table(&table, &BEHIND));
+    assert!(&rt; is_table(&table, FIRST_COME, SECOND_COME));
     take_back(&mut counters, &old);
     let table = counters.table(alloc, &old).expect(&rt, "memory");
-    assert!(&rt; is_table(&table, &BEFORE));
+    assert!(&rt; is_table(&table, FIRST_GONE, SECOND_GONE));
 }
 
 // The attribute holds all types, of which there are two.

@@ -111,14 +111,14 @@ fn are_counted(lines: &KeyedLines, counts: &[Counted], behind: bool) -> bool {
 }
 
 // Beside the first rule the third comes in the place of the second: how many counters move, how many words change, and accesses.
-const SHIFTS: &[([Rule<'static>; 3], u128, usize, &[Counted])] = &[
+type Shift<'t> = (Rule<'t>, Rule<'t>, Rule<'t>, u128, usize, &'t [Counted]);
+
+const SHIFTS: &[Shift<'static>] = &[
     // Of two rules that give an access one goes.
     (
-        [
-            (&[64, 70], Some(&[130, 131])),
-            (&[0, 63, 64], Some(&[1, 64, 130])),
-            NO_RULE,
-        ],
+        (&[64, 70], Some(&[130, 131])),
+        (&[0, 63, 64], Some(&[1, 64, 130])),
+        NO_RULE,
         18,
         16,
         &[
@@ -135,11 +135,9 @@ const SHIFTS: &[([Rule<'static>; 3], u128, usize, &[Counted])] = &[
     // By each permission source 2 loses two targets, 3 has one in place of another, and 128 comes with two. Sources 2 and 3 have a word
     // each at 10 and 200, and 128 likewise; at 10 nothing changed for 3.
     (
-        [
-            NO_RULE,
-            (&[2, 3], Some(&[10, 200])),
-            (&[3, 128], Some(&[10, 201])),
-        ],
+        NO_RULE,
+        (&[2, 3], Some(&[10, 200])),
+        (&[3, 128], Some(&[10, 201])),
         12,
         10,
         &[
@@ -153,11 +151,9 @@ const SHIFTS: &[([Rule<'static>; 3], u128, usize, &[Counted])] = &[
     // By each permission sources 1 and 130 have one target in place of another and one more, 65 loses four, and 131 comes with five: two
     // words of 1 and of 130, four of 65, and five of 131.
     (
-        [
-            NO_RULE,
-            (&[1, 65, 130], Some(&[10, 70, 200, 300])),
-            (&[1, 130, 131], Some(&[10, 70, 201, 300, 400])),
-        ],
+        NO_RULE,
+        (&[1, 65, 130], Some(&[10, 70, 200, 300])),
+        (&[1, 130, 131], Some(&[10, 70, 201, 300, 400])),
         30,
         26,
         &[
@@ -189,24 +185,26 @@ const SHIFTS: &[([Rule<'static>; 3], u128, usize, &[Counted])] = &[
     ),
     // Sets that stay.
     (
-        [
-            NO_RULE,
-            (&[0, 64, 200], Some(&[63, 64, 500])),
-            (&[0, 64, 200], Some(&[63, 64, 500])),
-        ],
+        NO_RULE,
+        (&[0, 64, 200], Some(&[63, 64, 500])),
+        (&[0, 64, 200], Some(&[63, 64, 500])),
         0,
         0,
         &[(200, 500, 1, 1)],
     ),
     (
-        [NO_RULE, (&[3, 90], None), (&[3, 90], None)],
+        NO_RULE,
+        (&[3, 90], None),
+        (&[3, 90], None),
         0,
         0,
         &[(90, 90, 1, 1)],
     ),
     // Sources themselves, which go.
     (
-        [NO_RULE, (&[5, 64], None), NO_RULE],
+        NO_RULE,
+        (&[5, 64], None),
+        NO_RULE,
         4,
         4,
         &[(5, 5, 1, 0), (64, 64, 1, 0), (5, 64, 0, 0), (6, 6, 0, 0)],
@@ -214,11 +212,9 @@ const SHIFTS: &[([Rule<'static>; 3], u128, usize, &[Counted])] = &[
     // By each permission 5 has one more, 64 loses itself, 70 has two in place of itself, and 200 comes with two: one word of 5 and of 64,
     // and two of 70 and of 200.
     (
-        [
-            NO_RULE,
-            (&[5, 64, 70], None),
-            (&[5, 70, 200], Some(&[5, 64])),
-        ],
+        NO_RULE,
+        (&[5, 64, 70], None),
+        (&[5, 70, 200], Some(&[5, 64])),
         14,
         12,
         &[
@@ -238,8 +234,7 @@ const NO_RULE: Rule<'static> = (&[], None);
 #[test]
 fn rules_in_the_place_of_others(rt: HostRuntime) {
     let alloc = rt.alloc();
-    for (rules, moved, words, counts) in SHIFTS {
-        let [beside, was, is] = rules;
+    for (beside, was, is, moved, words, counts) in SHIFTS {
         let beside = reach(&rt, alloc, beside);
         let was = reach(&rt, alloc, was);
         let is = reach(&rt, alloc, is);
