@@ -317,8 +317,16 @@ fn are_changes(changes: &Changes) -> bool {
         && is_access(changes.added(1), SECOND_COME)
 }
 
+// Statements before an edit and behind it. From b to a and to b, and from a to a and from b to b are four adjustments; the last rule stays
+// as it is. The set statement that goes is evaluated at the type that it names, and the one that comes at its own.
+const FEW_OLD: &[u8] =
+    b"(typeattributeset s (a))(allow b s (p (use)))(allow s s (p (use)))(allow a b (p (use)))";
+
+const FEW_NEW: &[u8] =
+    b"(typeattributeset s (b))(allow b s (p (use)))(allow s s (p (use)))(allow a b (p (use)))";
+
 #[test]
-fn changes_and_tables_in_order(rt: HostRuntime) {
+fn changes_tables_and_work(rt: HostRuntime) {
     let alloc = rt.alloc();
     let old = policy(&rt, alloc, &[START, OLD]);
     let new = policy(&rt, alloc, &[START, NEW]);
@@ -330,6 +338,11 @@ fn changes_and_tables_in_order(rt: HostRuntime) {
     take_back(&mut counters, &old);
     let table = counters.table(alloc, &old).expect(&rt, "memory");
     assert!(&rt; is_table(&table, FIRST_GONE, SECOND_GONE));
+    let old = policy(&rt, alloc, &[START, FEW_OLD]);
+    let new = policy(&rt, alloc, &[START, FEW_NEW]);
+    let mut counters = counted(&rt, alloc, &old);
+    let (_changes, work) = bring(&rt, alloc, &mut counters, &old, &new);
+    assert!(&rt; work == (2, 4));
 }
 
 // The attribute holds all types, of which there are two.
@@ -387,13 +400,6 @@ fn an_edit_done_and_taken_back_a_hundred_times(rt: HostRuntime) {
         assert!(&rt; same);
     }
 }
-
-// Statements before an edit and behind it. From b to a and to b, and from a to a and from b to b are four adjustments; the last rule stays
-// as it is. The set statement that goes is evaluated at the type that it names, and the one that comes at its own.
-const FEW: [&[u8]; 2] = [
-    b"(typeattributeset s (a))(allow b s (p (use)))(allow s s (p (use)))(allow a b (p (use)))",
-    b"(typeattributeset s (b))(allow b s (p (use)))(allow s s (p (use)))(allow a b (p (use)))",
-];
 
 // How many types there are in the largest policy.
 const TYPES: u32 = 80;
@@ -459,9 +465,4 @@ fn many_types(rt: HostRuntime) {
     assert!(&rt; count_members(&rt, alloc, &counters, &all) == 80);
     take_back(&mut counters, &odd);
     assert!(&rt; count_members(&rt, alloc, &counters, &odd) == 40);
-    let old = policy(&rt, alloc, &[START, FEW[0]]);
-    let new = policy(&rt, alloc, &[START, FEW[1]]);
-    let mut counters = counted(&rt, alloc, &old);
-    let (_changes, work) = bring(&rt, alloc, &mut counters, &old, &new);
-    assert!(&rt; work == (2, 4));
 }

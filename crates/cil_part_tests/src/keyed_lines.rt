@@ -90,10 +90,10 @@ fn lines_of(rt: &impl Abort, alloc: Global, steps: &[Step]) -> KeyedLines {
     lines
 }
 
-// The counters of the first targets of a word, its targets, and the first word of the line from this one on.
-type Counted = ([u64; 4], u64, Option<usize>);
+// The counters of the first four targets of a word and of its last, its targets, and the first word of the line from this one on.
+type Counted = ([u64; 5], u64, Option<usize>);
 
-const NOTHING: Counted = ([0; 4], 0, None);
+const NOTHING: Counted = ([0; 5], 0, None);
 
 // What is counted in a word of the line of a key.
 fn word_of(lines: &KeyedLines, key: SymbolKey, word: u32) -> Counted {
@@ -103,8 +103,9 @@ fn word_of(lines: &KeyedLines, key: SymbolKey, word: u32) -> Counted {
         lines.count(key, first + 1),
         lines.count(key, first + 2),
         lines.count(key, first + 3),
+        lines.count(key, first + 63),
     ];
-    let place = lines.find(key).unwrap_or(usize::MAX);
+    let place = lines.find(key).unwrap_or(lines.len());
     let word = word as usize;
     let next = lines.next_present_word(place, word);
     (counts, lines.present(place, word), next)
@@ -164,20 +165,26 @@ const STEPS: &[(&[Step], usize, &[SymbolKey], bool, &[Changed])] = &[
 const WORDS: &[(&[Step], usize, SymbolKey, u32, Counted)] = &[
     (&[], 0, READ, 0, NOTHING),
     (&[Shift(READ, 0, 0b101, 0b101)], 1, READ, 0, NOTHING),
-    (TWO, 2, READ, 0, ([1, 2, 1, 0], 0b0111, Some(0))),
-    (TWO, 4, READ, 0, ([1, 1, 0, 0], 0b0011, Some(0))),
-    (TWO, 5, READ, 0, ([1, 0, 0, 1], 0b1001, Some(0))),
-    (TWO, 6, READ, 0, ([1, 2, 1, 0], 0b0111, Some(0))),
-    (THREE, 6, READ, 2, ([1, 0, 0, 0], 0b1, Some(2))),
-    (THREE, 6, WRITE, 2, ([1, 1, 0, 0], 0b11, Some(2))),
-    (THREE, 6, OTHER_READ, 0, ([0; 4], 0, Some(3))),
-    (THREE, 6, OTHER_READ, 3, ([0, 0, 1, 0], 0b100, Some(3))),
-    (THREE, 6, OTHER_READ, 4, ([0; 4], 0, Some(90))),
-    (THREE, 6, OTHER_READ, 90, ([1; 4], ALL >> 1, Some(90))),
+    (TWO, 2, READ, 0, ([1, 2, 1, 0, 0], 0b0111, Some(0))),
+    (TWO, 4, READ, 0, ([1, 1, 0, 0, 0], 0b0011, Some(0))),
+    (TWO, 5, READ, 0, ([1, 0, 0, 1, 0], 0b1001, Some(0))),
+    (TWO, 6, READ, 0, ([1, 2, 1, 0, 0], 0b0111, Some(0))),
+    (THREE, 6, READ, 2, ([1, 0, 0, 0, 0], 0b1, Some(2))),
+    (THREE, 6, WRITE, 2, ([1, 1, 0, 0, 0], 0b11, Some(2))),
+    (THREE, 6, OTHER_READ, 0, ([0; 5], 0, Some(3))),
+    (THREE, 6, OTHER_READ, 3, ([0, 0, 1, 0, 0], 0b100, Some(3))),
+    (THREE, 6, OTHER_READ, 4, ([0; 5], 0, Some(90))),
+    (
+        THREE,
+        6,
+        OTHER_READ,
+        90,
+        ([1, 1, 1, 1, 0], ALL >> 1, Some(90)),
+    ),
     (THREE, 7, WRITE, 2, NOTHING),
-    (THREE, 7, OTHER_READ, 3, ([0; 4], 0, Some(90))),
-    (THREE, 7, OTHER_READ, 90, ([1; 4], ALL, Some(90))),
-    (KEPT, 5, READ, 1, ([0, 1, 0, 0], 0b10, Some(1))),
+    (THREE, 7, OTHER_READ, 3, ([0; 5], 0, Some(90))),
+    (THREE, 7, OTHER_READ, 90, ([1; 5], ALL, Some(90))),
+    (KEPT, 5, READ, 1, ([0, 1, 0, 0, 0], 0b10, Some(1))),
 ];
 
 // Asserts that these are the keys, in their order.

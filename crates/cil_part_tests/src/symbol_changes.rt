@@ -191,7 +191,8 @@ fn is_counted(tables: &SymbolTables, kind: RuleKind, count: u64) -> bool {
         if tables.count(other, key, 63) != want {
             return false;
         }
-        if other != kind && !tables.lines(other).is_empty() {
+        let lines = tables.lines(other).len();
+        if other != kind && lines != 0 || other == kind && count != 0 && lines != 1 {
             return false;
         }
     }

@@ -17,24 +17,30 @@ fn push_name(rt: &impl Abort, text: &mut Vec<u8>, ty: usize) {
     text.extend_from_slice(&digits).expect(rt, "memory");
 }
 
-// A policy of the types t000 and so on, which have the first numbers, and of an attribute u behind them by an expression.
-fn wide_policy(rt: &impl Abort, alloc: Global, types: usize, expression: &[u8]) -> Resolved {
+// A policy of the types t000 and so on, and of an attribute by an expression: s, which stands in front of them, or u.
+fn wide_policy(
+    rt: &impl Abort,
+    alloc: Global,
+    types: usize,
+    attribute: &[u8],
+    expression: &[u8],
+) -> Resolved {
     let mut text = Vec::new(alloc);
     for ty in 0..types {
         text.extend_from_slice(b"(type ").expect(rt, "memory");
         push_name(rt, &mut text, ty);
         text.extend_from_slice(b")").expect(rt, "memory");
     }
-    policy(
-        rt,
-        alloc,
-        &[
-            &text,
-            b"(typeattribute u)(typeattributeset u ",
-            expression,
-            b")",
-        ],
-    )
+    for part in [
+        b"(typeattribute ",
+        attribute,
+        b")(typeattributeset ",
+        attribute,
+        b" ",
+    ] {
+        text.extend_from_slice(part).expect(rt, "memory");
+    }
+    policy(rt, alloc, &[&text, expression, b")"])
 }
 
 // The expression of some types.
@@ -89,74 +95,104 @@ fn assert_set(rt: &impl Abort, types: TypeSet<'_>, want: &[usize]) {
     }
 }
 
-// Asserts that these are the members of the attribute u.
-fn assert_members(rt: &impl Abort, alloc: Global, resolved: &Resolved, want: &[usize]) {
+// Asserts that these are the members of an attribute, by their numbers.
+fn assert_members(
+    rt: &impl Abort,
+    alloc: Global,
+    resolved: &Resolved,
+    attribute: &[u8],
+    want: &[usize],
+) {
     let members = Members::plain(alloc, resolved).expect(rt, "memory");
-    let u = number(resolved, b"u");
-    assert_set(rt, members.types_of(Element::Attribute(u)), want);
-    let listed = members.members(alloc, u).expect(rt, "memory");
+    let row = number(resolved, attribute);
+    assert_set(rt, members.types_of(Element::Attribute(row)), want);
+    let listed = members.members(alloc, row).expect(rt, "memory");
     assert!(rt; listed.as_slice() == want);
     // An attribute that isn't there.
-    assert_set(rt, members.types_of(Element::Attribute(u + 1)), &[]);
+    let other = Element::Attribute(resolved.names_len());
+    assert_set(rt, members.types_of(other), &[]);
 }
 
-// How many types there are, and those that are members.
-const EDGES: &[(usize, &[usize])] = &[
-    (0, &[]),
-    (1, &[]),
-    (1, &[0]),
-    (64, &[63]),
-    (64, &[0, 64 - 1]),
-    (65, &[0, 64]),
-    (127, &[62, 63, 126]),
-    (128, &[62, 63, 127]),
-    (129, &[0, 1, 63, 64, 65, 128]),
-    (130, &[]),
+// How many types there are; those that are members of an attribute whose number is the first; and their numbers.
+const BEHIND: &[(usize, &[usize], &[usize])] = &[
+    (0, &[], &[]),
+    (63, &[62], &[63]),
+    (64, &[62, 63], &[63, 64]),
+    (127, &[61, 62, 126], &[62, 63, 127]),
+    (128, &[0, 62, 63, 64, 127], &[1, 63, 64, 65, 128]),
 ];
+
+// How many types there are, and those that are members of an attribute whose number is the last.
+const IN_FRONT: &[(usize, &[usize])] = &[
+    (1, &[0]),
+    (64, &[0, 63]),
+    (65, &[0, 64]),
+    (129, &[0, 1, 63, 64, 65, 128]),
+];
+
+// All numbers below 130 but one.
+fn others(rt: &impl Abort, alloc: Global, number: usize) -> Vec<usize> {
+    let mut others = Vec::new(alloc);
+    for other in 0..130usize {
+        if other != number {
+            others.push(other).expect(rt, "memory");
+        }
+    }
+    others
+}
 
 #[test]
 fn members_at_the_edges_of_words(rt: HostRuntime) {
     let alloc = rt.alloc();
-    for (types, want) in EDGES {
-        let list = list_of(&rt, alloc, want);
-        let resolved = wide_policy(&rt, alloc, *types, &list);
-        assert_members(&rt, alloc, &resolved, want);
+    for (types, marked, want) in BEHIND {
+        let list = list_of(&rt, alloc, marked);
+        let resolved = wide_policy(&rt, alloc, *types, b"s", &list);
+        assert_members(&rt, alloc, &resolved, b"s", want);
     }
-    for ty in 0..130usize {
-        let list = list_of(&rt, alloc, &[ty]);
-        let resolved = wide_policy(&rt, alloc, 130, &list);
-        assert_members(&rt, alloc, &resolved, &[ty]);
+    for (types, want) in IN_FRONT {
+        let list = list_of(&rt, alloc, want);
+        let resolved = wide_policy(&rt, alloc, *types, b"u", &list);
+        assert_members(&rt, alloc, &resolved, b"u", want);
     }
     // All types but one, more than two words of them.
-    let mut others = Vec::new(alloc);
-    for ty in 0..130usize {
-        if ty != 64 {
-            others.push(ty).expect(&rt, "memory");
-        }
-    }
-    let resolved = wide_policy(&rt, alloc, 130, b"(not (t064))");
-    assert_members(&rt, alloc, &resolved, &others);
+    let resolved = wide_policy(&rt, alloc, 130, b"u", b"(not (t064))");
+    assert_members(&rt, alloc, &resolved, b"u", &others(&rt, alloc, 64));
 }
+
+// So many names, of which some are members of the first.
+fn put_in(rt: &impl Abort, alloc: Global, names: usize, marked: &[usize]) -> Members {
+    let mut members = Members::none(alloc, names).expect(rt, "memory");
+    for ty in marked {
+        assert!(rt; *ty < names);
+        members.put(alloc, 0, *ty, 3).expect(rt, "memory");
+    }
+    members
+}
+
+// How many names there are, and which are members.
+const PUT: &[(usize, &[usize])] = &[
+    (0, &[]),
+    (1, &[0]),
+    (64, &[63]),
+    (65, &[0, 64]),
+    (128, &[62, 63, 127]),
+    (129, &[0, 1, 63, 64, 65, 128]),
+    (130, &[0, 63, 64, 129]),
+];
 
 // Elements are numbers alone, so these need no names.
 #[test]
 fn sets_without_a_policy(rt: HostRuntime) {
     let alloc = rt.alloc();
-    let mut members = Members::none(alloc, 130).expect(&rt, "memory");
-    for ty in [0usize, 1, 63, 64, 127, 128] {
-        assert_set(&rt, members.types_of(Element::Type(ty)), &[ty]);
+    for (names, want) in PUT {
+        let members = put_in(&rt, alloc, *names, want);
+        assert_set(&rt, members.types_of(Element::Attribute(0)), want);
+        assert_set(&rt, members.types_of(Element::Attribute(1)), &[]);
     }
-    assert_set(&rt, members.types_of(Element::Attribute(2)), &[]);
-    // How often each type is held is put.
-    members.put(alloc, 2, 64, 1).expect(&rt, "memory");
-    members.put(alloc, 2, 129, 3).expect(&rt, "memory");
-    members.put(alloc, 2, 0, 3).expect(&rt, "memory");
-    members.put(alloc, 2, 63, 3).expect(&rt, "memory");
-    assert_set(
-        &rt,
-        members.types_of(Element::Attribute(2)),
-        &[0, 63, 64, 129],
-    );
-    assert!(&rt; members.has(2, 64) && members.has(2, 129) && !members.has(2, 65));
-    assert!(&rt; members.next_member(2, 65) == Some(129) && members.next_member(64, 0).is_none());
+    for ty in 0..130usize {
+        let members = put_in(&rt, alloc, 130, &[ty]);
+        assert_set(&rt, members.types_of(Element::Attribute(0)), &[ty]);
+        assert_set(&rt, members.types_of(Element::Type(ty)), &[ty]);
+        assert!(&rt; members.has(0, ty) && members.next_member(0, ty) == Some(ty));
+    }
 }

@@ -5,4 +5,4 @@ use Rattle.cil_part_tests.proofs.dependence.ordered.Goals as goal
 
 pub items_in_order-requires-clause-order : goal.items_in_order-requires-clause-order
 items_in_order-requires-clause-order g c =
-    subst (λ order. AreEachOnce (length order) order) (sym c.deref-2.ensures.value) (order-once c.deref.result.now c.in-Order.order.items c.in-Order.ensures)
+    subst (λ order. AreEachOnce (length order) order) (sym c.deref.ensures.value) (order-once c.args.graph.now c.in-Order.order.items c.in-Order.ensures)
