@@ -9,8 +9,8 @@ ghost use Rattle.cil_store_specs.specs.Run.{changed_by, dropped_optionals};
 ghost use Rattle.cil_text.specs.Image.{place_of};
 ghost use Rattle.cil_resolve.specs.Views.{declared_seen};
 ghost use Rattle.cil_store_specs.specs.StoreReport.{entry_text, modules_text};
-ghost use Rattle.cil_store.specs.Edits.{refusal_of};
-ghost use Rattle.cil_store.specs.Stored.{entry_of};
+ghost use Rattle.cil_modules.specs.Edits.{refusal_of};
+ghost use Rattle.cil_modules.specs.Stored.{entry_of};
 ghost use Rattle.cil_program.specs.Dump.{install_command, disable_command};
 
 use cil_resolve::NameView;

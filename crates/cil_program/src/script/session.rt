@@ -3,7 +3,7 @@
 ghost use Rattle.std.specs.Prelude.{◌≡◌, ◌≢◌, ◌≤◌, [], List, ℕ, IfOk, OnOk, OnErr, IsErrOf, IsTrue};
 ghost use Rattle.cil_stream.specs.Device.{HasFailed, HasEnded, Gains, has_ended};
 ghost use Rattle.cil_store_specs.specs.Script.{makes, asks_rules, asks_violations, asks_dropped, asks_modules, asks_dump, refusal_line};
-ghost use Rattle.cil_store.specs.Edits.{edit_of, store_refusal_of};
+ghost use Rattle.cil_modules.specs.Edits.{edit_of, store_refusal_of};
 ghost use Rattle.cil_program.specs.Input.{Fits};
 ghost use Rattle.cil_program.specs.Session.{Moment, Standing, HasAnswered, IsOutcome, IsInstallOutcome, Leaves};
 ghost use Rattle.cil_program.specs.declared.script.input.LineEnd.TheVariants.{LastByte};

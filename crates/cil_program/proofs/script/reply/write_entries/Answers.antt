@@ -4,7 +4,7 @@ use Rattle.cil_stream.proofs.Gaining.{on_err, gains-pieces_more, gains-pieces_fr
 use Rattle.cil_store_specs.specs.Store.{Entry, Store}
 use Rattle.cil_store_specs.specs.StoreReport.{entry_text, state_word, module_line}
 use Rattle.cil_store_specs.specs.Store.{entry_at}
-use Rattle.cil_store.specs.Stored.{entry_of}
+use Rattle.cil_modules.specs.Stored.{entry_of}
 use Rattle.cil_program.proofs.script.reply.write_entries.Goals as goal
 
 line : (store : Store) (shown entry : Entry) (state word : List ℕ) → shown ≡ entry → state ≡ word → word ≡ state_word store entry → entry_text shown state ≡ module_line store entry

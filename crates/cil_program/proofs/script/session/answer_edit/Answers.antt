@@ -1,7 +1,7 @@
 use Rattle.std.proofs.Common.{refl}
 use Rattle.cil_store_specs.specs.Run.{an_edit, changed_by, refused}
 use Rattle.cil_store_specs.specs.Script.{answer_of, by_engine}
-use Rattle.cil_store.specs.Edits.{edit_of, refusal_of}
+use Rattle.cil_modules.specs.Edits.{edit_of, refusal_of}
 use Rattle.cil_program.proofs.script.session.answer_edit.Goals as goal
 
 pub returns-in_ok-write_changes-in-Ok-clause-ok : goal.returns-in_ok-write_changes-in-Ok-clause-ok

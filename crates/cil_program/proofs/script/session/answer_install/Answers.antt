@@ -2,7 +2,7 @@ use Rattle.std.proofs.Common.{◌∙◌, refl, sym, subst}
 use Rattle.cil_store_specs.specs.Next.{install, for_memory, install_refusal, by_itself, not_taken}
 use Rattle.cil_store_specs.specs.Run.{an_edit, refused, rejected, out_of_memory}
 use Rattle.cil_store_specs.specs.Script.{answer_of, by_engine}
-use Rattle.cil_store.specs.Edits.{store_refusal_of}
+use Rattle.cil_modules.specs.Edits.{store_refusal_of}
 use Rattle.cil_program.specs.Input.{HasRead}
 use Rattle.cil_program.proofs.script.session.answer_install.Goals as goal
 
