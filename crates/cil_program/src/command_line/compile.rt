@@ -7,7 +7,7 @@ ghost use Rattle.cil_store_specs.specs.Script.{refusal_line};
 ghost use Rattle.cil_modules.specs.Stored.{entry_of};
 ghost use Rattle.cil_program.specs.CommandLine.{Compiles};
 
-use crate::script::reply;
+use cil_session::reply;
 use cil_store::{Compiled, Entry, Plain, WriteFault};
 use cil_stream::{Sink, SinkFault};
 use std::alloc::Allocator;
