@@ -12,8 +12,6 @@ mod edits;
 #[cfg(test)]
 mod growths;
 #[cfg(test)]
-mod lines;
-#[cfg(test)]
 mod questions;
 #[cfg(test)]
 mod scripts;
