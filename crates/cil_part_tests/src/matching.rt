@@ -1,7 +1,7 @@
 //! Set statements and rules of small policies that stand in other ones.
 
 use crate::policies::{policy, policy_of_two};
-use cil_matching::{RuleMatching, SetMatching, is_same_rule};
+use cil_matching::{RuleMatching, SetMatching};
 use cil_resolve::Resolved;
 use std::alloc::Global;
 use std::process::Abort;
@@ -62,7 +62,6 @@ fn rules_of(
     for j in 0..=new.rules_len() {
         back.push(matching.old_place(j)).expect(rt, "memory");
     }
-    assert!(rt; is_same_rule(old, 0, new, 0) == (matching.new_place(0) == Some(0)));
     (ahead, back)
 }
 
