@@ -215,18 +215,24 @@ const CHANGED: &[(&[Given], &[Given], &[Listed], &[Listed])] = &[
     (SOME, SOME, &[], &[]),
 ];
 
-const FIRST: Given = (ALLOW, 1, 1, 1, 1, 1);
+// Three chunks of the sources 3, 2 and 1 are put in order from a place on; and their sources then.
+const SORTED: &[(usize, &[u32])] = &[(0, &[1, 2, 3]), (1, &[3, 1, 2]), (3, &[3, 2, 1])];
 
-const SECOND: Given = (ALLOW, 2, 0, 1, 1, 1);
-
-const THIRD: Given = (ALLOW, 3, 0, 1, 1, 1);
-
-// A place, and three chunks that are put in order from it on.
-const SORTED: &[(usize, [Given; 3])] = &[
-    (0, [FIRST, SECOND, THIRD]),
-    (1, [THIRD, FIRST, SECOND]),
-    (3, [THIRD, SECOND, FIRST]),
-];
+// The sources of the chunks that are put in order from a place on.
+fn sorted(rt: &impl Abort, alloc: Global, start: usize) -> Vec<u32> {
+    let mut chunks = Vec::new(alloc);
+    for source in [3, 2, 1] {
+        chunks
+            .push(chunk_of(&(ALLOW, source, 0, 1, 1, 1)))
+            .expect(rt, "memory");
+    }
+    sort_from(&mut chunks, start);
+    let mut sources = Vec::new(alloc);
+    for chunk in &chunks {
+        sources.push(chunk.source).expect(rt, "memory");
+    }
+    sources
+}
 
 #[test]
 fn differences_and_orders(rt: HostRuntime) {
@@ -239,12 +245,7 @@ fn differences_and_orders(rt: HostRuntime) {
         assert_listed(&rt, alloc, &found.added, added);
     }
     for (start, want) in SORTED {
-        let chunks = [chunk_of(&THIRD), chunk_of(&SECOND), chunk_of(&FIRST)];
-        let mut chunks = Vec::from_array(alloc, chunks).expect(&rt, "memory");
-        sort_from(&mut chunks, *start);
-        let [first, second, third] = want;
-        let want = [chunk_of(first), chunk_of(second), chunk_of(third)];
-        assert!(&rt; chunks.as_slice() == want.as_slice());
+        assert!(&rt; sorted(&rt, alloc, *start).as_slice() == *want);
     }
 }
 

@@ -69,17 +69,17 @@ fn counted(rt: &impl Abort, alloc: Global, resolved: &Resolved) -> Counters
 }
 
 // An access of class p by the permission use, and how many rules give it before an edit and behind it.
-type Access<'t> = (RuleKind, &'t [u8], &'t [u8], [u64; 2]);
+type Access<'t> = (RuleKind, &'t [u8], &'t [u8], u64, u64);
 
 // An attribute, and its members before an edit and behind it; their names have one letter each.
-type Members<'t> = (&'t [u8], [&'t [u8]; 2]);
+type Members<'t> = (&'t [u8], &'t [u8], &'t [u8]);
 
 // What follows the start before an edit and behind it, accesses, and attributes.
-type Edit<'t> = ([&'t [u8]; 2], &'t [Access<'t>], &'t [Members<'t>]);
+type Edit<'t> = (&'t [u8], &'t [u8], &'t [Access<'t>], &'t [Members<'t>]);
 
 // Whether accesses are counted as they are behind an edit, or before it.
 fn are_counted(counters: &Counters, accesses: &[Access<'_>], behind: bool) -> bool {
-    for (kind, source, target, [before, after]) in accesses {
+    for (kind, source, target, before, after) in accesses {
         let want = if behind { *after } else { *before };
         let found = counters.count(*kind, source, target, b"p", b"use");
         if found != want || counters.count(*kind, source, target, b"p", b"see") != 0 {
@@ -91,7 +91,7 @@ fn are_counted(counters: &Counters, accesses: &[Access<'_>], behind: bool) -> bo
 
 // Whether the types a, b and c are members of attributes as they are behind an edit, or before it; z isn't there.
 fn are_members(counters: &Counters, attributes: &[Members<'_>], behind: bool) -> bool {
-    for (attribute, [before, after]) in attributes {
+    for (attribute, before, after) in attributes {
         let want = if behind { *after } else { *before };
         for ty in b"abcz" {
             if counters.has(attribute, &[*ty]) != want.contains(ty) {
@@ -104,7 +104,7 @@ fn are_members(counters: &Counters, attributes: &[Members<'_>], behind: bool) ->
 
 // Whether types of attributes have changed as the edit says, or not.
 fn have_changed(counters: &Counters, attributes: &[Members<'_>], changed: bool) -> bool {
-    for (attribute, [before, after]) in attributes {
+    for (attribute, before, after) in attributes {
         for ty in b"abcz" {
             let turns = before.contains(ty) != after.contains(ty);
             if counters.has_changed(attribute, &[*ty]) != (changed && turns) {
@@ -123,130 +123,108 @@ fn assert_counters(
     behind: bool,
     pending: bool,
 ) {
-    assert!(rt; are_counted(counters, edit.1, behind));
-    assert!(rt; are_members(counters, edit.2, behind));
-    assert!(rt; have_changed(counters, edit.2, pending));
+    assert!(rt; are_counted(counters, edit.2, behind));
+    assert!(rt; are_members(counters, edit.3, behind));
+    assert!(rt; have_changed(counters, edit.3, pending));
     assert!(rt; counters.is_pending() == pending);
 }
 
 const EDITS: &[Edit<'static>] = &[
     // A changed attribute, and a rule that is one of another kind.
     (
-        [OLD, NEW],
+        OLD,
+        NEW,
         &[
-            (RuleKind::Allow, b"a", b"b", [1, 0]),
-            (RuleKind::Allow, b"b", b"b", [0, 1]),
-            (RuleKind::Allow, b"a", b"a", [1, 0]),
-            (RuleKind::AuditAllow, b"a", b"a", [0, 1]),
-            (RuleKind::NeverAllow, b"a", b"a", [0, 0]),
+            (RuleKind::Allow, b"a", b"b", 1, 0),
+            (RuleKind::Allow, b"b", b"b", 0, 1),
+            (RuleKind::Allow, b"a", b"a", 1, 0),
+            (RuleKind::AuditAllow, b"a", b"a", 0, 1),
+            (RuleKind::NeverAllow, b"a", b"a", 0, 0),
         ],
-        &[(b"s", [b"a", b"b"]), (b"a", [b"", b""])],
+        &[(b"s", b"a", b"b"), (b"a", b"", b"")],
     ),
     // Two rules give one access, and one of them goes.
     (
-        [
-            b"(allow a b (p (use)))(allow a b (p (use)))",
-            b"(allow a b (p (use)))",
-        ],
-        &[(RuleKind::Allow, b"a", b"b", [2, 1])],
+        b"(allow a b (p (use)))(allow a b (p (use)))",
+        b"(allow a b (p (use)))",
+        &[(RuleKind::Allow, b"a", b"b", 2, 1)],
         &[],
     ),
     // A rule that lists a permission twice counts once; its last accesses go.
     (
-        [b"(dontaudit a b (p (use use)))", b""],
-        &[(RuleKind::DontAudit, b"a", b"b", [1, 0])],
+        b"(dontaudit a b (p (use use)))",
+        b"",
+        &[(RuleKind::DontAudit, b"a", b"b", 1, 0)],
         &[],
     ),
     // Rules that stay where nothing of theirs changed, beside one that comes.
     (
-        [
-            b"(neverallow a b (p (use)))(allow b b (p (use)))",
-            b"(neverallow a b (p (use)))(allow b b (p (use)))(allow b a (p (use)))",
-        ],
+        b"(neverallow a b (p (use)))(allow b b (p (use)))",
+        b"(neverallow a b (p (use)))(allow b b (p (use)))(allow b a (p (use)))",
         &[
-            (RuleKind::NeverAllow, b"a", b"b", [1, 1]),
-            (RuleKind::Allow, b"b", b"b", [1, 1]),
-            (RuleKind::Allow, b"b", b"a", [0, 1]),
-            (RuleKind::NeverAllow, b"b", b"a", [0, 0]),
+            (RuleKind::NeverAllow, b"a", b"b", 1, 1),
+            (RuleKind::Allow, b"b", b"b", 1, 1),
+            (RuleKind::Allow, b"b", b"a", 0, 1),
+            (RuleKind::NeverAllow, b"b", b"a", 0, 0),
         ],
         &[],
     ),
     // The target alone has other members.
     (
-        [
-            b"(typeattributeset s (a))(allow b s (p (use)))",
-            b"(typeattributeset s (b))(allow b s (p (use)))",
-        ],
+        b"(typeattributeset s (a))(allow b s (p (use)))",
+        b"(typeattributeset s (b))(allow b s (p (use)))",
         &[
-            (RuleKind::Allow, b"b", b"a", [1, 0]),
-            (RuleKind::Allow, b"b", b"b", [0, 1]),
+            (RuleKind::Allow, b"b", b"a", 1, 0),
+            (RuleKind::Allow, b"b", b"b", 0, 1),
         ],
-        &[(b"s", [b"a", b"b"])],
+        &[(b"s", b"a", b"b")],
     ),
     // Each member of an attribute to itself, and to no other.
     (
-        [
-            b"(typeattributeset s (a))  (allow s self (p (use)))",
-            b"(typeattributeset s (a b))(allow s self (p (use)))",
-        ],
+        b"(typeattributeset s (a))  (allow s self (p (use)))",
+        b"(typeattributeset s (a b))(allow s self (p (use)))",
         &[
-            (RuleKind::Allow, b"a", b"a", [1, 1]),
-            (RuleKind::Allow, b"b", b"b", [0, 1]),
-            (RuleKind::Allow, b"a", b"b", [0, 0]),
+            (RuleKind::Allow, b"a", b"a", 1, 1),
+            (RuleKind::Allow, b"b", b"b", 0, 1),
+            (RuleKind::Allow, b"a", b"b", 0, 0),
         ],
-        &[(b"s", [b"a", b"ab"])],
+        &[(b"s", b"a", b"ab")],
     ),
     // A type comes, and the statements behind it stay at their places.
     (
-        [
-            b"        (typeattribute n)(typeattribute m)(typeattributeset s (all))(typeattributeset n (not (a)))(typeattributeset m (a b))",
-            b"(type c)(typeattribute n)(typeattribute m)(typeattributeset s (all))(typeattributeset n (not (a)))(typeattributeset m (a b))",
-        ],
+        b"        (typeattribute n)(typeattribute m)(typeattributeset s (all))(typeattributeset n (not (a)))(typeattributeset m (a b))",
+        b"(type c)(typeattribute n)(typeattribute m)(typeattributeset s (all))(typeattributeset n (not (a)))(typeattributeset m (a b))",
         &[],
         &[
-            (b"s", [b"ab", b"abc"]),
-            (b"n", [b"b", b"bc"]),
-            (b"m", [b"ab", b"ab"]),
+            (b"s", b"ab", b"abc"),
+            (b"n", b"b", b"bc"),
+            (b"m", b"ab", b"ab"),
         ],
     ),
     // It goes.
     (
-        [
-            b"(type c)(typeattribute n)(typeattribute m)(typeattributeset s (all))(typeattributeset n (not (a)))(typeattributeset m (a b))",
-            b"        (typeattribute n)(typeattribute m)(typeattributeset s (all))(typeattributeset n (not (a)))(typeattributeset m (a b))",
-        ],
+        b"(type c)(typeattribute n)(typeattribute m)(typeattributeset s (all))(typeattributeset n (not (a)))(typeattributeset m (a b))",
+        b"        (typeattribute n)(typeattribute m)(typeattributeset s (all))(typeattributeset n (not (a)))(typeattributeset m (a b))",
         &[],
         &[
-            (b"s", [b"abc", b"ab"]),
-            (b"n", [b"bc", b"b"]),
-            (b"m", [b"ab", b"ab"]),
+            (b"s", b"abc", b"ab"),
+            (b"n", b"bc", b"b"),
+            (b"m", b"ab", b"ab"),
         ],
     ),
     // An attribute changes through two others.
     (
-        [
-            b"(type c)(typeattribute n)(typeattribute m)(typeattributeset n (s))(typeattributeset m (not (n)))(typeattributeset s (a))",
-            b"(type c)(typeattribute n)(typeattribute m)(typeattributeset n (s))(typeattributeset m (not (n)))(typeattributeset s (b))",
-        ],
+        b"(type c)(typeattribute n)(typeattribute m)(typeattributeset n (s))(typeattributeset m (not (n)))(typeattributeset s (a))",
+        b"(type c)(typeattribute n)(typeattribute m)(typeattributeset n (s))(typeattributeset m (not (n)))(typeattributeset s (b))",
         &[],
-        &[
-            (b"s", [b"a", b"b"]),
-            (b"n", [b"a", b"b"]),
-            (b"m", [b"bc", b"ac"]),
-        ],
+        &[(b"s", b"a", b"b"), (b"n", b"a", b"b"), (b"m", b"bc", b"ac")],
     ),
     // A type stays while another statement holds it.
     (
-        [
-            b"(type c)(typeattribute n)(typeattribute m)(typeattributeset s (a))(typeattributeset s (a b))(typeattributeset n (and s (b c)))",
-            b"(type c)(typeattribute n)(typeattribute m)                        (typeattributeset s (a b))(typeattributeset n (or  s (b a)))(typeattributeset m (not (s)))",
-        ],
+        b"(type c)(typeattribute n)(typeattribute m)(typeattributeset s (a))(typeattributeset s (a b))(typeattributeset n (and s (b c)))",
+        b"(type c)(typeattribute n)(typeattribute m)                        (typeattributeset s (a b))(typeattributeset n (or  s (b a)))(typeattributeset m (not (s)))",
         &[],
-        &[
-            (b"s", [b"ab", b"ab"]),
-            (b"n", [b"b", b"ab"]),
-            (b"m", [b"", b"c"]),
-        ],
+        &[(b"s", b"ab", b"ab"), (b"n", b"b", b"ab"), (b"m", b"", b"c")],
     ),
 ];
 
@@ -258,9 +236,8 @@ const NEW: &[u8] = b"(typeattributeset s (b))(allow s b (p (use)))(auditallow a 
 
 // Asserts an edit, taken back, and done again and kept.
 fn assert_edit(rt: &impl Abort, alloc: Global, edit: &Edit<'_>) {
-    let [before, behind] = edit.0;
-    let old = policy(rt, alloc, &[START, before]);
-    let new = policy(rt, alloc, &[START, behind]);
+    let old = policy(rt, alloc, &[START, edit.0]);
+    let new = policy(rt, alloc, &[START, edit.1]);
     let mut counters = counted(rt, alloc, &old);
     assert_counters(rt, &counters, edit, false, false);
     bring(rt, alloc, &mut counters, &old, &new);

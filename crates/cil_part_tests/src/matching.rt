@@ -1,7 +1,7 @@
 //! Set statements and rules of small policies that stand in other ones.
 
-use crate::policies::policy_of_two;
-use cil_matching::{RuleMatching, SetMatching, is_same_rule};
+use crate::policies::{policy, policy_of_two};
+use cil_matching::{RuleMatching, SetMatching};
 use cil_resolve::Resolved;
 use std::alloc::Global;
 use std::process::Abort;
@@ -19,7 +19,7 @@ const BOTH: &[u8] = b"(typeattributeset s (a))(allow a b (p (use)))";
 // The texts of the modules m and n, in parts.
 type Modules<'t> = (&'t [&'t [u8]], &'t [&'t [u8]]);
 
-// Two policies, the place in the new one of each statement of the old one, and back.
+// Two policies, the place in the new one of each statement of the old one and of one behind them, and back.
 type Places<'t> = (
     Modules<'t>,
     Modules<'t>,
@@ -27,49 +27,42 @@ type Places<'t> = (
     &'t [Option<usize>],
 );
 
-fn policy(rt: &impl Abort, alloc: Global, modules: &Modules<'_>) -> Resolved {
-    policy_of_two(rt, alloc, modules.0, modules.1)
-}
-
-// The places in the new policy of the first set statements of the old one, and back.
-fn set_places(
+// The places in the new policy of the set statements of the old one, and back.
+fn sets_of(
     rt: &impl Abort,
     alloc: Global,
-    places: &Places<'_>,
+    old: &Resolved,
+    new: &Resolved,
 ) -> (Vec<Option<usize>>, Vec<Option<usize>>) {
-    let (old, new, ahead, back) = places;
-    let old = policy(rt, alloc, old);
-    let new = policy(rt, alloc, new);
-    let matching = SetMatching::of(alloc, &old, &new).expect(rt, "memory");
-    let mut found = (Vec::new(alloc), Vec::new(alloc));
-    for i in 0..ahead.len() {
-        found.0.push(matching.new_place(i)).expect(rt, "memory");
+    let matching = SetMatching::of(alloc, old, new).expect(rt, "memory");
+    let mut ahead = Vec::new(alloc);
+    for i in 0..=old.sets_len() {
+        ahead.push(matching.new_place(i)).expect(rt, "memory");
     }
-    for j in 0..back.len() {
-        found.1.push(matching.old_place(j)).expect(rt, "memory");
+    let mut back = Vec::new(alloc);
+    for j in 0..=new.sets_len() {
+        back.push(matching.old_place(j)).expect(rt, "memory");
     }
-    found
+    (ahead, back)
 }
 
-// The same of rules. What is the same by its place is the same.
-fn rule_places(
+// The same of rules. The first rules are the same where one has the place of the other.
+fn rules_of(
     rt: &impl Abort,
     alloc: Global,
-    places: &Places<'_>,
+    old: &Resolved,
+    new: &Resolved,
 ) -> (Vec<Option<usize>>, Vec<Option<usize>>) {
-    let (old, new, ahead, back) = places;
-    let old = policy(rt, alloc, old);
-    let new = policy(rt, alloc, new);
-    let matching = RuleMatching::of(alloc, &old, &new).expect(rt, "memory");
-    assert!(rt; is_same_rule(&old, 0, &new, 0) == (matching.new_place(0) == Some(0)));
-    let mut found = (Vec::new(alloc), Vec::new(alloc));
-    for i in 0..ahead.len() {
-        found.0.push(matching.new_place(i)).expect(rt, "memory");
+    let matching = RuleMatching::of(alloc, old, new).expect(rt, "memory");
+    let mut ahead = Vec::new(alloc);
+    for i in 0..=old.rules_len() {
+        ahead.push(matching.new_place(i)).expect(rt, "memory");
     }
-    for j in 0..back.len() {
-        found.1.push(matching.old_place(j)).expect(rt, "memory");
+    let mut back = Vec::new(alloc);
+    for j in 0..=new.rules_len() {
+        back.push(matching.old_place(j)).expect(rt, "memory");
     }
-    found
+    (ahead, back)
 }
 
 const SAME: &[Option<usize>] = &[Some(0), None];
@@ -165,7 +158,7 @@ const SET_PLACES: &[Places<'static>] = &[
         NONE,
         NONE,
     ),
-    ((&[START], &[]), (&[OTHER], &[]), NONE, NONE),
+    ((&[START], &[]), (&[OTHER], &[]), &[None], &[None]),
     // The same text in another module.
     ((&[START, BOTH], &[]), (&[], &[START, BOTH]), NONE, NONE),
     // Set statements stand in the order of dependence, so one that depends on another, which is new, stands elsewhere.
@@ -186,15 +179,17 @@ const SET_PLACES: &[Places<'static>] = &[
 #[test]
 fn set_statements_of_two_policies(rt: HostRuntime) {
     for (old, new, same) in SETS {
-        let (old, new) = ([START, *old], [START, *new]);
-        let want = if *same { SAME } else { NONE };
-        let places = ((&old[..], &[][..]), (&new[..], &[][..]), want, want);
-        let found = set_places(&rt, rt.alloc(), &places);
-        assert!(&rt; found.0.as_slice() == want && found.1.as_slice() == want);
+        let old = policy(&rt, rt.alloc(), &[START, old]);
+        let new = policy(&rt, rt.alloc(), &[START, new]);
+        let (ahead, back) = sets_of(&rt, rt.alloc(), &old, &new);
+        let want = if *same { Some(0) } else { None };
+        assert!(&rt; ahead.first() == Some(&want) && back.first() == Some(&want));
     }
-    for places in SET_PLACES {
-        let found = set_places(&rt, rt.alloc(), places);
-        assert!(&rt; found.0.as_slice() == places.2 && found.1.as_slice() == places.3);
+    for (old, new, want_ahead, want_back) in SET_PLACES {
+        let old = policy_of_two(&rt, rt.alloc(), old.0, old.1);
+        let new = policy_of_two(&rt, rt.alloc(), new.0, new.1);
+        let (ahead, back) = sets_of(&rt, rt.alloc(), &old, &new);
+        assert!(&rt; ahead.as_slice() == *want_ahead && back.as_slice() == *want_back);
     }
 }
 
@@ -323,7 +318,7 @@ const RULE_PLACES: &[Places<'static>] = &[
         NONE,
         NONE,
     ),
-    ((&[START], &[]), (&[OTHER], &[]), NONE, NONE),
+    ((&[START], &[]), (&[OTHER], &[]), &[None], &[None]),
     // The same text in another module.
     ((&[START, BOTH], &[]), (&[], &[START, BOTH]), NONE, NONE),
     // A rule that comes between two others, which keep their offsets.
@@ -376,14 +371,16 @@ const RULE_PLACES: &[Places<'static>] = &[
 #[test]
 fn rules_of_two_policies(rt: HostRuntime) {
     for (old, new, same) in RULES {
-        let (old, new) = ([START, *old], [START, *new]);
-        let want = if *same { SAME } else { NONE };
-        let places = ((&old[..], &[][..]), (&new[..], &[][..]), want, want);
-        let found = rule_places(&rt, rt.alloc(), &places);
-        assert!(&rt; found.0.as_slice() == want && found.1.as_slice() == want);
+        let old = policy(&rt, rt.alloc(), &[START, old]);
+        let new = policy(&rt, rt.alloc(), &[START, new]);
+        let (ahead, back) = rules_of(&rt, rt.alloc(), &old, &new);
+        let want = if *same { Some(0) } else { None };
+        assert!(&rt; ahead.first() == Some(&want) && back.first() == Some(&want));
     }
-    for places in RULE_PLACES {
-        let found = rule_places(&rt, rt.alloc(), places);
-        assert!(&rt; found.0.as_slice() == places.2 && found.1.as_slice() == places.3);
+    for (old, new, want_ahead, want_back) in RULE_PLACES {
+        let old = policy_of_two(&rt, rt.alloc(), old.0, old.1);
+        let new = policy_of_two(&rt, rt.alloc(), new.0, new.1);
+        let (ahead, back) = rules_of(&rt, rt.alloc(), &old, &new);
+        assert!(&rt; ahead.as_slice() == *want_ahead && back.as_slice() == *want_back);
     }
 }

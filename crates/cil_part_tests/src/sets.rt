@@ -6,69 +6,64 @@ use cil_sets::{Members, TypeSet};
 use std::alloc::Global;
 use std::process::Abort;
 
-// A class, three types and three attributes, of names that stand in front of the others.
+// A class, three types and three attributes.
 const START: &[u8] =
     b"(class p (use))(type a)(type b)(type c)(typeattribute s)(typeattribute n)(typeattribute z)";
 
-// The names of the types of a set, as they are listed one behind the other, and as they are asked for.
+// The names of the types of a set, as they are found one behind the other, and as they are asked for.
 fn types_of(
     rt: &impl Abort,
     alloc: Global,
     resolved: &Resolved,
     types: TypeSet<'_>,
 ) -> (Vec<u8>, Vec<u8>) {
-    let mut listed = Vec::new(alloc);
+    let mut found = Vec::new(alloc);
     let mut asked = Vec::new(alloc);
     let mut next = types.next(0);
-    for ty in 0..resolved.names_len() {
+    for ty in 0..=resolved.names_len() {
+        let name = resolved.name(ty);
         if next == Some(ty) {
-            listed
-                .extend_from_slice(resolved.name(ty))
-                .expect(rt, "memory");
-            next = types.next(ty + 1);
+            found.extend_from_slice(name).expect(rt, "memory");
+            next = types.next(ty.saturating_add(1));
         }
         if types.has(ty) {
-            asked
-                .extend_from_slice(resolved.name(ty))
-                .expect(rt, "memory");
+            asked.extend_from_slice(name).expect(rt, "memory");
         }
     }
     assert!(rt; next.is_none());
-    (listed, asked)
+    (found, asked)
 }
 
-// The names of the members of an attribute, likewise, and as a list.
+// The names of the members of an attribute, likewise, and as they are listed.
 fn members_of(
     rt: &impl Abort,
     alloc: Global,
     resolved: &Resolved,
-    members: &Members,
     attribute: &[u8],
 ) -> [Vec<u8>; 3] {
-    let attribute = number(resolved, attribute);
-    let mut listed = Vec::new(alloc);
+    let members = Members::plain(alloc, resolved).expect(rt, "memory");
+    let row = number(resolved, attribute);
+    let mut found = Vec::new(alloc);
     let mut asked = Vec::new(alloc);
-    let mut next = members.next_member(attribute, 0);
-    for ty in 0..resolved.names_len() {
+    let mut listed = Vec::new(alloc);
+    let mut next = members.next_member(row, 0);
+    for ty in 0..=resolved.names_len() {
+        let name = resolved.name(ty);
         if next == Some(ty) {
-            listed
-                .extend_from_slice(resolved.name(ty))
-                .expect(rt, "memory");
-            next = members.next_member(attribute, ty + 1);
+            found.extend_from_slice(name).expect(rt, "memory");
+            next = members.next_member(row, ty.saturating_add(1));
         }
-        if members.has(attribute, ty) {
-            asked
-                .extend_from_slice(resolved.name(ty))
-                .expect(rt, "memory");
+        if members.has(row, ty) {
+            asked.extend_from_slice(name).expect(rt, "memory");
         }
     }
     assert!(rt; next.is_none());
-    let mut all = Vec::new(alloc);
-    for ty in members.members(alloc, attribute).expect(rt, "memory") {
-        all.extend_from_slice(resolved.name(ty))
+    for ty in members.members(alloc, row).expect(rt, "memory") {
+        listed
+            .extend_from_slice(resolved.name(ty))
             .expect(rt, "memory");
     }
-    [listed, asked, all]
+    [found, asked, listed]
 }
 
 // Asserts the members of an attribute, whose names have one letter each.
@@ -76,14 +71,12 @@ fn assert_members(
     rt: &impl Abort,
     alloc: Global,
     resolved: &Resolved,
-    members: &Members,
     attribute: &[u8],
     want: &[u8],
 ) {
-    let found = members_of(rt, alloc, resolved, members, attribute);
-    for list in &found {
-        assert!(rt; list.as_slice() == want);
-    }
+    let [found, asked, listed] = members_of(rt, alloc, resolved, attribute);
+    assert!(rt; found.as_slice() == want && asked.as_slice() == want);
+    assert!(rt; listed.as_slice() == want);
 }
 
 // Statements behind the start, and the members of s and of n.
@@ -155,44 +148,39 @@ fn members_of_small_policies(rt: HostRuntime) {
     let alloc = rt.alloc();
     for (statements, s, n) in STATEMENTS {
         let resolved = policy(&rt, alloc, &[START, statements]);
-        let members = Members::plain(alloc, &resolved).expect(&rt, "memory");
-        assert_members(&rt, alloc, &resolved, &members, b"s", s);
-        assert_members(&rt, alloc, &resolved, &members, b"n", n);
-        assert_members(&rt, alloc, &resolved, &members, b"z", b"");
-        assert_members(&rt, alloc, &resolved, &members, b"a", b"");
-        // Numbers that no name has.
-        assert_members(&rt, alloc, &resolved, &members, b"no", b"");
-        let names = resolved.names_len();
-        assert!(&rt; !members.has(number(&resolved, b"s"), names));
+        assert_members(&rt, alloc, &resolved, b"s", s);
+        assert_members(&rt, alloc, &resolved, b"n", n);
+        assert_members(&rt, alloc, &resolved, b"z", b"");
+        assert_members(&rt, alloc, &resolved, b"a", b"");
+        // There is no such name.
+        assert_members(&rt, alloc, &resolved, b"no", b"");
     }
     for (rule, want) in SOURCES {
         let resolved = policy(&rt, alloc, &[START, ALIAS, rule]);
         let members = Members::plain(alloc, &resolved).expect(&rt, "memory");
         let rules = resolved.rules();
         assert!(&rt; rules.len() == 1);
-        let (listed, asked) = types_of(&rt, alloc, &resolved, members.types_of(rules[0].source));
-        assert!(&rt; listed.as_slice() == *want && asked.as_slice() == *want);
+        let (found, asked) = types_of(&rt, alloc, &resolved, members.types_of(rules[0].source));
+        assert!(&rt; found.as_slice() == *want && asked.as_slice() == *want);
     }
 }
 
-// The statements of types or attributes whose names are a letter and a number of two digits.
-fn push_numbered(rt: &impl Abort, text: &mut Vec<u8>, front: &[u8], numbers: &[u8], back: &[u8]) {
-    for number in numbers {
-        text.extend_from_slice(front).expect(rt, "memory");
-        text.push(b'0' + number / 10 % 10).expect(rt, "memory");
-        text.push(b'0' + number % 10).expect(rt, "memory");
-        text.extend_from_slice(back).expect(rt, "memory");
-    }
+// Appends a number of two digits between two parts.
+fn push_numbered(rt: &impl Abort, text: &mut Vec<u8>, front: &[u8], number: u8, back: &[u8]) {
+    text.extend_from_slice(front).expect(rt, "memory");
+    text.push(b'0' + number / 10 % 10).expect(rt, "memory");
+    text.push(b'0' + number % 10).expect(rt, "memory");
+    text.extend_from_slice(back).expect(rt, "memory");
 }
 
 // The types t00 to t39, and the attributes g00 to g09.
 fn declarations(rt: &impl Abort, alloc: Global) -> Vec<u8> {
     let mut text = Vec::new(alloc);
     for number in 0..40u8 {
-        push_numbered(rt, &mut text, b"(type t", &[number], b")");
+        push_numbered(rt, &mut text, b"(type t", number, b")");
     }
     for number in 0..10u8 {
-        push_numbered(rt, &mut text, b"(typeattribute g", &[number], b")");
+        push_numbered(rt, &mut text, b"(typeattribute g", number, b")");
     }
     text
 }
@@ -202,8 +190,8 @@ fn named(rt: &impl Abort, alloc: Global) -> Vec<u8> {
     let mut text = Vec::new(alloc);
     for i in 0..200u8 {
         let attribute = if i % 5 == 0 { i / 5 % 10 } else { 0 };
-        push_numbered(rt, &mut text, b"(typeattributeset g", &[attribute], b" ");
-        push_numbered(rt, &mut text, b"(t", &[i % 40], b"))");
+        push_numbered(rt, &mut text, b"(typeattributeset g", attribute, b" ");
+        push_numbered(rt, &mut text, b"(t", i % 40, b"))");
     }
     text
 }

@@ -11,7 +11,7 @@ use cil_accesses::{AccessNumbers, Accesses};
 use cil_keyed_lines::SymbolKey;
 use cil_lines::Line;
 use cil_rule_shifts::{Reach, Targets};
-use cil_symbol_changes::{accesses, changes};
+use cil_symbol_changes::{AccessChanges, accesses, changes};
 use cil_symbol_tables::SymbolTables;
 use cil_text::RuleKind;
 use std::alloc::Global;
@@ -148,35 +148,18 @@ fn are_listed(found: &Accesses, kind: RuleKind, targets: &[u32]) -> bool {
     found.len() == targets.len() as u128
 }
 
-// Whether accesses of a kind to these targets appeared, and went.
-fn are_changed(
-    rt: &impl Abort,
-    alloc: Global,
-    numbers: &[u32],
-    tables: &SymbolTables,
-    kind: RuleKind,
-    targets: [&[u32]; 2],
-) -> bool
+// The accesses that appeared, and that went.
+fn changed(rt: &impl Abort, alloc: Global, numbers: &[u32], tables: &SymbolTables) -> AccessChanges
     requires { AreNumbered numbers.now tables.now }
 {
-    let found = changes(alloc, tables, numbers).expect(rt, "memory");
-    let [added, removed] = targets;
-    are_listed(&found.added, kind, added) && are_listed(&found.removed, kind, removed)
+    changes(alloc, tables, numbers).expect(rt, "memory")
 }
 
-// Whether accesses of a kind to these targets stand in the tables.
-fn are_present(
-    rt: &impl Abort,
-    alloc: Global,
-    numbers: &[u32],
-    tables: &SymbolTables,
-    kind: RuleKind,
-    targets: &[u32],
-) -> bool
+// The accesses that stand in the tables.
+fn present(rt: &impl Abort, alloc: Global, numbers: &[u32], tables: &SymbolTables) -> Accesses
     requires { AreNumbered numbers.now tables.now }
 {
-    let found = accesses(alloc, tables, numbers).expect(rt, "memory");
-    are_listed(&found, kind, targets)
+    accesses(alloc, tables, numbers).expect(rt, "memory")
 }
 
 // Whether so many rules of a kind give type 1 the permission to type 63, and none of another kind.
@@ -201,56 +184,88 @@ fn is_counted(tables: &SymbolTables, kind: RuleKind, count: u64) -> bool {
 
 // The targets of a rule that is kept, and those of another one, by symbols; those of the accesses that are kept, of all, of those that
 // appeared, and of those that went where the first rule goes, by numbers; and how many of the rules have target 63, the first and both.
-type Case<'t> = ([&'t [u32]; 2], [&'t [u32]; 4], [u64; 2]);
+type Case<'t> = (
+    &'t [u32],
+    &'t [u32],
+    &'t [u32],
+    &'t [u32],
+    &'t [u32],
+    &'t [u32],
+    u64,
+    u64,
+);
 
 const CASES: &[Case<'static>] = &[
     // Accesses appear in the order of numbers.
     (
-        [&[], &[5, 63, 64, 130]],
-        [&[], &[61, 127, 128, 186], &[61, 127, 128, 186], &[]],
-        [0, 1],
+        &[],
+        &[5, 63, 64, 130],
+        &[],
+        &[61, 127, 128, 186],
+        &[61, 127, 128, 186],
+        &[],
+        0,
+        1,
     ),
     // What a second rule gives doesn't appear again.
     (
-        [&[5, 63], &[63, 64]],
-        [&[128, 186], &[127, 128, 186], &[127], &[186]],
-        [1, 2],
+        &[5, 63],
+        &[63, 64],
+        &[128, 186],
+        &[127, 128, 186],
+        &[127],
+        &[186],
+        1,
+        2,
     ),
     (
-        [&[5, 63], &[63, 64, 130]],
-        [&[128, 186], &[61, 127, 128, 186], &[61, 127], &[186]],
-        [1, 2],
+        &[5, 63],
+        &[63, 64, 130],
+        &[128, 186],
+        &[61, 127, 128, 186],
+        &[61, 127],
+        &[186],
+        1,
+        2,
     ),
     // What goes and comes back didn't change.
     (
-        [&[63, 64], &[]],
-        [&[127, 128], &[127, 128], &[], &[127, 128]],
-        [1, 1],
+        &[63, 64],
+        &[],
+        &[127, 128],
+        &[127, 128],
+        &[],
+        &[127, 128],
+        1,
+        1,
     ),
-    ([&[63], &[63]], [&[128], &[128], &[], &[]], [1, 2]),
+    (&[63], &[63], &[128], &[128], &[], &[], 1, 2),
 ];
 
 // The second rule comes, the first goes, comes back, and all is taken back.
 fn assert_case(rt: &impl Abort, alloc: Global, kind: RuleKind, case: &Case<'_>) {
-    let (rules, [kept, all, added, removed], [once, both]) = case;
+    let (first, second, kept, all, added, removed, once, both) = case;
     let numbers = numbers(rt, alloc);
-    let first = rule(rt, alloc, rules[0]);
-    let second = rule(rt, alloc, rules[1]);
+    let first = rule(rt, alloc, first);
+    let second = rule(rt, alloc, second);
     let mut tables = SymbolTables::new(alloc);
-    assert!(rt; are_present(rt, alloc, &numbers, &tables, kind, &[]));
+    assert!(rt; are_listed(&present(rt, alloc, &numbers, &tables), kind, &[]));
     add(rt, alloc, &numbers, &mut tables, kind, &first);
     settle(&numbers, &mut tables);
-    assert!(rt; are_present(rt, alloc, &numbers, &tables, kind, kept));
+    assert!(rt; are_listed(&present(rt, alloc, &numbers, &tables), kind, kept));
     assert!(rt; !tables.is_pending() && is_counted(&tables, kind, *once));
     add(rt, alloc, &numbers, &mut tables, kind, &second);
-    assert!(rt; are_changed(rt, alloc, &numbers, &tables, kind, [*added, &[]]));
-    assert!(rt; are_present(rt, alloc, &numbers, &tables, kind, all));
+    let found = changed(rt, alloc, &numbers, &tables);
+    assert!(rt; are_listed(&found.added, kind, added) && are_listed(&found.removed, kind, &[]));
+    assert!(rt; are_listed(&present(rt, alloc, &numbers, &tables), kind, all));
     assert!(rt; is_counted(&tables, kind, *both));
     take(rt, alloc, &numbers, &mut tables, kind, &first);
-    assert!(rt; are_changed(rt, alloc, &numbers, &tables, kind, [*added, *removed]));
-    assert!(rt; tables.is_pending() && is_counted(&tables, kind, *both - *once));
+    let found = changed(rt, alloc, &numbers, &tables);
+    assert!(rt; are_listed(&found.added, kind, added) && are_listed(&found.removed, kind, removed));
+    assert!(rt; tables.is_pending());
     add(rt, alloc, &numbers, &mut tables, kind, &first);
-    assert!(rt; are_changed(rt, alloc, &numbers, &tables, kind, [*added, &[]]));
+    let found = changed(rt, alloc, &numbers, &tables);
+    assert!(rt; are_listed(&found.added, kind, added) && are_listed(&found.removed, kind, &[]));
     tables.undo();
     assert!(rt; !tables.is_pending() && is_counted(&tables, kind, *once));
 }
@@ -264,25 +279,43 @@ fn accesses_of_each_kind(rt: HostRuntime) {
     }
 }
 
+// A rule of each kind, the last kinds first.
 #[test]
 fn kinds_stand_in_their_order(rt: HostRuntime) {
     let alloc = rt.alloc();
     let numbers = numbers(&rt, alloc);
     let mut tables = SymbolTables::new(alloc);
     let rule = rule(&rt, alloc, &[64]);
-    let (allow, never) = (RuleKind::Allow, RuleKind::NeverAllow);
-    let (audit, dont) = (RuleKind::AuditAllow, RuleKind::DontAudit);
-    add(&rt, alloc, &numbers, &mut tables, never, &rule);
-    add(&rt, alloc, &numbers, &mut tables, allow, &rule);
-    let found = accesses(alloc, &tables, &numbers).expect(&rt, "memory");
-    assert!(&rt; found.len() == 2);
-    assert!(&rt; found.get(0) == Some(access(allow, 127)));
-    assert!(&rt; found.get(1) == Some(access(never, 127)));
-    add(&rt, alloc, &numbers, &mut tables, audit, &rule);
-    add(&rt, alloc, &numbers, &mut tables, dont, &rule);
-    let found = changes(alloc, &tables, &numbers).expect(&rt, "memory");
-    assert!(&rt; found.added.len() == 4 && found.removed.len() == 0);
+    add(
+        &rt,
+        alloc,
+        &numbers,
+        &mut tables,
+        RuleKind::NeverAllow,
+        &rule,
+    );
+    add(
+        &rt,
+        alloc,
+        &numbers,
+        &mut tables,
+        RuleKind::AuditAllow,
+        &rule,
+    );
+    add(
+        &rt,
+        alloc,
+        &numbers,
+        &mut tables,
+        RuleKind::DontAudit,
+        &rule,
+    );
+    add(&rt, alloc, &numbers, &mut tables, RuleKind::Allow, &rule);
+    let found = changed(&rt, alloc, &numbers, &tables);
+    let present = present(&rt, alloc, &numbers, &tables);
+    assert!(&rt; found.added.len() == 4 && found.removed.len() == 0 && present.len() == 4);
     for i in 0..KINDS.len() {
-        assert!(&rt; found.added.get(i) == Some(access(KINDS[i], 127)));
+        let want = Some(access(KINDS[i], 127));
+        assert!(&rt; found.added.get(i) == want && present.get(i) == want);
     }
 }

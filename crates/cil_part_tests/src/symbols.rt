@@ -1,7 +1,7 @@
 //! Numbers of names from one small policy to the next.
 
 use crate::policies::policy;
-use cil_symbols::{Kept, Numbering, Symbols};
+use cil_symbols::{Numbering, Symbols};
 use std::alloc::Global;
 use std::process::Abort;
 
@@ -18,10 +18,8 @@ const THIRD: &[u8] = b"(type e)";
 fn assert_names(rt: &impl Abort, symbols: &Symbols, want: &[&[u8]]) {
     assert!(rt; symbols.len() == want.len());
     for n in 0..want.len() {
-        let named = symbols.name(n) == Some(want[n]);
-        assert!(rt; named && symbols.find(want[n]) == Some(n));
+        assert!(rt; symbols.find(want[n]) == Some(n));
     }
-    assert!(rt; symbols.name(want.len()).is_none());
 }
 
 // The symbols of a policy's names.
@@ -51,14 +49,13 @@ fn locals_of(
     all
 }
 
-// Texts of policies that come one behind the other; the names behind the last, the symbols of its names, its number of each symbol, and
-// whether most names are out of use.
+// Texts of policies that come one after the other; the names after the last, the symbols of its names, and its number of each
+// symbol.
 type Numbered<'t> = (
     &'t [&'t [u8]],
     &'t [&'t [u8]],
     &'t [usize],
     &'t [Option<usize>],
-    bool,
 );
 
 const POLICIES: &[Numbered<'static>] = &[
@@ -67,14 +64,12 @@ const POLICIES: &[Numbered<'static>] = &[
         &[b"b", b"d", b"p", b"use"],
         &[0, 1, 2, 3],
         &[Some(0), Some(1), Some(2), Some(3), None],
-        false,
     ),
     (
         &[FIRST, SECOND],
         &[b"b", b"d", b"p", b"use", b"a"],
         &[4, 1, 2, 3],
         &[None, Some(1), Some(2), Some(3), Some(0), None],
-        false,
     ),
     // Numbers stay.
     (
@@ -82,23 +77,20 @@ const POLICIES: &[Numbered<'static>] = &[
         &[b"b", b"d", b"p", b"use", b"a"],
         &[0, 1, 2, 3],
         &[Some(0), Some(1), Some(2), Some(3), None, None],
-        false,
     ),
-    // One name in use: of two it is half, of three it is less.
-    (&[THIRD], &[b"e"], &[0], &[Some(0), None], false),
+    // One name in use.
+    (&[THIRD], &[b"e"], &[0], &[Some(0), None]),
     (
         &[b"(type f)", THIRD],
         &[b"f", b"e"],
         &[1],
         &[None, Some(0), None],
-        false,
     ),
     (
         &[b"(type f)", b"(type g)", THIRD],
         &[b"f", b"g", b"e"],
         &[2],
         &[None, None, Some(0), None],
-        true,
     ),
 ];
 
@@ -116,14 +108,13 @@ fn numbered(rt: &impl Abort, alloc: Global, symbols: &mut Symbols, texts: &[&[u8
 #[test]
 fn numbers_from_policy_to_policy(rt: HostRuntime) {
     let alloc = rt.alloc();
-    for (texts, names, numbers, locals, is_sparse) in POLICIES {
+    for (texts, names, numbers, locals) in POLICIES {
         let mut symbols = Symbols::new(alloc);
         let numbering = numbered(&rt, alloc, &mut symbols, texts);
         assert_names(&rt, &symbols, names);
         assert!(&rt; symbols_of(&rt, alloc, &numbering).as_slice() == *numbers);
         let found = locals_of(&rt, alloc, &numbering, symbols.len());
         assert!(&rt; found.as_slice() == *locals);
-        assert!(&rt; numbering.is_sparse() == *is_sparse);
     }
 }
 
@@ -138,11 +129,4 @@ fn names_by_numbers(rt: HostRuntime) {
     }
     assert_names(&rt, &symbols, &[b"b", b"a", b"c"]);
     assert!(&rt; symbols.find(b"ab").is_none() && symbols.find(b"").is_none());
-    // Names in use are numbered anew.
-    let mut symbols = Symbols::new(alloc);
-    let numbering = numbered(&rt, alloc, &mut symbols, &[FIRST, SECOND]);
-    let kept = Kept::of(alloc, &symbols, &numbering).expect(&rt, "memory");
-    assert_names(&rt, &kept.symbols, &[b"d", b"p", b"use", b"a"]);
-    let numbers = [None, Some(0), Some(1), Some(2), Some(3)];
-    assert!(&rt; kept.numbers.as_slice() == numbers.as_slice());
 }

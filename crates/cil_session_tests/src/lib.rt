@@ -12,8 +12,6 @@ mod sessions;
 #[cfg(test)]
 mod shown;
 #[cfg(test)]
-mod stores;
-#[cfg(test)]
 mod streams;
 #[cfg(test)]
 mod texts;

@@ -61,57 +61,55 @@ fn named<'p>(parsed: &'p ParsedModule, found: Option<(Table, NumberedWord)>) -> 
     Some((table, text_seen(parsed, word)))
 }
 
-// A statement by its place, what it declares, its references and none behind them, and its first permission.
+// A statement by its place, what it declares, its references, and its permissions.
 type Names = (
     usize,
     Named<'static>,
-    [Named<'static>; 4],
-    Option<&'static str>,
+    &'static [Named<'static>],
+    &'static [&'static str],
 );
 
 const NAMES: &[Names] = &[
-    (0, Some((Table::Classes, "f")), [None; 4], Some("read")),
-    (1, Some((Table::Scopes, "b")), [None; 4], None),
-    (2, Some((Table::Types, "t")), [None; 4], None),
+    (0, Some((Table::Classes, "f")), &[], &["read"]),
+    (1, Some((Table::Scopes, "b")), &[], &[]),
+    (2, Some((Table::Types, "t")), &[], &[]),
     (
         4,
         None,
-        [
+        &[
             Some((Table::Types, "b.t")),
             Some((Table::Types, ".b.t")),
             Some((Table::Classes, "f")),
-            None,
         ],
-        Some("read"),
+        &["read"],
     ),
     (
         5,
         None,
-        [
-            Some((Table::Types, "b.t")),
-            Some((Table::Classes, "f")),
-            None,
-            None,
-        ],
-        Some("read"),
+        &[Some((Table::Types, "b.t")), Some((Table::Classes, "f"))],
+        &["read"],
     ),
 ];
+
+// The text of a word of a list.
+fn text_at<'p>(parsed: &'p ParsedModule, words: &[NumberedWord], i: usize) -> Option<&'p str> {
+    Some(text_seen(parsed, *words.get(i)?))
+}
 
 #[test]
 fn names_of_a_parsed_module(rt: HostRuntime) {
     let parsed = parse(rt.alloc(), TEXT).expect(&rt, "a module");
-    for (i, declared, references, permission) in NAMES {
+    for (i, declared, references, permissions) in NAMES {
         assert!(rt; *i < parsed.len());
         let view = parsed.statement(*i);
         assert_eq!(rt; named(&parsed, view.declared()), *declared);
         for k in 0..4 {
             let found = named(&parsed, view.reference(k));
-            assert_eq!(rt; Some(found), references.get(k).copied());
+            assert_eq!(rt; found, references.get(k).copied().unwrap_or(None));
         }
-        let listed = view.permissions();
-        assert_eq!(rt; listed.len(), if permission.is_some() { 1 } else { 0 });
-        let first = listed.first().map(|word| text_seen(&parsed, *word));
-        assert_eq!(rt; first, *permission);
+        assert_eq!(rt; view.permissions().len(), permissions.len());
+        let first = text_at(&parsed, view.permissions(), 0);
+        assert_eq!(rt; first, permissions.first().copied());
     }
 }
 
@@ -147,9 +145,8 @@ fn nodes_of_a_set_expression(rt: HostRuntime) {
     assert!(rt; parsed.len() == 1);
     let view = parsed.statement(0);
     assert_eq!(rt; view.nodes, NODES);
-    for i in 0..4 {
-        let word = view.words.get(i).map(|word| text_seen(&parsed, *word));
-        assert_eq!(rt; word, [Some("s"), Some("a"), Some("b"), None][i]);
+    for (i, want) in [(0, Some("s")), (1, Some("a")), (2, Some("b")), (3, None)] {
+        assert_eq!(rt; text_at(&parsed, view.words, i), want);
     }
 }
 

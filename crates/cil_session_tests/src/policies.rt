@@ -7,15 +7,14 @@ ghost use Rattle.cil_bind.specs.Scope.{AreSpelt};
 ghost use Rattle.cil_bind.specs.Policy.{IsBoundTo};
 ghost use Rattle.cil_resolve.specs.Modules.{AreParsedFrom};
 
-use crate::shown::shown;
-use crate::stores::assert_changes;
+use crate::shown::{shown, shown_if};
 use cil_bind::{Joining, Policy};
 use cil_parse::{ParsedModule, parse};
 use cil_resolve::{
-    ClassView, Element, ElementView, Joined, Meter, NameView, NamedModule, PolicyFault, Resolved,
-    RuleView, SetView, TargetView, join, resolve,
+    ClassView, Element, ElementView, Joined, Meter, NameView, NamedModule, Resolved, RuleView,
+    SetView, TargetView, join, resolve,
 };
-use cil_rules::{Atom, Changes, Table, count};
+use cil_rules::{Atom, Table};
 use cil_sets::Members;
 use cil_stream::MemorySink;
 use cil_tables::Tables;
@@ -57,12 +56,12 @@ fn joined<'m>(
     Ok(Joined { modules })
 }
 
-// The modules n and m, joined, and the names of the joined ones.
-fn names_joined<'m>(
+// The modules n and m.
+fn unsorted<'m>(
     alloc: Global,
     n: &'m ParsedModule,
     m: &'m ParsedModule,
-) -> Result<[Option<&'m str>; 3], AllocError> {
+) -> Result<Joined<'m>, AllocError> {
     let modules = Vec::from_array(
         alloc,
         [
@@ -76,20 +75,17 @@ fn names_joined<'m>(
             },
         ],
     )?;
-    let joined = join(modules);
-    let names = [
-        joined.modules.get(0).map(|it| shown(it.name)),
-        joined.modules.get(1).map(|it| shown(it.name)),
-        joined.modules.get(2).map(|it| shown(it.name)),
-    ];
-    Ok(names)
+    Ok(join(modules))
 }
 
 #[test]
 fn modules_are_joined_in_the_order_of_their_names(rt: HostRuntime) {
     let module = module_of(&rt, rt.alloc(), b"(type b)(type b)");
-    let found = names_joined(rt.alloc(), &module, &module);
-    assert_eq!(rt; found, Ok([Some("m"), Some("n"), None]));
+    let joined = unsorted(rt.alloc(), &module, &module).expect(&rt, "memory");
+    assert_eq!(rt; joined.modules.len(), 2);
+    for (found, want) in joined.modules.iter().zip(["m", "n"]) {
+        assert_eq!(rt; shown(found.name), want);
+    }
 }
 
 // Their policy, where no name is declared again.
@@ -157,27 +153,6 @@ fn references_are_bound(rt: HostRuntime) {
     }
 }
 
-// The module, the offset and the word of the first name that is declared again.
-fn redeclared<'m>(alloc: Global, joined: &Joined<'m>) -> Option<(&'m str, u32, &'m str)>
-    requires { (modules : List Module) × AreSpelt joined.now.modules.items modules }
-{
-    match Policy::of(alloc, joined).ok()? {
-        Joining::Once(_) => None,
-        Joining::Twice(again) => Some((shown(again.module), again.at.offset, shown(again.word))),
-    }
-}
-
-#[test]
-fn a_name_that_is_declared_again(rt: HostRuntime) {
-    let alloc = rt.alloc();
-    let (m, n) = (
-        module_of(&rt, alloc, FIRST),
-        module_of(&rt, alloc, b"(type s)(type t)"),
-    );
-    let joined = joined(alloc, &m, &n).expect(&rt, "memory");
-    assert_eq!(rt; redeclared(alloc, &joined), Some(("n", 14, "t")));
-}
-
 const CLASS_AND_TYPE: &[u8] = b"(class p (use))(type a)";
 
 const RULE: &[u8] = b"(allow a a (p (use)))";
@@ -190,62 +165,6 @@ fn resolved(rt: &impl Abort, alloc: Global, m: &[u8], n: &[u8]) -> Resolved {
     let (m, n) = (module_of(rt, alloc, m), module_of(rt, alloc, n));
     let joined = joined(alloc, &m, &n).expect(rt, "memory");
     resolve(alloc, &joined).expect(rt, "a policy")
-}
-
-// A fault: its code, its module, its offset and its word.
-type Fault<'a> = Option<(u8, &'a str, u32, &'a str)>;
-
-// The first fault of the modules m and n.
-fn first_fault<'m>(alloc: Global, joined: &Joined<'m>) -> Fault<'m>
-    requires { (modules : List Module) × AreParsedFrom joined.now.modules.items modules }
-{
-    match resolve(alloc, joined) {
-        Err(
-            PolicyFault::Found {
-                kind,
-                module,
-                at,
-                word,
-            },
-        ) => Some((kind.code(), shown(module), at.offset, shown(word))),
-        _ => None,
-    }
-}
-
-// The texts of the modules m and n, and their first fault: that of the least code.
-const FAULTS: &[(&[u8], &[u8], Fault<'static>)] = &[
-    (CLASS_AND_TYPE, RULE, None),
-    (CLASS_AND_TYPE, b"(dontaudit a self (p (use)))", None),
-    (
-        CLASS_AND_TYPE,
-        b"(allow a c (p (use)))",
-        Some((42, "n", 9, "c")),
-    ),
-    (
-        CLASS_AND_TYPE,
-        b"(allow a a (p (read)))",
-        Some((42, "n", 15, "read")),
-    ),
-    (
-        CLASS_AND_TYPE,
-        b"(neverallow a self (p (read)))",
-        Some((42, "n", 23, "read")),
-    ),
-    (
-        b"(allow a c (p (use)))",
-        b"(type b)(type b)",
-        Some((41, "n", 14, "b")),
-    ),
-];
-
-#[test]
-fn the_first_fault_of_a_policy(rt: HostRuntime) {
-    let alloc = rt.alloc();
-    for (m, n, want) in FAULTS {
-        let (m, n) = (module_of(&rt, alloc, m), module_of(&rt, alloc, n));
-        let joined = joined(alloc, &m, &n).expect(&rt, "memory");
-        assert_eq!(rt; first_fault(alloc, &joined), *want);
-    }
 }
 
 // The module, the name and the offset of a type or an attribute.
@@ -282,7 +201,7 @@ fn what_a_policy_resolves_to(rt: HostRuntime) {
     assert_eq!(rt; name_seen(policy.attribute_at(0)), None);
     assert_eq!(rt; name_seen(policy.dropped_at(0)), None);
     assert_eq!(rt; class_seen(policy.class_at(0)), Some(("p", 1)));
-    assert_eq!(rt; policy.class_permission(0, 0).map(shown), Some("use"));
+    assert_eq!(rt; shown_if(policy.class_permission(0, 0)), Some("use"));
 }
 
 fn element_seen<'a>(element: ElementView<'a>) -> &'a str {
@@ -314,7 +233,7 @@ fn a_rule_as_resolved(rt: HostRuntime) {
     let policy = resolved(&rt, rt.alloc(), CLASS_AND_TYPE, RULE);
     let want = ("n", RuleKind::Allow, "a", "a", "p", 1);
     assert_eq!(rt; rule_seen(policy.rule_at(0)), Some(want));
-    assert_eq!(rt; policy.rule_permission(0, 0).map(shown), Some("use"));
+    assert_eq!(rt; shown_if(policy.rule_permission(0, 0)), Some("use"));
     // The names are a, p and use, and the rule's are numbers of these.
     let rule = policy.rules().first().expect(&rt, "a rule");
     assert_eq!(rt; (policy.rules().len(), rule.source), (1, Element::Type(0)));
@@ -368,28 +287,6 @@ fn set_statements_are_evaluated_and_counted(rt: HostRuntime) {
     assert_eq!(rt; (reach, same), ([false, true], [true, false]));
 }
 
-// An attribute and a type, and whether the type is its member.
-const MEMBERS: &[(&str, &str, bool)] = &[
-    ("s", "a", true),
-    ("s", "b", false),
-    ("n", "a", false),
-    ("n", "b", true),
-    ("n", "n", false),
-    ("a", "a", false),
-    ("n", "q", false),
-    ("q", "b", false),
-];
-
-#[test]
-fn members_by_names(rt: HostRuntime) {
-    let policy = resolved(&rt, rt.alloc(), SETS, b"(class p (use))");
-    let members = Members::plain(rt.alloc(), &policy).expect(&rt, "memory");
-    for (attribute, ty, want) in MEMBERS {
-        let found = members.has_named(&policy, attribute.as_bytes(), ty.as_bytes());
-        assert_eq!(rt; found, *want);
-    }
-}
-
 const ACCESS: Atom<'static> = Atom {
     kind: RuleKind::Allow,
     source: b"a",
@@ -397,47 +294,6 @@ const ACCESS: Atom<'static> = Atom {
     class: b"p",
     permission: b"use",
 };
-
-// Accesses, and how many rules give them.
-const COUNTS: &[(Atom<'static>, u64)] = &[
-    (ACCESS, 1),
-    (
-        Atom {
-            kind: RuleKind::DontAudit,
-            ..ACCESS
-        },
-        0,
-    ),
-    (
-        Atom {
-            target: b"p",
-            ..ACCESS
-        },
-        0,
-    ),
-    (
-        Atom {
-            class: b"q",
-            ..ACCESS
-        },
-        0,
-    ),
-];
-
-// The counters of a policy.
-fn counters(alloc: Global, policy: &Resolved) -> Result<Tables, AllocError> {
-    let members = Members::plain(alloc, policy)?;
-    Tables::plain(alloc, policy, &members)
-}
-
-#[test]
-fn rules_that_give_an_access(rt: HostRuntime) {
-    let policy = resolved(&rt, rt.alloc(), CLASS_AND_TYPE, RULE);
-    let tables = counters(rt.alloc(), &policy).expect(&rt, "memory");
-    for (access, want) in COUNTS {
-        assert_eq!(rt; count(&tables, &policy, access), *want);
-    }
-}
 
 // The accesses of a rule beside a class and a type.
 fn table(rt: &impl Abort, alloc: Global, rule: &[u8]) -> Table {
@@ -457,15 +313,4 @@ fn the_table_of_a_policy(rt: HostRuntime) {
     let written = table.write_listing(&mut sink);
     assert_eq!(rt; (rows.len(), written), (1, Ok(1)));
     assert_eq!(rt; shown(sink.bytes()), "allow a a:p { use };\n");
-}
-
-#[test]
-fn changes_between_tables(rt: HostRuntime) {
-    let none = Table::empty(rt.alloc());
-    assert_eq!(rt; (none.len(), none.is_empty()), (0, true));
-    let one = table(&rt, rt.alloc(), RULE);
-    let came = Changes::between(rt.alloc(), &none, &one).expect(&rt, "memory");
-    assert_changes(&rt, &came, &[("a", "a", "use")], &[]);
-    let went = Changes::between(rt.alloc(), &one, &none).expect(&rt, "memory");
-    assert_changes(&rt, &went, &[], &[("a", "a", "use")]);
 }

@@ -2,12 +2,12 @@
 
 use crate::shown::shown;
 use crate::streams::{Page, Tape};
-use cil_program::command_line::{answer_session, exit_status};
+use cil_program::command_line::answer_session;
 use cil_program::script::memory::answer_script;
-use cil_program::script::reply;
+use cil_program::script::reply::write_script_line;
 use cil_program::script::session::{SessionFault, Status};
 use cil_resolve::{PolicyFault, PolicyFaultKind};
-use cil_store::{Plain, Refusal, WriteFault};
+use cil_store::{Plain, WriteFault};
 use cil_stream::{MemorySink, ReaderSource, SinkFault, SourceFault, WriterSink};
 use cil_text::{Place, ShownWord, TextFault, TextFaultKind};
 use std::alloc::{AllocError, Global};
@@ -18,21 +18,6 @@ const SCRIPT: &[u8] =
     b"install m 400 72\n(class file (read write))(type a)(type b)(allow a b (file (write read)))\nrules\n";
 
 const ANSWER: &str = "ok 2 0\nallow a b:file { read write };\nend 1\n";
-
-const EACH: &[(Result<Status, SessionFault>, u8)] = &[
-    (Ok(Status::Clean), 0),
-    (Ok(Status::Refused), 1),
-    (Ok(Status::Script), 2),
-    (Err(SessionFault::Read), 3),
-    (Err(SessionFault::Write), 3),
-];
-
-#[test]
-fn the_status_of_each_end(rt: HostRuntime) {
-    for (end, want) in EACH {
-        assert_eq!(rt; exit_status(*end), *want);
-    }
-}
 
 // How many bytes of the script a reader gives, and how many of the answer a writer takes; the status, and what is written.
 const SESSIONS: &[(usize, usize, u8, &str)] = &[
@@ -58,30 +43,18 @@ fn the_status_of_a_session(rt: HostRuntime) {
     }
 }
 
+const ANSWER_AND_LINE: &str =
+    "ok 2 0\nallow a b:file { read write };\nend 1\nscript 18446744073709551616\n";
+
+// A script in memory, and the line of the greatest number behind its answer.
 #[test]
-fn a_script_in_memory(rt: HostRuntime) {
+fn answers_in_memory(rt: HostRuntime) {
     let mut sink = MemorySink::new(rt.alloc());
     let mut engine = Plain::new(rt.alloc());
     let end = answer_script(rt.alloc(), SCRIPT, &mut sink, &mut engine);
-    assert_eq!(rt; (end, shown(sink.bytes())), (Ok(Status::Clean), ANSWER));
-}
-
-const LINES: &str = "end 17\nscript 1\nscript 18446744073709551616\nrefused 31 7\n\
-    refused 60 memory\nrefused 60 memory\n";
-
-#[test]
-fn answers_of_one_line(rt: HostRuntime) {
-    let mut sink = MemorySink::new(rt.alloc());
-    let refusal: Refusal = Refusal::from(AllocError);
-    let written = [
-        reply::write_end(&mut sink, 17),
-        reply::write_script_line(&mut sink, 0),
-        reply::write_script_line(&mut sink, u64::MAX),
-        reply::write_store_refusal(&mut sink, 31, b"7"),
-        reply::write_no_memory(&mut sink),
-        reply::write_refusal(&mut sink, &refusal),
-    ];
-    assert_eq!(rt; (written, shown(sink.bytes())), ([Ok(()); 6], LINES));
+    let written = write_script_line(&mut sink, u64::MAX);
+    assert_eq!(rt; (end, written), (Ok(Status::Clean), Ok(())));
+    assert_eq!(rt; shown(sink.bytes()), ANSWER_AND_LINE);
 }
 
 // How a fault is printed.

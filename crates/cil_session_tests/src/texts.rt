@@ -2,8 +2,7 @@
 
 use crate::shown::shown;
 use cil_text::{
-    Expr, Module, RuleKind, ShownWord, Statement, Target, TextFault, TextFaultKind, Tree,
-    TreeSlice, Word, read, shape,
+    Expr, Module, RuleKind, Statement, Target, TextFault, Tree, TreeSlice, Word, read, shape,
 };
 use std::alloc::Global;
 use std::process::Abort;
@@ -245,45 +244,53 @@ const OF_BLOCK: &[Said<'static>] = &[
 
 const OF_OPTIONAL: &[Said<'static>] = &[("type", (("c", 27), NONE, NONE), (NONE, NONE, NONE))];
 
-// Texts, the places of blocks and optionals within one another, and the statements there.
-const STATEMENTS: &[(&[u8], &[usize], &[Said<'static>])] = &[
-    (FORMS_TEXT, &[], FORMS),
-    (LISTS_TEXT, &[], OF_LISTS),
-    (NESTED_TEXT, &[0], OF_BLOCK),
-    (NESTED_TEXT, &[0, 0], OF_OPTIONAL),
-];
-
-// The statements inside those of such places.
-fn inside<'s, 'a>(all: &'s [Statement<'a>], path: &[usize]) -> Option<&'s [Statement<'a>]> {
-    let mut found = all;
-    for place in path {
-        found = match found.get(*place)? {
-            Statement::Block { body, .. } | Statement::Optional { body, .. } => body.as_slice(),
-            _ => return None,
-        };
+// The statements inside a block or an optional.
+fn body<'s, 'a>(statement: &'s Statement<'a>) -> &'s [Statement<'a>] {
+    match statement {
+        Statement::Block { body, .. } | Statement::Optional { body, .. } => body.as_slice(),
+        _ => &[],
     }
-    Some(found)
 }
+
+// Where a rule begins.
+fn place(statement: &Statement<'_>) -> Option<(u32, u32, u32)> {
+    match statement {
+        Statement::Rule { at, .. } => Some((at.offset, at.line, at.column)),
+        _ => None,
+    }
+}
+
+// Asserts statements by their forms and their names.
+fn assert_statements(rt: &impl Abort, found: &[Statement<'_>], want: &[Said<'_>]) {
+    assert_eq!(rt; found.len(), want.len());
+    for (statement, want) in found.iter().zip(want) {
+        assert_eq!(rt; said(statement), *want);
+    }
+}
+
+// Texts, what their statements are, and where the first of these begins, if it is a rule.
+const TEXTS: &[(&[u8], &[Said<'static>], Option<(u32, u32, u32)>)] = &[
+    (FORMS_TEXT, FORMS, None),
+    (LISTS_TEXT, OF_LISTS, Some((0, 1, 1))),
+];
 
 #[test]
 fn statements_and_their_names(rt: HostRuntime) {
-    for (text, path, want) in STATEMENTS {
+    for (text, want, at) in TEXTS {
         let module = shaped(&rt, rt.alloc(), text).expect(&rt, "a module");
-        let found = inside(module.statements.as_slice(), path).expect(&rt, "statements");
-        assert_eq!(rt; found.len(), want.len());
-        for (statement, want) in found.iter().zip(*want) {
-            assert_eq!(rt; said(statement), *want);
-        }
+        assert_statements(&rt, module.statements.as_slice(), want);
+        let first = module.statements.get(0).expect(&rt, "a statement");
+        assert_eq!(rt; place(first), *at);
     }
 }
 
 #[test]
-fn the_place_of_a_statement(rt: HostRuntime) {
-    let module = shaped(&rt, rt.alloc(), LISTS_TEXT).expect(&rt, "a module");
-    let Some(Statement::Rule { at, .. }) = module.statements.get(0) else {
-        panic!(rt; "no rule");
-    };
-    assert_eq!(rt; (at.offset, at.line, at.column), (0, 1, 1));
+fn statements_within_statements(rt: HostRuntime) {
+    let module = shaped(&rt, rt.alloc(), NESTED_TEXT).expect(&rt, "a module");
+    let block = module.statements.get(0).expect(&rt, "a block");
+    assert_statements(&rt, body(block), OF_BLOCK);
+    let optional = body(block).get(0).expect(&rt, "an optional");
+    assert_statements(&rt, body(optional), OF_OPTIONAL);
 }
 
 // The operator of an expression, and the name that it is.
@@ -314,29 +321,14 @@ fn operand<'e, 'a>(expr: &'e Expr<'a>, i: usize) -> Option<&'e Expr<'a>> {
     }
 }
 
-// The operand of an operand, and so on.
-fn operand_at<'e, 'a>(expr: &'e Expr<'a>, path: &[usize]) -> Option<&'e Expr<'a>> {
-    let mut found = expr;
-    for i in path {
-        found = operand(found, *i)?;
-    }
-    Some(found)
+// An operand of an operand.
+fn under<'e, 'a>(expr: Option<&'e Expr<'a>>, i: usize) -> Option<&'e Expr<'a>> {
+    operand(expr?, i)
 }
 
-// Where an expression stands, and its operator; nothing where there is none.
-const EXPRESSIONS: &[(&[usize], Option<(&str, Name<'static>)>)] = &[
-    (&[], Some(("and", NONE))),
-    (&[0], Some(("or", NONE))),
-    (&[1], Some(("xor", NONE))),
-    (&[0, 0], Some(("name", ("b", 29)))),
-    (&[0, 1], Some(("all", NONE))),
-    (&[1, 0], Some(("not", NONE))),
-    (&[1, 0, 0], Some(("name", ("c", 46)))),
-    (&[1, 1], Some(("union", NONE))),
-    (&[1, 1, 0], Some(("all", NONE))),
-    (&[1, 1, 1], Some(("name", ("d", 56)))),
-    (&[1, 1, 2], None),
-];
+fn told<'a>(expr: Option<&Expr<'a>>) -> Option<(&'static str, Name<'a>)> {
+    Some(operator(expr?))
+}
 
 #[test]
 fn an_expression_with_each_operator(rt: HostRuntime) {
@@ -345,38 +337,21 @@ fn an_expression_with_each_operator(rt: HostRuntime) {
     let Some(Statement::TypeAttributeSet { expr, .. }) = module.statements.get(0) else {
         panic!(rt; "no set statement");
     };
-    for (path, want) in EXPRESSIONS {
-        assert_eq!(rt; operand_at(expr, path).map(operator), *want);
-    }
-}
-
-// A fault: its kind, its place by the offset, the line and the column, and the byte or the word that shows it.
-type Fault<'a> = (TextFaultKind, (u32, u32, u32), u8, &'a str);
-
-fn fault_seen<'a>(fault: TextFault<'a>) -> Option<Fault<'a>> {
-    let TextFault::Found { kind, at, word } = fault else {
-        return None;
-    };
-    let place = (at.offset, at.line, at.column);
-    match word {
-        ShownWord::Byte(byte) => Some((kind, place, byte, "")),
-        ShownWord::Text(text) => Some((kind, place, 0, shown(text))),
-    }
-}
-
-// Texts, and the fault of each.
-const FAULTS: &[(&[u8], Fault<'static>)] = &[
-    (b"\n(\x01)", (TextFaultKind::BadByte, (2, 2, 2), 1, "")),
-    (
-        b"(type all)",
-        (TextFaultKind::Reserved, (6, 1, 7), 0, "all"),
-    ),
-];
-
-#[test]
-fn faults_of_texts(rt: HostRuntime) {
-    for (text, want) in FAULTS {
-        let fault = shaped(&rt, rt.alloc(), text).err().expect(&rt, "a fault");
-        assert_eq!(rt; fault_seen(fault), Some(*want));
-    }
+    let (or, xor) = (operand(expr, 0), operand(expr, 1));
+    let (not, union) = (under(xor, 0), under(xor, 1));
+    assert_eq!(rt; told(Some(expr)), Some(("and", NONE)));
+    assert_eq!(rt;
+        (told(or), told(xor)),
+        (Some(("or", NONE)), Some(("xor", NONE)))
+    );
+    assert_eq!(rt; told(under(or, 0)), Some(("name", ("b", 29))));
+    assert_eq!(rt; told(under(or, 1)), Some(("all", NONE)));
+    assert_eq!(rt;
+        (told(not), told(union)),
+        (Some(("not", NONE)), Some(("union", NONE)))
+    );
+    assert_eq!(rt; told(under(not, 0)), Some(("name", ("c", 46))));
+    assert_eq!(rt; told(under(union, 0)), Some(("all", NONE)));
+    assert_eq!(rt; told(under(union, 1)), Some(("name", ("d", 56))));
+    assert_eq!(rt; told(under(union, 2)), None);
 }

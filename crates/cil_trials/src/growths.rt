@@ -194,7 +194,8 @@ fn write_unrefused(report: &mut MemorySink, outcome: &MemorySink) -> Result<(), 
     Ok(())
 }
 
-/// Refuses each growth in turn, until the case doesn't come to it, and writes the different outcomes.
+/// Refuses each growth in turn, until the case doesn't come to it, and writes the different outcomes. A growth that is refused alone may
+/// be made up for by a smaller one, so an answer as with memory isn't written then.
 fn refuse_in_turn(
     alloc: Global,
     case: &Case<'_>,
@@ -213,7 +214,8 @@ fn refuse_in_turn(
         if !found.is {
             return write_unrefused(report, &found.outcome);
         }
-        if !is_among(outcomes.as_slice(), &found.outcome) {
+        let is_right = is_alone && found.outcome.bytes() == AS_WITH_MEMORY;
+        if !is_right && !is_among(outcomes.as_slice(), &found.outcome) {
             write_all(report, found.outcome.bytes())?;
             outcomes.push(found.outcome)?;
         }
