@@ -1,6 +1,6 @@
 //! What is asked of an engine: the script of a session, a list of calls, or a list of entries at once.
 
-use crate::attempt::attempt;
+use crate::attempt::make_attempt;
 use crate::case::{Case, Way, first_line};
 use crate::engine::{Engine, Heap};
 use crate::fault::Fault;
@@ -154,7 +154,7 @@ pub fn answer<'h>(
     match case.way {
         Way::Session => {
             let mut answer = MemorySink::new(alloc);
-            let tried = attempt(alloc, heap, engine, case.script, limits);
+            let tried = make_attempt(alloc, heap, engine, case.script, limits);
             tried.write_answer(&mut answer)?;
             Ok(answer)
         }

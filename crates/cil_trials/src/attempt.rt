@@ -77,7 +77,7 @@ impl Attempt {
 }
 
 /// Answers a script over devices with limits.
-pub fn attempt<'h>(
+pub fn make_attempt<'h>(
     alloc: Global,
     heap: &'h Heap,
     engine: &mut Engine<'h>,
@@ -102,7 +102,7 @@ pub fn set_up<'h>(
     engine: &mut Engine<'h>,
     case: &Case<'_>,
 ) -> Result<(), Fault> {
-    let made = attempt(alloc, heap, engine, case.before, Limits::none());
+    let made = make_attempt(alloc, heap, engine, case.before, Limits::none());
     match made.end {
         Ok(Status::Clean) | Ok(Status::Refused) => Ok(()),
         _ => Err(Fault::Case),

@@ -1,6 +1,6 @@
 //! Trials over devices with limits, and which trial a case asks for.
 
-use crate::attempt::{attempt, set_up, write_number};
+use crate::attempt::{make_attempt, set_up, write_number};
 use crate::case::{Case, Each, Refusal};
 use crate::dialogue::{hold_dialogue, try_flushes};
 use crate::engine::Engine;
@@ -18,11 +18,11 @@ fn outcome(alloc: Global, case: &Case<'_>, limits: Limits) -> Result<MemorySink,
     let mut engine = Engine::new(case.kind, &heap);
     let mut report = MemorySink::new(alloc);
     set_up(alloc, &heap, &mut engine, case)?;
-    let tried = attempt(alloc, &heap, &mut engine, case.script, limits);
+    let tried = make_attempt(alloc, &heap, &mut engine, case.script, limits);
     tried.write(&mut report, limits)?;
     if !case.then.is_empty() {
         write_all(&mut report, b"then\n")?;
-        let then = attempt(alloc, &heap, &mut engine, case.then, Limits::none());
+        let then = make_attempt(alloc, &heap, &mut engine, case.then, Limits::none());
         then.write_answer(&mut report)?;
     }
     write_all(&mut report, b"state\n")?;
@@ -70,7 +70,7 @@ fn greatest(alloc: Global, case: &Case<'_>, each: Each) -> Result<usize, Fault> 
     let heap = Refusing::new(alloc);
     let mut engine = Engine::new(case.kind, &heap);
     set_up(alloc, &heap, &mut engine, case)?;
-    let tried = attempt(alloc, &heap, &mut engine, case.script, case.limits);
+    let tried = make_attempt(alloc, &heap, &mut engine, case.script, case.limits);
     Ok(tried.written.len())
 }
 
