@@ -294,7 +294,7 @@ fn are_changes(changes: &Changes) -> bool {
         && is_access(changes.added(1), SECOND_COME)
 }
 
-// Statements before an edit and behind it. From b to a and to b, and from a to a and from b to b are four adjustments; the last rule stays
+// Statements before an edit and after it. From b to a and to b, and from a to a and from b to b are four adjustments; the last rule stays
 // as it is. The set statement that goes is evaluated at the type that it names, and the one that comes at its own.
 const FEW_OLD: &[u8] =
     b"(typeattributeset s (a))(allow b s (p (use)))(allow s s (p (use)))(allow a b (p (use)))";
@@ -302,19 +302,37 @@ const FEW_OLD: &[u8] =
 const FEW_NEW: &[u8] =
     b"(typeattributeset s (b))(allow b s (p (use)))(allow s s (p (use)))(allow a b (p (use)))";
 
+// Whether the counters of a policy make a table of two accesses.
+fn has_table(
+    rt: &impl Abort,
+    alloc: Global,
+    counters: &Counters,
+    resolved: &Resolved,
+    accesses: (Named<'static>, Named<'static>),
+) -> bool
+    requires { IsNow resolved.now counters.now }
+{
+    let table = counters.table(alloc, resolved).expect(rt, "memory");
+    is_table(&table, accesses.0, accesses.1)
+}
+
 #[test]
-fn changes_tables_and_work(rt: HostRuntime) {
+fn changes_and_tables(rt: HostRuntime) {
     let alloc = rt.alloc();
     let old = policy(&rt, alloc, &[START, OLD]);
     let new = policy(&rt, alloc, &[START, NEW]);
     let mut counters = counted(&rt, alloc, &old);
     let (changes, _work) = bring(&rt, alloc, &mut counters, &old, &new);
-    assert!(&rt; are_changes(&changes));
-    let table = counters.table(alloc, &new).expect(&rt, "memory");
-    assert!(&rt; is_table(&table, FIRST_COME, SECOND_COME));
+    let is_changed = are_changes(&changes);
+    let is_new = has_table(&rt, alloc, &counters, &new, (FIRST_COME, SECOND_COME));
     take_back(&mut counters, &old);
-    let table = counters.table(alloc, &old).expect(&rt, "memory");
-    assert!(&rt; is_table(&table, FIRST_GONE, SECOND_GONE));
+    let is_old = has_table(&rt, alloc, &counters, &old, (FIRST_GONE, SECOND_GONE));
+    assert!(&rt; is_changed && is_new && is_old);
+}
+
+#[test]
+fn work_of_an_edit(rt: HostRuntime) {
+    let alloc = rt.alloc();
     let old = policy(&rt, alloc, &[START, FEW_OLD]);
     let new = policy(&rt, alloc, &[START, FEW_NEW]);
     let mut counters = counted(&rt, alloc, &old);

@@ -207,13 +207,21 @@ fn steps_of_keyed_lines(rt: HostRuntime) {
         let found = lines.changes(rt.alloc()).expect(&rt, "memory");
         assert!(&rt; listed(&rt, rt.alloc(), &found).as_slice() == *changes);
     }
+}
+
+#[test]
+fn words_of_keyed_lines(rt: HostRuntime) {
     for (steps, n, key, word, want) in WORDS {
         assert!(&rt; *n <= steps.len());
         let lines = lines_of(&rt, rt.alloc(), &steps[..*n]);
         let same = word_of(&lines, *key, *word) == *want;
         assert!(&rt; same);
     }
-    // Keys go by source, then by class, then by permission.
+}
+
+// Keys go by source, then by class, then by permission.
+#[test]
+fn the_order_of_keys(rt: HostRuntime) {
     let keys = [OTHER_READ, READ, WRITE, LATER];
     for i in 1..keys.len() {
         assert!(&rt; keys[i - 1] < keys[i] && keys[i - 1] != keys[i]);

@@ -242,6 +242,38 @@ const CASES: &[Case<'static>] = &[
     (&[63], &[63], &[128], &[128], &[], &[], 1, 2),
 ];
 
+// Whether just the accesses of a kind to targets stand in the tables.
+fn stand(
+    rt: &impl Abort,
+    alloc: Global,
+    numbers: &[u32],
+    tables: &SymbolTables,
+    kind: RuleKind,
+    targets: &[u32],
+) -> bool
+    requires { AreNumbered numbers.now tables.now }
+{
+    let found = present(rt, alloc, numbers, tables);
+    are_listed(&found, kind, targets)
+}
+
+// Whether just the accesses of a kind to targets appeared, and went.
+fn turned(
+    rt: &impl Abort,
+    alloc: Global,
+    numbers: &[u32],
+    tables: &SymbolTables,
+    kind: RuleKind,
+    targets: (&[u32], &[u32]),
+) -> bool
+    requires { AreNumbered numbers.now tables.now }
+{
+    let found = changed(rt, alloc, numbers, tables);
+    let are_added = are_listed(&found.added, kind, targets.0);
+    let are_removed = are_listed(&found.removed, kind, targets.1);
+    are_added && are_removed
+}
+
 // The second rule comes, the first goes, comes back, and all is taken back.
 fn assert_case(rt: &impl Abort, alloc: Global, kind: RuleKind, case: &Case<'_>) {
     let (first, second, kept, all, added, removed, once, both) = case;
@@ -249,25 +281,24 @@ fn assert_case(rt: &impl Abort, alloc: Global, kind: RuleKind, case: &Case<'_>) 
     let first = rule(rt, alloc, first);
     let second = rule(rt, alloc, second);
     let mut tables = SymbolTables::new(alloc);
-    assert!(rt; are_listed(&present(rt, alloc, &numbers, &tables), kind, &[]));
+    let none = stand(rt, alloc, &numbers, &tables, kind, &[]);
     add(rt, alloc, &numbers, &mut tables, kind, &first);
     settle(&numbers, &mut tables);
-    assert!(rt; are_listed(&present(rt, alloc, &numbers, &tables), kind, kept));
-    assert!(rt; !tables.is_pending() && is_counted(&tables, kind, *once));
+    let one = stand(rt, alloc, &numbers, &tables, kind, kept);
+    let is_kept = !tables.is_pending() && is_counted(&tables, kind, *once);
     add(rt, alloc, &numbers, &mut tables, kind, &second);
-    let found = changed(rt, alloc, &numbers, &tables);
-    assert!(rt; are_listed(&found.added, kind, added) && are_listed(&found.removed, kind, &[]));
-    assert!(rt; are_listed(&present(rt, alloc, &numbers, &tables), kind, all));
-    assert!(rt; is_counted(&tables, kind, *both));
+    let came = turned(rt, alloc, &numbers, &tables, kind, (added, &[]));
+    let two = stand(rt, alloc, &numbers, &tables, kind, all);
+    let are_counted = is_counted(&tables, kind, *both);
     take(rt, alloc, &numbers, &mut tables, kind, &first);
-    let found = changed(rt, alloc, &numbers, &tables);
-    assert!(rt; are_listed(&found.added, kind, added) && are_listed(&found.removed, kind, removed));
-    assert!(rt; tables.is_pending());
+    let went = turned(rt, alloc, &numbers, &tables, kind, (added, removed));
+    let is_pending = tables.is_pending();
     add(rt, alloc, &numbers, &mut tables, kind, &first);
-    let found = changed(rt, alloc, &numbers, &tables);
-    assert!(rt; are_listed(&found.added, kind, added) && are_listed(&found.removed, kind, &[]));
+    let back = turned(rt, alloc, &numbers, &tables, kind, (added, &[]));
     tables.undo();
-    assert!(rt; !tables.is_pending() && is_counted(&tables, kind, *once));
+    let is_undone = !tables.is_pending() && is_counted(&tables, kind, *once);
+    assert!(rt; none && one && is_kept && came);
+    assert!(rt; two && are_counted && went && is_pending && back && is_undone);
 }
 
 #[test]
