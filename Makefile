@@ -20,23 +20,24 @@ try:
 test:
 	rt ci
 	examples/check.sh
-	scripts/check.sh
+	scripts/check.py
 
 # Has the program that `make run` or `make test` built answer the examples, and compares what it prints.
 examples:
 	examples/check.sh
 
-# Has the programs that `make test` built, one for each engine, answer the scripts, and compares what they print.
+# Has the programs that `make test` built answer the scripts and make the trials, with both engines, and compares what they print.
 scripts:
-	scripts/check.sh
+	scripts/check.py
 
 # Has the programs that `make test` built, one for each engine, answer 2000 random scripts, and compares what they print.
 engines:
 	bench/engines.sh
 
-# Tries the wrong bodies of bench/wrong_bodies one by one; it takes some hours.
+# Tries the wrong bodies of bench/wrong_bodies one by one, over what `rt check` kept; all of them take some hours, and those of one
+# crate, as `make wrong-bodies CRATE=cil_text`, minutes.
 wrong-bodies:
-	bench/wrong_bodies.sh
+	bench/wrong_bodies.py $(CRATE)
 
 # Installs the program that `make run` built, its manual page and its completions.
 install:

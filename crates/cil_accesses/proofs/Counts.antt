@@ -42,14 +42,6 @@ pub ones-of_bits : (c : Chunk) → c.bits < 2 ^ 64 → ones_of c ≡ count_ones 
 unfolding ones_of
 ones-of_bits c fits = set_from-ones 64 c.bits fits
 
-set_from-le : (n b m : ℕ) → set_from n b m ≤ n
-set_from-le zero b m = omega arith
-set_from-le (suc n) b m = let rest = set_from-le n (b + 1) m in let bit = bit_at-lt m b in omega (arith, rest, bit)
-
-pub ones_of-le : (c : Chunk) → ones_of c ≤ 64
-unfolding ones_of
-ones_of-le c = set_from-le 64 0 c.bits
-
 -- the accesses of a run to the target of a bit are as many as the chunks that have it
 length-filter : (b : ℕ) (run : List Chunk) → length (filter (has_bit b) run) ≡ sum_by (λ c. bit_at c.bits b) run
 length-filter b [] = refl

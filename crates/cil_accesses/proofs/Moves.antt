@@ -1,5 +1,5 @@
 -- From place to place among the rows.
-use Rattle.std.proofs.Common.{◌≡◌, ◌⊎◌, inl, inr, ◌==◌, bit_or, get_or, false, cond, ℕ, ◌+◌, ◌^◌, ◌<◌, ◌≤◌, not, List, [], ◌∷◌, ◌++◌, length, take, drop, map, slice_get, Some, refl, sym, ap, ◌∙◌, subst, arith, append_assoc, Contains, Bor}
+use Rattle.std.proofs.Common.{◌≡◌, ◌⊎◌, inl, inr, ◌==◌, bit_or, get_or, false, cond, ℕ, ◌+◌, ◌^◌, ◌<◌, ◌≤◌, not, List, [], ◌∷◌, ◌++◌, length, take, drop, map, slice_get, Some, sym, ap, ◌∙◌, subst, arith, append_assoc, Contains, Bor}
 use Rattle.std.specs.List.{All, prefix_len}
 use Rattle.std.specs.List.Sorted.{IsStrictlySortedBy}
 use Rattle.std.specs.Int.{bit_at}
@@ -62,9 +62,6 @@ row-is p left chunks a at first next is = record {
 }
 
 -- the bits of chunks
-pub bits-none : HasBitsOf 0 []
-bits-none b none = refl
-
 pub bits-more : (run : List Chunk) (i bits : ℕ) (d : Chunk) → i < length run → HasBitsOf bits (take i run) → HasBitsOf (bit_or bits (get_or run i d).bits) (take (i + 1) run)
 bits-more run i bits d within so_far b none =
     let c : Chunk = get_or run i d in

@@ -72,9 +72,6 @@ module _ (numbers : List ℕ) (c : Chunk) where
   none-added : (old : List Chunk) (a : AccessNumbers) → IsGiven old a ↔ (IsGiven old a ⊎ IsRenumbered numbers c 0 a)
   none-added old a = (λ given. inl given, λ h. elim h [ inl given ↦ given | inr r ↦ let within = r.within in absurd (omega (arith, within)) ])
 
-  pub nothing-added : (old : List Chunk) → NoBitFrom c 0 → (a : AccessNumbers) → IsGiven old a ↔ (IsGiven old a ⊎ IsRenumbered numbers c 64 a)
-  nothing-added old none = bits-passed 0 64 old old (omega arith) none (none-added old)
-
   next-added : (from bit : ℕ) (old mid new : List Chunk) → IsNextBit c from bit → ((a : AccessNumbers) → IsGiven mid a ↔ (IsGiven old a ⊎ IsRenumbered numbers c from a))
       → ((a : AccessNumbers) → IsGiven new a ↔ (IsGiven mid a ⊎ IsRenumberedAt numbers c bit a)) → (a : AccessNumbers) → IsGiven new a ↔ (IsGiven old a ⊎ IsRenumbered numbers c (bit + 1) a)
   next-added from bit old mid new next so_far more = bit-added numbers c bit old mid new (bits-passed from bit old mid next.from_on next.first so_far) more

@@ -12,11 +12,8 @@ use Rattle.cil_accesses.specs.Chunks.{run_cmp, chunk_cmp}
 use Rattle.cil_accesses.specs.Groups.{IsFirstGroup}
 use Rattle.cil_accesses.specs.View.{in_run, run_accesses, accesses_of}
 use Rattle.cil_accesses.proofs.Order.{run_total, run_exact, InOneRun}
-use Rattle.cil_accesses.proofs.GroupLemmas.{alike-own, first-group, groups-parts, prefix-ends, prefix-passes}
+use Rattle.cil_accesses.proofs.GroupLemmas.{first-group, groups-parts, prefix-ends, prefix-passes}
 use Rattle.cil_accesses.proofs.Lists.{contains-none, sorted-left, sorted-right, sorted-first}
-
-pub in_own_run : (c : Chunk) → in_run c c ≡ true
-in_own_run c = alike-own run_total c
 
 -- there is a first run
 pub first-run : (c : Chunk) (cs : List Chunk) → IsFirstGroup in_run (c ∷ cs) c (c ∷ take (prefix_len (in_run c) cs) cs) (drop (prefix_len (in_run c) cs) cs)

@@ -1,8 +1,9 @@
 //! A joined policy whose references are bound.
 
-ghost use Rattle.std.specs.Prelude.{◌≡◌, ◌<◌, ◌^◌, ℕ, IfOk, List, false, filter, length, slice_index_or};
+ghost use Rattle.std.specs.Prelude.{◌≡◌, ◌<◌, ◌^◌, ℕ, IfOk, OnOk, List, false, filter, length, slice_index_or};
 ghost use Rattle.std.specs.List.{list_all};
 ghost use Rattle.cil_specs.specs.Joined.{Placed, Module, joined as joined_policy};
+ghost use Rattle.cil_bind.specs.Binding.{places_from};
 ghost use Rattle.cil_bind.specs.Scope.{AreSpelt, AreFrom, StandsFor};
 ghost use Rattle.cil_bind.specs.Lookup.{HaveDeclared};
 ghost use Rattle.cil_bind.specs.Rows.{IsOnce};
@@ -80,40 +81,53 @@ impl<'m, A: Allocator + Copy> Policy<'m, A> {
         if are_kept(self.rows.as_slice(), kept) {
             return Ok(self);
         }
+        let mut policy = self;
+        policy.leave_out(alloc, joined, kept)?;
+        Ok(policy)
+    }
+
+    /// Leaves out the statements whose innermost optional isn't marked.
+    fn leave_out(
+        &mut self,
+        alloc: A,
+        joined: &Joined<'m, A>,
+        kept: &[bool],
+    ) -> Result<(), AllocError>
+        requires { (policy : List Placed) × IsBoundTo self.old joined.now.modules.items policy }
+        ensures { OnOk result ((policy : List Placed) (set : Optionals) → IsBoundTo self.old joined.now.modules.items policy → AreApart policy
+            → AreMarked set kept.now self.old.rows.items policy → IsBoundTo self.new joined.now.modules.items (restricted set policy)) }
+    {
         let places = places_of(alloc, self.rows.as_slice(), kept)?;
-        let Policy {
-            names,
-            words,
-            lookup,
-            rows,
-            bound,
-            kinds,
-        } = self;
-        let mut rows = rows;
-        retain_kept(&mut rows, kept);
-        let declarations = Declarations::of_once(alloc, rows.as_slice())?;
-        let lookup = Lookup {
-            namespaces: lookup.namespaces,
-            declared: declarations.first,
-        };
-        let bound = rebind(
+        self.move_kept(alloc, joined, kept, places.as_slice())
+    }
+
+    /// The same with the new places of the statements that are kept.
+    fn move_kept(
+        &mut self,
+        alloc: A,
+        joined: &Joined<'m, A>,
+        kept: &[bool],
+        places: &[Option<u32>],
+    ) -> Result<(), AllocError>
+        requires bound { (policy : List Placed) × IsBoundTo self.old joined.now.modules.items policy }
+        requires places { places.now ≡ places_from (λ row. slice_index_or kept.now row.optional false) 0 self.old.rows.items }
+        ensures { OnOk result ((policy : List Placed) (set : Optionals) → IsBoundTo self.old joined.now.modules.items policy → AreApart policy
+            → AreMarked set kept.now self.old.rows.items policy → IsBoundTo self.new joined.now.modules.items (restricted set policy)) }
+    {
+        retain_kept(&mut self.rows, kept);
+        let declarations = Declarations::of_once(alloc, self.rows.as_slice())?;
+        self.lookup.declared = declarations.first;
+        self.bound = rebind(
             alloc,
-            &lookup,
+            &self.lookup,
             joined,
-            words.as_slice(),
-            rows.as_slice(),
-            &bound,
-            places.as_slice(),
+            self.words.as_slice(),
+            self.rows.as_slice(),
+            &self.bound,
+            places,
         )?;
-        let kinds = kept_kinds(alloc, kinds.as_slice(), places.as_slice())?;
-        Ok(Policy {
-            names,
-            words,
-            lookup,
-            rows,
-            bound,
-            kinds,
-        })
+        self.kinds = kept_kinds(alloc, self.kinds.as_slice(), places)?;
+        Ok(())
     }
 
     /// The policy of rows that declare each name once.

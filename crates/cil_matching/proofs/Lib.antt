@@ -2,7 +2,6 @@ pub mod SpotLemmas
 pub mod InverseLemmas
 pub mod MatchedLemmas
 pub mod ApartLemmas
-pub mod RuleLemmas
 pub mod MergedLemmas
 pub mod NumberLemmas
 pub mod ContentLemmas

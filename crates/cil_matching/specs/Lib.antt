@@ -1,6 +1,5 @@
 pub mod Matching
 pub mod Spot
-pub mod Same
 pub mod Inverse
 pub mod Merged
 pub mod Content

@@ -7,9 +7,7 @@ mod positions;
 mod rule_matching;
 mod rule_places;
 mod same_content;
-mod same_rule;
 mod set_matching;
 
 pub use rule_matching::RuleMatching;
-pub use same_rule::is_same_rule;
 pub use set_matching::SetMatching;

@@ -1,5 +1,5 @@
 -- What is said by symbols, when more symbols come.
-use Rattle.std.proofs.Common.{◌≡◌, ◌+◌, ◌*◌, ◌≤◌, ◌&&◌, ℕ, zero, suc, Bool, true, false, List, [], ◌∷◌, ◌++◌, length, map, Option, Some, Contains, bytes_eq, cond, count_by, get_or, slice_get, refl, sym, ap, ◌∙◌, inl, inr, arith}
+use Rattle.std.proofs.Common.{◌≡◌, ◌+◌, ◌≤◌, ◌&&◌, ℕ, zero, suc, Bool, true, false, List, [], ◌∷◌, ◌++◌, length, map, Option, Some, Contains, bytes_eq, cond, count_by, get_or, slice_get, refl, sym, ap, ◌∙◌, inl, inr, arith}
 use Rattle.std.specs.List.{IsDistinct}
 use Rattle.std.proofs.lemmas.Bool.{and_parts, cases_lt}
 use Rattle.std.proofs.lemmas.List.Sums.{sum_by-cons}
@@ -10,10 +10,8 @@ use Rattle.cil_specs.specs.Meaning.{Meaning, is_in, keeps_type}
 use Rattle.cil_specs.specs.Rule.{SetStatement}
 use Rattle.cil_specs.specs.Sets.{holds_with}
 use Rattle.cil_specs.proofs.NamesLemmas.{contains-first, contains-other}
-use Rattle.cil_sets.specs.Counts.{one_if}
 use Rattle.cil_parse.specs.Lexicon.{AreNumbersOf}
-use Rattle.cil_member_updates.specs.Bits.{AreBits}
-use Rattle.cil_member_updates.specs.Given.{of_name, keeps, holds, is_of, gives}
+use Rattle.cil_member_updates.specs.Given.{of_name, holds, is_of, gives}
 use Rattle.cil_member_updates.proofs.NameLemmas.{same-symbol, fails-by}
 use Rattle.cil_member_updates.proofs.SymbolLemmas.{symbol-of}
 
@@ -64,13 +62,6 @@ module _ (symbols more : List (List ℕ)) (distinct : IsDistinct bytes_eq (symbo
           absurd (omega (arith, first, past, one))
 
   module _ (meaning : Meaning) (types : (name : List ℕ) → keeps_type meaning name ≡ true → has_name names name ≡ true) where
-    pub keeps-more : (t : ℕ) → keeps (symbols ++ more) meaning t ≡ keeps symbols meaning t
-    unfolding keeps
-    keeps-more t = test-more (keeps_type meaning) types t
-
-    pub bits-more : (w bits : ℕ) → AreBits (keeps symbols meaning) w bits → AreBits (keeps (symbols ++ more) meaning) w bits
-    bits-more w bits are_bits b within = are_bits b within ∙ ap one_if (sym (keeps-more (64 * w + b)))
-
     pub holds-more : (s : SetStatement) (t : ℕ) → holds (symbols ++ more) meaning s t ≡ holds symbols meaning s t
     unfolding holds
     holds-more s t = test-more (is_in meaning s.expr) (λ name is. types name (kept name is)) t

@@ -2,7 +2,6 @@
 #![tactic(auto)]
 
 mod kept;
-mod laws;
 mod masks;
 mod passes;
 mod sets;
@@ -12,6 +11,5 @@ mod when;
 mod words;
 
 pub use kept::KeptTypes;
-pub use laws::{counts_stay, sides_stay};
 pub use passes::update;
 pub use side::Side;

@@ -1,6 +1,2 @@
-pub mod Input
-pub mod Command
-pub mod Dump
-pub mod Session
 pub mod CommandLine
 pub mod Program

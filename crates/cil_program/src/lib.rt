@@ -1,5 +1,6 @@
-//! The session that answers a script, and the command line that asks for it.
+//! The command line: its words, the session or the files that they ask for, and exit statuses.
 #![tactic(auto)]
 
 pub mod command_line;
-pub mod script;
+
+pub use cil_session as script;

@@ -1,14 +1,13 @@
 //! Calls of an engine, and their replies.
 
-use crate::refusal::Refusal;
-use crate::{dropped, edit};
+use cil_modules::Refusal;
 use cil_resolve::Text;
 use std::alloc::{Allocator, Global};
 
 /// A call of an engine: an edit of its store, or a question.
 #[derive(Clone, Copy, Debug)]
 pub enum Call<'a> {
-    Edit(edit::Edit<'a>),
+    Edit(cil_modules::Edit<'a>),
     /// Which accesses are allowed, by rows.
     Rows,
     /// The lines of these rows.
@@ -27,6 +26,6 @@ pub enum Reply<A: Allocator = Global> {
     Rows(cil_rules::Rows<A>),
     Listing(Text<A>),
     Violations(cil_violations::Violations<A>),
-    Dropped(dropped::Dropped<A>),
+    Dropped(cil_modules::Dropped<A>),
     Refused(Refusal<A>),
 }

@@ -1,39 +1,18 @@
-//! The store: edits, refusals, and the engines that keep a store compiled.
+//! The engines that keep a store compiled, runs of calls, and the laws of stores.
 #![tactic(auto)]
 
-mod admitted;
 mod call;
-mod compiled;
 mod counted_policy;
 mod delta;
-mod disabled;
-mod dropped;
-mod edit;
-mod entries;
-mod entry;
-mod install;
-mod join;
-mod laws;
-mod modules;
+pub mod laws;
 mod plain;
 mod policy;
-mod ready;
-mod refusal;
-mod refusing;
-mod resolving;
 mod runs;
 
 pub use call::{Call, Reply};
-pub use compiled::{Compiled, WriteFault};
-pub use delta::Delta;
-pub use dropped::Dropped;
-pub use edit::Edit;
-pub use entry::Entry;
-pub use laws::{
-    no_meaning_beside_a_refusal, one_judgement, one_meaning, one_policy_refusal, one_run,
-    policies_are_apart, stores_are_in_order, stores_mean_something,
+pub use cil_modules::{
+    Compiled, Dropped, Edit, Entry, FaultKind, Refusal, State, Store, StoreFault, WriteFault,
 };
-pub use modules::{State, Store};
+pub use delta::Delta;
 pub use plain::Plain;
-pub use refusal::{FaultKind, Refusal, StoreFault};
 pub use runs::run;

@@ -1,17 +1,16 @@
 -- Lists of numbers, and the places of each.
-use Rattle.std.proofs.Common.{◌≡◌, ℕ, zero, suc, ◌+◌, ◌-◌, ◌<◌, ◌≤◌, inl, inr, Bool, true, false, true≢false, not, ◌||◌, nat_eq, ◌↔◌, List, [], ◌∷◌, ◌++◌, length, take, drop, set, replicate, get_or, cond, slice_get, Option, None, Some, refl, sym, ap, subst, ◌∙◌, arith, eq-eqb}
-use Rattle.std.specs.List.{count_by, list_any, range_with_len}
+use Rattle.std.proofs.Common.{◌≡◌, ℕ, zero, suc, ◌+◌, ◌<◌, ◌≤◌, inl, inr, List, [], ◌∷◌, ◌++◌, length, take, drop, set, replicate, get_or, cond, slice_get, Option, None, Some, refl, sym, ap, subst, ◌∙◌, arith}
+use Rattle.std.specs.List.{count_by}
 use Rattle.std.specs.Option.{is_none}
-use Rattle.std.proofs.lemmas.Bool.{cases_eq, eqb-true}
+use Rattle.std.proofs.lemmas.Bool.{cases_eq}
 use Rattle.std.proofs.lemmas.List.{length-replicate, length-set, length-append, get_or-replicate, take-append-drop, take_all}
-use Rattle.std.proofs.lemmas.List.Folds.{list_any_at}
 use Rattle.std.proofs.lemmas.List.Sums.{sum_by-cons, sum_by-set}
 use Rattle.std.proofs.lemmas.Option.{slice_get_within, slice_get-get_or, get_or_from_slice_get, same_Some}
 use Rattle.cil_check.proofs.PositionLemmas.{get-append, get-last}
 use Rattle.cil_optionals.proofs.DependentLemmas.{got-push}
 use Rattle.cil_optionals.proofs.ListLemmas.{get-set_same, get-set_other}
 use Rattle.cil_bind.proofs.PositionLemmas.{take-last, take-length}
-use Rattle.cil_symbols.specs.Numbered.{Numbered, AreApart, AreInverse, IsSparse, is_used, unused}
+use Rattle.cil_symbols.specs.Numbered.{AreApart, AreInverse}
 
 count-none : (n : ℕ) → count_by is_none (replicate {A = Option ℕ} n None) ≡ n
 count-none zero = refl
@@ -109,45 +108,3 @@ only-none P never (Some x) is = absurd (never x is)
 pub apart-by : (symbols : List ℕ) (locals : List (Option ℕ)) → AreInverse symbols locals → AreApart symbols
 apart-by symbols locals inverse j k s first second =
     same_Some j k (same_Some (Some j) (Some k) (sym (inverse.forth j s first) ∙ inverse.forth k s second))
-
--- As many symbols have no number as are not listed.
-count-by-places : (q : ℕ → Bool) (a : ℕ) (ls : List (Option ℕ)) → ((s t : ℕ) (l : Option ℕ) → slice_get ls s ≡ Some l → t ≡ a + s → is_none l ≡ q t) → count_by is_none ls ≡ count_by q (range_with_len a (length ls))
-count-by-places q a [] same = refl
-count-by-places q a (l ∷ ls) same =
-    let rest = count-by-places q (a + 1) ls (λ s t k at is. same (suc s) t k at (omega (arith, is))) in
-    sum_by-cons (λ k. cond (is_none k) 1 0) l ls ∙ ap (λ b. cond b 1 0 + count_by is_none ls) (same 0 a l refl (omega arith))
-    ∙ ap (λ n. cond (q a) 1 0 + n) rest ∙ sym (sum_by-cons (λ k. cond (q k) 1 0) a (range_with_len (a + 1) (length ls)))
-
--- what is listed stands somewhere
-pub any-stands : (s : ℕ) (xs : List ℕ) → list_any (nat_eq s) xs ≡ true → (k : ℕ) × (slice_get xs k ≡ Some s)
-any-stands s [] e = absurd (true≢false (sym e))
-any-stands s (x ∷ xs) e = by (nat_eq s x) refl (λ b is. sym (ap (λ c. c || list_any (nat_eq s) xs) is) ∙ e) (any-stands s xs)
-  where
-    by : (b : Bool) → nat_eq s x ≡ b → ((c : Bool) → nat_eq s x ≡ c → (c || list_any (nat_eq s) xs) ≡ true) → (list_any (nat_eq s) xs ≡ true → (k : ℕ) × (slice_get xs k ≡ Some s)) → (k : ℕ) × (slice_get (x ∷ xs) k ≡ Some s)
-    by true is found more = (0, ap Some (sym (eqb-true s x is)))
-    by false is found more = let (k, at) = more (found false is) in (suc k, at)
-
--- and what stands somewhere is listed
-pub listed : (symbols : List ℕ) (t k : ℕ) → slice_get symbols k ≡ Some t → list_any (nat_eq t) symbols ≡ true
-listed symbols t k at = list_any_at (nat_eq t) symbols k t (slice_get_within symbols k t at) (eq-eqb t (get_or symbols k t) (sym (get_or_from_slice_get symbols k t t at)))
-
-pub unused-none : (symbols : List ℕ) (locals : List (Option ℕ)) → AreInverse symbols locals → count_by is_none locals ≡ unused (record { symbols = symbols; count = length locals })
-unused-none symbols locals inverse = count-by-places (λ s. not (is_used n s)) 0 locals (λ s t l at is. let here : t ≡ s = omega (arith, is) in same t l (ap (slice_get locals) here ∙ at))
-  where
-    n : Numbered
-    n = record { symbols = symbols; count = length locals }
-
-    same : (t : ℕ) (l : Option ℕ) → slice_get locals t ≡ Some l → is_none l ≡ not (is_used n t)
-    same t None at = by (is_used n t) refl
-      where
-        by : (b : Bool) → is_used n t ≡ b → true ≡ not (is_used n t)
-        by false e = ap not (sym e)
-        by true e = let (k, found) = any-stands t symbols e in absurd (cc (inverse.forth k t found))
-    same t (Some k) at = ap not (sym (listed symbols t k (inverse.back t k at)))
-
--- So more than half of them have none where those are more than are listed.
-pub sparse-by : (symbols : List ℕ) (locals : List (Option ℕ)) → AreInverse symbols locals → (length symbols < length locals - length symbols) ↔ IsSparse (record { symbols = symbols; count = length locals })
-sparse-by symbols locals inverse =
-    let all = inverse.others in
-    let none = unused-none symbols locals inverse in
-    (λ more. omega (arith, all, none, more), λ sparse. omega (arith, all, none, sparse))

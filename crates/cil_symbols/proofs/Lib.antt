@@ -1,4 +1,3 @@
 pub mod NameLemmas
 pub mod InverseLemmas
 pub mod NumberLemmas
-pub mod KeptLemmas

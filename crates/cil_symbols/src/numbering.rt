@@ -1,9 +1,9 @@
 //! The symbols of a policy's names.
 
-ghost use Rattle.std.specs.Prelude.{◌≡◌, ◌++◌, ◌↔◌, ◌<◌, ℕ, List, fold, length, slice_get, Some, IfOk, IfSome, IsTrue, OnOk};
+ghost use Rattle.std.specs.Prelude.{◌≡◌, ◌++◌, ◌↔◌, ◌<◌, ℕ, List, fold, length, slice_get, Some, IfOk, IfSome, OnOk};
 ghost use Rattle.cil_specs.specs.Lookup.{with_name};
 ghost use Rattle.cil_parse.specs.Lexicon.{AreNumbersOf};
-ghost use Rattle.cil_symbols.specs.Numbered.{AreApart, IsSparse};
+ghost use Rattle.cil_symbols.specs.Numbered.{AreApart};
 
 use crate::symbols::Symbols;
 use cil_resolve::Resolved;
@@ -105,12 +105,5 @@ impl<A: Allocator> Numbering<A> {
             Some(local) => *local,
             None => None,
         }
-    }
-
-    /// Whether the policy has no name for more than half of the symbols, so that it is time to number them anew.
-    pub fn is_sparse(&self) -> bool
-        ensures { IsTrue result ↔ IsSparse self.now }
-    {
-        self.symbols.len() < self.locals.len() - self.symbols.len()
     }
 }

@@ -1,6 +1,6 @@
 //! Distinct names by numbers that stay.
 
-ghost use Rattle.std.specs.Prelude.{◌≡◌, [], bytes_eq, length, option_map, position, slice_get, Some, IfOk, OnErr, OnOk};
+ghost use Rattle.std.specs.Prelude.{◌≡◌, [], bytes_eq, length, position, slice_get, Some, IfOk, OnErr, OnOk};
 ghost use Rattle.std.specs.List.{IsDistinct};
 ghost use Rattle.cil_specs.specs.Lookup.{with_name};
 
@@ -58,14 +58,6 @@ impl<A: Allocator> Symbols<A> {
         ensures distinct { IsDistinct bytes_eq self.now }
     {
         self.names.len()
-    }
-
-    /// The name of a number.
-    pub fn name(&self, n: usize) -> Option<&[u8]>
-        ensures { option_map (λ name. name.now) result ≡ slice_get self.now n }
-    {
-        let name = self.names.get_index(n)?;
-        Some(name.as_slice())
     }
 
     /// The number of a name, if it has one. It takes no memory.

@@ -1,19 +1,6 @@
-use Rattle.std.proofs.Common.{◌<◌, ◌^◌, length, sym, ap, ◌∙◌, subst}
-use Rattle.std.proofs.lemmas.List.{length-map}
-use Rattle.cil_parse.specs.Forms.{kind_of}
-use Rattle.cil_specs.specs.Kept.{is_within, restricted}
-use Rattle.cil_specs.proofs.OnceLemmas.{once-filtered}
-use Rattle.cil_bind.specs.Binding.{places_from}
-use Rattle.cil_bind.specs.Lookup.{Knows}
+use Rattle.std.proofs.Common.{sym, ◌∙◌, subst}
 use Rattle.cil_bind.specs.Policy.{IsBoundTo}
-use Rattle.cil_bind.specs.Rows.{AreRows}
-use Rattle.cil_bind.specs.Scope.{AreFrom}
-use Rattle.cil_bind.specs.Words.{AreWorded}
-use Rattle.cil_bind.proofs.BindingLemmas.{bound-length}
-use Rattle.cil_bind.proofs.DeclareLemmas.{rows-length}
-use Rattle.cil_bind.proofs.MoveLemmas.{places-long}
-use Rattle.cil_bind.proofs.RestrictLemmas.{mark, from-some, from-kept, stands-kept, few-kept, all-restricted, places-marked}
-use Rattle.cil_bind.proofs.WordLemmas.{stands-opened}
+use Rattle.cil_bind.proofs.RestrictLemmas.{all-restricted}
 use Rattle.cil_bind.proofs.policy.Policy.restrict.Goals as goal
 
 pub returns-then-are_kept : goal.returns-then-are_kept
@@ -21,61 +8,3 @@ returns-then-are_kept g c = λ policy set is apart marked.
     let self = c.args.self in
     subst (IsBoundTo self c.args.joined.now.modules.items)
     (sym (all-restricted set c.args.kept.now self.rows.items c.as_slice.result.now policy c.as_slice.ensures.value (sym c.are_kept.ensures ∙ c.if-are_kept.true) marked)) is
-
-pub places_of-requires : goal.places_of-requires
-places_of-requires g c = subst (λ rows. length rows < 2 ^ 32) (sym c.as_slice-2.ensures.value) c.requires.1.few
-
-pub of_once-requires : goal.of_once-requires
-of_once-requires g c =
-    subst (λ rows. length rows < 2 ^ 32) (sym (c.as_slice-3.ensures.value ∙ c.retain_kept.ensures)) (few-kept c.args.kept.now c.args.self.rows.items c.requires.1.few)
-
-pub rebind-requires-clause-from : goal.rebind-requires-clause-from
-rebind-requires-clause-from g c =
-    let items = c.args.joined.now.modules.items in
-    let some = from-some items c.args.kept.now c.args.self.rows.items c.requires.0 c.requires.1.from in
-    (some.0, subst (λ r. AreFrom items r some.0) (sym (c.as_slice-5.ensures.value ∙ c.retain_kept.ensures)) some.1)
-
-pub rebind-requires-clause-moved : goal.rebind-requires-clause-moved
-rebind-requires-clause-moved g c =
-    let self = c.args.self in
-    record {
-      all = self.rows.items;
-      passes = mark c.args.kept.now;
-      rows_are = c.as_slice-5.ensures.value ∙ c.retain_kept.ensures;
-      places_are = c.as_slice-6.ensures.value ∙ c.in_ok-places.ensures ∙ ap (places_from (mark c.args.kept.now) 0) c.as_slice-2.ensures.value;
-      long = rows-length self.names self.lookup.namespaces self.rows.items c.requires.0 c.requires.1.stands.rows_are ∙ sym (bound-length c.requires.0 c.requires.0 self.bound.0 c.requires.1.bound);
-    }
-
-pub kept_kinds-requires : goal.kept_kinds-requires
-kept_kinds-requires g c =
-    let self = c.args.self in
-    ap length (c.as_slice-7.ensures.value ∙ c.requires.1.kinds) ∙ length-map c.requires.0 (λ s. kind_of s.form) ∙ sym (rows-length self.names self.lookup.namespaces self.rows.items c.requires.0 c.requires.1.stands.rows_are)
-    ∙ sym (ap length (c.as_slice-8.ensures.value ∙ c.in_ok-places.ensures ∙ ap (places_from (mark c.args.kept.now) 0) c.as_slice-2.ensures.value) ∙ places-long (mark c.args.kept.now) 0 self.rows.items)
-
-pub returns : goal.returns
-returns g c = λ policy set is apart marked.
-    let self = c.args.self in
-    let items = c.args.joined.now.modules.items in
-    let spaces = self.lookup.namespaces in
-    let rest = restricted set policy in
-    let rows = c.retain_kept.new.rows.items in
-    let once = once-filtered (is_within set) policy is.once in
-    let stands = stands-kept self.names spaces set c.args.kept.now self.rows.items rows policy apart marked is.stands c.retain_kept.ensures in
-    let from = subst (λ r. AreFrom items r rest) (sym c.retain_kept.ensures) (from-kept items set c.args.kept.now self.rows.items policy marked is.from) in
-    let knows : Knows spaces c.in_ok-declarations.declarations.first.entries self.names rest = record {
-      declared = c.in_ok-declarations.ensures self.names spaces rest stands.numbered (subst (λ r. AreRows self.names spaces r rest) (sym c.as_slice-3.ensures.value) stands.rows_are) once;
-      opened = stands-opened self.names spaces rows rest stands;
-    } in
-    let places = c.as_slice-6.ensures.value ∙ c.in_ok-places.ensures ∙ ap (places_from (mark c.args.kept.now) 0) c.as_slice-2.ensures.value ∙ places-marked set c.args.kept.now 0 self.rows.items policy marked in
-    record {
-      stands = stands;
-      from = from;
-      knows = knows;
-      once = once;
-      worded = is.worded;
-      bound = c.in_ok-bound.ensures self.names policy set apart places is.bound knows (subst (λ w. AreWorded self.names w items) (sym c.as_slice-4.ensures.value) is.worded)
-          (subst (λ r. AreRows self.names spaces r rest) (sym c.as_slice-5.ensures.value) stands.rows_are) (subst (λ r. AreFrom items r rest) (sym c.as_slice-5.ensures.value) from);
-      kinds = c.in_ok-kinds.ensures policy set (c.as_slice-7.ensures.value ∙ is.kinds)
-          (c.as_slice-8.ensures.value ∙ c.in_ok-places.ensures ∙ ap (places_from (mark c.args.kept.now) 0) c.as_slice-2.ensures.value ∙ places-marked set c.args.kept.now 0 self.rows.items policy marked);
-      few = subst (λ r. length r < 2 ^ 32) (sym c.retain_kept.ensures) (few-kept c.args.kept.now self.rows.items is.few);
-    }

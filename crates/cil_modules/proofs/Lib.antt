@@ -1,0 +1,10 @@
+pub mod ParsedLemmas
+pub mod EntryLemmas
+pub mod SizeLemmas
+pub mod FindLemmas
+pub mod StateLemmas
+pub mod StepLemmas
+pub mod InstallLemmas
+pub mod JoinLemmas
+pub mod DroppedLemmas
+pub mod EmptyLemmas

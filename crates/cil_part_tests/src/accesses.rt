@@ -1,0 +1,481 @@
+//! Chunks against accesses that are listed one by one.
+
+ghost use Rattle.std.specs.List.{All};
+ghost use Rattle.std.specs.List.Sorted.{IsStrictlyIncreasing};
+ghost use Rattle.std.specs.Prelude.{◌<◌, ◌^◌};
+ghost use Rattle.cil_accesses.specs.Chunks.{IsAccessOf};
+ghost use Rattle.cil_accesses.specs.Renumbered.{IsWithin};
+ghost use Rattle.cil_accesses.specs.declared.access.AccessNumbers.{AccessNumbers};
+
+use cil_accesses::{
+    AccessNumbers, AccessRow, Accesses, Chunk, ChunkPlaces, Difference, push_renumbered, sort_from,
+};
+use cil_text::RuleKind;
+use std::alloc::Global;
+use std::process::Abort;
+
+const ALL: u64 = u64::MAX;
+
+const ALLOW: RuleKind = RuleKind::Allow;
+
+const DONT: RuleKind = RuleKind::DontAudit;
+
+// A chunk by its kind, source, word, class, permission and bits.
+type Given = (RuleKind, u32, u32, u32, u32, u64);
+
+fn chunk_of(given: &Given) -> Chunk {
+    let (kind, source, word, class, permission, bits) = *given;
+    Chunk {
+        kind,
+        source,
+        word,
+        class,
+        permission,
+        bits,
+    }
+}
+
+// An access by its kind, source, target, class and permission.
+type Listed = (RuleKind, u32, u32, u32, u32);
+
+fn listed_as(access: &AccessNumbers) -> Listed {
+    (
+        access.kind,
+        access.source,
+        access.target,
+        access.class,
+        access.permission,
+    )
+}
+
+// Two runs of one source, a run of another, and one of another kind; not in order.
+const SOME: &[Given] = &[
+    (ALLOW, 2, 0, 1, 1, 0b1000),
+    (ALLOW, 1, 1, 1, 2, 1 << 63 | 1),
+    (ALLOW, 1, 0, 2, 1, 0b0110),
+    (DONT, 0, 0, 0, 0, 1),
+    (ALLOW, 1, 0, 1, 3, 0b0010),
+    (ALLOW, 1, 0, 1, 1, 0b0011),
+];
+
+// The accesses of chunks, whose words have to be low enough.
+fn accesses(rt: &impl Abort, alloc: Global, chunks: &[Given]) -> Accesses {
+    let mut all = Vec::new(alloc);
+    for given in chunks {
+        let chunk = chunk_of(given);
+        assert!(rt; chunk.word < 1 << 26);
+        all.push(chunk).expect(rt, "memory");
+    }
+    Accesses::of(all)
+}
+
+// The accesses one by one, up to 200.
+fn by_places(rt: &impl Abort, alloc: Global, accesses: &Accesses) -> Vec<Listed> {
+    let mut all = Vec::new(alloc);
+    for i in 0..200usize {
+        if let Some(access) = accesses.get(i) {
+            all.push(listed_as(&access)).expect(rt, "memory");
+        }
+    }
+    all
+}
+
+// Appends the accesses of a row.
+fn push_row(rt: &impl Abort, all: &mut Vec<Listed>, row: &AccessRow) {
+    let bit = row.bit;
+    assert!(rt; bit < 64);
+    for chunk in row.chunks {
+        assert!(rt; chunk.word < 1 << 26);
+        if chunk.has_bit(bit) {
+            let access = chunk.access(bit);
+            all.push(listed_as(&access)).expect(rt, "memory");
+        }
+    }
+}
+
+// The accesses row by row, and the first of each row.
+fn by_rows(rt: &impl Abort, alloc: Global, accesses: &Accesses) -> (Vec<Listed>, Vec<Listed>) {
+    let mut all = Vec::new(alloc);
+    let mut firsts = Vec::new(alloc);
+    let mut rows = accesses.rows();
+    for _ in 0..200u32 {
+        if let Some(row) = rows.next() {
+            firsts.push(listed_as(&row.first)).expect(rt, "memory");
+            push_row(rt, &mut all, &row);
+        }
+    }
+    (all, firsts)
+}
+
+// Those of some accesses that aren't of one row with the access before.
+fn firsts(rt: &impl Abort, alloc: Global, listed: &[Listed]) -> Vec<Listed> {
+    let mut firsts = Vec::new(alloc);
+    for i in 0..listed.len() {
+        if i == 0 || !is_in_row(&listed[i], &listed[i - 1]) {
+            firsts.push(listed[i]).expect(rt, "memory");
+        }
+    }
+    firsts
+}
+
+fn is_in_row(access: &Listed, other: &Listed) -> bool {
+    access.0 == other.0 && access.1 == other.1 && access.2 == other.2 && access.3 == other.3
+}
+
+// Asserts that these are the accesses, by places and by rows.
+fn assert_listed(rt: &impl Abort, alloc: Global, accesses: &Accesses, listed: &[Listed]) {
+    assert!(rt; accesses.len() == listed.len() as u128);
+    let places = by_places(rt, alloc, accesses);
+    assert!(rt; places.as_slice() == listed);
+    let (all, found) = by_rows(rt, alloc, accesses);
+    assert!(rt; all.as_slice() == listed);
+    assert!(rt; found.as_slice() == firsts(rt, alloc, listed).as_slice());
+}
+
+// 64 accesses of a source, by class 1 and permission 1, to the types from one on.
+fn word_of(rt: &impl Abort, alloc: Global, source: u32, first: u32) -> Vec<Listed> {
+    let mut all = Vec::new(alloc);
+    for bit in 0..64u32 {
+        let access = (ALLOW, source, first.saturating_add(bit), 1, 1);
+        all.push(access).expect(rt, "memory");
+    }
+    all
+}
+
+// Chunks, and their accesses in order.
+const LISTED: &[(&[Given], &[Listed])] = &[
+    (&[], &[]),
+    (&[(ALLOW, 1, 2, 3, 4, 0)], &[]),
+    (
+        SOME,
+        &[
+            (ALLOW, 1, 0, 1, 1),
+            (ALLOW, 1, 1, 1, 1),
+            (ALLOW, 1, 1, 1, 3),
+            (ALLOW, 1, 1, 2, 1),
+            (ALLOW, 1, 2, 2, 1),
+            (ALLOW, 1, 64, 1, 2),
+            (ALLOW, 1, 127, 1, 2),
+            (ALLOW, 2, 3, 1, 1),
+            (DONT, 0, 0, 0, 0),
+        ],
+    ),
+    // Chunks of one key.
+    (
+        &[
+            (ALLOW, 1, 0, 1, 1, 0b0100),
+            (ALLOW, 1, 0, 1, 2, 0b0001),
+            (ALLOW, 1, 0, 1, 1, 0b0001),
+            (DONT, 1, 0, 1, 1, 0b0010),
+            (ALLOW, 1, 0, 1, 1, 0b0101),
+        ],
+        &[
+            (ALLOW, 1, 0, 1, 1),
+            (ALLOW, 1, 0, 1, 2),
+            (ALLOW, 1, 2, 1, 1),
+            (DONT, 1, 1, 1, 1),
+        ],
+    ),
+    // The greatest target.
+    (
+        &[(ALLOW, 0, (1 << 26) - 1, 0, 0, 1 << 63)],
+        &[(ALLOW, 0, u32::MAX, 0, 0)],
+    ),
+];
+
+#[test]
+fn accesses_of_chunks(rt: HostRuntime) {
+    let alloc = rt.alloc();
+    assert_listed(&rt, alloc, &Accesses::empty(alloc), &[]);
+    for (chunks, listed) in LISTED {
+        assert_listed(&rt, alloc, &accesses(&rt, alloc, chunks), listed);
+    }
+    let full = (ALLOW, 7, 3, 1, 1, ALL);
+    assert!(&rt; chunk_of(&full).len() == 64);
+    let listed = word_of(&rt, alloc, 7, 192);
+    assert_listed(&rt, alloc, &accesses(&rt, alloc, &[full]), &listed);
+}
+
+// Chunks, chunks in their place, and the accesses that go and come.
+const CHANGED: &[(&[Given], &[Given], &[Listed], &[Listed])] = &[
+    (
+        &[
+            (ALLOW, 1, 0, 1, 1, 0b0111),
+            (ALLOW, 1, 0, 1, 2, 1),
+            (ALLOW, 3, 0, 1, 1, 1),
+        ],
+        &[
+            (ALLOW, 1, 0, 1, 1, 0b1110),
+            (ALLOW, 2, 0, 1, 1, 1),
+            (ALLOW, 3, 0, 1, 1, 1),
+        ],
+        &[(ALLOW, 1, 0, 1, 1), (ALLOW, 1, 0, 1, 2)],
+        &[(ALLOW, 1, 3, 1, 1), (ALLOW, 2, 0, 1, 1)],
+    ),
+    (SOME, SOME, &[], &[]),
+];
+
+// Three chunks of the sources 3, 2 and 1 are put in order from a place on; and their sources then.
+const SORTED: &[(usize, &[u32])] = &[(0, &[1, 2, 3]), (1, &[3, 1, 2]), (3, &[3, 2, 1])];
+
+// The sources of the chunks that are put in order from a place on.
+fn sorted(rt: &impl Abort, alloc: Global, start: usize) -> Vec<u32> {
+    let mut chunks = Vec::new(alloc);
+    for source in [3, 2, 1] {
+        chunks
+            .push(chunk_of(&(ALLOW, source, 0, 1, 1, 1)))
+            .expect(rt, "memory");
+    }
+    sort_from(&mut chunks, start);
+    let mut sources = Vec::new(alloc);
+    for chunk in &chunks {
+        sources.push(chunk.source).expect(rt, "memory");
+    }
+    sources
+}
+
+#[test]
+fn differences_and_orders(rt: HostRuntime) {
+    let alloc = rt.alloc();
+    for (old, new, removed, added) in CHANGED {
+        let old = accesses(&rt, alloc, old);
+        let new = accesses(&rt, alloc, new);
+        let found = Difference::between(alloc, &old, &new).expect(&rt, "memory");
+        assert_listed(&rt, alloc, &found.removed, removed);
+        assert_listed(&rt, alloc, &found.added, added);
+    }
+    for (start, want) in SORTED {
+        assert!(&rt; sorted(&rt, alloc, *start).as_slice() == *want);
+    }
+}
+
+// Numbers: so many, from one on and with a step.
+type Run = (u32, u32, u32);
+
+fn numbers(rt: &impl Abort, alloc: Global, runs: &[Run]) -> Vec<u32> {
+    let mut all = Vec::new(alloc);
+    for (len, first, step) in runs {
+        let mut number = *first;
+        for _ in 0..*len {
+            all.push(number).expect(rt, "memory");
+            number = number.wrapping_add(*step);
+        }
+    }
+    all
+}
+
+// Asserts that the numbers rise.
+fn assert_rising(rt: &impl Abort, numbers: &[u32])
+    ensures { IsStrictlyIncreasing numbers.now }
+{
+    for i in 1..numbers.len() {
+        assert!(rt; numbers[i - 1] < numbers[i]);
+    }
+}
+
+// Asserts that the numbers of an access are low enough.
+fn assert_low(rt: &impl Abort, access: AccessNumbers, len: usize)
+    ensures { IsWithin len access }
+{
+    assert!(rt; (access.source as usize) < len);
+    assert!(rt; (access.target as usize) < len);
+    assert!(rt; (access.class as usize) < len);
+    assert!(rt; (access.permission as usize) < len);
+}
+
+// Asserts that all accesses have numbers that are low enough.
+fn assert_within(rt: &impl Abort, accesses: &Accesses, len: usize)
+    ensures { All (IsWithin len) accesses.now }
+{
+    let count = usize::try_from(accesses.len()).expect(rt, "few accesses");
+    for i in 0..count {
+        let access = accesses.get(i).expect(rt, "an access");
+        assert_low(rt, access, len);
+    }
+}
+
+// The accesses of chunks with the numbers at the places of their own, which rise.
+fn renumbered(rt: &impl Abort, alloc: Global, chunks: &[Given], runs: &[Run]) -> Accesses {
+    let old = accesses(rt, alloc, chunks);
+    let numbers = numbers(rt, alloc, runs);
+    assert_rising(rt, &numbers);
+    assert_within(rt, &old, numbers.len());
+    old.renumbered(alloc, &numbers).expect(rt, "memory")
+}
+
+// Chunks, rising numbers, and their accesses by these.
+const RENUMBERED: &[(&[Given], &[Run], &[Listed])] = &[
+    (
+        SOME,
+        &[(128, 1, 2)],
+        &[
+            (ALLOW, 3, 1, 3, 3),
+            (ALLOW, 3, 3, 3, 3),
+            (ALLOW, 3, 3, 3, 7),
+            (ALLOW, 3, 3, 5, 3),
+            (ALLOW, 3, 5, 5, 3),
+            (ALLOW, 3, 129, 3, 5),
+            (ALLOW, 3, 255, 3, 5),
+            (ALLOW, 5, 7, 3, 3),
+            (DONT, 1, 1, 1, 1),
+        ],
+    ),
+    // Words that join.
+    (
+        &[
+            (ALLOW, 1, 0, 1, 1, 1 << 60 | 1),
+            (ALLOW, 1, 0, 2, 1, 1 << 60),
+            (ALLOW, 1, 1, 1, 1, 1),
+        ],
+        &[(65, 10, 1)],
+        &[
+            (ALLOW, 11, 10, 11, 11),
+            (ALLOW, 11, 70, 11, 11),
+            (ALLOW, 11, 70, 12, 11),
+            (ALLOW, 11, 74, 11, 11),
+        ],
+    ),
+    // Targets that move together over the edge of a word, and to the next word.
+    (
+        OVER,
+        &[(128, 63, 1)],
+        &[
+            (ALLOW, 64, 63, 64, 64),
+            (ALLOW, 64, 64, 64, 64),
+            (ALLOW, 64, 65, 64, 64),
+            (ALLOW, 64, 126, 64, 64),
+            (ALLOW, 64, 127, 64, 64),
+            (ALLOW, 64, 190, 64, 64),
+        ],
+    ),
+    (
+        OVER,
+        &[(128, 64, 1)],
+        &[
+            (ALLOW, 65, 64, 65, 65),
+            (ALLOW, 65, 65, 65, 65),
+            (ALLOW, 65, 66, 65, 65),
+            (ALLOW, 65, 127, 65, 65),
+            (ALLOW, 65, 128, 65, 65),
+            (ALLOW, 65, 191, 65, 65),
+        ],
+    ),
+    // Targets that move apart.
+    (
+        &[(ALLOW, 1, 0, 1, 1, 0b0111), (ALLOW, 1, 0, 1, 2, 0b11100)],
+        &[(2, 62, 1), (3, 65, 1)],
+        &[
+            (ALLOW, 63, 62, 63, 63),
+            (ALLOW, 63, 63, 63, 63),
+            (ALLOW, 63, 65, 63, 63),
+            (ALLOW, 63, 65, 63, 65),
+            (ALLOW, 63, 66, 63, 65),
+            (ALLOW, 63, 67, 63, 65),
+        ],
+    ),
+];
+
+const OVER: &[Given] = &[
+    (ALLOW, 1, 0, 1, 1, 1 << 63 | 0b0111),
+    (ALLOW, 1, 1, 1, 1, 1 << 63 | 1),
+];
+
+#[test]
+fn accesses_by_numbers_that_rise(rt: HostRuntime) {
+    let alloc = rt.alloc();
+    for (chunks, runs, listed) in RENUMBERED {
+        let found = renumbered(&rt, alloc, chunks, runs);
+        assert_listed(&rt, alloc, &found, listed);
+    }
+    // Targets that stay in their word.
+    let full = [(ALLOW, 1, 0, 1, 1, ALL), (ALLOW, 1, 0, 2, 1, 0)];
+    let found = renumbered(&rt, alloc, &full, &[(64, 0, 1)]);
+    assert_listed(&rt, alloc, &found, &word_of(&rt, alloc, 1, 0));
+}
+
+// Asserts that the numbers of all accesses that a chunk may have are low enough.
+fn assert_low_chunk(rt: &impl Abort, chunk: &Chunk, len: usize)
+    ensures { (a : AccessNumbers) → IsAccessOf chunk.now a → IsWithin len a }
+{
+    assert!(rt; (chunk.source as usize) < len);
+    assert!(rt; 64 * (chunk.word as usize) + 63 < len);
+    assert!(rt; (chunk.class as usize) < len);
+    assert!(rt; (chunk.permission as usize) < len);
+}
+
+// The chunks with the numbers at the places of their own, which come in any order.
+fn pushed(rt: &impl Abort, alloc: Global, chunks: &[Given], numbers: &[u32]) -> Vec<Chunk>
+    ensures { All (λ c. c.word < 2 ^ 26) result.items }
+{
+    let mut all = Vec::new(alloc);
+    let mut places = ChunkPlaces::new(alloc);
+    for given in chunks {
+        let chunk = chunk_of(given);
+        assert!(rt; chunk.word < 1 << 26);
+        assert_low_chunk(rt, &chunk, numbers.len());
+        push_renumbered(&mut all, &mut places, &chunk, numbers).expect(rt, "memory");
+    }
+    all
+}
+
+// Chunks, numbers, and their accesses by these.
+const PUSHED: &[(&[Given], &[Run], &[Listed])] = &[
+    // The other way round.
+    (
+        &[
+            (ALLOW, 1, 0, 2, 3, 1 << 63 | 0b11),
+            (ALLOW, 1, 1, 2, 3, 1),
+            (ALLOW, 1, 1, 2, 4, 0),
+        ],
+        &[(128, 127, u32::MAX)],
+        &[
+            (ALLOW, 126, 63, 125, 124),
+            (ALLOW, 126, 64, 125, 124),
+            (ALLOW, 126, 126, 125, 124),
+            (ALLOW, 126, 127, 125, 124),
+        ],
+    ),
+    // One target that moves down.
+    (
+        &[
+            (ALLOW, 1, 0, 2, 3, 0b10_1001),
+            (ALLOW, 1, 0, 2, 4, 0b00_1001),
+        ],
+        &[(5, 64, 1), (1, 3, 1), (58, 70, 1)],
+        &[
+            (ALLOW, 65, 3, 66, 67),
+            (ALLOW, 65, 64, 66, 67),
+            (ALLOW, 65, 64, 66, 68),
+            (ALLOW, 65, 67, 66, 67),
+            (ALLOW, 65, 67, 66, 68),
+        ],
+    ),
+];
+
+// The numbers of targets that stand in two words by turns.
+fn by_turns(rt: &impl Abort, alloc: Global) -> Vec<u32> {
+    let mut all = Vec::new(alloc);
+    for target in 0..64u32 {
+        all.push(target / 2 + 64 * (target % 2))
+            .expect(rt, "memory");
+    }
+    all
+}
+
+#[test]
+fn accesses_by_numbers_in_any_order(rt: HostRuntime) {
+    let alloc = rt.alloc();
+    for (chunks, runs, listed) in PUSHED {
+        let numbers = numbers(&rt, alloc, runs);
+        let found = pushed(&rt, alloc, chunks, &numbers);
+        assert_listed(&rt, alloc, &Accesses::of(found), listed);
+    }
+    let found = pushed(
+        &rt,
+        alloc,
+        &[(ALLOW, 1, 0, 2, 3, ALL)],
+        &by_turns(&rt, alloc),
+    );
+    assert!(&rt; found.len() == 2);
+    assert!(&rt; Accesses::of(found).len() == 64);
+}

@@ -1,0 +1,132 @@
+//! Small graphs, and a long chain.
+
+ghost use Rattle.std.specs.Prelude.{◌<◌, All, IsTrue};
+ghost use Rattle.cil_dependence.specs.Dependence.{IsDependence};
+ghost use Rattle.cil_dependence.specs.Graph.{AreNodes};
+
+use cil_dependence::{Dependence, dependence, items_in_order};
+use std::alloc::Global;
+use std::process::Abort;
+
+// Whether each edge leads to a node.
+fn are_nodes(graph: &[Vec<usize>]) -> bool
+    ensures { IsTrue result → AreNodes graph.now }
+{
+    for to in graph {
+        if !are_below(to, graph.len()) {
+            return false;
+        }
+    }
+    true
+}
+
+fn are_below(nodes: &[usize], len: usize) -> bool
+    ensures { IsTrue result → All (λ node. node < len) nodes.now }
+{
+    nodes.iter().all(|node| *node < len)
+}
+
+// The graph of these lists.
+fn graph_of(rt: &impl Abort, alloc: Global, lists: &[&[usize]]) -> Vec<Vec<usize>> {
+    let mut graph = Vec::new(alloc);
+    for list in lists {
+        let mut to = Vec::new(alloc);
+        to.extend_from_slice(list).expect(rt, "memory");
+        graph.push(to).expect(rt, "memory");
+    }
+    graph
+}
+
+// What the dependence of these nodes comes to.
+fn told(rt: &impl Abort, alloc: Global, graph: &[Vec<usize>]) -> Dependence
+    ensures { IsDependence graph.now result }
+{
+    let stay = are_nodes(graph);
+    assert!(rt; stay);
+    dependence(alloc, graph).expect(rt, "memory")
+}
+
+// The first node on a circle.
+fn circle(rt: &impl Abort, alloc: Global, graph: &[Vec<usize>]) -> Option<usize> {
+    match told(rt, alloc, graph) {
+        Dependence::Circle(node) => Some(node),
+        Dependence::Order(_) => None,
+    }
+}
+
+// The order of the nodes, and items in the order of their nodes.
+fn ordered(
+    rt: &impl Abort,
+    alloc: Global,
+    graph: &[Vec<usize>],
+    nodes: &[usize],
+) -> (Vec<usize>, Vec<usize>) {
+    let Dependence::Order(order) = told(rt, alloc, graph) else {
+        rt.abort()
+    };
+    let have = are_below(nodes, order.len());
+    assert!(rt; have);
+    let items = items_in_order(alloc, &order, nodes).expect(rt, "memory");
+    (order, items)
+}
+
+// Graphs without a circle, as the nodes that each node leads to, their order, the nodes of items, and the order of these.
+const ORDERS: &[(&[&[usize]], &[usize], &[usize], &[usize])] = &[
+    (&[], &[], &[], &[]),
+    (&[&[], &[], &[]], &[0, 1, 2], &[2, 1, 0], &[2, 1, 0]),
+    (
+        &[&[2], &[], &[1]],
+        &[1, 2, 0],
+        &[0, 2, 0, 1, 2, 1],
+        &[3, 5, 1, 4, 0, 2],
+    ),
+];
+
+// Graphs with a circle, and the first node on one.
+const CIRCLES: &[(&[&[usize]], usize)] = &[
+    // An edge to itself.
+    (&[&[1], &[1]], 1),
+    // A node that only leads to a circle is on none.
+    (&[&[2], &[3], &[3], &[1]], 1),
+    // The nodes 0 and 1 lead from the circle of 4 and 5 to that of 2 and 3.
+    (&[&[1], &[2], &[3], &[2], &[5], &[4, 0]], 2),
+];
+
+#[test]
+fn small_graphs(rt: HostRuntime) {
+    for (lists, order, nodes, items) in ORDERS {
+        let graph = graph_of(&rt, rt.alloc(), lists);
+        let found = ordered(&rt, rt.alloc(), &graph, nodes);
+        let same = found.0.as_slice() == *order && found.1.as_slice() == *items;
+        assert!(&rt; same);
+    }
+    for (lists, node) in CIRCLES {
+        let graph = graph_of(&rt, rt.alloc(), lists);
+        assert!(&rt; circle(&rt, rt.alloc(), &graph) == Some(*node));
+    }
+}
+
+// So many nodes, each of which leads to the next, and the last to itself or to none.
+fn chain(rt: &impl Abort, alloc: Global, count: usize, ends: bool) -> Vec<Vec<usize>> {
+    let mut graph = Vec::new(alloc);
+    for node in 0..count {
+        let next = (node + 1).min(count - 1);
+        let mut to = Vec::new(alloc);
+        if next != node || !ends {
+            to.push(next).expect(rt, "memory");
+        }
+        graph.push(to).expect(rt, "memory");
+    }
+    graph
+}
+
+// A chain takes no depth.
+#[test]
+fn long_chains(rt: HostRuntime) {
+    let count: usize = 100_000;
+    let graph = chain(&rt, rt.alloc(), count, true);
+    let (order, _items) = ordered(&rt, rt.alloc(), &graph, &[]);
+    assert!(&rt; order.len() == count && order.first() == Some(&(count - 1)));
+    let graph = chain(&rt, rt.alloc(), count, false);
+    assert!(&rt; circle(&rt, rt.alloc(), &graph) == Some(count - 1));
+}

@@ -1,0 +1,221 @@
+//! Accesses that rules give and take away, by the keys of their lines.
+
+ghost use Rattle.std.specs.Prelude.{◌≡◌, true};
+ghost use Rattle.cil_lines.specs.Limit.{CanLower};
+ghost use Rattle.cil_keyed_lines.specs.Keyed.{count_now};
+
+use crate::recorded::{Changed, listed};
+use cil_keyed_lines::{KeyedLines, SymbolKey};
+use std::alloc::Global;
+use std::process::Abort;
+
+const ALL: u64 = u64::MAX;
+
+const READ: SymbolKey = SymbolKey {
+    source: 7,
+    class: 1,
+    permission: 3,
+};
+
+const WRITE: SymbolKey = SymbolKey {
+    source: 7,
+    class: 1,
+    permission: 4,
+};
+
+const OTHER_READ: SymbolKey = SymbolKey {
+    source: 2,
+    class: 1,
+    permission: 3,
+};
+
+const LATER: SymbolKey = SymbolKey {
+    source: 7,
+    class: 2,
+    permission: 0,
+};
+
+// A step: a rule gave the targets of a word that a mask has, and gives those that another one has.
+#[derive(Clone, Copy)]
+enum Step {
+    Shift(SymbolKey, u32, u64, u64),
+    Settle,
+    Undo,
+}
+
+use Step::{Settle, Shift, Undo};
+
+// Whether the targets of a mask can be lowered.
+fn can_go(lines: &KeyedLines, key: SymbolKey, word: usize, mask: u64) -> bool
+    ensures { result ≡ true → CanLower (count_now lines.now key) word mask }
+{
+    match lines.find(key) {
+        Some(place) => lines.present(place, word) & mask == mask,
+        None => mask == 0,
+    }
+}
+
+fn shift(
+    rt: &impl Abort,
+    alloc: Global,
+    lines: &mut KeyedLines,
+    key: SymbolKey,
+    word: u32,
+    was: u64,
+    is: u64,
+) {
+    let word = word as usize;
+    if can_go(lines, key, word, was & !is) {
+        let moved = lines.shift(alloc, key, word, was, is).expect(rt, "memory");
+        assert!(rt; moved == (was ^ is).count_ones());
+    } else {
+        panic!(rt; "a target that goes isn't present")
+    }
+}
+
+fn take(rt: &impl Abort, alloc: Global, lines: &mut KeyedLines, step: Step) {
+    match step {
+        Shift(key, word, was, is) => shift(rt, alloc, lines, key, word, was, is),
+        Settle => lines.settle(),
+        Undo => lines.undo(),
+    }
+}
+
+// The lines after these steps.
+fn lines_of(rt: &impl Abort, alloc: Global, steps: &[Step]) -> KeyedLines {
+    let mut lines = KeyedLines::new(alloc);
+    for step in steps {
+        take(rt, alloc, &mut lines, *step);
+    }
+    lines
+}
+
+// The counters of the first four targets of a word and of its last, its targets, and the first word of the line from this one on.
+type Counted = ([u64; 5], u64, Option<usize>);
+
+const NOTHING: Counted = ([0; 5], 0, None);
+
+// What is counted in a word of the line of a key.
+fn word_of(lines: &KeyedLines, key: SymbolKey, word: u32) -> Counted {
+    let first = 64 * word as usize;
+    let counts = [
+        lines.count(key, first),
+        lines.count(key, first + 1),
+        lines.count(key, first + 2),
+        lines.count(key, first + 3),
+        lines.count(key, first + 63),
+    ];
+    let place = lines.find(key).unwrap_or(lines.len());
+    let word = word as usize;
+    let next = lines.next_present_word(place, word);
+    (counts, lines.present(place, word), next)
+}
+
+// Two rules give an access.
+const TWO: &[Step] = &[
+    Shift(READ, 0, 0, 0b0110),
+    Shift(READ, 0, 0, 0b0011),
+    Settle,
+    Shift(READ, 0, 0b0110, 0),
+    Shift(READ, 0, 0b0011, 0b1001),
+    Undo,
+];
+
+// Lines of three keys.
+const THREE: &[Step] = &[
+    Shift(READ, 2, 0, 0b1),
+    Shift(OTHER_READ, 90, 0, ALL),
+    Settle,
+    Shift(WRITE, 2, 0, 0b11),
+    Shift(OTHER_READ, 90, ALL, ALL >> 1),
+    Shift(OTHER_READ, 3, 0, 0b100),
+    Undo,
+];
+
+// Steps that are kept.
+const KEPT: &[Step] = &[
+    Shift(READ, 1, 0, 0b11),
+    Settle,
+    Shift(READ, 1, 0b01, 0),
+    Settle,
+    Undo,
+];
+
+// The first steps of some, the keys in their order, whether steps are pending, and what they changed.
+const STEPS: &[(&[Step], usize, &[SymbolKey], bool, &[Changed])] = &[
+    (&[], 0, &[], false, &[]),
+    // A shift to what was is no step.
+    (&[Shift(READ, 0, 0b101, 0b101)], 1, &[], false, &[]),
+    (&[Undo, Settle], 2, &[], false, &[]),
+    (TWO, 2, &[READ], true, &[(0, 0, 0b0111, 0)]),
+    (TWO, 5, &[READ], true, &[(0, 0, 0b1000, 0b0110)]),
+    (TWO, 6, &[READ], false, &[]),
+    (
+        THREE,
+        6,
+        &[READ, OTHER_READ, WRITE],
+        true,
+        &[(1, 3, 0b100, 0), (1, 90, 0, 1 << 63), (2, 2, 0b11, 0)],
+    ),
+    (THREE, 7, &[READ, OTHER_READ, WRITE], false, &[]),
+    (KEPT, 5, &[READ], false, &[]),
+];
+
+// The first steps of some, a key and a word, and what is counted there.
+const WORDS: &[(&[Step], usize, SymbolKey, u32, Counted)] = &[
+    (&[], 0, READ, 0, NOTHING),
+    (&[Shift(READ, 0, 0b101, 0b101)], 1, READ, 0, NOTHING),
+    (TWO, 2, READ, 0, ([1, 2, 1, 0, 0], 0b0111, Some(0))),
+    (TWO, 4, READ, 0, ([1, 1, 0, 0, 0], 0b0011, Some(0))),
+    (TWO, 5, READ, 0, ([1, 0, 0, 1, 0], 0b1001, Some(0))),
+    (TWO, 6, READ, 0, ([1, 2, 1, 0, 0], 0b0111, Some(0))),
+    (THREE, 6, READ, 2, ([1, 0, 0, 0, 0], 0b1, Some(2))),
+    (THREE, 6, WRITE, 2, ([1, 1, 0, 0, 0], 0b11, Some(2))),
+    (THREE, 6, OTHER_READ, 0, ([0; 5], 0, Some(3))),
+    (THREE, 6, OTHER_READ, 3, ([0, 0, 1, 0, 0], 0b100, Some(3))),
+    (THREE, 6, OTHER_READ, 4, ([0; 5], 0, Some(90))),
+    (
+        THREE,
+        6,
+        OTHER_READ,
+        90,
+        ([1, 1, 1, 1, 0], ALL >> 1, Some(90)),
+    ),
+    (THREE, 7, WRITE, 2, NOTHING),
+    (THREE, 7, OTHER_READ, 3, ([0; 5], 0, Some(90))),
+    (THREE, 7, OTHER_READ, 90, ([1; 5], ALL, Some(90))),
+    (KEPT, 5, READ, 1, ([0, 1, 0, 0, 0], 0b10, Some(1))),
+];
+
+// Asserts that these are the keys, in their order.
+fn assert_keys(rt: &impl Abort, lines: &KeyedLines, keys: &[SymbolKey]) {
+    assert!(rt; lines.len() == keys.len() && lines.is_empty() == keys.is_empty());
+    for place in 0..keys.len() {
+        let at = lines.at(place) == Some(keys[place]);
+        assert!(rt; at && lines.find(keys[place]) == Some(place));
+    }
+    assert!(rt; lines.at(keys.len()).is_none());
+}
+
+#[test]
+fn steps_of_keyed_lines(rt: HostRuntime) {
+    for (steps, n, keys, is_pending, changes) in STEPS {
+        assert!(&rt; *n <= steps.len());
+        let lines = lines_of(&rt, rt.alloc(), &steps[..*n]);
+        assert_keys(&rt, &lines, keys);
+        assert!(&rt; lines.is_pending() == *is_pending);
+        let found = lines.changes(rt.alloc()).expect(&rt, "memory");
+        assert!(&rt; listed(&rt, rt.alloc(), &found).as_slice() == *changes);
+    }
+    for (steps, n, key, word, want) in WORDS {
+        assert!(&rt; *n <= steps.len());
+        let lines = lines_of(&rt, rt.alloc(), &steps[..*n]);
+        let same = word_of(&lines, *key, *word) == *want;
+        assert!(&rt; same);
+    }
+    // Keys go by source, then by class, then by permission.
+    let keys = [OTHER_READ, READ, WRITE, LATER];
+    for i in 1..keys.len() {
+        assert!(&rt; keys[i - 1] < keys[i] && keys[i - 1] != keys[i]);
+    }
+}

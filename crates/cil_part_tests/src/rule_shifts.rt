@@ -1,0 +1,251 @@
+//! Counters moved from what a rule gave to what it gives.
+
+ghost use Rattle.std.specs.Prelude.{◌≡◌, ◌+◌, ◌≤◌, ◌^◌, ◌∷◌, [], ℕ, false};
+ghost use Rattle.cil_keyed_lines.specs.Keyed.{count_now};
+ghost use Rattle.cil_rule_shifts.specs.Reach.{gives, is_present, one_if, IsShort};
+
+use cil_keyed_lines::{KeyedLines, SymbolKey};
+use cil_lines::Line;
+use cil_rule_shifts::{Reach, Targets, shift_rule};
+use std::alloc::Global;
+use std::process::Abort;
+
+// The class and the permissions of all rules here.
+const CLASS: usize = 7;
+
+const PERMISSIONS: &[usize] = &[3, 5];
+
+// A line with a counter above 0 for each of some symbols.
+fn line_of(rt: &impl Abort, alloc: Global, symbols: &[u32]) -> Line
+    ensures { (s : ℕ) → 2 ^ 32 ≤ s → is_present result s ≡ false }
+{
+    let mut line = Line::new(alloc);
+    for symbol in symbols {
+        let symbol = *symbol as usize;
+        line.add(alloc, symbol / 64, 1 << (symbol % 64))
+            .expect(rt, "memory");
+    }
+    line
+}
+
+// A rule between sets.
+fn between(rt: &impl Abort, alloc: Global, sources: &[u32], targets: &[u32]) -> Reach
+    ensures { IsShort result }
+{
+    Reach {
+        sources: line_of(rt, alloc, sources),
+        targets: Targets::These(line_of(rt, alloc, targets)),
+    }
+}
+
+// A rule of each source to itself.
+fn to_itself(rt: &impl Abort, alloc: Global, sources: &[u32]) -> Reach
+    ensures { IsShort result }
+{
+    Reach {
+        sources: line_of(rt, alloc, sources),
+        targets: Targets::Itself,
+    }
+}
+
+// The sources of a rule, and its targets, if these aren't each source itself.
+type Rule<'t> = (&'t [u32], Option<&'t [u32]>);
+
+fn reach(rt: &impl Abort, alloc: Global, rule: &Rule<'_>) -> Reach
+    ensures { IsShort result }
+{
+    match rule.1 {
+        Some(targets) => between(rt, alloc, rule.0, targets),
+        None => to_itself(rt, alloc, rule.0),
+    }
+}
+
+// A rule comes.
+fn add(rt: &impl Abort, alloc: Global, lines: &mut KeyedLines, rule: &Reach)
+    requires { IsShort rule.now }
+    ensures { (k : SymbolKey) (t : ℕ) → count_now lines.new k t ≡ count_now lines.old k t + one_if (gives rule.now 7 (3 ∷ 5 ∷ []) k t) }
+{
+    let none = Reach::none(alloc);
+    shift_rule(lines, alloc, CLASS, PERMISSIONS, &none, rule).expect(rt, "memory");
+}
+
+// The lines of two rules, kept.
+fn kept(rt: &impl Abort, alloc: Global, first: &Reach, second: &Reach) -> KeyedLines
+    requires first { IsShort first.now }
+    requires second { IsShort second.now }
+    ensures { (k : SymbolKey) (t : ℕ) → one_if (gives second.now 7 (3 ∷ 5 ∷ []) k t) ≤ count_now result k t }
+{
+    let mut lines = KeyedLines::new(alloc);
+    add(rt, alloc, &mut lines, first);
+    add(rt, alloc, &mut lines, second);
+    lines.settle();
+    lines
+}
+
+// A source and a target, and how many rules give the access before one rule comes in another's place, and behind it.
+type Counted = (usize, usize, u64, u64);
+
+// Whether a source and a target have so many rules by both permissions, and none by another class and permission.
+fn is_counted(lines: &KeyedLines, source: usize, target: usize, want: u64) -> bool {
+    for (class, permission, expected) in [(7, 3, want), (7, 5, want), (7, 4, 0), (6, 3, 0)] {
+        let key = SymbolKey {
+            source,
+            class,
+            permission,
+        };
+        if lines.count(key, target) != expected {
+            return false;
+        }
+    }
+    true
+}
+
+fn are_counted(lines: &KeyedLines, counts: &[Counted], behind: bool) -> bool {
+    for (source, target, before, after) in counts {
+        let want = if behind { *after } else { *before };
+        if !is_counted(lines, *source, *target, want) {
+            return false;
+        }
+    }
+    true
+}
+
+// Beside the first rule the third comes in the place of the second: how many counters move, how many words change, and accesses.
+type Shift<'t> = (Rule<'t>, Rule<'t>, Rule<'t>, u128, usize, &'t [Counted]);
+
+const SHIFTS: &[Shift<'static>] = &[
+    // Of two rules that give an access one goes.
+    (
+        (&[64, 70], Some(&[130, 131])),
+        (&[0, 63, 64], Some(&[1, 64, 130])),
+        NO_RULE,
+        18,
+        16,
+        &[
+            (64, 130, 2, 1),
+            (64, 131, 1, 1),
+            (64, 1, 1, 0),
+            (63, 64, 1, 0),
+            (63, 65, 0, 0),
+            (1, 64, 0, 0),
+            (0, 1, 1, 0),
+            (70, 130, 1, 1),
+        ],
+    ),
+    // By each permission source 2 loses two targets, 3 has one in place of another, and 128 comes with two. Sources 2 and 3 have a word
+    // each at 10 and 200, and 128 likewise; at 10 nothing changed for 3.
+    (
+        NO_RULE,
+        (&[2, 3], Some(&[10, 200])),
+        (&[3, 128], Some(&[10, 201])),
+        12,
+        10,
+        &[
+            (2, 10, 1, 0),
+            (3, 10, 1, 1),
+            (3, 200, 1, 0),
+            (3, 201, 0, 1),
+            (128, 10, 0, 1),
+        ],
+    ),
+    // By each permission sources 1 and 130 have one target in place of another and one more, 65 loses four, and 131 comes with five: two
+    // words of 1 and of 130, four of 65, and five of 131.
+    (
+        NO_RULE,
+        (&[1, 65, 130], Some(&[10, 70, 200, 300])),
+        (&[1, 130, 131], Some(&[10, 70, 201, 300, 400])),
+        30,
+        26,
+        &[
+            (1, 10, 1, 1),
+            (1, 70, 1, 1),
+            (1, 200, 1, 0),
+            (1, 201, 0, 1),
+            (1, 300, 1, 1),
+            (1, 400, 0, 1),
+            (65, 10, 1, 0),
+            (65, 70, 1, 0),
+            (65, 200, 1, 0),
+            (65, 201, 0, 0),
+            (65, 300, 1, 0),
+            (65, 400, 0, 0),
+            (130, 10, 1, 1),
+            (130, 70, 1, 1),
+            (130, 200, 1, 0),
+            (130, 201, 0, 1),
+            (130, 300, 1, 1),
+            (130, 400, 0, 1),
+            (131, 10, 0, 1),
+            (131, 70, 0, 1),
+            (131, 200, 0, 0),
+            (131, 201, 0, 1),
+            (131, 300, 0, 1),
+            (131, 400, 0, 1),
+        ],
+    ),
+    // Sets that stay.
+    (
+        NO_RULE,
+        (&[0, 64, 200], Some(&[63, 64, 500])),
+        (&[0, 64, 200], Some(&[63, 64, 500])),
+        0,
+        0,
+        &[(200, 500, 1, 1)],
+    ),
+    (
+        NO_RULE,
+        (&[3, 90], None),
+        (&[3, 90], None),
+        0,
+        0,
+        &[(90, 90, 1, 1)],
+    ),
+    // Sources themselves, which go.
+    (
+        NO_RULE,
+        (&[5, 64], None),
+        NO_RULE,
+        4,
+        4,
+        &[(5, 5, 1, 0), (64, 64, 1, 0), (5, 64, 0, 0), (6, 6, 0, 0)],
+    ),
+    // By each permission 5 has one more, 64 loses itself, 70 has two in place of itself, and 200 comes with two: one word of 5 and of 64,
+    // and two of 70 and of 200.
+    (
+        NO_RULE,
+        (&[5, 64, 70], None),
+        (&[5, 70, 200], Some(&[5, 64])),
+        14,
+        12,
+        &[
+            (5, 5, 1, 1),
+            (5, 64, 0, 1),
+            (64, 64, 1, 0),
+            (70, 70, 1, 0),
+            (70, 64, 0, 1),
+            (70, 5, 0, 1),
+            (200, 5, 0, 1),
+        ],
+    ),
+];
+
+const NO_RULE: Rule<'static> = (&[], None);
+
+#[test]
+fn rules_in_the_place_of_others(rt: HostRuntime) {
+    let alloc = rt.alloc();
+    for (beside, was, is, moved, words, counts) in SHIFTS {
+        let beside = reach(&rt, alloc, beside);
+        let was = reach(&rt, alloc, was);
+        let is = reach(&rt, alloc, is);
+        let mut lines = kept(&rt, alloc, &beside, &was);
+        assert!(&rt; are_counted(&lines, counts, false));
+        let found = shift_rule(&mut lines, alloc, CLASS, PERMISSIONS, &was, &is);
+        assert!(&rt; found.expect(&rt, "memory") == *moved);
+        assert!(&rt; are_counted(&lines, counts, true));
+        let changes = lines.changes(alloc).expect(&rt, "memory");
+        assert!(&rt; changes.len() == *words);
+        lines.undo();
+        assert!(&rt; are_counted(&lines, counts, false));
+    }
+}

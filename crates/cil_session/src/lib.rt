@@ -1,0 +1,10 @@
+//! Scripts: their lines, the commands on them, and the session that answers them.
+#![tactic(auto)]
+
+pub mod command;
+pub mod input;
+pub mod laws;
+pub mod line;
+pub mod memory;
+pub mod reply;
+pub mod session;

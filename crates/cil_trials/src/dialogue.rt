@@ -1,0 +1,173 @@
+//! Dialogues with a peer that sends on only once it has the answers so far.
+
+use crate::attempt::{end_word, set_up, write_number};
+use crate::case::{Case, Peer};
+use crate::engine::{Engine, Heap};
+use crate::fault::Fault;
+use crate::state::write_state;
+use cil_program::script::session::{SessionFault, Status};
+use cil_stream::{MemorySink, MemorySource, ReaderSource, WriterSink, write_all, write_pieces};
+use refusing::Refusing;
+use std::alloc::Global;
+use std::cell::Cell;
+use std::io;
+use std::io::{BufWriter, ErrorKind, Read, Write};
+
+/// What came to the peer: how many bytes, and in how many writes.
+#[derive(Drop)]
+struct Arrived {
+    bytes: Cell<usize>,
+    writes: Cell<usize>,
+}
+
+/// The peer's end of the output.
+#[derive(Drop)]
+struct Wire<'a> {
+    arrived: &'a Arrived,
+}
+
+impl<'a> Write for Wire<'a> {
+    fn write(&mut self, piece: &[u8]) -> io::Result<usize> {
+        let bytes = self.arrived.bytes.get().saturating_add(piece.len());
+        let writes = self.arrived.writes.get().saturating_add(1);
+        self.arrived.bytes.set(bytes);
+        self.arrived.writes.set(writes);
+        Ok(piece.len())
+    }
+
+    fn flush(&mut self) -> io::Result<()> {
+        Ok(())
+    }
+}
+
+/// The peer's end of the input: it gives a part of its script a call, and notes how many bytes it has when it is asked.
+#[derive(Drop)]
+struct Sender<'a> {
+    script: &'a [u8],
+    parts: &'a [usize],
+    arrived: &'a Arrived,
+    asked: &'a mut Vec<usize>,
+}
+
+impl<'a> Sender<'a> {
+    /// The next part of the script.
+    fn next_part(&mut self) -> &'a [u8] {
+        let Some((size, parts)) = self.parts.split_first() else {
+            return b"";
+        };
+        let part = self.script.get(..*size).unwrap_or(self.script);
+        self.script = self.script.get(*size..).unwrap_or(b"");
+        self.parts = parts;
+        part
+    }
+}
+
+impl<'a> Read for Sender<'a> {
+    fn read(&mut self, buffer: &mut [u8]) -> io::Result<usize> {
+        if self.asked.push(self.arrived.bytes.get()).is_err() {
+            return Err(io::Error::from(ErrorKind::OutOfMemory));
+        }
+        let part = self.next_part();
+        let n = part.len().min(buffer.len());
+        buffer[..n].copy_from_slice(&part[..n]);
+        Ok(n)
+    }
+}
+
+/// Writes how often the peer was asked, and how many bytes of answers it had each time.
+fn write_asked(report: &mut MemorySink, asked: &[usize], arrived: &Arrived) -> Result<(), Fault> {
+    write_all(report, b"asked at")?;
+    for bytes in asked {
+        write_number(report, " ", *bytes, "")?;
+    }
+    write_number(report, "\nwritten ", arrived.bytes.get(), "")?;
+    write_number(report, " in ", arrived.writes.get(), " writes\n")
+}
+
+fn write_end(report: &mut MemorySink, end: Result<Status, SessionFault>) -> Result<(), Fault> {
+    write_pieces(report, &[b"status ", end_word(end).as_bytes(), b"\n"])?;
+    Ok(())
+}
+
+/// A session with a peer, which notes what it had each time it was asked.
+fn talk<'h>(
+    alloc: Global,
+    heap: &'h Heap,
+    engine: &mut Engine<'h>,
+    sender: Sender<'_>,
+) -> Result<Result<Status, SessionFault>, Fault> {
+    let wire = Wire {
+        arrived: sender.arrived,
+    };
+    let Ok(writer) = BufWriter::new(alloc, wire) else {
+        return Err(Fault::Memory);
+    };
+    let mut source = ReaderSource::new(sender);
+    let mut sink = WriterSink::new(writer);
+    Ok(engine.session(heap, &mut source, &mut sink))
+}
+
+/// Holds a session with a peer, and writes what it had each time it was asked for more.
+pub fn hold_dialogue(
+    alloc: Global,
+    case: &Case<'_>,
+    peer: &Peer,
+    report: &mut MemorySink,
+) -> Result<(), Fault> {
+    let heap = Refusing::new(alloc);
+    let mut engine = Engine::new(case.kind, &heap);
+    set_up(alloc, &heap, &mut engine, case)?;
+    let arrived = Arrived {
+        bytes: Cell::new(0),
+        writes: Cell::new(0),
+    };
+    let mut asked = Vec::new(alloc);
+    let sender = Sender {
+        script: case.script,
+        parts: peer.parts.as_slice(),
+        arrived: &arrived,
+        asked: &mut asked,
+    };
+    let end = talk(alloc, &heap, &mut engine, sender)?;
+    write_end(report, end)?;
+    write_asked(report, asked.as_slice(), &arrived)
+}
+
+/// A writer that takes all, and whose flushes fail after so many.
+#[derive(Drop)]
+struct Clogged {
+    flushes: usize,
+}
+
+impl Write for Clogged {
+    fn write(&mut self, piece: &[u8]) -> io::Result<usize> {
+        Ok(piece.len())
+    }
+
+    fn flush(&mut self) -> io::Result<()> {
+        if self.flushes == 0 {
+            return Err(io::Error::from(ErrorKind::BrokenPipe));
+        }
+        self.flushes -= 1;
+        Ok(())
+    }
+}
+
+/// A session over a sink whose flushes fail after so many, and the state after it.
+pub fn try_flushes(
+    alloc: Global,
+    case: &Case<'_>,
+    flushes: usize,
+    report: &mut MemorySink,
+) -> Result<(), Fault> {
+    let heap = Refusing::new(alloc);
+    let mut engine = Engine::new(case.kind, &heap);
+    set_up(alloc, &heap, &mut engine, case)?;
+    let mut source = MemorySource::new(case.script);
+    let mut sink = WriterSink::new(Clogged { flushes });
+    let end = engine.session(&heap, &mut source, &mut sink);
+    write_end(report, end)?;
+    write_number(report, "given ", source.given(), "\n")?;
+    write_all(report, b"state\n")?;
+    write_state(report, &heap, &mut engine, &case.names)
+}

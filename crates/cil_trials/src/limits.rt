@@ -1,0 +1,25 @@
+//! What the devices of a trial give and take.
+
+/// How much the source gives a call and in all before it fails, after how many bytes it ends, and how much the sink takes a call and in
+/// all before it fails.
+#[derive(Clone, Copy, Debug)]
+pub struct Limits {
+    pub give: usize,
+    pub given: usize,
+    pub end: usize,
+    pub take: usize,
+    pub taken: usize,
+}
+
+impl Limits {
+    /// Devices that give and take all.
+    pub fn none() -> Limits {
+        Limits {
+            give: usize::MAX,
+            given: usize::MAX,
+            end: usize::MAX,
+            take: usize::MAX,
+            taken: usize::MAX,
+        }
+    }
+}
