@@ -2,7 +2,7 @@
 
 use crate::shown::{shown, shown_if};
 use cil_rules::{Atom, Changes, Row, write_row_line};
-use cil_store::{Compiled, Edit, Entry, FaultKind, Plain, Refusal};
+use cil_store::{Compiled, Edit, Entry, FaultKind, Plain, Refusal, StoreFault};
 use cil_stream::MemorySink;
 use cil_text::RuleKind;
 use std::alloc::{AllocError, Global};
@@ -40,6 +40,54 @@ fn an_engine_of_entries(rt: HostRuntime) {
         let changes = engine.edit(Edit::Disable { name }).expect(&rt, "an edit");
         assert_eq!(rt; (changes.added_len(), changes.removed_len()), (0, 1));
     }
+}
+
+// Edits that a store takes: m has two texts, and n is disabled.
+const TAKEN: &[Edit<'static>] = &[
+    Edit::Install {
+        name: b"m",
+        priority: 401,
+        text: b";",
+    },
+    Edit::Install {
+        name: b"m",
+        priority: 400,
+        text: b"(type c)",
+    },
+    Edit::Install {
+        name: b"n",
+        priority: 1,
+        text: b"(type a)",
+    },
+    Edit::Disable { name: b"n" },
+];
+
+// Names, the text that counts of each, and whether it is disabled.
+const STATES: &[(&[u8], Option<&str>, bool)] = &[
+    (b"m", Some(";"), false),
+    (b"n", None, true),
+    (b"q", None, false),
+];
+
+#[test]
+fn names_of_a_store(rt: HostRuntime) {
+    let mut engine = Plain::new(rt.alloc());
+    for edit in TAKEN {
+        engine.edit(*edit).expect(&rt, "an edit");
+    }
+    let store = engine.store();
+    for (name, active, is_disabled) in STATES {
+        let found = (shown_if(store.active(name)), store.is_disabled(name));
+        assert_eq!(rt; found, (*active, *is_disabled));
+    }
+    let disabled = (shown_if(store.disabled(0)), shown_if(store.disabled(1)));
+    assert_eq!(rt; (store.disabled_len(), disabled), (1, (Some("n"), None)));
+    assert_eq!(rt;
+        store.check_install(b"", 400, 0),
+        Err(StoreFault::BadModuleName)
+    );
+    let enabling = store.check(Edit::Enable { name: b"q" });
+    assert_eq!(rt; enabling, Err(StoreFault::NotInstalled));
 }
 
 // The installs of the module m that are refused: by the store, for a text, and for the policy. A place has an offset too.

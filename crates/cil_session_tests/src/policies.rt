@@ -38,7 +38,8 @@ fn joined<'m>(
 ) -> Result<Joined<'m>, AllocError>
     requires first { (text : List ℕ) × IsParsed text m.now }
     requires second { (text : List ℕ) × IsParsed text n.now }
-    ensures { IfOk result (λ joined. (modules : List Module) × AreParsedFrom joined.modules.items modules) }
+    ensures parsed { IfOk result (λ joined. (modules : List Module) × AreParsedFrom joined.modules.items modules) }
+    ensures spelt { IfOk result (λ joined. (modules : List Module) × AreSpelt joined.modules.items modules) }
 {
     let modules = Vec::from_array(
         alloc,
