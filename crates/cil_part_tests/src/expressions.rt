@@ -1,10 +1,12 @@
 //! Expressions of each operator over two names, and what they hold by whether those do.
 
+ghost use Rattle.cil_expression.specs.Spelling.{IsWhole};
+
 use crate::policies::policy;
 use cil_expression::{Element, SetExpression};
 use cil_parse::SetNode;
 use cil_resolve::{Meter, Resolved};
-use std::alloc::Global;
+use std::alloc::{AllocError, Global};
 use std::process::Abort;
 
 // Two types and two attributes.
@@ -91,15 +93,42 @@ fn expressions_by_their_names(rt: HostRuntime) {
     }
 }
 
-// One name, alone and as the only element of a list, with nodes of its own.
+// The nodes and the names of one expression.
+#[derive(Drop)]
+struct Spelling {
+    nodes: Vec<SetNode>,
+    names: Vec<Element>,
+    ghost spelt: { IsWhole nodes.items names.items },
+}
+
+// One name with a node of its own.
+fn alone(alloc: Global, element: Element) -> Result<Spelling, AllocError> {
+    let mut nodes = Vec::new(alloc);
+    nodes.push(SetNode::Name)?;
+    let mut names = Vec::new(alloc);
+    names.push(element)?;
+    Ok(Spelling { nodes, names })
+}
+
+// One name as the only element of a list, with nodes of its own.
+fn in_list(alloc: Global, element: Element) -> Result<Spelling, AllocError> {
+    let mut nodes = Vec::new(alloc);
+    nodes.push(SetNode::Element)?;
+    nodes.push(SetNode::Name)?;
+    nodes.push(SetNode::Nothing)?;
+    let mut names = Vec::new(alloc);
+    names.push(element)?;
+    Ok(Spelling { nodes, names })
+}
+
+fn expression(x: Spelling) -> SetExpression {
+    SetExpression::new(x.nodes, x.names)
+}
+
 fn spelt(rt: &impl Abort, alloc: Global, element: Element) -> (SetExpression, SetExpression) {
-    let name = Vec::from_array(alloc, [SetNode::Name]).expect(rt, "memory");
-    let names = Vec::from_array(alloc, [element]).expect(rt, "memory");
-    let alone = SetExpression::new(name, names);
-    let list = [SetNode::Element, SetNode::Name, SetNode::Nothing];
-    let nodes = Vec::from_array(alloc, list).expect(rt, "memory");
-    let names = Vec::from_array(alloc, [element]).expect(rt, "memory");
-    (alone, SetExpression::new(nodes, names))
+    let alone = alone(alloc, element).expect(rt, "memory");
+    let list = in_list(alloc, element).expect(rt, "memory");
+    (expression(alone), expression(list))
 }
 
 fn are_same(x: &SetExpression, y: &SetExpression) -> bool {

@@ -1,14 +1,15 @@
 //! What is asked of an engine: the script of a session, a list of calls, or a list of entries at once.
 
-use crate::attempt::make_attempt;
+use crate::attempt::write_answer;
 use crate::case::{Case, Way, first_line};
-use crate::engine::{Engine, Heap};
+use crate::engine::{Engine, Heap, Memory};
 use crate::fault::Fault;
-use crate::limits::Limits;
 use cil_program::script::command::{ScriptLine, script_line};
 use cil_program::script::reply;
+use cil_rules::Rows;
 use cil_store::{Call, Edit, Entry, Plain, Reply};
-use cil_stream::{MemorySink, write_all};
+use cil_stream::{MemorySink, SinkFault, write_all};
+use cil_violations::Violations;
 use std::alloc::Global;
 
 /// The text of an install, and what follows its line feed.
@@ -48,9 +49,8 @@ fn call_of<'a>(line: &'a [u8], rest: &'a [u8]) -> Result<(Call<'a>, &'a [u8]), F
     Ok((call, rest))
 }
 
-/// The calls that the commands of a script ask for.
-fn calls_of(alloc: Global, script: &[u8]) -> Result<Vec<Call<'_>>, Fault> {
-    let mut calls = Vec::new(alloc);
+/// Appends the calls that the commands of a script ask for.
+fn push_calls<'a>(calls: &mut Vec<Call<'a>>, script: &'a [u8]) -> Result<(), Fault> {
     let mut rest = script;
     for _ in 0..script.len() {
         if rest.is_empty() {
@@ -61,104 +61,157 @@ fn calls_of(alloc: Global, script: &[u8]) -> Result<Vec<Call<'_>>, Fault> {
         calls.push(call)?;
         rest = after;
     }
-    Ok(calls)
+    Ok(())
 }
 
-/// The entries that the commands of a script install.
-fn entries_of(alloc: Global, script: &[u8]) -> Result<Vec<Entry<'_>>, Fault> {
-    let mut entries = Vec::new(alloc);
-    for call in &calls_of(alloc, script)? {
-        match *call {
-            Call::Edit(
-                Edit::Install {
-                    name,
-                    priority,
-                    text,
-                },
-            ) => entries.push(Entry {
+/// The calls that the commands of a script ask for.
+fn calls_of(alloc: Global, script: &[u8]) -> Result<Vec<Call<'_>>, Fault> {
+    let mut calls = Vec::new(alloc);
+    match push_calls(&mut calls, script) {
+        Ok(()) => Ok(calls),
+        Err(fault) => Err(fault),
+    }
+}
+
+/// The entry that a call installs.
+fn entry_of<'a>(call: Call<'a>) -> Option<Entry<'a>> {
+    match call {
+        Call::Edit(
+            Edit::Install {
                 name,
                 priority,
                 text,
-            })?,
-            _ => return Err(Fault::Case),
-        }
+            },
+        ) => Some(Entry {
+            name,
+            priority,
+            text,
+        }),
+        _ => None,
     }
-    Ok(entries)
 }
 
-fn write_reply(sink: &mut MemorySink, reply: &Reply<&Heap>) -> Result<(), Fault> {
-    match reply {
-        Reply::Changes(changes) => reply::write_changes(sink, changes)?,
-        Reply::Refused(refusal) => reply::write_refusal(sink, refusal)?,
-        Reply::Dropped(dropped) => reply::write_dropped(sink, dropped)?,
-        Reply::Listing(text) => write_all(sink, text.as_slice())?,
-        Reply::Violations(violations) => {
-            let count = violations.write(sink)?;
-            reply::write_end(sink, count as u128)?;
-        }
-        Reply::Rows(rows) => {
-            let count = rows.write(sink)?;
-            reply::write_end(sink, count as u128)?;
-        }
+/// Appends the entries that calls install.
+fn push_entries<'a>(entries: &mut Vec<Entry<'a>>, calls: &[Call<'a>]) -> Result<(), Fault> {
+    for call in calls {
+        let Some(entry) = entry_of(*call) else {
+            return Err(Fault::Case);
+        };
+        entries.push(entry)?;
     }
     Ok(())
 }
 
-/// Has `run` make the calls of a script, and writes its replies.
-fn run_calls<'h>(
-    alloc: Global,
-    heap: &'h Heap,
-    engine: &mut Engine<'h>,
-    script: &[u8],
-) -> Result<MemorySink, Fault> {
+/// The entries that the commands of a script install.
+fn entries_of(alloc: Global, script: &[u8]) -> Result<Vec<Entry<'_>>, Fault> {
     let calls = calls_of(alloc, script)?;
-    let mut answer = MemorySink::new(alloc);
-    match engine.run(heap, calls.as_slice()) {
-        Ok(replies) => {
-            for reply in &replies {
-                write_reply(&mut answer, reply)?;
-            }
-        }
-        Err(_) => reply::write_no_memory(&mut answer)?,
+    let mut entries = Vec::new(alloc);
+    match push_entries(&mut entries, calls.as_slice()) {
+        Ok(()) => Ok(entries),
+        Err(fault) => Err(fault),
     }
-    Ok(answer)
 }
 
-/// Compiles the entries of a script at once, in place of what the engine has.
-fn compile_at_once<'h>(
-    alloc: Global,
+fn write_rows(sink: &mut MemorySink, rows: &Rows<&Heap>) -> Result<(), SinkFault> {
+    let count = rows.write(sink)?;
+    reply::write_end(sink, count as u128)
+}
+
+fn write_violations(
+    sink: &mut MemorySink,
+    violations: &Violations<&Heap>,
+) -> Result<(), SinkFault> {
+    let count = violations.write(sink)?;
+    reply::write_end(sink, count as u128)
+}
+
+fn write_reply(sink: &mut MemorySink, reply: &Reply<&Heap>) -> Result<(), SinkFault> {
+    match reply {
+        Reply::Changes(changes) => reply::write_changes(sink, changes),
+        Reply::Refused(refusal) => reply::write_refusal(sink, refusal),
+        Reply::Dropped(dropped) => reply::write_dropped(sink, dropped),
+        Reply::Listing(text) => write_all(sink, text.as_slice()),
+        Reply::Violations(violations) => write_violations(sink, violations),
+        Reply::Rows(rows) => write_rows(sink, rows),
+    }
+}
+
+fn write_replies(sink: &mut MemorySink, replies: &[Reply<&Heap>]) -> Result<(), SinkFault> {
+    for reply in replies {
+        write_reply(sink, reply)?;
+    }
+    Ok(())
+}
+
+/// Has `run` make calls, and writes its replies.
+fn run_calls<'h>(
+    sink: &mut MemorySink,
     heap: &'h Heap,
     engine: &mut Engine<'h>,
-    script: &[u8],
-) -> Result<MemorySink, Fault> {
-    let entries = entries_of(alloc, script)?;
-    let mut answer = MemorySink::new(alloc);
-    match Plain::of(heap, entries.as_slice()) {
+    calls: &[Call<'_>],
+) -> Result<(), SinkFault> {
+    match engine.run(heap, calls) {
+        Ok(replies) => write_replies(sink, replies.as_slice()),
+        Err(_) => reply::write_no_memory(sink),
+    }
+}
+
+/// Compiles entries at once, in place of what the engine has.
+fn compile_at_once<'h>(
+    sink: &mut MemorySink,
+    heap: &'h Heap,
+    engine: &mut Engine<'h>,
+    entries: &[Entry<'_>],
+) -> Result<(), SinkFault> {
+    match Plain::of(heap, entries) {
         Ok(made) => {
             *engine = Engine::Plain(made);
-            write_all(&mut answer, b"compiled\n")?;
+            write_all(sink, b"compiled\n")
         }
-        Err(refusal) => reply::write_refusal(&mut answer, &refusal)?,
+        Err(refusal) => reply::write_refusal(sink, &refusal),
     }
-    Ok(answer)
+}
+
+fn ask_to_run<'h>(
+    sink: &mut MemorySink,
+    memory: Memory<'h>,
+    engine: &mut Engine<'h>,
+    script: &[u8],
+) -> Result<(), Fault> {
+    let calls = calls_of(memory.ample, script)?;
+    match run_calls(sink, memory.heap, engine, calls.as_slice()) {
+        Ok(()) => Ok(()),
+        Err(_) => Err(Fault::Memory),
+    }
+}
+
+fn ask_to_compile<'h>(
+    sink: &mut MemorySink,
+    memory: Memory<'h>,
+    engine: &mut Engine<'h>,
+    script: &[u8],
+) -> Result<(), Fault> {
+    let entries = entries_of(memory.ample, script)?;
+    match compile_at_once(sink, memory.heap, engine, entries.as_slice()) {
+        Ok(()) => Ok(()),
+        Err(_) => Err(Fault::Memory),
+    }
 }
 
 /// Asks an engine what a case tries, and gives the answer.
 pub fn answer<'h>(
-    alloc: Global,
-    heap: &'h Heap,
+    memory: Memory<'h>,
     engine: &mut Engine<'h>,
     case: &Case<'_>,
-    limits: Limits,
 ) -> Result<MemorySink, Fault> {
-    match case.way {
-        Way::Session => {
-            let mut answer = MemorySink::new(alloc);
-            let tried = make_attempt(alloc, heap, engine, case.script, limits);
-            tried.write_answer(&mut answer)?;
-            Ok(answer)
-        }
-        Way::Run => run_calls(alloc, heap, engine, case.script),
-        Way::AtOnce => compile_at_once(alloc, heap, engine, case.script),
+    let mut sink = MemorySink::new(memory.ample);
+    let asked = match case.way {
+        Way::Session => write_answer(&mut sink, memory, engine, case.script),
+        Way::Run => ask_to_run(&mut sink, memory, engine, case.script),
+        Way::AtOnce => ask_to_compile(&mut sink, memory, engine, case.script),
+    };
+    match asked {
+        Ok(()) => Ok(sink),
+        Err(fault) => Err(fault),
     }
 }

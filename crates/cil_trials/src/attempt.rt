@@ -1,21 +1,12 @@
-//! A session that is tried over devices with limits.
+//! Sessions that are tried over devices with limits.
 
 use crate::case::Case;
-use crate::engine::{Engine, Heap};
+use crate::engine::{Engine, Memory};
 use crate::fault::Fault;
 use crate::limits::Limits;
 use cil_program::script::session::{SessionFault, Status};
 use cil_stream::{MemorySink, MemorySource, write_all, write_pieces};
 use itoa::Buffer;
-use std::alloc::Global;
-
-/// What came of a session: how it ended, how many bytes its source gave, and what it wrote.
-#[derive(Drop)]
-pub struct Attempt {
-    pub end: Result<Status, SessionFault>,
-    pub given: usize,
-    pub written: Vec<u8>,
-}
 
 /// The word for how a session ended.
 pub fn end_word(end: Result<Status, SessionFault>) -> &'static str {
@@ -28,7 +19,23 @@ pub fn end_word(end: Result<Status, SessionFault>) -> &'static str {
     }
 }
 
-/// Writes a line of words with a number.
+/// Writes a text.
+pub fn write_text(report: &mut MemorySink, text: &[u8]) -> Result<(), Fault> {
+    match write_all(report, text) {
+        Ok(()) => Ok(()),
+        Err(_) => Err(Fault::Memory),
+    }
+}
+
+/// Writes texts one after the other.
+pub fn write_texts(report: &mut MemorySink, texts: &[&[u8]]) -> Result<(), Fault> {
+    match write_pieces(report, texts) {
+        Ok(()) => Ok(()),
+        Err(_) => Err(Fault::Memory),
+    }
+}
+
+/// Writes a number between two texts.
 pub fn write_number(
     report: &mut MemorySink,
     before: &str,
@@ -37,73 +44,93 @@ pub fn write_number(
 ) -> Result<(), Fault> {
     let mut digits = Buffer::new();
     let number = digits.format(number).as_bytes();
-    write_pieces(report, &[before.as_bytes(), number, after.as_bytes()])?;
-    Ok(())
+    write_texts(report, &[before.as_bytes(), number, after.as_bytes()])
+}
+
+/// Writes how a session ended.
+pub fn write_end(report: &mut MemorySink, end: Result<Status, SessionFault>) -> Result<(), Fault> {
+    write_texts(report, &[b"status ", end_word(end).as_bytes(), b"\n"])
 }
 
 /// Writes bytes, with a line feed after them where they end within a line.
-pub fn write_lines(report: &mut MemorySink, bytes: &[u8]) -> Result<(), Fault> {
-    write_all(report, bytes)?;
-    if let Some(last) = bytes.last() {
-        if *last != b'\n' {
-            write_all(report, b"\n")?;
-        }
-    }
-    Ok(())
-}
-
-impl Attempt {
-    /// Writes how the session ended and what it wrote.
-    pub fn write_answer(&self, report: &mut MemorySink) -> Result<(), Fault> {
-        write_pieces(report, &[b"status ", end_word(self.end).as_bytes(), b"\n"])?;
-        write_lines(report, self.written.as_slice())
-    }
-
-    /// Writes all of it. Where the source gave all up to its limit, and the sink took all up to its limit, no number is told.
-    pub fn write(&self, report: &mut MemorySink, limits: Limits) -> Result<(), Fault> {
-        write_pieces(report, &[b"status ", end_word(self.end).as_bytes(), b"\n"])?;
-        if self.given == limits.given.min(limits.end) {
-            write_all(report, b"given all\n")?;
-        } else {
-            write_number(report, "given ", self.given, "\n")?;
-        }
-        if self.written.len() == limits.taken {
-            write_all(report, b"written as much as is taken\n")?;
-            return Ok(());
-        }
-        write_number(report, "written ", self.written.len(), "\n")?;
-        write_lines(report, self.written.as_slice())
+fn write_lines(report: &mut MemorySink, bytes: &[u8]) -> Result<(), Fault> {
+    match bytes.last() {
+        Some(b'\n') | None => write_text(report, bytes),
+        Some(_) => write_texts(report, &[bytes, b"\n"]),
     }
 }
 
-/// Answers a script over devices with limits.
-pub fn make_attempt<'h>(
-    alloc: Global,
-    heap: &'h Heap,
+/// Writes how much the source gave. Where it gave all up to its limit, no number is told.
+fn write_given(report: &mut MemorySink, given: usize, limits: Limits) -> Result<(), Fault> {
+    if given == limits.given.min(limits.end) {
+        write_text(report, b"given all\n")
+    } else {
+        write_number(report, "given ", given, "\n")
+    }
+}
+
+/// Writes what a session wrote. Where the sink took all up to its limit, no number is told.
+fn write_written(report: &mut MemorySink, written: &[u8], limits: Limits) -> Result<(), Fault> {
+    if written.len() == limits.taken {
+        return write_text(report, b"written as much as is taken\n");
+    }
+    write_number(report, "written ", written.len(), "\n")?;
+    write_lines(report, written)
+}
+
+/// Writes what comes of a script over devices with limits.
+pub fn write_session<'h>(
+    report: &mut MemorySink,
+    memory: Memory<'h>,
     engine: &mut Engine<'h>,
     script: &[u8],
     limits: Limits,
-) -> Attempt {
+) -> Result<(), Fault> {
     let script = script.get(..limits.end).unwrap_or(script);
     let mut source = MemorySource::with_limits(script, limits.give, limits.given);
-    let mut sink = MemorySink::with_limits(alloc, limits.take, limits.taken);
-    let end = engine.session(heap, &mut source, &mut sink);
-    Attempt {
-        end,
-        given: source.given(),
-        written: sink.into_bytes(),
-    }
+    let mut sink = MemorySink::with_limits(memory.ample, limits.take, limits.taken);
+    let end = engine.session(memory.heap, &mut source, &mut sink);
+    write_end(report, end)?;
+    write_given(report, source.given(), limits)?;
+    write_written(report, sink.bytes(), limits)
+}
+
+/// Writes how the session of a script ends and what it answers.
+pub fn write_answer<'h>(
+    report: &mut MemorySink,
+    memory: Memory<'h>,
+    engine: &mut Engine<'h>,
+    script: &[u8],
+) -> Result<(), Fault> {
+    let mut source = MemorySource::new(script);
+    let mut sink = MemorySink::new(memory.ample);
+    let end = engine.session(memory.heap, &mut source, &mut sink);
+    write_end(report, end)?;
+    write_lines(report, sink.bytes())
+}
+
+/// How many bytes a sink takes of the answer to a case.
+pub fn written_of<'h>(
+    memory: Memory<'h>,
+    engine: &mut Engine<'h>,
+    case: &Case<'_>,
+) -> Result<usize, Fault> {
+    set_up(memory, engine, case)?;
+    let mut source = MemorySource::new(case.script);
+    let mut sink = MemorySink::new(memory.ample);
+    let _end = engine.session(memory.heap, &mut source, &mut sink);
+    Ok(sink.bytes().len())
 }
 
 /// Makes the store of a case. Its commands are whole.
 pub fn set_up<'h>(
-    alloc: Global,
-    heap: &'h Heap,
+    memory: Memory<'h>,
     engine: &mut Engine<'h>,
     case: &Case<'_>,
 ) -> Result<(), Fault> {
-    let made = make_attempt(alloc, heap, engine, case.before, Limits::none());
-    match made.end {
+    let mut source = MemorySource::new(case.before);
+    let mut sink = MemorySink::new(memory.ample);
+    match engine.session(memory.heap, &mut source, &mut sink) {
         Ok(Status::Clean) | Ok(Status::Refused) => Ok(()),
         _ => Err(Fault::Case),
     }

@@ -108,104 +108,133 @@ pub fn first_line(text: &[u8]) -> (&[u8], &[u8]) {
     (text, b"")
 }
 
-fn number(word: Option<&str>) -> Result<usize, Fault> {
-    match word {
-        Some(word) => word.parse::<usize>().map_err(|_| Fault::Case),
+/// Which growths are refused.
+fn refusal_of(how: &str, nth: u64) -> Option<Refusal> {
+    match how {
+        "alone" => Some(Refusal::Alone(nth)),
+        "from" => Some(Refusal::From(nth)),
+        _ => None,
+    }
+}
+
+fn each_of(what: &str) -> Option<Each> {
+    match what {
+        "source-fails" => Some(Each::SourceFails),
+        "source-ends" => Some(Each::SourceEnds),
+        "sink-fails" => Some(Each::SinkFails),
+        "growth" => Some(Each::Growth),
+        _ => None,
+    }
+}
+
+fn kind_of(engine: &str) -> Option<Kind> {
+    match engine {
+        "plain" => Some(Kind::Plain),
+        "delta" => Some(Kind::Delta),
+        _ => None,
+    }
+}
+
+fn way_of(way: &str) -> Option<Way> {
+    match way {
+        "session" => Some(Way::Session),
+        "run" => Some(Way::Run),
+        "once" => Some(Way::AtOnce),
+        _ => None,
+    }
+}
+
+/// Puts what a word stands for in its place. A word that stands for nothing is no case.
+fn put<T: Copy>(place: &mut T, value: Option<T>) -> Result<(), Fault> {
+    match value {
+        Some(value) => {
+            *place = value;
+            Ok(())
+        }
         None => Err(Fault::Case),
     }
 }
 
-/// Reads a line that says which growths are refused.
-fn refusal_of(how: &str, nth: u64) -> Result<Refusal, Fault> {
-    match how {
-        "alone" => Ok(Refusal::Alone(nth)),
-        "from" => Ok(Refusal::From(nth)),
-        _ => Err(Fault::Case),
+fn push<'a>(names: &mut Vec<&'a str>, name: &'a str) -> Result<(), Fault> {
+    match names.push(name) {
+        Ok(()) => Ok(()),
+        Err(_) => Err(Fault::Memory),
     }
 }
 
-fn each_of(what: &str) -> Result<Each, Fault> {
-    match what {
-        "source-fails" => Ok(Each::SourceFails),
-        "source-ends" => Ok(Each::SourceEnds),
-        "sink-fails" => Ok(Each::SinkFails),
-        "growth" => Ok(Each::Growth),
-        _ => Err(Fault::Case),
-    }
-}
-
-fn kind_of(engine: &str) -> Result<Kind, Fault> {
-    match engine {
-        "plain" => Ok(Kind::Plain),
-        "delta" => Ok(Kind::Delta),
-        _ => Err(Fault::Case),
-    }
-}
-
-fn way_of(way: &str) -> Result<Way, Fault> {
-    match way {
-        "session" => Ok(Way::Session),
-        "run" => Ok(Way::Run),
-        "once" => Ok(Way::AtOnce),
-        _ => Err(Fault::Case),
+fn push_part(alloc: Global, peer: &mut Option<Peer>, size: usize) -> Result<(), Fault> {
+    let peer = peer.get_or_insert(Peer {
+        parts: Vec::new(alloc),
+    });
+    match peer.parts.push(size) {
+        Ok(()) => Ok(()),
+        Err(_) => Err(Fault::Memory),
     }
 }
 
 impl<'a> Case<'a> {
-    /// Notes what a line of two words says.
+    /// Notes what a line of a word says.
     fn note(&mut self, alloc: Global, about: &str, word: &'a str) -> Result<(), Fault> {
         match about {
-            "engine" => self.kind = kind_of(word)?,
-            "way" => self.way = way_of(word)?,
-            "each" => self.each = Some(each_of(word)?),
-            "attribute" => self.names.attributes.push(word)?,
-            "type" => self.names.types.push(word)?,
-            "part" => self.note_part(alloc, number(Some(word))?)?,
-            _ => self.note_limit(about, number(Some(word))?)?,
+            "engine" => put(&mut self.kind, kind_of(word)),
+            "way" => put(&mut self.way, way_of(word)),
+            "each" => put(&mut self.each, Some(each_of(word))),
+            "attribute" => push(&mut self.names.attributes, word),
+            "type" => push(&mut self.names.types, word),
+            _ => match word.parse::<usize>() {
+                Ok(size) => self.note_size(alloc, about, size),
+                Err(_) => Err(Fault::Case),
+            },
         }
-        Ok(())
     }
 
-    fn note_part(&mut self, alloc: Global, size: usize) -> Result<(), Fault> {
-        let peer = self.peer.get_or_insert(Peer {
-            parts: Vec::new(alloc),
-        });
-        peer.parts.push(size)?;
-        Ok(())
-    }
-
-    fn note_limit(&mut self, about: &str, size: usize) -> Result<(), Fault> {
+    /// Notes what a line of a number says.
+    fn note_size(&mut self, alloc: Global, about: &str, size: usize) -> Result<(), Fault> {
         match about {
-            "give" => self.limits.give = size,
-            "given" => self.limits.given = size,
-            "end" => self.limits.end = size,
-            "take" => self.limits.take = size,
-            "taken" => self.limits.taken = size,
-            "flushes" => self.flushes = Some(size),
-            _ => return Err(Fault::Case),
+            "part" => push_part(alloc, &mut self.peer, size),
+            "flushes" => put(&mut self.flushes, Some(Some(size))),
+            _ => self.limits.note(about, size),
         }
-        Ok(())
     }
 
-    /// Notes what a line of three words says.
+    /// Notes what a line of two words says.
     fn note_pair(&mut self, about: &str, first: &'a str, second: &'a str) -> Result<(), Fault> {
-        match about {
-            "refuse" => self.refusal = refusal_of(first, number(Some(second))? as u64)?,
-            "access" => self.names.permissions.push((first, second))?,
-            _ => return Err(Fault::Case),
+        match (about, second.parse::<u64>()) {
+            ("access", _) => match self.names.permissions.push((first, second)) {
+                Ok(()) => Ok(()),
+                Err(_) => Err(Fault::Memory),
+            },
+            ("refuse", Ok(nth)) => put(&mut self.refusal, refusal_of(first, nth)),
+            _ => Err(Fault::Case),
         }
-        Ok(())
     }
 
     /// Notes a script.
-    fn note_script(&mut self, about: &str, script: &'a [u8]) -> Result<(), Fault> {
+    fn note_script(&mut self, about: &str, script: &'a [u8]) {
         match about {
             "before" => self.before = script,
             "script" => self.script = script,
-            "then" => self.then = script,
-            _ => return Err(Fault::Case),
+            _ => self.then = script,
         }
-        Ok(())
+    }
+
+    /// Notes the script of so many bytes, and gives what follows it.
+    fn take_script(
+        &mut self,
+        about: &str,
+        length: &str,
+        rest: &'a [u8],
+    ) -> Result<&'a [u8], Fault> {
+        let Ok(length) = length.parse::<usize>() else {
+            return Err(Fault::Case);
+        };
+        match (rest.get(..length), rest.get(length..)) {
+            (Some(script), Some(after)) => {
+                self.note_script(about, script);
+                Ok(after)
+            }
+            _ => Err(Fault::Case),
+        }
     }
 
     /// Notes a line, and gives what follows it and its script.
@@ -216,33 +245,41 @@ impl<'a> Case<'a> {
         rest: &'a [u8],
     ) -> Result<&'a [u8], Fault> {
         let mut words = line.split_whitespace();
-        let about = words.next().ok_or(Fault::Case)?;
-        let first = words.next().ok_or(Fault::Case)?;
+        let (Some(about), Some(first)) = (words.next(), words.next()) else {
+            return Err(Fault::Case);
+        };
+        if matches!(about, "before" | "script" | "then") {
+            return self.take_script(about, first, rest);
+        }
         match words.next() {
             Some(second) => self.note_pair(about, first, second)?,
-            None if matches!(about, "before" | "script" | "then") => {
-                let length = number(Some(first))?;
-                let script = rest.get(..length).ok_or(Fault::Case)?;
-                self.note_script(about, script)?;
-                return rest.get(length..).ok_or(Fault::Case);
-            }
             None => self.note(alloc, about, first)?,
         }
         Ok(rest)
+    }
+
+    /// Notes the lines of a text.
+    fn note_lines(&mut self, alloc: Global, text: &'a [u8]) -> Result<(), Fault> {
+        let mut rest = text;
+        for _ in 0..text.len() {
+            if rest.is_empty() {
+                break;
+            }
+            let (line, after) = first_line(rest);
+            let Ok(line) = str::from_utf8(line) else {
+                return Err(Fault::Case);
+            };
+            rest = self.note_line(alloc, line, after)?;
+        }
+        Ok(())
     }
 }
 
 /// The case that a text describes.
 pub fn read_case(alloc: Global, text: &[u8]) -> Result<Case<'_>, Fault> {
     let mut case = empty_case(alloc);
-    let mut rest = text;
-    for _ in 0..text.len() {
-        if rest.is_empty() {
-            break;
-        }
-        let (line, after) = first_line(rest);
-        let line = str::from_utf8(line).map_err(|_| Fault::Case)?;
-        rest = case.note_line(alloc, line, after)?;
+    match case.note_lines(alloc, text) {
+        Ok(()) => Ok(case),
+        Err(fault) => Err(fault),
     }
-    Ok(case)
 }

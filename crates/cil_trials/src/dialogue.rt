@@ -1,12 +1,12 @@
 //! Dialogues with a peer that sends on only once it has the answers so far.
 
-use crate::attempt::{end_word, set_up, write_number};
+use crate::attempt::{set_up, write_end, write_number, write_text};
 use crate::case::{Case, Peer};
-use crate::engine::{Engine, Heap};
+use crate::engine::{Engine, Memory};
 use crate::fault::Fault;
 use crate::state::write_state;
 use cil_program::script::session::{SessionFault, Status};
-use cil_stream::{MemorySink, MemorySource, ReaderSource, WriterSink, write_all, write_pieces};
+use cil_stream::{MemorySink, MemorySource, ReaderSource, WriterSink};
 use refusing::Refusing;
 use std::alloc::Global;
 use std::cell::Cell;
@@ -76,7 +76,7 @@ impl<'a> Read for Sender<'a> {
 
 /// Writes how often the peer was asked, and how many bytes of answers it had each time.
 fn write_asked(report: &mut MemorySink, asked: &[usize], arrived: &Arrived) -> Result<(), Fault> {
-    write_all(report, b"asked at")?;
+    write_text(report, b"asked at")?;
     for bytes in asked {
         write_number(report, " ", *bytes, "")?;
     }
@@ -84,27 +84,38 @@ fn write_asked(report: &mut MemorySink, asked: &[usize], arrived: &Arrived) -> R
     write_number(report, " in ", arrived.writes.get(), " writes\n")
 }
 
-fn write_end(report: &mut MemorySink, end: Result<Status, SessionFault>) -> Result<(), Fault> {
-    write_pieces(report, &[b"status ", end_word(end).as_bytes(), b"\n"])?;
-    Ok(())
-}
-
 /// A session with a peer, which notes what it had each time it was asked.
 fn talk<'h>(
-    alloc: Global,
-    heap: &'h Heap,
+    memory: Memory<'h>,
     engine: &mut Engine<'h>,
+    case: &Case<'_>,
     sender: Sender<'_>,
 ) -> Result<Result<Status, SessionFault>, Fault> {
+    set_up(memory, engine, case)?;
     let wire = Wire {
         arrived: sender.arrived,
     };
-    let Ok(writer) = BufWriter::new(alloc, wire) else {
+    let Ok(writer) = BufWriter::new(memory.ample, wire) else {
         return Err(Fault::Memory);
     };
     let mut source = ReaderSource::new(sender);
     let mut sink = WriterSink::new(writer);
-    Ok(engine.session(heap, &mut source, &mut sink))
+    Ok(engine.session(memory.heap, &mut source, &mut sink))
+}
+
+/// How a session with a peer ends.
+fn end_of(
+    alloc: Global,
+    case: &Case<'_>,
+    sender: Sender<'_>,
+) -> Result<Result<Status, SessionFault>, Fault> {
+    let heap = Refusing::new(alloc);
+    let mut engine = Engine::new(case.kind, &heap);
+    let memory = Memory {
+        ample: alloc,
+        heap: &heap,
+    };
+    talk(memory, &mut engine, case, sender)
 }
 
 /// Holds a session with a peer, and writes what it had each time it was asked for more.
@@ -114,9 +125,6 @@ pub fn hold_dialogue(
     peer: &Peer,
     report: &mut MemorySink,
 ) -> Result<(), Fault> {
-    let heap = Refusing::new(alloc);
-    let mut engine = Engine::new(case.kind, &heap);
-    set_up(alloc, &heap, &mut engine, case)?;
     let arrived = Arrived {
         bytes: Cell::new(0),
         writes: Cell::new(0),
@@ -128,7 +136,7 @@ pub fn hold_dialogue(
         arrived: &arrived,
         asked: &mut asked,
     };
-    let end = talk(alloc, &heap, &mut engine, sender)?;
+    let end = end_of(alloc, case, sender)?;
     write_end(report, end)?;
     write_asked(report, asked.as_slice(), &arrived)
 }
@@ -153,7 +161,25 @@ impl Write for Clogged {
     }
 }
 
-/// A session over a sink whose flushes fail after so many, and the state after it.
+/// Writes what comes of a session over a sink whose flushes fail after so many, and the state after it.
+fn write_flushed<'h>(
+    report: &mut MemorySink,
+    memory: Memory<'h>,
+    engine: &mut Engine<'h>,
+    case: &Case<'_>,
+    flushes: usize,
+) -> Result<(), Fault> {
+    set_up(memory, engine, case)?;
+    let mut source = MemorySource::new(case.script);
+    let mut sink = WriterSink::new(Clogged { flushes });
+    let end = engine.session(memory.heap, &mut source, &mut sink);
+    write_end(report, end)?;
+    write_number(report, "given ", source.given(), "\n")?;
+    write_text(report, b"state\n")?;
+    write_state(report, memory.heap, engine, &case.names)
+}
+
+/// Makes the trial of a sink whose flushes fail after so many.
 pub fn try_flushes(
     alloc: Global,
     case: &Case<'_>,
@@ -162,12 +188,9 @@ pub fn try_flushes(
 ) -> Result<(), Fault> {
     let heap = Refusing::new(alloc);
     let mut engine = Engine::new(case.kind, &heap);
-    set_up(alloc, &heap, &mut engine, case)?;
-    let mut source = MemorySource::new(case.script);
-    let mut sink = WriterSink::new(Clogged { flushes });
-    let end = engine.session(&heap, &mut source, &mut sink);
-    write_end(report, end)?;
-    write_number(report, "given ", source.given(), "\n")?;
-    write_all(report, b"state\n")?;
-    write_state(report, &heap, &mut engine, &case.names)
+    let memory = Memory {
+        ample: alloc,
+        heap: &heap,
+    };
+    write_flushed(report, memory, &mut engine, case, flushes)
 }

@@ -10,6 +10,13 @@ use std::alloc::{AllocError, Global};
 /// An allocator of which growths may be refused.
 pub type Heap = Refusing<Global>;
 
+/// Memory that is never refused, for what is written, and the heap of an engine.
+#[derive(Clone, Copy)]
+pub struct Memory<'h> {
+    pub ample: Global,
+    pub heap: &'h Heap,
+}
+
 /// Which engine a trial is made with.
 #[derive(Clone, Copy, Debug, PartialEq, Eq)]
 pub enum Kind {

@@ -1,7 +1,5 @@
 //! Why a trial was not made.
 
-use cil_program::script::session::SessionFault;
-use cil_stream::SinkFault;
 use std::alloc::{AllocError, AllocFailed};
 
 /// Why a trial was not made.
@@ -21,19 +19,6 @@ impl From<AllocError> for Fault {
 
 impl<T: Drop> From<AllocFailed<T>> for Fault {
     fn from(_e: AllocFailed<T>) -> Fault {
-        Fault::Memory
-    }
-}
-
-// The report goes to memory, so this is a growth that was refused.
-impl From<SinkFault> for Fault {
-    fn from(_e: SinkFault) -> Fault {
-        Fault::Memory
-    }
-}
-
-impl From<SessionFault> for Fault {
-    fn from(_e: SessionFault) -> Fault {
         Fault::Memory
     }
 }

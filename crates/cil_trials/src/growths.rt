@@ -1,13 +1,12 @@
 //! Trials in which growths are refused.
 
 use crate::asked::answer;
-use crate::attempt::set_up;
+use crate::attempt::{set_up, write_text};
 use crate::case::{Case, Refusal};
-use crate::engine::{Engine, Heap};
+use crate::engine::{Engine, Heap, Memory};
 use crate::fault::Fault;
-use crate::limits::Limits;
 use crate::state::write_probed;
-use cil_stream::{MemorySink, write_all};
+use cil_stream::MemorySink;
 use refusing::Refusing;
 use std::alloc::Global;
 
@@ -19,67 +18,128 @@ const AS_WITH_MEMORY: &[u8] = b"- as with memory\n";
 /// More growths than any case makes.
 const MOST: u64 = 1_000_000;
 
-/// What comes of a case with ample memory: the answer, and the states before and after it.
+/// An answer and the state after it.
+#[derive(Drop)]
+struct Asked {
+    answer: MemorySink,
+    state: MemorySink,
+}
+
+/// What comes of a case with ample memory, and the state before it.
 #[derive(Drop)]
 struct Ample {
     before: MemorySink,
-    answer: MemorySink,
-    after: MemorySink,
+    asked: Asked,
 }
 
 fn is_same(one: &MemorySink, other: &MemorySink) -> bool {
     one.bytes() == other.bytes()
 }
 
+/// The state, asked with memory.
 fn state<'h>(
-    alloc: Global,
-    heap: &'h Heap,
+    memory: Memory<'h>,
     engine: &mut Engine<'h>,
     case: &Case<'_>,
 ) -> Result<MemorySink, Fault> {
-    heap.refuse(0);
-    let mut found = MemorySink::new(alloc);
-    write_probed(&mut found, heap, engine, &case.names)?;
-    Ok(found)
+    memory.heap.refuse(0);
+    let mut found = MemorySink::new(memory.ample);
+    match write_probed(&mut found, memory.heap, engine, &case.names) {
+        Ok(()) => Ok(found),
+        Err(fault) => Err(fault),
+    }
+}
+
+/// Asks what is tried. The state after it is asked with memory.
+fn ask<'h>(memory: Memory<'h>, engine: &mut Engine<'h>, case: &Case<'_>) -> Result<Asked, Fault> {
+    let answer = answer(memory, engine, case)?;
+    match state(memory, engine, case) {
+        Ok(state) => Ok(Asked { answer, state }),
+        Err(fault) => Err(fault),
+    }
+}
+
+/// Asks with ample memory.
+fn ask_amply<'h>(
+    memory: Memory<'h>,
+    engine: &mut Engine<'h>,
+    case: &Case<'_>,
+) -> Result<Ample, Fault> {
+    set_up(memory, engine, case)?;
+    let before = state(memory, engine, case)?;
+    match ask(memory, engine, case) {
+        Ok(asked) => Ok(Ample { before, asked }),
+        Err(fault) => Err(fault),
+    }
 }
 
 fn with_memory(alloc: Global, case: &Case<'_>) -> Result<Ample, Fault> {
     let heap = Refusing::new(alloc);
     let mut engine = Engine::new(case.kind, &heap);
-    set_up(alloc, &heap, &mut engine, case)?;
-    let before = state(alloc, &heap, &mut engine, case)?;
-    let answer = answer(alloc, &heap, &mut engine, case, case.limits)?;
-    let after = state(alloc, &heap, &mut engine, case)?;
-    Ok(Ample {
-        before,
-        answer,
-        after,
-    })
+    let memory = Memory {
+        ample: alloc,
+        heap: &heap,
+    };
+    ask_amply(memory, &mut engine, case)
 }
 
 impl Ample {
     fn write(&self, report: &mut MemorySink) -> Result<(), Fault> {
-        write_all(report, self.answer.bytes())?;
-        self.write_state(report, &self.after)
+        write_text(report, self.asked.answer.bytes())?;
+        self.write_state(report, &self.asked.state)
     }
 
     fn write_answer(&self, report: &mut MemorySink, found: &MemorySink) -> Result<(), Fault> {
-        if is_same(found, &self.answer) {
-            write_all(report, b"answered as with memory\n")?;
+        if is_same(found, &self.asked.answer) {
+            write_text(report, b"answered as with memory\n")
         } else {
-            write_all(report, found.bytes())?;
+            write_text(report, found.bytes())
         }
-        Ok(())
     }
 
     fn write_state(&self, report: &mut MemorySink, found: &MemorySink) -> Result<(), Fault> {
         if is_same(found, &self.before) {
-            write_all(report, b"state as before\n")?;
-        } else {
-            write_all(report, b"state\n")?;
-            write_all(report, found.bytes())?;
+            return write_text(report, b"state as before\n");
         }
-        Ok(())
+        write_text(report, b"state\n")?;
+        write_text(report, found.bytes())
+    }
+
+    fn write_asked(&self, report: &mut MemorySink, asked: &Asked) -> Result<(), Fault> {
+        self.write_answer(report, &asked.answer)?;
+        self.write_state(report, &asked.state)
+    }
+
+    fn is_asked(&self, asked: &Asked) -> bool {
+        is_same(&asked.answer, &self.asked.answer) && is_same(&asked.state, &self.asked.state)
+    }
+
+    fn is_undone(&self, asked: &Asked) -> bool {
+        let answer = asked.answer.bytes();
+        let answer = answer.strip_prefix(b"status refused\n").unwrap_or(answer);
+        answer == OUT_OF_MEMORY && is_same(&asked.state, &self.before)
+    }
+
+    /// Writes what came of a case, asked with growths refused and then again with memory.
+    fn write_outcome(
+        &self,
+        report: &mut MemorySink,
+        first: &Asked,
+        again: &Asked,
+    ) -> Result<(), Fault> {
+        if self.is_asked(first) {
+            return write_text(report, AS_WITH_MEMORY);
+        }
+        if self.is_undone(first) && self.is_asked(again) {
+            return write_text(
+                report,
+                b"- out of memory, unchanged, and then as with memory\n",
+            );
+        }
+        write_text(report, b"-\n")?;
+        self.write_asked(report, first)?;
+        write_text(report, b"again\n")?;
+        self.write_asked(report, again)
     }
 }
 
@@ -98,66 +158,40 @@ fn refuse(heap: &Heap, refusal: Refusal) {
     }
 }
 
-/// An answer and the state after it.
-#[derive(Drop)]
-struct Asked {
-    answer: MemorySink,
-    state: MemorySink,
-}
-
-/// Asks what is tried. The state after it is asked with memory.
-fn ask<'h>(
-    alloc: Global,
-    heap: &'h Heap,
+/// Asks again with memory, and writes what came of both.
+fn ask_again<'h>(
+    memory: Memory<'h>,
     engine: &mut Engine<'h>,
     case: &Case<'_>,
-    limits: Limits,
-) -> Result<Asked, Fault> {
-    let answer = answer(alloc, heap, engine, case, limits)?;
-    Ok(Asked {
-        answer,
-        state: state(alloc, heap, engine, case)?,
-    })
-}
-
-impl Asked {
-    fn is_as_with_memory(&self, ample: &Ample) -> bool {
-        is_same(&self.answer, &ample.answer) && is_same(&self.state, &ample.after)
-    }
-
-    fn is_undone(&self, ample: &Ample) -> bool {
-        let answer = self.answer.bytes();
-        let answer = answer.strip_prefix(b"status refused\n").unwrap_or(answer);
-        answer == OUT_OF_MEMORY && is_same(&self.state, &ample.before)
-    }
-}
-
-/// Writes what came of a case, asked with growths refused and then again with memory.
-fn write_outcome(
-    report: &mut MemorySink,
     ample: &Ample,
     first: &Asked,
-    again: &Asked,
-) -> Result<(), Fault> {
-    if first.is_as_with_memory(ample) {
-        write_all(report, AS_WITH_MEMORY)?;
-    } else if first.is_undone(ample) && again.is_as_with_memory(ample) {
-        write_all(
-            report,
-            b"- out of memory, unchanged, and then as with memory\n",
-        )?;
-    } else {
-        write_all(report, b"-\n")?;
-        ample.write_answer(report, &first.answer)?;
-        ample.write_state(report, &first.state)?;
-        write_all(report, b"again\n")?;
-        ample.write_answer(report, &again.answer)?;
-        ample.write_state(report, &again.state)?;
+) -> Result<MemorySink, Fault> {
+    let again = ask(memory, engine, case)?;
+    let mut outcome = MemorySink::new(memory.ample);
+    match ample.write_outcome(&mut outcome, first, &again) {
+        Ok(()) => Ok(outcome),
+        Err(fault) => Err(fault),
     }
-    Ok(())
 }
 
 /// Asks with growths refused, and then again with memory.
+fn ask_refused<'h>(
+    memory: Memory<'h>,
+    engine: &mut Engine<'h>,
+    case: &Case<'_>,
+    refusal: Refusal,
+    ample: &Ample,
+) -> Result<Refused, Fault> {
+    set_up(memory, engine, case)?;
+    refuse(memory.heap, refusal);
+    let first = ask(memory, engine, case)?;
+    let is = memory.heap.refused() > 0;
+    match ask_again(memory, engine, case, ample, &first) {
+        Ok(outcome) => Ok(Refused { outcome, is }),
+        Err(fault) => Err(fault),
+    }
+}
+
 fn with_refusal(
     alloc: Global,
     case: &Case<'_>,
@@ -166,14 +200,11 @@ fn with_refusal(
 ) -> Result<Refused, Fault> {
     let heap = Refusing::new(alloc);
     let mut engine = Engine::new(case.kind, &heap);
-    set_up(alloc, &heap, &mut engine, case)?;
-    refuse(&heap, refusal);
-    let first = ask(alloc, &heap, &mut engine, case, case.limits)?;
-    let is = heap.refused() > 0;
-    let again = ask(alloc, &heap, &mut engine, case, Limits::none())?;
-    let mut outcome = MemorySink::new(alloc);
-    write_outcome(&mut outcome, ample, &first, &again)?;
-    Ok(Refused { outcome, is })
+    let memory = Memory {
+        ample: alloc,
+        heap: &heap,
+    };
+    ask_refused(memory, &mut engine, case, refusal, ample)
 }
 
 fn is_among(outcomes: &[MemorySink], found: &MemorySink) -> bool {
@@ -185,17 +216,35 @@ fn is_among(outcomes: &[MemorySink], found: &MemorySink) -> bool {
     false
 }
 
-/// Writes the outcome where no growth was refused, unless it is as with memory.
-fn write_unrefused(report: &mut MemorySink, outcome: &MemorySink) -> Result<(), Fault> {
-    if outcome.bytes() != AS_WITH_MEMORY {
-        write_all(report, b"no growth\n")?;
-        write_all(report, outcome.bytes())?;
+/// Writes an outcome, where it is none of those before. A growth that is refused alone may be made up for by a smaller one, so an answer
+/// as with memory isn't written then.
+fn note_outcome(
+    report: &mut MemorySink,
+    outcomes: &mut Vec<MemorySink>,
+    is_alone: bool,
+    found: MemorySink,
+) -> Result<(), Fault> {
+    let is_right = is_alone && found.bytes() == AS_WITH_MEMORY;
+    if is_right || is_among(outcomes.as_slice(), &found) {
+        return Ok(());
     }
-    Ok(())
+    write_text(report, found.bytes())?;
+    match outcomes.push(found) {
+        Ok(()) => Ok(()),
+        Err(_) => Err(Fault::Memory),
+    }
 }
 
-/// Refuses each growth in turn, until the case doesn't come to it, and writes the different outcomes. A growth that is refused alone may
-/// be made up for by a smaller one, so an answer as with memory isn't written then.
+/// Writes the outcome where no growth was refused, unless it is as with memory.
+fn write_unrefused(report: &mut MemorySink, outcome: &MemorySink) -> Result<(), Fault> {
+    if outcome.bytes() == AS_WITH_MEMORY {
+        return Ok(());
+    }
+    write_text(report, b"no growth\n")?;
+    write_text(report, outcome.bytes())
+}
+
+/// Refuses each growth in turn, until the case doesn't come to it, and writes the different outcomes.
 fn refuse_in_turn(
     alloc: Global,
     case: &Case<'_>,
@@ -214,33 +263,47 @@ fn refuse_in_turn(
         if !found.is {
             return write_unrefused(report, &found.outcome);
         }
-        let is_right = is_alone && found.outcome.bytes() == AS_WITH_MEMORY;
-        if !is_right && !is_among(outcomes.as_slice(), &found.outcome) {
-            write_all(report, found.outcome.bytes())?;
-            outcomes.push(found.outcome)?;
-        }
+        note_outcome(report, &mut outcomes, is_alone, found.outcome)?;
     }
     Err(Fault::Case)
+}
+
+fn refuse_in_both_ways(
+    alloc: Global,
+    case: &Case<'_>,
+    ample: &Ample,
+    report: &mut MemorySink,
+) -> Result<(), Fault> {
+    ample.write(report)?;
+    write_text(report, b"each growth alone\n")?;
+    refuse_in_turn(alloc, case, ample, true, report)?;
+    write_text(report, b"each growth and those after it\n")?;
+    refuse_in_turn(alloc, case, ample, false, report)
 }
 
 /// Refuses each growth of a case in turn, alone and then with each one after it, and writes the different outcomes.
 pub fn refuse_each(alloc: Global, case: &Case<'_>, report: &mut MemorySink) -> Result<(), Fault> {
     let ample = with_memory(alloc, case)?;
+    refuse_in_both_ways(alloc, case, &ample, report)
+}
+
+fn refuse_one(
+    alloc: Global,
+    case: &Case<'_>,
+    ample: &Ample,
+    report: &mut MemorySink,
+) -> Result<(), Fault> {
     ample.write(report)?;
-    write_all(report, b"each growth alone\n")?;
-    refuse_in_turn(alloc, case, &ample, true, report)?;
-    write_all(report, b"each growth and those after it\n")?;
-    refuse_in_turn(alloc, case, &ample, false, report)
+    let found = with_refusal(alloc, case, case.refusal, ample)?;
+    if found.is {
+        write_text(report, found.outcome.bytes())
+    } else {
+        write_unrefused(report, &found.outcome)
+    }
 }
 
 /// Refuses the growth that a case names.
 pub fn refuse_growth(alloc: Global, case: &Case<'_>, report: &mut MemorySink) -> Result<(), Fault> {
     let ample = with_memory(alloc, case)?;
-    ample.write(report)?;
-    let found = with_refusal(alloc, case, case.refusal, &ample)?;
-    if !found.is {
-        return write_unrefused(report, &found.outcome);
-    }
-    write_all(report, found.outcome.bytes())?;
-    Ok(())
+    refuse_one(alloc, case, &ample, report)
 }

@@ -25,8 +25,10 @@ use std::process::ExitCode;
 fn answer(alloc: Global, text: &[u8]) -> Result<MemorySink, Fault> {
     let case = read_case(alloc, text)?;
     let mut report = MemorySink::new(alloc);
-    make_trial(alloc, &case, &mut report)?;
-    Ok(report)
+    match make_trial(alloc, &case, &mut report) {
+        Ok(()) => Ok(report),
+        Err(fault) => Err(fault),
+    }
 }
 
 fn main(rt: HostRuntime) -> io::Result<ExitCode> {

@@ -1,10 +1,11 @@
 //! All that an engine answers of its store.
 
+use crate::attempt::write_texts;
 use crate::case::Names;
 use crate::engine::{Engine, Heap};
 use crate::fault::Fault;
 use cil_rules::Atom;
-use cil_stream::{MemorySink, MemorySource, write_pieces};
+use cil_stream::{MemorySink, MemorySource};
 use cil_text::RuleKind;
 use itoa::Buffer;
 
@@ -30,7 +31,7 @@ fn write_members(
         for ty in &names.types {
             let (attribute, ty) = (attribute.as_bytes(), ty.as_bytes());
             if engine.has(attribute, ty) {
-                write_pieces(report, &[b"has ", attribute, b" ", ty, b"\n"])?;
+                write_texts(report, &[b"has ", attribute, b" ", ty, b"\n"])?;
             }
         }
     }
@@ -49,11 +50,27 @@ fn write_count(
         return Ok(());
     }
     let mut digits = Buffer::new();
-    write_pieces(report, &[b"count ", kind.as_bytes(), b" ", access.source])?;
-    write_pieces(report, &[b" ", access.target, b" ", access.class, b" "])?;
     let count = digits.format(count).as_bytes();
-    write_pieces(report, &[access.permission, b" ", count, b"\n"])?;
-    Ok(())
+    let (source, target) = (access.source, access.target);
+    let (class, permission) = (access.class, access.permission);
+    write_texts(
+        report,
+        &[
+            b"count ",
+            kind.as_bytes(),
+            b" ",
+            source,
+            b" ",
+            target,
+            b" ",
+            class,
+            b" ",
+            permission,
+            b" ",
+            count,
+            b"\n",
+        ],
+    )
 }
 
 /// Writes the counts of the accesses of a type to another one.
@@ -92,6 +109,19 @@ fn write_counts(
     Ok(())
 }
 
+/// Writes the answers to a script.
+fn ask<'h>(
+    report: &mut MemorySink,
+    heap: &'h Heap,
+    engine: &mut Engine<'h>,
+    script: &[u8],
+) -> Result<(), Fault> {
+    match engine.session(heap, &mut MemorySource::new(script), report) {
+        Ok(_) => Ok(()),
+        Err(_) => Err(Fault::Memory),
+    }
+}
+
 /// Writes what an engine answers of its store: its modules, the listing, the violations, the optionals that drop, the members and the
 /// counts.
 pub fn write_state<'h>(
@@ -100,7 +130,7 @@ pub fn write_state<'h>(
     engine: &mut Engine<'h>,
     names: &Names<'_>,
 ) -> Result<(), Fault> {
-    let _status = engine.session(heap, &mut MemorySource::new(QUESTIONS), report)?;
+    ask(report, heap, engine, QUESTIONS)?;
     write_members(report, engine, names)?;
     write_counts(report, engine, names)
 }
@@ -113,6 +143,5 @@ pub fn write_probed<'h>(
     names: &Names<'_>,
 ) -> Result<(), Fault> {
     write_state(report, heap, engine, names)?;
-    let _status = engine.session(heap, &mut MemorySource::new(PROBE), report)?;
-    Ok(())
+    ask(report, heap, engine, PROBE)
 }

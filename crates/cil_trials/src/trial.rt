@@ -1,33 +1,48 @@
 //! Trials over devices with limits, and which trial a case asks for.
 
-use crate::attempt::{make_attempt, set_up, write_number};
+use crate::attempt::{set_up, write_answer, write_number, write_session, write_text, written_of};
 use crate::case::{Case, Each, Refusal};
 use crate::dialogue::{hold_dialogue, try_flushes};
-use crate::engine::Engine;
+use crate::engine::{Engine, Memory};
 use crate::fault::Fault;
 use crate::growths::{refuse_each, refuse_growth};
 use crate::limits::Limits;
 use crate::state::write_state;
-use cil_stream::{MemorySink, write_all};
+use cil_stream::MemorySink;
 use refusing::Refusing;
 use std::alloc::Global;
 
+/// Writes what comes of a case over such devices.
+fn write_outcome<'h>(
+    report: &mut MemorySink,
+    memory: Memory<'h>,
+    engine: &mut Engine<'h>,
+    case: &Case<'_>,
+    limits: Limits,
+) -> Result<(), Fault> {
+    set_up(memory, engine, case)?;
+    write_session(report, memory, engine, case.script, limits)?;
+    if !case.then.is_empty() {
+        write_text(report, b"then\n")?;
+        write_answer(report, memory, engine, case.then)?;
+    }
+    write_text(report, b"state\n")?;
+    write_state(report, memory.heap, engine, &case.names)
+}
+
 /// What comes of a case over such devices.
 fn outcome(alloc: Global, case: &Case<'_>, limits: Limits) -> Result<MemorySink, Fault> {
+    let mut report = MemorySink::new(alloc);
     let heap = Refusing::new(alloc);
     let mut engine = Engine::new(case.kind, &heap);
-    let mut report = MemorySink::new(alloc);
-    set_up(alloc, &heap, &mut engine, case)?;
-    let tried = make_attempt(alloc, &heap, &mut engine, case.script, limits);
-    tried.write(&mut report, limits)?;
-    if !case.then.is_empty() {
-        write_all(&mut report, b"then\n")?;
-        let then = make_attempt(alloc, &heap, &mut engine, case.then, Limits::none());
-        then.write_answer(&mut report)?;
+    let memory = Memory {
+        ample: alloc,
+        heap: &heap,
+    };
+    match write_outcome(&mut report, memory, &mut engine, case, limits) {
+        Ok(()) => Ok(report),
+        Err(fault) => Err(fault),
     }
-    write_all(&mut report, b"state\n")?;
-    write_state(&mut report, &heap, &mut engine, &case.names)?;
-    Ok(report)
 }
 
 /// The limits of a case where a device of it fails or ends after so many bytes.
@@ -56,8 +71,23 @@ impl Stretch {
         if self.first < self.last {
             write_number(report, " to ", self.last, "")?;
         }
-        write_all(report, b"\n")?;
-        write_all(report, self.outcome.bytes())?;
+        write_text(report, b"\n")?;
+        write_text(report, self.outcome.bytes())
+    }
+
+    /// Goes on with the outcome of a number of bytes: where it is another one, what was before is written.
+    fn go_on(
+        &mut self,
+        bytes: usize,
+        found: MemorySink,
+        report: &mut MemorySink,
+    ) -> Result<(), Fault> {
+        if found.bytes() != self.outcome.bytes() {
+            self.write(report)?;
+            self.first = bytes;
+            self.outcome = found;
+        }
+        self.last = bytes;
         Ok(())
     }
 }
@@ -69,9 +99,11 @@ fn greatest(alloc: Global, case: &Case<'_>, each: Each) -> Result<usize, Fault> 
     }
     let heap = Refusing::new(alloc);
     let mut engine = Engine::new(case.kind, &heap);
-    set_up(alloc, &heap, &mut engine, case)?;
-    let tried = make_attempt(alloc, &heap, &mut engine, case.script, case.limits);
-    Ok(tried.written.len())
+    let memory = Memory {
+        ample: alloc,
+        heap: &heap,
+    };
+    written_of(memory, &mut engine, case)
 }
 
 /// Has a device fail or end after each number of bytes, and writes what comes of it, alike outcomes once.
@@ -90,37 +122,25 @@ fn try_each(
     for bytes in 0..most {
         let bytes = bytes.saturating_add(1);
         let found = outcome(alloc, case, limits_at(case, each, bytes))?;
-        if found.bytes() == stretch.outcome.bytes() {
-            stretch.last = bytes;
-        } else {
-            stretch.write(report)?;
-            stretch = Stretch {
-                first: bytes,
-                last: bytes,
-                outcome: found,
-            };
-        }
+        stretch.go_on(bytes, found, report)?;
     }
     stretch.write(report)
 }
 
+/// Makes the trial of a session over devices with limits, and writes what came of it.
+fn try_session(alloc: Global, case: &Case<'_>, report: &mut MemorySink) -> Result<(), Fault> {
+    let found = outcome(alloc, case, case.limits)?;
+    write_text(report, found.bytes())
+}
+
 /// Makes the trial of a case, and writes what came of it.
 pub fn make_trial(alloc: Global, case: &Case<'_>, report: &mut MemorySink) -> Result<(), Fault> {
-    if let Some(peer) = &case.peer {
-        return hold_dialogue(alloc, case, peer, report);
+    match (&case.peer, case.flushes, case.each, case.refusal) {
+        (Some(peer), _, _, _) => hold_dialogue(alloc, case, peer, report),
+        (None, Some(flushes), _, _) => try_flushes(alloc, case, flushes, report),
+        (None, None, Some(Each::Growth), _) => refuse_each(alloc, case, report),
+        (None, None, Some(each), _) => try_each(alloc, case, each, report),
+        (None, None, None, Refusal::None) => try_session(alloc, case, report),
+        (None, None, None, _) => refuse_growth(alloc, case, report),
     }
-    if let Some(flushes) = case.flushes {
-        return try_flushes(alloc, case, flushes, report);
-    }
-    match case.each {
-        Some(Each::Growth) => return refuse_each(alloc, case, report),
-        Some(each) => return try_each(alloc, case, each, report),
-        None => {}
-    }
-    if case.refusal != Refusal::None {
-        return refuse_growth(alloc, case, report);
-    }
-    let found = outcome(alloc, case, case.limits)?;
-    write_all(report, found.bytes())?;
-    Ok(())
 }
