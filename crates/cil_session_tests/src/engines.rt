@@ -1,7 +1,7 @@
 //! Engines: their entries, what they refuse, and accesses and rows by place.
 
 use crate::shown::{shown, shown_if};
-use cil_rules::{Atom, Changes, Row, write_row_line};
+use cil_rules::{Atom, Changes, Row, Rows, write_row_line};
 use cil_store::{Compiled, Edit, Entry, FaultKind, Plain, Refusal, StoreFault};
 use cil_stream::MemorySink;
 use cil_text::RuleKind;
@@ -69,25 +69,34 @@ const STATES: &[(&[u8], Option<&str>, bool)] = &[
     (b"q", None, false),
 ];
 
+fn made(rt: &impl Abort, alloc: Global) -> Plain {
+    let mut engine = Plain::new(alloc);
+    for edit in TAKEN {
+        engine.edit(*edit).expect(rt, "an edit");
+    }
+    engine
+}
+
 #[test]
 fn names_of_a_store(rt: HostRuntime) {
-    let mut engine = Plain::new(rt.alloc());
-    for edit in TAKEN {
-        engine.edit(*edit).expect(&rt, "an edit");
-    }
+    let engine = made(&rt, rt.alloc());
     let store = engine.store();
     for (name, active, is_disabled) in STATES {
-        let found = (shown_if(store.active(name)), store.is_disabled(name));
-        assert_eq!(rt; found, (*active, *is_disabled));
+        assert_eq!(rt; shown_if(store.active(name)), *active);
+        assert_eq!(rt; store.is_disabled(name), *is_disabled);
     }
-    let disabled = (shown_if(store.disabled(0)), shown_if(store.disabled(1)));
-    assert_eq!(rt; (store.disabled_len(), disabled), (1, (Some("n"), None)));
-    assert_eq!(rt;
-        store.check_install(b"", 400, 0),
-        Err(StoreFault::BadModuleName)
-    );
-    let enabling = store.check(Edit::Enable { name: b"q" });
-    assert_eq!(rt; enabling, Err(StoreFault::NotInstalled));
+    assert_eq!(rt; store.disabled_len(), 1);
+    assert_eq!(rt; shown_if(store.disabled(0)), Some("n"));
+    assert_eq!(rt; shown_if(store.disabled(1)), None);
+}
+
+#[test]
+fn what_a_store_refuses(rt: HostRuntime) {
+    let engine = made(&rt, rt.alloc());
+    let found = engine.store().check_install(b"", 400, 0);
+    assert_eq!(rt; found, Err(StoreFault::BadModuleName));
+    let found = engine.store().check(Edit::Enable { name: b"q" });
+    assert_eq!(rt; found, Err(StoreFault::NotInstalled));
 }
 
 // The installs of the module m that are refused: by the store, for a text, and for the policy. A place has an offset too.
@@ -143,12 +152,21 @@ fn refusals_of_edits(rt: HostRuntime) {
     }
 }
 
-fn install(text: &[u8]) -> Edit<'_> {
-    Edit::Install {
+// The changes of an install of the module m.
+fn install(rt: &impl Abort, engine: &mut Plain, text: &[u8]) -> Changes {
+    let edit = Edit::Install {
         name: b"m",
         priority: 400,
         text,
-    }
+    };
+    engine.edit(edit).expect(rt, "an edit")
+}
+
+// The rows of a text.
+fn rows_of(rt: &impl Abort, alloc: Global, text: &[u8]) -> Rows {
+    let mut engine = Plain::new(alloc);
+    let _changes = install(rt, &mut engine, text);
+    engine.rows().expect(rt, "memory")
 }
 
 // Texts of three accesses in two rows, and of two in one row.
@@ -186,12 +204,10 @@ fn assert_changes(rt: &impl Abort, changes: &Changes, added: &[Access], removed:
 fn changes_by_place(rt: HostRuntime) {
     let mut engine = Plain::new(rt.alloc());
     let (see, used, back) = (("a", "b", "see"), ("a", "b", "use"), ("b", "a", "use"));
-    let first = install(THREE);
-    let changes = engine.edit(first).expect(&rt, "an edit");
-    assert_changes(&rt, &changes, &[see, used, back], &[]);
-    let second = install(TWO);
-    let changes = engine.edit(second).expect(&rt, "an edit");
-    assert_changes(&rt, &changes, &[("b", "a", "see")], &[see, used]);
+    let first = install(&rt, &mut engine, THREE);
+    assert_changes(&rt, &first, &[see, used, back], &[]);
+    let second = install(&rt, &mut engine, TWO);
+    assert_changes(&rt, &second, &[("b", "a", "see")], &[see, used]);
 }
 
 // A row of the class p: its source, its target, how many permissions it has, and the first three of them.
@@ -211,25 +227,33 @@ fn row_seen<'a>(row: &Row<'a>) -> SeenRow<'a> {
     )
 }
 
+// A row by its place.
+fn row_at<'r>(rows: &'r Rows, i: usize) -> Option<SeenRow<'r>> {
+    let row = rows.get(i)?;
+    if row.kind != RuleKind::Allow || shown(row.class) != "p" {
+        return None;
+    }
+    Some(row_seen(&row))
+}
+
 #[test]
 fn rows_by_place(rt: HostRuntime) {
-    let mut engine = Plain::new(rt.alloc());
-    engine.edit(install(THREE)).expect(&rt, "an edit");
-    let rows = engine.rows().expect(&rt, "memory");
-    let first = rows.get(0).expect(&rt, "a row");
+    let rows = rows_of(&rt, rt.alloc(), THREE);
+    assert_eq!(rt; (rows.len(), rows.is_empty()), (2, false));
+    let first = ("a", "b", 2, [Some("see"), Some("use"), None]);
+    let second = ("b", "a", 1, [Some("use"), None, None]);
+    assert_eq!(rt; row_at(&rows, 0), Some(first));
+    assert_eq!(rt; row_at(&rows, 1), Some(second));
+    assert_eq!(rt; row_at(&rows, 2), None);
+}
+
+#[test]
+fn written_rows(rt: HostRuntime) {
+    let rows = rows_of(&rt, rt.alloc(), THREE);
     let second = rows.get(1).expect(&rt, "a row");
-    assert_eq!(rt;
-        (rows.len(), rows.is_empty(), rows.get(2).is_none()),
-        (2, false, true)
-    );
-    assert_eq!(rt;
-        row_seen(&first),
-        ("a", "b", 2, [Some("see"), Some("use"), None])
-    );
-    assert_eq!(rt; row_seen(&second), ("b", "a", 1, [Some("use"), None, None]));
-    assert_eq!(rt; (shown(first.class), first.kind), ("p", RuleKind::Allow));
     let mut sink = MemorySink::new(rt.alloc());
     let written = (write_row_line(&mut sink, &second), rows.write(&mut sink));
+    assert_eq!(rt; written, (Ok(()), Ok(2)));
     let text = "allow b a:p { use };\nallow a b:p { see use };\nallow b a:p { use };\n";
-    assert_eq!(rt; (written, shown(sink.bytes())), ((Ok(()), Ok(2)), text));
+    assert_eq!(rt; shown(sink.bytes()), text);
 }

@@ -61,33 +61,42 @@ fn named<'p>(parsed: &'p ParsedModule, found: Option<(Table, NumberedWord)>) -> 
     Some((table, text_seen(parsed, word)))
 }
 
-// A statement by its place, what it declares, its references, and its permissions.
+// A statement by its place, what it declares, its first three references, and its only permission.
 type Names = (
     usize,
     Named<'static>,
-    &'static [Named<'static>],
-    &'static [&'static str],
+    (Named<'static>, Named<'static>, Named<'static>),
+    Option<&'static str>,
 );
 
 const NAMES: &[Names] = &[
-    (0, Some((Table::Classes, "f")), &[], &["read"]),
-    (1, Some((Table::Scopes, "b")), &[], &[]),
-    (2, Some((Table::Types, "t")), &[], &[]),
+    (
+        0,
+        Some((Table::Classes, "f")),
+        (None, None, None),
+        Some("read"),
+    ),
+    (1, Some((Table::Scopes, "b")), (None, None, None), None),
+    (2, Some((Table::Types, "t")), (None, None, None), None),
     (
         4,
         None,
-        &[
+        (
             Some((Table::Types, "b.t")),
             Some((Table::Types, ".b.t")),
             Some((Table::Classes, "f")),
-        ],
-        &["read"],
+        ),
+        Some("read"),
     ),
     (
         5,
         None,
-        &[Some((Table::Types, "b.t")), Some((Table::Classes, "f"))],
-        &["read"],
+        (
+            Some((Table::Types, "b.t")),
+            Some((Table::Classes, "f")),
+            None,
+        ),
+        Some("read"),
     ),
 ];
 
@@ -99,17 +108,17 @@ fn text_at<'p>(parsed: &'p ParsedModule, words: &[NumberedWord], i: usize) -> Op
 #[test]
 fn names_of_a_parsed_module(rt: HostRuntime) {
     let parsed = parse(rt.alloc(), TEXT).expect(&rt, "a module");
-    for (i, declared, references, permissions) in NAMES {
+    for (i, declared, references, permission) in NAMES {
         assert!(rt; *i < parsed.len());
         let view = parsed.statement(*i);
         assert_eq!(rt; named(&parsed, view.declared()), *declared);
-        for k in 0..4 {
-            let found = named(&parsed, view.reference(k));
-            assert_eq!(rt; found, references.get(k).copied().unwrap_or(None));
-        }
-        assert_eq!(rt; view.permissions().len(), permissions.len());
-        let first = text_at(&parsed, view.permissions(), 0);
-        assert_eq!(rt; first, permissions.first().copied());
+        let (first, second, third) = *references;
+        assert_eq!(rt; named(&parsed, view.reference(0)), first);
+        assert_eq!(rt; named(&parsed, view.reference(1)), second);
+        assert_eq!(rt; named(&parsed, view.reference(2)), third);
+        assert_eq!(rt; named(&parsed, view.reference(3)), None);
+        assert_eq!(rt; text_at(&parsed, view.permissions(), 0), *permission);
+        assert_eq!(rt; text_at(&parsed, view.permissions(), 1), None);
     }
 }
 

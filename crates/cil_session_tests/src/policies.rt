@@ -106,7 +106,7 @@ const FIRST: &[u8] = b"(type t)(class c (p))(block b (type u)(allow t u (c (p)))
 const SECOND: &[u8] = b"(allow t b.u (c (p)))";
 
 // The place of a statement, and what its references are bound to.
-type Bound = (usize, [Option<u32>; 3]);
+type Bound = (usize, &'static [Option<u32>]);
 
 // The marks of no optional and of those that are kept, each optional's by the number of its place and 1 more; how many statements
 // are left, and what some of them are bound to. The first row keeps all, and the policy stays as it is.
@@ -115,17 +115,17 @@ const BOUND: &[(&[bool], usize, &[Bound])] = &[
         &[true, false, false, false, false, false, true],
         9,
         &[
-            (4, [Some(0), Some(3), Some(1)]),
-            (7, [Some(6), Some(0), Some(1)]),
-            (8, [Some(0), Some(3), Some(1)]),
+            (4, &[Some(0), Some(3), Some(1)]),
+            (7, &[Some(6), Some(0), Some(1)]),
+            (8, &[Some(0), Some(3), Some(1)]),
         ],
     ),
     (
         &[true],
         7,
         &[
-            (4, [Some(0), Some(3), Some(1)]),
-            (6, [Some(0), Some(3), Some(1)]),
+            (4, &[Some(0), Some(3), Some(1)]),
+            (6, &[Some(0), Some(3), Some(1)]),
         ],
     ),
 ];
@@ -149,7 +149,7 @@ fn references_are_bound(rt: HostRuntime) {
         let kept = policy.restrict(alloc, &joined, marks).expect(&rt, "memory");
         assert_eq!(rt; kept.bound.len(), *len);
         for (place, want) in *rows {
-            assert_eq!(rt; references(&kept, *place), want.as_slice());
+            assert_eq!(rt; references(&kept, *place), *want);
         }
     }
 }
@@ -275,10 +275,9 @@ fn set_statements_in_the_order_of_dependence(rt: HostRuntime) {
 fn set_statements_are_evaluated_and_counted(rt: HostRuntime) {
     let policy = resolved(&rt, rt.alloc(), SETS, b"(class p (use))");
     let mut meter = Meter::new();
-    let named = policy.evaluate(0, 0, |_| false, &mut meter);
-    let other = policy.evaluate(0, 1, |_| false, &mut meter);
-    let complement = policy.evaluate(1, 1, |_| false, &mut meter);
-    assert_eq!(rt; [named, other, complement], [true, false, true]);
+    for (set, ty, want) in [(0, 0, true), (0, 1, false), (1, 1, true)] {
+        assert_eq!(rt; policy.evaluate(set, ty, |_| false, &mut meter), want);
+    }
     assert_eq!(rt; (meter.evaluations(), meter.adjustments()), (3, 0));
     let reach = [policy.may_hold_any(0), policy.may_hold_any(1)];
     let same = [

@@ -12,6 +12,7 @@ use cil_stream::{MemorySink, ReaderSource, SinkFault, SourceFault, WriterSink};
 use cil_text::{Place, ShownWord, TextFault, TextFaultKind};
 use std::alloc::{AllocError, Global};
 use std::fmt::Display;
+use std::process::Abort;
 
 // A module, its listing, and their answer.
 const SCRIPT: &[u8] =
@@ -57,9 +58,10 @@ fn answers_in_memory(rt: HostRuntime) {
     assert_eq!(rt; shown(sink.bytes()), ANSWER_AND_LINE);
 }
 
-// How a fault is printed.
-fn printed<T: Display>(alloc: Global, fault: &T) -> Result<String, AllocError> {
-    format!(in alloc; "{fault}")
+// Asserts how a fault is printed.
+fn assert_printed<T: Display>(rt: &impl Abort, alloc: Global, fault: &T, want: &str) {
+    let printed = format!(in alloc; "{fault}").expect(rt, "memory");
+    assert_eq!(rt; printed.as_str(), want);
 }
 
 const AT: Place = Place {
@@ -82,33 +84,23 @@ const MISSING: PolicyFault<'static> = PolicyFault::Found {
 };
 
 #[test]
-fn printed_faults(rt: HostRuntime) {
+fn printed_faults_of_texts(rt: HostRuntime) {
     let alloc = rt.alloc();
-    let found = [
-        (printed(alloc, &TOO_DEEP), "TooDeep at 2:3"),
-        (printed(alloc, &MISSING), "Missing at 2:3"),
-        (
-            printed(alloc, &TextFault::from(AllocError)),
-            "out of memory",
-        ),
-        (
-            printed(alloc, &PolicyFault::from(AllocError)),
-            "out of memory",
-        ),
-        (printed(alloc, &WriteFault::Memory), "out of memory"),
-        (printed(alloc, &WriteFault::Sink), "the output failed"),
-        (printed(alloc, &SinkFault), "the output failed"),
-        (printed(alloc, &SourceFault), "the input failed"),
-        (
-            printed(alloc, &SessionFault::from(SourceFault)),
-            "the input failed",
-        ),
-        (
-            printed(alloc, &SessionFault::from(SinkFault)),
-            "the output failed",
-        ),
-    ];
-    for (printed, want) in found {
-        assert_eq!(rt; printed.expect(&rt, "memory").as_str(), want);
-    }
+    assert_printed(&rt, alloc, &TOO_DEEP, "TooDeep at 2:3");
+    assert_printed(&rt, alloc, &MISSING, "Missing at 2:3");
+    assert_printed(&rt, alloc, &TextFault::from(AllocError), "out of memory");
+    assert_printed(&rt, alloc, &PolicyFault::from(AllocError), "out of memory");
+}
+
+#[test]
+fn printed_faults_of_devices(rt: HostRuntime) {
+    let alloc = rt.alloc();
+    let read = SessionFault::from(SourceFault);
+    let write = SessionFault::from(SinkFault);
+    assert_printed(&rt, alloc, &read, "the input failed");
+    assert_printed(&rt, alloc, &SourceFault, "the input failed");
+    assert_printed(&rt, alloc, &write, "the output failed");
+    assert_printed(&rt, alloc, &SinkFault, "the output failed");
+    assert_printed(&rt, alloc, &WriteFault::Sink, "the output failed");
+    assert_printed(&rt, alloc, &WriteFault::Memory, "out of memory");
 }
