@@ -165,7 +165,9 @@ fn compile_at_once<'h>(
 ) -> Result<(), SinkFault> {
     match Plain::of(heap, entries) {
         Ok(made) => {
-            *engine = Engine::Plain(made);
+            if let Engine::Plain(plain) = engine {
+                *plain = made;
+            }
             write_all(sink, b"compiled\n")
         }
         Err(refusal) => reply::write_refusal(sink, &refusal),

@@ -78,21 +78,22 @@ fn write_written(report: &mut MemorySink, written: &[u8], limits: Limits) -> Res
     write_lines(report, written)
 }
 
-/// Writes what comes of a script over devices with limits.
+/// Writes what comes of a script over devices with limits, and says whether the sink took all up to its limit.
 pub fn write_session<'h>(
     report: &mut MemorySink,
     memory: Memory<'h>,
     engine: &mut Engine<'h>,
     script: &[u8],
     limits: Limits,
-) -> Result<(), Fault> {
+) -> Result<bool, Fault> {
     let script = script.get(..limits.end).unwrap_or(script);
     let mut source = MemorySource::with_limits(script, limits.give, limits.given);
     let mut sink = MemorySink::with_limits(memory.ample, limits.take, limits.taken);
     let end = engine.session(memory.heap, &mut source, &mut sink);
     write_end(report, end)?;
     write_given(report, source.given(), limits)?;
-    write_written(report, sink.bytes(), limits)
+    write_written(report, sink.bytes(), limits)?;
+    Ok(sink.bytes().len() == limits.taken)
 }
 
 /// Writes how the session of a script ends and what it answers.
@@ -107,19 +108,6 @@ pub fn write_answer<'h>(
     let end = engine.session(memory.heap, &mut source, &mut sink);
     write_end(report, end)?;
     write_lines(report, sink.bytes())
-}
-
-/// How many bytes a sink takes of the answer to a case.
-pub fn written_of<'h>(
-    memory: Memory<'h>,
-    engine: &mut Engine<'h>,
-    case: &Case<'_>,
-) -> Result<usize, Fault> {
-    set_up(memory, engine, case)?;
-    let mut source = MemorySource::new(case.script);
-    let mut sink = MemorySink::new(memory.ample);
-    let _end = engine.session(memory.heap, &mut source, &mut sink);
-    Ok(sink.bytes().len())
 }
 
 /// Makes the store of a case. Its commands are whole.

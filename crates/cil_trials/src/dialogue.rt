@@ -1,14 +1,12 @@
 //! Dialogues with a peer that sends on only once it has the answers so far.
 
-use crate::attempt::{set_up, write_end, write_number, write_text};
+use crate::attempt::{write_end, write_number, write_text};
 use crate::case::{Case, Peer};
 use crate::engine::{Engine, Memory};
 use crate::fault::Fault;
 use crate::state::write_state;
 use cil_program::script::session::{SessionFault, Status};
 use cil_stream::{MemorySink, MemorySource, ReaderSource, WriterSink};
-use refusing::Refusing;
-use std::alloc::Global;
 use std::cell::Cell;
 use std::io;
 use std::io::{BufWriter, ErrorKind, Read, Write};
@@ -88,10 +86,8 @@ fn write_asked(report: &mut MemorySink, asked: &[usize], arrived: &Arrived) -> R
 fn talk<'h>(
     memory: Memory<'h>,
     engine: &mut Engine<'h>,
-    case: &Case<'_>,
     sender: Sender<'_>,
 ) -> Result<Result<Status, SessionFault>, Fault> {
-    set_up(memory, engine, case)?;
     let wire = Wire {
         arrived: sender.arrived,
     };
@@ -103,42 +99,29 @@ fn talk<'h>(
     Ok(engine.session(memory.heap, &mut source, &mut sink))
 }
 
-/// How a session with a peer ends.
-fn end_of(
-    alloc: Global,
-    case: &Case<'_>,
-    sender: Sender<'_>,
-) -> Result<Result<Status, SessionFault>, Fault> {
-    let heap = Refusing::new(alloc);
-    let mut engine = Engine::new(case.kind, &heap);
-    let memory = Memory {
-        ample: alloc,
-        heap: &heap,
-    };
-    talk(memory, &mut engine, case, sender)
-}
-
 /// Holds a session with a peer, and writes what it had each time it was asked for more.
-pub fn hold_dialogue(
-    alloc: Global,
+pub fn write_dialogue<'h>(
+    report: &mut MemorySink,
+    memory: Memory<'h>,
+    engine: &mut Engine<'h>,
     case: &Case<'_>,
     peer: &Peer,
-    report: &mut MemorySink,
-) -> Result<(), Fault> {
+) -> Result<bool, Fault> {
     let arrived = Arrived {
         bytes: Cell::new(0),
         writes: Cell::new(0),
     };
-    let mut asked = Vec::new(alloc);
+    let mut asked = Vec::new(memory.ample);
     let sender = Sender {
         script: case.script,
         parts: peer.parts.as_slice(),
         arrived: &arrived,
         asked: &mut asked,
     };
-    let end = end_of(alloc, case, sender)?;
+    let end = talk(memory, engine, sender)?;
     write_end(report, end)?;
-    write_asked(report, asked.as_slice(), &arrived)
+    write_asked(report, asked.as_slice(), &arrived)?;
+    Ok(false)
 }
 
 /// A writer that takes all, and whose flushes fail after so many.
@@ -162,35 +145,19 @@ impl Write for Clogged {
 }
 
 /// Writes what comes of a session over a sink whose flushes fail after so many, and the state after it.
-fn write_flushed<'h>(
+pub fn write_flushed<'h>(
     report: &mut MemorySink,
     memory: Memory<'h>,
     engine: &mut Engine<'h>,
     case: &Case<'_>,
     flushes: usize,
-) -> Result<(), Fault> {
-    set_up(memory, engine, case)?;
+) -> Result<bool, Fault> {
     let mut source = MemorySource::new(case.script);
     let mut sink = WriterSink::new(Clogged { flushes });
     let end = engine.session(memory.heap, &mut source, &mut sink);
     write_end(report, end)?;
     write_number(report, "given ", source.given(), "\n")?;
     write_text(report, b"state\n")?;
-    write_state(report, memory.heap, engine, &case.names)
-}
-
-/// Makes the trial of a sink whose flushes fail after so many.
-pub fn try_flushes(
-    alloc: Global,
-    case: &Case<'_>,
-    flushes: usize,
-    report: &mut MemorySink,
-) -> Result<(), Fault> {
-    let heap = Refusing::new(alloc);
-    let mut engine = Engine::new(case.kind, &heap);
-    let memory = Memory {
-        ample: alloc,
-        heap: &heap,
-    };
-    write_flushed(report, memory, &mut engine, case, flushes)
+    write_state(report, memory.heap, engine, &case.names)?;
+    Ok(false)
 }

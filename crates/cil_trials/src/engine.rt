@@ -1,5 +1,6 @@
 //! The engine of a trial.
 
+use crate::case::Refusal;
 use cil_program::script::session::{SessionFault, Status, session};
 use cil_rules::Atom;
 use cil_store::{Call, Compiled, Delta, Plain, Reply, run};
@@ -15,6 +16,17 @@ pub type Heap = Refusing<Global>;
 pub struct Memory<'h> {
     pub ample: Global,
     pub heap: &'h Heap,
+}
+
+impl<'h> Memory<'h> {
+    /// Refuses growths from now on.
+    pub fn refuse(self, refusal: Refusal) {
+        match refusal {
+            Refusal::None => self.heap.refuse(0),
+            Refusal::Alone(nth) => self.heap.refuse(nth),
+            Refusal::From(nth) => self.heap.refuse_from(nth),
+        }
+    }
 }
 
 /// Which engine a trial is made with.

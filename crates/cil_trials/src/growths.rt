@@ -1,13 +1,13 @@
 //! Trials in which growths are refused.
 
 use crate::asked::answer;
-use crate::attempt::{set_up, write_text};
+use crate::attempt::write_text;
 use crate::case::{Case, Refusal};
-use crate::engine::{Engine, Heap, Memory};
+use crate::engine::{Engine, Memory};
 use crate::fault::Fault;
+use crate::job::{Job, make_job};
 use crate::state::write_probed;
 use cil_stream::MemorySink;
-use refusing::Refusing;
 use std::alloc::Global;
 
 /// The answer of one command where memory ran out. That of a session has its status in front.
@@ -27,7 +27,7 @@ struct Asked {
 
 /// What comes of a case with ample memory, and the state before it.
 #[derive(Drop)]
-struct Ample {
+pub struct Ample {
     before: MemorySink,
     asked: Asked,
 }
@@ -59,31 +59,29 @@ fn ask<'h>(memory: Memory<'h>, engine: &mut Engine<'h>, case: &Case<'_>) -> Resu
     }
 }
 
-/// Asks with ample memory.
-fn ask_amply<'h>(
-    memory: Memory<'h>,
-    engine: &mut Engine<'h>,
-    case: &Case<'_>,
-) -> Result<Ample, Fault> {
-    set_up(memory, engine, case)?;
-    let before = state(memory, engine, case)?;
-    match ask(memory, engine, case) {
-        Ok(asked) => Ok(Ample { before, asked }),
-        Err(fault) => Err(fault),
-    }
-}
-
-fn with_memory(alloc: Global, case: &Case<'_>) -> Result<Ample, Fault> {
-    let heap = Refusing::new(alloc);
-    let mut engine = Engine::new(case.kind, &heap);
-    let memory = Memory {
-        ample: alloc,
-        heap: &heap,
-    };
-    ask_amply(memory, &mut engine, case)
-}
-
 impl Ample {
+    fn new(alloc: Global) -> Ample {
+        Ample {
+            before: MemorySink::new(alloc),
+            asked: Asked {
+                answer: MemorySink::new(alloc),
+                state: MemorySink::new(alloc),
+            },
+        }
+    }
+
+    /// Asks with ample memory.
+    pub fn fill<'h>(
+        &mut self,
+        memory: Memory<'h>,
+        engine: &mut Engine<'h>,
+        case: &Case<'_>,
+    ) -> Result<bool, Fault> {
+        self.before = state(memory, engine, case)?;
+        self.asked = ask(memory, engine, case)?;
+        Ok(false)
+    }
+
     fn write(&self, report: &mut MemorySink) -> Result<(), Fault> {
         write_text(report, self.asked.answer.bytes())?;
         self.write_state(report, &self.asked.state)
@@ -143,68 +141,20 @@ impl Ample {
     }
 }
 
-/// What comes of a case with a growth refused, and whether it came to that growth.
-#[derive(Drop)]
-struct Refused {
-    outcome: MemorySink,
-    is: bool,
-}
-
-fn refuse(heap: &Heap, refusal: Refusal) {
-    match refusal {
-        Refusal::None => heap.refuse(0),
-        Refusal::Alone(nth) => heap.refuse(nth),
-        Refusal::From(nth) => heap.refuse_from(nth),
-    }
-}
-
-/// Asks again with memory, and writes what came of both.
-fn ask_again<'h>(
+/// Asks with growths refused, and then again with memory, writes what came of both, and says whether it came to a growth that was
+/// refused.
+pub fn write_refused<'h>(
+    report: &mut MemorySink,
     memory: Memory<'h>,
     engine: &mut Engine<'h>,
     case: &Case<'_>,
     ample: &Ample,
-    first: &Asked,
-) -> Result<MemorySink, Fault> {
-    let again = ask(memory, engine, case)?;
-    let mut outcome = MemorySink::new(memory.ample);
-    match ample.write_outcome(&mut outcome, first, &again) {
-        Ok(()) => Ok(outcome),
-        Err(fault) => Err(fault),
-    }
-}
-
-/// Asks with growths refused, and then again with memory.
-fn ask_refused<'h>(
-    memory: Memory<'h>,
-    engine: &mut Engine<'h>,
-    case: &Case<'_>,
-    refusal: Refusal,
-    ample: &Ample,
-) -> Result<Refused, Fault> {
-    set_up(memory, engine, case)?;
-    refuse(memory.heap, refusal);
+) -> Result<bool, Fault> {
     let first = ask(memory, engine, case)?;
-    let is = memory.heap.refused() > 0;
-    match ask_again(memory, engine, case, ample, &first) {
-        Ok(outcome) => Ok(Refused { outcome, is }),
-        Err(fault) => Err(fault),
-    }
-}
-
-fn with_refusal(
-    alloc: Global,
-    case: &Case<'_>,
-    refusal: Refusal,
-    ample: &Ample,
-) -> Result<Refused, Fault> {
-    let heap = Refusing::new(alloc);
-    let mut engine = Engine::new(case.kind, &heap);
-    let memory = Memory {
-        ample: alloc,
-        heap: &heap,
-    };
-    ask_refused(memory, &mut engine, case, refusal, ample)
+    let is_refused = memory.heap.refused() > 0;
+    let again = ask(memory, engine, case)?;
+    ample.write_outcome(report, &first, &again)?;
+    Ok(is_refused)
 }
 
 fn is_among(outcomes: &[MemorySink], found: &MemorySink) -> bool {
@@ -244,6 +194,25 @@ fn write_unrefused(report: &mut MemorySink, outcome: &MemorySink) -> Result<(), 
     write_text(report, outcome.bytes())
 }
 
+/// Refuses a growth, writes the outcome if it is another one, and says whether the case came to that growth.
+fn refuse_next(
+    alloc: Global,
+    case: &Case<'_>,
+    ample: &Ample,
+    refusal: Refusal,
+    report: &mut MemorySink,
+    outcomes: &mut Vec<MemorySink>,
+) -> Result<bool, Fault> {
+    let mut found = MemorySink::new(alloc);
+    if !make_job(alloc, case, Job::Refused(refusal, ample), &mut found)? {
+        write_unrefused(report, &found)?;
+        return Ok(false);
+    }
+    let is_alone = matches!(refusal, Refusal::Alone(_));
+    note_outcome(report, outcomes, is_alone, found)?;
+    Ok(true)
+}
+
 /// Refuses each growth in turn, until the case doesn't come to it, and writes the different outcomes.
 fn refuse_in_turn(
     alloc: Global,
@@ -259,11 +228,9 @@ fn refuse_in_turn(
         } else {
             Refusal::From(nth)
         };
-        let found = with_refusal(alloc, case, refusal, ample)?;
-        if !found.is {
-            return write_unrefused(report, &found.outcome);
+        if !refuse_next(alloc, case, ample, refusal, report, &mut outcomes)? {
+            return Ok(());
         }
-        note_outcome(report, &mut outcomes, is_alone, found.outcome)?;
     }
     Err(Fault::Case)
 }
@@ -281,9 +248,17 @@ fn refuse_in_both_ways(
     refuse_in_turn(alloc, case, ample, false, report)
 }
 
+fn with_memory(alloc: Global, case: &Case<'_>, report: &mut MemorySink) -> Result<Ample, Fault> {
+    let mut ample = Ample::new(alloc);
+    match make_job(alloc, case, Job::Ample(&mut ample), report) {
+        Ok(_) => Ok(ample),
+        Err(fault) => Err(fault),
+    }
+}
+
 /// Refuses each growth of a case in turn, alone and then with each one after it, and writes the different outcomes.
 pub fn refuse_each(alloc: Global, case: &Case<'_>, report: &mut MemorySink) -> Result<(), Fault> {
-    let ample = with_memory(alloc, case)?;
+    let ample = with_memory(alloc, case, report)?;
     refuse_in_both_ways(alloc, case, &ample, report)
 }
 
@@ -293,17 +268,16 @@ fn refuse_one(
     ample: &Ample,
     report: &mut MemorySink,
 ) -> Result<(), Fault> {
+    let mut found = MemorySink::new(alloc);
     ample.write(report)?;
-    let found = with_refusal(alloc, case, case.refusal, ample)?;
-    if found.is {
-        write_text(report, found.outcome.bytes())
-    } else {
-        write_unrefused(report, &found.outcome)
+    if make_job(alloc, case, Job::Refused(case.refusal, ample), &mut found)? {
+        return write_text(report, found.bytes());
     }
+    write_unrefused(report, &found)
 }
 
 /// Refuses the growth that a case names.
 pub fn refuse_growth(alloc: Global, case: &Case<'_>, report: &mut MemorySink) -> Result<(), Fault> {
-    let ample = with_memory(alloc, case)?;
+    let ample = with_memory(alloc, case, report)?;
     refuse_one(alloc, case, &ample, report)
 }

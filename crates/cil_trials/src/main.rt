@@ -8,6 +8,7 @@ mod dialogue;
 mod engine;
 mod fault;
 mod growths;
+mod job;
 mod limits;
 mod state;
 mod trial;

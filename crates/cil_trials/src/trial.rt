@@ -1,49 +1,13 @@
 //! Trials over devices with limits, and which trial a case asks for.
 
-use crate::attempt::{set_up, write_answer, write_number, write_session, write_text, written_of};
+use crate::attempt::{write_number, write_text};
 use crate::case::{Case, Each, Refusal};
-use crate::dialogue::{hold_dialogue, try_flushes};
-use crate::engine::{Engine, Memory};
 use crate::fault::Fault;
 use crate::growths::{refuse_each, refuse_growth};
+use crate::job::{Job, make_job};
 use crate::limits::Limits;
-use crate::state::write_state;
 use cil_stream::MemorySink;
-use refusing::Refusing;
 use std::alloc::Global;
-
-/// Writes what comes of a case over such devices.
-fn write_outcome<'h>(
-    report: &mut MemorySink,
-    memory: Memory<'h>,
-    engine: &mut Engine<'h>,
-    case: &Case<'_>,
-    limits: Limits,
-) -> Result<(), Fault> {
-    set_up(memory, engine, case)?;
-    write_session(report, memory, engine, case.script, limits)?;
-    if !case.then.is_empty() {
-        write_text(report, b"then\n")?;
-        write_answer(report, memory, engine, case.then)?;
-    }
-    write_text(report, b"state\n")?;
-    write_state(report, memory.heap, engine, &case.names)
-}
-
-/// What comes of a case over such devices.
-fn outcome(alloc: Global, case: &Case<'_>, limits: Limits) -> Result<MemorySink, Fault> {
-    let mut report = MemorySink::new(alloc);
-    let heap = Refusing::new(alloc);
-    let mut engine = Engine::new(case.kind, &heap);
-    let memory = Memory {
-        ample: alloc,
-        heap: &heap,
-    };
-    match write_outcome(&mut report, memory, &mut engine, case, limits) {
-        Ok(()) => Ok(report),
-        Err(fault) => Err(fault),
-    }
-}
 
 /// The limits of a case where a device of it fails or ends after so many bytes.
 fn limits_at(case: &Case<'_>, each: Each, bytes: usize) -> Limits {
@@ -82,65 +46,88 @@ impl Stretch {
         found: MemorySink,
         report: &mut MemorySink,
     ) -> Result<(), Fault> {
-        if found.bytes() != self.outcome.bytes() {
+        if bytes > 0 && found.bytes() != self.outcome.bytes() {
             self.write(report)?;
             self.first = bytes;
-            self.outcome = found;
         }
+        self.outcome = found;
         self.last = bytes;
         Ok(())
     }
 }
 
-/// How many bytes the sink takes of the whole answer, or the source gives of the whole script.
-fn greatest(alloc: Global, case: &Case<'_>, each: Each) -> Result<usize, Fault> {
-    if each != Each::SinkFails {
-        return Ok(case.script.len());
-    }
-    let heap = Refusing::new(alloc);
-    let mut engine = Engine::new(case.kind, &heap);
-    let memory = Memory {
-        ample: alloc,
-        heap: &heap,
-    };
-    written_of(memory, &mut engine, case)
+/// Has a device fail or end after so many bytes, and says whether it is to be tried with one byte more.
+fn try_one(
+    alloc: Global,
+    case: &Case<'_>,
+    each: Each,
+    stretch: &mut Stretch,
+    report: &mut MemorySink,
+) -> Result<bool, Fault> {
+    let bytes = stretch.last;
+    let mut found = MemorySink::new(alloc);
+    let job = Job::Session(limits_at(case, each, bytes));
+    let is_full = make_job(alloc, case, job, &mut found)?;
+    stretch.go_on(bytes, found, report)?;
+    stretch.last = bytes.saturating_add(1);
+    Ok(if each == Each::SinkFails {
+        is_full
+    } else {
+        bytes < case.script.len()
+    })
 }
 
 /// Has a device fail or end after each number of bytes, and writes what comes of it, alike outcomes once.
+fn try_numbers(
+    alloc: Global,
+    case: &Case<'_>,
+    each: Each,
+    stretch: &mut Stretch,
+    report: &mut MemorySink,
+) -> Result<(), Fault> {
+    for _ in 0..usize::MAX {
+        if !try_one(alloc, case, each, stretch, report)? {
+            break;
+        }
+    }
+    stretch.last = stretch.last.saturating_sub(1);
+    stretch.write(report)
+}
+
 fn try_each(
     alloc: Global,
     case: &Case<'_>,
     each: Each,
     report: &mut MemorySink,
 ) -> Result<(), Fault> {
-    let most = greatest(alloc, case, each)?;
     let mut stretch = Stretch {
         first: 0,
         last: 0,
-        outcome: outcome(alloc, case, limits_at(case, each, 0))?,
+        outcome: MemorySink::new(alloc),
     };
-    for bytes in 0..most {
-        let bytes = bytes.saturating_add(1);
-        let found = outcome(alloc, case, limits_at(case, each, bytes))?;
-        stretch.go_on(bytes, found, report)?;
-    }
-    stretch.write(report)
+    try_numbers(alloc, case, each, &mut stretch, report)
 }
 
-/// Makes the trial of a session over devices with limits, and writes what came of it.
-fn try_session(alloc: Global, case: &Case<'_>, report: &mut MemorySink) -> Result<(), Fault> {
-    let found = outcome(alloc, case, case.limits)?;
-    write_text(report, found.bytes())
+fn make(
+    alloc: Global,
+    case: &Case<'_>,
+    job: Job<'_>,
+    report: &mut MemorySink,
+) -> Result<(), Fault> {
+    match make_job(alloc, case, job, report) {
+        Ok(_) => Ok(()),
+        Err(fault) => Err(fault),
+    }
 }
 
 /// Makes the trial of a case, and writes what came of it.
 pub fn make_trial(alloc: Global, case: &Case<'_>, report: &mut MemorySink) -> Result<(), Fault> {
     match (&case.peer, case.flushes, case.each, case.refusal) {
-        (Some(peer), _, _, _) => hold_dialogue(alloc, case, peer, report),
-        (None, Some(flushes), _, _) => try_flushes(alloc, case, flushes, report),
+        (Some(peer), _, _, _) => make(alloc, case, Job::Dialogue(peer), report),
+        (None, Some(flushes), _, _) => make(alloc, case, Job::Flushes(flushes), report),
         (None, None, Some(Each::Growth), _) => refuse_each(alloc, case, report),
         (None, None, Some(each), _) => try_each(alloc, case, each, report),
-        (None, None, None, Refusal::None) => try_session(alloc, case, report),
+        (None, None, None, Refusal::None) => make(alloc, case, Job::Session(case.limits), report),
         (None, None, None, _) => refuse_growth(alloc, case, report),
     }
 }
