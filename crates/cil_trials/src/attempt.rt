@@ -78,7 +78,7 @@ fn write_written(report: &mut MemorySink, written: &[u8], limits: Limits) -> Res
     write_lines(report, written)
 }
 
-/// Writes what comes of a script over devices with limits, and says whether the sink took all up to its limit.
+/// Writes what comes of a script over devices with limits, and says whether the sink failed.
 pub fn write_session<'h>(
     report: &mut MemorySink,
     memory: Memory<'h>,
@@ -93,7 +93,7 @@ pub fn write_session<'h>(
     write_end(report, end)?;
     write_given(report, source.given(), limits)?;
     write_written(report, sink.bytes(), limits)?;
-    Ok(sink.bytes().len() == limits.taken)
+    Ok(matches!(end, Err(SessionFault::Write)))
 }
 
 /// Writes how the session of a script ends and what it answers.

@@ -27,7 +27,7 @@ pub enum Job<'a> {
     Flushes(usize),
 }
 
-/// Writes what comes of a case over such devices, and says whether the sink took all up to its limit.
+/// Writes what comes of a case over such devices, and says whether the sink failed.
 fn write_outcome<'h>(
     report: &mut MemorySink,
     memory: Memory<'h>,
@@ -35,14 +35,14 @@ fn write_outcome<'h>(
     case: &Case<'_>,
     limits: Limits,
 ) -> Result<bool, Fault> {
-    let is_full = write_session(report, memory, engine, case.script, limits)?;
+    let has_failed = write_session(report, memory, engine, case.script, limits)?;
     if !case.then.is_empty() {
         write_text(report, b"then\n")?;
         write_answer(report, memory, engine, case.then)?;
     }
     write_text(report, b"state\n")?;
     write_state(report, memory.heap, engine, &case.names)?;
-    Ok(is_full)
+    Ok(has_failed)
 }
 
 impl<'a> Job<'a> {

@@ -67,11 +67,11 @@ fn try_one(
     let bytes = stretch.last;
     let mut found = MemorySink::new(alloc);
     let job = Job::Session(limits_at(case, each, bytes));
-    let is_full = make_job(alloc, case, job, &mut found)?;
+    let has_failed = make_job(alloc, case, job, &mut found)?;
     stretch.go_on(bytes, found, report)?;
     stretch.last = bytes.saturating_add(1);
     Ok(if each == Each::SinkFails {
-        is_full
+        has_failed
     } else {
         bytes < case.script.len()
     })
