@@ -56,20 +56,26 @@ impl Stretch {
     }
 }
 
-/// Has a device fail or end after so many bytes, and says whether it is to be tried with one byte more.
+/// Which device fails or ends, and after how many bytes.
+#[derive(Clone, Copy)]
+struct Failing {
+    each: Each,
+    bytes: usize,
+}
+
+/// Has a device fail or end, and says whether it is to be tried with one byte more.
 fn try_one(
     alloc: Global,
     case: &Case<'_>,
-    each: Each,
+    failing: Failing,
     stretch: &mut Stretch,
     report: &mut MemorySink,
 ) -> Result<bool, Fault> {
-    let bytes = stretch.last;
+    let Failing { each, bytes } = failing;
     let mut found = MemorySink::new(alloc);
     let job = Job::Session(limits_at(case, each, bytes));
     let has_failed = make_job(alloc, case, job, &mut found)?;
     stretch.go_on(bytes, found, report)?;
-    stretch.last = bytes.saturating_add(1);
     Ok(if each == Each::SinkFails {
         has_failed
     } else {
@@ -85,12 +91,11 @@ fn try_numbers(
     stretch: &mut Stretch,
     report: &mut MemorySink,
 ) -> Result<(), Fault> {
-    for _ in 0..usize::MAX {
-        if !try_one(alloc, case, each, stretch, report)? {
+    for bytes in 0..usize::MAX {
+        if !try_one(alloc, case, Failing { each, bytes }, stretch, report)? {
             break;
         }
     }
-    stretch.last = stretch.last.saturating_sub(1);
     stretch.write(report)
 }
 
