@@ -8,13 +8,13 @@ use Rattle.cil_store_specs.specs.Store.{Entry, Store, empty}
 use Rattle.cil_store_specs.specs.Next.{Refusal, accepts, refuses, for_memory, Of}
 use Rattle.cil_store_specs.specs.Run.{AreRowsOf, AreViolationsOf}
 use Rattle.cil_store_specs.specs.Script.{refusal_line}
-use Rattle.cil_session.specs.Session.{Leaves}
+use Rattle.cil_program.specs.Session.{Leaves}
 use Rattle.cil_program.specs.declared.command_line.compile.Report.{Report}
 use Rattle.cil_program.specs.declared.command_line.compile.Report.TheVariants.{Listing, Violations}
-use Rattle.cil_session.specs.declared.session.SessionFault.{SessionFault}
-use Rattle.cil_session.specs.declared.session.SessionFault.TheVariants.{Read, Write}
-use Rattle.cil_session.specs.declared.session.Status.{Status}
-use Rattle.cil_session.specs.declared.session.Status.TheVariants.{Clean, Refused, Script}
+use Rattle.cil_program.specs.declared.script.session.SessionFault.{SessionFault}
+use Rattle.cil_program.specs.declared.script.session.SessionFault.TheVariants.{Read, Write}
+use Rattle.cil_program.specs.declared.script.session.Status.{Status}
+use Rattle.cil_program.specs.declared.script.session.Status.TheVariants.{Clean, Refused, Script}
 
 -- behind the program's name stands `session` alone
 abbrev pub AsksSession : List (List ℕ) → Type 0

@@ -1,2 +1,6 @@
+pub mod Input
+pub mod Command
+pub mod Dump
+pub mod Session
 pub mod CommandLine
 pub mod Program

@@ -1,6 +1,5 @@
-//! The command line: its words, the session or the files that they ask for, and exit statuses.
+//! The session that answers a script, and the command line that asks for it.
 #![tactic(auto)]
 
 pub mod command_line;
-
-pub use cil_session as script;
+pub mod script;

@@ -17,7 +17,7 @@ use Rattle.cil_store_specs.specs.Run.{AreRowsOf, AreViolationsOf}
 use Rattle.cil_store_specs.specs.Store.{Store, empty}
 use Rattle.cil_store_specs.proofs.OneStore.{meaning-same}
 use Rattle.cil_store.specs.Counted.{counted_meaning, meaning_kept, IsCountedTo, IsKept}
-use Rattle.cil_modules.proofs.EmptyLemmas.{no-atoms, no-violations, none-meant}
+use Rattle.cil_store.proofs.PlainLemmas.{no-atoms, no-violations, none-meant}
 use Rattle.cil_store.specs.declared.counted_policy.CountedPolicy.{CountedPolicy}
 
 -- lists of the same statements, of which one is empty

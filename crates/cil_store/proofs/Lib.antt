@@ -1,3 +1,12 @@
+pub mod ParsedLemmas
+pub mod EntryLemmas
+pub mod SizeLemmas
+pub mod FindLemmas
+pub mod StateLemmas
+pub mod StepLemmas
+pub mod InstallLemmas
+pub mod JoinLemmas
+pub mod DroppedLemmas
 pub mod PlainLemmas
 pub mod MeantLemmas
 pub mod CountedPolicyLemmas

@@ -1,13 +1,14 @@
 //! Calls of an engine, and their replies.
 
-use cil_modules::Refusal;
+use crate::refusal::Refusal;
+use crate::{dropped, edit};
 use cil_resolve::Text;
 use std::alloc::{Allocator, Global};
 
 /// A call of an engine: an edit of its store, or a question.
 #[derive(Clone, Copy, Debug)]
 pub enum Call<'a> {
-    Edit(cil_modules::Edit<'a>),
+    Edit(edit::Edit<'a>),
     /// Which accesses are allowed, by rows.
     Rows,
     /// The lines of these rows.
@@ -26,6 +27,6 @@ pub enum Reply<A: Allocator = Global> {
     Rows(cil_rules::Rows<A>),
     Listing(Text<A>),
     Violations(cil_violations::Violations<A>),
-    Dropped(cil_modules::Dropped<A>),
+    Dropped(dropped::Dropped<A>),
     Refused(Refusal<A>),
 }

@@ -11,10 +11,13 @@ ghost use Rattle.cil_resolve.specs.Resolved.{meaning_in};
 ghost use Rattle.cil_rules.specs.Atoms.{atom_of};
 ghost use Rattle.cil_store_specs.specs.Next.{changed};
 ghost use Rattle.cil_store.specs.Counted.{counted_meaning, AreCountedChanges, IsKept};
-ghost use Rattle.cil_modules.specs.Ready.{ready_edit};
+ghost use Rattle.cil_store.specs.Ready.{ready_edit};
 
+use crate::dropped::Dropped;
+use crate::modules::Store;
+use crate::ready::Ready;
+use crate::resolving::resolve_nothing;
 use cil_counters::{Counters, counters_tell_accesses, counters_tell_members};
-use cil_modules::{Dropped, Ready, Store, resolve_nothing};
 use cil_resolve::{Meter, Resolved, resolved_sets_are_in_order};
 use cil_rules::{Atom, Changes, Table};
 use cil_violations::Violations;

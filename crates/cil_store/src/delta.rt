@@ -8,15 +8,20 @@ ghost use Rattle.cil_resolve.specs.Resolved.{meaning_in};
 ghost use Rattle.cil_store_specs.specs.Next.{IsMeaningOf, changed, for_memory};
 ghost use Rattle.cil_store_specs.specs.Run.{an_edit, Step};
 ghost use Rattle.cil_store_specs.specs.Store.{empty};
-ghost use Rattle.cil_modules.specs.Calls.{edit_reply};
+ghost use Rattle.cil_store.specs.Calls.{edit_reply};
 ghost use Rattle.cil_store.specs.Counted.{counted_meaning, meaning_kept, AreCountedBetween, CountsStay, IsKept, IsKeptWhere};
-ghost use Rattle.cil_modules.specs.Edits.{edit_of, refusal_of};
-ghost use Rattle.cil_modules.specs.Ready.{ready_edit};
+ghost use Rattle.cil_store.specs.Edits.{edit_of, refusal_of};
+ghost use Rattle.cil_store.specs.Ready.{ready_edit};
 
+use crate::admitted::admit;
+use crate::compiled::{Compiled, WriteFault};
 use crate::counted_policy::{CountedPolicy, NextPolicy};
-use cil_modules::{
-    Compiled, Dropped, Edit, Ready, Refusal, Store, WriteFault, admit, resolve_after,
-};
+use crate::dropped::Dropped;
+use crate::edit::Edit;
+use crate::modules::Store;
+use crate::ready::Ready;
+use crate::refusal::Refusal;
+use crate::resolving::resolve_after;
 use cil_resolve::Meter;
 use cil_rules::{Atom, Changes, Rows, Table};
 use cil_stream::Sink;

@@ -1,18 +1,35 @@
-//! The engines that keep a store compiled, runs of calls, and the laws of stores.
+//! The store: edits, refusals, and the engines that keep a store compiled.
 #![tactic(auto)]
 
+mod admitted;
 mod call;
+mod compiled;
 mod counted_policy;
 mod delta;
+mod disabled;
+mod dropped;
+mod edit;
+mod entries;
+mod entry;
+mod install;
+mod join;
 pub mod laws;
+mod modules;
 mod plain;
 mod policy;
+mod ready;
+mod refusal;
+mod refusing;
+mod resolving;
 mod runs;
 
 pub use call::{Call, Reply};
-pub use cil_modules::{
-    Compiled, Dropped, Edit, Entry, FaultKind, Refusal, State, Store, StoreFault, WriteFault,
-};
+pub use compiled::{Compiled, WriteFault};
 pub use delta::Delta;
+pub use dropped::Dropped;
+pub use edit::Edit;
+pub use entry::Entry;
+pub use modules::{State, Store};
 pub use plain::Plain;
+pub use refusal::{FaultKind, Refusal, StoreFault};
 pub use runs::run;

@@ -7,18 +7,23 @@ ghost use Rattle.cil_store_specs.specs.Store.{empty};
 ghost use Rattle.cil_specs.specs.Meaning.{is_in_table};
 ghost use Rattle.cil_specs.specs.Report.{AreAtoms};
 ghost use Rattle.cil_resolve.specs.Resolved.{meaning_in};
-ghost use Rattle.cil_modules.specs.Admitted.{admitted_edit, IsAdmitted};
-ghost use Rattle.cil_modules.specs.Edits.{refusal_of};
+ghost use Rattle.cil_store.specs.Admitted.{admitted_edit, IsAdmitted};
+ghost use Rattle.cil_store.specs.Edits.{refusal_of};
 ghost use Rattle.cil_store.specs.Plain.{IsCompiledTo};
 ghost use Rattle.cil_store.specs.Policy.{policy_meaning};
-ghost use Rattle.cil_modules.specs.Refusing.{AreRefused, IsRefusedPolicy};
-ghost use Rattle.cil_modules.specs.Stored.{entry_of};
+ghost use Rattle.cil_store.specs.Refusing.{AreRefused, IsRefusedPolicy};
+ghost use Rattle.cil_store.specs.Stored.{entry_of};
 
+use crate::admitted::{Admitted, admit};
+use crate::compiled::{Compiled, WriteFault};
+use crate::dropped::Dropped;
+use crate::edit::Edit;
+use crate::entry::Entry;
+use crate::install::install_all;
+use crate::modules::Store;
 use crate::policy::Policy;
-use cil_modules::{
-    Admitted, Compiled, Dropped, Edit, Entry, Refusal, Store, WriteFault, admit, install_all,
-    resolve_after,
-};
+use crate::refusal::Refusal;
+use crate::resolving::resolve_after;
 use cil_resolve::Resolved;
 use cil_rules::{Atom, Changes, Rows, Table};
 use cil_stream::Sink;

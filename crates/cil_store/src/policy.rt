@@ -12,7 +12,9 @@ ghost use Rattle.cil_rules.specs.Atoms.{atom_of};
 ghost use Rattle.cil_sets.specs.Members.{AreMembers};
 ghost use Rattle.cil_tables.specs.Tables.{AreTables};
 
-use cil_modules::{Dropped, WriteFault, resolve_nothing};
+use crate::compiled::WriteFault;
+use crate::dropped::Dropped;
+use crate::resolving::resolve_nothing;
 use cil_resolve::Resolved;
 use cil_rules::{Atom, Table, count};
 use cil_sets::Members;

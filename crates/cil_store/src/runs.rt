@@ -6,7 +6,8 @@ ghost use Rattle.cil_store_specs.specs.Run.{AreRowsOf, Step, Run};
 ghost use Rattle.cil_store.specs.Calls.{call_of, reply_of};
 
 use crate::call::{Call, Reply};
-use cil_modules::{Compiled, Refusal};
+use crate::compiled::Compiled;
+use crate::refusal::Refusal;
 use cil_resolve::Text;
 use cil_stream::MemorySink;
 use std::alloc::{AllocError, Allocator};

@@ -4,10 +4,10 @@ ghost use Rattle.std.specs.Prelude.{◌≡◌, ◌⊎◌, ◌≤◌, [], List, �
 ghost use Rattle.cil_stream.specs.Device.{Gains, HasFailed};
 ghost use Rattle.cil_store_specs.specs.Next.{for_memory, Of, accepts};
 ghost use Rattle.cil_store_specs.specs.Script.{refusal_line};
-ghost use Rattle.cil_modules.specs.Stored.{entry_of};
+ghost use Rattle.cil_store.specs.Stored.{entry_of};
 ghost use Rattle.cil_program.specs.CommandLine.{Compiles};
 
-use cil_session::reply;
+use crate::script::reply;
 use cil_store::{Compiled, Entry, Plain, WriteFault};
 use cil_stream::{Sink, SinkFault};
 use std::alloc::Allocator;

@@ -3,7 +3,7 @@
 ghost use Rattle.std.specs.Prelude.{◌≡◌, ◌⊎◌, ◌<◌, Contains, length, map, IfOk, IfErr, IsErrOf};
 ghost use Rattle.std.specs.List.{AllZip};
 ghost use Rattle.cil_stream.specs.Device.{Gives, HasEnded, HasFailed};
-ghost use Rattle.cil_modules.specs.Stored.{entry_of};
+ghost use Rattle.cil_store.specs.Stored.{entry_of};
 ghost use Rattle.cil_program.specs.CommandLine.{IsBaseName, IsEntryAt, NamesModule};
 ghost use Rattle.cil_program.specs.declared.command_line.files.ReadFault.TheVariants.{Unreadable};
 
@@ -118,7 +118,7 @@ pub fn module_name(path: &str) -> &[u8]
 }
 
 impl<'a, A: Allocator> ReadFile<'a, A> {
-    ghost use Rattle.cil_modules.specs.Stored.{entry_of};
+    ghost use Rattle.cil_store.specs.Stored.{entry_of};
     ghost use Rattle.cil_program.specs.CommandLine.{IsEntryAt};
 
     /// Its entry in a store.

@@ -2,11 +2,11 @@ use Rattle.std.proofs.Common.{◌≡◌, ◌≢◌, ◌∙◌, ◌⊎◌, inl, i
 use Rattle.std.proofs.lemmas.Result.{IfOk-weaker}
 use Rattle.cil_store_specs.specs.Store.{Store}
 use Rattle.cil_program.specs.CommandLine.{AnswersSession, exit_status_of}
-use Rattle.cil_session.specs.Session.{Leaves}
-use Rattle.cil_session.specs.declared.session.SessionFault.{SessionFault}
-use Rattle.cil_session.specs.declared.session.SessionFault.TheVariants.{Read, Write}
-use Rattle.cil_session.specs.declared.session.Status.{Status}
-use Rattle.cil_session.specs.declared.session.Status.TheVariants.{Clean, Refused, Script}
+use Rattle.cil_program.specs.Session.{Leaves}
+use Rattle.cil_program.specs.declared.script.session.SessionFault.{SessionFault}
+use Rattle.cil_program.specs.declared.script.session.SessionFault.TheVariants.{Read, Write}
+use Rattle.cil_program.specs.declared.script.session.Status.{Status}
+use Rattle.cil_program.specs.declared.script.session.Status.TheVariants.{Clean, Refused, Script}
 use Rattle.cil_program.proofs.command_line.answer_session.Goals as goal
 
 no-failure : (end : Result Status SessionFault) (P : Type 0) → OnOk end P → exit_status_of end ≢ 3 → P

@@ -6,7 +6,7 @@ use Rattle.cil_stream.specs.Device.{Gains}
 use Rattle.cil_stream.proofs.Gaining.{gains-none}
 use Rattle.cil_store_specs.specs.Next.{for_memory}
 use Rattle.cil_store_specs.specs.Script.{refusal_line}
-use Rattle.cil_modules.specs.Stored.{entry_of}
+use Rattle.cil_store.specs.Stored.{entry_of}
 use Rattle.cil_program.specs.CommandLine.{IsEntryAt, compiles, is_unreadable, is_not_held, unreadable_line}
 use Rattle.cil_program.proofs.command_line.compile_files.Goals as goal
 

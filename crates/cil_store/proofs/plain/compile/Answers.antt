@@ -1,6 +1,6 @@
 use Rattle.cil_resolve.specs.Resolved.{meaning_in}
 use Rattle.cil_store_specs.specs.Next.{changed}
-use Rattle.cil_modules.specs.Admitted.{admitted_edit}
+use Rattle.cil_store.specs.Admitted.{admitted_edit}
 use Rattle.cil_store.proofs.PlainLemmas.{compiled-to}
 use Rattle.cil_store.proofs.plain.compile.Goals as goal
 

@@ -1,7 +1,7 @@
 use Rattle.std.proofs.Common.{ap, refl, sym, subst}
 use Rattle.cil_store_specs.specs.Run.{changed_by, refused, listed, printed, violated, dropped_optionals, lists, prints, tells_violations, tells_dropped, Step}
 use Rattle.cil_store.specs.Calls.{call_of}
-use Rattle.cil_modules.specs.Edits.{refusal_of}
+use Rattle.cil_store.specs.Edits.{refusal_of}
 use Rattle.cil_store.proofs.runs.answer.Goals as goal
 
 pub returns-in-Ok : goal.returns-in-Ok

@@ -5,9 +5,9 @@ use Rattle.cil_stream.proofs.Gaining.{gains-none}
 use Rattle.cil_store_specs.specs.Store.{Entry}
 use Rattle.cil_store_specs.specs.Next.{Refusal, for_memory}
 use Rattle.cil_store_specs.specs.Script.{refusal_line}
-use Rattle.cil_modules.specs.Refusing.{AreRefused}
-use Rattle.cil_modules.specs.Stored.{entry_of}
-use Rattle.cil_modules.specs.Edits.{refusal_of}
+use Rattle.cil_store.specs.Refusing.{AreRefused}
+use Rattle.cil_store.specs.Stored.{entry_of}
+use Rattle.cil_store.specs.Edits.{refusal_of}
 use Rattle.cil_program.specs.CommandLine.{Compiles, is_refused, lacks_memory}
 use Rattle.cil_program.specs.declared.command_line.compile.Report.{Report}
 use Rattle.cil_program.proofs.command_line.compile.compile_entries.Goals as goal

@@ -1,6 +1,6 @@
 use Rattle.std.proofs.Common.{take}
 use Rattle.std.specs.List.{AllZip}
-use Rattle.cil_modules.specs.Stored.{entry_of}
+use Rattle.cil_store.specs.Stored.{entry_of}
 use Rattle.cil_program.specs.CommandLine.{IsEntryAt}
 use Rattle.cil_program.proofs.command_line.files.entries_of.Given as goal
 

@@ -5,12 +5,12 @@ use Rattle.cil_resolve.specs.Resolved.{meaning_in}
 use Rattle.cil_store_specs.specs.Next.{Edit, HasGoodText, IsMeaningOf, changed, store_refusal}
 use Rattle.cil_store_specs.specs.Run.{Step, an_edit, changed_by, refused, out_of_memory}
 use Rattle.cil_store_specs.specs.Store.{Store}
-use Rattle.cil_modules.specs.Admitted.{admitted_edit}
+use Rattle.cil_store.specs.Admitted.{admitted_edit}
 use Rattle.cil_store.specs.Counted.{meaning_kept, AreCountedBetween, IsCountedTo}
-use Rattle.cil_modules.specs.Edits.{edit_of, refusal_of}
-use Rattle.cil_modules.specs.Ready.{ready_edit}
-use Rattle.cil_modules.specs.Refusing.{IsRefusedEdit, IsRefusedPolicy}
-use Rattle.cil_modules.proofs.StepLemmas.{admitted-text, made-step, refused-step, policy-step}
+use Rattle.cil_store.specs.Edits.{edit_of, refusal_of}
+use Rattle.cil_store.specs.Ready.{ready_edit}
+use Rattle.cil_store.specs.Refusing.{IsRefusedEdit, IsRefusedPolicy}
+use Rattle.cil_store.proofs.StepLemmas.{admitted-text, made-step, refused-step, policy-step}
 use Rattle.cil_store.proofs.delta.Delta.edit_metered.Goals as goal
 
 pub returns-in_err-admitted-clause-step : goal.returns-in_err-admitted-clause-step

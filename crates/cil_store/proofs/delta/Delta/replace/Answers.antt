@@ -4,7 +4,7 @@ use Rattle.cil_resolve.specs.Resolved.{meaning_in}
 use Rattle.cil_store_specs.specs.Next.{IsMeaningOf, changed}
 use Rattle.cil_store_specs.specs.Store.{Store}
 use Rattle.cil_store.specs.Counted.{counted_meaning, AreCountedBetween, AreCountedChanges}
-use Rattle.cil_modules.specs.Ready.{ready_edit}
+use Rattle.cil_store.specs.Ready.{ready_edit}
 use Rattle.cil_store.proofs.CountedPolicyLemmas.{means-after, told-after}
 use Rattle.cil_store.proofs.delta.Delta.replace.Goals as goal
 

@@ -3,14 +3,14 @@ use Rattle.std.proofs.lemmas.Result.{err_from_is_err_and}
 use Rattle.cil_specs.specs.Meaning.{meaning_of}
 use Rattle.cil_store_specs.specs.Next.{IsMeaningOf, changed, install_of}
 use Rattle.cil_store_specs.specs.Store.{Store}
-use Rattle.cil_modules.specs.Admitted.{admitted_edit}
-use Rattle.cil_modules.specs.Edits.{edit_of, refusal_of}
+use Rattle.cil_store.specs.Admitted.{admitted_edit}
+use Rattle.cil_store.specs.Edits.{edit_of, refusal_of}
 use Rattle.cil_store.specs.Policy.{policy_meaning}
-use Rattle.cil_modules.specs.Refusing.{IsRefusedEdit, IsRefusedPolicy}
-use Rattle.cil_modules.specs.Stored.{entry_of}
-use Rattle.cil_modules.proofs.InstallLemmas.{none-installed, before-refused, last-refused, all-refused, all-accepted}
-use Rattle.cil_modules.proofs.EmptyLemmas.{none-meant}
-use Rattle.cil_modules.proofs.StepLemmas.{admitted-taken}
+use Rattle.cil_store.specs.Refusing.{IsRefusedEdit, IsRefusedPolicy}
+use Rattle.cil_store.specs.Stored.{entry_of}
+use Rattle.cil_store.proofs.InstallLemmas.{none-installed, before-refused, last-refused, all-refused, all-accepted}
+use Rattle.cil_store.proofs.PlainLemmas.{none-meant}
+use Rattle.cil_store.proofs.StepLemmas.{admitted-taken}
 use Rattle.cil_store.proofs.plain.Plain.of.Goals as goal
 
 no-item : {X : Type 0} (xs : List X) → length xs ≡ 0 → xs ≡ []

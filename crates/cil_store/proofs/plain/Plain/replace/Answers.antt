@@ -3,7 +3,7 @@ use Rattle.std.proofs.lemmas.Result.{err_from_is_err_and}
 use Rattle.cil_stream.proofs.Gaining.{on_err}
 use Rattle.cil_store_specs.specs.Next.{changed}
 use Rattle.cil_store_specs.specs.Store.{Store}
-use Rattle.cil_modules.specs.Admitted.{admitted_edit}
+use Rattle.cil_store.specs.Admitted.{admitted_edit}
 use Rattle.cil_store.specs.Plain.{IsCompiledTo}
 use Rattle.cil_store.proofs.plain.Plain.replace.Goals as goal
 

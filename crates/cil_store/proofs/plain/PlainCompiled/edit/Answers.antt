@@ -3,12 +3,12 @@ use Rattle.std.proofs.lemmas.Result.{err_from_is_err_and}
 use Rattle.cil_store_specs.specs.Next.{Edit, HasGoodText, changed, store_refusal}
 use Rattle.cil_store_specs.specs.Run.{Step, an_edit, changed_by, refused, out_of_memory}
 use Rattle.cil_store_specs.specs.Store.{Store}
-use Rattle.cil_modules.specs.Admitted.{admitted_edit}
-use Rattle.cil_modules.specs.Edits.{edit_of, refusal_of}
+use Rattle.cil_store.specs.Admitted.{admitted_edit}
+use Rattle.cil_store.specs.Edits.{edit_of, refusal_of}
 use Rattle.cil_store.specs.Plain.{IsCompiledTo}
-use Rattle.cil_modules.specs.Refusing.{IsRefusedEdit, IsRefusedPolicy}
+use Rattle.cil_store.specs.Refusing.{IsRefusedEdit, IsRefusedPolicy}
 use Rattle.cil_store.proofs.PlainLemmas.{accepted-step}
-use Rattle.cil_modules.proofs.StepLemmas.{admitted-text, refused-step, policy-step}
+use Rattle.cil_store.proofs.StepLemmas.{admitted-text, refused-step, policy-step}
 use Rattle.cil_store.proofs.plain.PlainCompiled.edit.Goals as goal
 
 pub returns-in_err-admitted : goal.returns-in_err-admitted

@@ -2,8 +2,7 @@ use Rattle.std.proofs.Common.{◌≡◌, false, refl, sym, subst}
 use Rattle.cil_specs.specs.Meaning.{Meaning}
 use Rattle.cil_specs.specs.Members.{is_member}
 use Rattle.cil_store.specs.Plain.{meaning_by, IsCompiledTo}
-use Rattle.cil_modules.proofs.EmptyLemmas.{none-held}
-use Rattle.cil_store.proofs.PlainLemmas.{of-meaning}
+use Rattle.cil_store.proofs.PlainLemmas.{of-meaning, none-held}
 use Rattle.cil_store.proofs.plain.PlainCompiled.has.Goals as goal
 
 pub returns-in-Some : goal.returns-in-Some

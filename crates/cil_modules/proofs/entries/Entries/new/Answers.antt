@@ -1,8 +1,0 @@
-use Rattle.std.proofs.Common.{[], sym, subst}
-use Rattle.std.specs.List.Sorted.{IsStrictlySortedBy}
-use Rattle.cil_store_specs.specs.Store.{entry_cmp}
-use Rattle.cil_modules.proofs.entries.Entries.new.Goals as goal
-
-pub invariant_of-result : goal.invariant_of-result
-unfolding IsStrictlySortedBy
-invariant_of-result g c = subst (IsStrictlySortedBy entry_cmp) (sym c.new.ensures.items) tt

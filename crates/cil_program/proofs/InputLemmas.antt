@@ -1,0 +1,130 @@
+-- Bytes that are read one piece after another.
+use Rattle.std.proofs.Common.{IsTrue, Result, Ok, Err, IfOk, inl, inr, false, true, Bool, ◌≡◌, ◌≢◌, ℕ, ◌+◌, ◌<◌, ◌≤◌, ◌^◌, not, List, [], ◌∷◌, ◌++◌, length, take, drop, append-nil, length-drop, count_by, refl, ap, sym, ◌∙◌, subst, append_assoc, length-append, arith}
+use Rattle.std.specs.List.{list_all}
+use Rattle.std.proofs.lemmas.List.{take-append-drop, length-take-le}
+use Rattle.std.proofs.lemmas.List.Sums.{sum_by-append, count_by-le-length}
+use Rattle.std.proofs.lemmas.List.Folds.{list_all-append}
+use Rattle.std.proofs.lemmas.Bool.{eqb-true, le-leb}
+use lib.Seq.{take-nil, drop-nil}
+use Rattle.cil_specs.specs.Place.{is_line_feed}
+use Rattle.cil_stream.specs.declared.source.SourceFault.{SourceFault}
+use Rattle.cil_stream.specs.Device.{Account, Gives, HasEnded, has_ended}
+use Rattle.cil_stream.proofs.Gaining.{gains-both, gains-none}
+use Rattle.cil_specs.proofs.Runs.{both_true}
+use Rattle.cil_program.specs.Input.{Held, Takes, Fits, HasRead, IsOther, IsWholeText, IsShort, stays}
+
+gives-both : (was mid is : Account) (first second : List ℕ) → Gives was mid first → Gives mid is second → Gives was is (first ++ second)
+gives-both was mid is first second a b = record {
+  whole = b.whole ∙ a.whole;
+  given = gains-both was.given mid.given is.given first second a.given b.given;
+  count = omega (arith, a.count, b.count, length-append first second);
+  ends = omega (arith, a.ends, b.ends);
+}
+
+gives-none : (now : Account) → Gives now now []
+gives-none now = record { whole = refl; given = gains-none now.given; count = omega arith; ends = omega arith }
+
+takes-both : (was mid is : Account) (before between held first second : List ℕ) → Takes was mid before first between → Takes mid is between second held → Takes was is before (first ++ second) held
+takes-both was mid is before between held first second a b = record {
+  fresh = a.fresh ++ b.fresh;
+  gives = gives-both was mid is a.fresh b.fresh a.gives b.gives;
+  same =
+      sym (append_assoc before a.fresh b.fresh) ∙ ap (λ l. l ++ b.fresh) a.same ∙ append_assoc first between b.fresh
+      ∙ ap (λ l. first ++ l) b.same ∙ sym (append_assoc first second held);
+}
+
+-- nothing was taken
+takes-none : (now : Account) (held : List ℕ) → Takes now now held [] held
+takes-none now held = record { fresh = []; gives = gives-none now; same = append-nil held }
+
+pub count-both : (first second : List ℕ) → count_by is_line_feed (first ++ second) ≡ count_by is_line_feed first + count_by is_line_feed second
+count-both first second = sum_by-append _ first second
+
+either-some : (first second : List ℕ) → first ++ second ≢ [] → (P : Type 0) → (first ≢ [] → P) → (second ≢ [] → P) → P
+either-some [] second some P f g = g some
+either-some (b ∷ first) second some P f g = f (λ e. omega (arith, ap length e))
+
+-- nothing was read
+pub reads-none : (now : Account) (held : Held) → Fits now.count held → HasRead now now held held []
+reads-none now held fits = record { takes = takes-none now held.bytes; line_feeds = omega arith; counts = omega arith; fits = fits; small = λ some. absurd (some refl) }
+
+-- bytes that were counted stay counted below the bound when no more were counted
+still-small : (some all more held : ℕ) → some < 2 ^ 64 → all + more ≡ some + held → held ≡ 0 → all < 2 ^ 64
+still-small some all more held small counts none = omega (arith, small, counts, none)
+
+pub reads-both : (was mid is : Account) (old between new : Held) (first second : List ℕ) → HasRead was mid old between first → HasRead mid is between new second → HasRead was is old new (first ++ second)
+reads-both was mid is old between new first second a b = record {
+  takes = takes-both was mid is old.bytes between.bytes new.bytes first second a.takes b.takes;
+  line_feeds = omega (arith, a.line_feeds, b.line_feeds, count-both first second);
+  counts = omega (arith, a.counts, b.counts, length-append first second);
+  fits = b.fits;
+  small = λ there. either-some first second there (is.count < 2 ^ 64) (λ f. later f second refl new.bytes refl) b.small;
+}
+  where
+    later : first ≢ [] → (l : List ℕ) → second ≡ l → (k : List ℕ) → new.bytes ≡ k → is.count < 2 ^ 64
+    later f (c ∷ l) e k q = b.small (λ none. omega (arith, ap length (sym e ∙ none)))
+    later f [] e (c ∷ k) q = b.fits.small (λ none. omega (arith, ap length (sym q ∙ none)))
+    later f [] e [] q = still-small mid.count is.count (length between.bytes) (length second + length new.bytes) (a.small f) (omega (arith, b.counts)) (omega (arith, ap length e, ap length q))
+
+pub reads-then_none : (was mid is : Account) (old between new : Held) (read : List ℕ) → HasRead was mid old between read → HasRead mid is between new [] → HasRead was is old new read
+reads-then_none was mid is old between new read a b = subst (HasRead was is old new) (append-nil read) (reads-both was mid is old between new read [] a b)
+
+-- a byte that is no line feed stays on its line
+pub stays-byte : (b : ℕ) → (b ≡ 10 → ⊥) → stays b ≡ true
+stays-byte b other = by (is_line_feed b) refl
+  where
+    by : (c : Bool) → is_line_feed b ≡ c → not (is_line_feed b) ≡ true
+    by true e = absurd (other (eqb-true b 10 e))
+    by false e = ap not e
+
+pub stays-more : (line : List ℕ) (b : ℕ) → list_all stays line ≡ true → (b ≡ 10 → ⊥) → list_all stays (line ++ b ∷ []) ≡ true
+stays-more line b all other = list_all-append stays line (b ∷ []) ∙ both_true (list_all stays line) (list_all stays (b ∷ [])) all (both_true (stays b) true (stays-byte b other) refl)
+
+-- bytes that are held back are read with nothing taken
+advances : (now : Account) (old new : Held) (n : ℕ) → Fits now.count old → n ≤ length old.bytes → new.bytes ≡ drop n old.bytes
+    → new.line_feeds ≡ old.line_feeds + count_by is_line_feed (take n old.bytes) → HasRead now now old new (take n old.bytes)
+advances now old new n fits within bytes feeds = record {
+  takes = record {
+    fresh = [];
+    gives = gives-none now;
+    same = append-nil old.bytes ∙ sym (take-append-drop n old.bytes) ∙ ap (λ l. take n old.bytes ++ l) (sym bytes);
+  };
+  line_feeds = feeds;
+  counts = omega (arith, within, ap length bytes, length-drop n old.bytes, length-take-le n old.bytes within);
+  fits = record {
+    within = omega (arith, feeds, fits.within, ap length bytes, length-drop n old.bytes, length-take-le n old.bytes within, count_by-le-length is_line_feed (take n old.bytes));
+    small = λ there. fits.small (λ none. there (bytes ∙ ap (drop n) none ∙ drop-nil n));
+  };
+  small = λ there. fits.small (λ none. there (ap (take n) none ∙ take-nil n));
+}
+
+-- what was read, then bytes that come, and then some of these read
+pub reads-on : (was mid is : Account) (old between more new : Held) (read : List ℕ) (n : ℕ) → HasRead was mid old between read → HasRead mid is between more [] → n ≤ length more.bytes
+    → new.bytes ≡ drop n more.bytes → new.line_feeds ≡ more.line_feeds + count_by is_line_feed (take n more.bytes) → HasRead was is old new (read ++ take n more.bytes)
+reads-on was mid is old between more new read n a b within bytes feeds =
+    reads-both was mid is old between new read (take n more.bytes) a
+    (reads-both mid is is between more new [] (take n more.bytes) b (advances is more new n b.fits within bytes feeds))
+
+-- the bytes of a text, and then what is no line feed
+short-text : (len : ℕ) (first read : List ℕ) (ended : Bool) (held : List ℕ) → length first ≡ len → IsOther read ended held → IsShort len (first ++ read) ended held
+short-text len first read ended held size (inl none) = inl (omega (arith, size, length-append first read, ap length none.0), none.1, none.2)
+short-text len first read ended held size (inr other) = inr (first, other.0, ap (λ l. first ++ l) other.1, size, other.2)
+
+-- the bytes of a text, and then its line feed, or not
+pub text-then : (r : Result Bool SourceFault) (was mid now : Account) (old between new : Held) (len : ℕ) (first : List ℕ) (ended : Bool) → HasRead was mid old between first → length first ≡ len
+    → IfOk r (λ is. IsTrue is → HasRead mid now between new (10 ∷ [])) → IfOk r (λ is. is ≡ false → (read : List ℕ) × HasRead mid now between new read × IsOther read ended new.bytes)
+    → IfOk r (λ whole. (read : List ℕ) × HasRead was now old new read × IsWholeText whole len first read ended new.bytes)
+text-then (Err _) was mid now old between new len first ended a size is_end is_other = tt
+text-then (Ok true) was mid now old between new len first ended a size is_end is_other = (first ++ 10 ∷ [], reads-both was mid now old between new first (10 ∷ []) a (is_end refl), (refl, size))
+text-then (Ok false) was mid now old between new len first ended a size is_end is_other =
+    let other = is_other refl in
+    (first ++ other.0, reads-both was mid now old between new first other.0 a other.1, short-text len first other.0 ended new.bytes size other.2)
+
+-- an end was told once more
+pub ended-within : (was old new is : Account) → was.ends ≤ old.ends → HasEnded old new → new.ends ≤ is.ends → HasEnded was is
+ended-within was old new is before (inl rose) after = inl (omega (arith, before, rose, after))
+ended-within was old new is before (inr greatest) after = inr (omega (arith, greatest, after))
+
+pub ended-now : (old new : Account) → HasEnded old new → IsTrue (has_ended new)
+ended-now old new (inl rose) = le-leb 1 new.ends (omega (arith, rose))
+ended-now old new (inr greatest) = le-leb 1 new.ends (omega (arith, greatest))

@@ -1,0 +1,50 @@
+-- The lines of reports, one after another.
+use Rattle.std.proofs.Common.{◌≡◌, ℕ, zero, suc, ◌+◌, ◌<◌, List, [], ◌∷◌, ◌++◌, length, map, flat_map, take, Option, Some, None, Result, Ok, Err, OnOk, OnErr, sym, ap, ◌∙◌, subst, length-append, arith}
+use Rattle.std.specs.List.{slice_get}
+use Rattle.std.proofs.lemmas.List.{length-map}
+use Rattle.std.proofs.lemmas.List.Folds.{flat_map-map}
+use Rattle.std.proofs.lemmas.Grind.{flat_map-append}
+use Rattle.std.proofs.lemmas.Option.{slice_get_within, get_or_from_slice_get}
+use Rattle.cil_stream.specs.Device.{Gains, GainsFront}
+use Rattle.cil_store_specs.specs.Store.{Store}
+use Rattle.cil_store_specs.specs.Next.{Edit, install_of, disable}
+use Rattle.cil_store_specs.specs.Script.{makes, command_bytes, end_line, dump_edits, dump_text}
+use Rattle.cil_stream.proofs.Gaining.{gains-both, gains-then_front, gains-pieces_more, gains-pieces_front, front-longer}
+use Rattle.cil_program.specs.Dump.{install_command, disable_command}
+
+-- the line of the next one
+pub line-more : {X : Type 0} (f : X → List ℕ) (old mid new : Option (List ℕ)) (xs : List X) (i : ℕ) (x : X) → Some x ≡ slice_get xs i → Gains old mid (flat_map f (take i xs)) → Gains mid new (f x) → Gains old new (flat_map f (take (i + 1) xs))
+line-more f old mid new xs i x is so_far line =
+    gains-pieces_more f old mid new xs i x (slice_get_within xs i x (sym is)) so_far (subst (λ y. Gains mid new (f y)) (sym (get_or_from_slice_get xs i x x (sym is))) line)
+
+-- or a beginning of it
+pub line-front : {X : Type 0} (f : X → List ℕ) (old mid new : Option (List ℕ)) (xs : List X) (i : ℕ) (x : X) → Some x ≡ slice_get xs i → Gains old mid (flat_map f (take i xs)) → GainsFront mid new (f x) → GainsFront old new (flat_map f xs)
+line-front f old mid new xs i x is so_far front =
+    gains-pieces_front f old mid new xs i x (slice_get_within xs i x (sym is)) so_far (subst (λ y. GainsFront mid new (f y)) (sym (get_or_from_slice_get xs i x x (sym is))) front)
+
+-- there is one at each place before the end
+pub some-within : {X : Type 0} (xs : List X) (i : ℕ) → i < length xs → None ≡ slice_get xs i → ⊥
+some-within [] i within none = omega (arith, within)
+some-within (x ∷ xs) zero within none = cc
+some-within (x ∷ xs) (suc i) within none = some-within xs i (omega (arith, within)) none
+
+-- the lines of a report and its last line
+pub report-whole : {E : Type 0} (r : Result (Unit {0}) E) (old mid new : Option (List ℕ)) (lines : List ℕ) (n size : ℕ) → n ≡ size → Gains old mid lines → OnOk r (Gains mid new (end_line n)) → OnOk r (Gains old new (lines ++ end_line size))
+report-whole (Err _) old mid new lines n size is gains more = tt
+report-whole (Ok _) old mid new lines n size is gains more = subst (Gains old new) (ap (λ k. lines ++ end_line k) is) (gains-both old mid new lines (end_line n) gains more)
+
+-- the lines of a report and a beginning of its last line
+pub report-front : {E : Type 0} (r : Result (Unit {0}) E) (old mid new : Option (List ℕ)) (lines : List ℕ) (n size : ℕ) → n ≡ size → Gains old mid lines → OnErr r (GainsFront mid new (end_line n)) → OnErr r (GainsFront old new (lines ++ end_line size))
+report-front (Ok _) old mid new lines n size is gains front = tt
+report-front (Err _) old mid new lines n size is gains front = subst (GainsFront old new) (ap (λ k. lines ++ end_line k) is) (gains-then_front old mid new lines (end_line n) gains front)
+
+-- a dump is the installs of the entries, and then the disables of the disabled names
+pub dump-is : (store : Store) → flat_map install_command store.entries ++ flat_map disable_command store.disabled ≡ dump_text store
+dump-is store =
+    sym (flat_map-append bytes_of (map install_of store.entries) (map disable store.disabled) ∙ (λ i. flat_map-map bytes_of install_of store.entries i ++ flat_map-map bytes_of disable store.disabled i))
+  where
+    bytes_of : Edit → List ℕ
+    bytes_of edit = command_bytes (makes edit)
+
+pub dump-size : (store : Store) → length store.entries + length store.disabled ≡ length (dump_edits store)
+dump-size store = omega (arith, length-append (map install_of store.entries) (map disable store.disabled), length-map store.entries install_of, length-map store.disabled disable)

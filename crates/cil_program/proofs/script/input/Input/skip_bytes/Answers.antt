@@ -1,0 +1,21 @@
+use Rattle.std.proofs.Common.{◌≤◌, ◌++◌, ℕ, length, take, ap, length-append, rules, arith}
+use Rattle.std.proofs.lemmas.List.{length-take-le}
+use Rattle.cil_program.proofs.InputLemmas.{reads-on}
+use Rattle.cil_program.proofs.script.input.Input.skip_bytes.Goals as goal
+
+pub loop-left-preserved : goal.loop-left-preserved
+loop-left-preserved g c =
+    let account = g.S.Source.account in
+    let was = c.loop-left.invariant.read in
+    let bytes = c.has_more.new.self.bytes in
+    let n : ℕ = c.min-n.result in
+    let within : n ≤ length bytes = omega (arith, ap length c.held.ensures) in
+    record {
+      read = (
+        was.0 ++ take n bytes,
+        reads-on (account c.args.source.now) (account c.loop-left.source) (account c.has_more.new.source) c.args.self.now c.loop-left.self c.has_more.new.self c.advance.new.self was.0 n was.1 c.in_ok-has_more.ensures.read within
+            c.advance.ensures.bytes c.advance.ensures.line_feeds,
+        omega (arith, was.2, length-append was.0 (take n bytes), length-take-le n bytes within),
+      );
+      failures = search rules;
+    }

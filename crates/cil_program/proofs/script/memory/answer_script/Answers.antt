@@ -1,0 +1,22 @@
+use Rattle.std.proofs.Common.{◌≡◌, ℕ, List, [], true, Some, Result, Ok, Err, IfOk, take, ap}
+use Rattle.cil_store_specs.specs.Session.{IsSession}
+use Rattle.cil_stream.specs.Device.{Account, Reel, IsLeft, Gains, account_of}
+use Rattle.cil_program.specs.Session.{Standing, Leaves, status_of}
+use Rattle.cil_program.specs.declared.script.session.SessionFault.{SessionFault}
+use Rattle.cil_program.specs.declared.script.session.Status.{Status}
+use Rattle.cil_program.proofs.script.memory.answer_script.Goals as goal
+
+left-whole : (r : Reel) (text : List ℕ) → r.text ≡ text → r.at ≡ 0 → IsLeft (account_of r) text
+left-whole r text is start = record { front = []; given = ap (λ n. Some (take n r.text)) start; whole = ap Some is }
+
+over-whole : (r : Result Status SessionFault) (old new : Account) (before after : Standing) (text : List ℕ) → IsLeft old text → IfOk r (λ status. Leaves old new before after status)
+    → IfOk r (λ status. (written : List ℕ) × Gains before.taken after.taken written × IsSession text true before.store after.store written (status_of status))
+over-whole (Err _) old new before after text left is = tt
+over-whole (Ok _) old new before after text left is = (is.written, is.gains, is.whole text left)
+
+pub returns-clause-ok : goal.returns-clause-ok
+returns-clause-ok g c =
+    over-whole c.session.result (account_of c.new-source.result) (account_of c.session.new.source)
+    (record { store = g.C.Compiled.store c.args.engine.now; taken = g.W.Sink.taken c.args.sink.now })
+    (record { store = g.C.Compiled.store c.session.new.engine; taken = g.W.Sink.taken c.session.new.sink }) c.args.script.now
+    (left-whole c.new-source.result c.args.script.now c.new-source.ensures.text c.new-source.ensures.at) c.session.ensures.ok

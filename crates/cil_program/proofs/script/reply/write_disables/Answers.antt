@@ -1,0 +1,28 @@
+use Rattle.std.proofs.Common.{◌≤◌, ◌<◌, ◌+◌, length, take, flat_map, sym, subst, arith}
+use Rattle.cil_stream.specs.Device.{Gains}
+use Rattle.cil_stream.proofs.Gaining.{on_err}
+use Rattle.cil_program.specs.Dump.{disable_command}
+use Rattle.cil_program.proofs.ReplyLemmas.{line-more, line-front, some-within}
+use Rattle.cil_program.proofs.script.reply.write_disables.Goals as goal
+use Rattle.cil_program.proofs.script.reply.write_disables.Goals.{in-Some+in_ok-write_disable, in_default}
+
+pub returns-in_err-write_disable-clause-err : goal.returns-in_err-write_disable-clause-err
+returns-in_err-write_disable-clause-err g c =
+    let taken = g.W.Sink.taken in
+    on_err c.from_residual.result
+    (line-front disable_command (taken c.args.sink.now) (taken c.loop-i.sink) (taken c.write_disable.new.sink) c.args.store.now.disabled c.loop-i.i c.in-Some.name.now c.in-Some.ensures c.loop-i.invariant.so_far c.in_err-write_disable.ensures.err)
+
+pub loop-i-preserved : goal.loop-i-preserved
+loop-i-preserved g c =
+    let taken = g.W.Sink.taken in
+    let failures = g.W.Sink.failures in
+    let names = c.args.store.now.disabled in
+    let within : c.loop-i.i < length names = subst (λ n. c.loop-i.i < n) c.disabled_len-i-end.ensures c.loop-i-test.true in
+    elim c.match-disabled.branch [
+      | in-Some+in_ok-write_disable w ↦ record {
+        counted = subst (λ s. failures c.args.sink.now ≤ failures s) (sym w.sink-is) (omega (arith, c.loop-i.invariant.counted, w.write_disable.ensures.counted));
+        so_far = subst (λ s. Gains (taken c.args.sink.now) (taken s) (flat_map disable_command (take (c.loop-i.i + 1) names))) (sym w.sink-is)
+            (line-more disable_command (taken c.args.sink.now) (taken c.loop-i.sink) (taken w.write_disable.new.sink) names c.loop-i.i w.in-Some.name.now w.in-Some.ensures c.loop-i.invariant.so_far w.in_ok-write_disable.ensures.ok);
+      }
+      | in_default w ↦ absurd (some-within names c.loop-i.i within w.in_default.ensures)
+    ]

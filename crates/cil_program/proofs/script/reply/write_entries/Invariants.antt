@@ -1,0 +1,11 @@
+use Rattle.std.proofs.Common.{◌≤◌, take}
+use Rattle.std.specs.List.{flat_map}
+use Rattle.cil_stream.specs.Device.{Gains}
+use Rattle.cil_store_specs.specs.StoreReport.{module_line}
+use Rattle.cil_program.proofs.script.reply.write_entries.Given as goal
+
+abbrev pub invariant-loop-i : goal.invariant-loop-i
+invariant-loop-i g l = record {
+  counted : g.W.Sink.failures l.fn.sink ≤ g.W.Sink.failures l.sink;
+  so_far : Gains (g.W.Sink.taken l.fn.sink) (g.W.Sink.taken l.sink) (flat_map (module_line l.store) (take l.i l.store.entries));
+}

@@ -1,0 +1,27 @@
+use Rattle.std.proofs.Common.{◌≡◌, ◌<◌, [], length, get_or, ap, subst, arith}
+use Rattle.cil_stream.specs.Device.{Gains, GainsFront}
+use Rattle.cil_stream.proofs.Gaining.{on_err, gains-pieces_more, gains-pieces_front}
+use Rattle.cil_store_specs.specs.Store.{Entry}
+use Rattle.cil_store_specs.specs.Store.{entry_at}
+use Rattle.cil_program.specs.Dump.{install_command}
+use Rattle.cil_program.proofs.script.reply.write_installs.Goals as goal
+
+pub returns-in_err-write_install-clause-err : goal.returns-in_err-write_install-clause-err
+returns-in_err-write_install-clause-err g c =
+    let taken = g.W.Sink.taken in
+    let store = c.args.store.now in
+    let within : c.loop-i.i < length store.entries = subst (λ n. c.loop-i.i < n) c.len-i-end.ensures c.loop-i-test.true in
+    on_err c.from_residual.result
+    (gains-pieces_front install_command (taken c.args.sink.now) (taken c.loop-i.sink) (taken c.write_install.new.sink) store.entries c.loop-i.i (entry_at [] 0) within c.loop-i.invariant.so_far
+    (subst (λ e. GainsFront (taken c.loop-i.sink) (taken c.write_install.new.sink) (install_command e)) c.at.ensures c.in_err-write_install.ensures.err))
+
+pub loop-i-preserved : goal.loop-i-preserved
+loop-i-preserved g c =
+    let taken = g.W.Sink.taken in
+    let store = c.args.store.now in
+    let within : c.loop-i.i < length store.entries = subst (λ n. c.loop-i.i < n) c.len-i-end.ensures c.loop-i-test.true in
+    record {
+      counted = omega (arith, c.loop-i.invariant.counted, c.write_install.ensures.counted);
+      so_far = gains-pieces_more install_command (taken c.args.sink.now) (taken c.loop-i.sink) (taken c.write_install.new.sink) store.entries c.loop-i.i (entry_at [] 0) within c.loop-i.invariant.so_far
+          (subst (λ e. Gains (taken c.loop-i.sink) (taken c.write_install.new.sink) (install_command e)) c.at.ensures c.in_ok-write_install.ensures.ok);
+    }

@@ -1,0 +1,28 @@
+use Rattle.std.proofs.Common.{◌≤◌, ◌<◌, ◌+◌, length, take, flat_map, sym, subst, arith}
+use Rattle.cil_stream.specs.Device.{Gains}
+use Rattle.cil_specs.specs.Report.{dropped_line}
+use Rattle.cil_stream.proofs.Gaining.{on_err}
+use Rattle.cil_resolve.specs.Views.{declared_seen}
+use Rattle.cil_program.proofs.ReplyLemmas.{line-more, line-front, some-within}
+use Rattle.cil_program.proofs.script.reply.write_optionals.Goals as goal
+use Rattle.cil_program.proofs.script.reply.write_optionals.Goals.{in-Some+in_ok-write_optional, in_default}
+
+pub returns-in_err-write_optional-clause-err : goal.returns-in_err-write_optional-clause-err
+returns-in_err-write_optional-clause-err g c =
+    let taken = g.W.Sink.taken in
+    on_err c.from_residual.result
+    (line-front dropped_line (taken c.args.sink.now) (taken c.loop-i.sink) (taken c.write_optional.new.sink) c.args.dropped.now c.loop-i.i (declared_seen c.in-Some.optional) c.in-Some.ensures c.loop-i.invariant.so_far c.in_err-write_optional.ensures.err)
+
+pub loop-i-preserved : goal.loop-i-preserved
+loop-i-preserved g c =
+    let taken = g.W.Sink.taken in
+    let failures = g.W.Sink.failures in
+    let within : c.loop-i.i < length c.args.dropped.now = subst (λ n. c.loop-i.i < n) c.len-i-end.ensures c.loop-i-test.true in
+    elim c.match-get.branch [
+      | in-Some+in_ok-write_optional w ↦ record {
+        counted = subst (λ s. failures c.args.sink.now ≤ failures s) (sym w.sink-is) (omega (arith, c.loop-i.invariant.counted, w.write_optional.ensures.counted));
+        so_far = subst (λ s. Gains (taken c.args.sink.now) (taken s) (flat_map dropped_line (take (c.loop-i.i + 1) c.args.dropped.now))) (sym w.sink-is)
+            (line-more dropped_line (taken c.args.sink.now) (taken c.loop-i.sink) (taken w.write_optional.new.sink) c.args.dropped.now c.loop-i.i (declared_seen w.in-Some.optional) w.in-Some.ensures c.loop-i.invariant.so_far w.in_ok-write_optional.ensures.ok);
+      }
+      | in_default w ↦ absurd (some-within c.args.dropped.now c.loop-i.i within w.in_default.ensures)
+    ]

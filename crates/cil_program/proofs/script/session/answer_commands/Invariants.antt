@@ -1,0 +1,19 @@
+use Rattle.std.proofs.Common.{◌≤◌, ◌-◌, ◌^◌, [], length}
+use Rattle.cil_program.proofs.SessionLemmas.{SoFar}
+use Rattle.cil_program.proofs.script.session.answer_commands.Given as goal
+
+abbrev pub invariant-loop-input : goal.invariant-loop-input
+invariant-loop-input g l =
+    let S = g.S.Source in
+    let W = g.W.Sink in
+    let C = g.C.Compiled in
+    record {
+      so_far : SoFar (record { account = S.account l.fn.source; held = record { bytes = []; line_feeds = 0 } })
+          (record { account = S.account l.source; held = l.input }) (record { store = C.store l.fn.engine; taken = W.taken l.fn.sink })
+          (record { store = C.store l.engine; taken = W.taken l.sink }) l.status;
+      read_failures : (S.account l.fn.source).failures ≤ (S.account l.source).failures;
+      write_failures : W.failures l.fn.sink ≤ W.failures l.sink;
+    }
+
+abbrev pub decreases-loop-input : goal.decreases-loop-input
+decreases-loop-input g l = 2 ^ 64 - ((g.S.Source.account l.source).count - length l.input.bytes)

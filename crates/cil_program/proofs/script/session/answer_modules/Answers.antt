@@ -1,0 +1,20 @@
+use Rattle.std.proofs.Common.{◌++◌, false, List, ℕ, length, refl, subst}
+use Rattle.cil_stream.specs.Device.{Gains}
+use Rattle.cil_store_specs.specs.Store.{Store}
+use Rattle.cil_store_specs.specs.StoreReport.{modules_text}
+use Rattle.cil_store_specs.specs.Script.{by_modules, end_line}
+use Rattle.cil_program.proofs.script.session.answer_modules.Goals as goal
+
+-- the report of a store
+abbrev report : Store → List ℕ
+report store = modules_text store ++ end_line (length store.entries)
+
+pub returns-clause-ok : goal.returns-clause-ok
+returns-clause-ok g c =
+    let taken = g.W.Sink.taken in
+    record {
+      answer = record { bytes = report (g.C.Compiled.store c.args.engine.now); refuses = false };
+      answers = by_modules refl refl refl;
+      written = subst (λ s. Gains (taken c.args.sink.now) (taken c.write_modules.new.sink) (report s)) c.store.ensures c.in_ok-write_modules.ensures.ok;
+      is = refl;
+    }

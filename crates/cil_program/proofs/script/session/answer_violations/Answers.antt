@@ -1,0 +1,34 @@
+use Rattle.std.proofs.Common.{Err, ◌≡◌, ◌++◌, List, ℕ, Option, length, refl, ap, subst}
+use Rattle.cil_stream.specs.Device.{Gains}
+use Rattle.cil_specs.specs.Violations.{Violation, violations_text}
+use Rattle.cil_store_specs.specs.Next.{for_memory}
+use Rattle.cil_store_specs.specs.Run.{ask_violations, refused, violated, tells_violations, out_of_memory}
+use Rattle.cil_store_specs.specs.Script.{answer_of, by_engine, end_line, refusal_line, reply_text}
+use Rattle.cil_stream.proofs.Gaining.{gains-both}
+use Rattle.cil_program.proofs.script.session.answer_violations.Goals as goal
+
+-- the violations and then the last line are the answer
+report : (old mid new : Option (List ℕ)) (violations : List Violation) (n : ℕ) → n ≡ length violations → Gains old mid (violations_text violations) → Gains mid new (end_line n) → Gains old new (reply_text (violated violations))
+report old mid new violations n is a b = subst (Gains old new) (ap (λ k. violations_text violations ++ end_line k) is) (gains-both old mid new (violations_text violations) (end_line n) a b)
+
+pub returns-in_ok-write_end-in-Ok-clause-ok : goal.returns-in_ok-write_end-in-Ok-clause-ok
+returns-in_ok-write_end-in-Ok-clause-ok g c =
+    let taken = g.W.Sink.taken in
+    let some = c.in-Ok.ensures.ok in
+    record {
+      answer = answer_of (violated some.0);
+      answers = by_engine ask_violations (violated some.0) refl (tells_violations some.0 refl refl some.1 refl) refl;
+      written = report (taken c.args.sink.now) (taken c.write_violations.new.sink) (taken c.write_end.new.sink) some.0 c.in-Ok.violations some.2 some.3 c.in_ok-write_end-in-Ok.ensures.ok;
+      is = refl;
+    }
+
+pub returns-in_ok-write_no_memory-in-Err-Memory-clause-ok : goal.returns-in_ok-write_no_memory-in-Err-Memory-clause-ok
+returns-in_ok-write_no_memory-in-Err-Memory-clause-ok g c =
+    let taken = g.W.Sink.taken in
+    let same : taken c.write_violations.new.sink ≡ taken c.args.sink.now = c.in-Err-Memory.ensures.memory (ap Err c.in-Err-Memory.field-0-is) in
+    record {
+      answer = answer_of (refused for_memory);
+      answers = by_engine ask_violations (refused for_memory) refl (out_of_memory refl refl) refl;
+      written = subst (λ t. Gains t (taken c.write_no_memory.new.sink) (refusal_line for_memory)) same c.in_ok-write_no_memory-in-Err-Memory.ensures.ok;
+      is = refl;
+    }

@@ -1,0 +1,88 @@
+-- One line of a script, and what came of it.
+use Rattle.std.specs.Prelude.{◌≡◌, ℕ, Bool, true, false, List, [], ◌∷◌, ◌++◌, length, codes, decimal, Option, IsTrue, ◌⊎◌}
+use Rattle.std.specs.List.{join_with_byte}
+use Rattle.cil_stream.specs.Device.{Account, Gains, Gives, IsLeft, has_ended}
+use Rattle.cil_store_specs.specs.Store.{Store}
+use Rattle.cil_store_specs.specs.Next.{install}
+use Rattle.cil_store_specs.specs.Script.{Command, makes, Answer, Answers, HasGoodWords, IsGoodName, IsShortNumber, line_of, behind, MayLackItsEnd}
+use Rattle.cil_store_specs.specs.Session.{IsSession, all_accepted, some_refused, no_script}
+use Rattle.cil_store_specs.specs.Session as spec
+use Rattle.cil_program.specs.Input.{Held, HasRead, IsShort}
+use Rattle.cil_program.specs.declared.script.input.LineEnd.{LineEnd}
+use Rattle.cil_program.specs.declared.script.input.LineEnd.TheVariants.{LineFeed, LastByte, TooLong}
+use Rattle.cil_program.specs.declared.script.session.Outcome.{Outcome}
+use Rattle.cil_program.specs.declared.script.session.Outcome.TheVariants.{Accepted, Refused, NoCommand}
+use Rattle.cil_program.specs.declared.script.session.Status.{Status}
+use Rattle.cil_program.specs.declared.script.session.Status.TheVariants as statuses
+
+-- a source by its account, and what of it is held back
+pub record Moment : Type 0 where
+  pub account : Account
+  pub held : Held
+
+-- an engine and a sink by what they tell
+pub record Standing : Type 0 where
+  pub store : Store
+  pub taken : Option (List ℕ)
+
+abbrev pub status_of : Status → spec.Status
+status_of statuses.Clean = all_accepted
+status_of statuses.Refused = some_refused
+status_of statuses.Script = no_script
+
+abbrev pub Advances : Moment → Moment → List ℕ → Type 0
+Advances old new read = HasRead old.account new.account old.held new.held read
+
+abbrev pub outcome_of : Bool → Outcome
+outcome_of true = Refused
+outcome_of false = Accepted
+
+-- a command was answered and its answer written
+pub record HasAnswered (command : Command) (outcome : Outcome) (old new : Standing) : Type 0 where
+  pub answer : Answer
+  pub answers : Answers old.store command answer new.store
+  pub written : Gains old.taken new.taken answer.bytes
+  pub is : outcome ≡ outcome_of answer.refuses
+
+-- the line that ended so and the bytes read behind it are a command
+abbrev pub IsWhole : LineEnd → List ℕ → List ℕ → Moment → Command → Type 0
+IsWhole LineFeed line read now command = HasGoodWords command × (line ≡ line_of command) × (read ≡ behind command)
+IsWhole LastByte line read now command = HasGoodWords command × MayLackItsEnd command × (line ≡ line_of command) × (read ≡ []) × IsTrue (has_ended now.account) × (now.held.bytes ≡ [])
+IsWhole TooLong line read now command = ⊥
+
+-- the line of an install of a text of some length
+abbrev pub install_line : List ℕ → ℕ → ℕ → List ℕ
+install_line name priority size = join_with_byte 32 (codes "install" ∷ name ∷ decimal priority ∷ decimal size ∷ [])
+
+-- its name and its numbers are those of a command
+pub record AreGoodWords (name : List ℕ) (priority size : ℕ) : Type 0 where
+  pub good_name : IsGoodName name
+  pub short_priority : IsShortNumber priority
+  pub short_size : IsShortNumber size
+
+-- no command is on the line, or its text is short
+abbrev pub IsBad : LineEnd → List ℕ → List ℕ → Moment → Type 0
+IsBad LineFeed line read now = ((read ≡ []) × ((command : Command) → HasGoodWords command → line ≡ line_of command → ⊥))
+    ⊎ ((name : List ℕ) × (priority : ℕ) × (size : ℕ) × AreGoodWords name priority size × (line ≡ install_line name priority size) × IsShort size read (has_ended now.account) now.held.bytes)
+IsBad LastByte line read now = (read ≡ []) × IsTrue (has_ended now.account) × (now.held.bytes ≡ []) × ((command : Command) → HasGoodWords command → MayLackItsEnd command → line ≡ line_of command → ⊥)
+IsBad TooLong line read now = read ≡ []
+
+-- what came of a line: a command that was answered; or none, and nothing was done
+abbrev pub IsOutcome : Outcome → LineEnd → List ℕ → Moment → Moment → Standing → Standing → Type 0
+IsOutcome NoCommand end line old new before after = (read : List ℕ) × Advances old new read × IsBad end line read new × (after ≡ before)
+IsOutcome outcome end line old new before after = (command : Command) × (read : List ℕ) × Advances old new read × IsWhole end line read new command × HasAnswered command outcome before after
+
+-- what came of the text of an install
+abbrev pub IsInstallOutcome : Outcome → List ℕ → ℕ → ℕ → Moment → Moment → Standing → Standing → Type 0
+IsInstallOutcome NoCommand name priority size old new before after = (read : List ℕ) × Advances old new read × IsShort size read (has_ended new.account) new.held.bytes × (after ≡ before)
+IsInstallOutcome outcome name priority size old new before after = (text : List ℕ) × Advances old new (text ++ 10 ∷ []) × (length text ≡ size) × HasAnswered (makes (install name priority text)) outcome before after
+
+-- What a session leaves behind: its source gave bytes, and its sink took the answers. Where the source tells its whole text, the
+-- script is all that was left of it.
+pub record Leaves (first now : Account) (before after : Standing) (status : Status) : Type 0 where
+  pub given : List ℕ
+  pub written : List ℕ
+  pub gives : Gives first now given
+  pub gains : Gains before.taken after.taken written
+  pub session : IsSession given (has_ended now) before.store after.store written (status_of status)
+  pub whole : (rest : List ℕ) → IsLeft first rest → IsSession rest true before.store after.store written (status_of status)

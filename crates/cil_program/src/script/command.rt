@@ -1,0 +1,229 @@
+//! The commands on the lines of a script.
+
+ghost use Rattle.std.specs.Prelude.{◌≡◌, ◌<◌, ◌↔◌, ◌∷◌, ◌++◌, ℕ, decimal, codes, IsTrue, Some, IfSome, IfNone};
+ghost use Rattle.std.specs.List.{list_all};
+ghost use Rattle.cil_store_specs.specs.Script.{is_shown as shown_byte, Command, HasGoodWords, IsGoodName, line_of};
+ghost use Rattle.cil_store_specs.proofs.WordLemmas.{is_no_space};
+ghost use Rattle.cil_program.specs.Command.{IsLine};
+
+use itoa::Buffer;
+use std::str;
+
+/// The numbers of a script have at most nine digits.
+const NUMBER_LIMIT: u32 = 1_000_000_000;
+
+/// What a line of a script asks for. The text of an install follows its line.
+#[derive(Clone, Copy, Debug)]
+pub enum ScriptLine<'a> {
+    Install {
+        name: &'a [u8],
+        priority: u32,
+        len: u32,
+    },
+    Remove {
+        name: &'a [u8],
+        priority: u32,
+    },
+    Enable {
+        name: &'a [u8],
+    },
+    Disable {
+        name: &'a [u8],
+    },
+    Rules,
+    Violations,
+    Dropped,
+    Modules,
+    Dump,
+}
+
+/// What std reads as a number, leading zeros and a plus too.
+fn read_number(word: &[u8]) -> Option<u32>
+    ensures { (n : ℕ) → n < 1000000000 → word.now ≡ decimal n → result ≡ Some n }
+{
+    let Ok(text) = str::from_utf8(word) else {
+        return None;
+    };
+    match text.parse() {
+        Ok(n) => Some(n),
+        Err(_) => None,
+    }
+}
+
+/// A number in decimal digits, without a leading zero.
+fn number(word: &[u8]) -> Option<u32>
+    ensures small { IfSome result (λ n. n < 1000000000) }
+    ensures some { IfSome result (λ n. word.now ≡ decimal n) }
+    ensures none { IfNone result ((n : ℕ) → n < 1000000000 → word.now ≡ decimal n → ⊥) }
+{
+    let n = read_number(word)?;
+    let mut buffer = Buffer::new();
+    let same = buffer.format(n).as_bytes() == word;
+    if n < NUMBER_LIMIT && same {
+        Some(n)
+    } else {
+        None
+    }
+}
+
+fn is_word(bytes: &[u8], word: &[u8]) -> bool
+    ensures { IsTrue result ↔ (bytes.now ≡ word.now) }
+{
+    bytes == word
+}
+
+/// What stands before the first space, and behind it.
+fn split_word(bytes: &[u8]) -> Option<(&[u8], &[u8])>
+    ensures some { IfSome result (λ p. bytes.now ≡ p.0.now ++ 32 ∷ p.1.now) }
+    ensures first { IfSome result (λ p. IsTrue (list_all is_no_space p.0.now)) }
+    ensures none { IfNone result (IsTrue (list_all is_no_space bytes.now)) }
+{
+    for (i, b) in bytes.iter().enumerate() {
+        if *b == b' ' {
+            return Some((&bytes[..i], &bytes[i + 1..]));
+        }
+    }
+    None
+}
+
+/// The bytes of names and numbers: no space, and none that can't be shown.
+fn is_shown(b: u8) -> bool
+    ensures { result ≡ shown_byte b }
+{
+    matches!(b, 0x21..=0x7E)
+}
+
+fn all_shown(word: &[u8]) -> bool
+    ensures { result ≡ list_all shown_byte word.now }
+{
+    word.iter().all(|b| is_shown(*b))
+}
+
+/// Whether a word may be the name in a command.
+fn is_name(word: &[u8]) -> bool
+    ensures { IsTrue result ↔ IsGoodName word.now }
+{
+    !word.is_empty() && all_shown(word)
+}
+
+/// What the line of an install asks for, by what stands behind its first word.
+fn install<'a>(rest: &'a [u8]) -> Option<ScriptLine<'a>>
+    ensures some { IfSome result (λ asked. IsLine asked (codes "install" ++ 32 ∷ rest.now)) }
+    ensures none { IfNone result ((command : Command) → HasGoodWords command → codes "install" ++ 32 ∷ rest.now ≡ line_of command → ⊥) }
+{
+    let Some((name, numbers)) = split_word(rest) else {
+        return None;
+    };
+    let Some((first, second)) = split_word(numbers) else {
+        return None;
+    };
+    if !is_name(name) {
+        return None;
+    }
+    let Some(priority) = number(first) else {
+        return None;
+    };
+    let Some(len) = number(second) else {
+        return None;
+    };
+    Some(ScriptLine::Install {
+        name,
+        priority,
+        len,
+    })
+}
+
+/// The same for a removal.
+fn remove<'a>(rest: &'a [u8]) -> Option<ScriptLine<'a>>
+    ensures some { IfSome result (λ asked. IsLine asked (codes "remove" ++ 32 ∷ rest.now)) }
+    ensures none { IfNone result ((command : Command) → HasGoodWords command → codes "remove" ++ 32 ∷ rest.now ≡ line_of command → ⊥) }
+{
+    let Some((name, second)) = split_word(rest) else {
+        return None;
+    };
+    if !is_name(name) {
+        return None;
+    }
+    let Some(priority) = number(second) else {
+        return None;
+    };
+    Some(ScriptLine::Remove { name, priority })
+}
+
+/// The same for the enabling of a name.
+fn enable<'a>(rest: &'a [u8]) -> Option<ScriptLine<'a>>
+    ensures some { IfSome result (λ asked. IsLine asked (codes "enable" ++ 32 ∷ rest.now)) }
+    ensures none { IfNone result ((command : Command) → HasGoodWords command → codes "enable" ++ 32 ∷ rest.now ≡ line_of command → ⊥) }
+{
+    if !is_name(rest) {
+        return None;
+    }
+    Some(ScriptLine::Enable { name: rest })
+}
+
+/// And for its disabling.
+fn disable<'a>(rest: &'a [u8]) -> Option<ScriptLine<'a>>
+    ensures some { IfSome result (λ asked. IsLine asked (codes "disable" ++ 32 ∷ rest.now)) }
+    ensures none { IfNone result ((command : Command) → HasGoodWords command → codes "disable" ++ 32 ∷ rest.now ≡ line_of command → ⊥) }
+{
+    if !is_name(rest) {
+        return None;
+    }
+    Some(ScriptLine::Disable { name: rest })
+}
+
+/// What a line of several words asks for.
+fn edit<'a>(first: &'a [u8], rest: &'a [u8]) -> Option<ScriptLine<'a>>
+    requires { IsTrue (list_all is_no_space first.now) }
+    ensures some { IfSome result (λ asked. IsLine asked (first.now ++ 32 ∷ rest.now)) }
+    ensures none { IfNone result ((command : Command) → HasGoodWords command → first.now ++ 32 ∷ rest.now ≡ line_of command → ⊥) }
+{
+    if is_word(first, b"install") {
+        return install(rest);
+    }
+    if is_word(first, b"remove") {
+        return remove(rest);
+    }
+    if is_word(first, b"enable") {
+        return enable(rest);
+    }
+    if is_word(first, b"disable") {
+        return disable(rest);
+    }
+    None
+}
+
+/// What a line of one word asks for.
+fn question<'a>(word: &'a [u8]) -> Option<ScriptLine<'a>>
+    requires { IsTrue (list_all is_no_space word.now) }
+    ensures some { IfSome result (λ asked. IsLine asked word.now) }
+    ensures none { IfNone result ((command : Command) → HasGoodWords command → word.now ≡ line_of command → ⊥) }
+{
+    if is_word(word, b"rules") {
+        return Some(ScriptLine::Rules);
+    }
+    if is_word(word, b"violations") {
+        return Some(ScriptLine::Violations);
+    }
+    if is_word(word, b"dropped") {
+        return Some(ScriptLine::Dropped);
+    }
+    if is_word(word, b"modules") {
+        return Some(ScriptLine::Modules);
+    }
+    if is_word(word, b"dump") {
+        return Some(ScriptLine::Dump);
+    }
+    None
+}
+
+/// What a line asks for; none where it is no command.
+pub fn script_line<'a>(line: &'a [u8]) -> Option<ScriptLine<'a>>
+    ensures some { IfSome result (λ asked. IsLine asked line.now) }
+    ensures none { IfNone result ((command : Command) → HasGoodWords command → line.now ≡ line_of command → ⊥) }
+{
+    match split_word(line) {
+        Some((first, rest)) => edit(first, rest),
+        None => question(line),
+    }
+}

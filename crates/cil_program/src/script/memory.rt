@@ -1,0 +1,31 @@
+//! Scripts that stand in memory as a whole.
+
+ghost use Rattle.std.specs.Prelude.{◌≡◌, ◌≤◌, List, ℕ, true, IfOk, OnOk, IsErrOf};
+ghost use Rattle.cil_store_specs.specs.Session.{IsSession};
+ghost use Rattle.cil_stream.specs.Device.{HasFailed, Gains};
+ghost use Rattle.cil_program.specs.Session.{status_of};
+
+use crate::script::session::{SessionFault, Status, session};
+use cil_store::Compiled;
+use cil_stream::{MemorySource, Sink};
+use std::alloc::Allocator;
+
+/// Answers a script to a sink, with an engine.
+///
+/// # Errors
+///
+/// Those of a session. `Read` would take a script of 2^64 bytes.
+pub fn answer_script<W: Sink, A: Allocator + Copy, C: Compiled<A>>(
+    alloc: A,
+    script: &[u8],
+    sink: &mut W,
+    engine: &mut C,
+) -> Result<Status, SessionFault>
+    ensures ok { IfOk result (λ status. (written : List ℕ) × Gains (W.taken sink.old) (W.taken sink.new) written
+        × IsSession script.now true (C.store engine.old) (C.store engine.new) written (status_of status)) }
+    ensures flushed { OnOk result (W.flushed sink.new ≡ W.taken sink.new) }
+    ensures write { IsErrOf result SessionFault.Write → HasFailed (W.failures sink.old) (W.failures sink.new) }
+{
+    let mut source = MemorySource::new(script);
+    session(alloc, &mut source, sink, engine)
+}

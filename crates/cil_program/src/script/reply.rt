@@ -1,0 +1,336 @@
+//! The lines that answer a script (a form of this project's own).
+
+ghost use Rattle.std.specs.Prelude.{◌≡◌, ◌+◌, ◌++◌, ◌≤◌, flat_map, length, OnOk, OnErr};
+ghost use Rattle.cil_stream.specs.Device.{HasFailed, Gains, GainsFront};
+ghost use Rattle.cil_store_specs.specs.Next.{by_store, at_place, for_memory};
+ghost use Rattle.cil_specs.specs.Report.{dropped_line};
+ghost use Rattle.cil_store_specs.specs.Script.{refusal_line, reply_text, end_line, last_line, stops, dump_edits, dump_text};
+ghost use Rattle.cil_store_specs.specs.Run.{changed_by, dropped_optionals};
+ghost use Rattle.cil_text.specs.Image.{place_of};
+ghost use Rattle.cil_resolve.specs.Views.{declared_seen};
+ghost use Rattle.cil_store_specs.specs.StoreReport.{entry_text, modules_text};
+ghost use Rattle.cil_store.specs.Edits.{refusal_of};
+ghost use Rattle.cil_store.specs.Stored.{entry_of};
+ghost use Rattle.cil_program.specs.Dump.{install_command, disable_command};
+
+use cil_resolve::NameView;
+use cil_rules::Changes;
+use cil_store::{Dropped, Entry, Refusal, Store};
+use cil_stream::{Sink, SinkFault, write_all, write_pieces};
+use cil_text::Place;
+use itoa::Buffer;
+use std::alloc::Allocator;
+
+/// Writes how many accesses came and went with an accepted edit.
+pub fn write_changes<W: Sink, A: Allocator>(
+    sink: &mut W,
+    changes: &Changes<A>,
+) -> Result<(), SinkFault>
+    ensures ok { OnOk result (Gains (W.taken sink.old) (W.taken sink.new) (reply_text (changed_by changes.now))) }
+    ensures err { OnErr result (GainsFront (W.taken sink.old) (W.taken sink.new) (reply_text (changed_by changes.now))) }
+    ensures failed { OnErr result (HasFailed (W.failures sink.old) (W.failures sink.new)) }
+    ensures counted { W.failures sink.old ≤ W.failures sink.new }
+{
+    let mut added = Buffer::new();
+    let mut removed = Buffer::new();
+    write_pieces(
+        sink,
+        &[
+            b"ok ",
+            added.format(changes.added_len()).as_bytes(),
+            b" ",
+            removed.format(changes.removed_len()).as_bytes(),
+            b"\n",
+        ],
+    )
+}
+
+/// Writes the last line of a listing of so many rows.
+pub fn write_end<W: Sink>(sink: &mut W, rows: u128) -> Result<(), SinkFault>
+    ensures ok { OnOk result (Gains (W.taken sink.old) (W.taken sink.new) (end_line rows)) }
+    ensures err { OnErr result (GainsFront (W.taken sink.old) (W.taken sink.new) (end_line rows)) }
+    ensures failed { OnErr result (HasFailed (W.failures sink.old) (W.failures sink.new)) }
+    ensures counted { W.failures sink.old ≤ W.failures sink.new }
+{
+    let mut digits = Buffer::new();
+    write_pieces(sink, &[b"end ", digits.format(rows).as_bytes(), b"\n"])
+}
+
+/// Writes the line of an optional that drops.
+fn write_optional<W: Sink>(sink: &mut W, optional: NameView<'_>) -> Result<(), SinkFault>
+    ensures ok { OnOk result (Gains (W.taken sink.old) (W.taken sink.new) (dropped_line (declared_seen optional.entry))) }
+    ensures err { OnErr result (GainsFront (W.taken sink.old) (W.taken sink.new) (dropped_line (declared_seen optional.entry))) }
+    ensures failed { OnErr result (HasFailed (W.failures sink.old) (W.failures sink.new)) }
+    ensures counted { W.failures sink.old ≤ W.failures sink.new }
+{
+    let mut line_digits = Buffer::new();
+    let mut column_digits = Buffer::new();
+    write_pieces(
+        sink,
+        &[
+            optional.module,
+            b":",
+            line_digits.format(optional.at.line).as_bytes(),
+            b":",
+            column_digits.format(optional.at.column).as_bytes(),
+            b" ",
+            optional.name,
+            b"\n",
+        ],
+    )
+}
+
+/// Writes the lines of the optionals that drop.
+fn write_optionals<W: Sink, A: Allocator>(
+    sink: &mut W,
+    dropped: &Dropped<A>,
+) -> Result<(), SinkFault>
+    ensures ok { OnOk result (Gains (W.taken sink.old) (W.taken sink.new) (flat_map dropped_line dropped.now)) }
+    ensures err { OnErr result (GainsFront (W.taken sink.old) (W.taken sink.new) (flat_map dropped_line dropped.now)) }
+    ensures failed { OnErr result (HasFailed (W.failures sink.old) (W.failures sink.new)) }
+    ensures counted { W.failures sink.old ≤ W.failures sink.new }
+{
+    for i in 0..dropped.len() {
+        if let Some(optional) = dropped.get(i) {
+            write_optional(sink, optional)?;
+        }
+    }
+    Ok(())
+}
+
+/// Writes which optionals drop.
+pub fn write_dropped<W: Sink, A: Allocator>(
+    sink: &mut W,
+    dropped: &Dropped<A>,
+) -> Result<(), SinkFault>
+    ensures ok { OnOk result (Gains (W.taken sink.old) (W.taken sink.new) (reply_text (dropped_optionals dropped.now))) }
+    ensures err { OnErr result (GainsFront (W.taken sink.old) (W.taken sink.new) (reply_text (dropped_optionals dropped.now))) }
+    ensures failed { OnErr result (HasFailed (W.failures sink.old) (W.failures sink.new)) }
+    ensures counted { W.failures sink.old ≤ W.failures sink.new }
+{
+    write_optionals(sink, dropped)?;
+    write_end(sink, dropped.len() as u128)
+}
+
+/// Writes the line of an entry of a store, with the word of its state.
+fn write_module<W: Sink>(sink: &mut W, entry: Entry<'_>, state: &[u8]) -> Result<(), SinkFault>
+    ensures ok { OnOk result (Gains (W.taken sink.old) (W.taken sink.new) (entry_text (entry_of entry.entry) state.now)) }
+    ensures err { OnErr result (GainsFront (W.taken sink.old) (W.taken sink.new) (entry_text (entry_of entry.entry) state.now)) }
+    ensures failed { OnErr result (HasFailed (W.failures sink.old) (W.failures sink.new)) }
+    ensures counted { W.failures sink.old ≤ W.failures sink.new }
+{
+    let mut priority_digits = Buffer::new();
+    let mut length_digits = Buffer::new();
+    write_pieces(
+        sink,
+        &[
+            entry.name,
+            b" ",
+            priority_digits.format(entry.priority).as_bytes(),
+            b" ",
+            length_digits.format(entry.text.len()).as_bytes(),
+            b" ",
+            state,
+            b"\n",
+        ],
+    )
+}
+
+/// Writes the lines of the entries of a store.
+fn write_entries<W: Sink, A: Allocator>(sink: &mut W, store: &Store<A>) -> Result<(), SinkFault>
+    ensures ok { OnOk result (Gains (W.taken sink.old) (W.taken sink.new) (modules_text store.now)) }
+    ensures err { OnErr result (GainsFront (W.taken sink.old) (W.taken sink.new) (modules_text store.now)) }
+    ensures failed { OnErr result (HasFailed (W.failures sink.old) (W.failures sink.new)) }
+    ensures counted { W.failures sink.old ≤ W.failures sink.new }
+{
+    for i in 0..store.len() {
+        write_module(sink, store.at(i), store.state(i).as_bytes())?;
+    }
+    Ok(())
+}
+
+/// Writes the modules of a store (`semodule -lfull`, in a form of this project's own). It takes no memory.
+pub fn write_modules<W: Sink, A: Allocator>(sink: &mut W, store: &Store<A>) -> Result<(), SinkFault>
+    ensures ok { OnOk result (Gains (W.taken sink.old) (W.taken sink.new) (modules_text store.now ++ end_line (length store.now.entries))) }
+    ensures err { OnErr result (GainsFront (W.taken sink.old) (W.taken sink.new) (modules_text store.now ++ end_line (length store.now.entries))) }
+    ensures failed { OnErr result (HasFailed (W.failures sink.old) (W.failures sink.new)) }
+    ensures counted { W.failures sink.old ≤ W.failures sink.new }
+{
+    write_entries(sink, store)?;
+    write_end(sink, store.len() as u128)
+}
+
+/// Writes the command that installs an entry.
+fn write_install<W: Sink>(sink: &mut W, entry: Entry<'_>) -> Result<(), SinkFault>
+    ensures ok { OnOk result (Gains (W.taken sink.old) (W.taken sink.new) (install_command (entry_of entry.entry))) }
+    ensures err { OnErr result (GainsFront (W.taken sink.old) (W.taken sink.new) (install_command (entry_of entry.entry))) }
+    ensures failed { OnErr result (HasFailed (W.failures sink.old) (W.failures sink.new)) }
+    ensures counted { W.failures sink.old ≤ W.failures sink.new }
+{
+    let mut priority_digits = Buffer::new();
+    let mut length_digits = Buffer::new();
+    write_pieces(
+        sink,
+        &[
+            b"install ",
+            entry.name,
+            b" ",
+            priority_digits.format(entry.priority).as_bytes(),
+            b" ",
+            length_digits.format(entry.text.len()).as_bytes(),
+            b"\n",
+            entry.text,
+            b"\n",
+        ],
+    )
+}
+
+/// Writes the commands that install the entries of a store.
+fn write_installs<W: Sink, A: Allocator>(sink: &mut W, store: &Store<A>) -> Result<(), SinkFault>
+    ensures ok { OnOk result (Gains (W.taken sink.old) (W.taken sink.new) (flat_map install_command store.now.entries)) }
+    ensures err { OnErr result (GainsFront (W.taken sink.old) (W.taken sink.new) (flat_map install_command store.now.entries)) }
+    ensures failed { OnErr result (HasFailed (W.failures sink.old) (W.failures sink.new)) }
+    ensures counted { W.failures sink.old ≤ W.failures sink.new }
+{
+    for i in 0..store.len() {
+        write_install(sink, store.at(i))?;
+    }
+    Ok(())
+}
+
+/// Writes the command that disables a name.
+fn write_disable<W: Sink>(sink: &mut W, name: &[u8]) -> Result<(), SinkFault>
+    ensures ok { OnOk result (Gains (W.taken sink.old) (W.taken sink.new) (disable_command name.now)) }
+    ensures err { OnErr result (GainsFront (W.taken sink.old) (W.taken sink.new) (disable_command name.now)) }
+    ensures failed { OnErr result (HasFailed (W.failures sink.old) (W.failures sink.new)) }
+    ensures counted { W.failures sink.old ≤ W.failures sink.new }
+{
+    write_pieces(sink, &[b"disable ", name, b"\n"])
+}
+
+/// Writes the commands that disable the disabled names of a store.
+fn write_disables<W: Sink, A: Allocator>(sink: &mut W, store: &Store<A>) -> Result<(), SinkFault>
+    ensures ok { OnOk result (Gains (W.taken sink.old) (W.taken sink.new) (flat_map disable_command store.now.disabled)) }
+    ensures err { OnErr result (GainsFront (W.taken sink.old) (W.taken sink.new) (flat_map disable_command store.now.disabled)) }
+    ensures failed { OnErr result (HasFailed (W.failures sink.old) (W.failures sink.new)) }
+    ensures counted { W.failures sink.old ≤ W.failures sink.new }
+{
+    for i in 0..store.disabled_len() {
+        if let Some(name) = store.disabled(i) {
+            write_disable(sink, name)?;
+        }
+    }
+    Ok(())
+}
+
+/// Writes a script that builds a store, and the number of its commands. It takes no memory.
+pub fn write_dump<W: Sink, A: Allocator>(sink: &mut W, store: &Store<A>) -> Result<(), SinkFault>
+    ensures ok { OnOk result (Gains (W.taken sink.old) (W.taken sink.new) (dump_text store.now ++ end_line (length (dump_edits store.now)))) }
+    ensures err { OnErr result (GainsFront (W.taken sink.old) (W.taken sink.new) (dump_text store.now ++ end_line (length (dump_edits store.now)))) }
+    ensures failed { OnErr result (HasFailed (W.failures sink.old) (W.failures sink.new)) }
+    ensures counted { W.failures sink.old ≤ W.failures sink.new }
+{
+    write_installs(sink, store)?;
+    write_disables(sink, store)?;
+    write_end(sink, store.len() as u128 + store.disabled_len() as u128)
+}
+
+/// Writes that a script is none from the line behind so many line feeds.
+pub fn write_script_line<W: Sink>(sink: &mut W, line_feeds: u64) -> Result<(), SinkFault>
+    ensures ok { OnOk result (Gains (W.taken sink.old) (W.taken sink.new) (last_line (stops (1 + line_feeds)))) }
+    ensures err { OnErr result (GainsFront (W.taken sink.old) (W.taken sink.new) (last_line (stops (1 + line_feeds)))) }
+    ensures failed { OnErr result (HasFailed (W.failures sink.old) (W.failures sink.new)) }
+    ensures counted { W.failures sink.old ≤ W.failures sink.new }
+{
+    let mut digits = Buffer::new();
+    let line = 1 + u128::from(line_feeds);
+    write_pieces(sink, &[b"script ", digits.format(line).as_bytes(), b"\n"])
+}
+
+/// Writes a refusal at a place of a module.
+fn write_place<W: Sink>(
+    sink: &mut W,
+    code: u8,
+    module: &[u8],
+    at: Place,
+    word: &[u8],
+) -> Result<(), SinkFault>
+    ensures ok { OnOk result (Gains (W.taken sink.old) (W.taken sink.new) (refusal_line (at_place code «module».now (place_of at) word.now))) }
+    ensures err { OnErr result (GainsFront (W.taken sink.old) (W.taken sink.new) (refusal_line (at_place code «module».now (place_of at) word.now))) }
+    ensures failed { OnErr result (HasFailed (W.failures sink.old) (W.failures sink.new)) }
+    ensures counted { W.failures sink.old ≤ W.failures sink.new }
+{
+    let mut code_digits = Buffer::new();
+    let mut line_digits = Buffer::new();
+    let mut column_digits = Buffer::new();
+    write_pieces(
+        sink,
+        &[
+            b"refused ",
+            code_digits.format(code).as_bytes(),
+            b" ",
+            module,
+            b":",
+            line_digits.format(at.line).as_bytes(),
+            b":",
+            column_digits.format(at.column).as_bytes(),
+            b" ",
+            word,
+            b"\n",
+        ],
+    )
+}
+
+/// Writes a refusal of the store.
+pub fn write_store_refusal<W: Sink>(sink: &mut W, code: u8, word: &[u8]) -> Result<(), SinkFault>
+    ensures ok { OnOk result (Gains (W.taken sink.old) (W.taken sink.new) (refusal_line (by_store code word.now))) }
+    ensures err { OnErr result (GainsFront (W.taken sink.old) (W.taken sink.new) (refusal_line (by_store code word.now))) }
+    ensures failed { OnErr result (HasFailed (W.failures sink.old) (W.failures sink.new)) }
+    ensures counted { W.failures sink.old ≤ W.failures sink.new }
+{
+    let mut digits = Buffer::new();
+    write_pieces(
+        sink,
+        &[
+            b"refused ",
+            digits.format(code).as_bytes(),
+            b" ",
+            word,
+            b"\n",
+        ],
+    )
+}
+
+/// Writes that memory ran out.
+pub fn write_no_memory<W: Sink>(sink: &mut W) -> Result<(), SinkFault>
+    ensures ok { OnOk result (Gains (W.taken sink.old) (W.taken sink.new) (refusal_line for_memory)) }
+    ensures err { OnErr result (GainsFront (W.taken sink.old) (W.taken sink.new) (refusal_line for_memory)) }
+    ensures failed { OnErr result (HasFailed (W.failures sink.old) (W.failures sink.new)) }
+    ensures counted { W.failures sink.old ≤ W.failures sink.new }
+{
+    write_all(sink, b"refused 60 memory\n")
+}
+
+/// Writes a refusal.
+pub fn write_refusal<W: Sink, A: Allocator>(
+    sink: &mut W,
+    refusal: &Refusal<A>,
+) -> Result<(), SinkFault>
+    ensures ok { OnOk result (Gains (W.taken sink.old) (W.taken sink.new) (refusal_line (refusal_of refusal.now))) }
+    ensures err { OnErr result (GainsFront (W.taken sink.old) (W.taken sink.new) (refusal_line (refusal_of refusal.now))) }
+    ensures failed { OnErr result (HasFailed (W.failures sink.old) (W.failures sink.new)) }
+    ensures counted { W.failures sink.old ≤ W.failures sink.new }
+{
+    match refusal {
+        Refusal::Store { fault, word } => {
+            write_store_refusal(sink, fault.code(), word.as_slice())
+        }
+        Refusal::Fault {
+            module,
+            kind,
+            at,
+            word,
+        } => write_place(sink, kind.code(), module.as_slice(), *at, word.as_slice()),
+        Refusal::Memory => write_no_memory(sink),
+    }
+}

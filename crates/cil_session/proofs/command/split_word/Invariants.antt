@@ -1,7 +1,0 @@
-use Rattle.std.proofs.Common.{IsTrue, take}
-use Rattle.std.specs.List.{list_all}
-use Rattle.cil_store_specs.proofs.WordLemmas.{is_no_space}
-use Rattle.cil_session.proofs.command.split_word.Given as goal
-
-abbrev pub invariant-loop-i : goal.invariant-loop-i
-invariant-loop-i l = IsTrue (list_all is_no_space (take l.i l.bytes))

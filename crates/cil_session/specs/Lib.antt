@@ -1,4 +1,0 @@
-pub mod Input
-pub mod Command
-pub mod Dump
-pub mod Session

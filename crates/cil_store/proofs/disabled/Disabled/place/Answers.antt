@@ -1,0 +1,18 @@
+use Rattle.std.proofs.Common.{ap, rules, of_calls, ◌≡◌, ◌∙◌, sym, subst}
+use Rattle.std.specs.List.{prefix_len}
+use Rattle.std.specs.List.Sorted.{IsStrictlySortedBy}
+use Rattle.std.specs.Ordering.{is_lt}
+use Rattle.std.proofs.lemmas.Fn.{always_returns_same}
+use Rattle.cil_specs.specs.Report.{name_cmp}
+use Rattle.std.proofs.lemmas.Cmp.{nat_list_cmp_total}
+use Rattle.cil_store.proofs.EntryLemmas.{place-is}
+use Rattle.cil_store.proofs.disabled.Disabled.place.Goals as goal
+
+pub returns-clause-value : goal.returns-clause-value
+returns-clause-value g c =
+    let list = c.as_slice.result.now in
+    let x = c.args.name.now in
+    let same : list ≡ c.args.self.now = c.as_slice.ensures.value ∙ c.self.view_is in
+    let sorted : IsStrictlySortedBy name_cmp list = subst (IsStrictlySortedBy name_cmp) (sym c.as_slice.ensures.value) c.self.invariant in
+    let point = c.partition_point.ensures.partitioned (λ y. is_lt (name_cmp y x)) (always_returns_same _ _ _ (λ a r f k. search (rules, of_calls))) in
+    place-is name_cmp nat_list_cmp_total x list c.partition_point.result sorted c.partition_point.ensures.bound point ∙ ap (prefix_len (λ y. is_lt (name_cmp y x))) same

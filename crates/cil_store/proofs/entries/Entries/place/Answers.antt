@@ -1,0 +1,19 @@
+use Rattle.std.proofs.Common.{ap, rules, of_calls, ◌≡◌, ◌∙◌, sym, subst}
+use Rattle.std.specs.List.{prefix_len}
+use Rattle.std.specs.List.Sorted.{IsStrictlySortedBy}
+use Rattle.std.specs.Ordering.{is_lt}
+use Rattle.std.proofs.lemmas.Fn.{always_returns_same}
+use Rattle.cil_store_specs.specs.Store.{entry_cmp}
+use Rattle.cil_store_specs.specs.Store.{entry_at}
+use Rattle.cil_store_specs.proofs.StoreOrder.{entry_total}
+use Rattle.cil_store.proofs.EntryLemmas.{place-is}
+use Rattle.cil_store.proofs.entries.Entries.place.Goals as goal
+
+pub returns-clause-value : goal.returns-clause-value
+returns-clause-value g c =
+    let list = c.as_slice.result.now in
+    let x = entry_at c.args.name.now c.args.priority in
+    let same : list ≡ c.args.self.now = c.as_slice.ensures.value ∙ c.self.view_is in
+    let sorted : IsStrictlySortedBy entry_cmp list = subst (IsStrictlySortedBy entry_cmp) (sym c.as_slice.ensures.value) c.self.invariant in
+    let point = c.partition_point.ensures.partitioned (λ e. is_lt (entry_cmp e x)) (always_returns_same _ _ _ (λ a r f k. search (rules, of_calls))) in
+    place-is entry_cmp entry_total x list c.partition_point.result sorted c.partition_point.ensures.bound point ∙ ap (prefix_len (λ e. is_lt (entry_cmp e x))) same

@@ -1,0 +1,51 @@
+//! Edits of the store.
+
+ghost use Rattle.std.specs.Prelude.{◌≡◌};
+ghost use Rattle.cil_store.specs.Edits.{name_of, priority_of};
+
+/// An edit of the store, over borrowed bytes (`semodule(8)`).
+#[derive(Clone, Copy, Debug)]
+pub enum Edit<'a> {
+    /// Puts a text at a name and a priority, in place of one that is there (`semodule -i`, `-X`). The name's state stays.
+    Install {
+        name: &'a [u8],
+        priority: u32,
+        text: &'a [u8],
+    },
+    /// Takes away what stands at a name and a priority (`semodule -r`, `-X`). With the last priority of a name its state is
+    /// cleared.
+    Remove {
+        name: &'a [u8],
+        priority: u32,
+    },
+    /// Lets a name be compiled (`semodule -e`).
+    Enable {
+        name: &'a [u8],
+    },
+    /// Leaves a name out of what is compiled (`semodule -d`).
+    Disable {
+        name: &'a [u8],
+    },
+}
+
+impl<'a> Edit<'a> {
+    /// The name that it is about.
+    pub fn name(self) -> &'a [u8]
+        ensures { result.now ≡ name_of self.entry }
+    {
+        match self {
+            Edit::Install { name, .. } | Edit::Remove { name, .. } => name,
+            Edit::Enable { name } | Edit::Disable { name } => name,
+        }
+    }
+
+    /// The priority that it is about; 0 for one of a state, which has none.
+    pub fn priority(self) -> u32
+        ensures { result ≡ priority_of self.entry }
+    {
+        match self {
+            Edit::Install { priority, .. } | Edit::Remove { priority, .. } => priority,
+            Edit::Enable { .. } | Edit::Disable { .. } => 0,
+        }
+    }
+}

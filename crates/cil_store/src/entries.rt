@@ -1,0 +1,193 @@
+//! The entries of a store, in order.
+
+ghost use Rattle.std.specs.Prelude.{◌≡◌, ◌+◌, ◌++◌, ◌∷◌, ◌≤◌, ◌<◌, ◌↔◌, ◌^◌, [], ℕ, List, IsTrue, bytes_eq, find, length, option_map, OnOk, OnErr};
+ghost use Rattle.std.specs.List.{prefix_len};
+ghost use Rattle.std.specs.Ordering.{is_lt};
+ghost use Rattle.cil_store_specs.specs.Store.{entry_cmp, has_entry, has_room, is_installed, put, text_bytes, without};
+ghost use Rattle.cil_specs.proofs.SearchLemmas.{IsTiedAt};
+ghost use Rattle.cil_store_specs.specs.Store.{entry_at};
+ghost use Rattle.cil_store.specs.Stored.{entry_for, entry_of};
+
+use crate::entry::{Entry, StoredEntry};
+use std::alloc::{AllocError, Allocator, Global};
+use std::marker::Model;
+
+/// The greatest number of entries of a store, and of bytes of all their texts.
+const GREATEST_ENTRIES: usize = 4096;
+
+const GREATEST_BYTES: u128 = 67_108_864;
+
+/// Entries by name and then by falling priority. Contracts see them as their list.
+#[derive(Drop)]
+pub struct Entries<A: Allocator = Global> {
+    entries: Vec<StoredEntry<A>, A>,
+}
+
+impl<A: Allocator> Model for Entries<A> {
+    ghost use Rattle.std.specs.Prelude.{List};
+    ghost use Rattle.std.specs.List.Sorted.{IsStrictlySortedBy};
+    ghost use Rattle.cil_store_specs.specs.Store.{Entry, entry_cmp};
+
+    ghost Value = { List Entry };
+
+    ghost view = { λ e. e.entries.items };
+
+    ghost invariant = { λ e. IsStrictlySortedBy entry_cmp e.entries.items };
+}
+
+/// How many entries there are without one, and how many bytes their texts have.
+#[derive(Clone, Copy)]
+struct Size {
+    entries: usize,
+    bytes: u128,
+}
+
+impl<A: Allocator> Entries<A> {
+    /// No entry. It takes no memory.
+    pub fn new(alloc: A) -> Self
+        ensures { result ≡ [] }
+    {
+        Entries {
+            entries: Vec::new(alloc),
+        }
+    }
+
+    pub fn len(&self) -> usize
+        ensures { result ≡ length self.now }
+    {
+        self.entries.len()
+    }
+
+    /// The entries as a slice.
+    pub fn as_slice(&self) -> &[StoredEntry<A>]
+        ensures { result.now ≡ self.now }
+    {
+        &self.entries
+    }
+
+    /// The entries before and after that of a name and a priority, which may be there or not.
+    pub fn split(&self, name: &[u8], priority: u32) -> (&[StoredEntry<A>], &[StoredEntry<A>])
+        ensures put { (text : List ℕ) → put (entry_for name.now priority text) self.now ≡ result.0.now ++ entry_for name.now priority text ∷ result.1.now }
+        ensures without { without name.now priority self.now ≡ result.0.now ++ result.1.now }
+    {
+        let place = self.place(name, priority);
+        let before = &self.entries[..place];
+        if self.has_at(place, name, priority) {
+            (before, &self.entries[place + 1..])
+        } else {
+            (before, &self.entries[place..])
+        }
+    }
+
+    /// How many entries stand before that of a name and a priority, which may be there or not.
+    pub fn place(&self, name: &[u8], priority: u32) -> usize
+        ensures value { result ≡ prefix_len (λ e. is_lt (entry_cmp e (entry_at name.now priority))) self.now }
+        ensures within { result ≤ length self.now }
+    {
+        self.entries.as_slice().partition_point(
+            |e: &StoredEntry<A>| -> bool
+                ensures { result ≡ is_lt (entry_cmp e.now (entry_at name.entry.now priority)) }
+            { e.is_before(name, priority) },
+        )
+    }
+
+    /// Whether the entry at a place has this name and priority.
+    pub fn has_at(&self, place: usize, name: &[u8], priority: u32) -> bool
+        ensures value { IsTrue result ↔ IsTiedAt entry_cmp self.now place (entry_at name.now priority) }
+        ensures within { IsTrue result → place < length self.now }
+    {
+        let Some(e) = self.entries.get(place) else {
+            return false;
+        };
+        e.is_at(name, priority)
+    }
+
+    /// Whether there is an entry of a name and a priority.
+    pub fn has(&self, name: &[u8], priority: u32) -> bool
+        ensures { result ≡ has_entry name.now priority self.now }
+    {
+        self.entries.iter().any(|e| e.is_at(name, priority))
+    }
+
+    /// Whether there is an entry of a name.
+    pub fn is_installed(&self, name: &[u8]) -> bool
+        ensures { result ≡ is_installed name.now self.now }
+    {
+        self.entries.iter().any(|e| e.is_named(name))
+    }
+
+    /// The first entry of a name, which has its highest priority.
+    pub fn first_of(&self, name: &[u8]) -> Option<Entry<'_>>
+        ensures { option_map entry_of result ≡ find (λ e. bytes_eq e.name name.now) self.now }
+    {
+        for e in &self.entries {
+            if e.is_named(name) {
+                return Some(e.as_entry());
+            }
+        }
+        None
+    }
+
+    /// The size of the entries without that of a name and a priority.
+    fn size_without(&self, name: &[u8], priority: u32) -> Size
+        ensures entries { result.entries ≡ length (without name.now priority self.now) }
+        ensures bytes { result.bytes ≡ text_bytes (without name.now priority self.now) }
+        ensures fits { result.bytes + 2 ^ 64 < 2 ^ 128 }
+    {
+        let mut size = Size {
+            entries: 0,
+            bytes: 0,
+        };
+        for e in &self.entries {
+            if e.is_at(name, priority) {
+                continue;
+            }
+            size.entries += 1;
+            size.bytes += e.len() as u128;
+        }
+        size
+    }
+
+    /// Whether there is room for an entry with a text of some length, in place of one of its name and priority.
+    pub fn has_room(&self, name: &[u8], priority: u32, len: usize) -> bool
+        ensures { result ≡ has_room name.now priority len self.now }
+    {
+        let size = self.size_without(name, priority);
+        size.entries < GREATEST_ENTRIES && size.bytes + len as u128 <= GREATEST_BYTES
+    }
+}
+
+impl<A: Allocator + Copy> Entries<A> {
+    /// Keeps room for one entry more, so that `put` takes no memory.
+    pub fn reserve(&mut self) -> Result<(), AllocError>
+        ensures { self.new ≡ self.old }
+    {
+        self.entries.reserve(1)
+    }
+
+    /// Puts in an entry, in place of one of its name and priority.
+    pub fn put(&mut self, entry: StoredEntry<A>) -> Result<(), AllocError>
+        ensures ok { OnOk result (self.new ≡ put entry self.old) }
+        ensures err { OnErr result (self.new ≡ self.old) }
+    {
+        let name = entry.name();
+        let priority = entry.priority();
+        let place = self.place(name, priority);
+        if self.has_at(place, name, priority) {
+            self.entries[place] = entry;
+        } else {
+            self.entries.insert(place, entry)?;
+        }
+        Ok(())
+    }
+
+    /// Takes away the entry of a name and a priority, if there is one.
+    pub fn remove(&mut self, name: &[u8], priority: u32)
+        ensures { self.new ≡ without name.now priority self.old }
+    {
+        let place = self.place(name, priority);
+        if self.has_at(place, name, priority) {
+            self.entries.remove(place);
+        }
+    }
+}

@@ -1,0 +1,143 @@
+//! The entries of a store.
+
+ghost use Rattle.std.specs.Prelude.{◌≡◌, IfOk, bytes_eq, length};
+ghost use Rattle.std.specs.Ordering.{is_lt};
+ghost use Rattle.cil_parse.specs.Parsed.{IsParsed};
+ghost use Rattle.cil_store_specs.specs.Store.{entry_cmp, is_entry};
+ghost use Rattle.cil_store_specs.specs.Store.{entry_at};
+
+use crate::edit::Edit;
+use cil_parse::ParsedModule;
+use cil_resolve::{NamedModule, Text};
+use std::alloc::{AllocError, Allocator, Global};
+use std::marker::Model;
+
+/// A module's text under its name and priority, which it borrows.
+#[derive(Clone, Copy, Debug)]
+pub struct Entry<'a> {
+    pub name: &'a [u8],
+    pub priority: u32,
+    pub text: &'a [u8],
+}
+
+impl<'a> Entry<'a> {
+    ghost use Rattle.cil_store_specs.specs.Next.{install_of};
+    ghost use Rattle.cil_store.specs.Edits.{edit_of};
+    ghost use Rattle.cil_store.specs.Stored.{entry_of};
+
+    /// The edit that installs it.
+    pub fn as_install(self) -> Edit<'a>
+        ensures { edit_of result ≡ install_of (entry_of self.entry) }
+    {
+        Edit::Install {
+            name: self.name,
+            priority: self.priority,
+            text: self.text,
+        }
+    }
+}
+
+/// A module's text under its name and priority, with the parsed module of the text.
+#[derive(Drop)]
+pub struct StoredEntry<A: Allocator = Global> {
+    name: Text<A>,
+    priority: u32,
+    text: Text<A>,
+    module: ParsedModule<A>,
+}
+
+impl<A: Allocator> Model for StoredEntry<A> {
+    ghost use Rattle.cil_store_specs.specs.Store.{Entry};
+    ghost use Rattle.cil_parse.specs.Parsed.{IsParsed};
+
+    ghost Value = { Entry };
+
+    ghost view = { λ e. record { name = e.name; priority = e.priority; text = e.text } };
+
+    ghost invariant = { λ e. IsParsed e.text e.«module» };
+}
+
+impl<A: Allocator + Copy> StoredEntry<A> {
+    ghost use Rattle.cil_store.specs.Stored.{entry_of};
+
+    /// A copy of an entry, with the parsed module of its text.
+    pub fn of(alloc: A, entry: Entry<'_>, module: ParsedModule<A>) -> Result<Self, AllocError>
+        requires { IsParsed entry.text.now «module» }
+        ensures { IfOk result (λ e. e ≡ entry_of entry.entry) }
+    {
+        Ok(StoredEntry {
+            name: Text::of(alloc, entry.name)?,
+            priority: entry.priority,
+            text: Text::of(alloc, entry.text)?,
+            module,
+        })
+    }
+}
+
+impl<A: Allocator> StoredEntry<A> {
+    ghost use Rattle.cil_store.specs.Stored.{entry_of};
+
+    /// The entry, borrowed.
+    pub fn as_entry(&self) -> Entry<'_>
+        ensures { entry_of result ≡ self.now }
+    {
+        Entry {
+            name: self.name.as_slice(),
+            priority: self.priority,
+            text: self.text.as_slice(),
+        }
+    }
+
+    /// Its name, and the parsed module of its text.
+    pub fn as_module(&self) -> NamedModule<'_, A>
+        ensures name { result.name.now ≡ self.now.name }
+        ensures parsed { IsParsed self.now.text result.«module».now }
+    {
+        NamedModule {
+            name: self.name.as_slice(),
+            module: &self.module,
+        }
+    }
+
+    pub fn name(&self) -> &[u8]
+        ensures { result.now ≡ self.now.name }
+    {
+        self.name.as_slice()
+    }
+
+    pub fn priority(&self) -> u32
+        ensures { result ≡ self.now.priority }
+    {
+        self.priority
+    }
+
+    /// How long its text is.
+    pub fn len(&self) -> usize
+        ensures { result ≡ length self.now.text }
+    {
+        self.text.as_slice().len()
+    }
+
+    /// Whether it stands before an entry of a name and a priority: by its name, or by a higher priority of the same name.
+    pub fn is_before(&self, name: &[u8], priority: u32) -> bool
+        ensures { result ≡ is_lt (entry_cmp self.now (entry_at name.now priority)) }
+    {
+        self.name()
+            .cmp(name)
+            .then(priority.cmp(&self.priority))
+            .is_lt()
+    }
+
+    /// Whether it is that of a name and a priority.
+    pub fn is_at(&self, name: &[u8], priority: u32) -> bool
+        ensures { result ≡ is_entry name.now priority self.now }
+    {
+        self.is_named(name) && self.priority == priority
+    }
+
+    pub fn is_named(&self, name: &[u8]) -> bool
+        ensures { result ≡ bytes_eq self.now.name name.now }
+    {
+        self.name() == name
+    }
+}
