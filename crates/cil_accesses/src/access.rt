@@ -6,7 +6,7 @@ ghost use Rattle.cil_accesses.specs.Renumbered.{renumbered, IsWithin};
 use cil_text::RuleKind;
 
 /// An access whose names are numbers. Where the names ascend by their numbers, the order of these is that of the accesses.
-#[derive(Clone, Copy, Debug, PartialEq, Eq, PartialOrd, Ord)]
+#[derive(Clone, Copy, PartialEq, Eq, PartialOrd, Ord)]
 pub struct AccessNumbers {
     pub kind: RuleKind,
     pub source: u32,

@@ -16,7 +16,7 @@ use std::alloc::{AllocError, Allocator, Global};
 use std::marker::Model;
 
 /// Accesses, each once, by kind, source, target, class and permission. Contracts see them as their list.
-#[derive(Debug, Drop)]
+#[derive(Drop)]
 pub struct Accesses<A: Allocator = Global> {
     pub(super) chunks: Vec<Chunk, A>,
 }

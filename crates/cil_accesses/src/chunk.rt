@@ -11,7 +11,7 @@ use std::cmp::Ordering;
 
 /// The accesses of one kind, source, class and permission to the targets of a word: target `64 * word + b` for each bit `b` that is
 /// set in `bits`.
-#[derive(Clone, Copy, Debug, PartialEq, Eq, PartialOrd, Ord)]
+#[derive(Clone, Copy, PartialEq, Eq, PartialOrd, Ord)]
 pub struct Chunk {
     pub kind: RuleKind,
     pub source: u32,

@@ -5,7 +5,7 @@ use std::alloc::{AllocError, Allocator, Global};
 /// For each word the place of the chunk that took up targets of the word last, while chunks are made of accesses that come in no order.
 /// It is the likely place of a chunk of the same key and word: whoever looks there compares the keys, so what stands here can cost
 /// time and room, and nothing else. It takes room by the greatest word.
-#[derive(Debug, Drop)]
+#[derive(Drop)]
 pub struct ChunkPlaces<A: Allocator = Global> {
     places: Vec<usize, A>,
 }

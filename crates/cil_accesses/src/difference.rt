@@ -11,7 +11,7 @@ use std::alloc::{AllocError, Allocator, Global};
 use std::cmp::Ordering;
 
 /// The accesses that the old ones have alone, and those that the new ones have alone.
-#[derive(Debug, Drop)]
+#[derive(Drop)]
 pub struct Difference<A: Allocator = Global> {
     pub removed: Accesses<A>,
     pub added: Accesses<A>,

@@ -11,7 +11,7 @@ use crate::run::split_run;
 use std::marker::Model;
 
 /// A row by its first access. Its accesses are those of its chunks to the target of its bit, where they have it.
-#[derive(Clone, Copy, Debug)]
+#[derive(Clone, Copy)]
 pub struct AccessRow<'c> {
     pub first: AccessNumbers,
     pub chunks: &'c [Chunk],
@@ -20,7 +20,7 @@ pub struct AccessRow<'c> {
 
 /// How far the rows are read: the chunks of a run that are left for a bit, and the chunks behind the run. A bit that isn't among
 /// `bits` is that of no chunk of the run, so it takes no look at them.
-#[derive(Clone, Copy, Debug)]
+#[derive(Clone, Copy)]
 pub struct RowPlace<'c> {
     pub run: &'c [Chunk],
     pub bits: u64,
@@ -135,7 +135,7 @@ fn next_row<'c>(place: RowPlace<'c>) -> Option<(AccessRow<'c>, RowPlace<'c>)>
 }
 
 /// The rows of accesses in order. Contracts see the accesses that are left.
-#[derive(Debug, Drop)]
+#[derive(Drop)]
 pub struct Rows<'c> {
     place: RowPlace<'c>,
 }

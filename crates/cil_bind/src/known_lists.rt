@@ -12,7 +12,7 @@ use crate::rows::Row;
 use std::alloc::{AllocError, Allocator, Global};
 
 /// The permissions that a statement lists: the number of its module, the number of the list there, and how many lists the module has.
-#[derive(Clone, Copy, Debug)]
+#[derive(Clone, Copy)]
 pub struct PermissionList {
     pub module: u32,
     pub list: usize,

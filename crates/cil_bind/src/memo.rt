@@ -11,7 +11,7 @@ use cil_parse::{ParsedModule, Table};
 use std::alloc::{AllocError, Allocator, Global};
 
 /// What a text led to from a namespace, in a table.
-#[derive(Clone, Copy, Debug)]
+#[derive(Clone, Copy)]
 pub struct Remembered {
     pub table: Table,
     pub namespace: u32,

@@ -10,7 +10,7 @@ use std::hash::{BuildHasherDefault, FoldHasher};
 use std::marker::Model;
 
 /// A block: the number of the namespace that it stands in, and that of its word.
-#[derive(Clone, Copy, Debug, PartialEq, Eq, Hash)]
+#[derive(Clone, Copy, PartialEq, Eq, Hash)]
 pub struct Block {
     pub outer: u32,
     pub word: u32,

@@ -14,7 +14,7 @@ use cil_text::Place;
 use std::alloc::Allocator;
 
 /// A name where it is declared again: the name of the module, the word and where it stands.
-#[derive(Clone, Copy, Debug)]
+#[derive(Clone, Copy)]
 pub struct Redeclaration<'m> {
     pub module: &'m [u8],
     pub at: Place,

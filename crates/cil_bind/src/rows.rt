@@ -7,7 +7,7 @@ use cil_parse::Table;
 /// A statement of a joined policy: the number of its module and its index there, the numbers of its namespace and, for a block, of the
 /// namespace inside, and what it declares, by the table and the number of the word. The innermost optional around it is told by its
 /// place and 1 more; 0 stands for none.
-#[derive(Clone, Copy, Debug)]
+#[derive(Clone, Copy)]
 pub struct Row {
     pub module: u32,
     pub index: u32,

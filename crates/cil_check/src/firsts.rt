@@ -28,7 +28,7 @@ impl<A: Allocator> Model for Firsts<A> {
 }
 
 /// What statements give: an actual type to an alias, or a common to a class.
-#[derive(Clone, Copy, Debug, PartialEq, Eq)]
+#[derive(Clone, Copy, PartialEq, Eq)]
 pub enum Association {
     Actual,
     Common,

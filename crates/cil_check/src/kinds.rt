@@ -6,7 +6,7 @@ ghost use Rattle.cil_check.specs.Kinds.{is_kind};
 use cil_parse::StatementKind;
 
 /// What a statement declares in the table of types.
-#[derive(Clone, Copy, Debug, PartialEq, Eq)]
+#[derive(Clone, Copy, PartialEq, Eq)]
 pub enum Kind {
     Type,
     Alias,

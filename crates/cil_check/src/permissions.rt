@@ -20,7 +20,7 @@ use std::alloc::{AllocError, Allocator, Global};
 use std::hash::{BuildHasherDefault, FoldHasher};
 
 /// A permission that a class or a common lists, by the place of its statement and the number of the permission's name.
-#[derive(Clone, Copy, Debug, PartialEq, Eq, Hash)]
+#[derive(Clone, Copy, PartialEq, Eq, Hash)]
 pub struct Listed {
     pub owner: u32,
     pub word: u32,

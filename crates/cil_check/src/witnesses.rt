@@ -21,7 +21,7 @@ pub struct Witnesses<A: Allocator = Global> {
 }
 
 /// A common that is given to a class, by their places.
-#[derive(Clone, Copy, Debug, PartialEq, Eq, Hash)]
+#[derive(Clone, Copy, PartialEq, Eq, Hash)]
 struct Given {
     class: u32,
     common: u32,

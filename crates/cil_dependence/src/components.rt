@@ -3,7 +3,7 @@
 use std::alloc::{AllocError, Allocator};
 
 /// What the pass knows of a node. Times and components count from 1 on, and 0 stands for none yet.
-#[derive(Clone, Copy, Debug, Default)]
+#[derive(Clone, Copy, Default)]
 struct Mark {
     entered: usize,
     // The least time of entry that the node was seen to lead to within its component.
@@ -14,7 +14,7 @@ struct Mark {
 }
 
 /// Tarjan's pass in depth.
-#[derive(Debug, Drop)]
+#[derive(Drop)]
 struct Pass<A: Allocator> {
     marks: Vec<Mark, A>,
     path: Vec<usize, A>,

@@ -9,7 +9,7 @@ ghost use Rattle.cil_dependence.specs.declared.order.State.TheVariants.{Open, Do
 use std::alloc::{AllocError, Allocator, Global};
 
 /// What the dependence of nodes on one another comes to.
-#[derive(Debug, Drop)]
+#[derive(Drop)]
 pub enum Dependence<A: Allocator = Global> {
     /// All nodes, each behind those that it has an edge to.
     Order(Vec<usize, A>),
@@ -18,7 +18,7 @@ pub enum Dependence<A: Allocator = Global> {
 }
 
 /// How far the walk has come with a node.
-#[derive(Clone, Copy, Debug)]
+#[derive(Clone, Copy)]
 enum State {
     New,
     Open,
@@ -26,7 +26,7 @@ enum State {
 }
 
 /// A walk in depth over the nodes of a graph.
-#[derive(Debug, Drop)]
+#[derive(Drop)]
 struct Walk<A: Allocator> {
     states: Vec<State, A>,
     // How many edges of each node aren't passed yet. The last is passed first.

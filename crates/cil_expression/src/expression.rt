@@ -17,7 +17,7 @@ pub enum Element {
 }
 
 /// The nodes of an expression, each in front of those of its operands, and what its names lead to, in their order.
-#[derive(Debug, Drop)]
+#[derive(Drop)]
 pub(crate) struct Tree<A: Allocator = Global> {
     nodes: Vec<SetNode, A>,
     names: Vec<Element, A>,
@@ -25,7 +25,7 @@ pub(crate) struct Tree<A: Allocator = Global> {
 }
 
 /// How an expression is kept. Most are one name, alone or as the only element of a list: that takes no memory of its own.
-#[derive(Debug, Drop)]
+#[derive(Drop)]
 pub(crate) enum Form<A: Allocator = Global> {
     Named(Element),
     Listed(Element),
@@ -33,7 +33,7 @@ pub(crate) enum Form<A: Allocator = Global> {
 }
 
 /// A set expression whose names lead to types and attributes.
-#[derive(Debug, Drop)]
+#[derive(Drop)]
 pub struct SetExpression<A: Allocator = Global> {
     form: Form<A>,
 }

@@ -8,7 +8,7 @@ const TOGETHER: usize = 8;
 
 /// The places of the lines that were read last. Reads of several lines wait for memory together; changes, made one after the other, would
 /// each wait alone.
-#[derive(Clone, Copy, Debug)]
+#[derive(Clone, Copy)]
 pub struct ReadAhead {
     from: usize,
     to: usize,

@@ -2,7 +2,7 @@
 
 /// What a line is of: the type that is the source, a class, and a permission of it, by numbers of their names that stay. Keys are
 /// ordered in this order.
-#[derive(Clone, Copy, Debug, PartialEq, Eq, PartialOrd, Ord, Hash)]
+#[derive(Clone, Copy, PartialEq, Eq, PartialOrd, Ord, Hash)]
 pub struct SymbolKey {
     pub source: usize,
     pub class: usize,

@@ -17,7 +17,7 @@ const WORDS: usize = 1 << 58;
 const SPARE: usize = 8;
 
 /// The bits of one word.
-#[derive(Clone, Copy, Debug)]
+#[derive(Clone, Copy)]
 pub struct Entry {
     pub word: usize,
     pub bits: u64,
@@ -25,7 +25,7 @@ pub struct Entry {
 
 /// One binary digit of the counters of each word, 64 a word. The first words stand densely; behind them only words with
 /// a place have an entry, in rising order.
-#[derive(Debug, Drop)]
+#[derive(Drop)]
 pub struct Digit<A: Allocator = Global> {
     dense: Vec<u64, A>,
     sparse: Vec<Entry, A>,

@@ -17,7 +17,7 @@ const WORD: usize = 64;
 /// The counters of one line of an access table, by the numbers of targets. They are kept by binary digits, 64 counters a
 /// machine word, and have no greatest value but memory. A line takes memory for the words that were added to, so a line
 /// of few targets is small whatever their numbers.
-#[derive(Debug, Drop)]
+#[derive(Drop)]
 pub struct Line<A: Allocator = Global> {
     lowest: Digit<A>,
     higher: Vec<Digit<A>, A>,

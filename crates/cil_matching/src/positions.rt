@@ -11,7 +11,7 @@ use std::hash::{BuildHasherDefault, FoldHasher};
 use std::marker::Model;
 
 /// Where a statement stands: the name of its module, and the offset in the module's text.
-#[derive(Clone, Copy, Debug, PartialEq, Eq, Hash)]
+#[derive(Clone, Copy, PartialEq, Eq, Hash)]
 pub struct Position<'r> {
     pub module: &'r [u8],
     pub offset: u32,

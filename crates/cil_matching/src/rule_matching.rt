@@ -13,7 +13,7 @@ use std::marker::Model;
 
 /// For each rule of one policy the place of the same one in another policy, if that has it, and back. Contracts see the
 /// two lists of places.
-#[derive(Debug, Drop)]
+#[derive(Drop)]
 pub struct RuleMatching<A: Allocator = Global> {
     ahead: Vec<Option<usize>, A>,
     back: Vec<Option<usize>, A>,

@@ -14,7 +14,7 @@ use std::marker::Model;
 
 /// For each set statement of one policy the place of the same one in another policy, if that has it, and back. Contracts see the
 /// two lists of places.
-#[derive(Debug, Drop)]
+#[derive(Drop)]
 pub struct SetMatching<A: Allocator = Global> {
     ahead: Vec<Option<usize>, A>,
     back: Vec<Option<usize>, A>,

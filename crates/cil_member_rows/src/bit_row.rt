@@ -6,7 +6,7 @@ use std::alloc::{AllocError, Allocator, Global};
 use std::marker::Model;
 
 /// Bits, 64 a word. Those behind the last word are 0.
-#[derive(Debug, Drop)]
+#[derive(Drop)]
 pub struct BitRow<A: Allocator = Global> {
     words: Vec<u64, A>,
 }

@@ -14,7 +14,7 @@ use std::marker::Model;
 const WORD: usize = 64;
 
 /// The symbols of the types that a policy keeps, as bits, 64 a word. Contracts see the list of the words.
-#[derive(Debug, Drop)]
+#[derive(Drop)]
 pub struct KeptTypes<A: Allocator = Global> {
     words: Vec<u64, A>,
 }
@@ -76,7 +76,7 @@ impl<A: Allocator> KeptTypes<A> {
 }
 
 /// The words from the first one to behind the last one in which two policies keep different types.
-#[derive(Clone, Copy, Debug)]
+#[derive(Clone, Copy)]
 pub struct UnlikeWords {
     pub first: usize,
     pub end: usize,

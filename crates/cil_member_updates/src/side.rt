@@ -11,7 +11,7 @@ use cil_symbols::{Numbering, Symbols};
 use std::alloc::{Allocator, Global};
 
 /// A policy, with the symbols of its names and those of its kept types.
-#[derive(Clone, Copy, Debug)]
+#[derive(Clone, Copy)]
 pub struct Side<'p, A: Allocator = Global> {
     pub resolved: &'p Resolved<A>,
     pub numbering: &'p Numbering<A>,

@@ -8,7 +8,7 @@ use cil_member_rows::MemberRows;
 use std::alloc::Allocator;
 
 /// Before the steps, or now.
-#[derive(Clone, Copy, Debug)]
+#[derive(Clone, Copy)]
 pub enum When {
     Before,
     Now,

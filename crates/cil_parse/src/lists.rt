@@ -7,7 +7,7 @@ use std::alloc::{AllocError, Allocator, Global};
 use std::marker::Model;
 
 /// Lists of items in one vector, and behind them one list that is still open. Contracts see it as the closed lists and the open one.
-#[derive(Debug, Drop)]
+#[derive(Drop)]
 pub struct Lists<T: Copy, A: Allocator = Global> {
     items: Vec<T, A>,
     ends: Vec<usize, A>,

@@ -3,7 +3,7 @@
 use cil_text::{Place, RuleKind};
 
 /// A word: its place, and the number of its text.
-#[derive(Clone, Copy, Debug, PartialEq, Eq)]
+#[derive(Clone, Copy, PartialEq, Eq)]
 pub struct NumberedWord {
     pub at: Place,
     pub text: u32,
@@ -47,14 +47,14 @@ pub enum SetNode {
 
 /// The numbers of the innermost block and of the innermost optional around statements. That of a statement is its index and 1 more;
 /// 0 stands for none.
-#[derive(Clone, Copy, Debug)]
+#[derive(Clone, Copy)]
 pub struct Around {
     pub block: u32,
     pub optional: u32,
 }
 
 /// A statement but for its words and its set expression.
-#[derive(Clone, Copy, Debug)]
+#[derive(Clone, Copy)]
 pub struct Row {
     pub at: Place,
     pub kind: StatementKind,

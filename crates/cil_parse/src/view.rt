@@ -17,7 +17,7 @@ use cil_text::Place;
 
 /// A statement of a parsed module: its place, its kind, the numbers of the innermost block and of the innermost optional around it, its
 /// words, and the nodes of its set expression. The number of a statement is its index and 1 more; 0 stands for none.
-#[derive(Clone, Copy, Debug)]
+#[derive(Clone, Copy)]
 pub struct StatementView<'p> {
     pub at: Place,
     pub kind: StatementKind,

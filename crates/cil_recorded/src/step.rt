@@ -5,7 +5,7 @@ ghost use Rattle.std.specs.Prelude.{◌≡◌, ◌++◌, ◌∷◌, [], ◌+◌,
 use std::alloc::Allocator;
 
 /// A step that was made: the counters of some targets of a word of a line went up by 1, or down by 1.
-#[derive(Clone, Copy, Debug)]
+#[derive(Clone, Copy)]
 pub struct Step {
     pub line: usize,
     pub word: usize,

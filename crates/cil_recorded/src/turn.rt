@@ -10,7 +10,7 @@ use std::alloc::{AllocError, Allocator};
 
 /// How often targets of a word of a line appeared, less how often they went, modulo 4: its lower digit for each of them, and its upper one.
 /// An edit sorts many of these, so the numbers have 32 bits.
-#[derive(Clone, Copy, Debug)]
+#[derive(Clone, Copy)]
 pub struct Turn {
     pub line: u32,
     pub word: u32,

@@ -7,7 +7,7 @@ use crate::permission_numbers::PermissionNumbers;
 use std::alloc::{AllocError, Allocator, Global};
 
 /// A list of permissions: the place of its module, and its number there.
-#[derive(Clone, Copy, Debug, PartialEq, Eq)]
+#[derive(Clone, Copy, PartialEq, Eq)]
 pub struct ListPlace {
     pub module: usize,
     pub list: usize,

@@ -7,7 +7,7 @@ use cil_text::{Place, RuleKind};
 use std::alloc::{Allocator, Global};
 
 /// A rule's target: each source itself, or what a name leads to.
-#[derive(Clone, Copy, Debug, PartialEq, Eq)]
+#[derive(Clone, Copy, PartialEq, Eq)]
 pub enum ResolvedTarget {
     Itself,
     Element(Element),
@@ -15,7 +15,7 @@ pub enum ResolvedTarget {
 
 /// A type or an attribute, by the place of its full name, and where it is declared: the place of its module's name, and the place
 /// of its statement.
-#[derive(Clone, Copy, Debug)]
+#[derive(Clone, Copy)]
 pub struct NumberedName {
     pub module: usize,
     pub at: Place,
@@ -23,7 +23,7 @@ pub struct NumberedName {
 }
 
 /// A class with its permissions, its common's included, each once.
-#[derive(Debug, Drop)]
+#[derive(Drop)]
 pub struct NumberedClass<A: Allocator = Global> {
     pub module: usize,
     pub at: Place,
@@ -32,7 +32,7 @@ pub struct NumberedClass<A: Allocator = Global> {
 }
 
 /// A set statement: its attribute by the place of its full name, and its expression.
-#[derive(Debug, Drop)]
+#[derive(Drop)]
 pub struct NumberedSet<A: Allocator = Global> {
     pub module: usize,
     pub at: Place,
@@ -41,7 +41,7 @@ pub struct NumberedSet<A: Allocator = Global> {
 }
 
 /// A rule whose names are numbers: places in a list of names.
-#[derive(Debug, Drop)]
+#[derive(Drop)]
 pub struct NumberedRule<A: Allocator = Global> {
     pub module: usize,
     pub at: Place,
@@ -53,7 +53,7 @@ pub struct NumberedRule<A: Allocator = Global> {
 }
 
 /// An optional that drops, also one inside another: the place of its module's name, the place of its statement, and its full name.
-#[derive(Debug, Drop)]
+#[derive(Drop)]
 pub struct DroppedOptional<A: Allocator = Global> {
     pub module: usize,
     pub at: Place,

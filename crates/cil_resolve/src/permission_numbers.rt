@@ -8,7 +8,7 @@ use std::rc::Rc;
 
 /// The numbers of the permissions that a rule names. Rules of a module that name the same permissions share one list of them.
 /// Contracts see it as the numbers.
-#[derive(Debug, Drop)]
+#[derive(Drop)]
 pub struct PermissionNumbers<A: Allocator = Global> {
     numbers: Rc<Vec<usize, A>, A>,
 }

@@ -20,7 +20,7 @@ use std::alloc::{Allocator, Global};
 /// the order of their bytes, so that the order of the numbers is that of the names. Its rules name what it declares: types,
 /// attributes, and classes with their permissions; so do its set statements, and no attribute depends on itself. No two set
 /// statements stand at one place, and there are fewer than 2^32. Its rules stand in the order of their modules and offsets.
-#[derive(Debug, Drop)]
+#[derive(Drop)]
 pub struct Resolved<A: Allocator = Global> {
     pub(crate) modules: Vec<Text<A>, A>,
     pub(crate) names: Vec<Text<A>, A>,

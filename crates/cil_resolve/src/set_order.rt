@@ -13,7 +13,7 @@ use cil_expression::Element;
 use std::alloc::{AllocError, Allocator, Global};
 
 /// Set statements, and their numbers in the order of dependence.
-#[derive(Debug, Drop)]
+#[derive(Drop)]
 pub struct OrderedSets<A: Allocator = Global> {
     pub(crate) sets: Vec<NumberedSet<A>, A>,
     pub(crate) order: Vec<usize, A>,

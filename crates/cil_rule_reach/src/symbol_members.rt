@@ -8,7 +8,7 @@ use cil_member_rows::MemberRows;
 use std::alloc::{Allocator, Global};
 
 /// Whose members are asked for: those before the steps, which are the old policy's, or those now, which are the new one's.
-#[derive(Clone, Copy, Debug, PartialEq, Eq)]
+#[derive(Clone, Copy, PartialEq, Eq)]
 pub enum When {
     Before,
     Now,

@@ -14,7 +14,7 @@ const WORD: usize = 64;
 
 /// The sources of a rule, by symbols, as those whose counters in a line are above 0, and its targets. A policy without the rule has
 /// no source of it.
-#[derive(Debug, Drop)]
+#[derive(Drop)]
 pub struct Reach<A: Allocator = Global> {
     pub sources: Line<A>,
     pub targets: Targets<A>,

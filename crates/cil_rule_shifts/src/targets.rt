@@ -11,7 +11,7 @@ use std::alloc::{Allocator, Global};
 const WORD: usize = 64;
 
 /// The targets of each source of a rule, by symbols: none, the source itself, or those whose counters in a line are above 0.
-#[derive(Debug, Drop)]
+#[derive(Drop)]
 pub enum Targets<A: Allocator = Global> {
     Nothing,
     Itself,

@@ -18,7 +18,7 @@ use std::marker::Model;
 
 /// What is in a new table and not in an old one, and what is in the old and not in the new, each in order. Contracts see both
 /// lists.
-#[derive(Debug, Drop)]
+#[derive(Drop)]
 pub struct Changes<A: Allocator = Global> {
     names: NameList<A>,
     added: Accesses<A>,

@@ -27,7 +27,7 @@ const WORDS: u32 = 1 << 26;
 const SPAN: usize = 16;
 
 /// What the accesses of a line share.
-#[derive(Clone, Copy, Debug)]
+#[derive(Clone, Copy)]
 pub struct LineHead {
     pub kind: RuleKind,
     pub source: u32,

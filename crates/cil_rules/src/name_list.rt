@@ -9,7 +9,7 @@ use std::rc::RcSlice;
 
 /// The names that accesses are numbered by, which a table shares with what is made of it. Where there is none it takes no memory.
 /// Contracts see it as the list of the names.
-#[derive(Debug, Drop)]
+#[derive(Drop)]
 pub struct NameList<A: Allocator = Global> {
     names: Option<RcSlice<Text<A>, A>>,
 }

@@ -22,7 +22,7 @@ use std::alloc::{AllocError, Allocator, Global};
 use std::marker::Model;
 
 /// A row by numbers. Its permissions stand in a range of those of all rows.
-#[derive(Clone, Copy, Debug)]
+#[derive(Clone, Copy)]
 pub struct RowNumbers {
     pub kind: RuleKind,
     pub source: u32,
@@ -53,7 +53,7 @@ impl RowNumbers {
 }
 
 /// The rows of the listing of a table, whose names they share. Contracts see them as their list.
-#[derive(Debug, Drop)]
+#[derive(Drop)]
 pub struct Rows<A: Allocator = Global> {
     names: NameList<A>,
     rows: Vec<RowNumbers, A>,

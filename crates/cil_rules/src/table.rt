@@ -24,7 +24,7 @@ use std::alloc::{AllocError, Allocator, Global};
 use std::marker::Model;
 
 /// The accesses that the rules of a policy give, each once, in order. Contracts see it as their list.
-#[derive(Debug, Drop)]
+#[derive(Drop)]
 pub struct Table<A: Allocator = Global> {
     pub(super) names: NameList<A>,
     pub(super) accesses: Accesses<A>,

@@ -8,7 +8,7 @@ use std::alloc::{AllocError, Allocator, Global};
 
 /// The members so far. For each number of a name the mark is that of the last statement that was looked at there,
 /// from 1 on.
-#[derive(Debug, Drop)]
+#[derive(Drop)]
 pub struct Filling<A: Allocator = Global> {
     pub(crate) members: Members<A>,
     pub(crate) seen: Vec<usize, A>,

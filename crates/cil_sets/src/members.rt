@@ -10,7 +10,7 @@ use std::alloc::{AllocError, Allocator, Global};
 /// The members of a resolved policy's attributes, by the numbers of the names: for each type how many set statements
 /// make it a member. A row is that of the attribute whose number it stands at, and has counters only where a statement
 /// makes a type a member.
-#[derive(Debug, Drop)]
+#[derive(Drop)]
 pub struct Members<A: Allocator = Global> {
     pub(crate) rows: Vec<Row<A>, A>,
 }

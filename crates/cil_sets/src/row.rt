@@ -11,7 +11,7 @@ use std::marker::Model;
 pub const WORD: usize = 64;
 
 /// A counter for each column, and a bit for each that is above 0.
-#[derive(Debug, Drop)]
+#[derive(Drop)]
 pub struct Row<A: Allocator = Global> {
     counts: Vec<u32, A>,
     words: Vec<u64, A>,

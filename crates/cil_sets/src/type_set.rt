@@ -12,13 +12,13 @@ use std::alloc::{Allocator, Global};
 
 /// The types that a name of a rule stands for, by the numbers of their names. It borrows the members, and reading it takes no
 /// memory.
-#[derive(Clone, Copy, Debug)]
+#[derive(Clone, Copy)]
 pub struct TypeSet<'a, A: Allocator = Global> {
     pub(crate) held: Held<'a, A>,
 }
 
 /// One type, the members of an attribute, or those of an attribute that isn't there.
-#[derive(Clone, Copy, Debug)]
+#[derive(Clone, Copy)]
 pub enum Held<'a, A: Allocator = Global> {
     One(usize),
     OfRow(&'a Row<A>),

@@ -13,7 +13,7 @@ use cil_symbol_tables::SymbolTables;
 use std::alloc::{AllocError, Allocator, Global};
 
 /// The accesses that appeared and those that went, by numbers and in their order.
-#[derive(Debug, Drop)]
+#[derive(Drop)]
 pub struct AccessChanges<A: Allocator = Global> {
     pub added: Accesses<A>,
     pub removed: Accesses<A>,

@@ -21,7 +21,7 @@ use cil_text::RuleKind;
 use std::alloc::{AllocError, Allocator, Global};
 
 /// Chunks of the accesses that appeared and of those that went, source by source.
-#[derive(Debug, Drop)]
+#[derive(Drop)]
 pub struct ChangedChunks<A: Allocator = Global> {
     pub added: Vec<Chunk, A>,
     pub removed: Vec<Chunk, A>,

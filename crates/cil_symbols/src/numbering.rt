@@ -12,7 +12,7 @@ use std::marker::Model;
 
 /// For each name of a policy its symbol, by the numbers that the policy gives its names, and back. Contracts see the list of the
 /// symbols, and how many symbols there are.
-#[derive(Debug, Drop)]
+#[derive(Drop)]
 pub struct Numbering<A: Allocator = Global> {
     symbols: Vec<usize, A>,
     // For each symbol the policy's number, if it has the name.

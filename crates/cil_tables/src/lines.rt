@@ -14,7 +14,7 @@ use std::marker::Model;
 
 /// What a line is of: the type that is the source, a class, and a permission of it, by the numbers of their names. Keys are ordered
 /// in this order, so the lines of a source stand together where lines are sorted.
-#[derive(Clone, Copy, Debug, PartialEq, Eq, PartialOrd, Ord, Hash)]
+#[derive(Clone, Copy, PartialEq, Eq, PartialOrd, Ord, Hash)]
 pub struct LineKey {
     pub source: usize,
     pub class: usize,

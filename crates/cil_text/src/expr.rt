@@ -14,7 +14,7 @@ use crate::words::look_up;
 use std::alloc::{AllocError, Allocator};
 
 /// The words that are operators where they stand first in a list.
-#[derive(Clone, Copy, Debug, PartialEq, Eq)]
+#[derive(Clone, Copy, PartialEq, Eq)]
 enum Operator {
     And,
     Or,

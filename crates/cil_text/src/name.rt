@@ -26,7 +26,7 @@ const NAME_BYTES: [u8; 256] = [
 ];
 
 /// What stands in the place of a word.
-#[derive(Clone, Copy, Debug, PartialEq, Eq)]
+#[derive(Clone, Copy, PartialEq, Eq)]
 pub enum Role {
     /// A name that is declared, or a permission.
     Declared,

@@ -1,7 +1,7 @@
 //! Violations by numbers.
 
 /// A violation by the places of its rules and the numbers of the names of its source and target. Its permissions are those that both rules list.
-#[derive(Clone, Copy, Debug, PartialEq, Eq)]
+#[derive(Clone, Copy, PartialEq, Eq)]
 pub struct RowNumbers {
     pub never: usize,
     pub allowed: usize,

@@ -14,7 +14,7 @@ use std::alloc::{Allocator, Global};
 use std::marker::Model;
 
 /// The permissions that two rules share, in order and each once. Contracts see them as the list of their names.
-#[derive(Debug, Drop)]
+#[derive(Drop)]
 pub struct Permissions<'v, A: Allocator = Global> {
     resolved: &'v Resolved<A>,
     never: &'v [usize],
@@ -71,7 +71,7 @@ impl<'v, A: Allocator> Permissions<'v, A> {
 }
 
 /// A violation: a neverallow rule, an allow rule, and the permissions that both give to a source, a target and a class.
-#[derive(Debug, Drop)]
+#[derive(Drop)]
 pub struct Violation<'v, A: Allocator = Global> {
     pub never: RuleView<'v>,
     pub allowed: RuleView<'v>,

@@ -10,7 +10,7 @@ use std::alloc::{AllocError, Allocator};
 
 /// The targets of a word of a line whose counters were 0 and are above 0, and those whose counters were above 0 and are
 /// 0.
-#[derive(Clone, Copy, Debug, PartialEq, Eq)]
+#[derive(Clone, Copy, PartialEq, Eq)]
 pub struct Change {
     pub line: usize,
     pub word: usize,

@@ -8,7 +8,7 @@ use crate::recorded_lines::RecordedLines;
 use std::alloc::Allocator;
 
 /// A word of a line.
-#[derive(Clone, Copy, Debug, PartialEq, Eq)]
+#[derive(Clone, Copy, PartialEq, Eq)]
 pub struct Place {
     pub line: usize,
     pub word: usize,
