@@ -16,7 +16,7 @@ try:
 	cd crates/cilsem && rt try -- session < ../../examples/first.session
 
 # The gate: every proof from nothing, the must-fail edits, the tests and the programs; and what the built programs print of the
-# examples and the scripts.
+# examples, the scripts, the trials and the commands.
 test:
 	rt ci
 	examples/check.sh
@@ -26,7 +26,8 @@ test:
 examples:
 	examples/check.sh
 
-# Has the programs that `make test` built answer the scripts and make the trials, with both engines, and compares what they print.
+# Has the programs that `make test` built answer the scripts and make the trials, with both engines, and do the commands, and compares
+# what they print.
 scripts:
 	scripts/check.py
 

@@ -27,13 +27,18 @@ class Fault(Exception):
     """A line that stands where it can't."""
 
 
+def written_out(first, last, piece):
+    """A piece for each number of a range, as it is written."""
+    first, last = int(first), int(last)
+    numbers = range(first, last + 1) if first <= last else range(first, last - 1, -1)
+    return [NUMBER.sub(lambda m: f"{n:0{m[1] or 1}}", piece) for n in numbers]
+
+
 def repeated(first, last, piece):
     """A piece so many times, or for each number of a range."""
     if last is None:
         return spelled(piece) * int(first)
-    first, last = int(first), int(last)
-    numbers = range(first, last + 1) if first <= last else range(first, last - 1, -1)
-    return "".join(spelled(NUMBER.sub(lambda m: f"{n:0{m[1] or 1}}", piece)) for n in numbers)
+    return "".join(spelled(it) for it in written_out(first, last, piece))
 
 
 def spelled(line):

@@ -1,11 +1,13 @@
 #!/usr/bin/env python3
-"""Has the built programs answer the scripts of scripts/*.cases and make the trials of trials/*.trials, and compares what they print.
+"""Has the built programs answer the scripts of scripts/*.cases, make the trials of trials/*.trials and do the commands of
+commands/*.commands, and compares what they print.
 
 usage: check.py [FILE..]     (all files, where none is named)
 
 The programs are those that `make test` builds, or those of the variables PROGRAM, PLAIN and TRIALS. Each script and each trial is for both
-engines. A program has to print what is wanted, to end with the exit status that follows from it, and to say nothing on standard error.
-cases.py and trials.py say what stands in the files.
+engines. There a program has to print what is wanted, to end with the exit status that follows from it, and to say nothing on standard
+error. The commands are for PROGRAM, and say of themselves what it is to print, on standard error too, and how it is to end. cases.py,
+trials.py and commands.py say what stands in the files.
 """
 import glob
 import os
@@ -18,6 +20,7 @@ TOP = os.path.dirname(os.path.dirname(os.path.abspath(__file__)))
 sys.path.insert(0, f"{TOP}/scripts")
 
 from cases import Fault, cases_of
+from commands import commands_of
 from trials import trials_of
 
 PROGRAM = os.environ.get("PROGRAM", f"{TOP}/crates/cilsem/out/cilsem")
@@ -52,12 +55,15 @@ def tell(case, who, found, want):
 
 
 def tasks_of(path):
-    """For each case of a file and each engine: the case, the program or engine, and the call that gives what is found."""
+    """For each case of a file and each engine, or for each command: the case, who answers it, and the call that gives what is found."""
     name = os.path.relpath(path, TOP)
     if path.endswith(".trials"):
         for trial in trials_of(path, name):
             for engine, texts in trial.runs():
                 yield trial, engine, (make_trials, texts)
+    elif path.endswith(".commands"):
+        for command in commands_of(path, name):
+            yield command, f"`{command.line}`", (command.ran, PROGRAM, SECONDS)
     else:
         for case in cases_of(path, name):
             for words in ([PROGRAM, "session"], [PLAIN]):
@@ -65,7 +71,8 @@ def tasks_of(path):
 
 
 def main(paths):
-    paths = paths or sorted(glob.glob(f"{TOP}/scripts/*.cases") + glob.glob(f"{TOP}/trials/*.trials"))
+    kinds = ("scripts/*.cases", "trials/*.trials", "commands/*.commands")
+    paths = paths or sorted(path for kind in kinds for path in glob.glob(f"{TOP}/{kind}"))
     passed = failed = 0
     with ThreadPoolExecutor(os.cpu_count()) as pool:
         tasks = [(case, who, pool.submit(*call)) for path in paths for case, who, call in tasks_of(path)]

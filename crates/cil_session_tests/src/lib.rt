@@ -1,6 +1,9 @@
-//! Tests of the public calls whose values no script and no trial shows, with ample memory.
+//! Tests of what no script, no trial and no command shows: the values of public calls with ample memory, and the command line where sinks
+//! fail after some bytes or growths are refused.
 #![tactic(auto)]
 
+#[cfg(test)]
+mod commands;
 #[cfg(test)]
 mod engines;
 #[cfg(test)]
