@@ -5,3 +5,4 @@ pub mod Run
 pub mod StoreReport
 pub mod Script
 pub mod Session
+pub mod Cut
