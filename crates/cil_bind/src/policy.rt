@@ -6,7 +6,7 @@ ghost use Rattle.cil_specs.specs.Joined.{Placed, Module, joined as joined_policy
 ghost use Rattle.cil_bind.specs.Binding.{places_from};
 ghost use Rattle.cil_bind.specs.Scope.{AreSpelt, AreFrom, AreAround, Stands, StandsFor};
 ghost use Rattle.cil_bind.specs.Lookup.{HaveDeclared};
-ghost use Rattle.cil_bind.specs.Rows.{IsOnce};
+ghost use Rattle.cil_bind.specs.Rows.{DeclareThat, IsOnce};
 ghost use Rattle.cil_bind.specs.Policy.{Makes, IsBoundTo, AreMarked, TellsAround};
 ghost use Rattle.cil_bind.specs.Words.{AreWorded};
 ghost use Rattle.cil_specs.specs.Kept.{Optionals, AreApart, restricted};
@@ -88,7 +88,27 @@ impl<'m, A: Allocator + Copy> Policy<'m, A> {
             → Makes joined.now.modules.items policy made) }
         ensures around { IfOk result (λ made. (policy : List Placed) → AreAround policy 0 scope.entry.rows.items policy → TellsAround policy made) }
     {
-        let declarations = match Declarations::of(alloc, scope.rows.as_slice())? {
+        let declared = Declarations::of(alloc, scope.rows.as_slice())?;
+        Policy::of_declared(alloc, joined, scope, words, declared)
+    }
+
+    /// The policy of statements by what they declare, or the first name that they declare again.
+    fn of_declared(
+        alloc: A,
+        joined: &Joined<'m, A>,
+        scope: Scope<'m, A>,
+        words: Vec<Vec<u32, A>, A>,
+        declared: Declared<A>,
+    ) -> Result<Joining<'m, A>, AllocError>
+        requires stands { (policy : List Placed) × StandsFor scope policy × AreFrom joined.now.modules.items scope.rows.items policy }
+        requires worded { AreWorded scope.names words.items joined.now.modules.items }
+        requires declared { (policy : List Placed) → StandsFor scope policy → DeclareThat scope.names scope.namespaces policy declared }
+        requires few { length scope.rows.items < 2 ^ 32 }
+        ensures made { IfOk result (λ made. (policy : List Placed) → StandsFor scope.entry policy → AreFrom joined.now.modules.items scope.entry.rows.items policy
+            → Makes joined.now.modules.items policy made) }
+        ensures around { IfOk result (λ made. (policy : List Placed) → AreAround policy 0 scope.entry.rows.items policy → TellsAround policy made) }
+    {
+        let declarations = match declared {
             Declared::Once(declarations) => declarations,
             Declared::Twice(place) => {
                 let again = Redeclaration::of(joined, &scope.rows[place]);

@@ -1,46 +1,8 @@
-use Rattle.std.proofs.Common.{◌<◌, length, rules, sym, subst}
-use Rattle.cil_bind.specs.Rows.{AreRows, DeclareThat}
-use Rattle.cil_bind.specs.Scope.{AreAround}
-use Rattle.cil_bind.proofs.TwiceLemmas.{twice-there, twice-within, first-again}
+use Rattle.std.proofs.Common.{sym, subst}
+use Rattle.cil_bind.specs.Rows.{AreRows}
 use Rattle.cil_bind.proofs.policy.Policy.of_statements.Goals as goal
 
-pub index-requires : goal.index-requires
-index-requires g c =
+pub of_declared-requires-clause-declared : goal.of_declared-requires-clause-declared
+of_declared-requires-clause-declared g c = λ policy stands.
     let scope = c.args.scope in
-    let policy = c.requires.stands.0 in
-    let stands = c.requires.stands.1 in
-    let that = c.in_ok-declarations.ensures scope.names scope.namespaces policy stands.numbered (subst (λ r. AreRows scope.names scope.namespaces r policy) (sym c.as_slice.ensures.value) stands.rows_are) in
-    let low : c.in-Twice.place < length scope.rows.items = twice-within scope.names scope.namespaces scope.rows.items policy c.in-Twice.place c.in_ok-declarations.field-0 stands.rows_are that c.in-Twice.is in
-    search rules
-
-pub of-again-requires : goal.of-again-requires
-of-again-requires g c =
-    let scope = c.args.scope in
-    let policy = c.requires.stands.0 in
-    let stands = c.requires.stands.1 in
-    let that = c.in_ok-declarations.ensures scope.names scope.namespaces policy stands.numbered (subst (λ r. AreRows scope.names scope.namespaces r policy) (sym c.as_slice.ensures.value) stands.rows_are) in
-    twice-there c.args.joined.now.modules.items scope.names scope.namespaces scope.rows.items policy c.in-Twice.place c.index.result.now c.in_ok-declarations.field-0
-    c.requires.stands.2 that c.in-Twice.is c.index.ensures
-    (twice-within scope.names scope.namespaces scope.rows.items policy c.in-Twice.place c.in_ok-declarations.field-0 stands.rows_are that c.in-Twice.is)
-
-pub returns-in-Twice-clause-made : goal.returns-in-Twice-clause-made
-returns-in-Twice-clause-made g c = λ policy stands from.
-    let scope = c.args.scope in
-    let that = c.in_ok-declarations.ensures scope.names scope.namespaces policy stands.numbered (subst (λ r. AreRows scope.names scope.namespaces r policy) (sym c.as_slice.ensures.value) stands.rows_are) in
-    first-again c.args.joined.now.modules.items scope.names scope.namespaces scope.rows.items policy c.in-Twice.place c.index.result.now c.in_ok-declarations.field-0 c.of-again.result
-    from that c.in-Twice.is c.index.ensures
-    (twice-within scope.names scope.namespaces scope.rows.items policy c.in-Twice.place c.in_ok-declarations.field-0 stands.rows_are that c.in-Twice.is)
-    c.of-again.ensures
-
-pub of_scope-requires-clause-from : goal.of_scope-requires-clause-from
-of_scope-requires-clause-from g c = (c.requires.stands.0, c.requires.stands.2)
-
-pub returns-clause-made : goal.returns-clause-made
-returns-clause-made g c = λ policy stands from.
-    let scope = c.args.scope in
-    let that = subst (DeclareThat scope.names scope.namespaces policy) c.in-Once.is
-    (c.in_ok-declarations.ensures scope.names scope.namespaces policy stands.numbered (subst (λ r. AreRows scope.names scope.namespaces r policy) (sym c.as_slice.ensures.value) stands.rows_are)) in
-    c.in_ok-policy.ensures.made policy stands from c.requires.worded that.0 that.1
-
-pub returns-clause-around : goal.returns-clause-around
-returns-clause-around g c = λ policy around. subst (λ rows. AreAround policy 0 rows policy) (sym c.in_ok-policy.ensures.rows) around
+    c.in_ok-declared.ensures scope.names scope.namespaces policy stands.numbered (subst (λ r. AreRows scope.names scope.namespaces r policy) (sym c.as_slice.ensures.value) stands.rows_are)
