@@ -137,12 +137,7 @@ impl<'m, A: Allocator + Copy> Policy<'m, A> {
     }
 
     /// Keeps the statements that stand in marked optionals alone, or in none. Where all are marked it stays as it is.
-    fn keep(
-        &mut self,
-        alloc: A,
-        joined: &Joined<'m, A>,
-        kept: &[bool],
-    ) -> Result<(), AllocError>
+    fn keep(&mut self, alloc: A, joined: &Joined<'m, A>, kept: &[bool]) -> Result<(), AllocError>
         requires { (policy : List Placed) × IsBoundTo self.old joined.now.modules.items policy }
         ensures { OnOk result ((policy : List Placed) (set : Optionals) → IsBoundTo self.old joined.now.modules.items policy → AreApart policy
             → AreMarked set kept.now self.old.rows.items policy → IsBoundTo self.new joined.now.modules.items (restricted set policy)) }

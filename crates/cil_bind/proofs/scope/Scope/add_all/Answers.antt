@@ -1,4 +1,4 @@
-use Rattle.std.proofs.Common.{◌<◌, ◌≤◌, length, take, subst, rules, [], refl, sym, append-nil, arith}
+use Rattle.std.proofs.Common.{◌<◌, ◌≤◌, length, take, subst, rules, [], sym, append-nil, arith}
 use Rattle.cil_specs.specs.Joined.{joined}
 use Rattle.cil_parse.specs.Parsed.{Spells}
 use Rattle.cil_bind.proofs.PlaceLemmas.{module-next, joined-all, kept-next, spelt-at}
