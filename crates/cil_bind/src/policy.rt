@@ -1,12 +1,12 @@
 //! A joined policy whose references are bound.
 
-ghost use Rattle.std.specs.Prelude.{◌≡◌, ◌<◌, ◌^◌, ℕ, IfOk, OnOk, List, false, filter, length, slice_index_or};
-ghost use Rattle.std.specs.List.{list_all};
+ghost use Rattle.std.specs.Prelude.{◌≡◌, ◌<◌, ◌^◌, ℕ, IfOk, OnOk, List, false, filter, bytes_eq, length, slice_index_or};
+ghost use Rattle.std.specs.List.{IsDistinct, list_all};
 ghost use Rattle.cil_specs.specs.Joined.{Placed, Module, joined as joined_policy};
 ghost use Rattle.cil_bind.specs.Binding.{places_from};
-ghost use Rattle.cil_bind.specs.Scope.{AreSpelt, AreFrom, StandsFor};
+ghost use Rattle.cil_bind.specs.Scope.{AreSpelt, AreFrom, AreAround, Stands, StandsFor};
 ghost use Rattle.cil_bind.specs.Lookup.{HaveDeclared};
-ghost use Rattle.cil_bind.specs.Rows.{IsOnce};
+ghost use Rattle.cil_bind.specs.Rows.{DeclareThat, IsOnce};
 ghost use Rattle.cil_bind.specs.Policy.{Makes, IsBoundTo, AreMarked, TellsAround};
 ghost use Rattle.cil_bind.specs.Words.{AreWorded};
 ghost use Rattle.cil_specs.specs.Kept.{Optionals, AreApart, restricted};
@@ -51,11 +51,64 @@ impl<'m, A: Allocator + Copy> Policy<'m, A> {
     {
         let mut names = Names::new(alloc);
         let words = names.number_modules(alloc, joined)?;
+        Policy::of_names(alloc, joined, names, words)
+    }
+
+    /// The joined policy of modules whose words have numbers.
+    fn of_names(
+        alloc: A,
+        joined: &Joined<'m, A>,
+        names: Names<'m, A>,
+        words: Vec<Vec<u32, A>, A>,
+    ) -> Result<Joining<'m, A>, AllocError>
+        requires spelt { (modules : List Module) × AreSpelt joined.now.modules.items modules }
+        requires distinct { IsDistinct bytes_eq names }
+        requires worded { AreWorded names words.items joined.now.modules.items }
+        ensures made { IfOk result (λ made. (modules : List Module) → AreSpelt joined.now.modules.items modules → Makes joined.now.modules.items (joined_policy modules) made) }
+        ensures around { IfOk result (λ made. (modules : List Module) → AreSpelt joined.now.modules.items modules → TellsAround (joined_policy modules) made) }
+    {
         let scope = Scope::of(alloc, names, joined)?;
         if scope.rows.len() > 0xFFFF_FFFF {
             return Err(AllocError);
         }
-        let declarations = match Declarations::of(alloc, scope.rows.as_slice())? {
+        Policy::of_statements(alloc, joined, scope, words)
+    }
+
+    /// The policy of statements by numbers, or the first name that they declare again.
+    fn of_statements(
+        alloc: A,
+        joined: &Joined<'m, A>,
+        scope: Scope<'m, A>,
+        words: Vec<Vec<u32, A>, A>,
+    ) -> Result<Joining<'m, A>, AllocError>
+        requires stands { (policy : List Placed) × StandsFor scope policy × AreFrom joined.now.modules.items scope.rows.items policy }
+        requires worded { AreWorded scope.names words.items joined.now.modules.items }
+        requires few { length scope.rows.items < 2 ^ 32 }
+        ensures made { IfOk result (λ made. (policy : List Placed) → StandsFor scope.entry policy → AreFrom joined.now.modules.items scope.entry.rows.items policy
+            → Makes joined.now.modules.items policy made) }
+        ensures around { IfOk result (λ made. (policy : List Placed) → AreAround policy 0 scope.entry.rows.items policy → TellsAround policy made) }
+    {
+        let declared = Declarations::of(alloc, scope.rows.as_slice())?;
+        Policy::of_declared(alloc, joined, scope, words, declared)
+    }
+
+    /// The policy of statements by what they declare, or the first name that they declare again.
+    fn of_declared(
+        alloc: A,
+        joined: &Joined<'m, A>,
+        scope: Scope<'m, A>,
+        words: Vec<Vec<u32, A>, A>,
+        declared: Declared<A>,
+    ) -> Result<Joining<'m, A>, AllocError>
+        requires stands { (policy : List Placed) × StandsFor scope policy × AreFrom joined.now.modules.items scope.rows.items policy }
+        requires worded { AreWorded scope.names words.items joined.now.modules.items }
+        requires declared { (policy : List Placed) → StandsFor scope policy → DeclareThat scope.names scope.namespaces policy declared }
+        requires few { length scope.rows.items < 2 ^ 32 }
+        ensures made { IfOk result (λ made. (policy : List Placed) → StandsFor scope.entry policy → AreFrom joined.now.modules.items scope.entry.rows.items policy
+            → Makes joined.now.modules.items policy made) }
+        ensures around { IfOk result (λ made. (policy : List Placed) → AreAround policy 0 scope.entry.rows.items policy → TellsAround policy made) }
+    {
+        let declarations = match declared {
             Declared::Once(declarations) => declarations,
             Declared::Twice(place) => {
                 let again = Redeclaration::of(joined, &scope.rows[place]);
@@ -78,12 +131,21 @@ impl<'m, A: Allocator + Copy> Policy<'m, A> {
         ensures { IfOk result (λ p. (policy : List Placed) (set : Optionals) → IsBoundTo self.entry joined.now.modules.items policy → AreApart policy
             → AreMarked set kept.now self.entry.rows.items policy → IsBoundTo p joined.now.modules.items (restricted set policy)) }
     {
-        if are_kept(self.rows.as_slice(), kept) {
-            return Ok(self);
-        }
         let mut policy = self;
-        policy.leave_out(alloc, joined, kept)?;
+        policy.keep(alloc, joined, kept)?;
         Ok(policy)
+    }
+
+    /// Keeps the statements that stand in marked optionals alone, or in none. Where all are marked it stays as it is.
+    fn keep(&mut self, alloc: A, joined: &Joined<'m, A>, kept: &[bool]) -> Result<(), AllocError>
+        requires { (policy : List Placed) × IsBoundTo self.old joined.now.modules.items policy }
+        ensures { OnOk result ((policy : List Placed) (set : Optionals) → IsBoundTo self.old joined.now.modules.items policy → AreApart policy
+            → AreMarked set kept.now self.old.rows.items policy → IsBoundTo self.new joined.now.modules.items (restricted set policy)) }
+    {
+        if are_kept(self.rows.as_slice(), kept) {
+            return Ok(());
+        }
+        self.leave_out(alloc, joined, kept)
     }
 
     /// Leaves out the statements whose innermost optional isn't marked.
@@ -155,6 +217,26 @@ impl<'m, A: Allocator + Copy> Policy<'m, A> {
             namespaces,
             declared: declarations.first,
         };
+        Policy::of_lookup(alloc, joined, lookup, names, words, rows)
+    }
+
+    /// The policy of rows whose names are looked up among the first declarations.
+    fn of_lookup(
+        alloc: A,
+        joined: &Joined<'m, A>,
+        lookup: Lookup<A>,
+        names: Names<'m, A>,
+        words: Vec<Vec<u32, A>, A>,
+        rows: Vec<Row, A>,
+    ) -> Result<Self, AllocError>
+        requires worded { (names : List (List ℕ)) × AreWorded names words.items joined.now.modules.items }
+        requires from { (policy : List Placed) × AreFrom joined.now.modules.items rows.items policy }
+        requires few { length rows.items < 2 ^ 32 }
+        ensures made { IfOk result (λ p. (policy : List Placed) → Stands names.entry lookup.namespaces rows.items policy → AreFrom joined.now.modules.items rows.items policy
+            → AreWorded names.entry words.items joined.now.modules.items → HaveDeclared names.entry lookup.namespaces lookup.declared.entries policy → IsOnce policy
+            → IsBoundTo p joined.now.modules.items policy) }
+        ensures rows { IfOk result (λ p. p.rows.items ≡ rows.items) }
+    {
         let bound = bind(alloc, &lookup, joined, words.as_slice(), rows.as_slice())?;
         Ok(Policy {
             names,

@@ -1,6 +1,6 @@
 //! The statements of a joined policy by numbers.
 
-ghost use Rattle.std.specs.Prelude.{◌≡◌, ◌<◌, ◌≤◌, ◌+◌, ◌++◌, ◌^◌, ℕ, suc, List, length, take, slice_get, [], IfOk, OnOk, IfSome, Some};
+ghost use Rattle.std.specs.Prelude.{◌≡◌, ◌<◌, ◌≤◌, ◌+◌, ◌++◌, ◌∷◌, ◌^◌, ℕ, suc, List, length, take, slice_get, [], IfOk, OnOk, IfSome, Some};
 ghost use Rattle.cil_specs.specs.Names.{Word};
 ghost use Rattle.cil_specs.specs.Statements.{Statements, is_optional as is_optional_form};
 ghost use Rattle.std.specs.Prelude.{bytes_eq};
@@ -48,18 +48,41 @@ impl<'m, A: Allocator + Copy> Scope<'m, A> {
         ensures from { IfOk result (λ scope. (modules : List Module) → AreSpelt joined.now.modules.items modules → AreFrom joined.now.modules.items scope.rows.items (joined_policy modules)) }
         ensures around { IfOk result (λ scope. (modules : List Module) → AreSpelt joined.now.modules.items modules → AreAround (joined_policy modules) 0 scope.rows.items (joined_policy modules)) }
     {
-        let mut scope = Scope {
+        let mut scope = Scope::of_names(alloc, names, statement_count(joined))?;
+        scope.add_all(joined)?;
+        Ok(scope)
+    }
+
+    /// Words that have numbers already and no statements, with room for so many.
+    fn of_names(alloc: A, names: Names<'m, A>, room: usize) -> Result<Self, AllocError>
+        ensures names { IfOk result (λ scope. scope.names ≡ names.entry) }
+        ensures namespaces { IfOk result (λ scope. scope.namespaces ≡ [] ∷ []) }
+        ensures rows { IfOk result (λ scope. scope.rows.items ≡ []) }
+    {
+        let rows = Vec::with_capacity(alloc, room)?;
+        Ok(Scope {
             names,
             namespaces: Namespaces::new(alloc),
-            rows: Vec::with_capacity(alloc, statement_count(joined))?,
-        };
+            rows,
+        })
+    }
+
+    /// Takes up the statements of the modules of a joined policy, the first ones.
+    fn add_all(&mut self, joined: &Joined<'m, A>) -> Result<(), AllocError>
+        requires spelt { (modules : List Module) × AreSpelt joined.now.modules.items modules }
+        requires first { self.old.rows.items ≡ [] }
+        ensures stands { OnOk result ((modules : List Module) → AreSpelt joined.now.modules.items modules → StandsFor self.old [] → StandsFor self.new (joined_policy modules)) }
+        ensures kept { OnOk result ((more : List (List ℕ)) × (self.new.names ≡ self.old.names ++ more)) }
+        ensures from { OnOk result ((modules : List Module) → AreSpelt joined.now.modules.items modules → AreFrom joined.now.modules.items self.new.rows.items (joined_policy modules)) }
+        ensures around { OnOk result ((modules : List Module) → AreSpelt joined.now.modules.items modules → AreAround (joined_policy modules) 0 self.new.rows.items (joined_policy modules)) }
+    {
         for i in 0..joined.modules.len() {
             if i > 0xFFFF_FFFF {
                 return Err(AllocError);
             }
-            scope.add(i as u32, joined.modules[i].module)?;
+            self.add(i as u32, joined.modules[i].module)?;
         }
-        Ok(scope)
+        Ok(())
     }
 
     /// Takes up the statements of a module.

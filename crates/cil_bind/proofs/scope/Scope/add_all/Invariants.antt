@@ -1,0 +1,13 @@
+use Rattle.std.proofs.Common.{◌≡◌, ◌++◌, List, ℕ, [], take}
+use Rattle.cil_specs.specs.Joined.{Module, joined}
+use Rattle.cil_bind.specs.Scope.{StandsFor, AreSpelt, AreFrom, AreAround}
+use Rattle.cil_bind.proofs.scope.Scope.add_all.Given as goal
+
+-- so many modules came
+abbrev pub invariant-loop-i : goal.invariant-loop-i
+invariant-loop-i g l = record {
+  stands : (modules : List Module) → AreSpelt l.joined.modules.items modules → StandsFor l.fn.self [] → StandsFor l.self (joined (take l.i modules));
+  from : (modules : List Module) → AreSpelt l.joined.modules.items modules → AreFrom l.joined.modules.items l.self.rows.items (joined (take l.i modules));
+  around : (modules : List Module) → AreSpelt l.joined.modules.items modules → AreAround (joined modules) 0 l.self.rows.items (joined (take l.i modules));
+  kept : (more : List (List ℕ)) × (l.self.names ≡ l.fn.self.names ++ more);
+}
