@@ -1,4 +1,4 @@
-//! The command line, where sinks fail after some bytes, and where growths are refused while files are read and compiled.
+//! The command line, where its source or its sinks fail after some bytes, and where growths are refused while files are read and compiled.
 
 use crate::shown::shown;
 use cil_program::command_line::command;
@@ -15,55 +15,74 @@ use std::rt::Files;
 // How the program ended: its status, what it printed, and what it told on standard error.
 type Done<'a> = (u8, &'a str, &'a str);
 
-// Words, how many bytes the sinks take, and what comes of them.
-type Case = (&'static [&'static str], usize, usize, Done<'static>);
+// Words, how many bytes the source gives before it fails, how many the sinks take, and what comes of them.
+type Case = (&'static [&'static str], usize, usize, usize, Done<'static>);
+
+// An install and a question, which begins at the byte 90.
+const SCRIPT: &[u8] =
+    b"install m 400 72\n(class file (read write))(type a)(type b)(allow a b (file (write read)))\nrules\n";
+
+const ANSWER: &str = "ok 2 0\nallow a b:file { read write };\nend 1\n";
 
 const NO_WORDS: &str = "error: 'cilsem' requires a subcommand but one was not provided\n  \
     [subcommands: session, compile, help]\n\n\
     Usage: cilsem <COMMAND>\n\nFor more information, try '--help'.\n";
 
 const CASES: &[Case] = &[
+    (&["cilsem", "session"], 1000, 1000, 0, (0, ANSWER, "")),
+    (&["cilsem", "session"], 92, 1000, 0, (3, "ok 2 0\n", "")),
+    (&["cilsem", "session"], 1000, 9, 0, (3, "ok 2 0\nal", "")),
     (
-        &["cilsem", "compile", "failing_sinks.cil"],
+        &["cilsem", "compile", "failing_devices.cil"],
+        0,
         1000,
         0,
         (0, "allow a a:p { use };\n", ""),
     ),
     (
-        &["cilsem", "compile", "failing_sinks.cil"],
+        &["cilsem", "compile", "failing_devices.cil"],
+        0,
         7,
         1000,
         (3, "allow a", ""),
     ),
     (
-        &["cilsem", "compile", "--violations", "failing_sinks.cil"],
+        &["cilsem", "compile", "--violations", "failing_devices.cil"],
+        0,
         10,
         1000,
         (3, "neverallow", ""),
     ),
     (
-        &["cilsem", "compile", "failing_sinks.cil", "failing_sinks"],
+        &[
+            "cilsem",
+            "compile",
+            "failing_devices.cil",
+            "failing_devices",
+        ],
+        0,
         1000,
         4,
         (3, "", "refu"),
     ),
     (
-        &["cilsem", "compile", "failing_sinks.txt"],
+        &["cilsem", "compile", "failing_devices.txt"],
+        0,
         0,
         5,
         (3, "", "unrea"),
     ),
-    (&["cilsem", "--version"], 6, 1000, (3, "cilsem", "")),
-    (&["cilsem"], 1000, 6, (3, "", "error:")),
-    (&[], 0, 1000, (2, "", NO_WORDS)),
+    (&["cilsem", "--version"], 0, 6, 1000, (3, "cilsem", "")),
+    (&["cilsem"], 0, 1000, 6, (3, "", "error:")),
+    (&[], 0, 0, 1000, (2, "", NO_WORDS)),
 ];
 
 const GOOD: &[u8] = b"(class p (use))(type a)(allow a a (p (use)))(neverallow a a (p (use)))";
 
-// Asserts what the program does with words, where its sinks take so many bytes.
+// Asserts what the program does with words, where its source gives so many bytes and its sinks take so many.
 fn assert_done<R: Files + Abort>(rt: &R, alloc: Global, case: &Case) {
-    let (words, printed, told, want) = *case;
-    let mut source = MemorySource::new(b"");
+    let (words, given, printed, told, want) = *case;
+    let mut source = MemorySource::with_limits(SCRIPT, 7, given);
     let mut out = MemorySink::with_limits(alloc, 3, printed);
     let mut err = MemorySink::with_limits(alloc, 3, told);
     let status = command(rt, alloc, words, &mut source, &mut out, &mut err);
@@ -72,14 +91,14 @@ fn assert_done<R: Files + Abort>(rt: &R, alloc: Global, case: &Case) {
 }
 
 #[test]
-fn sinks_that_fail(rt: HostRuntime) {
-    assert!(rt; fs::write(&rt, "failing_sinks.cil", GOOD).is_ok());
-    assert!(rt; fs::write(&rt, "failing_sinks", b"(type").is_ok());
+fn devices_that_fail(rt: HostRuntime) {
+    assert!(rt; fs::write(&rt, "failing_devices.cil", GOOD).is_ok());
+    assert!(rt; fs::write(&rt, "failing_devices", b"(type").is_ok());
     for case in CASES {
         assert_done(&rt, rt.alloc(), case);
     }
-    assert!(rt; fs::remove_file(&rt, "failing_sinks").is_ok());
-    assert!(rt; fs::remove_file(&rt, "failing_sinks.cil").is_ok());
+    assert!(rt; fs::remove_file(&rt, "failing_devices").is_ok());
+    assert!(rt; fs::remove_file(&rt, "failing_devices.cil").is_ok());
 }
 
 const RULE: &[u8] = b"(allow a a (p (use)))";

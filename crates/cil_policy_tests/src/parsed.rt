@@ -3,6 +3,23 @@
 use crate::shown::shown;
 use cil_parse::{NumberedWord, ParsedModule, SetNode, StatementKind, StatementView, Table, parse};
 use cil_text::{RuleKind, read};
+use std::alloc::Global;
+use std::process::Abort;
+
+// The parsed module of a text.
+fn parsed(rt: &impl Abort, alloc: Global, text: &[u8]) -> ParsedModule {
+    assert!(rt; text.len() <= 16_777_216, "too long a text");
+    parse(alloc, text).expect(rt, "a module")
+}
+
+// The statement of a place.
+fn statement(parsed: &ParsedModule, i: usize) -> Option<StatementView<'_>> {
+    if i < parsed.len() {
+        Some(parsed.statement(i))
+    } else {
+        None
+    }
+}
 
 const TEXT: &[u8] = b"(class f (read))(block b (type t))
 (optional o (allow b.t .b.t (f (read))))(allow b.t self (f (read)))";
@@ -35,17 +52,16 @@ fn shape_seen(view: StatementView<'_>) -> Shape {
 
 #[test]
 fn statements_of_a_parsed_module(rt: HostRuntime) {
-    let parsed = parse(rt.alloc(), TEXT).expect(&rt, "a module");
+    let parsed = parsed(&rt, rt.alloc(), TEXT);
     assert_eq!(rt; parsed.len(), SHAPES.len());
-    for i in 0..parsed.len() {
-        let view = parsed.statement(i);
-        assert_eq!(rt; Some((shape_seen(view), view.kind)), SHAPES.get(i).copied());
+    for (i, (shape, kind)) in SHAPES.iter().enumerate() {
+        let view = statement(&parsed, i).expect(&rt, "a statement");
+        assert_eq!(rt; (shape_seen(view), view.kind), (*shape, *kind));
     }
 }
 
-// The text of the word of a number.
-fn text_seen(parsed: &ParsedModule, word: NumberedWord) -> &str {
-    let n = word.text as usize;
+// The text of a number.
+fn text_of(parsed: &ParsedModule, n: usize) -> &str {
     if n < parsed.text_count() {
         shown(parsed.text(n))
     } else {
@@ -53,12 +69,22 @@ fn text_seen(parsed: &ParsedModule, word: NumberedWord) -> &str {
     }
 }
 
+// The text of a word of a list.
+fn text_at<'p>(parsed: &'p ParsedModule, words: &[NumberedWord], i: usize) -> Option<&'p str> {
+    match words.get(i) {
+        Some(word) => Some(text_of(parsed, word.text as usize)),
+        None => None,
+    }
+}
+
 // A name, and the table that it stands in.
 type Named<'p> = Option<(Table, &'p str)>;
 
 fn named<'p>(parsed: &'p ParsedModule, found: Option<(Table, NumberedWord)>) -> Named<'p> {
-    let (table, word) = found?;
-    Some((table, text_seen(parsed, word)))
+    match found {
+        Some((table, word)) => Some((table, text_of(parsed, word.text as usize))),
+        None => None,
+    }
 }
 
 // A statement by its place, what it declares, its first three references, and its only permission.
@@ -100,38 +126,47 @@ const NAMES: &[Names] = &[
     ),
 ];
 
-// The text of a word of a list.
-fn text_at<'p>(parsed: &'p ParsedModule, words: &[NumberedWord], i: usize) -> Option<&'p str> {
-    Some(text_seen(parsed, *words.get(i)?))
-}
-
 #[test]
 fn names_of_a_parsed_module(rt: HostRuntime) {
-    let parsed = parse(rt.alloc(), TEXT).expect(&rt, "a module");
-    for (i, declared, references, permission) in NAMES {
-        assert!(rt; *i < parsed.len());
-        let view = parsed.statement(*i);
+    let parsed = parsed(&rt, rt.alloc(), TEXT);
+    for (i, declared, (first, second, third), permission) in NAMES {
+        let view = statement(&parsed, *i).expect(&rt, "a statement");
         assert_eq!(rt; named(&parsed, view.declared()), *declared);
-        let (first, second, third) = *references;
-        assert_eq!(rt; named(&parsed, view.reference(0)), first);
-        assert_eq!(rt; named(&parsed, view.reference(1)), second);
-        assert_eq!(rt; named(&parsed, view.reference(2)), third);
+        assert_eq!(rt; named(&parsed, view.reference(0)), *first);
+        assert_eq!(rt; named(&parsed, view.reference(1)), *second);
+        assert_eq!(rt; named(&parsed, view.reference(2)), *third);
         assert_eq!(rt; named(&parsed, view.reference(3)), None);
         assert_eq!(rt; text_at(&parsed, view.permissions(), 0), *permission);
         assert_eq!(rt; text_at(&parsed, view.permissions(), 1), None);
     }
 }
 
+// The numbers of the names between the dots of the text of a number.
+fn components_of(parsed: &ParsedModule, n: usize) -> &[u32] {
+    if n < parsed.text_count() {
+        parsed.components(n)
+    } else {
+        &[]
+    }
+}
+
+// The name of a number.
+fn name_of(parsed: &ParsedModule, n: usize) -> &str {
+    if n < parsed.name_count() {
+        shown(parsed.name(n))
+    } else {
+        "no name"
+    }
+}
+
 // Each text once, and its names by their numbers, in the order of their first use.
 #[test]
 fn numbers_of_the_words_of_a_parsed_module(rt: HostRuntime) {
-    let parsed = parse(rt.alloc(), TEXT).expect(&rt, "a module");
-    assert!(rt; parsed.text_count() == 7);
-    assert_eq!(rt; shown(parsed.text(6)), ".b.t");
-    assert_eq!(rt; parsed.components(5), parsed.components(6));
-    assert_eq!(rt; parsed.components(5), [2, 3].as_slice());
-    assert!(rt; parsed.name_count() == 5);
-    assert_eq!(rt; shown(parsed.name(3)), "t");
+    let parsed = parsed(&rt, rt.alloc(), TEXT);
+    assert_eq!(rt; (parsed.text_count(), text_of(&parsed, 6)), (7, ".b.t"));
+    assert_eq!(rt; components_of(&parsed, 5), [2, 3].as_slice());
+    assert_eq!(rt; components_of(&parsed, 6), [2, 3].as_slice());
+    assert_eq!(rt; (parsed.name_count(), name_of(&parsed, 3)), (5, "t"));
 }
 
 // Nodes stand in front of their operands.
@@ -146,13 +181,19 @@ const NODES: &[SetNode] = &[
     SetNode::Nothing,
 ];
 
+// The parsed module of a text, by its trees.
+fn parsed_from_trees(rt: &impl Abort, alloc: Global, text: &[u8]) -> ParsedModule {
+    assert!(rt; text.len() <= 16_777_216, "too long a text");
+    let forest = read(alloc, text).expect(rt, "trees");
+    ParsedModule::of(alloc, forest).expect(rt, "statements")
+}
+
 #[test]
 fn nodes_of_a_set_expression(rt: HostRuntime) {
     let text = b"(typeattributeset s ((and a (not b)) all))";
-    let forest = read(rt.alloc(), text).expect(&rt, "trees");
-    let parsed = ParsedModule::of(rt.alloc(), forest).expect(&rt, "statements");
-    assert!(rt; parsed.len() == 1);
-    let view = parsed.statement(0);
+    let parsed = parsed_from_trees(&rt, rt.alloc(), text);
+    assert_eq!(rt; parsed.len(), 1);
+    let view = statement(&parsed, 0).expect(&rt, "a statement");
     assert_eq!(rt; view.nodes, NODES);
     for (i, want) in [(0, Some("s")), (1, Some("a")), (2, Some("b")), (3, None)] {
         assert_eq!(rt; text_at(&parsed, view.words, i), want);
@@ -162,17 +203,25 @@ fn nodes_of_a_set_expression(rt: HostRuntime) {
 const LISTS: &[u8] =
     b"(class f (r w))(allow a a (f (r w)))(allow b b (f (w r)))(allow c self (f (r w)))(type t)";
 
+// The number of the permissions that the statement of a place lists.
+fn permission_list(parsed: &ParsedModule, i: usize) -> Option<usize> {
+    if i < parsed.len() {
+        Some(parsed.permission_list(i))
+    } else {
+        None
+    }
+}
+
 // The same permissions in the same order have one number, and others another.
 #[test]
 fn numbers_of_permission_lists(rt: HostRuntime) {
-    let parsed = parse(rt.alloc(), LISTS).expect(&rt, "a module");
-    assert!(rt; parsed.len() == 5);
-    assert!(rt; parsed.permission_list_count() == 3);
-    let first = parsed.permission_list(1);
-    assert_eq!(rt;
-        (parsed.permission_list(0), parsed.permission_list(3)),
-        (first, first)
-    );
-    assert!(rt; first != parsed.permission_list(2));
-    assert!(rt; first != parsed.permission_list(4));
+    let parsed = parsed(&rt, rt.alloc(), LISTS);
+    assert_eq!(rt; (parsed.len(), parsed.permission_list_count()), (5, 3));
+    let first = permission_list(&parsed, 1);
+    assert!(rt; first.is_some());
+    assert_eq!(rt; permission_list(&parsed, 0), first);
+    assert_eq!(rt; permission_list(&parsed, 3), first);
+    for i in [2, 4] {
+        assert!(rt; permission_list(&parsed, i) != first);
+    }
 }

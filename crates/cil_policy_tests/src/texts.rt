@@ -1,9 +1,7 @@
 //! Texts that are read and recognised.
 
 use crate::shown::shown;
-use cil_text::{
-    Expr, Module, RuleKind, Statement, Target, TextFault, Tree, TreeSlice, Word, read, shape,
-};
+use cil_text::{Expr, Module, RuleKind, Statement, Target, Tree, TreeSlice, Word, read, shape};
 use std::alloc::Global;
 use std::process::Abort;
 
@@ -150,9 +148,10 @@ fn said<'a>(statement: &Statement<'a>) -> Said<'a> {
 }
 
 // The statements of a text.
-fn shaped<'a>(rt: &impl Abort, alloc: Global, text: &'a [u8]) -> Result<Module<'a>, TextFault<'a>> {
+fn shaped<'a>(rt: &impl Abort, alloc: Global, text: &'a [u8]) -> Module<'a> {
     assert!(rt; text.len() <= 16_777_216, "too long a text");
-    shape(alloc, read(alloc, text)?)
+    let forest = read(alloc, text).expect(rt, "trees");
+    shape(alloc, forest).expect(rt, "statements")
 }
 
 // A statement of each form.
@@ -277,7 +276,7 @@ const TEXTS: &[(&[u8], &[Said<'static>], Option<(u32, u32, u32)>)] = &[
 #[test]
 fn statements_and_their_names(rt: HostRuntime) {
     for (text, want, at) in TEXTS {
-        let module = shaped(&rt, rt.alloc(), text).expect(&rt, "a module");
+        let module = shaped(&rt, rt.alloc(), text);
         assert_statements(&rt, module.statements.as_slice(), want);
         let first = module.statements.get(0).expect(&rt, "a statement");
         assert_eq!(rt; place(first), *at);
@@ -286,7 +285,7 @@ fn statements_and_their_names(rt: HostRuntime) {
 
 #[test]
 fn statements_within_statements(rt: HostRuntime) {
-    let module = shaped(&rt, rt.alloc(), NESTED_TEXT).expect(&rt, "a module");
+    let module = shaped(&rt, rt.alloc(), NESTED_TEXT);
     let block = module.statements.get(0).expect(&rt, "a block");
     assert_statements(&rt, body(block), OF_BLOCK);
     let optional = body(block).get(0).expect(&rt, "an optional");
@@ -333,7 +332,7 @@ fn told<'a>(expr: Option<&Expr<'a>>) -> Option<(&'static str, Name<'a>)> {
 #[test]
 fn an_expression_with_each_operator(rt: HostRuntime) {
     let text = b"(typeattributeset a (and (or b all) (xor (not c) ((all) d))))";
-    let module = shaped(&rt, rt.alloc(), text).expect(&rt, "a module");
+    let module = shaped(&rt, rt.alloc(), text);
     let Some(Statement::TypeAttributeSet { expr, .. }) = module.statements.get(0) else {
         panic!(rt; "no set statement");
     };
