@@ -40,7 +40,16 @@ fn assert_faulty(rt: &impl Abort, alloc: Global, faulty: &Faulty) {
                 at,
                 word: found,
             },
-        ) => { assert_eq!(rt; (kind.code(), (at.offset, at.line, at.column), word_seen(found)), (*code, *want, *word)) }
+        ) => {
+            assert_eq!(rt;
+                (
+                    kind.code(),
+                    (at.offset, at.line, at.column),
+                    word_seen(found)
+                ),
+                (*code, *want, *word)
+            )
+        }
         _ => panic!(rt; "no fault"),
     }
 }

@@ -168,7 +168,15 @@ pub fn assert_fault(rt: &impl Abort, alloc: Global, m: &[u8], n: &[u8], want: To
                 at,
                 word,
             },
-        ) => assert_eq!(rt; (kind.code(), shown(module), (at.offset, at.line, at.column), shown(word)), want),
+        ) => assert_eq!(rt;
+            (
+                kind.code(),
+                shown(module),
+                (at.offset, at.line, at.column),
+                shown(word)
+            ),
+            want
+        ),
         _ => panic!(rt; "no fault"),
     }
 }
