@@ -1,5 +1,5 @@
 -- The first of the faults of a list, but for those of its inner statements.
-use Rattle.std.proofs.Common.{◌≡◌, ◌≢◌, ℕ, ◌+◌, ◌≤◌, ◌⊎◌, inl, inr, Bool, true, false, not, ◌&&◌, ◌||◌, [], ◌∷◌, refl, sym, ◌∙◌, subst, IsTrue, Contains, arith}
+use Rattle.std.proofs.Common.{◌≡◌, ◌≢◌, ℕ, ◌+◌, ◌≤◌, ◌⊎◌, inl, inr, Bool, true, false, not, ◌&&◌, ◌||◌, [], ◌∷◌, refl, sym, ap, ◌∙◌, subst, IsTrue, Contains, arith}
 use Rattle.std.proofs.lemmas.Bool.{true≢false, and_parts, not-false}
 use Rattle.cil_specs.specs.Place.{Place}
 use Rattle.cil_specs.specs.TextFault.{TextFaultKind, unsupported, misshapen, not_in_optional, code_of, TextFault, IsNoLater}
@@ -11,11 +11,14 @@ use Rattle.cil_specs.proofs.FormSame.{fits_same}
 use Rattle.cil_specs.proofs.ShapeLemmas.{fits_keyword, outside_keyword, inner_of_list}
 use Rattle.cil_specs.proofs.FaultOrder.{at_bracket, word_at, at-offset, word_within, fits_rise, fault_within, no_later-here, front_first}
 use Rattle.cil_text.specs.Keyword.{spelling}
-use Rattle.cil_text.specs.Walk.{IsFirstBad, IsFaultOf, IsFirstOf}
+use Rattle.cil_text.specs.Walk.{IsFirstBad, IsFaultOf, IsFirstOf, IsHeadingFault}
+use Rattle.cil_text.specs.Image.{word_of, FaultIs}
+use Rattle.cil_text.specs.declared.word.Word as code
+use Rattle.cil_text.specs.declared.fault.TextFault as fault_type
 use Rattle.cil_text.specs.declared.statement.RuleKind.TheVariants.{Allow, AuditAllow, DontAudit, NeverAllow}
 use Rattle.cil_text.specs.declared.keyword.Keyword.{Keyword}
 use Rattle.cil_text.specs.declared.keyword.Keyword.TheVariants.{Rule}
-use Rattle.cil_text.proofs.FirstBad.{first_bad_is, first_bad_first}
+use Rattle.cil_text.proofs.FirstBad.{first_bad_is, first_bad_first, found_is}
 
 -- each keyword is one
 pub spelling_is : (keyword : Keyword) → is_among keywords (spelling keyword) ≡ true
@@ -116,3 +119,14 @@ forbidden_by inside outside result test is = and_parts inside outside (not-false
 -- a keyword and its operands, spelt as the word is
 pub fits_word : (first : Word) (operands : Trees) (keyword : Keyword) (form : Form) (inner : Trees) → first.text ≡ spelling keyword → Fits (a_word first.at (spelling keyword) operands) form inner → Fits (put_word first operands) form inner
 fits_word first operands keyword form inner spelt h = subst (λ text. Fits (a_word first.at text operands) form inner) (sym spelt) h
+
+-- the fault of a first word that may not stand there, or of the first word behind it that is not as its place asks
+pub bad_heading_first : (inside : Bool) (at : Place) (parts : Trees) (first : code.Word) (operands : Trees) (keyword : Keyword) (form : Form) (inner : Trees) (fault : fault_type.TextFault)
+    → parts ≡ put_word (word_of first) operands → first.text.now ≡ spelling keyword → Fits (put_word (word_of first) operands) form inner → IsHeadingFault inside keyword first form fault
+    → FaultIs fault (IsFirstOf inside at parts)
+bad_heading_first inside at parts first operands keyword form inner fault begins spelt fits (inl h) =
+    subst (λ fault. FaultIs fault (IsFirstOf inside at parts)) (sym h.2)
+    (outside_first inside at parts (word_of first) operands form inner begins h.0 (ap (is_among outside_optionals) spelt ∙ h.1) fits)
+bad_heading_first inside at parts first operands keyword form inner fault begins spelt fits (inr h) =
+    found_is (IsFirstBad (words_of form)) (IsFirstOf inside at parts) fault
+    (λ f bad. bad_word_first inside at parts (word_of first) operands form inner f begins fits (λ within. ap (is_among outside_optionals) spelt ∙ h.0 within) bad) h.1

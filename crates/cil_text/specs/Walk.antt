@@ -1,5 +1,5 @@
 -- What the walk over trees finds.
-use Rattle.std.specs.Prelude.{◌≡◌, ℕ, ◌⊎◌, Bool, false, ◌||◌, List, [], ◌∷◌, IsTrue, Option, MatchOption, Result, MatchResult}
+use Rattle.std.specs.Prelude.{◌≡◌, ℕ, ◌⊎◌, Bool, true, false, ◌||◌, List, [], ◌∷◌, IsTrue, Option, MatchOption, Result, MatchResult}
 use Rattle.std.specs.List.{AllByRecursion}
 use Rattle.cil_specs.specs.Place.{Place}
 use Rattle.cil_specs.specs.TextFault as spec
@@ -8,9 +8,14 @@ use Rattle.cil_specs.specs.Names.{Word, Role, name_fault}
 use Rattle.cil_specs.specs.Trees.{Trees, none, a_list, in_order}
 use Rattle.cil_specs.specs.Statements as spec_statements
 use Rattle.cil_specs.specs.Statements.{Form, words_of, is_optional, Statements}
-use Rattle.cil_specs.specs.Shape.{Fits, IsAllowed, Shapes, IsAtWord, IsGoodWord, IsListFault, IsInnerFault, IsShapeFault}
+use Rattle.cil_specs.specs.Shape.{is_among, outside_optionals, Fits, IsAllowed, Shapes, IsAtWord, IsGoodWord, IsListFault, IsInnerFault, IsShapeFault}
 use Rattle.cil_text.specs.Image.{place_of, kind_of, shown, trees_of, statement_then}
 use Rattle.cil_text.specs.Form.{form_of, at_of}
+use Rattle.cil_text.specs.Keyword.{spelling}
+use Rattle.cil_text.specs.declared.keyword.Keyword.{Keyword}
+use Rattle.cil_text.specs.declared.word.Word as code
+use Rattle.cil_text.specs.declared.fault.TextFaultKind.TheVariants.{NotInOptional}
+use Rattle.cil_text.specs.declared.fault.ShownWord.TheVariants.{Text}
 use Rattle.cil_text.specs.declared.fault.TextFault.{TextFault}
 use Rattle.cil_text.specs.declared.fault.TextFault.TheVariants.{Memory, Found}
 use Rattle.cil_text.specs.declared.statement.Statement.{Statement}
@@ -33,6 +38,12 @@ IsFoundAs P (Found kind at word) = P (record { kind = kind_of kind; at = place_o
 -- the words are good, or the error is the fault of the first that is not
 abbrev pub Checks : {T : Type 0} → List (Role × Word) → Result T TextFault → Type 0
 Checks words result = MatchResult result (λ _. AreGood words) (IsFoundAs (IsFirstBad words))
+
+-- the first word may not stand there; or it may, and this is the fault of the first word that is not as its place asks
+abbrev pub IsHeadingFault : Bool → Keyword → code.Word → Form → TextFault → Type 0
+IsHeadingFault inside keyword first form fault =
+    ((inside ≡ true) × (is_among outside_optionals (spelling keyword) ≡ true) × (fault ≡ Found NotInOptional first.at (Text first.text)))
+    ⊎ ((IsTrue inside → is_among outside_optionals (spelling keyword) ≡ false) × IsFoundAs (IsFirstBad (words_of form)) fault)
 
 -- A list of the parts fits the form of the statement, which may stand there, and the words that are its own are good. Its inner
 -- statements are left.

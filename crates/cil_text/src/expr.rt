@@ -145,6 +145,28 @@ fn operation<'a, A: Allocator + Copy>(
     }
 }
 
+/// An expression in a box.
+fn boxed<'a, A: Allocator + Copy>(
+    alloc: A,
+    expr: Expr<'a, A>,
+) -> Result<Box<Expr<'a, A>, A>, AllocError>
+    ensures { IfOk result (λ made. made.value ≡ expr.entry) }
+{
+    Ok(Box::new(alloc, expr)?)
+}
+
+/// Two expressions, each in a box.
+fn boxed_pair<'a, A: Allocator + Copy>(
+    alloc: A,
+    x: Expr<'a, A>,
+    y: Expr<'a, A>,
+) -> Result<(Box<Expr<'a, A>, A>, Box<Expr<'a, A>, A>), AllocError>
+    ensures { IfOk result (λ made. (made.0.value ≡ x.entry) × (made.1.value ≡ y.entry)) }
+{
+    let x = boxed(alloc, x)?;
+    Ok((x, boxed(alloc, y)?))
+}
+
 #[cycle(expression)]
 fn one_operand<'a, A: Allocator + Copy>(
     alloc: A,
@@ -156,7 +178,7 @@ fn one_operand<'a, A: Allocator + Copy>(
         return Ok(None);
     };
     match expression(alloc, x)? {
-        Some(x) => Ok(Some(Box::new(alloc, x)?)),
+        Some(x) => Ok(Some(boxed(alloc, x)?)),
         None => Ok(None),
     }
 }
@@ -180,5 +202,5 @@ fn two_operands<'a, A: Allocator + Copy>(
     let Some(y) = expression(alloc, y)? else {
         return Ok(None);
     };
-    Ok(Some((Box::new(alloc, x)?, Box::new(alloc, y)?)))
+    Ok(Some(boxed_pair(alloc, x, y)?))
 }

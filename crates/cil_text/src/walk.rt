@@ -1,14 +1,14 @@
 //! Recognising the statements that trees spell.
 
-ghost use Rattle.std.specs.Prelude.{◌≡◌, ◌&&◌, ◌||◌, false, not, IfOk, IfErr, IsTrue};
+ghost use Rattle.std.specs.Prelude.{◌≡◌, ◌&&◌, ◌||◌, false, not, IfOk, IfErr, OnOk, IsTrue};
 ghost use Rattle.cil_specs.specs.Trees.{are_lists};
-ghost use Rattle.cil_specs.specs.Statements.{is_optional};
+ghost use Rattle.cil_specs.specs.Statements.{is_optional, words_of};
 ghost use Rattle.cil_specs.specs.Shape.{is_among, outside_optionals, Shapes, IsFirstShapeFault};
 ghost use Rattle.cil_text.specs.Image.{place_of, trees_of, statements_of, FaultIs};
 ghost use Rattle.cil_text.specs.Forest.{forest_of};
 ghost use Rattle.cil_text.specs.Keyword.{spelling};
 ghost use Rattle.cil_text.specs.Form.{form_of, has_body, inner_of, HasBody};
-ghost use Rattle.cil_text.specs.Walk.{IsHeading, IsStatement, IsNext, IsFirstOf, IsFirstAmong};
+ghost use Rattle.cil_text.specs.Walk.{AreGood, IsHeading, IsHeadingFault, IsStatement, IsNext, IsFirstOf, IsFirstAmong};
 
 use crate::check::{check_statement, fault_at};
 use crate::fault::{ShownWord, TextFault, TextFaultKind};
@@ -20,6 +20,7 @@ use crate::place::Place;
 use crate::split::split_word;
 use crate::statement::Statement;
 use crate::tree::{Tree, TreeSlice};
+use crate::word::Word;
 use std::alloc::Allocator;
 
 fn holds_others<A: Allocator>(statement: &Statement<A>) -> bool
@@ -83,6 +84,25 @@ fn may_stand(inside: bool, keyword: Keyword) -> bool
     !(inside && keyword.stands_outside_optionals())
 }
 
+/// Finds whether a statement with this first word may not stand there, and then what is wrong with its words, but for those of the
+/// statements inside it.
+fn check_heading<'a, A: Allocator>(
+    inside: bool,
+    keyword: Keyword,
+    first: Word<'a>,
+    statement: &Statement<'a, A>,
+) -> Result<(), TextFault<'a>>
+    ensures allowed { OnOk result (IsTrue inside → is_among outside_optionals (spelling keyword) ≡ false) }
+    ensures good { OnOk result (AreGood (words_of (form_of statement.now))) }
+    ensures err { IfErr result (IsHeadingFault inside keyword first.entry (form_of statement.now)) }
+{
+    if !may_stand(inside, keyword) {
+        return Err(fault_at(TextFaultKind::NotInOptional, first));
+    }
+    check_statement(statement)?;
+    Ok(())
+}
+
 /// A statement with no statements inside it yet, and the trees of these.
 fn heading<'t, 'a, A: Allocator + Copy>(
     alloc: A,
@@ -108,10 +128,7 @@ fn heading<'t, 'a, A: Allocator + Copy>(
     let Some(statement) = fit(alloc, at, keyword, operands)? else {
         return Err(fault_at(TextFaultKind::Misshapen, first));
     };
-    if !may_stand(inside, keyword) {
-        return Err(fault_at(TextFaultKind::NotInOptional, first));
-    }
-    check_statement(&statement)?;
+    check_heading(inside, keyword, first, &statement)?;
     let inner = inner_trees(&statement, operands);
     Ok((statement, inner))
 }

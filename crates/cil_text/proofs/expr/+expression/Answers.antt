@@ -1,4 +1,4 @@
-use Rattle.std.proofs.Common.{◌≡◌, ◌∙◌, ◌+◌, ap, sym, subst, refl, inl, rules, arith, codes}
+use Rattle.std.proofs.Common.{◌≡◌, ◌∙◌, ◌+◌, [], ◌∷◌, ◌++◌, ap, sym, subst, refl, inl, rules, arith, codes}
 use Rattle.std.proofs.lemmas.Result.{IfOk-weaker}
 use Rattle.std.proofs.lemmas.Slice.Eq.{bytes_eq-Decides}
 use Rattle.cil_specs.specs.Trees.{none, a_word, a_list}
@@ -33,7 +33,7 @@ elements-loop-tree-preserved g t c =
     let tree = c.in-Some.tree in
     let rest = trees_of c.in-Some.behind in
     record {
-      found = subst (HasFound trees rest) (sym c.in_ok-push-in-Some-2.ensures.items)
+      found = subst (HasFound trees rest) {x = c.loop-tree.elements.items ++ c.in-Some-2.element ∷ []} (sym c.in_ok-push-in-Some-2.ensures.items)
           (found_next trees rest c.loop-tree.elements.items tree c.in-Some-2.element (subst (λ rest. HasFound trees rest c.loop-tree.elements.items) c.in-Some.ensures c.loop-tree.invariant.found)
           (subst (SpellsExpr (tree_then tree)) c.in-Some-2.is c.in_ok-element.ensures));
       smaller = omega (arith, c.loop-tree.invariant.smaller, size_behind (trees_of c.loop-tree.rest) tree rest c.in-Some.ensures);
@@ -87,11 +87,11 @@ list_expression-returns-in-None g t c at end e rest after h =
 pub one_operand-returns-in_default : goal.one_operand-returns-in_default
 one_operand-returns-in_default g t c e h = true≢false (sym (one_tree (trees_of c.args.operands) e h) ∙ c.in_default.ensures)
 
-pub one_operand-returns-in_ok-new-in-Some-2 : goal.one_operand-returns-in_ok-new-in-Some-2
-one_operand-returns-in_ok-new-in-Some-2 g t c =
+pub one_operand-returns-in_ok-boxed-in-Some-2 : goal.one_operand-returns-in_ok-boxed-in-Some-2
+one_operand-returns-in_ok-boxed-in-Some-2 g t c =
     let tree = c.in-Some.x in
     let spelt = subst (SpellsExpr (tree_then tree)) c.in-Some-2.is c.in_ok-x.ensures in
-    subst (λ x. Expresses (trees_of c.args.operands) (expr_of x) none) (sym c.in_ok-new-in-Some-2.ensures.ok)
+    subst (λ x. Expresses (trees_of c.args.operands) (expr_of x) none) (sym c.in_ok-boxed-in-Some-2.ensures)
     (subst (λ trees. Expresses trees (expr_of c.in-Some-2.x) none) (sym c.in-Some.ensures) (spelt none))
 
 pub operation-returns-in-All : goal.operation-returns-in-All
