@@ -1,6 +1,6 @@
 //! The first fault of a policy whose references are bound, but for names that are declared twice.
 
-ghost use Rattle.std.specs.Prelude.{◌≡◌, ◌≢◌, List, Some, None, slice_get, take, filter, IfOk, IfErr, OnOk};
+ghost use Rattle.std.specs.Prelude.{◌≡◌, ◌≢◌, ◌<◌, ◌^◌, [], List, length, Some, None, slice_get, take, filter, IfOk, IfErr, OnOk};
 ghost use Rattle.cil_specs.specs.Names.{Word};
 ghost use Rattle.cil_specs.specs.Expr.{WordExpr, leaves};
 ghost use Rattle.cil_specs.specs.Statements.{attribute_set};
@@ -17,6 +17,9 @@ ghost use Rattle.cil_check.specs.Associations.{HasFirsts};
 ghost use Rattle.cil_check.specs.Image.{policy_kind_of, IsFoundFault, PolicyFaultIs};
 ghost use Rattle.cil_bind.specs.Ordered.{IsLeast};
 ghost use Rattle.cil_check.specs.Ordered.{IsFaultIn, IsFaultless, HasNoneBelow};
+ghost use Rattle.cil_check.specs.Inherited.{HasInherited};
+ghost use Rattle.cil_check.specs.Permissions.{HaveListed, HaveWords};
+ghost use Rattle.cil_check.specs.declared.firsts.Association.TheVariants.{Actual, Common};
 ghost use Rattle.cil_check.specs.declared.fault.PolicyFault.TheVariants.{Memory};
 ghost use Rattle.cil_check.specs.declared.fault.PolicyFaultKind.TheVariants.{Twice, Circular};
 ghost use Rattle.cil_check.specs.Kinds.{test_of, word_if, again_words};
@@ -25,7 +28,7 @@ use crate::bound::{BoundPolicy, Seen};
 use crate::fault::{PolicyFault, PolicyFaultKind};
 use crate::firsts::{Association, Firsts};
 use crate::groups::Groups;
-use crate::inherited::given_commons;
+use crate::inherited::add_commons;
 use crate::kinds::Kind;
 use crate::permissions::Permissions;
 use crate::witnesses::Witnesses;
@@ -61,22 +64,53 @@ impl<'p, 'm, A: Allocator + Copy> Checker<'p, 'm, A> {
         ensures noted { IfOk result (λ checker. (policy : List Placed) → IsOf bound.entry policy → IsNoted checker policy) }
         ensures bound { IfOk result (λ checker. checker.bound ≡ bound.entry) }
     {
-        if bound.len() > 0xFFFF_FFFF {
-            return Err(AllocError);
-        }
-        let actuals = Firsts::of(alloc, &bound, Association::Actual)?;
-        let commons = Firsts::of(alloc, &bound, Association::Common)?;
+        let mut checker = Checker::listed(alloc, bound)?;
+        checker.fill(alloc)?;
+        Ok(checker)
+    }
+
+    /// A bound policy with the permissions that its classes and commons list, and nothing else yet.
+    fn listed(alloc: A, bound: BoundPolicy<'p, 'm, A>) -> Result<Self, AllocError>
+        requires { (policy : List Placed) × IsOf bound policy }
+        ensures bound { IfOk result (λ checker. checker.bound ≡ bound.entry) }
+        ensures actuals { IfOk result (λ checker. checker.actuals ≡ []) }
+        ensures commons { IfOk result (λ checker. checker.commons ≡ []) }
+        ensures inherited { IfOk result (λ checker. checker.inherited ≡ ([], [])) }
+        ensures listed { IfOk result (λ checker. (policy : List Placed) → IsOf bound.entry policy → HaveListed bound.entry.policy.now.names policy checker.permissions.listed.keys) }
+        ensures words { IfOk result (λ checker. (policy : List Placed) → IsOf bound.entry policy → HaveWords bound.entry.policy.now.names policy checker.permissions.words.0) }
+    {
         let permissions = Permissions::of(alloc, &bound)?;
-        let inherited = given_commons(alloc, &bound)?;
-        let witnesses = Witnesses::of(alloc, &bound, &permissions, &inherited)?;
         Ok(Checker {
             bound,
-            actuals,
-            commons,
+            actuals: Firsts::new(alloc),
+            commons: Firsts::new(alloc),
             permissions,
-            inherited,
-            witnesses,
+            inherited: Groups::new(alloc),
+            witnesses: Witnesses::new(alloc),
         })
+    }
+
+    /// Notes what statements give to aliases and classes, and where permissions are to be looked for first.
+    fn fill(&mut self, alloc: A) -> Result<(), AllocError>
+        requires is { (policy : List Placed) × IsOf self.old.bound policy }
+        requires actuals { self.old.actuals ≡ [] }
+        requires commons { self.old.commons ≡ [] }
+        requires inherited { self.old.inherited ≡ ([], []) }
+        ensures bound { OnOk result (self.new.bound ≡ self.old.bound) }
+        ensures permissions { OnOk result (self.new.permissions ≡ self.old.permissions) }
+        ensures actuals { OnOk result ((policy : List Placed) → IsOf self.old.bound policy → HasFirsts Actual policy self.new.actuals) }
+        ensures commons { OnOk result ((policy : List Placed) → IsOf self.old.bound policy → HasFirsts Common policy self.new.commons) }
+        ensures inherited { OnOk result ((policy : List Placed) → IsOf self.old.bound policy → HasInherited policy self.new.inherited) }
+        ensures few { OnOk result ((policy : List Placed) → IsOf self.old.bound policy → length policy < 2 ^ 32) }
+    {
+        if self.bound.len() > 0xFFFF_FFFF {
+            return Err(AllocError);
+        }
+        self.actuals.fill(&self.bound, Association::Actual)?;
+        self.commons.fill(&self.bound, Association::Common)?;
+        add_commons(&mut self.inherited, alloc, &self.bound)?;
+        self.witnesses = Witnesses::of(alloc, &self.bound, &self.permissions, &self.inherited)?;
+        Ok(())
     }
 }
 

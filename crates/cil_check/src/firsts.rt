@@ -1,6 +1,6 @@
 //! Which statement is the first that gives something to a declaration.
 
-ghost use Rattle.std.specs.Prelude.{◌<◌, length, slice_get, ◌≡◌, List, is_some, IfOk, OnOk, OnErr};
+ghost use Rattle.std.specs.Prelude.{◌<◌, [], length, slice_get, ◌≡◌, List, is_some, IfOk, OnOk, OnErr};
 ghost use Rattle.cil_specs.specs.Joined.{Placed};
 ghost use Rattle.cil_bind.specs.Lookup.{IsLead};
 ghost use Rattle.cil_check.specs.Bound.{IsOf, IsSeen};
@@ -70,6 +70,15 @@ impl Association {
 }
 
 impl<A: Allocator + Copy> Firsts<A> {
+    /// No statement.
+    pub(crate) fn new(alloc: A) -> Self
+        ensures { result ≡ [] }
+    {
+        Firsts {
+            places: IndexMap::new(alloc),
+        }
+    }
+
     /// The first statements of a policy that give this. A policy of more than 4294967295 statements is answered as out of memory.
     pub fn of(
         alloc: A,
@@ -79,9 +88,22 @@ impl<A: Allocator + Copy> Firsts<A> {
         requires { (policy : List Placed) × IsOf bound.now policy }
         ensures { IfOk result (λ firsts. (policy : List Placed) → IsOf bound.now policy → HasFirsts association policy firsts) }
     {
-        let mut firsts = Firsts {
-            places: IndexMap::new(alloc),
-        };
+        let mut firsts = Firsts::new(alloc);
+        firsts.fill(bound, association)?;
+        Ok(firsts)
+    }
+
+    /// Takes up the first statements of a policy that give this, where none is taken up yet. A policy of more than 4294967295 statements
+    /// is answered as out of memory.
+    pub(crate) fn fill(
+        &mut self,
+        bound: &BoundPolicy<'_, '_, A>,
+        association: Association,
+    ) -> Result<(), AllocError>
+        requires is { (policy : List Placed) × IsOf bound.now policy }
+        requires empty { self.old ≡ [] }
+        ensures { OnOk result ((policy : List Placed) → IsOf bound.now policy → HasFirsts association policy self.new) }
+    {
         let count = bound.len();
         if count > 0xFFFF_FFFF {
             return Err(AllocError);
@@ -90,9 +112,9 @@ impl<A: Allocator + Copy> Firsts<A> {
             let Some(to) = association.lead_at(bound, i) else {
                 continue;
             };
-            firsts.insert(to, i as u32)?;
+            self.insert(to, i as u32)?;
         }
-        Ok(firsts)
+        Ok(())
     }
 
     /// Takes up a statement, if none came before.

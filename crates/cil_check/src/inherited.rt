@@ -1,6 +1,6 @@
 //! The commons that statements give to classes.
 
-ghost use Rattle.std.specs.Prelude.{List, IfOk};
+ghost use Rattle.std.specs.Prelude.{◌≡◌, [], List, OnOk};
 ghost use Rattle.cil_specs.specs.Joined.{Placed};
 ghost use Rattle.cil_check.specs.Bound.{IsOf};
 ghost use Rattle.cil_check.specs.Inherited.{HasInherited};
@@ -10,15 +10,16 @@ use crate::firsts::Association;
 use crate::groups::Groups;
 use std::alloc::{AllocError, Allocator};
 
-/// For classes, by the places of their statements, the places of all commons that the statements of a policy give them.
-pub fn given_commons<A: Allocator + Copy>(
+/// Takes up, for classes by the places of their statements, the places of all commons that the statements of a policy give them.
+pub fn add_commons<A: Allocator + Copy>(
+    inherited: &mut Groups<A>,
     alloc: A,
     bound: &BoundPolicy<'_, '_, A>,
-) -> Result<Groups<A>, AllocError>
-    requires { (policy : List Placed) × IsOf bound.now policy }
-    ensures { IfOk result (λ inherited. (policy : List Placed) → IsOf bound.now policy → HasInherited policy inherited) }
+) -> Result<(), AllocError>
+    requires is { (policy : List Placed) × IsOf bound.now policy }
+    requires empty { inherited.old ≡ ([], []) }
+    ensures { OnOk result ((policy : List Placed) → IsOf bound.now policy → HasInherited policy inherited.new) }
 {
-    let mut inherited = Groups::new(alloc);
     for i in 0..bound.len() {
         let Some(class) = Association::Common.lead_at(bound, i) else {
             continue;
@@ -29,5 +30,5 @@ pub fn given_commons<A: Allocator + Copy>(
         };
         inherited.insert(alloc, class, common)?;
     }
-    Ok(inherited)
+    Ok(())
 }

@@ -105,6 +105,13 @@ impl<'c, A: Allocator> Search<'c, A> {
 }
 
 impl<A: Allocator + Copy> Witnesses<A> {
+    /// No witness.
+    pub(crate) fn new(alloc: A) -> Self {
+        Witnesses {
+            found: IndexMap::new(alloc),
+        }
+    }
+
     /// The witnesses for all permissions that the rules of a policy name.
     pub fn of(
         alloc: A,

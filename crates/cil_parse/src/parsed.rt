@@ -7,7 +7,7 @@ ghost use Rattle.cil_specs.specs.Shape.{IsFirstShapeFault};
 ghost use Rattle.cil_specs.specs.Statements.{Statements};
 ghost use Rattle.cil_text.specs.Image.{FaultIs};
 ghost use Rattle.cil_text.specs.Forest.{forest_of};
-ghost use Rattle.cil_parse.specs.Lexicon.{AreNumbersOf, AreSplit};
+ghost use Rattle.cil_parse.specs.Lexicon.{texts_in, names_in, AreNumbersOf, AreSplit};
 ghost use Rattle.cil_parse.specs.Flat.{FlatStatement, flat, count};
 ghost use Rattle.cil_parse.specs.Forms.{kind_of, permissions_in};
 ghost use Rattle.cil_parse.specs.PermissionLists.{AreListed};
@@ -59,23 +59,56 @@ impl<A: Allocator + Copy> ParsedModule<A> {
         requires { IsWhole builder }
         ensures { IfOk result (IsOwned builder.entry) }
     {
+        let copies = Copies::of(alloc, &builder)?;
+        Ok(ParsedModule::with_copies(builder, copies))
+    }
+
+    /// What a builder went over, with the words that are copied of it.
+    fn with_copies(builder: Builder<'_, A>, copies: Copies<A>) -> Self
+        requires whole { IsWhole builder }
+        requires texts { copies.texts.0 ≡ texts_in builder.lexicon }
+        requires names { copies.names.0 ≡ names_in builder.lexicon }
+        requires listed { AreListed copies.permission_lists builder.rows.items builder.words.0 }
+        ensures { IsOwned builder.entry result }
+    {
         let Builder {
             lexicon,
             words,
             nodes,
             rows,
         } = builder;
-        let texts = copies(alloc, lexicon.texts.as_slice())?;
-        let names = copies(alloc, lexicon.names.as_slice())?;
-        let permission_lists = PermissionLists::of(alloc, &rows, &words)?;
-        Ok(ParsedModule {
-            texts,
-            names,
+        ParsedModule {
+            texts: copies.texts,
+            names: copies.names,
             components: lexicon.components,
             words,
             nodes,
             rows,
-            permission_lists,
+            permission_lists: copies.permission_lists,
+        }
+    }
+}
+
+/// The texts and the names of a builder, which it borrows from the text, copied; and the distinct lists of permissions of its statements.
+#[derive(Drop)]
+struct Copies<A: Allocator = Global> {
+    texts: Lists<u8, A>,
+    names: Lists<u8, A>,
+    permission_lists: PermissionLists<A>,
+}
+
+impl<A: Allocator + Copy> Copies<A> {
+    /// Those of a builder.
+    fn of(alloc: A, builder: &Builder<'_, A>) -> Result<Self, AllocError>
+        requires { length builder.now.words.0 ≡ length builder.now.rows.items }
+        ensures texts { IfOk result (λ copies. copies.texts.0 ≡ texts_in builder.now.lexicon) }
+        ensures names { IfOk result (λ copies. copies.names.0 ≡ names_in builder.now.lexicon) }
+        ensures listed { IfOk result (λ copies. AreListed copies.permission_lists builder.now.rows.items builder.now.words.0) }
+    {
+        Ok(Copies {
+            texts: copies(alloc, builder.lexicon.texts.as_slice())?,
+            names: copies(alloc, builder.lexicon.names.as_slice())?,
+            permission_lists: PermissionLists::of(alloc, &builder.rows, &builder.words)?,
         })
     }
 }

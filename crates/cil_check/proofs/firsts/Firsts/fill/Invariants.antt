@@ -2,8 +2,8 @@ use Rattle.std.proofs.Common.{List, take}
 use Rattle.cil_specs.specs.Joined.{Placed}
 use Rattle.cil_check.specs.Bound.{IsOf}
 use Rattle.cil_check.specs.Associations.{HasFirstsOf}
-use Rattle.cil_check.proofs.firsts.Firsts.of.Given as goal
+use Rattle.cil_check.proofs.firsts.Firsts.fill.Given as goal
 
 -- the first statements among those gone over are noted
 abbrev pub invariant-loop-i : goal.invariant-loop-i
-invariant-loop-i g l = (policy : List Placed) → IsOf l.bound policy → HasFirstsOf l.association policy (take l.i policy) l.firsts
+invariant-loop-i g l = (policy : List Placed) → IsOf l.bound policy → HasFirstsOf l.association policy (take l.i policy) l.self

@@ -7,12 +7,12 @@ use Rattle.cil_check.specs.Inherited.{common_lead, HasInheritedOf}
 use Rattle.cil_check.specs.declared.firsts.Association.TheVariants.{Common}
 use Rattle.cil_check.proofs.SeenLemmas.{there-at}
 use Rattle.cil_check.proofs.InheritedLemmas.{common-led, inherited-first, inherited-next, no-class-stay, no-common-stay}
-use Rattle.cil_check.proofs.inherited.given_commons.Goals as goal
+use Rattle.cil_check.proofs.inherited.add_commons.Goals as goal
 
 pub loop-i-init : goal.loop-i-init
 loop-i-init g c = record {
-  same = ap (λ v. length v.0) c.new-inherited.ensures ∙ sym (ap (λ v. length v.1) c.new-inherited.ensures);
-  noted = λ policy is. inherited-first policy c.new-inherited.result (ap (λ v. v.0) c.new-inherited.ensures);
+  same = ap (λ v. length v.0) c.requires.empty ∙ sym (ap (λ v. length v.1) c.requires.empty);
+  noted = λ policy is. inherited-first policy c.args.inherited.now (ap (λ v. v.0) c.requires.empty);
 }
 
 pub loop-i-preserved-in_default : goal.loop-i-preserved-in_default
