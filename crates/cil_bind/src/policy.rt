@@ -4,7 +4,7 @@ ghost use Rattle.std.specs.Prelude.{◌≡◌, ◌<◌, ◌^◌, ℕ, IfOk, OnOk
 ghost use Rattle.std.specs.List.{IsDistinct, list_all};
 ghost use Rattle.cil_specs.specs.Joined.{Placed, Module, joined as joined_policy};
 ghost use Rattle.cil_bind.specs.Binding.{places_from};
-ghost use Rattle.cil_bind.specs.Scope.{AreSpelt, AreFrom, AreAround, Stands, StandsFor};
+ghost use Rattle.cil_bind.specs.Scope.{AreSpelt, AreFrom, AreAround, StandsFor};
 ghost use Rattle.cil_bind.specs.Lookup.{HaveDeclared};
 ghost use Rattle.cil_bind.specs.Rows.{DeclareThat, IsOnce};
 ghost use Rattle.cil_bind.specs.Policy.{Makes, IsBoundTo, AreMarked, TellsAround};
@@ -217,26 +217,6 @@ impl<'m, A: Allocator + Copy> Policy<'m, A> {
             namespaces,
             declared: declarations.first,
         };
-        Policy::of_lookup(alloc, joined, lookup, names, words, rows)
-    }
-
-    /// The policy of rows whose names are looked up among the first declarations.
-    fn of_lookup(
-        alloc: A,
-        joined: &Joined<'m, A>,
-        lookup: Lookup<A>,
-        names: Names<'m, A>,
-        words: Vec<Vec<u32, A>, A>,
-        rows: Vec<Row, A>,
-    ) -> Result<Self, AllocError>
-        requires worded { (names : List (List ℕ)) × AreWorded names words.items joined.now.modules.items }
-        requires from { (policy : List Placed) × AreFrom joined.now.modules.items rows.items policy }
-        requires few { length rows.items < 2 ^ 32 }
-        ensures made { IfOk result (λ p. (policy : List Placed) → Stands names.entry lookup.namespaces rows.items policy → AreFrom joined.now.modules.items rows.items policy
-            → AreWorded names.entry words.items joined.now.modules.items → HaveDeclared names.entry lookup.namespaces lookup.declared.entries policy → IsOnce policy
-            → IsBoundTo p joined.now.modules.items policy) }
-        ensures rows { IfOk result (λ p. p.rows.items ≡ rows.items) }
-    {
         let bound = bind(alloc, &lookup, joined, words.as_slice(), rows.as_slice())?;
         Ok(Policy {
             names,
