@@ -1,7 +1,7 @@
 -- Sources that give bytes and sinks that take them, by what they tell.
-use Rattle.std.specs.Prelude.{◌≡◌, ℕ, ◌+◌, ◌-◌, ◌<◌, ◌≤◌, ◌^◌, ◌⊎◌, Bool, true, false, nat_le, ◌==◌, ◌&&◌, List, ◌++◌, length, take, drop, min, max, Option, None, Some, IsTrue, if◌then◌else◌}
+use Rattle.std.specs.Prelude.{◌≡◌, ℕ, ◌+◌, ◌-◌, ◌<◌, ◌≤◌, ◌^◌, ◌⊎◌, Bool, true, false, nat_le, ◌==◌, ◌&&◌, List, [], ◌++◌, length, take, drop, min, max, Option, None, Some, IsTrue, if◌then◌else◌}
 use Rattle.std.specs.Option.{option_map}
-use Rattle.std.proofs.Common.{refl, sym, ap, ◌∙◌, true≢false}
+use Rattle.std.proofs.Common.{refl, sym, ap, ◌∙◌, true≢false, append-nil}
 use Rattle.std.proofs.lemmas.List.{take-append-drop, take_all}
 use Rattle.std.proofs.lemmas.Bool.{leb-true}
 
@@ -108,3 +108,53 @@ pub record Tray : Type 0 where
 pub record HasTaken (old new : Tray) (piece : List ℕ) (n : ℕ) : Type 0 where
   pub amount : n ≡ min (min (length piece) old.greatest) (old.limit - length old.bytes)
   pub tray : new ≡ record old { bytes = old.bytes ++ take n piece }
+
+-- What is known now, of what was known at first.
+abbrev pub told : Option (List ℕ) → Option (List ℕ) → Option (List ℕ)
+told None now = None
+told (Some first) now = now
+
+-- A source over a reader: what the reader had to give at first, where it knew it; how many bytes the source gave, how often it told
+-- its end, and how often it failed.
+pub record Feed : Type 0 where
+  pub whole : Option (List ℕ)
+  pub count : ℕ
+  pub ends : ℕ
+  pub failures : ℕ
+
+-- Once it told its end, its whole text is what it gave; that this is all that the reader had is a fact of each source (`IsFed`).
+abbrev pub account_of_feed : Feed → Account
+account_of_feed f = record {
+  whole = option_map (λ text. if nat_le 1 f.ends then take f.count text else text) f.whole;
+  given = option_map (take f.count) f.whole;
+  count = f.count;
+  ends = f.ends;
+  failures = f.failures;
+}
+
+-- The reader has left of its whole text what was not given, and nothing once the end was told.
+pub record IsFed (whole left : Option (List ℕ)) (count ends : ℕ) : Type 0 where
+  pub rest : (text : List ℕ) → whole ≡ Some text → left ≡ Some (drop count text)
+  pub within : (text : List ℕ) → whole ≡ Some text → count ≤ length text
+  pub all : 0 < ends → (text : List ℕ) → whole ≡ Some text → length text ≤ count
+
+pub feed-sound : (f : Feed) → IsSound (account_of_feed f)
+feed-sound f = record { front = front f.whole (nat_le 1 f.ends); all = all f.whole (nat_le 1 f.ends) }
+  where
+    front : (known : Option (List ℕ)) (b : Bool) (whole given : List ℕ) → option_map (λ text. if b then take f.count text else text) known ≡ Some whole → option_map (take f.count) known ≡ Some given
+        → (rest : List ℕ) × (whole ≡ given ++ rest)
+    front None b whole given w g = absurd (cc)
+    front (Some text) true whole given w g = let e = append-nil (take f.count text) in ([], cc)
+    front (Some text) false whole given w g = let e = take-append-drop f.count text in (drop f.count text, cc)
+
+    all : (known : Option (List ℕ)) (b : Bool) → b ≡ true → (whole : List ℕ) → option_map (λ text. if b then take f.count text else text) known ≡ Some whole → option_map (take f.count) known ≡ Some whole
+    all None b ended whole w = w
+    all (Some text) true ended whole w = w
+    all (Some text) false ended whole w = absurd (true≢false (sym ended))
+
+-- A sink over a writer: what the writer holds and what it held when it was flushed last, where it knew what it held at first; and how
+-- often it failed.
+pub record Outflow : Type 0 where
+  pub taken : Option (List ℕ)
+  pub flushed : Option (List ℕ)
+  pub failures : ℕ

@@ -3,6 +3,7 @@
 
 mod memory_sink;
 mod memory_source;
+mod retrying;
 mod sink;
 mod source;
 

@@ -1,9 +1,12 @@
 //! Sinks, which take bytes.
 
-ghost use Rattle.std.specs.Prelude.{◌≡◌, ◌<◌, ◌≤◌, ℕ, List, Option, None, take, length, flat_map, OnOk, OnErr, IfOk};
+ghost use Rattle.std.specs.Prelude.{◌≡◌, ◌+◌, ◌-◌, ◌^◌, ◌<◌, ◌≤◌, ℕ, List, Option, min, take, length, flat_map, OnOk, OnErr, IfOk};
 ghost use Rattle.cil_stream.specs.Device.{HasFailed, Gains, GainsFront};
 
+use crate::retrying::{flush_retrying, write_retrying};
 use std::io::Write;
+use std::marker::Model;
+use std::snapshot::Snapshot;
 use thiserror::Error;
 
 /// A sink didn't take what it was given.
@@ -66,27 +69,44 @@ pub fn write_pieces<W: Sink>(sink: &mut W, pieces: &[&[u8]]) -> Result<(), SinkF
     Ok(())
 }
 
-/// A sink over a writer of std. It tells no bytes.
+/// A sink over a writer of std. It tells its bytes where the writer knew what it held at first, which counts as taken and flushed.
 #[derive(Drop)]
 pub struct WriterSink<W: Write + Drop> {
     writer: W,
+    first: Snapshot<W>,
+    flushed: Snapshot<W>,
     failures: u64,
+}
+
+impl<W: Write + Drop> Model for WriterSink<W> {
+    ghost use Rattle.std.specs.Prelude.{IsSome};
+    ghost use Rattle.cil_stream.specs.Device.{Outflow, told};
+
+    ghost Value = { Outflow };
+
+    ghost view = { λ s. record { taken = told (W.contents s.first.value) (W.contents s.writer); flushed = told (W.contents s.first.value) (W.contents s.flushed.value); failures = s.failures } };
+
+    ghost invariant = { λ s. IsSome (W.contents s.first.value) → IsSome (W.contents s.writer) };
 }
 
 impl<W: Write + Drop> WriterSink<W> {
     /// A sink that didn't fail yet.
     pub fn new(writer: W) -> Self
-        ensures { result.failures ≡ 0 }
+        ensures taken { result.taken ≡ W.contents writer }
+        ensures failures { result.failures ≡ 0 }
     {
+        let first = Snapshot::of(&writer);
+        let flushed = Snapshot::of(&writer);
         WriterSink {
             writer,
+            first,
+            flushed,
             failures: 0,
         }
     }
 
     fn fail(&mut self) -> SinkFault
-        ensures failed { HasFailed self.old.failures self.new.failures }
-        ensures counted { self.old.failures ≤ self.new.failures }
+        ensures exact { self.new ≡ record self.old { failures = min (self.old.failures + 1) (2 ^ 64 - 1) } }
     {
         self.failures = self.failures.saturating_add(1);
         SinkFault
@@ -94,22 +114,25 @@ impl<W: Write + Drop> WriterSink<W> {
 }
 
 impl<W: Write + Drop> Sink for WriterSink<W> {
-    ghost taken = { λ _. None };
+    ghost taken = { λ s. s.taken };
 
-    ghost flushed = { λ _. None };
+    ghost flushed = { λ s. s.flushed };
 
     ghost failures = { λ s. s.failures };
 
     fn put(&mut self, piece: &[u8]) -> Result<usize, SinkFault> {
-        match self.writer.write(piece) {
+        match write_retrying(&mut self.writer, piece) {
             Ok(n) if n > 0 || piece.is_empty() => Ok(n),
             _ => Err(self.fail()),
         }
     }
 
     fn flush(&mut self) -> Result<(), SinkFault> {
-        match self.writer.flush() {
-            Ok(()) => Ok(()),
+        match flush_retrying(&mut self.writer) {
+            Ok(flushed) => {
+                self.flushed = flushed;
+                Ok(())
+            }
             Err(_) => Err(self.fail()),
         }
     }

@@ -1,9 +1,12 @@
 //! Sources, which give bytes.
 
-ghost use Rattle.std.specs.Prelude.{◌≡◌, ◌+◌, ◌<◌, ◌≤◌, ◌^◌, None, take, length, IsTrue, OnErr, IfOk};
-ghost use Rattle.cil_stream.specs.Device.{Account, HasFailed, HasEnded, Gives, IsSound, has_ended, untold-sound};
+ghost use Rattle.std.specs.Prelude.{◌≡◌, ◌+◌, ◌-◌, ◌<◌, ◌≤◌, ◌^◌, min, take, length, IsTrue, OnErr, IfOk};
+ghost use Rattle.cil_stream.specs.Device.{Account, HasFailed, HasEnded, Gives, IsSound, account_of_feed, has_ended, feed-sound};
 
+use crate::retrying::read_retrying;
 use std::io::Read;
+use std::marker::Model;
+use std::snapshot::Snapshot;
 use thiserror::Error;
 
 /// A source didn't give what it was asked for.
@@ -33,24 +36,38 @@ pub trait Source {
     ghost sound: { (s : Self) → IsSound (account s) };
 }
 
-/// A source over a reader of std, of which it asks nothing behind its end. It tells no bytes.
+/// A source over a reader of std, of which it asks nothing behind its end. It tells its bytes where the reader knew them at first.
 #[derive(Drop)]
 pub struct ReaderSource<R: Read + Drop> {
     reader: R,
+    first: Snapshot<R>,
     count: u64,
     ends: u64,
     failures: u64,
 }
 
+impl<R: Read + Drop> Model for ReaderSource<R> {
+    ghost use Rattle.cil_stream.specs.Device.{Feed, IsFed};
+
+    ghost Value = { Feed };
+
+    ghost view = { λ s. record { whole = R.remaining s.first.value; count = s.count; ends = s.ends; failures = s.failures } };
+
+    ghost invariant = { λ s. IsFed (R.remaining s.first.value) (R.remaining s.reader) s.count s.ends };
+}
+
 impl<R: Read + Drop> ReaderSource<R> {
     /// A source that gave nothing yet.
     pub fn new(reader: R) -> Self
+        ensures whole { result.whole ≡ R.remaining reader }
         ensures count { result.count ≡ 0 }
         ensures ends { result.ends ≡ 0 }
         ensures failures { result.failures ≡ 0 }
     {
+        let first = Snapshot::of(&reader);
         ReaderSource {
             reader,
+            first,
             count: 0,
             ends: 0,
             failures: 0,
@@ -58,10 +75,7 @@ impl<R: Read + Drop> ReaderSource<R> {
     }
 
     fn fail(&mut self) -> SourceFault
-        ensures failed { HasFailed self.old.failures self.new.failures }
-        ensures counted { self.old.failures ≤ self.new.failures }
-        ensures count { self.new.count ≡ self.old.count }
-        ensures ends { self.new.ends ≡ self.old.ends }
+        ensures exact { self.new ≡ record self.old { failures = min (self.old.failures + 1) (2 ^ 64 - 1) } }
     {
         self.failures = self.failures.saturating_add(1);
         SourceFault
@@ -69,30 +83,28 @@ impl<R: Read + Drop> ReaderSource<R> {
 }
 
 impl<R: Read + Drop> Source for ReaderSource<R> {
-    ghost account = { λ s. record { whole = None; given = None; count = s.count; ends = s.ends; failures = s.failures } };
+    ghost account = { account_of_feed };
 
     fn take(&mut self, buffer: &mut [u8]) -> Result<usize, SourceFault> {
-        let wanted = buffer.len();
-        let before = self.count;
-        let read = if self.ends == 0 {
-            self.reader.read(buffer)
-        } else {
-            Ok(0)
-        };
-        match read {
-            Ok(n) => match before.checked_add(n as u64) {
-                Some(count) => {
-                    self.count = count;
-                    if n == 0 && wanted > 0 {
-                        self.ends = self.ends.saturating_add(1);
-                    }
-                    Ok(n)
-                }
-                None => Err(self.fail()),
-            },
-            Err(_) => Err(self.fail()),
+        if self.ends > 0 {
+            if !buffer.is_empty() {
+                self.ends = self.ends.saturating_add(1);
+            }
+            return Ok(0);
         }
+        if self.count.checked_add(buffer.len() as u64).is_none() {
+            return Err(self.fail());
+        }
+        let Ok(n) = read_retrying(&mut self.reader, buffer) else {
+            return Err(self.fail());
+        };
+        if n == 0 && !buffer.is_empty() {
+            self.ends = 1;
+            return Ok(0);
+        }
+        self.count += n as u64;
+        Ok(n)
     }
 
-    ghost sound = { λ s. untold-sound s.count s.ends s.failures };
+    ghost sound = { feed-sound };
 }
