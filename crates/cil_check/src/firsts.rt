@@ -1,6 +1,6 @@
 //! Which statement is the first that gives something to a declaration.
 
-ghost use Rattle.std.specs.Prelude.{◌<◌, [], length, slice_get, ◌≡◌, List, is_some, IfOk, OnOk, OnErr};
+ghost use Rattle.std.specs.Prelude.{◌<◌, [], length, slice_get, ◌≡◌, List, is_some, OnOk, OnErr};
 ghost use Rattle.cil_specs.specs.Joined.{Placed};
 ghost use Rattle.cil_bind.specs.Lookup.{IsLead};
 ghost use Rattle.cil_check.specs.Bound.{IsOf, IsSeen};
@@ -77,20 +77,6 @@ impl<A: Allocator + Copy> Firsts<A> {
         Firsts {
             places: IndexMap::new(alloc),
         }
-    }
-
-    /// The first statements of a policy that give this. A policy of more than 4294967295 statements is answered as out of memory.
-    pub fn of(
-        alloc: A,
-        bound: &BoundPolicy<'_, '_, A>,
-        association: Association,
-    ) -> Result<Self, AllocError>
-        requires { (policy : List Placed) × IsOf bound.now policy }
-        ensures { IfOk result (λ firsts. (policy : List Placed) → IsOf bound.now policy → HasFirsts association policy firsts) }
-    {
-        let mut firsts = Firsts::new(alloc);
-        firsts.fill(bound, association)?;
-        Ok(firsts)
     }
 
     /// Takes up the first statements of a policy that give this, where none is taken up yet. A policy of more than 4294967295 statements
