@@ -77,9 +77,25 @@ fn removed(changes: &Changes) -> [Access<'_>; 4] {
     ]
 }
 
-fn lengths(changes: &Changes) -> (u128, u128) {
-    (changes.added_len(), changes.removed_len())
+fn are_changes(
+    changes: &Changes,
+    come: &[Access<'_>; 4],
+    gone: &[Access<'_>; 4],
+    lengths: (u128, u128),
+) -> bool {
+    added(changes) == *come
+        && removed(changes) == *gone
+        && (changes.added_len(), changes.removed_len()) == lengths
 }
+
+// All three accesses, the first two of them, the only one that comes, and none.
+const ALL: [Access<'static>; 4] = [SEE, USE, BACK, None];
+
+const BOTH: [Access<'static>; 4] = [SEE, USE, None, None];
+
+const ONLY: [Access<'static>; 4] = [SEE_BACK, None, None, None];
+
+const NONE: [Access<'static>; 4] = [None; 4];
 
 #[test]
 fn accesses_and_changes_by_place(rt: HostRuntime) {
@@ -87,21 +103,14 @@ fn accesses_and_changes_by_place(rt: HostRuntime) {
     let none = Table::empty(alloc);
     let three = table(&rt, alloc, START, THREE);
     let two = table(&rt, alloc, START, TWO);
-    assert_eq!(rt;
-        (none.is_empty(), three.is_empty(), three.len()),
-        (true, false, 3)
-    );
-    assert_eq!(rt; accesses(&three), [SEE, USE, BACK, None]);
     let first = Changes::between(alloc, &none, &three).expect(&rt, "memory");
-    assert_eq!(rt; lengths(&first), (3, 0));
-    assert_eq!(rt;
-        (added(&first), removed(&first)),
-        ([SEE, USE, BACK, None], [None; 4])
-    );
     let second = Changes::between(alloc, &three, &two).expect(&rt, "memory");
-    assert_eq!(rt; lengths(&second), (1, 2));
-    assert_eq!(rt; added(&second), [SEE_BACK, None, None, None]);
-    assert_eq!(rt; removed(&second), [SEE, USE, None, None]);
+    let same = none.is_empty() && !three.is_empty() && three.len() == 3 && accesses(&three) == ALL;
+    assert!(rt; same);
+    let same = are_changes(&first, &ALL, &NONE, (3, 0));
+    assert!(rt; same);
+    let same = are_changes(&second, &ONLY, &BOTH, (1, 2));
+    assert!(rt; same);
 }
 
 // A row of the class p: its source, its target, how many permissions it has, and the first three of them.
@@ -134,22 +143,36 @@ const FIRST: SeenRow<'static> = ("a", "b", 2, [Some("see"), Some("use"), None]);
 
 const SECOND: SeenRow<'static> = ("b", "a", 1, [Some("use"), None, None]);
 
+fn are_rows(rows: &Rows) -> bool {
+    rows.len() == 2
+        && !rows.is_empty()
+        && row_at(rows, 0) == Some(FIRST)
+        && row_at(rows, 1) == Some(SECOND)
+        && row_at(rows, 2) == None
+}
+
 // The line of the second row, the lines of both, and the listing.
 const WRITTEN: &str = "allow b a:p { use };\nallow a b:p { see use };\nallow b a:p { use };\n\
 allow a b:p { see use };\nallow b a:p { use };\n";
+
+// Whether the rows and the listing of a table are written so.
+fn are_written(sink: &mut MemorySink, table: &Table, rows: &Rows) -> bool {
+    let Some(second) = rows.get(1) else {
+        return false;
+    };
+    let line = write_row_line(sink, &second);
+    let (both, listing) = (rows.write(sink), table.write_listing(sink));
+    line == Ok(()) && both == Ok(2) && listing == Ok(2) && shown(sink.bytes()) == WRITTEN
+}
 
 #[test]
 fn rows_by_place_and_their_lines(rt: HostRuntime) {
     let alloc = rt.alloc();
     let table = table(&rt, alloc, START, THREE);
     let rows = table.rows(alloc).expect(&rt, "memory");
-    assert_eq!(rt; (rows.len(), rows.is_empty()), (2, false));
-    let found = [row_at(&rows, 0), row_at(&rows, 1), row_at(&rows, 2)];
-    assert_eq!(rt; found, [Some(FIRST), Some(SECOND), None]);
-    let second = rows.get(1).expect(&rt, "a row");
+    let same = are_rows(&rows);
+    assert!(rt; same);
     let mut sink = MemorySink::new(alloc);
-    let line = write_row_line(&mut sink, &second);
-    assert_eq!(rt; (line, rows.write(&mut sink)), (Ok(()), Ok(2)));
-    assert_eq!(rt; table.write_listing(&mut sink), Ok(2));
-    assert_eq!(rt; shown(sink.bytes()), WRITTEN);
+    let same = are_written(&mut sink, &table, &rows);
+    assert!(rt; same);
 }

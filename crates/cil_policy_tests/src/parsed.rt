@@ -50,14 +50,22 @@ fn shape_seen(view: StatementView<'_>) -> Shape {
     )
 }
 
+// Whether the statement of a place has such a shape.
+fn is_shaped(parsed: &ParsedModule, i: usize, shape: &Shape, kind: StatementKind) -> bool {
+    match statement(parsed, i) {
+        Some(view) => shape_seen(view) == *shape && view.kind == kind,
+        None => false,
+    }
+}
+
 #[test]
 fn statements_of_a_parsed_module(rt: HostRuntime) {
     let parsed = parsed(&rt, rt.alloc(), TEXT);
-    assert_eq!(rt; parsed.len(), SHAPES.len());
     for (i, (shape, kind)) in SHAPES.iter().enumerate() {
-        let view = statement(&parsed, i).expect(&rt, "a statement");
-        assert_eq!(rt; (shape_seen(view), view.kind), (*shape, *kind));
+        let same = is_shaped(&parsed, i, shape, *kind);
+        assert!(rt; same, "at {i}");
     }
+    assert!(rt; parsed.len() == SHAPES.len());
 }
 
 // The text of a number.
@@ -126,18 +134,27 @@ const NAMES: &[Names] = &[
     ),
 ];
 
+// Whether a statement has such names.
+fn has_names(parsed: &ParsedModule, names: &Names) -> bool {
+    let (i, declared, (first, second, third), permission) = names;
+    let Some(view) = statement(parsed, *i) else {
+        return false;
+    };
+    named(parsed, view.declared()) == *declared
+        && named(parsed, view.reference(0)) == *first
+        && named(parsed, view.reference(1)) == *second
+        && named(parsed, view.reference(2)) == *third
+        && named(parsed, view.reference(3)) == None
+        && text_at(parsed, view.permissions(), 0) == *permission
+        && text_at(parsed, view.permissions(), 1) == None
+}
+
 #[test]
 fn names_of_a_parsed_module(rt: HostRuntime) {
     let parsed = parsed(&rt, rt.alloc(), TEXT);
-    for (i, declared, (first, second, third), permission) in NAMES {
-        let view = statement(&parsed, *i).expect(&rt, "a statement");
-        assert_eq!(rt; named(&parsed, view.declared()), *declared);
-        assert_eq!(rt; named(&parsed, view.reference(0)), *first);
-        assert_eq!(rt; named(&parsed, view.reference(1)), *second);
-        assert_eq!(rt; named(&parsed, view.reference(2)), *third);
-        assert_eq!(rt; named(&parsed, view.reference(3)), None);
-        assert_eq!(rt; text_at(&parsed, view.permissions(), 0), *permission);
-        assert_eq!(rt; text_at(&parsed, view.permissions(), 1), None);
+    for names in NAMES {
+        let same = has_names(&parsed, names);
+        assert!(rt; same, "at {}", names.0);
     }
 }
 
@@ -160,13 +177,20 @@ fn name_of(parsed: &ParsedModule, n: usize) -> &str {
 }
 
 // Each text once, and its names by their numbers, in the order of their first use.
+fn has_numbers(parsed: &ParsedModule) -> bool {
+    parsed.text_count() == 7
+        && text_of(parsed, 6) == ".b.t"
+        && components_of(parsed, 5) == [2, 3].as_slice()
+        && components_of(parsed, 6) == [2, 3].as_slice()
+        && parsed.name_count() == 5
+        && name_of(parsed, 3) == "t"
+}
+
 #[test]
 fn numbers_of_the_words_of_a_parsed_module(rt: HostRuntime) {
     let parsed = parsed(&rt, rt.alloc(), TEXT);
-    assert_eq!(rt; (parsed.text_count(), text_of(&parsed, 6)), (7, ".b.t"));
-    assert_eq!(rt; components_of(&parsed, 5), [2, 3].as_slice());
-    assert_eq!(rt; components_of(&parsed, 6), [2, 3].as_slice());
-    assert_eq!(rt; (parsed.name_count(), name_of(&parsed, 3)), (5, "t"));
+    let same = has_numbers(&parsed);
+    assert!(rt; same);
 }
 
 // Nodes stand in front of their operands.
@@ -188,16 +212,25 @@ fn parsed_from_trees(rt: &impl Abort, alloc: Global, text: &[u8]) -> ParsedModul
     ParsedModule::of(alloc, forest).expect(rt, "statements")
 }
 
+// Whether a module is one statement of the nodes above, and of the words s, a and b.
+fn has_nodes(parsed: &ParsedModule) -> bool {
+    let Some(view) = statement(parsed, 0) else {
+        return false;
+    };
+    parsed.len() == 1
+        && view.nodes == NODES
+        && text_at(parsed, view.words, 0) == Some("s")
+        && text_at(parsed, view.words, 1) == Some("a")
+        && text_at(parsed, view.words, 2) == Some("b")
+        && text_at(parsed, view.words, 3) == None
+}
+
 #[test]
 fn nodes_of_a_set_expression(rt: HostRuntime) {
     let text = b"(typeattributeset s ((and a (not b)) all))";
     let parsed = parsed_from_trees(&rt, rt.alloc(), text);
-    assert_eq!(rt; parsed.len(), 1);
-    let view = statement(&parsed, 0).expect(&rt, "a statement");
-    assert_eq!(rt; view.nodes, NODES);
-    for (i, want) in [(0, Some("s")), (1, Some("a")), (2, Some("b")), (3, None)] {
-        assert_eq!(rt; text_at(&parsed, view.words, i), want);
-    }
+    let same = has_nodes(&parsed);
+    assert!(rt; same);
 }
 
 const LISTS: &[u8] =
@@ -213,15 +246,20 @@ fn permission_list(parsed: &ParsedModule, i: usize) -> Option<usize> {
 }
 
 // The same permissions in the same order have one number, and others another.
+fn has_permission_lists(parsed: &ParsedModule) -> bool {
+    let first = permission_list(parsed, 1);
+    parsed.len() == 5
+        && parsed.permission_list_count() == 3
+        && first != None
+        && permission_list(parsed, 0) == first
+        && permission_list(parsed, 3) == first
+        && permission_list(parsed, 2) != first
+        && permission_list(parsed, 4) != first
+}
+
 #[test]
 fn numbers_of_permission_lists(rt: HostRuntime) {
     let parsed = parsed(&rt, rt.alloc(), LISTS);
-    assert_eq!(rt; (parsed.len(), parsed.permission_list_count()), (5, 3));
-    let first = permission_list(&parsed, 1);
-    assert!(rt; first.is_some());
-    assert_eq!(rt; permission_list(&parsed, 0), first);
-    assert_eq!(rt; permission_list(&parsed, 3), first);
-    for i in [2, 4] {
-        assert!(rt; permission_list(&parsed, i) != first);
-    }
+    let same = has_permission_lists(&parsed);
+    assert!(rt; same);
 }

@@ -39,16 +39,15 @@ fn lengths(policy: &Resolved) -> [usize; 7] {
     ]
 }
 
-#[test]
-fn what_a_policy_resolves_to(rt: HostRuntime) {
-    let policy = resolved(&rt, rt.alloc(), CLASS_AND_TYPE, RULE);
-    assert_eq!(rt; lengths(&policy), [1, 0, 1, 1, 0, 0, 3]);
-    assert_eq!(rt; name_seen(policy.type_at(0)), Some(("m", "a", 15)));
-    assert_eq!(rt; name_seen(policy.type_at(1)), None);
-    assert_eq!(rt; name_seen(policy.attribute_at(0)), None);
-    assert_eq!(rt; name_seen(policy.dropped_at(0)), None);
-    assert_eq!(rt; class_seen(policy.class_at(0)), Some(("p", 1)));
-    assert_eq!(rt; shown_if(policy.class_permission(0, 0)), Some("use"));
+// What is known of a class and a type.
+fn has_class_and_type(policy: &Resolved) -> bool {
+    lengths(policy) == [1, 0, 1, 1, 0, 0, 3]
+        && name_seen(policy.type_at(0)) == Some(("m", "a", 15))
+        && name_seen(policy.type_at(1)) == None
+        && name_seen(policy.attribute_at(0)) == None
+        && name_seen(policy.dropped_at(0)) == None
+        && class_seen(policy.class_at(0)) == Some(("p", 1))
+        && shown_if(policy.class_permission(0, 0)) == Some("use")
 }
 
 fn element_seen<'a>(element: ElementView<'a>) -> &'a str {
@@ -75,16 +74,26 @@ fn rule_seen<'a>(view: Option<RuleView<'a>>) -> Option<Rule<'a>> {
     Some((module, view.kind, source, target, class, view.permissions))
 }
 
+const RULE_SEEN: Rule<'static> = ("n", RuleKind::Allow, "a", "a", "p", 1);
+
+// What is known of a rule: the names are a, p and use, and the rule's are numbers of these.
+fn has_rule(policy: &Resolved) -> bool {
+    let Some(rule) = policy.rules().first() else {
+        return false;
+    };
+    rule_seen(policy.rule_at(0)) == Some(RULE_SEEN)
+        && shown_if(policy.rule_permission(0, 0)) == Some("use")
+        && policy.rules().len() == 1
+        && rule.source == Element::Type(0)
+}
+
 #[test]
-fn a_rule_as_resolved(rt: HostRuntime) {
+fn a_rule_beside_a_class_and_a_type(rt: HostRuntime) {
     let policy = resolved(&rt, rt.alloc(), CLASS_AND_TYPE, RULE);
-    let want = ("n", RuleKind::Allow, "a", "a", "p", 1);
-    assert_eq!(rt; rule_seen(policy.rule_at(0)), Some(want));
-    assert_eq!(rt; shown_if(policy.rule_permission(0, 0)), Some("use"));
-    // The names are a, p and use, and the rule's are numbers of these.
-    let rule = policy.rules().first().expect(&rt, "a rule");
-    assert_eq!(rt; (policy.rules().len(), rule.source), (1, Element::Type(0)));
-    assert_eq!(rt; policy.into_names().len(), 3);
+    let same = has_class_and_type(&policy) && has_rule(&policy);
+    assert!(rt; same);
+    let names = policy.into_names();
+    assert!(rt; names.len() == 3);
 }
 
 // The module, the attribute and the offset of a set statement, and how many names it has.
@@ -95,40 +104,50 @@ fn set_seen<'a>(view: Option<SetView<'a>>) -> Option<(&'a str, &'a str, u32, usi
 }
 
 // Of two set statements the first depends on the second.
-#[test]
-fn set_statements_in_the_order_of_dependence(rt: HostRuntime) {
-    let policy = resolved(&rt, rt.alloc(), SETS, b"(class p (use))");
-    assert_eq!(rt; lengths(&policy), [2, 2, 1, 0, 0, 2, 6]);
-    assert_eq!(rt; set_seen(policy.set_at(0)), Some(("m", "s", 80, 1)));
-    assert_eq!(rt; set_seen(policy.set_at(1)), Some(("m", "n", 50, 1)));
-    assert_eq!(rt; set_seen(policy.set_at(2)), None);
-    let attributes = [policy.set_attribute(0), policy.attribute_number(0)];
-    assert_eq!(rt;
-        (attributes, policy.type_number(1)),
-        ([Some(4); 2], Some(1))
-    );
-    assert_eq!(rt; shown(policy.name(4)), "s");
-    assert_eq!(rt;
-        policy.set_names(0).first().copied(),
-        Some(Element::Type(0))
-    );
-    for (name, number) in [("a", Some(0)), ("use", Some(5)), ("us", None), ("z", None)] {
-        assert_eq!(rt; policy.number(name.as_bytes()), number);
-    }
+fn has_sets(policy: &Resolved) -> bool {
+    lengths(policy) == [2, 2, 1, 0, 0, 2, 6]
+        && set_seen(policy.set_at(0)) == Some(("m", "s", 80, 1))
+        && set_seen(policy.set_at(1)) == Some(("m", "n", 50, 1))
+        && set_seen(policy.set_at(2)) == None
+        && policy.set_attribute(0) == Some(4)
+        && policy.attribute_number(0) == Some(4)
+        && policy.type_number(1) == Some(1)
+        && policy.set_names(0).first().copied() == Some(Element::Type(0))
+}
+
+// Names, some of which are there, by their numbers.
+fn has_numbers(policy: &Resolved) -> bool {
+    policy.names_len() > 4
+        && shown(policy.name(4)) == "s"
+        && policy.number(b"a") == Some(0)
+        && policy.number(b"use") == Some(5)
+        && policy.number(b"us") == None
+        && policy.number(b"z") == None
+}
+
+// Which of the two set statements hold types that no attribute has, and how often they were evaluated.
+fn evaluated(policy: &Resolved) -> ([bool; 3], u128, u128) {
+    let mut meter = Meter::new();
+    let held = [
+        policy.evaluate(0, 0, |_| false, &mut meter),
+        policy.evaluate(0, 1, |_| false, &mut meter),
+        policy.evaluate(1, 1, |_| false, &mut meter),
+    ];
+    (held, meter.evaluations(), meter.adjustments())
+}
+
+fn are_told_apart(policy: &Resolved) -> bool {
+    !policy.may_hold_any(0)
+        && policy.may_hold_any(1)
+        && policy.is_same_set(0, policy, 0)
+        && !policy.is_same_set(0, policy, 1)
 }
 
 #[test]
-fn set_statements_are_evaluated_and_counted(rt: HostRuntime) {
+fn set_statements_in_the_order_of_dependence(rt: HostRuntime) {
     let policy = resolved(&rt, rt.alloc(), SETS, b"(class p (use))");
-    let mut meter = Meter::new();
-    for (set, ty, want) in [(0, 0, true), (0, 1, false), (1, 1, true)] {
-        assert_eq!(rt; policy.evaluate(set, ty, |_| false, &mut meter), want);
-    }
-    assert_eq!(rt; (meter.evaluations(), meter.adjustments()), (3, 0));
-    let reach = [policy.may_hold_any(0), policy.may_hold_any(1)];
-    let same = [
-        policy.is_same_set(0, &policy, 0),
-        policy.is_same_set(0, &policy, 1),
-    ];
-    assert_eq!(rt; (reach, same), ([false, true], [true, false]));
+    let same = has_sets(&policy) && has_numbers(&policy) && are_told_apart(&policy);
+    assert!(rt; same);
+    let same = evaluated(&policy) == ([true, false, true], 3, 0);
+    assert!(rt; same);
 }

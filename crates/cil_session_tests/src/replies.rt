@@ -7,19 +7,21 @@ use cil_store::WriteFault;
 use cil_stream::{MemorySink, SinkFault, SourceFault};
 use std::alloc::Global;
 use std::fmt::Display;
-use std::process::Abort;
 
 #[test]
 fn the_line_of_the_greatest_number(rt: HostRuntime) {
     let mut sink = MemorySink::new(rt.alloc());
-    assert_eq!(rt; write_script_line(&mut sink, u64::MAX), Ok(()));
-    assert_eq!(rt; shown(sink.bytes()), "script 18446744073709551616\n");
+    let is_written = write_script_line(&mut sink, u64::MAX).is_ok();
+    let same = is_written && shown(sink.bytes()) == "script 18446744073709551616\n";
+    assert!(rt; same);
 }
 
-// Asserts how a fault is printed.
-fn assert_printed<T: Display>(rt: &impl Abort, alloc: Global, fault: &T, want: &str) {
-    let printed = format!(in alloc; "{fault}").expect(rt, "memory");
-    assert_eq!(rt; printed.as_str(), want);
+// Whether a fault is printed so.
+fn is_printed<T: Display>(alloc: Global, fault: &T, want: &str) -> bool {
+    match format!(in alloc; "{fault}") {
+        Ok(printed) => printed.as_str() == want,
+        Err(_) => false,
+    }
 }
 
 #[test]
@@ -29,8 +31,9 @@ fn printed_faults(rt: HostRuntime) {
         SessionFault::from(SourceFault),
         SessionFault::from(SinkFault),
     );
-    assert_printed(&rt, alloc, &read, "the input failed");
-    assert_printed(&rt, alloc, &write, "the output failed");
-    assert_printed(&rt, alloc, &WriteFault::Sink, "the output failed");
-    assert_printed(&rt, alloc, &WriteFault::Memory, "out of memory");
+    let same = is_printed(alloc, &read, "the input failed")
+        && is_printed(alloc, &write, "the output failed")
+        && is_printed(alloc, &WriteFault::Sink, "the output failed")
+        && is_printed(alloc, &WriteFault::Memory, "out of memory");
+    assert!(rt; same);
 }

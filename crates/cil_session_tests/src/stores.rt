@@ -1,7 +1,7 @@
 //! What a store says of names.
 
 use crate::shown::shown_if;
-use cil_store::{Compiled, Edit, Plain};
+use cil_store::{Compiled, Edit, Plain, Store};
 
 // Edits that a store takes: m has two texts, and n is disabled.
 const TAKEN: &[Edit<'static>] = &[
@@ -30,17 +30,26 @@ const STATES: &[(&[u8], Option<&str>, bool)] = &[
     (b"q", None, false),
 ];
 
+fn is_named(store: &Store, name: &[u8], active: Option<&str>, is_disabled: bool) -> bool {
+    shown_if(store.active(name)) == active && store.is_disabled(name) == is_disabled
+}
+
+// Whether n alone is disabled.
+fn has_disabled(store: &Store) -> bool {
+    store.disabled_len() == 1
+        && shown_if(store.disabled(0)) == Some("n")
+        && shown_if(store.disabled(1)) == None
+}
+
 #[test]
 fn names_of_a_store(rt: HostRuntime) {
     let mut engine = Plain::new(rt.alloc());
     for edit in TAKEN {
         assert!(rt; engine.edit(*edit).is_ok());
     }
-    let store = engine.store();
     for (name, active, is_disabled) in STATES {
-        let found = (shown_if(store.active(name)), store.is_disabled(name));
-        assert_eq!(rt; found, (*active, *is_disabled));
+        let same = is_named(engine.store(), name, *active, *is_disabled);
+        assert!(rt; same);
     }
-    let disabled = [shown_if(store.disabled(0)), shown_if(store.disabled(1))];
-    assert_eq!(rt; (store.disabled_len(), disabled), (1, [Some("n"), None]));
+    assert!(rt; has_disabled(engine.store()));
 }
