@@ -75,11 +75,13 @@ const PUT: &[(usize, bool, &str)] = &[(9, true, "abcd"), (4, true, "abcd"), (2, 
 // Whether a writer is given four bytes so.
 fn is_put(alloc: Global, limit: usize, all: bool, want: &str) -> bool {
     let mut written = Vec::new(alloc);
-    let mut sink = WriterSink::new(Page {
-        written: &mut written,
-        limit,
-    });
-    let put = write_all(&mut sink, b"abcd").is_ok() && sink.flush().is_ok();
+    let put = {
+        let mut sink = WriterSink::new(Page {
+            written: &mut written,
+            limit,
+        });
+        write_all(&mut sink, b"abcd").is_ok() && sink.flush().is_ok()
+    };
     put == all && shown(written.as_slice()) == want
 }
 
