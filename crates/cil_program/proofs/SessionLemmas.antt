@@ -1,5 +1,5 @@
 -- A line of a script, and a turn of a session.
-use Rattle.std.proofs.Common.{◌≡◌, ◌≢◌, ℕ, ◌≤◌, Bool, true, false, List, [], ◌∷◌, ◌++◌, length, IsTrue, inl, inr, refl, ap, sym, ◌∙◌, subst, append_assoc, append-nil, length-append, true≢false, arith}
+use Rattle.std.proofs.Common.{◌≡◌, ◌≢◌, ℕ, ◌≤◌, Bool, true, false, List, [], ◌∷◌, ◌++◌, length, IsTrue, IfErr, IsErrAnd, Result, Ok, Err, inl, inr, refl, ap, sym, ◌∙◌, subst, append_assoc, append-nil, length-append, true≢false, arith}
 use Rattle.std.specs.List.{list_all}
 use Rattle.std.proofs.lemmas.List.Folds.{list_all-append}
 use Rattle.cil_stream.specs.Device.{HasEnded, has_ended}
@@ -117,6 +117,16 @@ read-of true LastByte line bytes read old mid now command is_last is_end ends_li
   is.5,
 )
 read-of last TooLong line bytes read old mid now command is_last is_end ends_line short ended is = absurd is
+
+-- a fault that became that of a session
+pub by-fault : {T : Type 0} (r : Result T SessionFault) (fault : SessionFault) (P : SessionFault → Type 0) → IsErrAnd r (λ e. e ≡ fault) → P fault → IfErr r P
+by-fault (Ok x) fault P is holds = tt
+by-fault (Err e) fault P is holds = subst P (sym is) holds
+
+-- and is this one
+pub fault-is : {T : Type 0} (r : Result T SessionFault) (fault this : SessionFault) → IsErrAnd r (λ e. e ≡ fault) → r ≡ Err this → fault ≡ this
+fault-is (Ok x) fault this is e = absurd (cc)
+fault-is (Err x) fault this is e = cc
 
 -- a line was a command, and answered
 pub turn-answered : (outcome : Outcome) (refused last : Bool) (end : LineEnd) (line bytes : List ℕ) (old mid now : Moment) (before after : Standing) → outcome ≡ outcome_of refused → (last ≡ true → end ≡ LastByte) → (end ≡ LastByte → last ≡ true)

@@ -434,7 +434,7 @@ fn answer_commands<S: Source, W: Sink, A: Allocator + Copy, C: Compiled<A>>(
     let mut input = Input::new();
     let mut line = Line::new();
     let mut status = Status::Clean;
-    loop {
+    'turns: loop {
         let before = input.line_feeds();
         match answer_next(alloc, &mut input, source, sink, engine, &mut line)? {
             Turn::End => return Ok(status),
