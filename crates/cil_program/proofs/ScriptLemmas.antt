@@ -9,10 +9,9 @@ use Rattle.cil_stream.specs.Device.{Account, Gains, GainsFront, Gives, IsSound, 
 use Rattle.cil_store_specs.specs.Store.{Store}
 use Rattle.cil_store_specs.specs.Script.{Command, line_of, behind, command_bytes, IsCommand, MayLackItsEnd, Commands, End, ends, stops, whole, without_end, Answer, AnswersAll, last_line}
 use Rattle.cil_store_specs.specs.Session as spec
-use Rattle.cil_store_specs.specs.Session.{IsSession, all_accepted, some_refused}
+use Rattle.cil_store_specs.specs.Session.{IsSession, all_accepted, some_refused, state_of, BeginsWith, whole_ones, all_of_it, all_whole, but_for_the_last, IsCutByWrite}
 use Rattle.cil_stream.proofs.Gaining.{gains-both, gains-none}
 use Rattle.cil_store_specs.proofs.RunLemmas.{answers-more}
-use Rattle.cil_program.specs.Cut.{State, state_of, BeginsWith, whole_ones, all_of_it, all_whole, but_for_the_last, IsCutByRead, IsCutByWrite, IsCutInAnAnswer, IsCutInTheLastLine}
 use Rattle.cil_program.specs.Input.{Fits}
 use Rattle.cil_program.specs.Session.{Moment, Standing, Leaves, LeavesByRead, LeavesByWrite, status_of, Advances, outcome_of, after_answer, HasAnswered, HasBegun, IsReadOf, IsTurn, IsTurnCut}
 use Rattle.cil_program.specs.declared.script.session.SessionFault.TheVariants.{Read, Write}

@@ -4,9 +4,9 @@ use Rattle.std.specs.List.{list_all}
 use Rattle.std.proofs.lemmas.List.Folds.{list_all-append}
 use Rattle.cil_stream.specs.Device.{HasEnded, has_ended}
 use Rattle.cil_store_specs.specs.Script.{Command, line_of, behind, command_bytes, HasGoodWords, IsCommand, MayLackItsEnd, IsNoCommand}
+use Rattle.cil_store_specs.specs.Session.{BeginsNoCommand}
 use Rattle.cil_store_specs.proofs.LineLemmas.{has-feed, command-line, no-line-command, no-last-command, no-long-command}
 use Rattle.cil_specs.proofs.Runs.{both_true}
-use Rattle.cil_program.specs.Cut.{BeginsNoCommand}
 use Rattle.cil_program.specs.Input.{Fits, EndsLine, stays}
 use Rattle.cil_program.specs.Session.{Moment, Standing, Advances, Stops, outcome_of, HasAnswered, HasBegun, IsWhole, IsBad, IsOutcome, IsLineCut, IsReadOf, IsTurn, IsTurnCut}
 use Rattle.cil_program.specs.declared.script.input.LineEnd.{LineEnd}

@@ -1,7 +1,6 @@
 pub mod Input
 pub mod Command
 pub mod Dump
-pub mod Cut
 pub mod Session
 pub mod CommandLine
 pub mod Program

@@ -5,10 +5,9 @@ use Rattle.cil_stream.specs.Device.{Account, Gains, GainsFront, Gives, HasEnded,
 use Rattle.cil_store_specs.specs.Store.{Store}
 use Rattle.cil_store_specs.specs.Next.{install}
 use Rattle.cil_store_specs.specs.Script.{Command, makes, Answer, Answers, HasGoodWords, IsGoodName, IsShortNumber, line_of, behind, command_bytes, IsCommand, MayLackItsEnd, IsNoCommand}
-use Rattle.cil_store_specs.specs.Session.{IsSession, all_accepted, some_refused, no_script}
+use Rattle.cil_store_specs.specs.Session.{IsSession, BeginsNoCommand, IsCutByRead, IsCutByWrite, all_accepted, some_refused, no_script}
 use Rattle.cil_store_specs.specs.Session as spec
 use Rattle.cil_program.specs.Input.{Held, HasRead, HasStopped, IsShort}
-use Rattle.cil_program.specs.Cut.{BeginsNoCommand, IsCutByRead, IsCutByWrite}
 use Rattle.cil_program.specs.declared.script.input.LineEnd.{LineEnd}
 use Rattle.cil_program.specs.declared.script.input.LineEnd.TheVariants.{LineFeed, LastByte, TooLong}
 use Rattle.cil_program.specs.declared.script.session.Outcome.{Outcome}

@@ -1,9 +1,8 @@
 //! Scripts that stand in memory as a whole.
 
 ghost use Rattle.std.specs.Prelude.{◌≡◌, ◌≤◌, ◌++◌, List, ℕ, true, IfOk, OnOk, IsErrOf};
-ghost use Rattle.cil_store_specs.specs.Session.{IsSession};
+ghost use Rattle.cil_store_specs.specs.Session.{IsSession, IsCutByRead, IsCutByWrite};
 ghost use Rattle.cil_stream.specs.Device.{HasFailed, Gains};
-ghost use Rattle.cil_program.specs.Cut.{IsCutByRead, IsCutByWrite};
 ghost use Rattle.cil_program.specs.Session.{status_of};
 
 use crate::script::session::{SessionFault, Status, session};

@@ -1,7 +1,6 @@
 use Rattle.std.proofs.Common.{◌≡◌, ◌++◌, ℕ, List, [], true, Some, Result, Ok, Err, IfOk, take, ap}
-use Rattle.cil_store_specs.specs.Session.{IsSession}
+use Rattle.cil_store_specs.specs.Session.{IsSession, IsCutByRead, IsCutByWrite}
 use Rattle.cil_stream.specs.Device.{Account, Reel, IsLeft, Gains, account_of}
-use Rattle.cil_program.specs.Cut.{IsCutByRead, IsCutByWrite}
 use Rattle.cil_program.specs.Session.{Standing, Leaves, LeavesByRead, LeavesByWrite, status_of}
 use Rattle.cil_program.specs.declared.script.session.SessionFault.{SessionFault}
 use Rattle.cil_program.specs.declared.script.session.Status.{Status}
