@@ -1,5 +1,5 @@
-use Rattle.std.proofs.Common.{◌≡◌, ◌∙◌, ◌+◌, [], true, false, refl, ap, sym, subst, rules}
-use Rattle.cil_stream.specs.Device.{Gains, GainsFront, has_ended}
+use Rattle.std.proofs.Common.{◌≡◌, ◌+◌, [], true, false, refl, subst, rules}
+use Rattle.cil_stream.specs.Device.{Gains, GainsFront}
 use Rattle.cil_stream.proofs.Gaining.{gains-none}
 use Rattle.cil_store_specs.specs.Script.{last_line, ends, stops}
 use Rattle.cil_program.specs.Session.{Moment, Standing, IsTurn, IsTurnCut, after_answer}
@@ -8,7 +8,7 @@ use Rattle.cil_program.specs.declared.script.session.Status.TheVariants.{Script}
 use Rattle.cil_program.specs.declared.script.session.Turn.TheVariants as turns
 use Rattle.cil_program.proofs.InputLemmas.{ended-within}
 use Rattle.cil_program.proofs.SessionLemmas.{fault-is}
-use Rattle.cil_program.proofs.ScriptLemmas.{SoFar, at-start, turn-more, AllDone, done-at-end, done-without-end, done-at-line, leaves, cut-in_last_line, cut-at-read, cut-at-write, fewer-left}
+use Rattle.cil_program.proofs.ScriptLemmas.{at-start, turn-more, done-at-end, done-without-end, done-at-line, leaves, cut-in_last_line, cut-at-read, cut-at-write, fewer-left}
 use Rattle.cil_program.proofs.script.session.answer_commands.Goals as goal
 
 pub turns-init : goal.turns-init

@@ -1,4 +1,4 @@
-use Rattle.std.proofs.Common.{◌≡◌, ◌≤◌, ◌-◌, ◌∙◌, [], length, take, drop, ap, sym, arith}
+use Rattle.std.proofs.Common.{◌≡◌, ◌≤◌, ◌-◌, ◌∙◌, [], length, take, drop, ap, arith}
 use Rattle.cil_stream.proofs.Gaining.{on_err}
 use Rattle.cil_program.specs.Input.{Held}
 use Rattle.cil_program.proofs.InputLemmas.{stops-at_once, empty-range}
