@@ -1,5 +1,5 @@
 -- Bytes that are read one piece after another.
-use Rattle.std.proofs.Common.{IsTrue, Result, Ok, Err, IfOk, inl, inr, false, true, Bool, ◌≡◌, ◌≢◌, ℕ, ◌+◌, ◌<◌, ◌≤◌, ◌^◌, not, List, [], ◌∷◌, ◌++◌, length, take, drop, append-nil, length-drop, count_by, refl, ap, sym, ◌∙◌, subst, append_assoc, length-append, arith}
+use Rattle.std.proofs.Common.{IsTrue, Result, Ok, Err, IfOk, inl, inr, false, true, Bool, ◌≡◌, ◌≢◌, ℕ, ◌+◌, ◌-◌, ◌<◌, ◌≤◌, ◌^◌, not, List, [], ◌∷◌, ◌++◌, length, take, drop, OnErr, append-nil, length-take, length-drop, count_by, refl, ap, sym, ◌∙◌, subst, append_assoc, length-append, arith}
 use Rattle.std.specs.List.{list_all}
 use Rattle.std.proofs.lemmas.List.{take-append-drop, length-take-le}
 use Rattle.std.proofs.lemmas.List.Sums.{sum_by-append, count_by-le-length}
@@ -11,7 +11,7 @@ use Rattle.cil_stream.specs.declared.source.SourceFault.{SourceFault}
 use Rattle.cil_stream.specs.Device.{Account, Gives, HasEnded, has_ended}
 use Rattle.cil_stream.proofs.Gaining.{gains-both, gains-none}
 use Rattle.cil_specs.proofs.Runs.{both_true}
-use Rattle.cil_program.specs.Input.{Held, Takes, Fits, HasRead, IsOther, IsWholeText, IsShort, stays}
+use Rattle.cil_program.specs.Input.{Held, Takes, Fits, HasRead, HasStopped, IsOther, IsWholeText, IsShort, stays}
 
 gives-both : (was mid is : Account) (first second : List ℕ) → Gives was mid first → Gives mid is second → Gives was is (first ++ second)
 gives-both was mid is first second a b = record {
@@ -48,6 +48,23 @@ either-some (b ∷ first) second some P f g = f (λ e. omega (arith, ap length e
 pub reads-none : (now : Account) (held : Held) → Fits now.count held → HasRead now now held held []
 reads-none now held fits = record { takes = takes-none now held.bytes; line_feeds = omega arith; counts = omega arith; fits = fits; small = λ some. absurd (some refl) }
 
+-- a source failed that gave nothing, when nothing was held back
+pub stops-at_once : (old new : Account) (held kept : Held) → new ≡ record old { failures = new.failures } → held.bytes ≡ [] → held.line_feeds ≤ old.count → kept.bytes ≡ [] → kept.line_feeds ≡ held.line_feeds → HasStopped old new held kept []
+stops-at_once old new held kept is none counted empty feeds = record {
+  reads = record {
+    takes = record {
+      fresh = [];
+      gives = record { whole = ap (λ a. a.whole) is; given = ap (λ a. a.given) is ∙ gains-none old.given; count = omega (arith, ap (λ a. a.count) is); ends = omega (arith, ap (λ a. a.ends) is) };
+      same = append-nil held.bytes ∙ none ∙ sym empty;
+    };
+    line_feeds = omega (arith, feeds);
+    counts = omega (arith, ap (λ a. a.count) is, ap length none, ap length empty);
+    fits = record { within = omega (arith, counted, ap (λ a. a.count) is, feeds, ap length empty); small = λ some. absurd (some empty) };
+    small = λ some. absurd (some refl);
+  };
+  none = empty;
+}
+
 -- bytes that were counted stay counted below the bound when no more were counted
 still-small : (some all more held : ℕ) → some < 2 ^ 64 → all + more ≡ some + held → held ≡ 0 → all < 2 ^ 64
 still-small some all more held small counts none = omega (arith, small, counts, none)
@@ -68,6 +85,23 @@ reads-both was mid is old between new first second a b = record {
 
 pub reads-then_none : (was mid is : Account) (old between new : Held) (read : List ℕ) → HasRead was mid old between read → HasRead mid is between new [] → HasRead was is old new read
 reads-then_none was mid is old between new read a b = subst (HasRead was is old new) (append-nil read) (reads-both was mid is old between new read [] a b)
+
+-- where nothing is held back, the buffer's range is empty
+pub empty-range : (bytes buffer : List ℕ) (start end : ℕ) → take (end - start) (drop start bytes) ≡ [] → end ≤ length bytes → take (end - start) (drop start buffer) ≡ []
+empty-range bytes buffer start end none within = ap (λ n. take n (drop start buffer)) (let no : end - start ≡ 0 = omega (arith, within, ap length none, length-take (end - start) (drop start bytes), length-drop start bytes) in no)
+
+-- what was read before the source failed, and then
+pub stops-later : (was mid is : Account) (old between new : Held) (first second : List ℕ) → HasRead was mid old between first → HasStopped mid is between new second → HasStopped was is old new (first ++ second)
+stops-later was mid is old between new first second a b = record { reads = reads-both was mid is old between new first second a b.reads; none = b.none }
+
+pub stops-then_none : (was mid is : Account) (old between new : Held) (read : List ℕ) → HasRead was mid old between read → HasStopped mid is between new [] → HasStopped was is old new read
+stops-then_none was mid is old between new read a b = subst (HasStopped was is old new) (append-nil read) (stops-later was mid is old between new read [] a b)
+
+-- a beginning of a text was read before the source failed
+pub stops-in_text : {E : Type 0} (r : Result Bool E) (was mid is : Account) (old between new : Held) (len : ℕ) (first : List ℕ) → HasRead was mid old between first → length first ≡ len
+    → OnErr r (HasStopped mid is between new []) → OnErr r ((read : List ℕ) × HasStopped was is old new read × (length read ≤ len))
+stops-in_text (Ok _) was mid is old between new len first a size b = tt
+stops-in_text (Err _) was mid is old between new len first a size b = (first, stops-then_none was mid is old between new first a b, omega (arith, size))
 
 -- a byte that is no line feed stays on its line
 pub stays-byte : (b : ℕ) → (b ≡ 10 → ⊥) → stays b ≡ true

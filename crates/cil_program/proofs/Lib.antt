@@ -2,4 +2,5 @@ pub mod InputLemmas
 pub mod CommandLemmas
 pub mod EndLemmas
 pub mod SessionLemmas
+pub mod ScriptLemmas
 pub mod ReplyLemmas

@@ -34,9 +34,12 @@ report-whole (Err _) old mid new lines n size is gains more = tt
 report-whole (Ok _) old mid new lines n size is gains more = subst (Gains old new) (ap (λ k. lines ++ end_line k) is) (gains-both old mid new lines (end_line n) gains more)
 
 -- the lines of a report and a beginning of its last line
+pub report-cut : (old mid new : Option (List ℕ)) (lines : List ℕ) (n size : ℕ) → n ≡ size → Gains old mid lines → GainsFront mid new (end_line n) → GainsFront old new (lines ++ end_line size)
+report-cut old mid new lines n size is gains front = subst (GainsFront old new) (ap (λ k. lines ++ end_line k) is) (gains-then_front old mid new lines (end_line n) gains front)
+
 pub report-front : {E : Type 0} (r : Result (Unit {0}) E) (old mid new : Option (List ℕ)) (lines : List ℕ) (n size : ℕ) → n ≡ size → Gains old mid lines → OnErr r (GainsFront mid new (end_line n)) → OnErr r (GainsFront old new (lines ++ end_line size))
 report-front (Ok _) old mid new lines n size is gains front = tt
-report-front (Err _) old mid new lines n size is gains front = subst (GainsFront old new) (ap (λ k. lines ++ end_line k) is) (gains-then_front old mid new lines (end_line n) gains front)
+report-front (Err _) old mid new lines n size is gains front = report-cut old mid new lines n size is gains front
 
 -- a dump is the installs of the entries, and then the disables of the disabled names
 pub dump-is : (store : Store) → flat_map install_command store.entries ++ flat_map disable_command store.disabled ≡ dump_text store

@@ -8,7 +8,7 @@ use Rattle.cil_store_specs.specs.Store.{Entry, Store, empty}
 use Rattle.cil_store_specs.specs.Next.{Refusal, accepts, refuses, for_memory, Of}
 use Rattle.cil_store_specs.specs.Run.{AreRowsOf, AreViolationsOf}
 use Rattle.cil_store_specs.specs.Script.{refusal_line}
-use Rattle.cil_program.specs.Session.{Leaves}
+use Rattle.cil_program.specs.Session.{Leaves, LeavesByRead, LeavesByWrite}
 use Rattle.cil_program.specs.declared.command_line.compile.Report.{Report}
 use Rattle.cil_program.specs.declared.command_line.compile.Report.TheVariants.{Listing, Violations}
 use Rattle.cil_program.specs.declared.script.session.SessionFault.{SessionFault}
@@ -39,6 +39,8 @@ pub record AnswersSession (first now : Account) (before after : Written) (status
   pub end : Result Status SessionFault
   pub is : status ≡ exit_status_of end
   pub leaves : IfOk end (λ s. (store : Store) × Leaves first now (record { store = empty; taken = before.taken }) (record { store = store; taken = after.taken }) s)
+  pub cut_by_read : end ≡ Err Read → (store : Store) × LeavesByRead first now (record { store = empty; taken = before.taken }) (record { store = store; taken = after.taken })
+  pub cut_by_write : end ≡ Err Write → (store : Store) × LeavesByWrite first now (record { store = empty; taken = before.taken }) (record { store = store; taken = after.taken })
   pub flushed : status ≢ 3 → after.flushed ≡ after.taken
   pub ended : (status ≡ 0) ⊎ (status ≡ 1) → HasEnded first now
   pub failed : status ≡ 3 → HasFailed first.failures now.failures ⊎ HasFailed before.failures after.failures

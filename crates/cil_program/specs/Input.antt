@@ -29,6 +29,11 @@ pub record HasRead (was is : Account) (old new : Held) (read : List ℕ) : Type 
   pub fits : Fits is.count new
   pub small : read ≢ [] → is.count < 2 ^ 64
 
+-- A source failed: of its bytes these were read, and nothing is held back.
+pub record HasStopped (was is : Account) (old new : Held) (read : List ℕ) : Type 0 where
+  pub reads : HasRead was is old new read
+  pub none : new.bytes ≡ []
+
 -- a byte that ends no line
 abbrev pub stays : ℕ → Bool
 stays b = not (is_line_feed b)

@@ -1,17 +1,21 @@
 -- One line of a script, and what came of it.
-use Rattle.std.specs.Prelude.{◌≡◌, ℕ, Bool, true, false, List, [], ◌∷◌, ◌++◌, length, codes, decimal, Option, IsTrue, ◌⊎◌}
+use Rattle.std.specs.Prelude.{◌≡◌, ◌≢◌, ℕ, ◌≤◌, Bool, true, false, List, [], ◌∷◌, ◌++◌, length, codes, decimal, Option, IsTrue, ◌⊎◌}
 use Rattle.std.specs.List.{join_with_byte}
-use Rattle.cil_stream.specs.Device.{Account, Gains, Gives, IsLeft, has_ended}
+use Rattle.cil_stream.specs.Device.{Account, Gains, GainsFront, Gives, HasEnded, IsLeft, has_ended}
 use Rattle.cil_store_specs.specs.Store.{Store}
 use Rattle.cil_store_specs.specs.Next.{install}
-use Rattle.cil_store_specs.specs.Script.{Command, makes, Answer, Answers, HasGoodWords, IsGoodName, IsShortNumber, line_of, behind, MayLackItsEnd}
-use Rattle.cil_store_specs.specs.Session.{IsSession, all_accepted, some_refused, no_script}
+use Rattle.cil_store_specs.specs.Script.{Command, makes, Answer, Answers, HasGoodWords, IsGoodName, IsShortNumber, line_of, behind, command_bytes, IsCommand, MayLackItsEnd, IsNoCommand}
+use Rattle.cil_store_specs.specs.Session.{IsSession, BeginsNoCommand, IsCutByRead, IsCutByWrite, all_accepted, some_refused, no_script}
 use Rattle.cil_store_specs.specs.Session as spec
-use Rattle.cil_program.specs.Input.{Held, HasRead, IsShort}
+use Rattle.cil_program.specs.Input.{Held, HasRead, HasStopped, IsShort}
 use Rattle.cil_program.specs.declared.script.input.LineEnd.{LineEnd}
 use Rattle.cil_program.specs.declared.script.input.LineEnd.TheVariants.{LineFeed, LastByte, TooLong}
 use Rattle.cil_program.specs.declared.script.session.Outcome.{Outcome}
 use Rattle.cil_program.specs.declared.script.session.Outcome.TheVariants.{Accepted, Refused, NoCommand}
+use Rattle.cil_program.specs.declared.script.session.SessionFault.{SessionFault}
+use Rattle.cil_program.specs.declared.script.session.SessionFault.TheVariants.{Read, Write}
+use Rattle.cil_program.specs.declared.script.session.Turn.{Turn}
+use Rattle.cil_program.specs.declared.script.session.Turn.TheVariants as turns
 use Rattle.cil_program.specs.declared.script.session.Status.{Status}
 use Rattle.cil_program.specs.declared.script.session.Status.TheVariants as statuses
 
@@ -33,9 +37,18 @@ status_of statuses.Script = no_script
 abbrev pub Advances : Moment → Moment → List ℕ → Type 0
 Advances old new read = HasRead old.account new.account old.held new.held read
 
+-- the source failed behind these bytes
+abbrev pub Stops : Moment → Moment → List ℕ → Type 0
+Stops old new read = HasStopped old.account new.account old.held new.held read
+
 abbrev pub outcome_of : Bool → Outcome
 outcome_of true = Refused
 outcome_of false = Accepted
+
+-- the status after one more answer
+abbrev pub after_answer : Bool → Status → Status
+after_answer true status = statuses.Refused
+after_answer false status = status
 
 -- a command was answered and its answer written
 pub record HasAnswered (command : Command) (outcome : Outcome) (old new : Standing) : Type 0 where
@@ -43,6 +56,12 @@ pub record HasAnswered (command : Command) (outcome : Outcome) (old new : Standi
   pub answers : Answers old.store command answer new.store
   pub written : Gains old.taken new.taken answer.bytes
   pub is : outcome ≡ outcome_of answer.refuses
+
+-- a command was answered, and a beginning of its answer written
+pub record HasBegun (command : Command) (old new : Standing) : Type 0 where
+  pub answer : Answer
+  pub answers : Answers old.store command answer new.store
+  pub written : GainsFront old.taken new.taken answer.bytes
 
 -- the line that ended so and the bytes read behind it are a command
 abbrev pub IsWhole : LineEnd → List ℕ → List ℕ → Moment → Command → Type 0
@@ -77,6 +96,39 @@ abbrev pub IsInstallOutcome : Outcome → List ℕ → ℕ → ℕ → Moment �
 IsInstallOutcome NoCommand name priority size old new before after = (read : List ℕ) × Advances old new read × IsShort size read (has_ended new.account) new.held.bytes × (after ≡ before)
 IsInstallOutcome outcome name priority size old new before after = (text : List ℕ) × Advances old new (text ++ 10 ∷ []) × (length text ≡ size) × HasAnswered (makes (install name priority text)) outcome before after
 
+-- the source failed in the text of an install; or the sink failed, in its answer
+abbrev pub IsInstallCut : SessionFault → List ℕ → ℕ → ℕ → Moment → Moment → Standing → Standing → Type 0
+IsInstallCut Read name priority size old new before after = (read : List ℕ) × Stops old new read × (length read ≤ size) × (after ≡ before)
+IsInstallCut Write name priority size old new before after = (text : List ℕ) × Advances old new (text ++ 10 ∷ []) × (length text ≡ size) × HasBegun (makes (install name priority text)) before after
+
+-- the source failed in the text of the install on a line; or the sink failed, before anything was done or in the answer
+abbrev pub IsLineCut : SessionFault → LineEnd → List ℕ → Moment → Moment → Standing → Standing → Type 0
+IsLineCut Read end line old new before after = (end ≡ LineFeed) × (name : List ℕ) × (priority : ℕ) × (size : ℕ) × AreGoodWords name priority size × (line ≡ install_line name priority size)
+    × (read : List ℕ) × Stops old new read × (length read ≤ size) × (after ≡ before)
+IsLineCut Write end line old new before after = (Advances old new [] × (after ≡ before))
+    ⊎ ((command : Command) × (read : List ℕ) × Advances old new read × IsWhole end line read new command × HasBegun command before after)
+
+-- the bytes of a command, as a whole; or, of the last one, but for its line feed
+abbrev pub IsReadOf : Bool → Command → List ℕ → Moment → Moment → Type 0
+IsReadOf false command read old new = IsCommand command × (read ≡ command_bytes command)
+IsReadOf true command read old new = IsCommand command × MayLackItsEnd command × (read ≡ line_of command) × HasEnded old.account new.account × (new.held.bytes ≡ [])
+
+-- what was read is some of the script, and no command is there, whatever comes behind it
+abbrev pub IsNone : List ℕ → Moment → Type 0
+IsNone read now = (more : List ℕ) → (IsTrue (has_ended now.account) → more ≡ []) → (read ++ (now.held.bytes ++ more) ≢ []) × IsNoCommand (read ++ (now.held.bytes ++ more))
+
+-- what came of a turn: the script ended; or a command was read and answered; or none was there, and nothing was done
+abbrev pub IsTurn : Turn → Moment → Moment → Standing → Standing → Type 0
+IsTurn turns.End old new before after = Advances old new [] × HasEnded old.account new.account × (new.held.bytes ≡ []) × (after ≡ before)
+IsTurn (turns.Answered refused last) old new before after = (command : Command) × (read : List ℕ) × Advances old new read × IsReadOf last command read old new × HasAnswered command (outcome_of refused) before after
+IsTurn turns.NoCommand old new before after = (read : List ℕ) × Advances old new read × IsNone read new × (after ≡ before)
+
+-- a turn in which the source failed, before a command was read; or the sink, before anything was done or in an answer
+abbrev pub IsTurnCut : SessionFault → Moment → Moment → Standing → Standing → Type 0
+IsTurnCut Read old new before after = (read : List ℕ) × Stops old new read × BeginsNoCommand read × (after ≡ before)
+IsTurnCut Write old new before after = ((read : List ℕ) × Advances old new read × (after ≡ before))
+    ⊎ ((last : Bool) × (command : Command) × (read : List ℕ) × Advances old new read × IsReadOf last command read old new × HasBegun command before after)
+
 -- What a session leaves behind: its source gave bytes, and its sink took the answers. Where the source tells its whole text, the
 -- script is all that was left of it.
 pub record Leaves (first now : Account) (before after : Standing) (status : Status) : Type 0 where
@@ -86,3 +138,21 @@ pub record Leaves (first now : Account) (before after : Standing) (status : Stat
   pub gains : Gains before.taken after.taken written
   pub session : IsSession given (has_ended now) before.store after.store written (status_of status)
   pub whole : (rest : List ℕ) → IsLeft first rest → IsSession rest true before.store after.store written (status_of status)
+
+-- What a session leaves behind whose source failed. Where the source tells its whole text, what it gave begins what was left of it.
+pub record LeavesByRead (first now : Account) (before after : Standing) : Type 0 where
+  pub given : List ℕ
+  pub written : List ℕ
+  pub gives : Gives first now given
+  pub gains : Gains before.taken after.taken written
+  pub cut : IsCutByRead given before.store after.store written
+  pub whole : (rest : List ℕ) → IsLeft first rest → (more : List ℕ) × (rest ≡ given ++ more)
+
+-- What a session leaves behind whose sink failed. Where the source tells its whole text, the script is all that was left of it.
+pub record LeavesByWrite (first now : Account) (before after : Standing) : Type 0 where
+  pub given : List ℕ
+  pub written : List ℕ
+  pub gives : Gives first now given
+  pub gains : Gains before.taken after.taken written
+  pub cut : IsCutByWrite given (has_ended now) before.store after.store written
+  pub whole : (rest : List ℕ) → IsLeft first rest → IsCutByWrite rest true before.store after.store written

@@ -1,10 +1,11 @@
 -- A script has one list of commands, and ends in one way.
-use Rattle.std.proofs.Common.{◌≡◌, ℕ, zero, suc, ◌+◌, ◌<◌, List, [], ◌∷◌, ◌++◌, length, drop, take, flat_map, get_or, refl, ap, sym, ◌∙◌, subst, append_assoc, length-append, arith}
+use Rattle.std.proofs.Common.{◌≡◌, ℕ, zero, suc, ◌+◌, ◌<◌, List, [], ◌∷◌, ◌++◌, length, drop, take, flat_map, get_or, refl, ap, sym, ◌∙◌, subst, append_assoc, append-nil, length-append, arith}
 use Rattle.std.proofs.lemmas.List.{take_all, take-append-le}
 use Rattle.std.specs.List.{list_all, AllByRecursion}
 use Rattle.cil_specs.proofs.NamesLemmas.{all-first, all-second}
 use Rattle.cil_store_specs.specs.Next.{install, remove, enable, disable}
 use Rattle.cil_store_specs.specs.Script.{Command, makes, asks_rules, asks_violations, asks_dropped, asks_modules, asks_dump, words_of, line_of, behind, command_bytes, HasGoodWords, IsCommand, MayLackItsEnd, End, ends, stops, IsEnd, Commands, whole, without_end}
+use Rattle.cil_store_specs.specs.Session.{BeginsWith, whole_ones, all_of_it}
 use Rattle.cil_store_specs.proofs.WordLemmas.{stays, line-stays, lines-same, commands-same, text_of, text-length, kind_of_word, number_of, first_word}
 use Rattle.cil_store_specs.proofs.LineLemmas.{same-lines, has-feed, command-line}
 
@@ -150,3 +151,25 @@ one-script script commands others end last (without_end first command good parts
     let both = same-commands first front (line_of command) (line_of other) (all-first IsCommand first (command ∷ []) all) (all-first IsCommand front (other ∷ []) every) (line-has-none command it.0) (line-has-none other that.0) (sym is ∙ is_other) in
     let lasts = same-last command other it.0 that.0 may might both.1 in
     (parts ∙ (λ i. both.0 i ++ lasts i ∷ []) ∙ sym split, is_end ∙ sym is_last)
+
+-- commands at the front of commands, behind which there is none, are the first of them
+first-commands : (commands all : List Command) (rest more : List ℕ) → AllByRecursion IsCommand commands → AllByRecursion IsCommand all → HasNoFront more → flat_map command_bytes commands ++ rest ≡ flat_map command_bytes all ++ more
+    → (others : List Command) × (all ≡ commands ++ others)
+unfolding HasNoFront
+first-commands [] all rest more good better none e = (all, refl)
+first-commands (c ∷ commands) [] rest more good better none e = absurd (none c (flat_map command_bytes commands ++ rest) good.0 (sym e ∙ append_assoc (command_bytes c) (flat_map command_bytes commands) rest))
+first-commands (c ∷ commands) (d ∷ all) rest more good better none e =
+    let both = same-command c d (flat_map command_bytes commands ++ rest) (flat_map command_bytes all ++ more) good.0.0 better.0.0
+    (sym (append_assoc (command_bytes c) (flat_map command_bytes commands) rest) ∙ e ∙ append_assoc (command_bytes d) (flat_map command_bytes all) more) in
+    let next = first-commands commands all rest more good.1 better.1 none both.1 in
+    (next.0, (λ i. d ∷ next.1 i) ∙ ap (λ x. x ∷ (commands ++ next.0)) (sym both.0))
+
+-- the commands with which a script begins are the first of its commands
+pub begins-with-first : (script : List ℕ) (commands all : List Command) (end : End) → BeginsWith script commands → Commands script all end → (others : List Command) × (all ≡ commands ++ others)
+begins-with-first script commands all end (whole_ones good rest is) (whole better more other is_end) = first-commands commands all rest more good better (end-has-none (flat_map command_bytes all) more end is_end) (sym is ∙ other)
+begins-with-first script commands all end (whole_ones good rest is) (without_end first last better parts may other is_end) =
+    let every = subst (AllByRecursion IsCommand) parts better in
+    let it = (all-second IsCommand first (last ∷ []) every).0 in
+    let firsts = first-commands commands first rest (line_of last) good (all-first IsCommand first (last ∷ []) every) (line-has-none last it.0) (sym is ∙ other) in
+    (firsts.0 ++ last ∷ [], parts ∙ ap (λ l. l ++ last ∷ []) firsts.1 ∙ append_assoc commands firsts.0 (last ∷ []))
+begins-with-first script commands all end (all_of_it are) of_all = ([], sym (one-script script commands all ends end are of_all).0 ∙ sym (append-nil commands))

@@ -4,6 +4,7 @@ ghost use Rattle.std.specs.Prelude.{◌≡◌, ◌≢◌, ◌↔◌, ◌+◌, �
 ghost use Rattle.std.specs.List.{list_all};
 ghost use Rattle.cil_specs.specs.Place.{is_line_feed};
 ghost use Rattle.cil_stream.specs.Device.{HasFailed, HasEnded, Gives};
+ghost use Rattle.cil_program.specs.Input.{HasStopped};
 
 use crate::script::line::Line;
 use cil_stream::{Source, SourceFault};
@@ -113,6 +114,7 @@ impl Input {
         ensures line_feeds { self.new.line_feeds ≡ self.old.line_feeds }
         ensures failed { OnErr result (HasFailed (S.account source.old).failures (S.account source.new).failures) }
         ensures err { OnErr result (self.new ≡ self.old) }
+        ensures stopped { OnErr result (HasStopped (S.account source.old) (S.account source.new) self.old self.new []) }
         ensures failures { (S.account source.old).failures ≤ (S.account source.new).failures }
     {
         let n = source.take(&mut self.bytes)?;
@@ -127,7 +129,7 @@ impl Input {
     ghost use Rattle.std.specs.List.{list_all, list_any};
     ghost use Rattle.cil_stream.specs.Device.{HasFailed, HasEnded, has_ended};
     ghost use Rattle.cil_specs.specs.Place.{is_line_feed};
-    ghost use Rattle.cil_program.specs.Input.{Fits, HasRead, EndsLine, IsText, IsOther, IsWholeText, stays};
+    ghost use Rattle.cil_program.specs.Input.{Fits, HasRead, HasStopped, EndsLine, IsText, IsOther, IsWholeText, stays};
     ghost use Rattle.cil_program.specs.declared.script.input.LineEnd.TheVariants.{LastByte};
 
     /// The next byte; none where the source told its end.
@@ -136,6 +138,7 @@ impl Input {
         ensures byte { IfOk result (λ r. IfSome r (λ b. HasRead (S.account source.old) (S.account source.new) self.old self.new (b ∷ []))) }
         ensures end { IfOk result (λ r. IfNone r (HasRead (S.account source.old) (S.account source.new) self.old self.new []
             × HasEnded (S.account source.old) (S.account source.new) × (self.new.bytes ≡ []))) }
+        ensures err { OnErr result (HasStopped (S.account source.old) (S.account source.new) self.old self.new []) }
         ensures failed { OnErr result (HasFailed (S.account source.old).failures (S.account source.new).failures) }
         ensures failures { (S.account source.old).failures ≤ (S.account source.new).failures }
     {
@@ -154,8 +157,9 @@ impl Input {
         requires counted { Fits (S.account source.old).count self.old }
         ensures read { IfOk result (λ end. (read : List ℕ) × HasRead (S.account source.old) (S.account source.new) self.old self.new read
             × EndsLine end line.new read (has_ended (S.account source.new)) self.new.bytes) }
-        ensures stays { IfOk result (λ _. IsTrue (list_all stays line.new)) }
+        ensures stays { IsTrue (list_all stays line.new) }
         ensures ended { IfOk result (λ end. end ≡ LastByte → HasEnded (S.account source.old) (S.account source.new)) }
+        ensures err { OnErr result (HasStopped (S.account source.old) (S.account source.new) self.old self.new line.new) }
         ensures failed { OnErr result (HasFailed (S.account source.old).failures (S.account source.new).failures) }
         ensures failures { (S.account source.old).failures ≤ (S.account source.new).failures }
     {
@@ -180,6 +184,7 @@ impl Input {
         ensures read { IfOk result (λ _. HasRead (S.account source.old) (S.account source.new) self.old self.new []) }
         ensures more { IfOk result (λ more. IsTrue more → self.new.bytes ≢ []) }
         ensures none { IfOk result (λ more. more ≡ false → IsTrue (has_ended (S.account source.new)) × (self.new.bytes ≡ [])) }
+        ensures err { OnErr result (HasStopped (S.account source.old) (S.account source.new) self.old self.new []) }
         ensures failed { OnErr result (HasFailed (S.account source.old).failures (S.account source.new).failures) }
         ensures failures { (S.account source.old).failures ≤ (S.account source.new).failures }
     {
@@ -234,6 +239,8 @@ impl Input {
         requires room { vec_len text.old + len ≤ vec_capacity text.old }
         ensures read { IfOk result (λ whole. (read : List ℕ) × HasRead (S.account source.old) (S.account source.new) self.old self.new read
             × (text.new.items ≡ text.old.items ++ read) × IsText whole len read (has_ended (S.account source.new)) self.new.bytes) }
+        ensures err { OnErr result ((read : List ℕ) × HasStopped (S.account source.old) (S.account source.new) self.old self.new read
+            × (text.new.items ≡ text.old.items ++ read) × (length read < len)) }
         ensures failed { OnErr result (HasFailed (S.account source.old).failures (S.account source.new).failures) }
         ensures failures { (S.account source.old).failures ≤ (S.account source.new).failures }
     {
@@ -256,6 +263,8 @@ impl Input {
         requires { Fits (S.account source.old).count self.old }
         ensures read { IfOk result (λ whole. (read : List ℕ) × HasRead (S.account source.old) (S.account source.new) self.old self.new read
             × IsText whole len read (has_ended (S.account source.new)) self.new.bytes) }
+        ensures err { OnErr result ((read : List ℕ) × HasStopped (S.account source.old) (S.account source.new) self.old self.new read
+            × (length read < len)) }
         ensures failed { OnErr result (HasFailed (S.account source.old).failures (S.account source.new).failures) }
         ensures failures { (S.account source.old).failures ≤ (S.account source.new).failures }
     {
@@ -277,6 +286,7 @@ impl Input {
         ensures yes { IfOk result (λ is. IsTrue is → HasRead (S.account source.old) (S.account source.new) self.old self.new (10 ∷ [])) }
         ensures no { IfOk result (λ is. is ≡ false → (read : List ℕ) × HasRead (S.account source.old) (S.account source.new) self.old self.new read
             × IsOther read (has_ended (S.account source.new)) self.new.bytes) }
+        ensures err { OnErr result (HasStopped (S.account source.old) (S.account source.new) self.old self.new []) }
         ensures failed { OnErr result (HasFailed (S.account source.old).failures (S.account source.new).failures) }
         ensures failures { (S.account source.old).failures ≤ (S.account source.new).failures }
     {
@@ -298,6 +308,8 @@ impl Input {
         requires room { vec_len text.old + len ≤ vec_capacity text.old }
         ensures read { IfOk result (λ whole. (read part : List ℕ) × HasRead (S.account source.old) (S.account source.new) self.old self.new read
             × (text.new.items ≡ text.old.items ++ part) × IsWholeText whole len part read (has_ended (S.account source.new)) self.new.bytes) }
+        ensures err { OnErr result ((read : List ℕ) × HasStopped (S.account source.old) (S.account source.new) self.old self.new read
+            × (length read ≤ len)) }
         ensures failed { OnErr result (HasFailed (S.account source.old).failures (S.account source.new).failures) }
         ensures failures { (S.account source.old).failures ≤ (S.account source.new).failures }
     {
@@ -312,6 +324,8 @@ impl Input {
         requires { Fits (S.account source.old).count self.old }
         ensures read { IfOk result (λ whole. (read part : List ℕ) × HasRead (S.account source.old) (S.account source.new) self.old self.new read
             × IsWholeText whole len part read (has_ended (S.account source.new)) self.new.bytes) }
+        ensures err { OnErr result ((read : List ℕ) × HasStopped (S.account source.old) (S.account source.new) self.old self.new read
+            × (length read ≤ len)) }
         ensures failed { OnErr result (HasFailed (S.account source.old).failures (S.account source.new).failures) }
         ensures failures { (S.account source.old).failures ≤ (S.account source.new).failures }
     {

@@ -1,11 +1,11 @@
 //! A session: it answers a script, command by command.
 
-ghost use Rattle.std.specs.Prelude.{◌≡◌, ◌≢◌, ◌≤◌, [], List, ℕ, IfOk, OnOk, OnErr, IsErrOf, IsTrue};
-ghost use Rattle.cil_stream.specs.Device.{HasFailed, HasEnded, Gains, has_ended};
+ghost use Rattle.std.specs.Prelude.{◌≡◌, ◌≢◌, ◌≤◌, [], List, ℕ, IfOk, IfErr, OnOk, OnErr, IsErrOf, IsTrue};
+ghost use Rattle.cil_stream.specs.Device.{HasFailed, HasEnded, Gains, GainsFront, has_ended};
 ghost use Rattle.cil_store_specs.specs.Script.{makes, asks_rules, asks_violations, asks_dropped, asks_modules, asks_dump, refusal_line};
 ghost use Rattle.cil_store.specs.Edits.{edit_of, store_refusal_of};
 ghost use Rattle.cil_program.specs.Input.{Fits};
-ghost use Rattle.cil_program.specs.Session.{Moment, Standing, HasAnswered, IsOutcome, IsInstallOutcome, Leaves};
+ghost use Rattle.cil_program.specs.Session.{Moment, Standing, HasAnswered, HasBegun, IsOutcome, IsInstallOutcome, IsInstallCut, IsLineCut, IsTurn, IsTurnCut, Leaves, LeavesByRead, LeavesByWrite};
 ghost use Rattle.cil_program.specs.declared.script.input.LineEnd.TheVariants.{LastByte};
 ghost use Rattle.cil_program.specs.declared.script.session.Status.TheVariants.{Script};
 
@@ -28,6 +28,18 @@ pub enum Status {
     Refused,
     /// At a line that is no command.
     Script,
+}
+
+impl Status {
+    ghost use Rattle.std.specs.Prelude.{◌≡◌};
+    ghost use Rattle.cil_program.specs.Session.{after_answer};
+
+    /// The status after one more answer.
+    fn after(self, refused: bool) -> Self
+        ensures { result ≡ after_answer refused self }
+    {
+        if refused { Status::Refused } else { self }
+    }
 }
 
 /// Why a session didn't reach its end.
@@ -70,12 +82,25 @@ pub enum Outcome {
     NoCommand,
 }
 
+/// What came of a turn of a session, in which it reads a line.
+#[derive(Clone, Copy, Debug, PartialEq, Eq)]
+pub enum Turn {
+    /// The script ended before the line.
+    End,
+    /// A command was answered. The last one lacked its line feed.
+    Answered { refused: bool, last: bool },
+    /// It was no command. Nothing was done.
+    NoCommand,
+}
+
 /// Answers the question for the listing.
 fn answer_rows<W: Sink, A: Allocator + Copy, C: Compiled<A>>(
     sink: &mut W,
     engine: &C,
 ) -> Result<Outcome, SinkFault>
     ensures ok { IfOk result (λ outcome. HasAnswered asks_rules outcome (record { store = C.store engine.now; taken = W.taken sink.old })
+        (record { store = C.store engine.now; taken = W.taken sink.new })) }
+    ensures err { OnErr result (HasBegun asks_rules (record { store = C.store engine.now; taken = W.taken sink.old })
         (record { store = C.store engine.now; taken = W.taken sink.new })) }
     ensures failed { OnErr result (HasFailed (W.failures sink.old) (W.failures sink.new)) }
     ensures counted { W.failures sink.old ≤ W.failures sink.new }
@@ -100,6 +125,8 @@ fn answer_violations<W: Sink, A: Allocator + Copy, C: Compiled<A>>(
 ) -> Result<Outcome, SinkFault>
     ensures ok { IfOk result (λ outcome. HasAnswered asks_violations outcome (record { store = C.store engine.now; taken = W.taken sink.old })
         (record { store = C.store engine.now; taken = W.taken sink.new })) }
+    ensures err { OnErr result (HasBegun asks_violations (record { store = C.store engine.now; taken = W.taken sink.old })
+        (record { store = C.store engine.now; taken = W.taken sink.new })) }
     ensures failed { OnErr result (HasFailed (W.failures sink.old) (W.failures sink.new)) }
     ensures counted { W.failures sink.old ≤ W.failures sink.new }
 {
@@ -123,6 +150,8 @@ fn answer_dropped<W: Sink, A: Allocator + Copy, C: Compiled<A>>(
 ) -> Result<Outcome, SinkFault>
     ensures ok { IfOk result (λ outcome. HasAnswered asks_dropped outcome (record { store = C.store engine.now; taken = W.taken sink.old })
         (record { store = C.store engine.now; taken = W.taken sink.new })) }
+    ensures err { OnErr result (HasBegun asks_dropped (record { store = C.store engine.now; taken = W.taken sink.old })
+        (record { store = C.store engine.now; taken = W.taken sink.new })) }
     ensures failed { OnErr result (HasFailed (W.failures sink.old) (W.failures sink.new)) }
     ensures counted { W.failures sink.old ≤ W.failures sink.new }
 {
@@ -145,6 +174,8 @@ fn answer_modules<W: Sink, A: Allocator + Copy, C: Compiled<A>>(
 ) -> Result<Outcome, SinkFault>
     ensures ok { IfOk result (λ outcome. HasAnswered asks_modules outcome (record { store = C.store engine.now; taken = W.taken sink.old })
         (record { store = C.store engine.now; taken = W.taken sink.new })) }
+    ensures err { OnErr result (HasBegun asks_modules (record { store = C.store engine.now; taken = W.taken sink.old })
+        (record { store = C.store engine.now; taken = W.taken sink.new })) }
     ensures failed { OnErr result (HasFailed (W.failures sink.old) (W.failures sink.new)) }
     ensures counted { W.failures sink.old ≤ W.failures sink.new }
 {
@@ -158,6 +189,8 @@ fn answer_dump<W: Sink, A: Allocator + Copy, C: Compiled<A>>(
     engine: &C,
 ) -> Result<Outcome, SinkFault>
     ensures ok { IfOk result (λ outcome. HasAnswered asks_dump outcome (record { store = C.store engine.now; taken = W.taken sink.old })
+        (record { store = C.store engine.now; taken = W.taken sink.new })) }
+    ensures err { OnErr result (HasBegun asks_dump (record { store = C.store engine.now; taken = W.taken sink.old })
         (record { store = C.store engine.now; taken = W.taken sink.new })) }
     ensures failed { OnErr result (HasFailed (W.failures sink.old) (W.failures sink.new)) }
     ensures counted { W.failures sink.old ≤ W.failures sink.new }
@@ -173,6 +206,8 @@ fn answer_edit<W: Sink, A: Allocator + Copy, C: Compiled<A>>(
     edit: Edit<'_>,
 ) -> Result<Outcome, SinkFault>
     ensures ok { IfOk result (λ outcome. HasAnswered (makes (edit_of edit.entry)) outcome (record { store = C.store engine.old; taken = W.taken sink.old })
+        (record { store = C.store engine.new; taken = W.taken sink.new })) }
+    ensures err { OnErr result (HasBegun (makes (edit_of edit.entry)) (record { store = C.store engine.old; taken = W.taken sink.old })
         (record { store = C.store engine.new; taken = W.taken sink.new })) }
     ensures failed { OnErr result (HasFailed (W.failures sink.old) (W.failures sink.new)) }
     ensures counted { W.failures sink.old ≤ W.failures sink.new }
@@ -197,6 +232,8 @@ fn write_store_fault<W: Sink>(
     priority: u32,
 ) -> Result<(), SinkFault>
     ensures ok { OnOk result (Gains (W.taken sink.old) (W.taken sink.new) (refusal_line (store_refusal_of fault name.now priority))) }
+    ensures err { OnErr result (GainsFront (W.taken sink.old) (W.taken sink.new)
+        (refusal_line (store_refusal_of fault name.now priority))) }
     ensures failed { OnErr result (HasFailed (W.failures sink.old) (W.failures sink.new)) }
     ensures counted { W.failures sink.old ≤ W.failures sink.new }
 {
@@ -239,6 +276,10 @@ fn answer_install<S: Source, W: Sink, A: Allocator + Copy, C: Compiled<A>>(
 ) -> Result<Outcome, SessionFault>
     requires { Fits (S.account source.old).count input.old }
     ensures ok { IfOk result (λ outcome. IsInstallOutcome outcome name.now priority len
+        (record { account = S.account source.old; held = input.old })
+        (record { account = S.account source.new; held = input.new })
+        (record { store = C.store engine.old; taken = W.taken sink.old }) (record { store = C.store engine.new; taken = W.taken sink.new })) }
+    ensures err { IfErr result (λ fault. IsInstallCut fault name.now priority len
         (record { account = S.account source.old; held = input.old })
         (record { account = S.account source.new; held = input.new })
         (record { store = C.store engine.old; taken = W.taken sink.old }) (record { store = C.store engine.new; taken = W.taken sink.new })) }
@@ -288,6 +329,10 @@ fn answer_line<S: Source, W: Sink, A: Allocator + Copy, C: Compiled<A>>(
         (record { account = S.account source.old; held = input.old })
         (record { account = S.account source.new; held = input.new })
         (record { store = C.store engine.old; taken = W.taken sink.old }) (record { store = C.store engine.new; taken = W.taken sink.new })) }
+    ensures err { IfErr result (λ fault. IsLineCut fault end line.now
+        (record { account = S.account source.old; held = input.old })
+        (record { account = S.account source.new; held = input.new })
+        (record { store = C.store engine.old; taken = W.taken sink.old }) (record { store = C.store engine.new; taken = W.taken sink.new })) }
     ensures read { IsErrOf result SessionFault.Read → HasFailed (S.account source.old).failures (S.account source.new).failures }
     ensures write { IsErrOf result SessionFault.Write → HasFailed (W.failures sink.old) (W.failures sink.new) }
     ensures read_failures { (S.account source.old).failures ≤ (S.account source.new).failures }
@@ -325,6 +370,49 @@ fn answer_line<S: Source, W: Sink, A: Allocator + Copy, C: Compiled<A>>(
     }
 }
 
+/// Reads a line of a script and answers the command there.
+fn answer_next<S: Source, W: Sink, A: Allocator + Copy, C: Compiled<A>>(
+    alloc: A,
+    input: &mut Input,
+    source: &mut S,
+    sink: &mut W,
+    engine: &mut C,
+    line: &mut Line,
+) -> Result<Turn, SessionFault>
+    requires { Fits (S.account source.old).count input.old }
+    ensures ok { IfOk result (λ turn. IsTurn turn
+        (record { account = S.account source.old; held = input.old })
+        (record { account = S.account source.new; held = input.new })
+        (record { store = C.store engine.old; taken = W.taken sink.old }) (record { store = C.store engine.new; taken = W.taken sink.new })) }
+    ensures err { IfErr result (λ fault. IsTurnCut fault
+        (record { account = S.account source.old; held = input.old })
+        (record { account = S.account source.new; held = input.new })
+        (record { store = C.store engine.old; taken = W.taken sink.old }) (record { store = C.store engine.new; taken = W.taken sink.new })) }
+    ensures read { IsErrOf result SessionFault.Read → HasFailed (S.account source.old).failures (S.account source.new).failures }
+    ensures write { IsErrOf result SessionFault.Write → HasFailed (W.failures sink.old) (W.failures sink.new) }
+    ensures read_failures { (S.account source.old).failures ≤ (S.account source.new).failures }
+    ensures write_failures { W.failures sink.old ≤ W.failures sink.new }
+{
+    flush_unless(sink, input.holds_line())?;
+    let end = input.read_line(source, line)?;
+    let bytes = line.as_slice();
+    let last = end.is_last();
+    if last && bytes.is_empty() {
+        return Ok(Turn::End);
+    }
+    match answer_line(alloc, input, source, sink, engine, bytes, end)? {
+        Outcome::Accepted => Ok(Turn::Answered {
+            refused: false,
+            last,
+        }),
+        Outcome::Refused => Ok(Turn::Answered {
+            refused: true,
+            last,
+        }),
+        Outcome::NoCommand => Ok(Turn::NoCommand),
+    }
+}
+
 /// Answers the commands of a script, up to its end or to a line that is no command.
 fn answer_commands<S: Source, W: Sink, A: Allocator + Copy, C: Compiled<A>>(
     alloc: A,
@@ -335,6 +423,10 @@ fn answer_commands<S: Source, W: Sink, A: Allocator + Copy, C: Compiled<A>>(
     ensures ok { IfOk result (λ status. Leaves (S.account source.old) (S.account source.new)
         (record { store = C.store engine.old; taken = W.taken sink.old }) (record { store = C.store engine.new; taken = W.taken sink.new }) status) }
     ensures ended { IfOk result (λ status. status ≢ Script → HasEnded (S.account source.old) (S.account source.new)) }
+    ensures cut_by_read { IsErrOf result SessionFault.Read → LeavesByRead (S.account source.old) (S.account source.new)
+        (record { store = C.store engine.old; taken = W.taken sink.old }) (record { store = C.store engine.new; taken = W.taken sink.new }) }
+    ensures cut_by_write { IsErrOf result SessionFault.Write → LeavesByWrite (S.account source.old) (S.account source.new)
+        (record { store = C.store engine.old; taken = W.taken sink.old }) (record { store = C.store engine.new; taken = W.taken sink.new }) }
     ensures read { IsErrOf result SessionFault.Read → HasFailed (S.account source.old).failures (S.account source.new).failures }
     ensures write { IsErrOf result SessionFault.Write → HasFailed (W.failures sink.old) (W.failures sink.new) }
     ensures counted { W.failures sink.old ≤ W.failures sink.new }
@@ -342,24 +434,20 @@ fn answer_commands<S: Source, W: Sink, A: Allocator + Copy, C: Compiled<A>>(
     let mut input = Input::new();
     let mut line = Line::new();
     let mut status = Status::Clean;
-    loop {
+    'turns: loop {
         let before = input.line_feeds();
-        flush_unless(sink, input.holds_line())?;
-        let end = input.read_line(source, &mut line)?;
-        let bytes = line.as_slice();
-        if end.is_last() && bytes.is_empty() {
-            return Ok(status);
-        }
-        match answer_line(alloc, &mut input, source, sink, engine, bytes, end)? {
-            Outcome::Accepted => {}
-            Outcome::Refused => status = Status::Refused,
-            Outcome::NoCommand => {
+        match answer_next(alloc, &mut input, source, sink, engine, &mut line)? {
+            Turn::End => return Ok(status),
+            Turn::Answered { refused, last } => {
+                status = status.after(refused);
+                if last {
+                    return Ok(status);
+                }
+            }
+            Turn::NoCommand => {
                 reply::write_script_line(sink, before)?;
                 return Ok(Status::Script);
             }
-        }
-        if end.is_last() {
-            return Ok(status);
         }
     }
 }
@@ -369,7 +457,8 @@ fn answer_commands<S: Source, W: Sink, A: Allocator + Copy, C: Compiled<A>>(
 ///
 /// # Errors
 ///
-/// `Read` or `Write` where the source or the sink failed. As tests show, the engine keeps what it accepted before.
+/// `Read` or `Write` where the source or the sink failed. The engine keeps what it accepted before: `Read` leaves the
+/// store behind all commands that were given, and `Write` behind a front of them.
 pub fn session<S: Source, W: Sink, A: Allocator + Copy, C: Compiled<A>>(
     alloc: A,
     source: &mut S,
@@ -379,6 +468,10 @@ pub fn session<S: Source, W: Sink, A: Allocator + Copy, C: Compiled<A>>(
     ensures ok { IfOk result (λ status. Leaves (S.account source.old) (S.account source.new)
         (record { store = C.store engine.old; taken = W.taken sink.old }) (record { store = C.store engine.new; taken = W.taken sink.new }) status) }
     ensures ended { IfOk result (λ status. status ≢ Script → HasEnded (S.account source.old) (S.account source.new)) }
+    ensures cut_by_read { IsErrOf result SessionFault.Read → LeavesByRead (S.account source.old) (S.account source.new)
+        (record { store = C.store engine.old; taken = W.taken sink.old }) (record { store = C.store engine.new; taken = W.taken sink.new }) }
+    ensures cut_by_write { IsErrOf result SessionFault.Write → LeavesByWrite (S.account source.old) (S.account source.new)
+        (record { store = C.store engine.old; taken = W.taken sink.old }) (record { store = C.store engine.new; taken = W.taken sink.new }) }
     ensures read { IsErrOf result SessionFault.Read → HasFailed (S.account source.old).failures (S.account source.new).failures }
     ensures write { IsErrOf result SessionFault.Write → HasFailed (W.failures sink.old) (W.failures sink.new) }
     ensures flushed { OnOk result (W.flushed sink.new ≡ W.taken sink.new) }

@@ -2,7 +2,7 @@ use Rattle.std.proofs.Common.{◌≡◌, ◌≢◌, ◌∙◌, ◌⊎◌, inl, i
 use Rattle.std.proofs.lemmas.Result.{IfOk-weaker}
 use Rattle.cil_store_specs.specs.Store.{Store}
 use Rattle.cil_program.specs.CommandLine.{AnswersSession, exit_status_of}
-use Rattle.cil_program.specs.Session.{Leaves}
+use Rattle.cil_program.specs.Session.{Leaves, LeavesByRead, LeavesByWrite}
 use Rattle.cil_program.specs.declared.script.session.SessionFault.{SessionFault}
 use Rattle.cil_program.specs.declared.script.session.SessionFault.TheVariants.{Read, Write}
 use Rattle.cil_program.specs.declared.script.session.Status.{Status}
@@ -43,6 +43,18 @@ returns g c = record {
         subst (λ (first : Store). Leaves (g.S.Source.account c.args.source.now) (g.S.Source.account c.session.new.source) (record { store = first; taken = g.W.Sink.taken c.args.out.now })
             (record { store = store; taken = g.W.Sink.taken c.session.new.sink }) s) c.new-engine.ensures left,
       )) c.session.ensures.ok;
+  cut_by_read = λ is.
+      let store : Store = c.session.new.engine in (
+        store,
+        subst (λ (first : Store). LeavesByRead (g.S.Source.account c.args.source.now) (g.S.Source.account c.session.new.source) (record { store = first; taken = g.W.Sink.taken c.args.out.now })
+            (record { store = store; taken = g.W.Sink.taken c.session.new.sink })) c.new-engine.ensures (c.session.ensures.cut_by_read is),
+      );
+  cut_by_write = λ is.
+      let store : Store = c.session.new.engine in (
+        store,
+        subst (λ (first : Store). LeavesByWrite (g.S.Source.account c.args.source.now) (g.S.Source.account c.session.new.source) (record { store = first; taken = g.W.Sink.taken c.args.out.now })
+            (record { store = store; taken = g.W.Sink.taken c.session.new.sink })) c.new-engine.ensures (c.session.ensures.cut_by_write is),
+      );
   flushed = λ other. no-failure c.session.result _ c.session.ensures.flushed (λ e. other (c.exit_status.ensures ∙ e));
   ended = λ is. ending c.session.result _ c.session.ensures.ended (by is);
   failed = λ is. failing c.session.result _ _ c.session.ensures.read c.session.ensures.write (sym c.exit_status.ensures ∙ is);

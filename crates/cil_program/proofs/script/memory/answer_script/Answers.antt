@@ -1,7 +1,7 @@
-use Rattle.std.proofs.Common.{◌≡◌, ℕ, List, [], true, Some, Result, Ok, Err, IfOk, take, ap}
-use Rattle.cil_store_specs.specs.Session.{IsSession}
+use Rattle.std.proofs.Common.{◌≡◌, ◌++◌, ℕ, List, [], true, Some, Result, Ok, Err, IfOk, take, ap}
+use Rattle.cil_store_specs.specs.Session.{IsSession, IsCutByRead, IsCutByWrite}
 use Rattle.cil_stream.specs.Device.{Account, Reel, IsLeft, Gains, account_of}
-use Rattle.cil_program.specs.Session.{Standing, Leaves, status_of}
+use Rattle.cil_program.specs.Session.{Standing, Leaves, LeavesByRead, LeavesByWrite, status_of}
 use Rattle.cil_program.specs.declared.script.session.SessionFault.{SessionFault}
 use Rattle.cil_program.specs.declared.script.session.Status.{Status}
 use Rattle.cil_program.proofs.script.memory.answer_script.Goals as goal
@@ -14,9 +14,30 @@ over-whole : (r : Result Status SessionFault) (old new : Account) (before after 
 over-whole (Err _) old new before after text left is = tt
 over-whole (Ok _) old new before after text left is = (is.written, is.gains, is.whole text left)
 
+cut-of-read : (old new : Account) (before after : Standing) (text : List ℕ) → IsLeft old text → LeavesByRead old new before after
+    → (given : List ℕ) × (more : List ℕ) × (written : List ℕ) × (text ≡ given ++ more) × Gains before.taken after.taken written × IsCutByRead given before.store after.store written
+cut-of-read old new before after text left is = let more = is.whole text left in (is.given, more.0, is.written, more.1, is.gains, is.cut)
+
+cut-of-write : (old new : Account) (before after : Standing) (text : List ℕ) → IsLeft old text → LeavesByWrite old new before after → (written : List ℕ) × Gains before.taken after.taken written × IsCutByWrite text true before.store after.store written
+cut-of-write old new before after text left is = (is.written, is.gains, is.whole text left)
+
 pub returns-clause-ok : goal.returns-clause-ok
 returns-clause-ok g c =
     over-whole c.session.result (account_of c.new-source.result) (account_of c.session.new.source)
     (record { store = g.C.Compiled.store c.args.engine.now; taken = g.W.Sink.taken c.args.sink.now })
     (record { store = g.C.Compiled.store c.session.new.engine; taken = g.W.Sink.taken c.session.new.sink }) c.args.script.now
     (left-whole c.new-source.result c.args.script.now c.new-source.ensures.text c.new-source.ensures.at) c.session.ensures.ok
+
+pub returns-clause-cut_by_read : goal.returns-clause-cut_by_read
+returns-clause-cut_by_read g c =
+    λ is. cut-of-read (account_of c.new-source.result) (account_of c.session.new.source)
+    (record { store = g.C.Compiled.store c.args.engine.now; taken = g.W.Sink.taken c.args.sink.now })
+    (record { store = g.C.Compiled.store c.session.new.engine; taken = g.W.Sink.taken c.session.new.sink }) c.args.script.now
+    (left-whole c.new-source.result c.args.script.now c.new-source.ensures.text c.new-source.ensures.at) (c.session.ensures.cut_by_read is)
+
+pub returns-clause-cut_by_write : goal.returns-clause-cut_by_write
+returns-clause-cut_by_write g c =
+    λ is. cut-of-write (account_of c.new-source.result) (account_of c.session.new.source)
+    (record { store = g.C.Compiled.store c.args.engine.now; taken = g.W.Sink.taken c.args.sink.now })
+    (record { store = g.C.Compiled.store c.session.new.engine; taken = g.W.Sink.taken c.session.new.sink }) c.args.script.now
+    (left-whole c.new-source.result c.args.script.now c.new-source.ensures.text c.new-source.ensures.at) (c.session.ensures.cut_by_write is)

@@ -1,9 +1,9 @@
 use Rattle.std.proofs.Common.{◌≤◌, ◌-◌, ◌^◌, [], length}
-use Rattle.cil_program.proofs.SessionLemmas.{SoFar}
+use Rattle.cil_program.proofs.ScriptLemmas.{SoFar}
 use Rattle.cil_program.proofs.script.session.answer_commands.Given as goal
 
-abbrev pub invariant-loop-input : goal.invariant-loop-input
-invariant-loop-input g l =
+abbrev pub invariant-turns : goal.invariant-turns
+invariant-turns g l =
     let S = g.S.Source in
     let W = g.W.Sink in
     let C = g.C.Compiled in
@@ -15,5 +15,5 @@ invariant-loop-input g l =
       write_failures : W.failures l.fn.sink ≤ W.failures l.sink;
     }
 
-abbrev pub decreases-loop-input : goal.decreases-loop-input
-decreases-loop-input g l = 2 ^ 64 - ((g.S.Source.account l.source).count - length l.input.bytes)
+abbrev pub decreases-turns : goal.decreases-turns
+decreases-turns g l = 2 ^ 64 - ((g.S.Source.account l.source).count - length l.input.bytes)

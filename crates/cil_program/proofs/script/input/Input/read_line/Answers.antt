@@ -1,6 +1,7 @@
 use Rattle.std.proofs.Common.{◌≡◌, ◌++◌, ◌∷◌, ◌∙◌, [], subst, sym, ap, refl, true≢false, length, length-append, rules, arith}
 use Rattle.cil_program.specs.Input.{HasRead}
-use Rattle.cil_program.proofs.InputLemmas.{reads-both, stays-byte, stays-more}
+use Rattle.cil_stream.proofs.Gaining.{on_err}
+use Rattle.cil_program.proofs.InputLemmas.{reads-both, stays-byte, stays-more, stops-then_none}
 use Rattle.cil_program.proofs.script.input.Input.read_line.Goals as goal
 
 pub returns-then-b-eq10-clause-read : goal.returns-then-b-eq10-clause-read
@@ -34,3 +35,9 @@ loop-b-preserved g c =
       short = omega (arith, not_full, ap length c.push.ensures, length-append c.loop-b.line (c.in-Some.b ∷ []), c.loop-b.invariant.short);
       failures = search rules;
     }
+
+pub returns-in_err-b-clause-err : goal.returns-in_err-b-clause-err
+returns-in_err-b-clause-err g c =
+    let account = g.S.Source.account in
+    on_err c.from_residual.result
+    (stops-then_none (account c.args.source.now) (account c.loop-b.source) (account c.next.new.source) c.args.self.now c.loop-b.self c.next.new.self c.loop-b.line c.loop-b.invariant.read c.in_err-b.ensures.err)

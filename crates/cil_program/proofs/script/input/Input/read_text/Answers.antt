@@ -1,7 +1,7 @@
 use Rattle.std.proofs.Common.{List, ℕ, Bool, Result, Ok, Err, IfOk}
 use Rattle.cil_stream.specs.declared.source.SourceFault.{SourceFault}
 use Rattle.cil_stream.specs.Device.{has_ended}
-use Rattle.cil_program.proofs.InputLemmas.{text-then}
+use Rattle.cil_program.proofs.InputLemmas.{text-then, stops-in_text}
 use Rattle.cil_program.proofs.script.input.Input.read_text.Goals as goal
 
 with-part : (H : List ℕ → Type 0) (W : Bool → List ℕ → List ℕ → Type 0) (P : List ℕ → Type 0) (r : Result Bool SourceFault) (part : List ℕ) → P part → IfOk r (λ whole. (read : List ℕ) × H read × W whole part read)
@@ -17,3 +17,10 @@ returns-clause-read g c =
     with-part _ _ _ c.take_line_feed.result was.0 was.2
     (text-then c.take_line_feed.result (account c.args.source.now) (account c.take_bytes.new.source) (account c.take_line_feed.new.source) c.args.self.now
     c.take_bytes.new.self c.take_line_feed.new.self c.args.len was.0 (has_ended (g.S.Source.account c.take_line_feed.new.source)) was.1 size c.take_line_feed.ensures.yes c.take_line_feed.ensures.no)
+
+pub returns-clause-err : goal.returns-clause-err
+returns-clause-err g c =
+    let account = g.S.Source.account in
+    let was = c.in_ok-take_bytes.ensures.read in
+    let size = rw c.if-not-branch.false at was.3 in
+    stops-in_text c.take_line_feed.result (account c.args.source.now) (account c.take_bytes.new.source) (account c.take_line_feed.new.source) c.args.self.now c.take_bytes.new.self c.take_line_feed.new.self c.args.len was.0 was.1 size c.take_line_feed.ensures.err

@@ -1,6 +1,7 @@
 use Rattle.std.proofs.Common.{◌≤◌, ◌++◌, ℕ, length, take, ap, length-append, rules, arith}
 use Rattle.std.proofs.lemmas.List.{length-take-le}
-use Rattle.cil_program.proofs.InputLemmas.{reads-on}
+use Rattle.cil_stream.proofs.Gaining.{on_err}
+use Rattle.cil_program.proofs.InputLemmas.{reads-on, reads-then_none, stops-then_none}
 use Rattle.cil_program.proofs.script.input.Input.skip_bytes.Goals as goal
 
 pub loop-left-preserved : goal.loop-left-preserved
@@ -19,3 +20,23 @@ loop-left-preserved g c =
       );
       failures = search rules;
     }
+
+pub returns-then-not-branch-clause-read : goal.returns-then-not-branch-clause-read
+returns-then-not-branch-clause-read g c =
+    let account = g.S.Source.account in
+    let was = c.loop-left.invariant.read in
+    let none = c.in_ok-has_more.ensures.none c.if-not-branch.true in (
+      was.0,
+      reads-then_none (account c.args.source.now) (account c.loop-left.source) (account c.has_more.new.source) c.args.self.now c.loop-left.self c.has_more.new.self was.0 was.1 c.in_ok-has_more.ensures.read,
+      (omega (arith, was.2), none.0, none.1),
+    )
+
+pub returns-in_err-has_more-clause-err : goal.returns-in_err-has_more-clause-err
+returns-in_err-has_more-clause-err g c =
+    let account = g.S.Source.account in
+    let was = c.loop-left.invariant.read in
+    on_err c.from_residual.result (
+      was.0,
+      stops-then_none (account c.args.source.now) (account c.loop-left.source) (account c.has_more.new.source) c.args.self.now c.loop-left.self c.has_more.new.self was.0 was.1 c.in_err-has_more.ensures.err,
+      omega (arith, was.2),
+    )

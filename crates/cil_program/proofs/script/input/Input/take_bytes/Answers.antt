@@ -1,6 +1,7 @@
 use Rattle.std.proofs.Common.{◌≡◌, ◌≤◌, ◌∙◌, ◌++◌, ◌+◌, ℕ, length, take, ap, append_assoc, append-nil, sym, [], length-append, vec_len, is_ok, if◌then◌else◌, rules, arith}
 use Rattle.std.proofs.lemmas.List.{length-take-le}
-use Rattle.cil_program.proofs.InputLemmas.{reads-none, reads-then_none, reads-on}
+use Rattle.cil_stream.proofs.Gaining.{on_err}
+use Rattle.cil_program.proofs.InputLemmas.{reads-none, reads-then_none, reads-on, stops-then_none}
 use Rattle.cil_program.proofs.script.input.Input.take_bytes.Goals as goal
 
 pub loop-left-init : goal.loop-left-init
@@ -43,3 +44,14 @@ loop-left-preserved g c =
       room = omega (arith, size, length-take-le n piece (omega arith), c.extend_from_slice.ensures.capacity, c.loop-left.invariant.room);
       failures = search rules;
     }
+
+pub returns-in_err-has_more-clause-err : goal.returns-in_err-has_more-clause-err
+returns-in_err-has_more-clause-err g c =
+    let account = g.S.Source.account in
+    let was = c.loop-left.invariant.read in
+    on_err c.from_residual.result (
+      was.0,
+      stops-then_none (account c.args.source.now) (account c.loop-left.source) (account c.has_more.new.source) c.args.self.now c.loop-left.self c.has_more.new.self was.0 was.1 c.in_err-has_more.ensures.err,
+      was.2,
+      omega (arith, was.3),
+    )
