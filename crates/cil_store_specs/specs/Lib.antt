@@ -5,4 +5,3 @@ pub mod Run
 pub mod StoreReport
 pub mod Script
 pub mod Session
-pub mod Cut
