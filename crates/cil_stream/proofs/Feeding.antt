@@ -1,5 +1,5 @@
 -- What a source over a reader gives, of the bytes that its reader knew.
-use Rattle.std.proofs.Common.{◌≡◌, ◌∙◌, ℕ, ◌+◌, ◌<◌, ◌≤◌, Bool, true, false, nat_le, if◌then◌else◌, List, [], ◌++◌, length, take, drop, Option, None, Some, refl, ap, sym, subst, arith, length-drop, length-append, take-add, drop-drop, add-zero}
+use Rattle.std.proofs.Common.{◌≡◌, ◌∙◌, ◌⊎◌, inl, inr, ℕ, zero, suc, ◌+◌, ◌<◌, ◌≤◌, Bool, true, false, nat_le, if◌then◌else◌, List, [], ◌++◌, length, take, drop, Option, None, Some, refl, ap, sym, subst, arith, length-drop, length-append, take-add, drop-drop}
 use Rattle.std.specs.Option.{option_map}
 use Rattle.std.specs.Io.KnownBytes.{Consumes, IsAtEnd}
 use Rattle.std.proofs.lemmas.List.{take_all, length-take-le}
@@ -30,15 +30,13 @@ ended-rest : (new : Option (List ℕ)) (rest : List ℕ) → new ≡ Some rest �
 ended-rest None rest now end = absurd (cc)
 ended-rest (Some xs) rest now end = (cc)
 
--- after a read, which told an end or not
-pub fed-read : (whole left new : Option (List ℕ)) (count before n ends : ℕ) (buffer : List ℕ) → IsFed whole left count before → n ≤ length buffer → Consumes left new (take n buffer) → (0 < ends → IsAtEnd new)
-    → IsFed whole new (count + n) ends
+-- after a read
+pub fed-read : (whole left new : Option (List ℕ)) (count before n ends : ℕ) (buffer : List ℕ) → IsFed whole left count before → n ≤ length buffer → Consumes left new (take n buffer)
+    → (0 < ends → (0 < before) ⊎ IsAtEnd new) → IsFed whole new (count + n) ends
 fed-read whole left new count before n ends buffer fed small given end = subst (λ k. IsFed whole new (count + k) ends) (length-take-le n buffer small) (record {
   rest = λ text known. let r = at text known in r.now ∙ ap Some (sym (drop-more text bytes r.rest count r.split));
-  within = λ text known. let r = at text known in let before : count ≤ length text = fed.within text known in let long = ap length r.split in
-      omega (arith, length-append bytes r.rest, length-drop count text);
-  all = λ ended text known. let r = at text known in let none = ap length (ended-rest new r.rest r.now (end ended)) in let long = ap length r.split in
-      omega (arith, length-append bytes r.rest, length-drop count text);
+  within = within;
+  all = λ ended text known. all text known (end ended);
 })
   where
     bytes : List ℕ
@@ -47,10 +45,16 @@ fed-read whole left new count before n ends buffer fed small given end = subst (
     at : (text : List ℕ) → whole ≡ Some text → IsLeft (drop count text) bytes new
     at text known = left-after left new bytes (drop count text) (fed.rest text known) given
 
--- after a read that told an end
-pub fed-end : (whole left new : Option (List ℕ)) (count before n : ℕ) (buffer : List ℕ) → IsFed whole left count before → n ≡ 0 → Consumes left new (take n buffer) → IsAtEnd new → IsFed whole new count 1
-fed-end whole left new count before n buffer fed none given end =
-    subst (λ k. IsFed whole new k 1) (add-zero count) (fed-read whole left new count before 0 1 [] fed (omega arith) (subst (λ k. Consumes left new (take k buffer)) none given) (λ ended. end))
+    within : (text : List ℕ) → whole ≡ Some text → count + length bytes ≤ length text
+    within text known =
+        let r = at text known in let before : count ≤ length text = fed.within text known in let long = ap length r.split in
+        omega (arith, length-append bytes r.rest, length-drop count text)
+
+    all : (text : List ℕ) → whole ≡ Some text → (0 < before) ⊎ IsAtEnd new → length text ≤ count + length bytes
+    all text known (inl ended) = let before : length text ≤ count = fed.all ended text known in omega arith
+    all text known (inr end) =
+        let r = at text known in let none = ap length (ended-rest new r.rest r.now end) in let long = ap length r.split in
+        omega (arith, length-append bytes r.rest, length-drop count text)
 
 -- once the end was told, the whole text is as before
 whole-still : (whole left : Option (List ℕ)) (count ends : ℕ) → IsFed whole left count ends → option_map (λ text. if nat_le 1 ends then take count text else text) whole ≡ whole
@@ -63,7 +67,7 @@ whole-still whole left count ends fed = by whole (nat_le 1 ends) refl fed.all
 
 -- what a read gives
 pub gives-read : (old : Feed) (whole left new : Option (List ℕ)) (count before failures n ends : ℕ) (buffer : List ℕ) → record { whole = whole; count = count; ends = before; failures = failures } ≡ old
-    → IsFed whole left count before → n ≤ length buffer → Consumes left new (take n buffer) → (0 < ends → IsAtEnd new) → before ≤ ends
+    → IsFed whole left count before → n ≤ length buffer → Consumes left new (take n buffer) → (0 < ends → (0 < before) ⊎ IsAtEnd new) → before ≤ ends
     → Gives (account_of_feed old) (account_of_feed (record { whole = whole; count = count + n; ends = ends; failures = failures })) (take n buffer)
 gives-read old whole left new count before failures n ends buffer is fed small given end later = subst (λ (f : Feed). Gives (account_of_feed f) (account_of_feed (record { whole = whole; count = count + n; ends = ends; failures = failures })) bytes) is (record {
   whole = whole-still whole new (count + n) ends (fed-read whole left new count before n ends buffer fed small given end) ∙ sym (whole-still whole left count before fed);
@@ -82,10 +86,12 @@ gives-read old whole left new count before failures n ends buffer is fed small g
     more None rest = refl
     more (Some text) rest = let r = left-after left new bytes (drop count text) (rest text refl) given in ap Some (take-more text bytes r.rest count r.split)
 
--- what a read gives that tells an end
-pub gives-end : (old : Feed) (whole left new : Option (List ℕ)) (count before failures n : ℕ) (buffer : List ℕ) → record { whole = whole; count = count; ends = before; failures = failures } ≡ old
-    → IsFed whole left count before → n ≡ 0 → Consumes left new (take n buffer) → IsAtEnd new → before ≤ 1
-    → Gives (account_of_feed old) (account_of_feed (record { whole = whole; count = count; ends = 1; failures = failures })) []
-gives-end old whole left new count before failures n buffer is fed none given end later =
-    subst (λ k. Gives (account_of_feed old) (account_of_feed (record { whole = whole; count = k; ends = 1; failures = failures })) []) (add-zero count)
-    (gives-read old whole left new count before failures 0 1 [] is fed (omega arith) (subst (λ k. Consumes left new (take k buffer)) none given) (λ ended. end) later)
+-- where an end was told, it was told before, or the reader is at its end
+pub ended-or_end : (new : Option (List ℕ)) (before n ends wanted : ℕ) → (n ≡ 0 → 0 < wanted → before ≡ 0 → IsAtEnd new) → (0 < n → ends ≡ before) → (wanted ≡ 0 → ends ≡ before) → 0 < ends → (0 < before) ⊎ IsAtEnd new
+ended-or_end new before n ends wanted end some empty ended = by before n wanted end some empty
+  where
+    by : (before n wanted : ℕ) → (n ≡ 0 → 0 < wanted → before ≡ 0 → IsAtEnd new) → (0 < n → ends ≡ before) → (wanted ≡ 0 → ends ≡ before) → (0 < before) ⊎ IsAtEnd new
+    by before (suc n) wanted end some empty = inl (let e : ends ≡ before = some (omega arith) in omega arith)
+    by before zero zero end some empty = inl (let e : ends ≡ before = empty refl in omega arith)
+    by zero zero (suc wanted) end some empty = inr (end refl (omega arith) refl)
+    by (suc before) zero (suc wanted) end some empty = inl (omega arith)

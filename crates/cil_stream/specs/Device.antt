@@ -45,10 +45,6 @@ pub record IsSound (account : Account) : Type 0 where
   pub front : (whole given : List ℕ) → account.whole ≡ Some whole → account.given ≡ Some given → (rest : List ℕ) × (whole ≡ given ++ rest)
   pub all : IsTrue (has_ended account) → (whole : List ℕ) → account.whole ≡ Some whole → account.given ≡ Some whole
 
--- where it tells no bytes
-pub untold-sound : (count ends failures : ℕ) → IsSound (record { whole = None; given = None; count = count; ends = ends; failures = failures })
-untold-sound count ends failures = record { front = λ whole given w g. absurd (cc); all = λ ended whole w. absurd (cc) }
-
 -- Between two moments it gave these bytes, of a text that stays the same.
 pub record Gives (old new : Account) (bytes : List ℕ) : Type 0 where
   pub whole : new.whole ≡ old.whole

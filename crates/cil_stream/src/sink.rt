@@ -1,6 +1,6 @@
 //! Sinks, which take bytes.
 
-ghost use Rattle.std.specs.Prelude.{◌≡◌, ◌+◌, ◌-◌, ◌^◌, ◌<◌, ◌≤◌, ℕ, List, Option, min, take, length, flat_map, OnOk, OnErr, IfOk};
+ghost use Rattle.std.specs.Prelude.{◌≡◌, ◌+◌, ◌-◌, ◌^◌, ◌<◌, ◌≤◌, ℕ, List, Option, Some, min, take, length, flat_map, OnOk, OnErr, IfOk, IfSome};
 ghost use Rattle.cil_stream.specs.Device.{HasFailed, Gains, GainsFront};
 
 use crate::retrying::{flush_retrying, write_retrying};
@@ -103,6 +103,13 @@ impl<W: Write + Drop> WriterSink<W> {
             flushed,
             failures: 0,
         }
+    }
+
+    /// The writer. Where it knew what it held at first it holds what was taken.
+    pub fn into_writer(self) -> W
+        ensures { IfSome self.taken (λ bytes. W.contents result ≡ Some bytes) }
+    {
+        self.writer
     }
 
     fn fail(&mut self) -> SinkFault

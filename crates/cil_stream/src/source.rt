@@ -1,10 +1,13 @@
 //! Sources, which give bytes.
 
-ghost use Rattle.std.specs.Prelude.{◌≡◌, ◌+◌, ◌-◌, ◌<◌, ◌≤◌, ◌^◌, min, take, length, IsTrue, OnErr, IfOk};
+ghost use Rattle.std.specs.Prelude.{◌≡◌, ◌≢◌, ◌+◌, ◌-◌, ◌<◌, ◌≤◌, ◌^◌, ◌⊎◌, Some, min, take, drop, length, IsTrue, OnErr, IfOk, IfErr, IfSome};
 ghost use Rattle.cil_stream.specs.Device.{Account, HasFailed, HasEnded, Gives, IsSound, account_of_feed, has_ended, feed-sound};
+ghost use Rattle.std.specs.IoError.{error_kind};
+ghost use Rattle.std.specs.Io.KnownBytes.{Consumes, IsAtEnd, Keeps};
 
 use crate::retrying::read_retrying;
-use std::io::Read;
+use std::io;
+use std::io::{ErrorKind, Read};
 use std::marker::Model;
 use std::snapshot::Snapshot;
 use thiserror::Error;
@@ -34,6 +37,39 @@ pub trait Source {
         ensures small { (account self.new).count < 2 ^ 64 };
 
     ghost sound: { (s : Self) → IsSound (account s) };
+}
+
+/// Reads, but not behind an end, and not past the greatest count.
+fn read_on<R: Read>(reader: &mut R, buffer: &mut [u8], count: u64, ends: u64) -> io::Result<usize>
+    ensures within { IfOk result (λ n. n ≤ length buffer.new) }
+    ensures fits { IfOk result (λ n. count + n < 2 ^ 64) }
+    ensures given { IfOk result (λ n. Consumes (R.remaining reader.old) (R.remaining reader.new) (take n buffer.new)) }
+    ensures end { IfOk result (λ n. n ≡ 0 → 0 < length buffer.new → ends ≡ 0 → IsAtEnd (R.remaining reader.new)) }
+    ensures over { IfOk result (λ n. 0 < ends → n ≡ 0) }
+    ensures err { OnErr result (Keeps (R.remaining reader.old) (R.remaining reader.new)) }
+    ensures retried { IfErr result (λ error. error_kind error ≢ ErrorKind.Interrupted) }
+{
+    if ends > 0 {
+        return Ok(0);
+    }
+    if count.checked_add(buffer.len() as u64).is_none() {
+        return Err(io::Error::from(ErrorKind::FileTooLarge));
+    }
+    read_retrying(reader, buffer)
+}
+
+/// How often an end was told, after so many bytes of so many that were wanted.
+fn ends_after(ends: u64, n: usize, wanted: usize) -> u64
+    ensures later { ends ≤ result }
+    ensures some { 0 < n → result ≡ ends }
+    ensures empty { wanted ≡ 0 → result ≡ ends }
+    ensures none { n ≡ 0 → 0 < wanted → (ends < result) ⊎ (2 ^ 64 - 1 ≤ result) }
+{
+    if n == 0 && wanted > 0 {
+        ends.saturating_add(1)
+    } else {
+        ends
+    }
 }
 
 /// A source over a reader of std, of which it asks nothing behind its end. It tells its bytes where the reader knew them at first.
@@ -74,6 +110,13 @@ impl<R: Read + Drop> ReaderSource<R> {
         }
     }
 
+    /// The reader. Where it knew its bytes at first it has left those that were not given.
+    pub fn into_reader(self) -> R
+        ensures { IfSome self.whole (λ text. R.remaining result ≡ Some (drop self.count text)) }
+    {
+        self.reader
+    }
+
     fn fail(&mut self) -> SourceFault
         ensures exact { self.new ≡ record self.old { failures = min (self.old.failures + 1) (2 ^ 64 - 1) } }
     {
@@ -86,23 +129,11 @@ impl<R: Read + Drop> Source for ReaderSource<R> {
     ghost account = { account_of_feed };
 
     fn take(&mut self, buffer: &mut [u8]) -> Result<usize, SourceFault> {
-        if self.ends > 0 {
-            if !buffer.is_empty() {
-                self.ends = self.ends.saturating_add(1);
-            }
-            return Ok(0);
-        }
-        if self.count.checked_add(buffer.len() as u64).is_none() {
-            return Err(self.fail());
-        }
-        let Ok(n) = read_retrying(&mut self.reader, buffer) else {
+        let Ok(n) = read_on(&mut self.reader, buffer, self.count, self.ends) else {
             return Err(self.fail());
         };
-        if n == 0 && !buffer.is_empty() {
-            self.ends = 1;
-            return Ok(0);
-        }
         self.count += n as u64;
+        self.ends = ends_after(self.ends, n, buffer.len());
         Ok(n)
     }
 
