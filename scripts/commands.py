@@ -51,8 +51,8 @@ class Command:
         """Whether it is said what is to come of it."""
         return bool(self.printed or self.errors or self.status is not None)
 
-    def wanted(self):
-        """What is to come of it."""
+    def wanted(self, found):
+        """What is to come of it, whatever is found."""
         return told(self.printed, self.errors, self.status or 0, 0)
 
     def make_files(self, folder):
