@@ -67,8 +67,8 @@ class Case:
             return 2
         return 1 if any(it.startswith("refused ") for it in self.want) else 0
 
-    def wanted(self):
-        """What it is to print."""
+    def wanted(self, found):
+        """What it is to print, whatever is found."""
         status = f"status {self.status()}\n" if self.status() else ""
         return "".join(self.want) + status
 

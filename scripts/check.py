@@ -70,7 +70,8 @@ def main(paths):
     with ThreadPoolExecutor(os.cpu_count()) as pool:
         tasks = [(case, who, pool.submit(*call)) for path in paths for case, who, call in tasks_of(path)]
         for case, who, future in tasks:
-            found, want = future.result(), case.wanted()
+            found = future.result()
+            want = case.wanted(found)
             if found == want:
                 passed += 1
             else:

@@ -3,7 +3,7 @@
 In a file `.trials` a line `# ..` begins a trial and says what it is about, and a line `// ..` says more. Lines say what is tried, and blocks
 `before`, `script` and `then` have commands: those that make the store first, those that are tried, and those that are asked after them. A
 line that begins with the word of a command begins the next command; an install stands without its length, with its text after it. A line
-`= ..` is one that the program `cil_trials` is to print.
+`= ..` is one that the program `cil_trials` is to print, spelled as in scripts. A line `= evaluated 1 to 4, ..` is one with a number from 1 to 4.
 
     source pieces N     the source gives at most N bytes a call
     source fails N      it fails after N bytes; `each`: after each number of bytes in turn
@@ -14,15 +14,19 @@ line that begins with the word of a command begins the next command; an install 
     sink flushes N      its flushes fail after N of them
     memory refuses N    the Nth growth is refused; `N on`: those after it too; `each`: each in turn, alone and then with those after it
     run                 the script's commands are the calls of one `run` (`rows` is a call too)
-    at once             the script's installs are entries that are compiled at once
+    at once             the script's installs are entries that are compiled at once, and the commands of `then` are part of what is tried
+    work                the script's edits are made one by one, and each tells how often set statements were evaluated and counters of
+                        accesses adjusted, and how many optionals drop behind it; by the engine delta
     one by one          each command of the script is tried by itself, after those before it
     engine NAME         plain or delta alone
     attributes A ..     members are asked of these attributes
     types T ..          and these types, and counts of these types
     access C P          at this class and permission
-    times N .. end      in a block: the lines between, N times, with {n} for 0, 1 and so on
+    times N .. end      in a block: the lines between, N times, with {n} for 0, 1 and so on, and {n+1} for 1, 2 and so on
     bytes TEXT          in a block: these bytes, with \\n, \\\\ and \\xHH
 """
+import re
+
 from cases import Fault, spelled
 
 COMMANDS = {"install", "remove", "enable", "disable", "rules", "violations", "dropped", "modules", "dump", "rows"}
@@ -42,6 +46,8 @@ EACH = {
     ("sink", "fails"): "sink-fails",
     ("memory", "refuses"): "growth",
 }
+RANGE = re.compile(r"evaluated (\d+) to (\d+)(, .*\n)")
+NUMBER = re.compile(r"evaluated (\d+)(, .*\n)")
 # The word for what is said of names, one each.
 NAMES = {"attributes": "attribute", "types": "type"}
 
@@ -62,7 +68,7 @@ def repeated(lines):
         if words[:1] == ["times"] and "end" in lines[at:]:
             end = lines.index("end", at)
             for n in range(int(words[1])):
-                yield from (line.replace("{n}", str(n)) for line in lines[at + 1 : end])
+                yield from (line.replace("{n}", str(n)).replace("{n+1}", str(n + 1)) for line in lines[at + 1 : end])
             at = end + 1
         else:
             yield lines[at]
@@ -102,7 +108,15 @@ def header_of(words):
         return [f"{NAMES[words[0]]} {name}" for name in words[1:]]
     if words[0] == "access" and len(words) == 3:
         return [" ".join(words)]
-    return {"run": ["way run"], "at once": ["way once"]}.get(" ".join(words))
+    return {"run": ["way run"], "at once": ["way once"], "work": ["way work"]}.get(" ".join(words))
+
+
+def fitted(want, found):
+    """A line that is wanted, or the one that is found, where its number is in the range that is wanted."""
+    wanted, number = RANGE.fullmatch(want), NUMBER.fullmatch(found)
+    if wanted and number and wanted[3] == number[2] and int(wanted[1]) <= int(number[1]) <= int(wanted[2]):
+        return found
+    return want
 
 
 class Trial:
@@ -121,7 +135,7 @@ class Trial:
     def line(self, line):
         """Takes a line of the trial."""
         if line == "=" or line.startswith("= "):
-            self.want.append(line[2:] + "\n")
+            self.want += (spelled(line[2:]) + "\n").splitlines(True)
         elif line in self.lines:
             self.block = self.lines[line]
         elif line == "wanted":
@@ -166,9 +180,10 @@ class Trial:
             titles = [f"> {script[0].splitlines()[0]}\n" if self.is_one_by_one else "" for _, script in parts]
             yield engine, [(title, self.text(engine, *part)) for title, part in zip(titles, parts)]
 
-    def wanted(self):
-        """What the program is to print."""
-        return "".join(self.want)
+    def wanted(self, found):
+        """What the program is to print, where it prints what is found."""
+        lines = found.splitlines(True)
+        return "".join(fitted(want, line) for want, line in zip(self.want, lines)) + "".join(self.want[len(lines) :])
 
 
 def trials_of(path, name):

@@ -1,19 +1,9 @@
-//! Tests of the public calls whose values no script and no trial shows, with ample memory.
+//! Tests of the public calls on stores and sessions whose values no script and no trial shows, with ample memory.
 #![tactic(auto)]
 
 #[cfg(test)]
-mod engines;
-#[cfg(test)]
-mod parsed;
-#[cfg(test)]
-mod policies;
-#[cfg(test)]
-mod sessions;
+mod replies;
 #[cfg(test)]
 mod shown;
 #[cfg(test)]
-mod streams;
-#[cfg(test)]
-mod texts;
-#[cfg(test)]
-mod worked;
+mod stores;

@@ -4,6 +4,7 @@ use crate::attempt::write_answer;
 use crate::case::{Case, Way, first_line};
 use crate::engine::{Engine, Heap, Memory};
 use crate::fault::Fault;
+use crate::work::write_work;
 use cil_program::script::command::{ScriptLine, script_line};
 use cil_program::script::reply;
 use cil_rules::Rows;
@@ -65,7 +66,7 @@ fn push_calls<'a>(calls: &mut Vec<Call<'a>>, script: &'a [u8]) -> Result<(), Fau
 }
 
 /// The calls that the commands of a script ask for.
-fn calls_of(alloc: Global, script: &[u8]) -> Result<Vec<Call<'_>>, Fault> {
+pub fn calls_of(alloc: Global, script: &[u8]) -> Result<Vec<Call<'_>>, Fault> {
     let mut calls = Vec::new(alloc);
     match push_calls(&mut calls, script) {
         Ok(()) => Ok(calls),
@@ -187,17 +188,21 @@ fn ask_to_run<'h>(
     }
 }
 
+/// Has the entries of a case compiled at once, and asks what the case asks after that.
 fn ask_to_compile<'h>(
     sink: &mut MemorySink,
     memory: Memory<'h>,
     engine: &mut Engine<'h>,
-    script: &[u8],
+    case: &Case<'_>,
 ) -> Result<(), Fault> {
-    let entries = entries_of(memory.ample, script)?;
-    match compile_at_once(sink, memory.heap, engine, entries.as_slice()) {
-        Ok(()) => Ok(()),
-        Err(_) => Err(Fault::Memory),
+    let entries = entries_of(memory.ample, case.script)?;
+    if compile_at_once(sink, memory.heap, engine, entries.as_slice()).is_err() {
+        return Err(Fault::Memory);
     }
+    if case.then.is_empty() {
+        return Ok(());
+    }
+    write_answer(sink, memory, engine, case.then)
 }
 
 /// Asks an engine what a case tries, and gives the answer.
@@ -210,7 +215,8 @@ pub fn answer<'h>(
     let asked = match case.way {
         Way::Session => write_answer(&mut sink, memory, engine, case.script),
         Way::Run => ask_to_run(&mut sink, memory, engine, case.script),
-        Way::AtOnce => ask_to_compile(&mut sink, memory, engine, case.script),
+        Way::AtOnce => ask_to_compile(&mut sink, memory, engine, case),
+        Way::Work => write_work(&mut sink, memory, engine, case),
     };
     match asked {
         Ok(()) => Ok(sink),

@@ -103,9 +103,8 @@ pub fn write_answer<'h>(
     engine: &mut Engine<'h>,
     script: &[u8],
 ) -> Result<(), Fault> {
-    let mut source = MemorySource::new(script);
     let mut sink = MemorySink::new(memory.ample);
-    let end = engine.session(memory.heap, &mut source, &mut sink);
+    let end = engine.answer(memory.heap, script, &mut sink);
     write_end(report, end)?;
     write_lines(report, sink.bytes())
 }
@@ -116,9 +115,8 @@ pub fn set_up<'h>(
     engine: &mut Engine<'h>,
     case: &Case<'_>,
 ) -> Result<(), Fault> {
-    let mut source = MemorySource::new(case.before);
     let mut sink = MemorySink::new(memory.ample);
-    match engine.session(memory.heap, &mut source, &mut sink) {
+    match engine.answer(memory.heap, case.before, &mut sink) {
         Ok(Status::Clean) | Ok(Status::Refused) => Ok(()),
         _ => Err(Fault::Case),
     }

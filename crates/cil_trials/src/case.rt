@@ -38,6 +38,8 @@ pub enum Way {
     Run,
     /// By a list of entries that are compiled at once.
     AtOnce,
+    /// By edits whose work is counted.
+    Work,
 }
 
 /// The names by which members and counts are asked.
@@ -140,6 +142,7 @@ fn way_of(way: &str) -> Option<Way> {
         "session" => Some(Way::Session),
         "run" => Some(Way::Run),
         "once" => Some(Way::AtOnce),
+        "work" => Some(Way::Work),
         _ => None,
     }
 }

@@ -1,10 +1,11 @@
 //! The engine of a trial.
 
 use crate::case::Refusal;
+use cil_program::script::memory::answer_script;
 use cil_program::script::session::{SessionFault, Status, session};
 use cil_rules::Atom;
 use cil_store::{Call, Compiled, Delta, Plain, Reply, run};
-use cil_stream::{Sink, Source};
+use cil_stream::{MemorySink, Sink, Source};
 use refusing::Refusing;
 use std::alloc::{AllocError, Global};
 
@@ -62,6 +63,19 @@ impl<'h> Engine<'h> {
         match self {
             Engine::Plain(engine) => session(heap, source, sink, engine),
             Engine::Delta(engine) => session(heap, source, sink, engine),
+        }
+    }
+
+    /// Answers a script that stands in memory.
+    pub fn answer(
+        &mut self,
+        heap: &'h Heap,
+        script: &[u8],
+        sink: &mut MemorySink,
+    ) -> Result<Status, SessionFault> {
+        match self {
+            Engine::Plain(engine) => answer_script(heap, script, sink, engine),
+            Engine::Delta(engine) => answer_script(heap, script, sink, engine),
         }
     }
 

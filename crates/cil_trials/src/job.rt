@@ -8,6 +8,7 @@ use crate::fault::Fault;
 use crate::growths::{Ample, write_refused};
 use crate::limits::Limits;
 use crate::state::write_state;
+use crate::work::write_work;
 use cil_stream::MemorySink;
 use refusing::Refusing;
 use std::alloc::Global;
@@ -25,6 +26,8 @@ pub enum Job<'a> {
     Dialogue(&'a Peer),
     /// A sink whose flushes fail after so many.
     Flushes(usize),
+    /// The case's edits, whose work is counted.
+    Work,
 }
 
 /// Writes what comes of a case over such devices, and says whether the sink failed.
@@ -63,6 +66,10 @@ impl<'a> Job<'a> {
             }
             Job::Dialogue(peer) => write_dialogue(report, memory, engine, case, peer),
             Job::Flushes(flushes) => write_flushed(report, memory, engine, case, flushes),
+            Job::Work => match write_work(report, memory, engine, case) {
+                Ok(()) => Ok(false),
+                Err(fault) => Err(fault),
+            },
         }
     }
 }

@@ -12,6 +12,7 @@ mod job;
 mod limits;
 mod state;
 mod trial;
+mod work;
 
 use crate::case::read_case;
 use crate::fault::Fault;

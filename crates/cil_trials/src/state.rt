@@ -5,7 +5,7 @@ use crate::case::Names;
 use crate::engine::{Engine, Heap};
 use crate::fault::Fault;
 use cil_rules::Atom;
-use cil_stream::{MemorySink, MemorySource};
+use cil_stream::MemorySink;
 use cil_text::RuleKind;
 use itoa::Buffer;
 
@@ -116,7 +116,7 @@ fn ask<'h>(
     engine: &mut Engine<'h>,
     script: &[u8],
 ) -> Result<(), Fault> {
-    match engine.session(heap, &mut MemorySource::new(script), report) {
+    match engine.answer(heap, script, report) {
         Ok(_) => Ok(()),
         Err(_) => Err(Fault::Memory),
     }

@@ -1,7 +1,7 @@
 //! Trials over devices with limits, and which trial a case asks for.
 
 use crate::attempt::{write_number, write_text};
-use crate::case::{Case, Each, Refusal};
+use crate::case::{Case, Each, Refusal, Way};
 use crate::fault::Fault;
 use crate::growths::{refuse_each, refuse_growth};
 use crate::job::{Job, make_job};
@@ -125,6 +125,15 @@ fn make(
     }
 }
 
+/// What is done where nothing is tried in turn.
+fn whole(case: &Case<'_>) -> Job<'static> {
+    if case.way == Way::Work {
+        Job::Work
+    } else {
+        Job::Session(case.limits)
+    }
+}
+
 /// Makes the trial of a case, and writes what came of it.
 pub fn make_trial(alloc: Global, case: &Case<'_>, report: &mut MemorySink) -> Result<(), Fault> {
     match (&case.peer, case.flushes, case.each, case.refusal) {
@@ -132,7 +141,7 @@ pub fn make_trial(alloc: Global, case: &Case<'_>, report: &mut MemorySink) -> Re
         (None, Some(flushes), _, _) => make(alloc, case, Job::Flushes(flushes), report),
         (None, None, Some(Each::Growth), _) => refuse_each(alloc, case, report),
         (None, None, Some(each), _) => try_each(alloc, case, each, report),
-        (None, None, None, Refusal::None) => make(alloc, case, Job::Session(case.limits), report),
+        (None, None, None, Refusal::None) => make(alloc, case, whole(case), report),
         (None, None, None, _) => refuse_growth(alloc, case, report),
     }
 }

@@ -1,9 +1,7 @@
 //! Texts that are read and recognised.
 
 use crate::shown::shown;
-use cil_text::{
-    Expr, Module, RuleKind, Statement, Target, TextFault, Tree, TreeSlice, Word, read, shape,
-};
+use cil_text::{Expr, Module, RuleKind, Statement, Target, Tree, TreeSlice, Word, read, shape};
 use std::alloc::Global;
 use std::process::Abort;
 
@@ -26,17 +24,16 @@ fn tree_seen<'a>(tree: &Tree<'_, 'a>) -> Shape<'a> {
     }
 }
 
-// Asserts the trees of a list.
-fn assert_trees(rt: &impl Abort, trees: TreeSlice<'_, '_>, want: &[Shape<'_>]) {
-    assert_eq!(rt; trees.len(), want.len());
+// Whether trees are such.
+fn are_trees(trees: TreeSlice<'_, '_>, want: &[Shape<'_>]) -> bool {
     let mut rest = trees;
     for shape in want {
-        let Some((tree, behind)) = rest.split_first() else {
-            panic!(rt; "too few trees");
-        };
-        assert_eq!(rt; tree_seen(&tree), *shape);
-        rest = behind;
+        match rest.split_first() {
+            Some((tree, behind)) if tree_seen(&tree) == *shape => rest = behind,
+            _ => return false,
+        }
     }
+    trees.len() == want.len()
 }
 
 const TREES: &[Shape<'static>] = &[("list", "", 0, 1, 14, 3), ("list", "", 19, 3, 21, 0)];
@@ -47,15 +44,20 @@ const OF_FIRST: &[Shape<'static>] = &[
     ("list", "", 10, 2, 13, 1),
 ];
 
+// Whether the first of some trees is a list of such trees.
+fn is_list_first(trees: TreeSlice<'_, '_>, want: &[Shape<'_>]) -> bool {
+    match trees.split_first() {
+        Some((Tree::List { items, .. }, _)) => are_trees(items, want),
+        _ => false,
+    }
+}
+
 #[test]
 fn trees_of_a_text(rt: HostRuntime) {
     let text = b"(a \"b c\"\n (d)) ; e\n()";
     let forest = read(rt.alloc(), text).expect(&rt, "trees");
-    assert_trees(&rt, forest.trees(), TREES);
-    let Some((Tree::List { items, .. }, _)) = forest.trees().split_first() else {
-        panic!(rt; "no list");
-    };
-    assert_trees(&rt, items, OF_FIRST);
+    let same = are_trees(forest.trees(), TREES) && is_list_first(forest.trees(), OF_FIRST);
+    assert!(rt; same);
 }
 
 // The text of a name, and where it begins.
@@ -83,49 +85,54 @@ fn rule_word(kind: RuleKind) -> &'static str {
     }
 }
 
-// The form of a statement, the names that are its own, up to three, and the words of its list.
-type Parts<'s, 'a> = (&'static str, (Name<'a>, Name<'a>, Name<'a>), &'s [Word<'a>]);
-
-fn parts<'s, 'a>(statement: &'s Statement<'a>) -> Parts<'s, 'a> {
+fn form(statement: &Statement<'_>) -> &'static str {
     match statement {
-        Statement::Block { id, .. } => ("block", (seen(id), NONE, NONE), &[]),
-        Statement::Optional { id, .. } => ("optional", (seen(id), NONE, NONE), &[]),
-        Statement::TypeName { id, .. } => ("type", (seen(id), NONE, NONE), &[]),
-        Statement::TypeAlias { id, .. } => ("typealias", (seen(id), NONE, NONE), &[]),
-        Statement::TypeAliasActual { alias, actual, .. } => {
-            ("typealiasactual", (seen(alias), seen(actual), NONE), &[])
-        }
-        Statement::TypeAttribute { id, .. } => ("typeattribute", (seen(id), NONE, NONE), &[]),
-        Statement::TypeAttributeSet { attribute, .. } => {
-            ("typeattributeset", (seen(attribute), NONE, NONE), &[])
-        }
-        Statement::Common {
-            id,
-            permissions,
-            ..
-        } => { ("common", (seen(id), NONE, NONE), permissions.as_slice()) }
-        Statement::Class {
-            id,
-            permissions,
-            ..
-        } => { ("class", (seen(id), NONE, NONE), permissions.as_slice()) }
-        Statement::ClassCommon { class, common, .. } => {
-            ("classcommon", (seen(class), seen(common), NONE), &[])
-        }
-        Statement::ClassOrder { classes, .. } => {
-            ("classorder", (NONE, NONE, NONE), classes.as_slice())
-        }
+        Statement::Block { .. } => "block",
+        Statement::Optional { .. } => "optional",
+        Statement::TypeName { .. } => "type",
+        Statement::TypeAlias { .. } => "typealias",
+        Statement::TypeAliasActual { .. } => "typealiasactual",
+        Statement::TypeAttribute { .. } => "typeattribute",
+        Statement::TypeAttributeSet { .. } => "typeattributeset",
+        Statement::Common { .. } => "common",
+        Statement::Class { .. } => "class",
+        Statement::ClassCommon { .. } => "classcommon",
+        Statement::ClassOrder { .. } => "classorder",
+        Statement::Rule { kind, .. } => rule_word(*kind),
+    }
+}
+
+// The names that are a statement's own, up to three.
+fn names<'a>(statement: &Statement<'a>) -> (Name<'a>, Name<'a>, Name<'a>) {
+    match statement {
+        Statement::Block { id, .. }
+        | Statement::Optional { id, .. }
+        | Statement::TypeName { id, .. }
+        | Statement::TypeAlias { id, .. }
+        | Statement::TypeAttribute { id, .. }
+        | Statement::Common { id, .. }
+        | Statement::Class { id, .. } => (seen(id), NONE, NONE),
+        Statement::TypeAliasActual { alias, actual, .. } => (seen(alias), seen(actual), NONE),
+        Statement::TypeAttributeSet { attribute, .. } => (seen(attribute), NONE, NONE),
+        Statement::ClassCommon { class, common, .. } => (seen(class), seen(common), NONE),
+        Statement::ClassOrder { .. } => (NONE, NONE, NONE),
         Statement::Rule {
-            kind,
             source,
             target,
             class,
-            permissions,
             ..
-        } => {
-            let own = (seen(source), target_seen(target), seen(class));
-            (rule_word(*kind), own, permissions.as_slice())
-        }
+        } => (seen(source), target_seen(target), seen(class)),
+    }
+}
+
+// The words of a statement's list.
+fn listed<'s, 'a>(statement: &'s Statement<'a>) -> &'s [Word<'a>] {
+    match statement {
+        Statement::Common { permissions, .. }
+        | Statement::Class { permissions, .. }
+        | Statement::Rule { permissions, .. } => permissions.as_slice(),
+        Statement::ClassOrder { classes, .. } => classes.as_slice(),
+        _ => &[],
     }
 }
 
@@ -144,15 +151,16 @@ type Said<'a> = (
 );
 
 fn said<'a>(statement: &Statement<'a>) -> Said<'a> {
-    let (form, own, words) = parts(statement);
+    let words = listed(statement);
     let list = (name_at(words, 0), name_at(words, 1), name_at(words, 2));
-    (form, own, list)
+    (form(statement), names(statement), list)
 }
 
 // The statements of a text.
-fn shaped<'a>(rt: &impl Abort, alloc: Global, text: &'a [u8]) -> Result<Module<'a>, TextFault<'a>> {
+fn shaped<'a>(rt: &impl Abort, alloc: Global, text: &'a [u8]) -> Module<'a> {
     assert!(rt; text.len() <= 16_777_216, "too long a text");
-    shape(alloc, read(alloc, text)?)
+    let forest = read(alloc, text).expect(rt, "trees");
+    shape(alloc, forest).expect(rt, "statements")
 }
 
 // A statement of each form.
@@ -260,12 +268,14 @@ fn place(statement: &Statement<'_>) -> Option<(u32, u32, u32)> {
     }
 }
 
-// Asserts statements by their forms and their names.
-fn assert_statements(rt: &impl Abort, found: &[Statement<'_>], want: &[Said<'_>]) {
-    assert_eq!(rt; found.len(), want.len());
+// Whether statements are of such forms and names.
+fn are_said(found: &[Statement<'_>], want: &[Said<'_>]) -> bool {
     for (statement, want) in found.iter().zip(want) {
-        assert_eq!(rt; said(statement), *want);
+        if said(statement) != *want {
+            return false;
+        }
     }
+    found.len() == want.len()
 }
 
 // Texts, what their statements are, and where the first of these begins, if it is a rule.
@@ -274,23 +284,40 @@ const TEXTS: &[(&[u8], &[Said<'static>], Option<(u32, u32, u32)>)] = &[
     (LISTS_TEXT, OF_LISTS, Some((0, 1, 1))),
 ];
 
-#[test]
-fn statements_and_their_names(rt: HostRuntime) {
-    for (text, want, at) in TEXTS {
-        let module = shaped(&rt, rt.alloc(), text).expect(&rt, "a module");
-        assert_statements(&rt, module.statements.as_slice(), want);
-        let first = module.statements.get(0).expect(&rt, "a statement");
-        assert_eq!(rt; place(first), *at);
+// Whether the first of some statements is a rule that begins there, or isn't a rule.
+fn begins_at(found: &[Statement<'_>], at: Option<(u32, u32, u32)>) -> bool {
+    match found.first() {
+        Some(first) => place(first) == at,
+        None => false,
     }
 }
 
 #[test]
+fn statements_and_their_names(rt: HostRuntime) {
+    for (text, want, at) in TEXTS {
+        let module = shaped(&rt, rt.alloc(), text);
+        let found = module.statements.as_slice();
+        let same = are_said(found, want) && begins_at(found, *at);
+        assert!(rt; same);
+    }
+}
+
+// Whether the first of some statements has such statements in it, and an optional that has others.
+fn is_nested(found: &[Statement<'_>], in_block: &[Said<'_>], in_optional: &[Said<'_>]) -> bool {
+    let Some(block) = found.first() else {
+        return false;
+    };
+    let Some(optional) = body(block).first() else {
+        return false;
+    };
+    are_said(body(block), in_block) && are_said(body(optional), in_optional)
+}
+
+#[test]
 fn statements_within_statements(rt: HostRuntime) {
-    let module = shaped(&rt, rt.alloc(), NESTED_TEXT).expect(&rt, "a module");
-    let block = module.statements.get(0).expect(&rt, "a block");
-    assert_statements(&rt, body(block), OF_BLOCK);
-    let optional = body(block).get(0).expect(&rt, "an optional");
-    assert_statements(&rt, body(optional), OF_OPTIONAL);
+    let module = shaped(&rt, rt.alloc(), NESTED_TEXT);
+    let same = is_nested(module.statements.as_slice(), OF_BLOCK, OF_OPTIONAL);
+    assert!(rt; same);
 }
 
 // The operator of an expression, and the name that it is.
@@ -306,52 +333,86 @@ fn operator<'a>(expr: &Expr<'a>) -> (&'static str, Name<'a>) {
     }
 }
 
-// An operand of an expression.
-fn operand<'e, 'a>(expr: &'e Expr<'a>, i: usize) -> Option<&'e Expr<'a>> {
+// The operands of an operation of two.
+fn left<'e, 'a>(expr: Option<&'e Expr<'a>>) -> Option<&'e Expr<'a>> {
     match expr {
-        Expr::All | Expr::Name(_) => None,
-        Expr::Not(only) if i == 0 => Some(&**only),
-        Expr::Not(_) => None,
-        Expr::And(left, right) | Expr::Or(left, right) | Expr::Xor(left, right) => match i {
-            0 => Some(&**left),
-            1 => Some(&**right),
-            _ => None,
-        },
-        Expr::Union(elements) => elements.get(i),
+        Some(Expr::And(left, _) | Expr::Or(left, _) | Expr::Xor(left, _)) => Some(left),
+        _ => None,
     }
 }
 
-// An operand of an operand.
-fn under<'e, 'a>(expr: Option<&'e Expr<'a>>, i: usize) -> Option<&'e Expr<'a>> {
-    operand(expr?, i)
+fn right<'e, 'a>(expr: Option<&'e Expr<'a>>) -> Option<&'e Expr<'a>> {
+    match expr {
+        Some(Expr::And(_, right) | Expr::Or(_, right) | Expr::Xor(_, right)) => Some(right),
+        _ => None,
+    }
+}
+
+// What a complement is of.
+fn negated<'e, 'a>(expr: Option<&'e Expr<'a>>) -> Option<&'e Expr<'a>> {
+    match expr {
+        Some(Expr::Not(only)) => Some(only),
+        _ => None,
+    }
+}
+
+// An element of a list.
+fn element<'e, 'a>(expr: Option<&'e Expr<'a>>, i: usize) -> Option<&'e Expr<'a>> {
+    match expr {
+        Some(Expr::Union(elements)) => elements.get(i),
+        _ => None,
+    }
 }
 
 fn told<'a>(expr: Option<&Expr<'a>>) -> Option<(&'static str, Name<'a>)> {
     Some(operator(expr?))
 }
 
+// The expression of a statement.
+fn expression<'s, 'a>(statement: Option<&'s Statement<'a>>) -> Option<&'s Expr<'a>> {
+    match statement {
+        Some(Statement::TypeAttributeSet { expr, .. }) => Some(expr),
+        _ => None,
+    }
+}
+
+// What `(and (or b all) (xor (not c) ((all) d)))` is, with its names where they stand in the text: first the operations, then the operands.
+const TOLD: [Option<(&str, Name<'static>)>; 11] = [
+    Some(("and", NONE)),
+    Some(("or", NONE)),
+    Some(("xor", NONE)),
+    Some(("not", NONE)),
+    Some(("union", NONE)),
+    Some(("name", ("b", 29))),
+    Some(("all", NONE)),
+    Some(("name", ("c", 46))),
+    Some(("all", NONE)),
+    Some(("name", ("d", 56))),
+    None,
+];
+
+fn all_told<'a>(expr: Option<&Expr<'a>>) -> [Option<(&'static str, Name<'a>)>; 11] {
+    let (or, xor) = (left(expr), right(expr));
+    let (not, union) = (left(xor), right(xor));
+    [
+        told(expr),
+        told(or),
+        told(xor),
+        told(not),
+        told(union),
+        told(left(or)),
+        told(right(or)),
+        told(negated(not)),
+        told(element(union, 0)),
+        told(element(union, 1)),
+        told(element(union, 2)),
+    ]
+}
+
 #[test]
 fn an_expression_with_each_operator(rt: HostRuntime) {
     let text = b"(typeattributeset a (and (or b all) (xor (not c) ((all) d))))";
-    let module = shaped(&rt, rt.alloc(), text).expect(&rt, "a module");
-    let Some(Statement::TypeAttributeSet { expr, .. }) = module.statements.get(0) else {
-        panic!(rt; "no set statement");
-    };
-    let (or, xor) = (operand(expr, 0), operand(expr, 1));
-    let (not, union) = (under(xor, 0), under(xor, 1));
-    assert_eq!(rt; told(Some(expr)), Some(("and", NONE)));
-    assert_eq!(rt;
-        (told(or), told(xor)),
-        (Some(("or", NONE)), Some(("xor", NONE)))
-    );
-    assert_eq!(rt; told(under(or, 0)), Some(("name", ("b", 29))));
-    assert_eq!(rt; told(under(or, 1)), Some(("all", NONE)));
-    assert_eq!(rt;
-        (told(not), told(union)),
-        (Some(("not", NONE)), Some(("union", NONE)))
-    );
-    assert_eq!(rt; told(under(not, 0)), Some(("name", ("c", 46))));
-    assert_eq!(rt; told(under(union, 0)), Some(("all", NONE)));
-    assert_eq!(rt; told(under(union, 1)), Some(("name", ("d", 56))));
-    assert_eq!(rt; told(under(union, 2)), None);
+    let module = shaped(&rt, rt.alloc(), text);
+    let same = all_told(expression(module.statements.get(0))) == TOLD;
+    assert!(rt; same);
 }

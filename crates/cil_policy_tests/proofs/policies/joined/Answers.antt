@@ -5,7 +5,7 @@ use Rattle.cil_bind.specs.Scope.{AreSpelt}
 use Rattle.cil_bind.specs.Written.{IsWritten}
 use Rattle.cil_parse.specs.declared.parsed.ParsedModule.{ParsedModule}
 use Rattle.cil_parse.specs.Parsed.{IsParsed}
-use Rattle.cil_session_tests.proofs.policies.joined.Goals as goal
+use Rattle.cil_policy_tests.proofs.policies.joined.Goals as goal
 
 written : {A : Type 0} (name : List ℕ) (p : ParsedModule A) (is : (text : List ℕ) × IsParsed text p) → IsWritten (record { name = name; statements = is.1.statements })
 written name p is = record { bytes = is.0; trees = is.1.is_text.trees; reads = is.1.is_text.reads; shapes = is.1.is_text.shapes }

@@ -1,6 +1,6 @@
 use Rattle.std.proofs.Common.{refl}
 use Rattle.std.specs.List.{IsDistinct}
-use Rattle.cil_session_tests.proofs.policies.unsorted.Goals as goal
+use Rattle.cil_policy_tests.proofs.policies.unsorted.Goals as goal
 
 pub join-requires : goal.join-requires
 unfolding IsDistinct

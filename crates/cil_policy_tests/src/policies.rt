@@ -1,0 +1,206 @@
+//! Small policies: modules that are joined, and references that are bound.
+
+ghost use Rattle.std.specs.Prelude.{◌≡◌, List, IfOk, ℕ};
+ghost use Rattle.cil_specs.specs.Joined.{Module, Placed};
+ghost use Rattle.cil_parse.specs.Parsed.{IsParsed};
+ghost use Rattle.cil_bind.specs.Scope.{AreSpelt};
+ghost use Rattle.cil_bind.specs.Policy.{IsBoundTo};
+ghost use Rattle.cil_resolve.specs.Modules.{AreParsedFrom};
+
+use crate::shown::shown;
+use cil_bind::{Joining, Policy};
+use cil_parse::{ParsedModule, parse};
+use cil_resolve::{Joined, NamedModule, PolicyFault, Resolved, join, resolve};
+use std::alloc::{AllocError, Global};
+use std::process::Abort;
+
+// The parsed module of a text that the store takes.
+fn module_of(rt: &impl Abort, alloc: Global, text: &[u8]) -> ParsedModule
+    ensures { (text : List ℕ) × IsParsed text result }
+{
+    assert!(rt; text.len() <= 16_777_216, "too long a text");
+    parse(alloc, text).expect(rt, "a module")
+}
+
+// The modules m and n.
+fn joined<'m>(
+    alloc: Global,
+    m: &'m ParsedModule,
+    n: &'m ParsedModule,
+) -> Result<Joined<'m>, AllocError>
+    requires first { (text : List ℕ) × IsParsed text m.now }
+    requires second { (text : List ℕ) × IsParsed text n.now }
+    ensures parsed { IfOk result (λ joined. (modules : List Module) × AreParsedFrom joined.modules.items modules) }
+    ensures spelt { IfOk result (λ joined. (modules : List Module) × AreSpelt joined.modules.items modules) }
+{
+    let modules = Vec::from_array(
+        alloc,
+        [
+            NamedModule {
+                name: b"m",
+                module: m,
+            },
+            NamedModule {
+                name: b"n",
+                module: n,
+            },
+        ],
+    )?;
+    Ok(Joined { modules })
+}
+
+// The modules n and m.
+fn unsorted<'m>(
+    alloc: Global,
+    n: &'m ParsedModule,
+    m: &'m ParsedModule,
+) -> Result<Joined<'m>, AllocError> {
+    let modules = Vec::from_array(
+        alloc,
+        [
+            NamedModule {
+                name: b"n",
+                module: n,
+            },
+            NamedModule {
+                name: b"m",
+                module: m,
+            },
+        ],
+    )?;
+    Ok(join(modules))
+}
+
+// Whether modules are m and n.
+fn are_in_order(modules: &[NamedModule<'_>]) -> bool {
+    match modules {
+        [first, second] => shown(first.name) == "m" && shown(second.name) == "n",
+        _ => false,
+    }
+}
+
+#[test]
+fn modules_are_joined_in_the_order_of_their_names(rt: HostRuntime) {
+    let module = module_of(&rt, rt.alloc(), b"(type b)(type b)");
+    let joined = unsorted(rt.alloc(), &module, &module).expect(&rt, "memory");
+    let same = are_in_order(joined.modules.as_slice());
+    assert!(rt; same);
+}
+
+// Their policy, where no name is declared again.
+fn bound<'m>(rt: &impl Abort, alloc: Global, joined: &Joined<'m>) -> Policy<'m>
+    requires { (modules : List Module) × AreSpelt joined.now.modules.items modules }
+    ensures { (policy : List Placed) × IsBoundTo result joined.now.modules.items policy }
+{
+    match Policy::of(alloc, joined).expect(rt, "memory") {
+        Joining::Once(policy) => policy,
+        Joining::Twice(_) => panic!(rt; "a name is declared again"),
+    }
+}
+
+const FIRST: &[u8] = b"(type t)(class c (p))(block b (type u)(allow t u (c (p))))
+(optional o (type v)(allow v .t (c (p))))";
+
+const SECOND: &[u8] = b"(allow t b.u (c (p)))";
+
+// The place of a statement, and what its references are bound to.
+type Bound = (usize, &'static [Option<u32>]);
+
+// The marks of no optional and of those that are kept, each optional's by the number of its place and 1 more; how many statements
+// are left, and what some of them are bound to.
+type Kept = (&'static [bool], usize, &'static [Bound]);
+
+// The first row keeps all, and the policy stays as it is.
+const BOUND: [Kept; 2] = [
+    (
+        &[true, false, false, false, false, false, true],
+        9,
+        &[
+            (4, &[Some(0), Some(3), Some(1)]),
+            (7, &[Some(6), Some(0), Some(1)]),
+            (8, &[Some(0), Some(3), Some(1)]),
+        ],
+    ),
+    (
+        &[true],
+        7,
+        &[
+            (4, &[Some(0), Some(3), Some(1)]),
+            (6, &[Some(0), Some(3), Some(1)]),
+        ],
+    ),
+];
+
+// What the references of the statement of a place are bound to.
+fn references<'p>(policy: &'p Policy<'_>, place: usize) -> &'p [Option<u32>] {
+    if place < policy.bound.len() {
+        policy.bound.get(place)
+    } else {
+        &[]
+    }
+}
+
+// Whether so many statements are bound, and some of them to these.
+fn is_bound(policy: &Policy<'_>, len: usize, rows: &[Bound]) -> bool {
+    for (place, want) in rows {
+        if references(policy, *place) != *want {
+            return false;
+        }
+    }
+    policy.bound.len() == len
+}
+
+// Whether a policy without the optionals that a row leaves out is bound as the row says.
+fn is_kept(rt: &impl Abort, alloc: Global, joined: &Joined<'_>, row: &Kept) -> bool
+    requires { (modules : List Module) × AreSpelt joined.now.modules.items modules }
+{
+    let (marks, len, rows) = row;
+    let policy = bound(rt, alloc, joined);
+    let kept = policy.restrict(alloc, joined, marks).expect(rt, "memory");
+    is_bound(&kept, *len, rows)
+}
+
+#[test]
+fn references_are_bound(rt: HostRuntime) {
+    let alloc = rt.alloc();
+    let (m, n) = (module_of(&rt, alloc, FIRST), module_of(&rt, alloc, SECOND));
+    let joined = joined(alloc, &m, &n).expect(&rt, "memory");
+    let [all, few] = BOUND;
+    let same = is_kept(&rt, alloc, &joined, &all) && is_kept(&rt, alloc, &joined, &few);
+    assert!(rt; same);
+}
+
+/// What the modules m and n of two texts resolve to.
+pub fn resolved(rt: &impl Abort, alloc: Global, m: &[u8], n: &[u8]) -> Resolved {
+    let (m, n) = (module_of(rt, alloc, m), module_of(rt, alloc, n));
+    let joined = joined(alloc, &m, &n).expect(rt, "memory");
+    resolve(alloc, &joined).expect(rt, "a policy")
+}
+
+/// The code and the module of a fault, its place by offset, line and column, and its word.
+pub type Told = (u8, &'static str, (u32, u32, u32), &'static str);
+
+fn is_told(fault: &PolicyFault<'_>, want: &Told) -> bool {
+    match fault {
+        PolicyFault::Memory => false,
+        PolicyFault::Found {
+            kind,
+            module,
+            at,
+            word,
+        } => {
+            let place = (at.offset, at.line, at.column);
+            (kind.code(), shown(module), place, shown(word)) == *want
+        }
+    }
+}
+
+/// Whether that is the first fault of the policy of the modules m and n of two texts.
+pub fn is_refused(rt: &impl Abort, alloc: Global, m: &[u8], n: &[u8], want: &Told) -> bool {
+    let (m, n) = (module_of(rt, alloc, m), module_of(rt, alloc, n));
+    let joined = joined(alloc, &m, &n).expect(rt, "memory");
+    match resolve(alloc, &joined) {
+        Ok(_) => false,
+        Err(fault) => is_told(&fault, want),
+    }
+}
