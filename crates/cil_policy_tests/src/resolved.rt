@@ -41,11 +41,14 @@ fn lengths(policy: &Resolved) -> [usize; 7] {
 
 // What is known of a class and a type.
 fn has_class_and_type(policy: &Resolved) -> bool {
+    let names = [
+        name_seen(policy.type_at(0)),
+        name_seen(policy.type_at(1)),
+        name_seen(policy.attribute_at(0)),
+        name_seen(policy.dropped_at(0)),
+    ];
     lengths(policy) == [1, 0, 1, 1, 0, 0, 3]
-        && name_seen(policy.type_at(0)) == Some(("m", "a", 15))
-        && name_seen(policy.type_at(1)) == None
-        && name_seen(policy.attribute_at(0)) == None
-        && name_seen(policy.dropped_at(0)) == None
+        && names == [Some(("m", "a", 15)), None, None, None]
         && class_seen(policy.class_at(0)) == Some(("p", 1))
         && shown_if(policy.class_permission(0, 0)) == Some("use")
 }
@@ -105,33 +108,47 @@ fn set_seen<'a>(view: Option<SetView<'a>>) -> Option<(&'a str, &'a str, u32, usi
 
 // Of two set statements the first depends on the second.
 fn has_sets(policy: &Resolved) -> bool {
+    let sets = [
+        set_seen(policy.set_at(0)),
+        set_seen(policy.set_at(1)),
+        set_seen(policy.set_at(2)),
+    ];
+    let numbers = [
+        policy.set_attribute(0),
+        policy.attribute_number(0),
+        policy.type_number(1),
+    ];
     lengths(policy) == [2, 2, 1, 0, 0, 2, 6]
-        && set_seen(policy.set_at(0)) == Some(("m", "s", 80, 1))
-        && set_seen(policy.set_at(1)) == Some(("m", "n", 50, 1))
-        && set_seen(policy.set_at(2)) == None
-        && policy.set_attribute(0) == Some(4)
-        && policy.attribute_number(0) == Some(4)
-        && policy.type_number(1) == Some(1)
+        && sets == [Some(("m", "s", 80, 1)), Some(("m", "n", 50, 1)), None]
+        && numbers == [Some(4), Some(4), Some(1)]
         && policy.set_names(0).first().copied() == Some(Element::Type(0))
 }
 
 // Names, some of which are there, by their numbers.
 fn has_numbers(policy: &Resolved) -> bool {
+    let numbers = [
+        policy.number(b"a"),
+        policy.number(b"use"),
+        policy.number(b"us"),
+        policy.number(b"z"),
+    ];
     policy.names_len() > 4
         && shown(policy.name(4)) == "s"
-        && policy.number(b"a") == Some(0)
-        && policy.number(b"use") == Some(5)
-        && policy.number(b"us") == None
-        && policy.number(b"z") == None
+        && numbers == [Some(0), Some(5), None, None]
 }
 
-// Which of the two set statements hold types that no attribute has, and how often they were evaluated.
+// Whether a set statement holds a type that no attribute has.
+fn holds(policy: &Resolved, set: usize, ty: usize, meter: &mut Meter) -> bool {
+    policy.evaluate(set, ty, |_| false, meter)
+}
+
+// Which of the two set statements hold such types, and how often they were evaluated and counters adjusted.
 fn evaluated(policy: &Resolved) -> ([bool; 3], u128, u128) {
     let mut meter = Meter::new();
     let held = [
-        policy.evaluate(0, 0, |_| false, &mut meter),
-        policy.evaluate(0, 1, |_| false, &mut meter),
-        policy.evaluate(1, 1, |_| false, &mut meter),
+        holds(policy, 0, 0, &mut meter),
+        holds(policy, 0, 1, &mut meter),
+        holds(policy, 1, 1, &mut meter),
     ];
     (held, meter.evaluations(), meter.adjustments())
 }

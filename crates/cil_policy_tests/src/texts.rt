@@ -376,27 +376,43 @@ fn expression<'s, 'a>(statement: Option<&'s Statement<'a>>) -> Option<&'s Expr<'
     }
 }
 
-// Whether it is `(and (or b all) (xor (not c) ((all) d)))`, with its names where they stand in the text.
-fn has_each_operator(expr: Option<&Expr<'_>>) -> bool {
+// What `(and (or b all) (xor (not c) ((all) d)))` is, with its names where they stand in the text: first the operations, then the operands.
+const TOLD: [Option<(&str, Name<'static>)>; 11] = [
+    Some(("and", NONE)),
+    Some(("or", NONE)),
+    Some(("xor", NONE)),
+    Some(("not", NONE)),
+    Some(("union", NONE)),
+    Some(("name", ("b", 29))),
+    Some(("all", NONE)),
+    Some(("name", ("c", 46))),
+    Some(("all", NONE)),
+    Some(("name", ("d", 56))),
+    None,
+];
+
+fn all_told<'a>(expr: Option<&Expr<'a>>) -> [Option<(&'static str, Name<'a>)>; 11] {
     let (or, xor) = (left(expr), right(expr));
     let (not, union) = (left(xor), right(xor));
-    told(expr) == Some(("and", NONE))
-        && told(or) == Some(("or", NONE))
-        && told(xor) == Some(("xor", NONE))
-        && told(left(or)) == Some(("name", ("b", 29)))
-        && told(right(or)) == Some(("all", NONE))
-        && told(not) == Some(("not", NONE))
-        && told(union) == Some(("union", NONE))
-        && told(negated(not)) == Some(("name", ("c", 46)))
-        && told(element(union, 0)) == Some(("all", NONE))
-        && told(element(union, 1)) == Some(("name", ("d", 56)))
-        && told(element(union, 2)) == None
+    [
+        told(expr),
+        told(or),
+        told(xor),
+        told(not),
+        told(union),
+        told(left(or)),
+        told(right(or)),
+        told(negated(not)),
+        told(element(union, 0)),
+        told(element(union, 1)),
+        told(element(union, 2)),
+    ]
 }
 
 #[test]
 fn an_expression_with_each_operator(rt: HostRuntime) {
     let text = b"(typeattributeset a (and (or b all) (xor (not c) ((all) d))))";
     let module = shaped(&rt, rt.alloc(), text);
-    let same = has_each_operator(expression(module.statements.get(0)));
+    let same = all_told(expression(module.statements.get(0))) == TOLD;
     assert!(rt; same);
 }
