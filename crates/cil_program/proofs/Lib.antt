@@ -4,3 +4,4 @@ pub mod EndLemmas
 pub mod SessionLemmas
 pub mod ScriptLemmas
 pub mod ReplyLemmas
+pub mod CommandLineLemmas

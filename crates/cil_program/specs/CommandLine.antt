@@ -3,7 +3,7 @@ use Rattle.std.specs.Prelude.{◌≡◌, ◌≢◌, ℕ, ◌<◌, List, [], ◌�
 use Rattle.std.specs.List.{AllZip}
 use Rattle.cil_specs.specs.Report.{Row, row_line}
 use Rattle.cil_specs.specs.Violations.{Violation, violations_text}
-use Rattle.cil_stream.specs.Device.{Account, Gains, HasEnded, HasFailed}
+use Rattle.cil_stream.specs.Device.{Account, Gains, GainsFront, HasEnded, HasFailed}
 use Rattle.cil_store_specs.specs.Store.{Entry, Store, empty}
 use Rattle.cil_store_specs.specs.Next.{Refusal, accepts, refuses, for_memory, Of}
 use Rattle.cil_store_specs.specs.Run.{AreRowsOf, AreViolationsOf}
@@ -45,11 +45,14 @@ pub record AnswersSession (first now : Account) (before after : Written) (status
   pub ended : (status ≡ 0) ⊎ (status ≡ 1) → HasEnded first now
   pub failed : status ≡ 3 → HasFailed first.failures now.failures ⊎ HasFailed before.failures after.failures
 
--- memory ran out, which was told on the second sink alone; or a sink failed
+-- Memory ran out, which was told on the second sink alone; or a sink failed, and a beginning of
+-- that was told there.
 abbrev pub LacksMemory : Written → Written → Written → Written → ℕ → Type 0
 LacksMemory out new_out err new_err status =
-    ((status ≡ 1) × (new_out.taken ≡ out.taken) × Gains err.taken new_err.taken (refusal_line for_memory))
-    ⊎ ((status ≡ 3) × (HasFailed out.failures new_out.failures ⊎ HasFailed err.failures new_err.failures))
+    (new_out.taken ≡ out.taken)
+    × (((status ≡ 1) × Gains err.taken new_err.taken (refusal_line for_memory))
+    ⊎ ((status ≡ 3) × GainsFront err.taken new_err.taken (refusal_line for_memory)
+    × (HasFailed out.failures new_out.failures ⊎ HasFailed err.failures new_err.failures)))
 
 -- 1 where there is a violation
 abbrev pub status_of_violations : List Violation → ℕ
@@ -79,10 +82,39 @@ IsStem base name = (base ≡ name ++ codes ".cil") ⊎ ((base ≡ name) × ((fro
 abbrev pub NamesModule : List ℕ → List ℕ → Type 0
 NamesModule path name = (base : List ℕ) × IsBaseName path base × IsStem base name
 
--- an entry for a file at a path: the text is what was read of it
-pub record IsEntryAt (path : List ℕ) (entry : Entry) : Type 0 where
+-- what is told of the file at a path: nothing, that it can't be read, or its text
+pub data Content : Type 0 where
+  untold : Content
+  unreadable : Content
+  holds : List ℕ → Content
+
+-- all of a text was read, or a beginning that is longer than a store takes
+abbrev pub IsTextOf : List ℕ → List ℕ → Type 0
+IsTextOf whole text =
+    (text ≡ whole) ⊎ ((16777216 < length text) × ((rest : List ℕ) × (whole ≡ text ++ rest)))
+
+-- a text was read of a file
+abbrev pub IsReadOf : Content → List ℕ → Type 0
+IsReadOf untold text = Unit {0}
+IsReadOf unreadable text = ⊥
+IsReadOf (holds whole) text = IsTextOf whole text
+
+-- a file can't be read, where that is told
+abbrev pub IsUnreadable : Content → Type 0
+IsUnreadable untold = Unit {0}
+IsUnreadable unreadable = Unit {0}
+IsUnreadable (holds whole) = ⊥
+
+-- an entry for a file at a path, of which a text was read
+pub record IsEntryFor (path read : List ℕ) (entry : Entry) : Type 0 where
   pub named : NamesModule path entry.name
   pub priority : entry.priority ≡ 400
+  pub text : entry.text ≡ read
+
+-- an entry for a file at a path, by what is told of the files: the text is what was read of it
+abbrev pub IsEntryAt : (List ℕ → Content) → List ℕ → Entry → Type 0
+IsEntryAt content path entry =
+    (text : List ℕ) × IsReadOf (content path) text × IsEntryFor path text entry
 
 -- the line of a file that can't be read
 abbrev pub unreadable_line : List ℕ → List ℕ
@@ -90,7 +122,13 @@ unreadable_line path = codes "unreadable " ++ (path ++ codes "\n")
 
 -- What is printed and told of files that are compiled at once, and the exit status: what is of the texts that were read; or that
 -- one of the files can't be read, or that memory ran out, and nothing is printed.
-pub data CompilesFiles (paths : List (List ℕ)) (report : Report) (printed told : List ℕ) (status : ℕ) : Type 0 where
-  compiles : (entries : List Entry) → AllZip IsEntryAt paths entries → Compiles entries report printed told status → CompilesFiles paths report printed told status
-  is_unreadable : (path : List ℕ) → Contains paths path → printed ≡ [] → told ≡ unreadable_line path → status ≡ 3 → CompilesFiles paths report printed told status
-  is_not_held : printed ≡ [] → told ≡ refusal_line for_memory → status ≡ 1 → CompilesFiles paths report printed told status
+pub data CompilesFiles (content : List ℕ → Content) (paths : List (List ℕ)) (report : Report)
+    (printed told : List ℕ) (status : ℕ) : Type 0 where
+  compiles : (entries : List Entry) → AllZip (IsEntryAt content) paths entries
+      → Compiles entries report printed told status
+      → CompilesFiles content paths report printed told status
+  is_unreadable : (path : List ℕ) → Contains paths path → IsUnreadable (content path)
+      → printed ≡ [] → told ≡ unreadable_line path → status ≡ 3
+      → CompilesFiles content paths report printed told status
+  is_not_held : printed ≡ [] → told ≡ refusal_line for_memory → status ≡ 1
+      → CompilesFiles content paths report printed told status

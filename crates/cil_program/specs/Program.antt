@@ -1,11 +1,11 @@
 -- The program's command line, as `clap` reads it.
 use Rattle.std.specs.Prelude.{◌≡◌, ◌⊎◌, ℕ, List, [], true, Option, Some, codes, unwrap_or}
-use Rattle.cil_stream.specs.Device.{Gains, HasFailed}
+use Rattle.cil_stream.specs.Device.{Gains, GainsFront, HasFailed}
 use Rattle.clap.specs.Lexer.{usize_max}
 use Rattle.clap.specs.Walk.{Row, Rule, Text, all_of, one_of}
 use Rattle.clap.specs.Simple.{App, new_app, new_rule, on_top, with_rule, with_subcommand}
 use Rattle.clap.specs.declared.builder.action.ArgAction.TheVariants.{Append, SetTrue}
-use Rattle.cil_program.specs.CommandLine.{CompilesFiles, Written}
+use Rattle.cil_program.specs.CommandLine.{CompilesFiles, Content, Written}
 use Rattle.cil_program.specs.declared.command_line.compile.Report.{Report}
 use Rattle.cil_program.specs.declared.command_line.compile.Report.TheVariants.{Listing, Violations}
 
@@ -40,9 +40,22 @@ IsReportFor text report = (text ≡ Some (codes "true") → report ≡ Violation
 abbrev pub IsReportAsked : List Row → Report → Type 0
 IsReportAsked rows report = IsReportFor (one_of (codes "violations") rows) report
 
--- What was found behind `compile` is answered: the files were compiled and the report written; or a sink failed.
-abbrev pub AnswersCompile : List Row → Written → Written → Written → Written → ℕ → Type 0
-AnswersCompile rows out new_out err new_err status =
-    ((report : Report) × (printed : List ℕ) × (told : List ℕ) × IsReportAsked rows report × Gains out.taken new_out.taken printed × Gains err.taken new_err.taken told
-    × CompilesFiles (files_asked rows) report printed told status)
-    ⊎ ((status ≡ 3) × (HasFailed out.failures new_out.failures ⊎ HasFailed err.failures new_err.failures))
+-- by what was found behind `compile` this is to be printed and told, and this is the exit status
+abbrev pub IsToBeWritten : (List ℕ → Content) → List Row → List ℕ → List ℕ → ℕ → Type 0
+IsToBeWritten content rows printed told status =
+    (report : Report) × IsReportAsked rows report
+    × CompilesFiles content (files_asked rows) report printed told status
+
+-- What was found behind `compile` is answered: the files were compiled and the report written; or
+-- a sink failed, and a beginning was written.
+abbrev pub AnswersCompile :
+    (List ℕ → Content) → List Row → Written → Written → Written → Written → ℕ → Type 0
+AnswersCompile content rows out new_out err new_err status =
+    ((printed : List ℕ) × (told : List ℕ)
+    × Gains out.taken new_out.taken printed × Gains err.taken new_err.taken told
+    × IsToBeWritten content rows printed told status)
+    ⊎ ((status ≡ 3)
+    × (HasFailed out.failures new_out.failures ⊎ HasFailed err.failures new_err.failures)
+    × ((printed : List ℕ) × (told : List ℕ) × (meant : ℕ)
+    × GainsFront out.taken new_out.taken printed × GainsFront err.taken new_err.taken told
+    × IsToBeWritten content rows printed told meant))

@@ -3,11 +3,11 @@
 ghost use Rattle.std.specs.Prelude.{◌≡◌, ◌≢◌, ◌⊎◌, ◌≤◌, ℕ, true, List, Result, Some, codes, map, IfOk, OnErr, OnOk};
 ghost use Rattle.clap.specs.Words.{Row, found_of, kind_of, rows_of, subcommand_of, takes};
 ghost use Rattle.clap.specs.declared.error.kind.ErrorKind.TheVariants.{OutOfMemory};
-ghost use Rattle.cil_stream.specs.Device.{Gains, HasFailed};
+ghost use Rattle.cil_stream.specs.Device.{Gains, GainsFront, HasFailed};
 ghost use Rattle.cil_store_specs.specs.Next.{for_memory};
 ghost use Rattle.cil_store_specs.specs.Script.{refusal_line};
-ghost use Rattle.cil_program.specs.CommandLine.{AsksSession, AnswersSession, CompilesFiles, LacksMemory, exit_status_of, unreadable_line};
-ghost use Rattle.cil_program.specs.Program.{AnswersCompile, IsReportAsked, files_asked, program_app};
+ghost use Rattle.cil_program.specs.CommandLine.{AsksSession, AnswersSession, CompilesFiles, LacksMemory, exit_status_of, unreadable_line, untold};
+ghost use Rattle.cil_program.specs.Program.{AnswersCompile, IsToBeWritten, program_app};
 ghost use Rattle.cil_program.specs.declared.command_line.compile.Report.{Report};
 ghost use Rattle.cil_program.specs.declared.script.session.SessionFault.{SessionFault};
 ghost use Rattle.cil_program.specs.declared.script.session.Status.{Status};
@@ -17,7 +17,7 @@ pub mod files;
 mod words;
 
 use crate::command_line::compile::{Report, compile_entries, refuse_for_memory};
-use crate::command_line::files::{ReadFault, entries_of, read_files};
+use crate::command_line::files::{ReadFault, TextFiles, entries_of, read_files};
 use crate::command_line::words::{COMPILE, FILES, VIOLATIONS, matches_of};
 use crate::script::session::{SessionFault, Status, session};
 use cil_store::Delta;
@@ -65,6 +65,9 @@ fn tell<W: Sink, E: Sink>(
     ensures status { IfOk result (λ status. status ≤ 3) }
     ensures memory { kind_of error.now ≡ OutOfMemory → IfOk result (λ status. (status ≡ 1) × (W.taken out.new ≡ W.taken out.old)
         × Gains (E.taken err.old) (E.taken err.new) (refusal_line for_memory)) }
+    ensures memory_cut { kind_of error.now ≡ OutOfMemory → OnErr result (
+        (W.taken out.new ≡ W.taken out.old)
+        × GainsFront (E.taken err.old) (E.taken err.new) (refusal_line for_memory)) }
     ensures failed { OnErr result (HasFailed (W.failures out.old) (W.failures out.new) ⊎ HasFailed (E.failures err.old) (E.failures err.new)) }
     ensures out_counted { W.failures out.old ≤ W.failures out.new }
     ensures err_counted { E.failures err.old ≤ E.failures err.new }
@@ -86,6 +89,8 @@ fn tell<W: Sink, E: Sink>(
 /// Writes which file can't be read, and gives the exit status.
 fn tell_unreadable<E: Sink>(err: &mut E, path: &str) -> Result<u8, SinkFault>
     ensures ok { IfOk result (λ status. (status ≡ 3) × Gains (E.taken err.old) (E.taken err.new) (unreadable_line path.now)) }
+    ensures err { OnErr result
+        (GainsFront (E.taken err.old) (E.taken err.new) (unreadable_line path.now)) }
     ensures failed { OnErr result (HasFailed (E.failures err.old) (E.failures err.new)) }
     ensures counted { E.failures err.old ≤ E.failures err.new }
 {
@@ -94,8 +99,8 @@ fn tell_unreadable<E: Sink>(err: &mut E, path: &str) -> Result<u8, SinkFault>
 }
 
 /// Compiles files and writes the report, and gives the exit status. All are read first.
-fn compile_files<'a, R: Files, W: Sink, E: Sink>(
-    rt: &R,
+fn compile_files<'a, F: TextFiles, W: Sink, E: Sink>(
+    from: &F,
     alloc: Global,
     paths: &[&'a str],
     report: Report,
@@ -103,13 +108,21 @@ fn compile_files<'a, R: Files, W: Sink, E: Sink>(
     err: &mut E,
 ) -> Result<u8, SinkFault>
     ensures status { IfOk result (λ status. status ≤ 3) }
-    ensures ok { IfOk result (λ status. (printed : List ℕ) × (told : List ℕ) × Gains (W.taken out.old) (W.taken out.new) printed
-        × Gains (E.taken err.old) (E.taken err.new) told × CompilesFiles (map (λ path. path.now) paths.now) report printed told status) }
+    ensures ok { IfOk result (λ status. (printed : List ℕ) × (told : List ℕ)
+        × Gains (W.taken out.old) (W.taken out.new) printed
+        × Gains (E.taken err.old) (E.taken err.new) told
+        × CompilesFiles (F.content from.now) (map (λ path. path.now) paths.now) report
+        printed told status) }
+    ensures err { OnErr result ((printed : List ℕ) × (told : List ℕ) × (status : ℕ)
+        × GainsFront (W.taken out.old) (W.taken out.new) printed
+        × GainsFront (E.taken err.old) (E.taken err.new) told
+        × CompilesFiles (F.content from.now) (map (λ path. path.now) paths.now) report
+        printed told status) }
     ensures failed { OnErr result (HasFailed (W.failures out.old) (W.failures out.new) ⊎ HasFailed (E.failures err.old) (E.failures err.new)) }
     ensures out_counted { W.failures out.old ≤ W.failures out.new }
     ensures err_counted { E.failures err.old ≤ E.failures err.new }
 {
-    let files = match read_files(rt, alloc, paths) {
+    let files = match read_files(from, alloc, paths) {
         Ok(files) => files,
         Err(ReadFault::Memory) => return refuse_for_memory(err),
         Err(ReadFault::Unreadable(path)) => return tell_unreadable(err, path),
@@ -121,17 +134,22 @@ fn compile_files<'a, R: Files, W: Sink, E: Sink>(
 }
 
 /// Does what is asked of `compile`, and gives the exit status.
-fn answer_compile<R: Files, W: Sink, E: Sink>(
-    rt: &R,
+fn answer_compile<F: TextFiles, W: Sink, E: Sink>(
+    from: &F,
     alloc: Global,
     asked: &ArgMatches<'_>,
     out: &mut W,
     err: &mut E,
 ) -> Result<u8, SinkFault>
     ensures status { IfOk result (λ status. status ≤ 3) }
-    ensures ok { IfOk result (λ status. (report : Report) × (printed : List ℕ) × (told : List ℕ) × IsReportAsked (rows_of (found_of asked.now)) report
-        × Gains (W.taken out.old) (W.taken out.new) printed × Gains (E.taken err.old) (E.taken err.new) told
-        × CompilesFiles (files_asked (rows_of (found_of asked.now))) report printed told status) }
+    ensures ok { IfOk result (λ status. (printed : List ℕ) × (told : List ℕ)
+        × Gains (W.taken out.old) (W.taken out.new) printed
+        × Gains (E.taken err.old) (E.taken err.new) told
+        × IsToBeWritten (F.content from.now) (rows_of (found_of asked.now)) printed told status) }
+    ensures err { OnErr result ((printed : List ℕ) × (told : List ℕ) × (status : ℕ)
+        × GainsFront (W.taken out.old) (W.taken out.new) printed
+        × GainsFront (E.taken err.old) (E.taken err.new) told
+        × IsToBeWritten (F.content from.now) (rows_of (found_of asked.now)) printed told status) }
     ensures failed { OnErr result (HasFailed (W.failures out.old) (W.failures out.new) ⊎ HasFailed (E.failures err.old) (E.failures err.new)) }
     ensures out_counted { W.failures out.old ≤ W.failures out.new }
     ensures err_counted { E.failures err.old ≤ E.failures err.new }
@@ -142,8 +160,8 @@ fn answer_compile<R: Files, W: Sink, E: Sink>(
         Report::Listing
     };
     match asked.get_strs(FILES) {
-        Some(paths) => compile_files(rt, alloc, paths, report, out, err),
-        None => compile_files(rt, alloc, &[], report, out, err),
+        Some(paths) => compile_files(from, alloc, paths, report, out, err),
+        None => compile_files(from, alloc, &[], report, out, err),
     }
 }
 
@@ -200,7 +218,7 @@ pub fn command<R: Files, T: AsStr, S: Source, W: Sink, E: Sink>(
         (record { taken = E.taken err.new; flushed = E.flushed err.new; failures = E.failures err.new }) result }
     ensures compile { (rows : List Row) → takes program_app (map T.text words.now) ≡ true
         → subcommand_of program_app (map T.text words.now) ≡ Some (codes "compile", rows) →
-        AnswersCompile rows
+        AnswersCompile (λ _. untold) rows
         (record { taken = W.taken out.old; flushed = W.flushed out.old; failures = W.failures out.old })
         (record { taken = W.taken out.new; flushed = W.flushed out.new; failures = W.failures out.new })
         (record { taken = E.taken err.old; flushed = E.flushed err.old; failures = E.failures err.old })

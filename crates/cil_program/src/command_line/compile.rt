@@ -1,7 +1,7 @@
 //! The compilation of entries at once.
 
 ghost use Rattle.std.specs.Prelude.{◌≡◌, ◌⊎◌, ◌≤◌, [], List, ℕ, map, length, IfOk, IsErrOf, OnErr};
-ghost use Rattle.cil_stream.specs.Device.{Gains, HasFailed};
+ghost use Rattle.cil_stream.specs.Device.{Gains, GainsFront, HasFailed};
 ghost use Rattle.cil_store_specs.specs.Next.{for_memory, Of, accepts};
 ghost use Rattle.cil_store_specs.specs.Script.{refusal_line};
 ghost use Rattle.cil_store.specs.Stored.{entry_of};
@@ -24,6 +24,8 @@ pub enum Report {
 /// Writes that memory ran out, and gives the exit status.
 pub fn refuse_for_memory<E: Sink>(err: &mut E) -> Result<u8, SinkFault>
     ensures ok { IfOk result (λ status. (status ≡ 1) × Gains (E.taken err.old) (E.taken err.new) (refusal_line for_memory)) }
+    ensures err { OnErr result
+        (GainsFront (E.taken err.old) (E.taken err.new) (refusal_line for_memory)) }
     ensures failed { OnErr result (HasFailed (E.failures err.old) (E.failures err.new)) }
     ensures counted { E.failures err.old ≤ E.failures err.new }
 {
@@ -39,6 +41,10 @@ fn write_report<W: Sink, A: Allocator + Copy, C: Compiled<A>>(
 ) -> Result<u8, WriteFault>
     ensures ok { (entries : _) → Of entries (accepts (C.store engine.now)) → IfOk result (λ status. (printed : List ℕ)
         × Gains (W.taken out.old) (W.taken out.new) printed × Compiles entries report printed [] status) }
+    ensures err { (entries : _) → Of entries (accepts (C.store engine.now))
+        → IsErrOf result WriteFault.Sink → (printed : List ℕ) × (status : ℕ)
+        × GainsFront (W.taken out.old) (W.taken out.new) printed
+        × Compiles entries report printed [] status }
     ensures memory { IsErrOf result WriteFault.Memory → W.taken out.new ≡ W.taken out.old }
     ensures failed { IsErrOf result WriteFault.Sink → HasFailed (W.failures out.old) (W.failures out.new) }
     ensures counted { W.failures out.old ≤ W.failures out.new }
@@ -60,7 +66,7 @@ fn write_report<W: Sink, A: Allocator + Copy, C: Compiled<A>>(
 ///
 /// # Errors
 ///
-/// Where a sink failed.
+/// Where a sink failed. Then the sinks took a beginning.
 pub fn compile_entries<W: Sink, E: Sink, A: Allocator + Copy>(
     alloc: A,
     entries: &[Entry<'_>],
@@ -70,6 +76,10 @@ pub fn compile_entries<W: Sink, E: Sink, A: Allocator + Copy>(
 ) -> Result<u8, SinkFault>
     ensures ok { IfOk result (λ status. (printed : List ℕ) × (told : List ℕ) × Gains (W.taken out.old) (W.taken out.new) printed
         × Gains (E.taken err.old) (E.taken err.new) told × Compiles (map entry_of entries.now) report printed told status) }
+    ensures err { OnErr result ((printed : List ℕ) × (told : List ℕ) × (status : ℕ)
+        × GainsFront (W.taken out.old) (W.taken out.new) printed
+        × GainsFront (E.taken err.old) (E.taken err.new) told
+        × Compiles (map entry_of entries.now) report printed told status) }
     ensures failed { OnErr result (HasFailed (W.failures out.old) (W.failures out.new) ⊎ HasFailed (E.failures err.old) (E.failures err.new)) }
     ensures out_counted { W.failures out.old ≤ W.failures out.new }
     ensures err_counted { E.failures err.old ≤ E.failures err.new }

@@ -1,10 +1,10 @@
 //! The files that are compiled.
 
-ghost use Rattle.std.specs.Prelude.{◌≡◌, ◌⊎◌, ◌<◌, Contains, length, map, IfOk, IfErr, IsErrOf};
+ghost use Rattle.std.specs.Prelude.{◌≡◌, ◌⊎◌, ◌<◌, All, Contains, List, ℕ, length, map, IfOk, IfErr, IsErrOf};
 ghost use Rattle.std.specs.List.{AllZip};
 ghost use Rattle.cil_stream.specs.Device.{Gives, HasEnded, HasFailed};
 ghost use Rattle.cil_store.specs.Stored.{entry_of};
-ghost use Rattle.cil_program.specs.CommandLine.{IsBaseName, IsEntryAt, NamesModule};
+ghost use Rattle.cil_program.specs.CommandLine.{Content, IsBaseName, IsEntryFor, IsReadOf, IsUnreadable, NamesModule, untold};
 ghost use Rattle.cil_program.specs.declared.command_line.files.ReadFault.TheVariants.{Unreadable};
 
 use cil_store::Entry;
@@ -32,9 +32,10 @@ impl<'a, T: Drop> From<AllocFailed<T>> for ReadFault<'a> {
     }
 }
 
-/// Why a text was not read from its source.
+/// Why a text was not read.
 #[derive(Clone, Copy, Debug, PartialEq, Eq)]
-enum TextFault {
+pub enum TextFault {
+    /// Its file can't be read, or its source failed.
     Source,
     Memory,
 }
@@ -85,6 +86,29 @@ fn read_text<S: Source, A: Allocator>(alloc: A, source: &mut S) -> Result<Vec<u8
     Ok(text)
 }
 
+/// Files, of which the texts are read.
+pub trait TextFiles {
+    /// What it tells of the file at a path.
+    ghost content: { Self → List ℕ → Content };
+
+    /// Reads the text of the file at a path, to its end, or until it is longer than a store takes.
+    fn read<A: Allocator>(&self, alloc: A, path: &str) -> Result<Vec<u8, A>, TextFault>
+        ensures ok { IfOk result (λ text. IsReadOf (content self.now path.now) text.items) }
+        ensures err { IsErrOf result TextFault.Source → IsUnreadable (content self.now path.now) };
+}
+
+/// Those of the system. It tells nothing of them.
+impl<R: Files> TextFiles for R {
+    ghost content = { λ _ _. untold };
+
+    fn read<A: Allocator>(&self, alloc: A, path: &str) -> Result<Vec<u8, A>, TextFault> {
+        match File::open(self, path) {
+            Ok(file) => read_text(alloc, &mut ReaderSource::new(file)),
+            Err(_) => Err(TextFault::Source),
+        }
+    }
+}
+
 /// A file that was read.
 #[derive(Drop)]
 pub struct ReadFile<'a, A: Allocator> {
@@ -119,11 +143,11 @@ pub fn module_name(path: &str) -> &[u8]
 
 impl<'a, A: Allocator> ReadFile<'a, A> {
     ghost use Rattle.cil_store.specs.Stored.{entry_of};
-    ghost use Rattle.cil_program.specs.CommandLine.{IsEntryAt};
+    ghost use Rattle.cil_program.specs.CommandLine.{IsEntryFor};
 
     /// Its entry in a store.
     pub fn as_entry(&self) -> Entry<'_>
-        ensures { IsEntryAt self.now.path.now (entry_of result) }
+        ensures { IsEntryFor self.now.path.now self.now.text.items (entry_of result) }
     {
         Entry {
             name: module_name(self.path),
@@ -134,18 +158,18 @@ impl<'a, A: Allocator> ReadFile<'a, A> {
 }
 
 /// Reads a file.
-fn read_file<'a, R: Files, A: Allocator>(
-    rt: &R,
+fn read_file<'a, F: TextFiles, A: Allocator>(
+    from: &F,
     alloc: A,
     path: &'a str,
 ) -> Result<ReadFile<'a, A>, ReadFault<'a>>
     ensures ok { IfOk result (λ file. file.path ≡ path.entry) }
-    ensures err { IfErr result (λ fault. (unread : _) → fault ≡ Unreadable unread → unread ≡ path.entry) }
+    ensures text { IfOk result (λ file.
+        IsReadOf (F.content from.now path.entry.now) file.text.items) }
+    ensures err { IfErr result (λ fault. (unread : _) → fault ≡ Unreadable unread
+        → (unread ≡ path.entry) × IsUnreadable (F.content from.now path.entry.now)) }
 {
-    let Ok(file) = File::open(rt, path) else {
-        return Err(ReadFault::Unreadable(path));
-    };
-    match read_text(alloc, &mut ReaderSource::new(file)) {
+    match from.read(alloc, path) {
         Ok(text) => Ok(ReadFile { path, text }),
         Err(TextFault::Source) => Err(ReadFault::Unreadable(path)),
         Err(TextFault::Memory) => Err(ReadFault::Memory),
@@ -153,17 +177,20 @@ fn read_file<'a, R: Files, A: Allocator>(
 }
 
 /// Reads files, in their order.
-pub fn read_files<'a, R: Files, A: Allocator + Copy>(
-    rt: &R,
+pub fn read_files<'a, F: TextFiles, A: Allocator + Copy>(
+    from: &F,
     alloc: A,
     paths: &[&'a str],
 ) -> Result<Vec<ReadFile<'a, A>, A>, ReadFault<'a>>
     ensures ok { IfOk result (λ files. map (λ file. file.path.now) files.items ≡ map (λ path. path.now) paths.now) }
-    ensures err { IfErr result (λ fault. (unread : _) → fault ≡ Unreadable unread → Contains paths.now unread) }
+    ensures texts { IfOk result (λ files.
+        All (λ file. IsReadOf (F.content from.now file.path.now) file.text.items) files.items) }
+    ensures err { IfErr result (λ fault. (unread : _) → fault ≡ Unreadable unread
+        → Contains paths.now unread × IsUnreadable (F.content from.now unread.now)) }
 {
     let mut files = Vec::new(alloc);
     for path in paths {
-        files.push(read_file(rt, alloc, *path)?)?;
+        files.push(read_file(from, alloc, *path)?)?;
     }
     Ok(files)
 }
@@ -173,7 +200,9 @@ pub fn entries_of<'b, A: Allocator + Copy>(
     alloc: A,
     files: &'b [ReadFile<'_, A>],
 ) -> Result<Vec<Entry<'b>, A>, AllocError>
-    ensures { IfOk result (λ entries. AllZip (λ file entry. IsEntryAt file.path.now (entry_of entry)) files.now entries.items) }
+    ensures { IfOk result (λ entries.
+        AllZip (λ file entry. IsEntryFor file.path.now file.text.items (entry_of entry))
+        files.now entries.items) }
 {
     let mut entries = Vec::new(alloc);
     for file in files {

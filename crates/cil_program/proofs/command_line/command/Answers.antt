@@ -3,11 +3,13 @@ use Rattle.std.proofs.Math.Nat.{eq-or-lt_of_le}
 use Rattle.std.proofs.lemmas.Result.{IfOk-weaker}
 use Rattle.clap.specs.Walk.{Row, rows_of}
 use Rattle.clap.specs.Matches.{found_of}
-use Rattle.cil_stream.specs.Device.{Gains, HasFailed}
+use Rattle.cil_stream.specs.Device.{Gains, GainsFront, HasFailed}
 use Rattle.cil_stream.proofs.Gaining.{failed-later}
-use Rattle.cil_program.specs.CommandLine.{CompilesFiles}
-use Rattle.cil_program.specs.Program.{files_asked, IsReportAsked}
-use Rattle.cil_program.specs.declared.command_line.compile.Report.{Report}
+use Rattle.cil_store_specs.specs.Next.{for_memory}
+use Rattle.cil_store_specs.specs.Script.{refusal_line}
+use Rattle.cil_program.specs.CommandLine.{untold}
+use Rattle.cil_program.specs.Program.{IsToBeWritten}
+use Rattle.cil_program.proofs.CommandLineLemmas.{front-all, on-err}
 use Rattle.cil_program.proofs.command_line.command.Goals as goal
 
 failed-kept : (old mid new : ℕ) → old ≤ mid → mid ≤ new → HasFailed old mid → HasFailed old new
@@ -20,35 +22,58 @@ failed-kept old mid new a b (inr full) = by (eq-or-lt_of_le b)
 
 -- what `compile` has written of what was found, by what the sinks took
 abbrev Written-of : List Row → ℕ → Option (List ℕ) → Option (List ℕ) → Option (List ℕ) → Option (List ℕ) → Type 0
-Written-of rows s out new err err-new = (report : Report) × (printed : List ℕ) × (told : List ℕ) × IsReportAsked rows report × Gains out new printed × Gains err err-new told
-    × CompilesFiles (files_asked rows) report printed told s
+Written-of rows s out new err err-new = (printed : List ℕ) × (told : List ℕ) × Gains out new printed × Gains err err-new told × IsToBeWritten (λ _. untold) rows printed told s
+
+-- or a beginning of it
+abbrev Begun-of : List Row → Option (List ℕ) → Option (List ℕ) → Option (List ℕ) → Option (List ℕ) → Type 0
+Begun-of rows out new err err-new = (printed : List ℕ) × (told : List ℕ) × (meant : ℕ) × GainsFront out new printed × GainsFront err err-new told × IsToBeWritten (λ _. untold) rows printed told meant
 
 -- what was answered is finished, or a sink failed, by then or now
-ended : {E : Type 0} (answered : Result ℕ E) (status : ℕ) (Done : ℕ → Type 0) (Failed Later : Type 0) → IfOk answered Done → (OnErr answered Failed)
-    → IfOk answered (λ s. (status ≡ s) ⊎ ((status ≡ 3) × Later)) → OnErr answered (status ≡ 3) → (Later → Failed) → Done status ⊎ ((status ≡ 3) × Failed)
-ended (Ok s) status Done Failed Later done failed (inl is) three later = inl (subst Done (sym is) done)
-ended (Ok s) status Done Failed Later done failed (inr h) three later = inr (h.0, later h.1)
-ended (Err e) status Done Failed Later done failed ok three later = inr (three, failed)
+ended : {E : Type 0} (answered : Result ℕ E) (status : ℕ) (Done : ℕ → Type 0) (Failed Later Cut : Type 0) → IfOk answered Done → OnErr answered Failed → OnErr answered Cut
+    → ((s : ℕ) → Done s → Cut) → IfOk answered (λ s. (status ≡ s) ⊎ ((status ≡ 3) × Later)) → OnErr answered (status ≡ 3) → (Later → Failed) → Done status ⊎ ((status ≡ 3) × Failed × Cut)
+ended (Ok s) status Done Failed Later Cut done failed cut all (inl is) three later = inl (subst Done (sym is) done)
+ended (Ok s) status Done Failed Later Cut done failed cut all (inr h) three later = inr (h.0, later h.1, all s done)
+ended (Err e) status Done Failed Later Cut done failed cut all ok three later = inr (three, failed, cut)
 
 either-failed : {P Q R S : Type 0} → (P → R) → (Q → S) → P ⊎ Q → R ⊎ S
 either-failed f h (inl p) = inl (f p)
 either-failed f h (inr q) = inr (h q)
 
-on-err : {T E : Type 0} (r : Result T E) (P Q : Type 0) → (P → Q) → OnErr r P → OnErr r Q
-on-err (Ok x) P Q f h = tt
-on-err (Err e) P Q f h = f h
+-- out of memory was told, and then what was told was flushed
+lacking : {E : Type 0} (told : Result ℕ E) (status : ℕ) (out mid new err err-mid err-new : Option (List ℕ)) (Failed Later : Type 0) → new ≡ mid → err-new ≡ err-mid
+    → IfOk told (λ s. (s ≡ 1) × (mid ≡ out) × Gains err err-mid (refusal_line for_memory)) → OnErr told ((mid ≡ out) × GainsFront err err-mid (refusal_line for_memory)) → OnErr told Failed
+    → IfOk told (λ s. (status ≡ s) ⊎ ((status ≡ 3) × Later)) → OnErr told (status ≡ 3) → (Later → Failed)
+    → (new ≡ out) × (((status ≡ 1) × Gains err err-new (refusal_line for_memory)) ⊎ ((status ≡ 3) × GainsFront err err-new (refusal_line for_memory) × Failed))
+lacking (Ok s) status out mid new err err-mid err-new Failed Later same same_err done cut failed (inl is) three later =
+    (same ∙ done.1, inl (is ∙ done.0, subst (λ t. Gains err t (refusal_line for_memory)) (sym same_err) done.2))
+lacking (Ok s) status out mid new err err-mid err-new Failed Later same same_err done cut failed (inr h) three later =
+    (same ∙ done.1, inr (h.0, front-all err err-new (refusal_line for_memory) (subst (λ t. Gains err t (refusal_line for_memory)) (sym same_err) done.2), later h.1))
+lacking (Err e) status out mid new err err-mid err-new Failed Later same same_err done cut failed ok three later =
+    (same ∙ cut.0, inr (three, subst (λ t. GainsFront err t (refusal_line for_memory)) (sym same_err) cut.1, failed))
 
 -- what was written is as before what was flushed behind it
 written : (rows found : List Row) (s : ℕ) (out mid new err err-mid err-new : Option (List ℕ)) → found ≡ rows → new ≡ mid → err-new ≡ err-mid → Written-of found s out mid err err-mid → Written-of rows s out new err err-new
 written rows found s out mid new err err-mid err-new rows_are same same_err made = (
   made.0,
   made.1,
-  made.2,
-  subst (λ r. IsReportAsked r made.0) rows_are made.3,
-  subst (λ t. Gains out t made.1) (sym same) made.4,
-  subst (λ t. Gains err t made.2) (sym same_err) made.5,
-  subst (λ r. CompilesFiles (files_asked r) made.0 made.1 made.2 s) rows_are made.6,
+  subst (λ t. Gains out t made.0) (sym same) made.2,
+  subst (λ t. Gains err t made.1) (sym same_err) made.3,
+  subst (λ r. IsToBeWritten (λ _. untold) r made.0 made.1 s) rows_are made.4,
 )
+
+begun : (rows found : List Row) (out mid new err err-mid err-new : Option (List ℕ)) → found ≡ rows → new ≡ mid → err-new ≡ err-mid → Begun-of found out mid err err-mid → Begun-of rows out new err err-new
+begun rows found out mid new err err-mid err-new rows_are same same_err made = (
+  made.0,
+  made.1,
+  made.2,
+  subst (λ t. GainsFront out t made.0) (sym same) made.3,
+  subst (λ t. GainsFront err t made.1) (sym same_err) made.4,
+  subst (λ r. IsToBeWritten (λ _. untold) r made.0 made.1 made.2) rows_are made.5,
+)
+
+-- all of it begins it
+all-begun : (rows : List Row) (s : ℕ) (out new err err-new : Option (List ℕ)) → Written-of rows s out new err err-new → Begun-of rows out new err err-new
+all-begun rows s out new err err-new made = (made.0, made.1, s, front-all out new made.0 made.2, front-all err err-new made.1 made.3, made.4)
 
 pub returns-clause-compile : goal.returns-clause-compile
 returns-clause-compile g c = λ rows takes is.
@@ -63,6 +88,7 @@ returns-clause-compile g c = λ rows takes is.
     (λ s. Written-of rows s (taken c.args.out.now) (taken c.finish-2.new.out) (err-taken c.args.err.now) (err-taken c.finish-2.new.err))
     (HasFailed (failures c.args.out.now) (failures c.finish-2.new.out) ⊎ HasFailed (err-failures c.args.err.now) (err-failures c.finish-2.new.err))
     (HasFailed (failures answered.new.out) (failures c.finish-2.new.out) ⊎ HasFailed (err-failures answered.new.err) (err-failures c.finish-2.new.err))
+    (Begun-of rows (taken c.args.out.now) (taken c.finish-2.new.out) (err-taken c.args.err.now) (err-taken c.finish-2.new.err))
     (IfOk-weaker answered.result (λ s. Written-of found s (taken c.args.out.now) (taken answered.new.out) (err-taken c.args.err.now) (err-taken answered.new.err))
     (λ s. Written-of rows s (taken c.args.out.now) (taken c.finish-2.new.out) (err-taken c.args.err.now) (err-taken c.finish-2.new.err))
     (λ s made. written rows found s (taken c.args.out.now) (taken answered.new.out) (taken c.finish-2.new.out) (err-taken c.args.err.now) (err-taken answered.new.err) (err-taken c.finish-2.new.err) rows_are c.finish-2.ensures.same_out c.finish-2.ensures.same_err made)
@@ -73,6 +99,55 @@ returns-clause-compile g c = λ rows takes is.
     (failed-kept (failures c.args.out.now) (failures answered.new.out) (failures c.finish-2.new.out) answered.ensures.out_counted c.finish-2.ensures.out_counted)
     (failed-kept (err-failures c.args.err.now) (err-failures answered.new.err) (err-failures c.finish-2.new.err) answered.ensures.err_counted c.finish-2.ensures.err_counted))
     answered.ensures.failed)
+    (on-err answered.result (Begun-of found (taken c.args.out.now) (taken answered.new.out) (err-taken c.args.err.now) (err-taken answered.new.err))
+    (Begun-of rows (taken c.args.out.now) (taken c.finish-2.new.out) (err-taken c.args.err.now) (err-taken c.finish-2.new.err))
+    (begun rows found (taken c.args.out.now) (taken answered.new.out) (taken c.finish-2.new.out) (err-taken c.args.err.now) (err-taken answered.new.err) (err-taken c.finish-2.new.err) rows_are c.finish-2.ensures.same_out c.finish-2.ensures.same_err)
+    answered.ensures.err)
+    (λ s. all-begun rows s (taken c.args.out.now) (taken c.finish-2.new.out) (err-taken c.args.err.now) (err-taken c.finish-2.new.err))
     c.finish-2.ensures.ok c.finish-2.ensures.err (either-failed
     (failed-later (failures c.args.out.now) (failures answered.new.out) (failures c.finish-2.new.out) answered.ensures.out_counted)
     (failed-later (err-failures c.args.err.now) (err-failures answered.new.err) (err-failures c.finish-2.new.err) answered.ensures.err_counted)))
+
+pub returns-in-Err-clause-session : goal.returns-in-Err-clause-session
+returns-in-Err-clause-session g c = λ asks.
+    let memory = c.in-Err.ensures.memory asks in
+    let told = c.tell-told in
+    let taken = g.W.Sink.taken in
+    let err-taken = g.E.Sink.taken in
+    let failures = g.W.Sink.failures in
+    let err-failures = g.E.Sink.failures in
+    inr (lacking told.result c.finish.result (taken c.args.out.now) (taken told.new.out) (taken c.finish.new.out) (err-taken c.args.err.now) (err-taken told.new.err) (err-taken c.finish.new.err)
+    (HasFailed (failures c.args.out.now) (failures c.finish.new.out) ⊎ HasFailed (err-failures c.args.err.now) (err-failures c.finish.new.err))
+    (HasFailed (failures told.new.out) (failures c.finish.new.out) ⊎ HasFailed (err-failures told.new.err) (err-failures c.finish.new.err))
+    c.finish.ensures.same_out c.finish.ensures.same_err (told.ensures.memory memory) (told.ensures.memory_cut memory)
+    (on-err told.result (HasFailed (failures c.args.out.now) (failures told.new.out) ⊎ HasFailed (err-failures c.args.err.now) (err-failures told.new.err))
+    (HasFailed (failures c.args.out.now) (failures c.finish.new.out) ⊎ HasFailed (err-failures c.args.err.now) (err-failures c.finish.new.err))
+    (either-failed
+    (failed-kept (failures c.args.out.now) (failures told.new.out) (failures c.finish.new.out) told.ensures.out_counted c.finish.ensures.out_counted)
+    (failed-kept (err-failures c.args.err.now) (err-failures told.new.err) (err-failures c.finish.new.err) told.ensures.err_counted c.finish.ensures.err_counted))
+    told.ensures.failed)
+    c.finish.ensures.ok c.finish.ensures.err (either-failed
+    (failed-later (failures c.args.out.now) (failures told.new.out) (failures c.finish.new.out) told.ensures.out_counted)
+    (failed-later (err-failures c.args.err.now) (err-failures told.new.err) (err-failures c.finish.new.err) told.ensures.err_counted)))
+
+pub returns-in-Err-clause-compile : goal.returns-in-Err-clause-compile
+returns-in-Err-clause-compile g c = λ rows takes is.
+    let memory = c.in-Err.ensures.taken takes in
+    let told = c.tell-told in
+    let taken = g.W.Sink.taken in
+    let err-taken = g.E.Sink.taken in
+    let failures = g.W.Sink.failures in
+    let err-failures = g.E.Sink.failures in
+    inr (lacking told.result c.finish.result (taken c.args.out.now) (taken told.new.out) (taken c.finish.new.out) (err-taken c.args.err.now) (err-taken told.new.err) (err-taken c.finish.new.err)
+    (HasFailed (failures c.args.out.now) (failures c.finish.new.out) ⊎ HasFailed (err-failures c.args.err.now) (err-failures c.finish.new.err))
+    (HasFailed (failures told.new.out) (failures c.finish.new.out) ⊎ HasFailed (err-failures told.new.err) (err-failures c.finish.new.err))
+    c.finish.ensures.same_out c.finish.ensures.same_err (told.ensures.memory memory) (told.ensures.memory_cut memory)
+    (on-err told.result (HasFailed (failures c.args.out.now) (failures told.new.out) ⊎ HasFailed (err-failures c.args.err.now) (err-failures told.new.err))
+    (HasFailed (failures c.args.out.now) (failures c.finish.new.out) ⊎ HasFailed (err-failures c.args.err.now) (err-failures c.finish.new.err))
+    (either-failed
+    (failed-kept (failures c.args.out.now) (failures told.new.out) (failures c.finish.new.out) told.ensures.out_counted c.finish.ensures.out_counted)
+    (failed-kept (err-failures c.args.err.now) (err-failures told.new.err) (err-failures c.finish.new.err) told.ensures.err_counted c.finish.ensures.err_counted))
+    told.ensures.failed)
+    c.finish.ensures.ok c.finish.ensures.err (either-failed
+    (failed-later (failures c.args.out.now) (failures told.new.out) (failures c.finish.new.out) told.ensures.out_counted)
+    (failed-later (err-failures c.args.err.now) (err-failures told.new.err) (err-failures c.finish.new.err) told.ensures.err_counted)))

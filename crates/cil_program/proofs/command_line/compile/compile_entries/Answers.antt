@@ -1,7 +1,7 @@
 use Rattle.std.proofs.Common.{Result, Ok, Err, OnErr, ◌≡◌, ◌⊎◌, inl, inr, List, [], map, refl, ap, sym, subst}
 use Rattle.std.proofs.lemmas.Result.{IfOk-weaker}
-use Rattle.cil_stream.specs.Device.{Gains}
-use Rattle.cil_stream.proofs.Gaining.{gains-none}
+use Rattle.cil_stream.specs.Device.{Gains, GainsFront}
+use Rattle.cil_stream.proofs.Gaining.{gains-none, on_err}
 use Rattle.cil_store_specs.specs.Store.{Entry}
 use Rattle.cil_store_specs.specs.Next.{Refusal, for_memory}
 use Rattle.cil_store_specs.specs.Script.{refusal_line}
@@ -10,6 +10,7 @@ use Rattle.cil_store.specs.Stored.{entry_of}
 use Rattle.cil_store.specs.Edits.{refusal_of}
 use Rattle.cil_program.specs.CommandLine.{Compiles, is_refused, lacks_memory}
 use Rattle.cil_program.specs.declared.command_line.compile.Report.{Report}
+use Rattle.cil_program.proofs.CommandLineLemmas.{front-none, on-err}
 use Rattle.cil_program.proofs.command_line.compile.compile_entries.Goals as goal
 
 refusing : (entries : List Entry) (report : Report) (refusal : Refusal) → AreRefused entries refusal → Compiles entries report [] (refusal_line refusal) 1
@@ -49,3 +50,28 @@ returns-in-Err-Memory-clause-failed g c = of-either _ _ c.refuse_for_memory.resu
 
 pub returns-clause-failed : goal.returns-clause-failed
 returns-clause-failed g c = inl (c.in-Err-Sink.ensures.failed (ap Err c.in-Err-Sink.field-0-is))
+
+pub returns-in_err-write_refusal-in-Err-clause-err : goal.returns-in_err-write_refusal-in-Err-clause-err
+returns-in_err-write_refusal-in-Err-clause-err g c =
+    let refusal = refusal_of c.in-Err.refusal in
+    on_err c.from_residual.result (
+      [],
+      refusal_line refusal,
+      1,
+      front-none (g.W.Sink.taken c.args.out.now),
+      c.in_err-write_refusal-in-Err.ensures.err,
+      refusing (map entry_of c.args.entries.now) c.args.report refusal c.in-Err.ensures.err,
+    )
+
+pub returns-in-Err-Memory-clause-err : goal.returns-in-Err-Memory-clause-err
+returns-in-Err-Memory-clause-err g c =
+    let taken = g.W.Sink.taken in
+    let same : taken c.write_report.new.out ≡ taken c.args.out.now = c.in-Err-Memory.ensures.memory (ap Err c.in-Err-Memory.field-0-is) in
+    on-err c.refuse_for_memory.result _ _ (λ begun.
+    ([], refusal_line for_memory, 1, subst (λ t. GainsFront (taken c.args.out.now) t []) (sym same) (front-none (taken c.args.out.now)), begun, lacks_memory refl refl refl))
+    c.refuse_for_memory.ensures.err
+
+pub returns-clause-err : goal.returns-clause-err
+returns-clause-err g c =
+    let begun = c.in-Err-Sink.ensures.err (map entry_of c.args.entries.now) c.in-Ok.ensures.ok (ap Err c.in-Err-Sink.field-0-is) in
+    (begun.0, [], begun.1, begun.2, front-none (g.E.Sink.taken c.args.err.now), begun.3)

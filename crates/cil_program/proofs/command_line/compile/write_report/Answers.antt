@@ -1,4 +1,4 @@
-use Rattle.std.proofs.Common.{◌≡◌, ◌≢◌, ℕ, List, [], ◌∷◌, length, flat_map, refl, arith}
+use Rattle.std.proofs.Common.{◌≡◌, ◌≢◌, ℕ, List, [], ◌∷◌, length, flat_map, refl, arith, rules}
 use Rattle.cil_specs.specs.Report.{row_line}
 use Rattle.cil_specs.specs.Violations.{Violation, violations_text}
 use Rattle.cil_program.specs.CommandLine.{lists, tells, status_of_violations}
@@ -31,4 +31,18 @@ returns-else-violations-eq0-clause-ok g c = λ entries of.
       violations_text written.0,
       written.3,
       tells (g.C.Compiled.store c.args.engine.now) written.0 c.in-Violations.is of written.1 refl refl (some c.in_ok-violations-in-Violations.violations written.0 written.2 c.if-violations-eq0.false),
+    )
+
+pub returns-in_err-write_listing-in-Listing-clause-err : goal.returns-in_err-write_listing-in-Listing-clause-err
+returns-in_err-write_listing-in-Listing-clause-err g c = λ entries of is.
+    let begun = c.in_err-write_listing-in-Listing.ensures.err in
+    (flat_map row_line begun.0, 0, begun.2, lists (g.C.Compiled.store c.args.engine.now) begun.0 c.in-Listing.is of begun.1 refl refl refl)
+
+pub returns-in_err-violations-in-Violations-clause-err : goal.returns-in_err-violations-in-Violations-clause-err
+returns-in_err-violations-in-Violations-clause-err g c = λ entries of is.
+    let begun = c.in_err-violations-in-Violations.ensures.err (search rules) in (
+      violations_text begun.0,
+      status_of_violations begun.0,
+      begun.2,
+      tells (g.C.Compiled.store c.args.engine.now) begun.0 c.in-Violations.is of begun.1 refl refl refl,
     )

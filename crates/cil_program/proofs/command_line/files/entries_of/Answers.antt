@@ -2,7 +2,7 @@ use Rattle.std.proofs.Common.{◌∙◌, List, [], ◌∷◌, ◌++◌, take, ap
 use Rattle.std.specs.List.{AllZip}
 use Rattle.std.proofs.lemmas.List.{take_more}
 use Rattle.cil_store.specs.Stored.{entry_of}
-use Rattle.cil_program.specs.CommandLine.{IsEntryAt}
+use Rattle.cil_program.specs.CommandLine.{IsEntryFor}
 use Rattle.cil_program.proofs.command_line.files.entries_of.Goals as goal
 
 -- one place more
@@ -17,5 +17,5 @@ loop-file-preserved g c =
     let files = c.args.files.now in
     let i = c.loop-file.file-index in
     let taken = ap (λ file. take i files ++ file ∷ []) c.file-item.is ∙ sym (take_more files i _ c.loop-file-test.true) in
-    rw c.in_ok-push.ensures.items (subst (λ l. AllZip (λ file entry. IsEntryAt file.path.now (entry_of entry)) l (c.loop-file.entries.items ++ c.as_entry.result ∷ [])) taken
-    (one_more (λ file entry. IsEntryAt file.path.now (entry_of entry)) (take i files) c.loop-file.entries.items c.file-item.result c.as_entry.result c.loop-file.invariant c.as_entry.ensures))
+    rw c.in_ok-push.ensures.items (subst (λ l. AllZip (λ file entry. IsEntryFor file.path.now file.text.items (entry_of entry)) l (c.loop-file.entries.items ++ c.as_entry.result ∷ [])) taken
+    (one_more (λ file entry. IsEntryFor file.path.now file.text.items (entry_of entry)) (take i files) c.loop-file.entries.items c.file-item.result c.as_entry.result c.loop-file.invariant c.as_entry.ensures))

@@ -1,8 +1,8 @@
 use Rattle.std.proofs.Common.{take}
 use Rattle.std.specs.List.{AllZip}
 use Rattle.cil_store.specs.Stored.{entry_of}
-use Rattle.cil_program.specs.CommandLine.{IsEntryAt}
+use Rattle.cil_program.specs.CommandLine.{IsEntryFor}
 use Rattle.cil_program.proofs.command_line.files.entries_of.Given as goal
 
 abbrev pub invariant-loop-file : goal.invariant-loop-file
-invariant-loop-file g l = AllZip (λ file entry. IsEntryAt file.path.now (entry_of entry)) (take l.file-index l.files) l.entries.items
+invariant-loop-file g l = AllZip (λ file entry. IsEntryFor file.path.now file.text.items (entry_of entry)) (take l.file-index l.files) l.entries.items
