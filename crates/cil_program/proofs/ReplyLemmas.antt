@@ -50,6 +50,17 @@ writes-report taken failures old mid new lines n size (Err _) is gains before mo
   counted = omega (arith, before, more.counted);
 }
 
+-- a text was written to a sink that took nothing before
+pub writes-later : {W : Type 0} (taken : W → Option (List ℕ)) (failures : W → ℕ) (old mid new : W) (text : List ℕ) (result : Result (Unit {0}) SinkFault) → taken mid ≡ taken old → failures old ≤ failures mid → Writes taken failures mid new text result
+    → Writes taken failures old new text result
+writes-later taken failures old mid new text (Ok _) same before writes = record { ok = subst (λ t. Gains t (taken new) text) same writes.ok; err = tt; failed = tt; counted = omega (arith, before, writes.counted) }
+writes-later taken failures old mid new text (Err _) same before writes = record {
+  ok = tt;
+  err = subst (λ t. GainsFront t (taken new) text) same writes.err;
+  failed = failed-later (failures old) (failures mid) (failures new) before writes.failed;
+  counted = omega (arith, before, writes.counted);
+}
+
 -- a text was written up to a failure
 pub writes-cut : {W : Type 0} (taken : W → Option (List ℕ)) (failures : W → ℕ) (old mid new : W) (text : List ℕ) (result : Result (Unit {0}) SinkFault) → IsErr result → failures old ≤ failures mid → HasFailed (failures mid) (failures new) → failures mid ≤ failures new
     → GainsFront (taken old) (taken new) text → Writes taken failures old new text result

@@ -1,7 +1,6 @@
-use Rattle.std.proofs.Common.{◌≡◌, ◌<◌, [], length, get_or, ap, subst, arith}
+use Rattle.std.proofs.Common.{◌<◌, [], length, subst, arith}
 use Rattle.cil_stream.specs.Device.{Gains, GainsFront}
 use Rattle.cil_stream.proofs.Gaining.{gains-pieces_more, gains-pieces_front}
-use Rattle.cil_store_specs.specs.Store.{Entry}
 use Rattle.cil_store_specs.specs.Store.{entry_at}
 use Rattle.cil_program.specs.Dump.{install_command}
 use Rattle.cil_program.proofs.ReplyLemmas.{writes-cut}
