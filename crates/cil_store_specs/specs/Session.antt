@@ -40,7 +40,8 @@ AreAnswered old commands answers new = AnswersAll old.store commands answers new
 
 -- these bytes begin with no command that has its last line feed
 abbrev pub BeginsNoCommand : List ℕ → Type 0
-BeginsNoCommand bytes = (command : Command) (rest : List ℕ) → IsCommand command → bytes ≡ command_bytes command ++ rest → ⊥
+BeginsNoCommand bytes =
+    (command : Command) (rest : List ℕ) → IsCommand command → bytes ≡ command_bytes command ++ rest → ⊥
 
 -- The source failed. What it gave is some commands, each with its last line feed, and a rest that begins with none. All of these
 -- commands were answered, the answers were written, and nothing else.
@@ -58,13 +59,15 @@ pub record IsCutByRead (given : List ℕ) (old new : Store) (written : List ℕ)
 
 -- a script begins with these commands: each has its last line feed, or they are all that it is
 pub data BeginsWith (script : List ℕ) (commands : List Command) : Type 0 where
-  whole_ones : AllByRecursion IsCommand commands → (rest : List ℕ) → script ≡ flat_map command_bytes commands ++ rest → BeginsWith script commands
+  whole_ones : AllByRecursion IsCommand commands → (rest : List ℕ)
+      → script ≡ flat_map command_bytes commands ++ rest → BeginsWith script commands
   all_of_it : Commands script commands ends → BeginsWith script commands
 
 -- the answers are written, all whole, or but for the last, of which a beginning is
 pub data AreWritten (answers : List Answer) (written : List ℕ) : Type 0 where
   all_whole : written ≡ flat_map (λ a. a.bytes) answers → AreWritten answers written
-  but_for_the_last : (before : List Answer) (last : Answer) (front rest : List ℕ) → answers ≡ before ++ last ∷ [] → last.bytes ≡ front ++ rest
+  but_for_the_last : (before : List Answer) (last : Answer) (front rest : List ℕ)
+      → answers ≡ before ++ last ∷ [] → last.bytes ≡ front ++ rest
       → written ≡ flat_map (λ a. a.bytes) before ++ front → AreWritten answers written
 
 -- The sink failed in an answer, or in none. The commands with which the script begins were answered, and the answers written, the
@@ -78,7 +81,7 @@ pub record IsCutInAnAnswer (given : List ℕ) (ended : Bool) (old new : Store) (
   pub store_is : new ≡ last.store
   pub are_written : AreWritten answers written
 
--- The sink failed behind the answers. All was done that a session does, but of its last line perhaps a beginning alone was written.
+-- The sink failed behind the answers. All was done that a session does, but of its last line a beginning alone may be written.
 pub record IsCutInTheLastLine (given : List ℕ) (ended : Bool) (old new : Store) (written : List ℕ) : Type 0 where
   pub status : Status
   pub text : List ℕ
@@ -90,4 +93,5 @@ pub record IsCutInTheLastLine (given : List ℕ) (ended : Bool) (old new : Store
 
 -- the sink failed, in an answer or in the last line
 abbrev pub IsCutByWrite : List ℕ → Bool → Store → Store → List ℕ → Type 0
-IsCutByWrite given ended old new written = IsCutInAnAnswer given ended old new written ⊎ IsCutInTheLastLine given ended old new written
+IsCutByWrite given ended old new written =
+    IsCutInAnAnswer given ended old new written ⊎ IsCutInTheLastLine given ended old new written

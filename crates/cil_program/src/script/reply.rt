@@ -26,7 +26,8 @@ pub fn write_changes<W: Sink, A: Allocator>(
     sink: &mut W,
     changes: &Changes<A>,
 ) -> Result<(), SinkFault>
-    ensures { Writes W.taken W.failures sink.old sink.new (reply_text (changed_by changes.now)) result }
+    ensures { Writes W.taken W.failures sink.old sink.new
+        (reply_text (changed_by changes.now)) result }
 {
     let mut added = Buffer::new();
     let mut removed = Buffer::new();
@@ -52,7 +53,8 @@ pub fn write_end<W: Sink>(sink: &mut W, rows: u128) -> Result<(), SinkFault>
 
 /// Writes the line of an optional that drops.
 fn write_optional<W: Sink>(sink: &mut W, optional: NameView<'_>) -> Result<(), SinkFault>
-    ensures { Writes W.taken W.failures sink.old sink.new (dropped_line (declared_seen optional.entry)) result }
+    ensures { Writes W.taken W.failures sink.old sink.new
+        (dropped_line (declared_seen optional.entry)) result }
 {
     let mut line_digits = Buffer::new();
     let mut column_digits = Buffer::new();
@@ -76,7 +78,8 @@ fn write_optionals<W: Sink, A: Allocator>(
     sink: &mut W,
     dropped: &Dropped<A>,
 ) -> Result<(), SinkFault>
-    ensures { Writes W.taken W.failures sink.old sink.new (flat_map dropped_line dropped.now) result }
+    ensures { Writes W.taken W.failures sink.old sink.new
+        (flat_map dropped_line dropped.now) result }
 {
     for i in 0..dropped.len() {
         if let Some(optional) = dropped.get(i) {
@@ -91,7 +94,8 @@ pub fn write_dropped<W: Sink, A: Allocator>(
     sink: &mut W,
     dropped: &Dropped<A>,
 ) -> Result<(), SinkFault>
-    ensures { Writes W.taken W.failures sink.old sink.new (reply_text (dropped_optionals dropped.now)) result }
+    ensures { Writes W.taken W.failures sink.old sink.new
+        (reply_text (dropped_optionals dropped.now)) result }
 {
     write_optionals(sink, dropped)?;
     write_end(sink, dropped.len() as u128)
@@ -99,7 +103,8 @@ pub fn write_dropped<W: Sink, A: Allocator>(
 
 /// Writes the line of an entry of a store, with the word of its state.
 fn write_module<W: Sink>(sink: &mut W, entry: Entry<'_>, state: &[u8]) -> Result<(), SinkFault>
-    ensures { Writes W.taken W.failures sink.old sink.new (entry_text (entry_of entry.entry) state.now) result }
+    ensures { Writes W.taken W.failures sink.old sink.new
+        (entry_text (entry_of entry.entry) state.now) result }
 {
     let mut priority_digits = Buffer::new();
     let mut length_digits = Buffer::new();
@@ -130,7 +135,8 @@ fn write_entries<W: Sink, A: Allocator>(sink: &mut W, store: &Store<A>) -> Resul
 
 /// Writes the modules of a store (`semodule -lfull`, in a form of this project's own). It takes no memory.
 pub fn write_modules<W: Sink, A: Allocator>(sink: &mut W, store: &Store<A>) -> Result<(), SinkFault>
-    ensures { Writes W.taken W.failures sink.old sink.new (modules_text store.now ++ end_line (length store.now.entries)) result }
+    ensures { Writes W.taken W.failures sink.old sink.new
+        (modules_text store.now ++ end_line (length store.now.entries)) result }
 {
     write_entries(sink, store)?;
     write_end(sink, store.len() as u128)
@@ -138,7 +144,8 @@ pub fn write_modules<W: Sink, A: Allocator>(sink: &mut W, store: &Store<A>) -> R
 
 /// Writes the command that installs an entry.
 fn write_install<W: Sink>(sink: &mut W, entry: Entry<'_>) -> Result<(), SinkFault>
-    ensures { Writes W.taken W.failures sink.old sink.new (install_command (entry_of entry.entry)) result }
+    ensures { Writes W.taken W.failures sink.old sink.new
+        (install_command (entry_of entry.entry)) result }
 {
     let mut priority_digits = Buffer::new();
     let mut length_digits = Buffer::new();
@@ -160,7 +167,8 @@ fn write_install<W: Sink>(sink: &mut W, entry: Entry<'_>) -> Result<(), SinkFaul
 
 /// Writes the commands that install the entries of a store.
 fn write_installs<W: Sink, A: Allocator>(sink: &mut W, store: &Store<A>) -> Result<(), SinkFault>
-    ensures { Writes W.taken W.failures sink.old sink.new (flat_map install_command store.now.entries) result }
+    ensures { Writes W.taken W.failures sink.old sink.new
+        (flat_map install_command store.now.entries) result }
 {
     for i in 0..store.len() {
         write_install(sink, store.at(i))?;
@@ -177,7 +185,8 @@ fn write_disable<W: Sink>(sink: &mut W, name: &[u8]) -> Result<(), SinkFault>
 
 /// Writes the commands that disable the disabled names of a store.
 fn write_disables<W: Sink, A: Allocator>(sink: &mut W, store: &Store<A>) -> Result<(), SinkFault>
-    ensures { Writes W.taken W.failures sink.old sink.new (flat_map disable_command store.now.disabled) result }
+    ensures { Writes W.taken W.failures sink.old sink.new
+        (flat_map disable_command store.now.disabled) result }
 {
     for i in 0..store.disabled_len() {
         if let Some(name) = store.disabled(i) {
@@ -189,7 +198,8 @@ fn write_disables<W: Sink, A: Allocator>(sink: &mut W, store: &Store<A>) -> Resu
 
 /// Writes a script that builds a store, and the number of its commands. It takes no memory.
 pub fn write_dump<W: Sink, A: Allocator>(sink: &mut W, store: &Store<A>) -> Result<(), SinkFault>
-    ensures { Writes W.taken W.failures sink.old sink.new (dump_text store.now ++ end_line (length (dump_edits store.now))) result }
+    ensures { Writes W.taken W.failures sink.old sink.new
+        (dump_text store.now ++ end_line (length (dump_edits store.now))) result }
 {
     write_installs(sink, store)?;
     write_disables(sink, store)?;
@@ -198,7 +208,8 @@ pub fn write_dump<W: Sink, A: Allocator>(sink: &mut W, store: &Store<A>) -> Resu
 
 /// Writes that a script is none from the line behind so many line feeds.
 pub fn write_script_line<W: Sink>(sink: &mut W, line_feeds: u64) -> Result<(), SinkFault>
-    ensures { Writes W.taken W.failures sink.old sink.new (last_line (stops (1 + line_feeds))) result }
+    ensures { Writes W.taken W.failures sink.old sink.new
+        (last_line (stops (1 + line_feeds))) result }
 {
     let mut digits = Buffer::new();
     let line = 1 + u128::from(line_feeds);
@@ -213,7 +224,8 @@ fn write_place<W: Sink>(
     at: Place,
     word: &[u8],
 ) -> Result<(), SinkFault>
-    ensures { Writes W.taken W.failures sink.old sink.new (refusal_line (at_place code «module».now (place_of at) word.now)) result }
+    ensures { Writes W.taken W.failures sink.old sink.new
+        (refusal_line (at_place code «module».now (place_of at) word.now)) result }
 {
     let mut code_digits = Buffer::new();
     let mut line_digits = Buffer::new();
@@ -238,7 +250,8 @@ fn write_place<W: Sink>(
 
 /// Writes a refusal of the store.
 pub fn write_store_refusal<W: Sink>(sink: &mut W, code: u8, word: &[u8]) -> Result<(), SinkFault>
-    ensures { Writes W.taken W.failures sink.old sink.new (refusal_line (by_store code word.now)) result }
+    ensures { Writes W.taken W.failures sink.old sink.new
+        (refusal_line (by_store code word.now)) result }
 {
     let mut digits = Buffer::new();
     write_pieces(
@@ -265,7 +278,8 @@ pub fn write_refusal<W: Sink, A: Allocator>(
     sink: &mut W,
     refusal: &Refusal<A>,
 ) -> Result<(), SinkFault>
-    ensures { Writes W.taken W.failures sink.old sink.new (refusal_line (refusal_of refusal.now)) result }
+    ensures { Writes W.taken W.failures sink.old sink.new
+        (refusal_line (refusal_of refusal.now)) result }
 {
     match refusal {
         Refusal::Store { fault, word } => {

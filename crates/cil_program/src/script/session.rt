@@ -99,7 +99,8 @@ fn answer_rows<W: Sink, A: Allocator + Copy, C: Compiled<A>>(
     sink: &mut W,
     engine: &C,
 ) -> Result<Outcome, SinkFault>
-    ensures { Tries W.taken W.failures sink.old sink.new (C.store engine.now) (C.store engine.now) asks_rules result }
+    ensures { Tries W.taken W.failures sink.old sink.new (C.store engine.now) (C.store engine.now)
+        asks_rules result }
 {
     match engine.write_listing(sink) {
         Ok(rows) => {
@@ -119,7 +120,8 @@ fn answer_violations<W: Sink, A: Allocator + Copy, C: Compiled<A>>(
     sink: &mut W,
     engine: &C,
 ) -> Result<Outcome, SinkFault>
-    ensures { Tries W.taken W.failures sink.old sink.new (C.store engine.now) (C.store engine.now) asks_violations result }
+    ensures { Tries W.taken W.failures sink.old sink.new (C.store engine.now) (C.store engine.now)
+        asks_violations result }
 {
     match engine.write_violations(sink) {
         Ok(violations) => {
@@ -139,7 +141,8 @@ fn answer_dropped<W: Sink, A: Allocator + Copy, C: Compiled<A>>(
     sink: &mut W,
     engine: &C,
 ) -> Result<Outcome, SinkFault>
-    ensures { Tries W.taken W.failures sink.old sink.new (C.store engine.now) (C.store engine.now) asks_dropped result }
+    ensures { Tries W.taken W.failures sink.old sink.new (C.store engine.now) (C.store engine.now)
+        asks_dropped result }
 {
     match engine.dropped() {
         Ok(dropped) => {
@@ -158,7 +161,8 @@ fn answer_modules<W: Sink, A: Allocator + Copy, C: Compiled<A>>(
     sink: &mut W,
     engine: &C,
 ) -> Result<Outcome, SinkFault>
-    ensures { Tries W.taken W.failures sink.old sink.new (C.store engine.now) (C.store engine.now) asks_modules result }
+    ensures { Tries W.taken W.failures sink.old sink.new (C.store engine.now) (C.store engine.now)
+        asks_modules result }
 {
     reply::write_modules(sink, engine.store())?;
     Ok(Outcome::Accepted)
@@ -169,7 +173,8 @@ fn answer_dump<W: Sink, A: Allocator + Copy, C: Compiled<A>>(
     sink: &mut W,
     engine: &C,
 ) -> Result<Outcome, SinkFault>
-    ensures { Tries W.taken W.failures sink.old sink.new (C.store engine.now) (C.store engine.now) asks_dump result }
+    ensures { Tries W.taken W.failures sink.old sink.new (C.store engine.now) (C.store engine.now)
+        asks_dump result }
 {
     reply::write_dump(sink, engine.store())?;
     Ok(Outcome::Accepted)
@@ -181,7 +186,8 @@ fn answer_edit<W: Sink, A: Allocator + Copy, C: Compiled<A>>(
     engine: &mut C,
     edit: Edit<'_>,
 ) -> Result<Outcome, SinkFault>
-    ensures { Tries W.taken W.failures sink.old sink.new (C.store engine.old) (C.store engine.new) (makes (edit_of edit.entry)) result }
+    ensures { Tries W.taken W.failures sink.old sink.new (C.store engine.old) (C.store engine.new)
+        (makes (edit_of edit.entry)) result }
 {
     match engine.edit(edit) {
         Ok(changes) => {
@@ -202,7 +208,8 @@ fn write_store_fault<W: Sink>(
     name: &[u8],
     priority: u32,
 ) -> Result<(), SinkFault>
-    ensures { Writes W.taken W.failures sink.old sink.new (refusal_line (store_refusal_of fault name.now priority)) result }
+    ensures { Writes W.taken W.failures sink.old sink.new
+        (refusal_line (store_refusal_of fault name.now priority)) result }
 {
     match fault {
         StoreFault::BadPriority => {
@@ -245,13 +252,17 @@ fn answer_install<S: Source, W: Sink, A: Allocator + Copy, C: Compiled<A>>(
     ensures ok { IfOk result (λ outcome. IsInstallOutcome outcome name.now priority len
         (record { account = S.account source.old; held = input.old })
         (record { account = S.account source.new; held = input.new })
-        (record { store = C.store engine.old; taken = W.taken sink.old }) (record { store = C.store engine.new; taken = W.taken sink.new })) }
+        (record { store = C.store engine.old; taken = W.taken sink.old })
+        (record { store = C.store engine.new; taken = W.taken sink.new })) }
     ensures err { IfErr result (λ fault. IsInstallCut fault name.now priority len
         (record { account = S.account source.old; held = input.old })
         (record { account = S.account source.new; held = input.new })
-        (record { store = C.store engine.old; taken = W.taken sink.old }) (record { store = C.store engine.new; taken = W.taken sink.new })) }
-    ensures read { IsErrOf result SessionFault.Read → HasFailed (S.account source.old).failures (S.account source.new).failures }
-    ensures write { IsErrOf result SessionFault.Write → HasFailed (W.failures sink.old) (W.failures sink.new) }
+        (record { store = C.store engine.old; taken = W.taken sink.old })
+        (record { store = C.store engine.new; taken = W.taken sink.new })) }
+    ensures read { IsErrOf result SessionFault.Read →
+        HasFailed (S.account source.old).failures (S.account source.new).failures }
+    ensures write { IsErrOf result SessionFault.Write →
+        HasFailed (W.failures sink.old) (W.failures sink.new) }
     ensures read_failures { (S.account source.old).failures ≤ (S.account source.new).failures }
     ensures write_failures { W.failures sink.old ≤ W.failures sink.new }
 {
@@ -295,13 +306,17 @@ fn answer_line<S: Source, W: Sink, A: Allocator + Copy, C: Compiled<A>>(
     ensures ok { IfOk result (λ outcome. IsOutcome outcome end line.now
         (record { account = S.account source.old; held = input.old })
         (record { account = S.account source.new; held = input.new })
-        (record { store = C.store engine.old; taken = W.taken sink.old }) (record { store = C.store engine.new; taken = W.taken sink.new })) }
+        (record { store = C.store engine.old; taken = W.taken sink.old })
+        (record { store = C.store engine.new; taken = W.taken sink.new })) }
     ensures err { IfErr result (λ fault. IsLineCut fault end line.now
         (record { account = S.account source.old; held = input.old })
         (record { account = S.account source.new; held = input.new })
-        (record { store = C.store engine.old; taken = W.taken sink.old }) (record { store = C.store engine.new; taken = W.taken sink.new })) }
-    ensures read { IsErrOf result SessionFault.Read → HasFailed (S.account source.old).failures (S.account source.new).failures }
-    ensures write { IsErrOf result SessionFault.Write → HasFailed (W.failures sink.old) (W.failures sink.new) }
+        (record { store = C.store engine.old; taken = W.taken sink.old })
+        (record { store = C.store engine.new; taken = W.taken sink.new })) }
+    ensures read { IsErrOf result SessionFault.Read →
+        HasFailed (S.account source.old).failures (S.account source.new).failures }
+    ensures write { IsErrOf result SessionFault.Write →
+        HasFailed (W.failures sink.old) (W.failures sink.new) }
     ensures read_failures { (S.account source.old).failures ≤ (S.account source.new).failures }
     ensures write_failures { W.failures sink.old ≤ W.failures sink.new }
 {
@@ -350,13 +365,17 @@ fn answer_next<S: Source, W: Sink, A: Allocator + Copy, C: Compiled<A>>(
     ensures ok { IfOk result (λ turn. IsTurn turn
         (record { account = S.account source.old; held = input.old })
         (record { account = S.account source.new; held = input.new })
-        (record { store = C.store engine.old; taken = W.taken sink.old }) (record { store = C.store engine.new; taken = W.taken sink.new })) }
+        (record { store = C.store engine.old; taken = W.taken sink.old })
+        (record { store = C.store engine.new; taken = W.taken sink.new })) }
     ensures err { IfErr result (λ fault. IsTurnCut fault
         (record { account = S.account source.old; held = input.old })
         (record { account = S.account source.new; held = input.new })
-        (record { store = C.store engine.old; taken = W.taken sink.old }) (record { store = C.store engine.new; taken = W.taken sink.new })) }
-    ensures read { IsErrOf result SessionFault.Read → HasFailed (S.account source.old).failures (S.account source.new).failures }
-    ensures write { IsErrOf result SessionFault.Write → HasFailed (W.failures sink.old) (W.failures sink.new) }
+        (record { store = C.store engine.old; taken = W.taken sink.old })
+        (record { store = C.store engine.new; taken = W.taken sink.new })) }
+    ensures read { IsErrOf result SessionFault.Read →
+        HasFailed (S.account source.old).failures (S.account source.new).failures }
+    ensures write { IsErrOf result SessionFault.Write →
+        HasFailed (W.failures sink.old) (W.failures sink.new) }
     ensures read_failures { (S.account source.old).failures ≤ (S.account source.new).failures }
     ensures write_failures { W.failures sink.old ≤ W.failures sink.new }
 {
@@ -390,12 +409,18 @@ fn answer_commands<S: Source, W: Sink, A: Allocator + Copy, C: Compiled<A>>(
     ensures ok { IfOk result (λ status. Leaves (S.account source.old) (S.account source.new)
         (record { store = C.store engine.old; taken = W.taken sink.old }) (record { store = C.store engine.new; taken = W.taken sink.new }) status) }
     ensures ended { IfOk result (λ status. status ≢ Script → HasEnded (S.account source.old) (S.account source.new)) }
-    ensures cut_by_read { IsErrOf result SessionFault.Read → LeavesByRead (S.account source.old) (S.account source.new)
-        (record { store = C.store engine.old; taken = W.taken sink.old }) (record { store = C.store engine.new; taken = W.taken sink.new }) }
-    ensures cut_by_write { IsErrOf result SessionFault.Write → LeavesByWrite (S.account source.old) (S.account source.new)
-        (record { store = C.store engine.old; taken = W.taken sink.old }) (record { store = C.store engine.new; taken = W.taken sink.new }) }
-    ensures read { IsErrOf result SessionFault.Read → HasFailed (S.account source.old).failures (S.account source.new).failures }
-    ensures write { IsErrOf result SessionFault.Write → HasFailed (W.failures sink.old) (W.failures sink.new) }
+    ensures cut_by_read { IsErrOf result SessionFault.Read →
+        LeavesByRead (S.account source.old) (S.account source.new)
+        (record { store = C.store engine.old; taken = W.taken sink.old })
+        (record { store = C.store engine.new; taken = W.taken sink.new }) }
+    ensures cut_by_write { IsErrOf result SessionFault.Write →
+        LeavesByWrite (S.account source.old) (S.account source.new)
+        (record { store = C.store engine.old; taken = W.taken sink.old })
+        (record { store = C.store engine.new; taken = W.taken sink.new }) }
+    ensures read { IsErrOf result SessionFault.Read →
+        HasFailed (S.account source.old).failures (S.account source.new).failures }
+    ensures write { IsErrOf result SessionFault.Write →
+        HasFailed (W.failures sink.old) (W.failures sink.new) }
     ensures counted { W.failures sink.old ≤ W.failures sink.new }
 {
     let mut input = Input::new();
@@ -424,8 +449,8 @@ fn answer_commands<S: Source, W: Sink, A: Allocator + Copy, C: Compiled<A>>(
 ///
 /// # Errors
 ///
-/// `Read` or `Write` where the source or the sink failed. The engine keeps what it accepted before: `Read` leaves the
-/// store behind all commands that were given, and `Write` behind a front of them.
+/// `Read` or `Write` where the source or the sink failed. The engine keeps what it accepted: `Read` leaves the store behind all
+/// commands that were given, and `Write` that behind a front of them.
 pub fn session<S: Source, W: Sink, A: Allocator + Copy, C: Compiled<A>>(
     alloc: A,
     source: &mut S,
@@ -435,12 +460,18 @@ pub fn session<S: Source, W: Sink, A: Allocator + Copy, C: Compiled<A>>(
     ensures ok { IfOk result (λ status. Leaves (S.account source.old) (S.account source.new)
         (record { store = C.store engine.old; taken = W.taken sink.old }) (record { store = C.store engine.new; taken = W.taken sink.new }) status) }
     ensures ended { IfOk result (λ status. status ≢ Script → HasEnded (S.account source.old) (S.account source.new)) }
-    ensures cut_by_read { IsErrOf result SessionFault.Read → LeavesByRead (S.account source.old) (S.account source.new)
-        (record { store = C.store engine.old; taken = W.taken sink.old }) (record { store = C.store engine.new; taken = W.taken sink.new }) }
-    ensures cut_by_write { IsErrOf result SessionFault.Write → LeavesByWrite (S.account source.old) (S.account source.new)
-        (record { store = C.store engine.old; taken = W.taken sink.old }) (record { store = C.store engine.new; taken = W.taken sink.new }) }
-    ensures read { IsErrOf result SessionFault.Read → HasFailed (S.account source.old).failures (S.account source.new).failures }
-    ensures write { IsErrOf result SessionFault.Write → HasFailed (W.failures sink.old) (W.failures sink.new) }
+    ensures cut_by_read { IsErrOf result SessionFault.Read →
+        LeavesByRead (S.account source.old) (S.account source.new)
+        (record { store = C.store engine.old; taken = W.taken sink.old })
+        (record { store = C.store engine.new; taken = W.taken sink.new }) }
+    ensures cut_by_write { IsErrOf result SessionFault.Write →
+        LeavesByWrite (S.account source.old) (S.account source.new)
+        (record { store = C.store engine.old; taken = W.taken sink.old })
+        (record { store = C.store engine.new; taken = W.taken sink.new }) }
+    ensures read { IsErrOf result SessionFault.Read →
+        HasFailed (S.account source.old).failures (S.account source.new).failures }
+    ensures write { IsErrOf result SessionFault.Write →
+        HasFailed (W.failures sink.old) (W.failures sink.new) }
     ensures flushed { OnOk result (W.flushed sink.new ≡ W.taken sink.new) }
 {
     let status = answer_commands(alloc, source, sink, engine)?;
