@@ -1,15 +1,17 @@
 -- The lines of reports, one after another.
-use Rattle.std.proofs.Common.{◌≡◌, ℕ, zero, suc, ◌+◌, ◌<◌, List, [], ◌∷◌, ◌++◌, length, map, flat_map, take, Option, Some, None, Result, Ok, Err, OnOk, OnErr, sym, ap, ◌∙◌, subst, length-append, arith}
+use Rattle.std.proofs.Common.{◌≡◌, ℕ, zero, suc, ◌+◌, ◌<◌, List, [], ◌∷◌, ◌++◌, length, map, flat_map, take, Option, Some, None, Result, Ok, Err, IsErr, ◌≤◌, sym, ap, ◌∙◌, subst, length-append, arith}
 use Rattle.std.specs.List.{slice_get}
 use Rattle.std.proofs.lemmas.List.{length-map}
 use Rattle.std.proofs.lemmas.List.Folds.{flat_map-map}
 use Rattle.std.proofs.lemmas.Grind.{flat_map-append}
 use Rattle.std.proofs.lemmas.Option.{slice_get_within, get_or_from_slice_get}
-use Rattle.cil_stream.specs.Device.{Gains, GainsFront}
+use Rattle.cil_stream.specs.declared.sink.SinkFault.{SinkFault}
+use Rattle.cil_stream.specs.Device.{HasFailed, Gains, GainsFront}
 use Rattle.cil_store_specs.specs.Store.{Store}
 use Rattle.cil_store_specs.specs.Next.{Edit, install_of, disable}
 use Rattle.cil_store_specs.specs.Script.{makes, command_bytes, end_line, dump_edits, dump_text}
-use Rattle.cil_stream.proofs.Gaining.{gains-both, gains-then_front, gains-pieces_more, gains-pieces_front, front-longer}
+use Rattle.cil_stream.proofs.Gaining.{gains-both, gains-then_front, gains-pieces_more, gains-pieces_front, failed-later}
+use Rattle.cil_program.specs.Reply.{Writes}
 use Rattle.cil_program.specs.Dump.{install_command, disable_command}
 
 -- the line of the next one
@@ -28,18 +30,42 @@ some-within [] i within none = omega (arith, within)
 some-within (x ∷ xs) zero within none = cc
 some-within (x ∷ xs) (suc i) within none = some-within xs i (omega (arith, within)) none
 
--- the lines of a report and its last line
-pub report-whole : {E : Type 0} (r : Result (Unit {0}) E) (old mid new : Option (List ℕ)) (lines : List ℕ) (n size : ℕ) → n ≡ size → Gains old mid lines → OnOk r (Gains mid new (end_line n)) → OnOk r (Gains old new (lines ++ end_line size))
-report-whole (Err _) old mid new lines n size is gains more = tt
-report-whole (Ok _) old mid new lines n size is gains more = subst (Gains old new) (ap (λ k. lines ++ end_line k) is) (gains-both old mid new lines (end_line n) gains more)
-
 -- the lines of a report and a beginning of its last line
 pub report-cut : (old mid new : Option (List ℕ)) (lines : List ℕ) (n size : ℕ) → n ≡ size → Gains old mid lines → GainsFront mid new (end_line n) → GainsFront old new (lines ++ end_line size)
 report-cut old mid new lines n size is gains front = subst (GainsFront old new) (ap (λ k. lines ++ end_line k) is) (gains-then_front old mid new lines (end_line n) gains front)
 
-pub report-front : {E : Type 0} (r : Result (Unit {0}) E) (old mid new : Option (List ℕ)) (lines : List ℕ) (n size : ℕ) → n ≡ size → Gains old mid lines → OnErr r (GainsFront mid new (end_line n)) → OnErr r (GainsFront old new (lines ++ end_line size))
-report-front (Ok _) old mid new lines n size is gains front = tt
-report-front (Err _) old mid new lines n size is gains front = report-cut old mid new lines n size is gains front
+-- the lines of a report were written, and then its last line
+pub writes-report : {W : Type 0} (taken : W → Option (List ℕ)) (failures : W → ℕ) (old mid new : W) (lines : List ℕ) (n size : ℕ) (result : Result (Unit {0}) SinkFault) → n ≡ size → Gains (taken old) (taken mid) lines → failures old ≤ failures mid
+    → Writes taken failures mid new (end_line n) result → Writes taken failures old new (lines ++ end_line size) result
+writes-report taken failures old mid new lines n size (Ok _) is gains before more = record {
+  ok = subst (Gains (taken old) (taken new)) (ap (λ k. lines ++ end_line k) is) (gains-both (taken old) (taken mid) (taken new) lines (end_line n) gains more.ok);
+  err = tt;
+  failed = tt;
+  counted = omega (arith, before, more.counted);
+}
+writes-report taken failures old mid new lines n size (Err _) is gains before more = record {
+  ok = tt;
+  err = report-cut (taken old) (taken mid) (taken new) lines n size is gains more.err;
+  failed = failed-later (failures old) (failures mid) (failures new) before more.failed;
+  counted = omega (arith, before, more.counted);
+}
+
+-- a text was written to a sink that took nothing before
+pub writes-later : {W : Type 0} (taken : W → Option (List ℕ)) (failures : W → ℕ) (old mid new : W) (text : List ℕ) (result : Result (Unit {0}) SinkFault) → taken mid ≡ taken old → failures old ≤ failures mid → Writes taken failures mid new text result
+    → Writes taken failures old new text result
+writes-later taken failures old mid new text (Ok _) same before writes = record { ok = subst (λ t. Gains t (taken new) text) same writes.ok; err = tt; failed = tt; counted = omega (arith, before, writes.counted) }
+writes-later taken failures old mid new text (Err _) same before writes = record {
+  ok = tt;
+  err = subst (λ t. GainsFront t (taken new) text) same writes.err;
+  failed = failed-later (failures old) (failures mid) (failures new) before writes.failed;
+  counted = omega (arith, before, writes.counted);
+}
+
+-- a text was written up to a failure
+pub writes-cut : {W : Type 0} (taken : W → Option (List ℕ)) (failures : W → ℕ) (old mid new : W) (text : List ℕ) (result : Result (Unit {0}) SinkFault) → IsErr result → failures old ≤ failures mid → HasFailed (failures mid) (failures new) → failures mid ≤ failures new
+    → GainsFront (taken old) (taken new) text → Writes taken failures old new text result
+writes-cut taken failures old mid new text (Ok _) is before failed counted front = absurd (cc)
+writes-cut taken failures old mid new text (Err _) is before failed counted front = record { ok = tt; err = front; failed = failed-later (failures old) (failures mid) (failures new) before failed; counted = omega (arith, before, counted) }
 
 -- a dump is the installs of the entries, and then the disables of the disabled names
 pub dump-is : (store : Store) → flat_map install_command store.entries ++ flat_map disable_command store.disabled ≡ dump_text store

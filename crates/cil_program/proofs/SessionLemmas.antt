@@ -1,14 +1,17 @@
 -- A line of a script, and a turn of a session.
-use Rattle.std.proofs.Common.{◌≡◌, ◌≢◌, ℕ, ◌≤◌, Bool, true, false, List, [], ◌∷◌, ◌++◌, length, IsTrue, IfErr, IsErrAnd, Result, Ok, Err, inl, inr, refl, ap, sym, ◌∙◌, subst, append_assoc, append-nil, length-append, true≢false, arith}
+use Rattle.std.proofs.Common.{◌≡◌, ◌≢◌, ℕ, ◌≤◌, Bool, true, false, List, [], ◌∷◌, ◌++◌, length, IsTrue, IfErr, IsErr, IsErrAnd, Option, Result, Ok, Err, inl, inr, refl, ap, sym, ◌∙◌, subst, append_assoc, append-nil, length-append, true≢false, arith}
 use Rattle.std.specs.List.{list_all}
 use Rattle.std.proofs.lemmas.List.Folds.{list_all-append}
+use Rattle.cil_stream.specs.declared.sink.SinkFault.{SinkFault}
 use Rattle.cil_stream.specs.Device.{HasEnded, has_ended}
-use Rattle.cil_store_specs.specs.Script.{Command, line_of, behind, command_bytes, HasGoodWords, IsCommand, MayLackItsEnd, IsNoCommand}
+use Rattle.cil_store_specs.specs.Store.{Store}
+use Rattle.cil_store_specs.specs.Script.{Command, Answer, Answers, line_of, behind, command_bytes, HasGoodWords, IsCommand, MayLackItsEnd, IsNoCommand}
 use Rattle.cil_store_specs.specs.Session.{BeginsNoCommand}
 use Rattle.cil_store_specs.proofs.LineLemmas.{has-feed, command-line, no-line-command, no-last-command, no-long-command}
 use Rattle.cil_specs.proofs.Runs.{both_true}
 use Rattle.cil_program.specs.Input.{Fits, EndsLine, stays}
-use Rattle.cil_program.specs.Session.{Moment, Standing, Advances, Stops, outcome_of, HasAnswered, HasBegun, IsWhole, IsBad, IsOutcome, IsLineCut, IsReadOf, IsTurn, IsTurnCut}
+use Rattle.cil_program.specs.Reply.{Writes}
+use Rattle.cil_program.specs.Session.{Moment, Standing, Advances, Stops, outcome_of, HasAnswered, HasBegun, Tries, IsWhole, IsBad, IsOutcome, IsLineCut, IsReadOf, IsTurn, IsTurnCut}
 use Rattle.cil_program.specs.declared.script.input.LineEnd.{LineEnd}
 use Rattle.cil_program.specs.declared.script.input.LineEnd.TheVariants.{LineFeed, LastByte, TooLong}
 use Rattle.cil_program.specs.declared.script.session.Outcome.{Outcome}
@@ -117,6 +120,17 @@ read-of true LastByte line bytes read old mid now command is_last is_end ends_li
   is.5,
 )
 read-of last TooLong line bytes read old mid now command is_last is_end ends_line short ended is = absurd is
+
+-- a command was answered
+pub tries-ok : {W : Type 0} (taken : W → Option (List ℕ)) (failures : W → ℕ) (old new : W) (before after : Store) (command : Command) (answer : Answer) (done : Unit {0}) → Answers before command answer after → Writes taken failures old new answer.bytes (Ok done)
+    → Tries taken failures old new before after command (Ok (outcome_of answer.refuses))
+tries-ok taken failures old new before after command answer done answers writes = record { ok = record { answer = answer; answers = answers; written = writes.ok; is = refl }; err = tt; failed = tt; counted = writes.counted }
+
+-- or the sink failed in its answer
+pub tries-err : {W : Type 0} (taken : W → Option (List ℕ)) (failures : W → ℕ) (old new : W) (before after : Store) (command : Command) (answer : Answer) (fault : SinkFault) (result : Result Outcome SinkFault) → IsErr result → Answers before command answer after
+    → Writes taken failures old new answer.bytes (Err fault) → Tries taken failures old new before after command result
+tries-err taken failures old new before after command answer fault (Ok _) is answers writes = absurd (cc)
+tries-err taken failures old new before after command answer fault (Err _) is answers writes = record { ok = tt; err = record { answer = answer; answers = answers; written = writes.err }; failed = writes.failed; counted = writes.counted }
 
 -- a fault that became that of a session
 pub by-fault : {T : Type 0} (r : Result T SessionFault) (fault : SessionFault) (P : SessionFault → Type 0) → IsErrAnd r (λ e. e ≡ fault) → P fault → IfErr r P

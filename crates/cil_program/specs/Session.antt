@@ -1,7 +1,8 @@
 -- One line of a script, and what came of it.
-use Rattle.std.specs.Prelude.{◌≡◌, ◌≢◌, ℕ, ◌≤◌, Bool, true, false, List, [], ◌∷◌, ◌++◌, length, codes, decimal, Option, IsTrue, ◌⊎◌}
+use Rattle.std.specs.Prelude.{◌≡◌, ◌≢◌, ℕ, ◌≤◌, Bool, true, false, List, [], ◌∷◌, ◌++◌, length, codes, decimal, Option, Result, IfOk, OnErr, IsTrue, ◌⊎◌}
 use Rattle.std.specs.List.{join_with_byte}
-use Rattle.cil_stream.specs.Device.{Account, Gains, GainsFront, Gives, HasEnded, IsLeft, has_ended}
+use Rattle.cil_stream.specs.Device.{Account, Gains, GainsFront, Gives, HasEnded, HasFailed, IsLeft, has_ended}
+use Rattle.cil_stream.specs.declared.sink.SinkFault.{SinkFault}
 use Rattle.cil_store_specs.specs.Store.{Store}
 use Rattle.cil_store_specs.specs.Next.{install}
 use Rattle.cil_store_specs.specs.Script.{Command, makes, Answer, Answers, HasGoodWords, IsGoodName, IsShortNumber, line_of, behind, command_bytes, IsCommand, MayLackItsEnd, IsNoCommand}
@@ -62,6 +63,13 @@ pub record HasBegun (command : Command) (old new : Standing) : Type 0 where
   pub answer : Answer
   pub answers : Answers old.store command answer new.store
   pub written : GainsFront old.taken new.taken answer.bytes
+
+-- A command was answered and its answer written; or the sink failed in it, which was counted.
+pub record Tries {W : Type 0} (taken : W → Option (List ℕ)) (failures : W → ℕ) (old new : W) (before after : Store) (command : Command) (result : Result Outcome SinkFault) : Type 0 where
+  pub ok : IfOk result (λ outcome. HasAnswered command outcome (record { store = before; taken = taken old }) (record { store = after; taken = taken new }))
+  pub err : OnErr result (HasBegun command (record { store = before; taken = taken old }) (record { store = after; taken = taken new }))
+  pub failed : OnErr result (HasFailed (failures old) (failures new))
+  pub counted : failures old ≤ failures new
 
 -- the line that ended so and the bytes read behind it are a command
 abbrev pub IsWhole : LineEnd → List ℕ → List ℕ → Moment → Command → Type 0

@@ -114,7 +114,8 @@ impl Input {
         ensures line_feeds { self.new.line_feeds ≡ self.old.line_feeds }
         ensures failed { OnErr result (HasFailed (S.account source.old).failures (S.account source.new).failures) }
         ensures err { OnErr result (self.new ≡ self.old) }
-        ensures stopped { OnErr result (HasStopped (S.account source.old) (S.account source.new) self.old self.new []) }
+        ensures stopped { OnErr result (HasStopped (S.account source.old) (S.account source.new)
+            self.old self.new []) }
         ensures failures { (S.account source.old).failures ≤ (S.account source.new).failures }
     {
         let n = source.take(&mut self.bytes)?;
@@ -138,7 +139,8 @@ impl Input {
         ensures byte { IfOk result (λ r. IfSome r (λ b. HasRead (S.account source.old) (S.account source.new) self.old self.new (b ∷ []))) }
         ensures end { IfOk result (λ r. IfNone r (HasRead (S.account source.old) (S.account source.new) self.old self.new []
             × HasEnded (S.account source.old) (S.account source.new) × (self.new.bytes ≡ []))) }
-        ensures err { OnErr result (HasStopped (S.account source.old) (S.account source.new) self.old self.new []) }
+        ensures err { OnErr result (HasStopped (S.account source.old) (S.account source.new)
+            self.old self.new []) }
         ensures failed { OnErr result (HasFailed (S.account source.old).failures (S.account source.new).failures) }
         ensures failures { (S.account source.old).failures ≤ (S.account source.new).failures }
     {
@@ -159,7 +161,8 @@ impl Input {
             × EndsLine end line.new read (has_ended (S.account source.new)) self.new.bytes) }
         ensures stays { IsTrue (list_all stays line.new) }
         ensures ended { IfOk result (λ end. end ≡ LastByte → HasEnded (S.account source.old) (S.account source.new)) }
-        ensures err { OnErr result (HasStopped (S.account source.old) (S.account source.new) self.old self.new line.new) }
+        ensures err { OnErr result (HasStopped (S.account source.old) (S.account source.new)
+            self.old self.new line.new) }
         ensures failed { OnErr result (HasFailed (S.account source.old).failures (S.account source.new).failures) }
         ensures failures { (S.account source.old).failures ≤ (S.account source.new).failures }
     {
@@ -184,7 +187,8 @@ impl Input {
         ensures read { IfOk result (λ _. HasRead (S.account source.old) (S.account source.new) self.old self.new []) }
         ensures more { IfOk result (λ more. IsTrue more → self.new.bytes ≢ []) }
         ensures none { IfOk result (λ more. more ≡ false → IsTrue (has_ended (S.account source.new)) × (self.new.bytes ≡ [])) }
-        ensures err { OnErr result (HasStopped (S.account source.old) (S.account source.new) self.old self.new []) }
+        ensures err { OnErr result (HasStopped (S.account source.old) (S.account source.new)
+            self.old self.new []) }
         ensures failed { OnErr result (HasFailed (S.account source.old).failures (S.account source.new).failures) }
         ensures failures { (S.account source.old).failures ≤ (S.account source.new).failures }
     {
@@ -239,7 +243,8 @@ impl Input {
         requires room { vec_len text.old + len ≤ vec_capacity text.old }
         ensures read { IfOk result (λ whole. (read : List ℕ) × HasRead (S.account source.old) (S.account source.new) self.old self.new read
             × (text.new.items ≡ text.old.items ++ read) × IsText whole len read (has_ended (S.account source.new)) self.new.bytes) }
-        ensures err { OnErr result ((read : List ℕ) × HasStopped (S.account source.old) (S.account source.new) self.old self.new read
+        ensures err { OnErr result ((read : List ℕ) ×
+            HasStopped (S.account source.old) (S.account source.new) self.old self.new read
             × (text.new.items ≡ text.old.items ++ read) × (length read < len)) }
         ensures failed { OnErr result (HasFailed (S.account source.old).failures (S.account source.new).failures) }
         ensures failures { (S.account source.old).failures ≤ (S.account source.new).failures }
@@ -263,7 +268,8 @@ impl Input {
         requires { Fits (S.account source.old).count self.old }
         ensures read { IfOk result (λ whole. (read : List ℕ) × HasRead (S.account source.old) (S.account source.new) self.old self.new read
             × IsText whole len read (has_ended (S.account source.new)) self.new.bytes) }
-        ensures err { OnErr result ((read : List ℕ) × HasStopped (S.account source.old) (S.account source.new) self.old self.new read
+        ensures err { OnErr result ((read : List ℕ) ×
+            HasStopped (S.account source.old) (S.account source.new) self.old self.new read
             × (length read < len)) }
         ensures failed { OnErr result (HasFailed (S.account source.old).failures (S.account source.new).failures) }
         ensures failures { (S.account source.old).failures ≤ (S.account source.new).failures }
@@ -286,7 +292,8 @@ impl Input {
         ensures yes { IfOk result (λ is. IsTrue is → HasRead (S.account source.old) (S.account source.new) self.old self.new (10 ∷ [])) }
         ensures no { IfOk result (λ is. is ≡ false → (read : List ℕ) × HasRead (S.account source.old) (S.account source.new) self.old self.new read
             × IsOther read (has_ended (S.account source.new)) self.new.bytes) }
-        ensures err { OnErr result (HasStopped (S.account source.old) (S.account source.new) self.old self.new []) }
+        ensures err { OnErr result (HasStopped (S.account source.old) (S.account source.new)
+            self.old self.new []) }
         ensures failed { OnErr result (HasFailed (S.account source.old).failures (S.account source.new).failures) }
         ensures failures { (S.account source.old).failures ≤ (S.account source.new).failures }
     {
@@ -308,7 +315,8 @@ impl Input {
         requires room { vec_len text.old + len ≤ vec_capacity text.old }
         ensures read { IfOk result (λ whole. (read part : List ℕ) × HasRead (S.account source.old) (S.account source.new) self.old self.new read
             × (text.new.items ≡ text.old.items ++ part) × IsWholeText whole len part read (has_ended (S.account source.new)) self.new.bytes) }
-        ensures err { OnErr result ((read : List ℕ) × HasStopped (S.account source.old) (S.account source.new) self.old self.new read
+        ensures err { OnErr result ((read : List ℕ) ×
+            HasStopped (S.account source.old) (S.account source.new) self.old self.new read
             × (length read ≤ len)) }
         ensures failed { OnErr result (HasFailed (S.account source.old).failures (S.account source.new).failures) }
         ensures failures { (S.account source.old).failures ≤ (S.account source.new).failures }
@@ -324,7 +332,8 @@ impl Input {
         requires { Fits (S.account source.old).count self.old }
         ensures read { IfOk result (λ whole. (read part : List ℕ) × HasRead (S.account source.old) (S.account source.new) self.old self.new read
             × IsWholeText whole len part read (has_ended (S.account source.new)) self.new.bytes) }
-        ensures err { OnErr result ((read : List ℕ) × HasStopped (S.account source.old) (S.account source.new) self.old self.new read
+        ensures err { OnErr result ((read : List ℕ) ×
+            HasStopped (S.account source.old) (S.account source.new) self.old self.new read
             × (length read ≤ len)) }
         ensures failed { OnErr result (HasFailed (S.account source.old).failures (S.account source.new).failures) }
         ensures failures { (S.account source.old).failures ≤ (S.account source.new).failures }

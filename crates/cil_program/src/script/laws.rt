@@ -11,6 +11,7 @@ pub fn one_script()
 
 /// The commands with which a script begins are the first of its commands.
 pub fn begins_with_its_first()
-    ensures { (script : List ℕ) (commands all : List Command) (end : End) → BeginsWith script commands
+    ensures { (script : List ℕ) (commands all : List Command) (end : End) →
+        BeginsWith script commands
         → Commands script all end → (others : List Command) × (all ≡ commands ++ others) }
 {}

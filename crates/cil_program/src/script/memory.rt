@@ -24,13 +24,15 @@ pub fn answer_script<W: Sink, A: Allocator + Copy, C: Compiled<A>>(
     ensures ok { IfOk result (λ status. (written : List ℕ) × Gains (W.taken sink.old) (W.taken sink.new) written
         × IsSession script.now true (C.store engine.old) (C.store engine.new) written (status_of status)) }
     ensures flushed { OnOk result (W.flushed sink.new ≡ W.taken sink.new) }
-    ensures cut_by_read { IsErrOf result SessionFault.Read → (given more written : List ℕ) × (script.now ≡ given ++ more)
+    ensures cut_by_read { IsErrOf result SessionFault.Read →
+        (given more written : List ℕ) × (script.now ≡ given ++ more)
         × Gains (W.taken sink.old) (W.taken sink.new) written
         × IsCutByRead given (C.store engine.old) (C.store engine.new) written }
     ensures cut_by_write { IsErrOf result SessionFault.Write → (written : List ℕ)
         × Gains (W.taken sink.old) (W.taken sink.new) written
         × IsCutByWrite script.now true (C.store engine.old) (C.store engine.new) written }
-    ensures write { IsErrOf result SessionFault.Write → HasFailed (W.failures sink.old) (W.failures sink.new) }
+    ensures write { IsErrOf result SessionFault.Write →
+        HasFailed (W.failures sink.old) (W.failures sink.new) }
 {
     let mut source = MemorySource::new(script);
     session(alloc, &mut source, sink, engine)

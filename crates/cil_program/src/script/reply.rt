@@ -1,7 +1,6 @@
 //! The lines that answer a script (a form of this project's own).
 
-ghost use Rattle.std.specs.Prelude.{◌≡◌, ◌+◌, ◌++◌, ◌≤◌, flat_map, length, OnOk, OnErr};
-ghost use Rattle.cil_stream.specs.Device.{HasFailed, Gains, GainsFront};
+ghost use Rattle.std.specs.Prelude.{◌+◌, ◌++◌, flat_map, length};
 ghost use Rattle.cil_store_specs.specs.Next.{by_store, at_place, for_memory};
 ghost use Rattle.cil_specs.specs.Report.{dropped_line};
 ghost use Rattle.cil_store_specs.specs.Script.{refusal_line, reply_text, end_line, last_line, stops, dump_edits, dump_text};
@@ -11,6 +10,7 @@ ghost use Rattle.cil_resolve.specs.Views.{declared_seen};
 ghost use Rattle.cil_store_specs.specs.StoreReport.{entry_text, modules_text};
 ghost use Rattle.cil_store.specs.Edits.{refusal_of};
 ghost use Rattle.cil_store.specs.Stored.{entry_of};
+ghost use Rattle.cil_program.specs.Reply.{Writes};
 ghost use Rattle.cil_program.specs.Dump.{install_command, disable_command};
 
 use cil_resolve::NameView;
@@ -26,10 +26,8 @@ pub fn write_changes<W: Sink, A: Allocator>(
     sink: &mut W,
     changes: &Changes<A>,
 ) -> Result<(), SinkFault>
-    ensures ok { OnOk result (Gains (W.taken sink.old) (W.taken sink.new) (reply_text (changed_by changes.now))) }
-    ensures err { OnErr result (GainsFront (W.taken sink.old) (W.taken sink.new) (reply_text (changed_by changes.now))) }
-    ensures failed { OnErr result (HasFailed (W.failures sink.old) (W.failures sink.new)) }
-    ensures counted { W.failures sink.old ≤ W.failures sink.new }
+    ensures { Writes W.taken W.failures sink.old sink.new
+        (reply_text (changed_by changes.now)) result }
 {
     let mut added = Buffer::new();
     let mut removed = Buffer::new();
@@ -47,10 +45,7 @@ pub fn write_changes<W: Sink, A: Allocator>(
 
 /// Writes the last line of a listing of so many rows.
 pub fn write_end<W: Sink>(sink: &mut W, rows: u128) -> Result<(), SinkFault>
-    ensures ok { OnOk result (Gains (W.taken sink.old) (W.taken sink.new) (end_line rows)) }
-    ensures err { OnErr result (GainsFront (W.taken sink.old) (W.taken sink.new) (end_line rows)) }
-    ensures failed { OnErr result (HasFailed (W.failures sink.old) (W.failures sink.new)) }
-    ensures counted { W.failures sink.old ≤ W.failures sink.new }
+    ensures { Writes W.taken W.failures sink.old sink.new (end_line rows) result }
 {
     let mut digits = Buffer::new();
     write_pieces(sink, &[b"end ", digits.format(rows).as_bytes(), b"\n"])
@@ -58,10 +53,8 @@ pub fn write_end<W: Sink>(sink: &mut W, rows: u128) -> Result<(), SinkFault>
 
 /// Writes the line of an optional that drops.
 fn write_optional<W: Sink>(sink: &mut W, optional: NameView<'_>) -> Result<(), SinkFault>
-    ensures ok { OnOk result (Gains (W.taken sink.old) (W.taken sink.new) (dropped_line (declared_seen optional.entry))) }
-    ensures err { OnErr result (GainsFront (W.taken sink.old) (W.taken sink.new) (dropped_line (declared_seen optional.entry))) }
-    ensures failed { OnErr result (HasFailed (W.failures sink.old) (W.failures sink.new)) }
-    ensures counted { W.failures sink.old ≤ W.failures sink.new }
+    ensures { Writes W.taken W.failures sink.old sink.new
+        (dropped_line (declared_seen optional.entry)) result }
 {
     let mut line_digits = Buffer::new();
     let mut column_digits = Buffer::new();
@@ -85,10 +78,8 @@ fn write_optionals<W: Sink, A: Allocator>(
     sink: &mut W,
     dropped: &Dropped<A>,
 ) -> Result<(), SinkFault>
-    ensures ok { OnOk result (Gains (W.taken sink.old) (W.taken sink.new) (flat_map dropped_line dropped.now)) }
-    ensures err { OnErr result (GainsFront (W.taken sink.old) (W.taken sink.new) (flat_map dropped_line dropped.now)) }
-    ensures failed { OnErr result (HasFailed (W.failures sink.old) (W.failures sink.new)) }
-    ensures counted { W.failures sink.old ≤ W.failures sink.new }
+    ensures { Writes W.taken W.failures sink.old sink.new
+        (flat_map dropped_line dropped.now) result }
 {
     for i in 0..dropped.len() {
         if let Some(optional) = dropped.get(i) {
@@ -103,10 +94,8 @@ pub fn write_dropped<W: Sink, A: Allocator>(
     sink: &mut W,
     dropped: &Dropped<A>,
 ) -> Result<(), SinkFault>
-    ensures ok { OnOk result (Gains (W.taken sink.old) (W.taken sink.new) (reply_text (dropped_optionals dropped.now))) }
-    ensures err { OnErr result (GainsFront (W.taken sink.old) (W.taken sink.new) (reply_text (dropped_optionals dropped.now))) }
-    ensures failed { OnErr result (HasFailed (W.failures sink.old) (W.failures sink.new)) }
-    ensures counted { W.failures sink.old ≤ W.failures sink.new }
+    ensures { Writes W.taken W.failures sink.old sink.new
+        (reply_text (dropped_optionals dropped.now)) result }
 {
     write_optionals(sink, dropped)?;
     write_end(sink, dropped.len() as u128)
@@ -114,10 +103,8 @@ pub fn write_dropped<W: Sink, A: Allocator>(
 
 /// Writes the line of an entry of a store, with the word of its state.
 fn write_module<W: Sink>(sink: &mut W, entry: Entry<'_>, state: &[u8]) -> Result<(), SinkFault>
-    ensures ok { OnOk result (Gains (W.taken sink.old) (W.taken sink.new) (entry_text (entry_of entry.entry) state.now)) }
-    ensures err { OnErr result (GainsFront (W.taken sink.old) (W.taken sink.new) (entry_text (entry_of entry.entry) state.now)) }
-    ensures failed { OnErr result (HasFailed (W.failures sink.old) (W.failures sink.new)) }
-    ensures counted { W.failures sink.old ≤ W.failures sink.new }
+    ensures { Writes W.taken W.failures sink.old sink.new
+        (entry_text (entry_of entry.entry) state.now) result }
 {
     let mut priority_digits = Buffer::new();
     let mut length_digits = Buffer::new();
@@ -138,10 +125,7 @@ fn write_module<W: Sink>(sink: &mut W, entry: Entry<'_>, state: &[u8]) -> Result
 
 /// Writes the lines of the entries of a store.
 fn write_entries<W: Sink, A: Allocator>(sink: &mut W, store: &Store<A>) -> Result<(), SinkFault>
-    ensures ok { OnOk result (Gains (W.taken sink.old) (W.taken sink.new) (modules_text store.now)) }
-    ensures err { OnErr result (GainsFront (W.taken sink.old) (W.taken sink.new) (modules_text store.now)) }
-    ensures failed { OnErr result (HasFailed (W.failures sink.old) (W.failures sink.new)) }
-    ensures counted { W.failures sink.old ≤ W.failures sink.new }
+    ensures { Writes W.taken W.failures sink.old sink.new (modules_text store.now) result }
 {
     for i in 0..store.len() {
         write_module(sink, store.at(i), store.state(i).as_bytes())?;
@@ -151,10 +135,8 @@ fn write_entries<W: Sink, A: Allocator>(sink: &mut W, store: &Store<A>) -> Resul
 
 /// Writes the modules of a store (`semodule -lfull`, in a form of this project's own). It takes no memory.
 pub fn write_modules<W: Sink, A: Allocator>(sink: &mut W, store: &Store<A>) -> Result<(), SinkFault>
-    ensures ok { OnOk result (Gains (W.taken sink.old) (W.taken sink.new) (modules_text store.now ++ end_line (length store.now.entries))) }
-    ensures err { OnErr result (GainsFront (W.taken sink.old) (W.taken sink.new) (modules_text store.now ++ end_line (length store.now.entries))) }
-    ensures failed { OnErr result (HasFailed (W.failures sink.old) (W.failures sink.new)) }
-    ensures counted { W.failures sink.old ≤ W.failures sink.new }
+    ensures { Writes W.taken W.failures sink.old sink.new
+        (modules_text store.now ++ end_line (length store.now.entries)) result }
 {
     write_entries(sink, store)?;
     write_end(sink, store.len() as u128)
@@ -162,10 +144,8 @@ pub fn write_modules<W: Sink, A: Allocator>(sink: &mut W, store: &Store<A>) -> R
 
 /// Writes the command that installs an entry.
 fn write_install<W: Sink>(sink: &mut W, entry: Entry<'_>) -> Result<(), SinkFault>
-    ensures ok { OnOk result (Gains (W.taken sink.old) (W.taken sink.new) (install_command (entry_of entry.entry))) }
-    ensures err { OnErr result (GainsFront (W.taken sink.old) (W.taken sink.new) (install_command (entry_of entry.entry))) }
-    ensures failed { OnErr result (HasFailed (W.failures sink.old) (W.failures sink.new)) }
-    ensures counted { W.failures sink.old ≤ W.failures sink.new }
+    ensures { Writes W.taken W.failures sink.old sink.new
+        (install_command (entry_of entry.entry)) result }
 {
     let mut priority_digits = Buffer::new();
     let mut length_digits = Buffer::new();
@@ -187,10 +167,8 @@ fn write_install<W: Sink>(sink: &mut W, entry: Entry<'_>) -> Result<(), SinkFaul
 
 /// Writes the commands that install the entries of a store.
 fn write_installs<W: Sink, A: Allocator>(sink: &mut W, store: &Store<A>) -> Result<(), SinkFault>
-    ensures ok { OnOk result (Gains (W.taken sink.old) (W.taken sink.new) (flat_map install_command store.now.entries)) }
-    ensures err { OnErr result (GainsFront (W.taken sink.old) (W.taken sink.new) (flat_map install_command store.now.entries)) }
-    ensures failed { OnErr result (HasFailed (W.failures sink.old) (W.failures sink.new)) }
-    ensures counted { W.failures sink.old ≤ W.failures sink.new }
+    ensures { Writes W.taken W.failures sink.old sink.new
+        (flat_map install_command store.now.entries) result }
 {
     for i in 0..store.len() {
         write_install(sink, store.at(i))?;
@@ -200,20 +178,15 @@ fn write_installs<W: Sink, A: Allocator>(sink: &mut W, store: &Store<A>) -> Resu
 
 /// Writes the command that disables a name.
 fn write_disable<W: Sink>(sink: &mut W, name: &[u8]) -> Result<(), SinkFault>
-    ensures ok { OnOk result (Gains (W.taken sink.old) (W.taken sink.new) (disable_command name.now)) }
-    ensures err { OnErr result (GainsFront (W.taken sink.old) (W.taken sink.new) (disable_command name.now)) }
-    ensures failed { OnErr result (HasFailed (W.failures sink.old) (W.failures sink.new)) }
-    ensures counted { W.failures sink.old ≤ W.failures sink.new }
+    ensures { Writes W.taken W.failures sink.old sink.new (disable_command name.now) result }
 {
     write_pieces(sink, &[b"disable ", name, b"\n"])
 }
 
 /// Writes the commands that disable the disabled names of a store.
 fn write_disables<W: Sink, A: Allocator>(sink: &mut W, store: &Store<A>) -> Result<(), SinkFault>
-    ensures ok { OnOk result (Gains (W.taken sink.old) (W.taken sink.new) (flat_map disable_command store.now.disabled)) }
-    ensures err { OnErr result (GainsFront (W.taken sink.old) (W.taken sink.new) (flat_map disable_command store.now.disabled)) }
-    ensures failed { OnErr result (HasFailed (W.failures sink.old) (W.failures sink.new)) }
-    ensures counted { W.failures sink.old ≤ W.failures sink.new }
+    ensures { Writes W.taken W.failures sink.old sink.new
+        (flat_map disable_command store.now.disabled) result }
 {
     for i in 0..store.disabled_len() {
         if let Some(name) = store.disabled(i) {
@@ -225,10 +198,8 @@ fn write_disables<W: Sink, A: Allocator>(sink: &mut W, store: &Store<A>) -> Resu
 
 /// Writes a script that builds a store, and the number of its commands. It takes no memory.
 pub fn write_dump<W: Sink, A: Allocator>(sink: &mut W, store: &Store<A>) -> Result<(), SinkFault>
-    ensures ok { OnOk result (Gains (W.taken sink.old) (W.taken sink.new) (dump_text store.now ++ end_line (length (dump_edits store.now)))) }
-    ensures err { OnErr result (GainsFront (W.taken sink.old) (W.taken sink.new) (dump_text store.now ++ end_line (length (dump_edits store.now)))) }
-    ensures failed { OnErr result (HasFailed (W.failures sink.old) (W.failures sink.new)) }
-    ensures counted { W.failures sink.old ≤ W.failures sink.new }
+    ensures { Writes W.taken W.failures sink.old sink.new
+        (dump_text store.now ++ end_line (length (dump_edits store.now))) result }
 {
     write_installs(sink, store)?;
     write_disables(sink, store)?;
@@ -237,10 +208,8 @@ pub fn write_dump<W: Sink, A: Allocator>(sink: &mut W, store: &Store<A>) -> Resu
 
 /// Writes that a script is none from the line behind so many line feeds.
 pub fn write_script_line<W: Sink>(sink: &mut W, line_feeds: u64) -> Result<(), SinkFault>
-    ensures ok { OnOk result (Gains (W.taken sink.old) (W.taken sink.new) (last_line (stops (1 + line_feeds)))) }
-    ensures err { OnErr result (GainsFront (W.taken sink.old) (W.taken sink.new) (last_line (stops (1 + line_feeds)))) }
-    ensures failed { OnErr result (HasFailed (W.failures sink.old) (W.failures sink.new)) }
-    ensures counted { W.failures sink.old ≤ W.failures sink.new }
+    ensures { Writes W.taken W.failures sink.old sink.new
+        (last_line (stops (1 + line_feeds))) result }
 {
     let mut digits = Buffer::new();
     let line = 1 + u128::from(line_feeds);
@@ -255,10 +224,8 @@ fn write_place<W: Sink>(
     at: Place,
     word: &[u8],
 ) -> Result<(), SinkFault>
-    ensures ok { OnOk result (Gains (W.taken sink.old) (W.taken sink.new) (refusal_line (at_place code «module».now (place_of at) word.now))) }
-    ensures err { OnErr result (GainsFront (W.taken sink.old) (W.taken sink.new) (refusal_line (at_place code «module».now (place_of at) word.now))) }
-    ensures failed { OnErr result (HasFailed (W.failures sink.old) (W.failures sink.new)) }
-    ensures counted { W.failures sink.old ≤ W.failures sink.new }
+    ensures { Writes W.taken W.failures sink.old sink.new
+        (refusal_line (at_place code «module».now (place_of at) word.now)) result }
 {
     let mut code_digits = Buffer::new();
     let mut line_digits = Buffer::new();
@@ -283,10 +250,8 @@ fn write_place<W: Sink>(
 
 /// Writes a refusal of the store.
 pub fn write_store_refusal<W: Sink>(sink: &mut W, code: u8, word: &[u8]) -> Result<(), SinkFault>
-    ensures ok { OnOk result (Gains (W.taken sink.old) (W.taken sink.new) (refusal_line (by_store code word.now))) }
-    ensures err { OnErr result (GainsFront (W.taken sink.old) (W.taken sink.new) (refusal_line (by_store code word.now))) }
-    ensures failed { OnErr result (HasFailed (W.failures sink.old) (W.failures sink.new)) }
-    ensures counted { W.failures sink.old ≤ W.failures sink.new }
+    ensures { Writes W.taken W.failures sink.old sink.new
+        (refusal_line (by_store code word.now)) result }
 {
     let mut digits = Buffer::new();
     write_pieces(
@@ -303,10 +268,7 @@ pub fn write_store_refusal<W: Sink>(sink: &mut W, code: u8, word: &[u8]) -> Resu
 
 /// Writes that memory ran out.
 pub fn write_no_memory<W: Sink>(sink: &mut W) -> Result<(), SinkFault>
-    ensures ok { OnOk result (Gains (W.taken sink.old) (W.taken sink.new) (refusal_line for_memory)) }
-    ensures err { OnErr result (GainsFront (W.taken sink.old) (W.taken sink.new) (refusal_line for_memory)) }
-    ensures failed { OnErr result (HasFailed (W.failures sink.old) (W.failures sink.new)) }
-    ensures counted { W.failures sink.old ≤ W.failures sink.new }
+    ensures { Writes W.taken W.failures sink.old sink.new (refusal_line for_memory) result }
 {
     write_all(sink, b"refused 60 memory\n")
 }
@@ -316,10 +278,8 @@ pub fn write_refusal<W: Sink, A: Allocator>(
     sink: &mut W,
     refusal: &Refusal<A>,
 ) -> Result<(), SinkFault>
-    ensures ok { OnOk result (Gains (W.taken sink.old) (W.taken sink.new) (refusal_line (refusal_of refusal.now))) }
-    ensures err { OnErr result (GainsFront (W.taken sink.old) (W.taken sink.new) (refusal_line (refusal_of refusal.now))) }
-    ensures failed { OnErr result (HasFailed (W.failures sink.old) (W.failures sink.new)) }
-    ensures counted { W.failures sink.old ≤ W.failures sink.new }
+    ensures { Writes W.taken W.failures sink.old sink.new
+        (refusal_line (refusal_of refusal.now)) result }
 {
     match refusal {
         Refusal::Store { fault, word } => {

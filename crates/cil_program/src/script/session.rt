@@ -1,11 +1,12 @@
 //! A session: it answers a script, command by command.
 
 ghost use Rattle.std.specs.Prelude.{◌≡◌, ◌≢◌, ◌≤◌, [], List, ℕ, IfOk, IfErr, OnOk, OnErr, IsErrOf, IsTrue};
-ghost use Rattle.cil_stream.specs.Device.{HasFailed, HasEnded, Gains, GainsFront, has_ended};
+ghost use Rattle.cil_stream.specs.Device.{HasFailed, HasEnded, has_ended};
 ghost use Rattle.cil_store_specs.specs.Script.{makes, asks_rules, asks_violations, asks_dropped, asks_modules, asks_dump, refusal_line};
 ghost use Rattle.cil_store.specs.Edits.{edit_of, store_refusal_of};
 ghost use Rattle.cil_program.specs.Input.{Fits};
-ghost use Rattle.cil_program.specs.Session.{Moment, Standing, HasAnswered, HasBegun, IsOutcome, IsInstallOutcome, IsInstallCut, IsLineCut, IsTurn, IsTurnCut, Leaves, LeavesByRead, LeavesByWrite};
+ghost use Rattle.cil_program.specs.Reply.{Writes};
+ghost use Rattle.cil_program.specs.Session.{Moment, Standing, Tries, IsOutcome, IsInstallOutcome, IsInstallCut, IsLineCut, IsTurn, IsTurnCut, Leaves, LeavesByRead, LeavesByWrite};
 ghost use Rattle.cil_program.specs.declared.script.input.LineEnd.TheVariants.{LastByte};
 ghost use Rattle.cil_program.specs.declared.script.session.Status.TheVariants.{Script};
 
@@ -98,12 +99,8 @@ fn answer_rows<W: Sink, A: Allocator + Copy, C: Compiled<A>>(
     sink: &mut W,
     engine: &C,
 ) -> Result<Outcome, SinkFault>
-    ensures ok { IfOk result (λ outcome. HasAnswered asks_rules outcome (record { store = C.store engine.now; taken = W.taken sink.old })
-        (record { store = C.store engine.now; taken = W.taken sink.new })) }
-    ensures err { OnErr result (HasBegun asks_rules (record { store = C.store engine.now; taken = W.taken sink.old })
-        (record { store = C.store engine.now; taken = W.taken sink.new })) }
-    ensures failed { OnErr result (HasFailed (W.failures sink.old) (W.failures sink.new)) }
-    ensures counted { W.failures sink.old ≤ W.failures sink.new }
+    ensures { Tries W.taken W.failures sink.old sink.new (C.store engine.now) (C.store engine.now)
+        asks_rules result }
 {
     match engine.write_listing(sink) {
         Ok(rows) => {
@@ -123,12 +120,8 @@ fn answer_violations<W: Sink, A: Allocator + Copy, C: Compiled<A>>(
     sink: &mut W,
     engine: &C,
 ) -> Result<Outcome, SinkFault>
-    ensures ok { IfOk result (λ outcome. HasAnswered asks_violations outcome (record { store = C.store engine.now; taken = W.taken sink.old })
-        (record { store = C.store engine.now; taken = W.taken sink.new })) }
-    ensures err { OnErr result (HasBegun asks_violations (record { store = C.store engine.now; taken = W.taken sink.old })
-        (record { store = C.store engine.now; taken = W.taken sink.new })) }
-    ensures failed { OnErr result (HasFailed (W.failures sink.old) (W.failures sink.new)) }
-    ensures counted { W.failures sink.old ≤ W.failures sink.new }
+    ensures { Tries W.taken W.failures sink.old sink.new (C.store engine.now) (C.store engine.now)
+        asks_violations result }
 {
     match engine.write_violations(sink) {
         Ok(violations) => {
@@ -148,12 +141,8 @@ fn answer_dropped<W: Sink, A: Allocator + Copy, C: Compiled<A>>(
     sink: &mut W,
     engine: &C,
 ) -> Result<Outcome, SinkFault>
-    ensures ok { IfOk result (λ outcome. HasAnswered asks_dropped outcome (record { store = C.store engine.now; taken = W.taken sink.old })
-        (record { store = C.store engine.now; taken = W.taken sink.new })) }
-    ensures err { OnErr result (HasBegun asks_dropped (record { store = C.store engine.now; taken = W.taken sink.old })
-        (record { store = C.store engine.now; taken = W.taken sink.new })) }
-    ensures failed { OnErr result (HasFailed (W.failures sink.old) (W.failures sink.new)) }
-    ensures counted { W.failures sink.old ≤ W.failures sink.new }
+    ensures { Tries W.taken W.failures sink.old sink.new (C.store engine.now) (C.store engine.now)
+        asks_dropped result }
 {
     match engine.dropped() {
         Ok(dropped) => {
@@ -172,12 +161,8 @@ fn answer_modules<W: Sink, A: Allocator + Copy, C: Compiled<A>>(
     sink: &mut W,
     engine: &C,
 ) -> Result<Outcome, SinkFault>
-    ensures ok { IfOk result (λ outcome. HasAnswered asks_modules outcome (record { store = C.store engine.now; taken = W.taken sink.old })
-        (record { store = C.store engine.now; taken = W.taken sink.new })) }
-    ensures err { OnErr result (HasBegun asks_modules (record { store = C.store engine.now; taken = W.taken sink.old })
-        (record { store = C.store engine.now; taken = W.taken sink.new })) }
-    ensures failed { OnErr result (HasFailed (W.failures sink.old) (W.failures sink.new)) }
-    ensures counted { W.failures sink.old ≤ W.failures sink.new }
+    ensures { Tries W.taken W.failures sink.old sink.new (C.store engine.now) (C.store engine.now)
+        asks_modules result }
 {
     reply::write_modules(sink, engine.store())?;
     Ok(Outcome::Accepted)
@@ -188,12 +173,8 @@ fn answer_dump<W: Sink, A: Allocator + Copy, C: Compiled<A>>(
     sink: &mut W,
     engine: &C,
 ) -> Result<Outcome, SinkFault>
-    ensures ok { IfOk result (λ outcome. HasAnswered asks_dump outcome (record { store = C.store engine.now; taken = W.taken sink.old })
-        (record { store = C.store engine.now; taken = W.taken sink.new })) }
-    ensures err { OnErr result (HasBegun asks_dump (record { store = C.store engine.now; taken = W.taken sink.old })
-        (record { store = C.store engine.now; taken = W.taken sink.new })) }
-    ensures failed { OnErr result (HasFailed (W.failures sink.old) (W.failures sink.new)) }
-    ensures counted { W.failures sink.old ≤ W.failures sink.new }
+    ensures { Tries W.taken W.failures sink.old sink.new (C.store engine.now) (C.store engine.now)
+        asks_dump result }
 {
     reply::write_dump(sink, engine.store())?;
     Ok(Outcome::Accepted)
@@ -205,12 +186,8 @@ fn answer_edit<W: Sink, A: Allocator + Copy, C: Compiled<A>>(
     engine: &mut C,
     edit: Edit<'_>,
 ) -> Result<Outcome, SinkFault>
-    ensures ok { IfOk result (λ outcome. HasAnswered (makes (edit_of edit.entry)) outcome (record { store = C.store engine.old; taken = W.taken sink.old })
-        (record { store = C.store engine.new; taken = W.taken sink.new })) }
-    ensures err { OnErr result (HasBegun (makes (edit_of edit.entry)) (record { store = C.store engine.old; taken = W.taken sink.old })
-        (record { store = C.store engine.new; taken = W.taken sink.new })) }
-    ensures failed { OnErr result (HasFailed (W.failures sink.old) (W.failures sink.new)) }
-    ensures counted { W.failures sink.old ≤ W.failures sink.new }
+    ensures { Tries W.taken W.failures sink.old sink.new (C.store engine.old) (C.store engine.new)
+        (makes (edit_of edit.entry)) result }
 {
     match engine.edit(edit) {
         Ok(changes) => {
@@ -231,11 +208,8 @@ fn write_store_fault<W: Sink>(
     name: &[u8],
     priority: u32,
 ) -> Result<(), SinkFault>
-    ensures ok { OnOk result (Gains (W.taken sink.old) (W.taken sink.new) (refusal_line (store_refusal_of fault name.now priority))) }
-    ensures err { OnErr result (GainsFront (W.taken sink.old) (W.taken sink.new)
-        (refusal_line (store_refusal_of fault name.now priority))) }
-    ensures failed { OnErr result (HasFailed (W.failures sink.old) (W.failures sink.new)) }
-    ensures counted { W.failures sink.old ≤ W.failures sink.new }
+    ensures { Writes W.taken W.failures sink.old sink.new
+        (refusal_line (store_refusal_of fault name.now priority)) result }
 {
     match fault {
         StoreFault::BadPriority => {
@@ -278,13 +252,17 @@ fn answer_install<S: Source, W: Sink, A: Allocator + Copy, C: Compiled<A>>(
     ensures ok { IfOk result (λ outcome. IsInstallOutcome outcome name.now priority len
         (record { account = S.account source.old; held = input.old })
         (record { account = S.account source.new; held = input.new })
-        (record { store = C.store engine.old; taken = W.taken sink.old }) (record { store = C.store engine.new; taken = W.taken sink.new })) }
+        (record { store = C.store engine.old; taken = W.taken sink.old })
+        (record { store = C.store engine.new; taken = W.taken sink.new })) }
     ensures err { IfErr result (λ fault. IsInstallCut fault name.now priority len
         (record { account = S.account source.old; held = input.old })
         (record { account = S.account source.new; held = input.new })
-        (record { store = C.store engine.old; taken = W.taken sink.old }) (record { store = C.store engine.new; taken = W.taken sink.new })) }
-    ensures read { IsErrOf result SessionFault.Read → HasFailed (S.account source.old).failures (S.account source.new).failures }
-    ensures write { IsErrOf result SessionFault.Write → HasFailed (W.failures sink.old) (W.failures sink.new) }
+        (record { store = C.store engine.old; taken = W.taken sink.old })
+        (record { store = C.store engine.new; taken = W.taken sink.new })) }
+    ensures read { IsErrOf result SessionFault.Read →
+        HasFailed (S.account source.old).failures (S.account source.new).failures }
+    ensures write { IsErrOf result SessionFault.Write →
+        HasFailed (W.failures sink.old) (W.failures sink.new) }
     ensures read_failures { (S.account source.old).failures ≤ (S.account source.new).failures }
     ensures write_failures { W.failures sink.old ≤ W.failures sink.new }
 {
@@ -328,13 +306,17 @@ fn answer_line<S: Source, W: Sink, A: Allocator + Copy, C: Compiled<A>>(
     ensures ok { IfOk result (λ outcome. IsOutcome outcome end line.now
         (record { account = S.account source.old; held = input.old })
         (record { account = S.account source.new; held = input.new })
-        (record { store = C.store engine.old; taken = W.taken sink.old }) (record { store = C.store engine.new; taken = W.taken sink.new })) }
+        (record { store = C.store engine.old; taken = W.taken sink.old })
+        (record { store = C.store engine.new; taken = W.taken sink.new })) }
     ensures err { IfErr result (λ fault. IsLineCut fault end line.now
         (record { account = S.account source.old; held = input.old })
         (record { account = S.account source.new; held = input.new })
-        (record { store = C.store engine.old; taken = W.taken sink.old }) (record { store = C.store engine.new; taken = W.taken sink.new })) }
-    ensures read { IsErrOf result SessionFault.Read → HasFailed (S.account source.old).failures (S.account source.new).failures }
-    ensures write { IsErrOf result SessionFault.Write → HasFailed (W.failures sink.old) (W.failures sink.new) }
+        (record { store = C.store engine.old; taken = W.taken sink.old })
+        (record { store = C.store engine.new; taken = W.taken sink.new })) }
+    ensures read { IsErrOf result SessionFault.Read →
+        HasFailed (S.account source.old).failures (S.account source.new).failures }
+    ensures write { IsErrOf result SessionFault.Write →
+        HasFailed (W.failures sink.old) (W.failures sink.new) }
     ensures read_failures { (S.account source.old).failures ≤ (S.account source.new).failures }
     ensures write_failures { W.failures sink.old ≤ W.failures sink.new }
 {
@@ -383,13 +365,17 @@ fn answer_next<S: Source, W: Sink, A: Allocator + Copy, C: Compiled<A>>(
     ensures ok { IfOk result (λ turn. IsTurn turn
         (record { account = S.account source.old; held = input.old })
         (record { account = S.account source.new; held = input.new })
-        (record { store = C.store engine.old; taken = W.taken sink.old }) (record { store = C.store engine.new; taken = W.taken sink.new })) }
+        (record { store = C.store engine.old; taken = W.taken sink.old })
+        (record { store = C.store engine.new; taken = W.taken sink.new })) }
     ensures err { IfErr result (λ fault. IsTurnCut fault
         (record { account = S.account source.old; held = input.old })
         (record { account = S.account source.new; held = input.new })
-        (record { store = C.store engine.old; taken = W.taken sink.old }) (record { store = C.store engine.new; taken = W.taken sink.new })) }
-    ensures read { IsErrOf result SessionFault.Read → HasFailed (S.account source.old).failures (S.account source.new).failures }
-    ensures write { IsErrOf result SessionFault.Write → HasFailed (W.failures sink.old) (W.failures sink.new) }
+        (record { store = C.store engine.old; taken = W.taken sink.old })
+        (record { store = C.store engine.new; taken = W.taken sink.new })) }
+    ensures read { IsErrOf result SessionFault.Read →
+        HasFailed (S.account source.old).failures (S.account source.new).failures }
+    ensures write { IsErrOf result SessionFault.Write →
+        HasFailed (W.failures sink.old) (W.failures sink.new) }
     ensures read_failures { (S.account source.old).failures ≤ (S.account source.new).failures }
     ensures write_failures { W.failures sink.old ≤ W.failures sink.new }
 {
@@ -423,12 +409,18 @@ fn answer_commands<S: Source, W: Sink, A: Allocator + Copy, C: Compiled<A>>(
     ensures ok { IfOk result (λ status. Leaves (S.account source.old) (S.account source.new)
         (record { store = C.store engine.old; taken = W.taken sink.old }) (record { store = C.store engine.new; taken = W.taken sink.new }) status) }
     ensures ended { IfOk result (λ status. status ≢ Script → HasEnded (S.account source.old) (S.account source.new)) }
-    ensures cut_by_read { IsErrOf result SessionFault.Read → LeavesByRead (S.account source.old) (S.account source.new)
-        (record { store = C.store engine.old; taken = W.taken sink.old }) (record { store = C.store engine.new; taken = W.taken sink.new }) }
-    ensures cut_by_write { IsErrOf result SessionFault.Write → LeavesByWrite (S.account source.old) (S.account source.new)
-        (record { store = C.store engine.old; taken = W.taken sink.old }) (record { store = C.store engine.new; taken = W.taken sink.new }) }
-    ensures read { IsErrOf result SessionFault.Read → HasFailed (S.account source.old).failures (S.account source.new).failures }
-    ensures write { IsErrOf result SessionFault.Write → HasFailed (W.failures sink.old) (W.failures sink.new) }
+    ensures cut_by_read { IsErrOf result SessionFault.Read →
+        LeavesByRead (S.account source.old) (S.account source.new)
+        (record { store = C.store engine.old; taken = W.taken sink.old })
+        (record { store = C.store engine.new; taken = W.taken sink.new }) }
+    ensures cut_by_write { IsErrOf result SessionFault.Write →
+        LeavesByWrite (S.account source.old) (S.account source.new)
+        (record { store = C.store engine.old; taken = W.taken sink.old })
+        (record { store = C.store engine.new; taken = W.taken sink.new }) }
+    ensures read { IsErrOf result SessionFault.Read →
+        HasFailed (S.account source.old).failures (S.account source.new).failures }
+    ensures write { IsErrOf result SessionFault.Write →
+        HasFailed (W.failures sink.old) (W.failures sink.new) }
     ensures counted { W.failures sink.old ≤ W.failures sink.new }
 {
     let mut input = Input::new();
@@ -457,8 +449,8 @@ fn answer_commands<S: Source, W: Sink, A: Allocator + Copy, C: Compiled<A>>(
 ///
 /// # Errors
 ///
-/// `Read` or `Write` where the source or the sink failed. The engine keeps what it accepted before: `Read` leaves the
-/// store behind all commands that were given, and `Write` behind a front of them.
+/// `Read` or `Write` where the source or the sink failed. The engine keeps what it accepted: `Read` leaves the store behind all
+/// commands that were given, and `Write` that behind a front of them.
 pub fn session<S: Source, W: Sink, A: Allocator + Copy, C: Compiled<A>>(
     alloc: A,
     source: &mut S,
@@ -468,12 +460,18 @@ pub fn session<S: Source, W: Sink, A: Allocator + Copy, C: Compiled<A>>(
     ensures ok { IfOk result (λ status. Leaves (S.account source.old) (S.account source.new)
         (record { store = C.store engine.old; taken = W.taken sink.old }) (record { store = C.store engine.new; taken = W.taken sink.new }) status) }
     ensures ended { IfOk result (λ status. status ≢ Script → HasEnded (S.account source.old) (S.account source.new)) }
-    ensures cut_by_read { IsErrOf result SessionFault.Read → LeavesByRead (S.account source.old) (S.account source.new)
-        (record { store = C.store engine.old; taken = W.taken sink.old }) (record { store = C.store engine.new; taken = W.taken sink.new }) }
-    ensures cut_by_write { IsErrOf result SessionFault.Write → LeavesByWrite (S.account source.old) (S.account source.new)
-        (record { store = C.store engine.old; taken = W.taken sink.old }) (record { store = C.store engine.new; taken = W.taken sink.new }) }
-    ensures read { IsErrOf result SessionFault.Read → HasFailed (S.account source.old).failures (S.account source.new).failures }
-    ensures write { IsErrOf result SessionFault.Write → HasFailed (W.failures sink.old) (W.failures sink.new) }
+    ensures cut_by_read { IsErrOf result SessionFault.Read →
+        LeavesByRead (S.account source.old) (S.account source.new)
+        (record { store = C.store engine.old; taken = W.taken sink.old })
+        (record { store = C.store engine.new; taken = W.taken sink.new }) }
+    ensures cut_by_write { IsErrOf result SessionFault.Write →
+        LeavesByWrite (S.account source.old) (S.account source.new)
+        (record { store = C.store engine.old; taken = W.taken sink.old })
+        (record { store = C.store engine.new; taken = W.taken sink.new }) }
+    ensures read { IsErrOf result SessionFault.Read →
+        HasFailed (S.account source.old).failures (S.account source.new).failures }
+    ensures write { IsErrOf result SessionFault.Write →
+        HasFailed (W.failures sink.old) (W.failures sink.new) }
     ensures flushed { OnOk result (W.flushed sink.new ≡ W.taken sink.new) }
 {
     let status = answer_commands(alloc, source, sink, engine)?;

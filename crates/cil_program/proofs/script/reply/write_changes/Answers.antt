@@ -1,5 +1,5 @@
-use Rattle.std.proofs.Common.{◌≡◌, ◌∙◌, ◌++◌, ℕ, List, decimal, codes, length, ap, sym, subst, append_assoc, OnErr}
-use Rattle.cil_stream.specs.Device.{GainsFront}
+use Rattle.std.proofs.Common.{◌≡◌, ◌∙◌, ◌++◌, ℕ, List, decimal, codes, length, ap, sym, subst, append_assoc}
+use Rattle.cil_program.specs.Reply.{Writes}
 use Rattle.cil_program.proofs.script.reply.write_changes.Goals as goal
 
 line : (first second : List ℕ) (a b : ℕ) → first ≡ decimal a → second ≡ decimal b → codes "ok " ++ (first ++ (codes " " ++ (second ++ codes "\n"))) ≡ codes "ok " ++ decimal a ++ codes " " ++ decimal b ++ codes "\n"
@@ -8,10 +8,9 @@ line first second a b e f = (λ i. codes "ok " ++ (e i ++ (codes " " ++ (f i ++ 
     regroup : (x y : List ℕ) → codes "ok " ++ x ++ codes " " ++ y ++ codes "\n" ≡ codes "ok " ++ (x ++ (codes " " ++ (y ++ codes "\n")))
     regroup x y = simp append_assoc
 
-pub returns-clause-err : goal.returns-clause-err
-returns-clause-err g c =
-    let taken = g.W.Sink.taken in
-    subst (λ (l : List ℕ). OnErr c.write_pieces.result (GainsFront (taken c.args.sink.now) (taken c.write_pieces.new.sink) l))
+pub returns : goal.returns
+returns g c =
+    subst (λ (l : List ℕ). Writes g.W.Sink.taken g.W.Sink.failures c.args.sink.now c.write_pieces.new.sink l c.write_pieces.result)
     (line c.as_bytes.result.now c.as_bytes-2.result.now (length c.args.changes.now.added) (length c.args.changes.now.removed) (c.as_bytes.ensures.value ∙ c.format.ensures.text ∙ ap decimal c.added_len.ensures)
     (c.as_bytes-2.ensures.value ∙ c.format-2.ensures.text ∙ ap decimal c.removed_len.ensures))
-    c.write_pieces.ensures.err
+    (record { ok = c.write_pieces.ensures.ok; err = c.write_pieces.ensures.err; failed = c.write_pieces.ensures.failed; counted = c.write_pieces.ensures.counted })

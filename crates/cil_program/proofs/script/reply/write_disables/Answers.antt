@@ -1,15 +1,14 @@
 use Rattle.std.proofs.Common.{◌≤◌, ◌<◌, ◌+◌, length, take, flat_map, sym, subst, arith}
 use Rattle.cil_stream.specs.Device.{Gains}
-use Rattle.cil_stream.proofs.Gaining.{on_err}
 use Rattle.cil_program.specs.Dump.{disable_command}
-use Rattle.cil_program.proofs.ReplyLemmas.{line-more, line-front, some-within}
+use Rattle.cil_program.proofs.ReplyLemmas.{writes-cut, line-more, line-front, some-within}
 use Rattle.cil_program.proofs.script.reply.write_disables.Goals as goal
 use Rattle.cil_program.proofs.script.reply.write_disables.Goals.{in-Some+in_ok-write_disable, in_default}
 
-pub returns-in_err-write_disable-clause-err : goal.returns-in_err-write_disable-clause-err
-returns-in_err-write_disable-clause-err g c =
+pub returns-in_err-write_disable : goal.returns-in_err-write_disable
+returns-in_err-write_disable g c =
     let taken = g.W.Sink.taken in
-    on_err c.from_residual.result
+    writes-cut taken g.W.Sink.failures c.args.sink.now c.loop-i.sink c.write_disable.new.sink _ c.from_residual.result c.from_residual.ensures.0 c.loop-i.invariant.counted c.in_err-write_disable.ensures.failed c.in_err-write_disable.ensures.counted
     (line-front disable_command (taken c.args.sink.now) (taken c.loop-i.sink) (taken c.write_disable.new.sink) c.args.store.now.disabled c.loop-i.i c.in-Some.name.now c.in-Some.ensures c.loop-i.invariant.so_far c.in_err-write_disable.ensures.err)
 
 pub loop-i-preserved : goal.loop-i-preserved

@@ -1,17 +1,17 @@
-use Rattle.std.proofs.Common.{◌≡◌, ◌<◌, [], length, get_or, ap, subst, arith}
+use Rattle.std.proofs.Common.{◌<◌, [], length, subst, arith}
 use Rattle.cil_stream.specs.Device.{Gains, GainsFront}
-use Rattle.cil_stream.proofs.Gaining.{on_err, gains-pieces_more, gains-pieces_front}
-use Rattle.cil_store_specs.specs.Store.{Entry}
+use Rattle.cil_stream.proofs.Gaining.{gains-pieces_more, gains-pieces_front}
 use Rattle.cil_store_specs.specs.Store.{entry_at}
 use Rattle.cil_program.specs.Dump.{install_command}
+use Rattle.cil_program.proofs.ReplyLemmas.{writes-cut}
 use Rattle.cil_program.proofs.script.reply.write_installs.Goals as goal
 
-pub returns-in_err-write_install-clause-err : goal.returns-in_err-write_install-clause-err
-returns-in_err-write_install-clause-err g c =
+pub returns-in_err-write_install : goal.returns-in_err-write_install
+returns-in_err-write_install g c =
     let taken = g.W.Sink.taken in
     let store = c.args.store.now in
     let within : c.loop-i.i < length store.entries = subst (λ n. c.loop-i.i < n) c.len-i-end.ensures c.loop-i-test.true in
-    on_err c.from_residual.result
+    writes-cut taken g.W.Sink.failures c.args.sink.now c.loop-i.sink c.write_install.new.sink _ c.from_residual.result c.from_residual.ensures.0 c.loop-i.invariant.counted c.in_err-write_install.ensures.failed c.in_err-write_install.ensures.counted
     (gains-pieces_front install_command (taken c.args.sink.now) (taken c.loop-i.sink) (taken c.write_install.new.sink) store.entries c.loop-i.i (entry_at [] 0) within c.loop-i.invariant.so_far
     (subst (λ e. GainsFront (taken c.loop-i.sink) (taken c.write_install.new.sink) (install_command e)) c.at.ensures c.in_err-write_install.ensures.err))
 

@@ -1,17 +1,19 @@
-use Rattle.std.proofs.Common.{length}
-use Rattle.cil_stream.proofs.Gaining.{on_err, front-longer}
+use Rattle.std.proofs.Common.{length, arith}
+use Rattle.cil_stream.proofs.Gaining.{front-longer}
 use Rattle.cil_store_specs.specs.StoreReport.{modules_text}
 use Rattle.cil_store_specs.specs.Script.{end_line}
-use Rattle.cil_program.proofs.ReplyLemmas.{report-front}
+use Rattle.cil_program.proofs.ReplyLemmas.{writes-cut, writes-report}
 use Rattle.cil_program.proofs.script.reply.write_modules.Goals as goal
 
-pub returns-clause-err : goal.returns-clause-err
-returns-clause-err g c =
-    let taken = g.W.Sink.taken in
-    report-front c.write_end.result (taken c.args.sink.now) (taken c.write_entries.new.sink) (taken c.write_end.new.sink) (modules_text c.args.store.now) c.len.result (length c.args.store.now.entries) c.len.ensures c.in_ok-write_entries.ensures.ok
-    c.write_end.ensures.err
+pub returns : goal.returns
+returns g c =
+    let store = c.args.store.now in
+    writes-report g.W.Sink.taken g.W.Sink.failures c.args.sink.now c.write_entries.new.sink c.write_end.new.sink (modules_text store) c.len.result (length store.entries) c.write_end.result c.len.ensures c.in_ok-write_entries.ensures.ok
+    c.in_ok-write_entries.ensures.counted c.write_end.ensures
 
-pub returns-in_err-write_entries-clause-err : goal.returns-in_err-write_entries-clause-err
-returns-in_err-write_entries-clause-err g c =
+pub returns-in_err-write_entries : goal.returns-in_err-write_entries
+returns-in_err-write_entries g c =
     let taken = g.W.Sink.taken in
-    on_err c.from_residual.result (front-longer (taken c.args.sink.now) (taken c.write_entries.new.sink) (modules_text c.args.store.now) (end_line (length c.args.store.now.entries)) c.in_err-write_entries.ensures.err)
+    let store = c.args.store.now in
+    writes-cut taken g.W.Sink.failures c.args.sink.now c.args.sink.now c.write_entries.new.sink _ c.from_residual.result c.from_residual.ensures.0 (omega arith) c.in_err-write_entries.ensures.failed c.in_err-write_entries.ensures.counted
+    (front-longer (taken c.args.sink.now) (taken c.write_entries.new.sink) (modules_text store) (end_line (length store.entries)) c.in_err-write_entries.ensures.err)

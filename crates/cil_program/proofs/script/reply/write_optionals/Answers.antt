@@ -1,16 +1,15 @@
 use Rattle.std.proofs.Common.{◌≤◌, ◌<◌, ◌+◌, length, take, flat_map, sym, subst, arith}
 use Rattle.cil_stream.specs.Device.{Gains}
 use Rattle.cil_specs.specs.Report.{dropped_line}
-use Rattle.cil_stream.proofs.Gaining.{on_err}
 use Rattle.cil_resolve.specs.Views.{declared_seen}
-use Rattle.cil_program.proofs.ReplyLemmas.{line-more, line-front, some-within}
+use Rattle.cil_program.proofs.ReplyLemmas.{writes-cut, line-more, line-front, some-within}
 use Rattle.cil_program.proofs.script.reply.write_optionals.Goals as goal
 use Rattle.cil_program.proofs.script.reply.write_optionals.Goals.{in-Some+in_ok-write_optional, in_default}
 
-pub returns-in_err-write_optional-clause-err : goal.returns-in_err-write_optional-clause-err
-returns-in_err-write_optional-clause-err g c =
+pub returns-in_err-write_optional : goal.returns-in_err-write_optional
+returns-in_err-write_optional g c =
     let taken = g.W.Sink.taken in
-    on_err c.from_residual.result
+    writes-cut taken g.W.Sink.failures c.args.sink.now c.loop-i.sink c.write_optional.new.sink _ c.from_residual.result c.from_residual.ensures.0 c.loop-i.invariant.counted c.in_err-write_optional.ensures.failed c.in_err-write_optional.ensures.counted
     (line-front dropped_line (taken c.args.sink.now) (taken c.loop-i.sink) (taken c.write_optional.new.sink) c.args.dropped.now c.loop-i.i (declared_seen c.in-Some.optional) c.in-Some.ensures c.loop-i.invariant.so_far c.in_err-write_optional.ensures.err)
 
 pub loop-i-preserved : goal.loop-i-preserved

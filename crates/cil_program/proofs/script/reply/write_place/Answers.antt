@@ -1,5 +1,5 @@
-use Rattle.std.proofs.Common.{◌≡◌, ◌∙◌, ◌++◌, ℕ, List, decimal, codes, sym, append_assoc, subst, OnOk, OnErr}
-use Rattle.cil_stream.specs.Device.{Gains, GainsFront}
+use Rattle.std.proofs.Common.{◌≡◌, ◌∙◌, ◌++◌, ℕ, List, decimal, codes, sym, append_assoc, subst}
+use Rattle.cil_program.specs.Reply.{Writes}
 use Rattle.cil_program.proofs.script.reply.write_place.Goals as goal
 
 line : (code-digits line-digits column-digits module-name word : List ℕ) (code at column : ℕ) → code-digits ≡ decimal code → line-digits ≡ decimal at → column-digits ≡ decimal column
@@ -13,18 +13,9 @@ line code-digits line-digits column-digits module-name word code at column a b c
         ≡ codes "refused " ++ (x ++ (codes " " ++ (m ++ (codes ":" ++ (y ++ (codes ":" ++ (z ++ (codes " " ++ (w ++ codes "\n")))))))))
     regroup x y z m w = simp append_assoc
 
-pub returns-clause-ok : goal.returns-clause-ok
-returns-clause-ok g c =
-    let taken = g.W.Sink.taken in
-    subst (λ (l : List ℕ). OnOk c.write_pieces.result (Gains (taken c.args.sink.now) (taken c.write_pieces.new.sink) l))
+pub returns : goal.returns
+returns g c =
+    subst (λ (l : List ℕ). Writes g.W.Sink.taken g.W.Sink.failures c.args.sink.now c.write_pieces.new.sink l c.write_pieces.result)
     (line c.as_bytes.result.now c.as_bytes-2.result.now c.as_bytes-3.result.now c.args.module.now c.args.word.now c.args.code c.args.at.line c.args.at.column (c.as_bytes.ensures.value ∙ c.format.ensures.text) (c.as_bytes-2.ensures.value ∙ c.format-2.ensures.text)
     (c.as_bytes-3.ensures.value ∙ c.format-3.ensures.text))
-    c.write_pieces.ensures.ok
-
-pub returns-clause-err : goal.returns-clause-err
-returns-clause-err g c =
-    let taken = g.W.Sink.taken in
-    subst (λ (l : List ℕ). OnErr c.write_pieces.result (GainsFront (taken c.args.sink.now) (taken c.write_pieces.new.sink) l))
-    (line c.as_bytes.result.now c.as_bytes-2.result.now c.as_bytes-3.result.now c.args.module.now c.args.word.now c.args.code c.args.at.line c.args.at.column (c.as_bytes.ensures.value ∙ c.format.ensures.text) (c.as_bytes-2.ensures.value ∙ c.format-2.ensures.text)
-    (c.as_bytes-3.ensures.value ∙ c.format-3.ensures.text))
-    c.write_pieces.ensures.err
+    (record { ok = c.write_pieces.ensures.ok; err = c.write_pieces.ensures.err; failed = c.write_pieces.ensures.failed; counted = c.write_pieces.ensures.counted })

@@ -1,29 +1,24 @@
-use Rattle.std.proofs.Common.{◌++◌, false, List, ℕ, length, refl, subst}
-use Rattle.cil_stream.specs.Device.{Gains, GainsFront}
+use Rattle.std.proofs.Common.{◌++◌, false, List, ℕ, Ok, Err, length, refl, subst}
 use Rattle.cil_store_specs.specs.Store.{Store}
-use Rattle.cil_store_specs.specs.Script.{by_dump, dump_edits, dump_text, end_line}
-use Rattle.cil_stream.proofs.Gaining.{on_err}
+use Rattle.cil_store_specs.specs.Script.{asks_dump, by_dump, dump_edits, dump_text, end_line}
+use Rattle.cil_program.specs.Reply.{Writes}
+use Rattle.cil_program.proofs.SessionLemmas.{tries-ok, tries-err}
 use Rattle.cil_program.proofs.script.session.answer_dump.Goals as goal
 
 -- the script that builds a store, and the number of its commands
 abbrev told : Store → List ℕ
 told store = dump_text store ++ end_line (length (dump_edits store))
 
-pub returns-clause-ok : goal.returns-clause-ok
-returns-clause-ok g c =
-    let taken = g.W.Sink.taken in
-    record {
-      answer = record { bytes = told (g.C.Compiled.store c.args.engine.now); refuses = false };
-      answers = by_dump refl refl refl;
-      written = subst (λ s. Gains (taken c.args.sink.now) (taken c.write_dump.new.sink) (told s)) c.store.ensures c.in_ok-write_dump.ensures.ok;
-      is = refl;
-    }
+pub returns : goal.returns
+returns g c =
+    let W = g.W.Sink in
+    let store = g.C.Compiled.store c.args.engine.now in
+    tries-ok W.taken W.failures c.args.sink.now c.write_dump.new.sink store store asks_dump (record { bytes = told store; refuses = false }) _ (by_dump refl refl refl)
+    (subst (λ s. Writes W.taken W.failures c.args.sink.now c.write_dump.new.sink (told s) (Ok _)) c.store.ensures c.in_ok-write_dump.ensures)
 
-pub returns-in_err-write_dump-clause-err : goal.returns-in_err-write_dump-clause-err
-returns-in_err-write_dump-clause-err g c =
-    let taken = g.W.Sink.taken in
-    on_err c.from_residual.result (record {
-      answer = record { bytes = told (g.C.Compiled.store c.args.engine.now); refuses = false };
-      answers = by_dump refl refl refl;
-      written = subst (λ s. GainsFront (taken c.args.sink.now) (taken c.write_dump.new.sink) (told s)) c.store.ensures c.in_err-write_dump.ensures.err;
-    })
+pub returns-in_err-write_dump : goal.returns-in_err-write_dump
+returns-in_err-write_dump g c =
+    let W = g.W.Sink in
+    let store = g.C.Compiled.store c.args.engine.now in
+    tries-err W.taken W.failures c.args.sink.now c.write_dump.new.sink store store asks_dump (record { bytes = told store; refuses = false }) _ c.from_residual.result c.from_residual.ensures.0 (by_dump refl refl refl)
+    (subst (λ s. Writes W.taken W.failures c.args.sink.now c.write_dump.new.sink (told s) (Err _)) c.store.ensures c.in_err-write_dump.ensures)

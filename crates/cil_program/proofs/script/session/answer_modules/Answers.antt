@@ -1,30 +1,25 @@
-use Rattle.std.proofs.Common.{◌++◌, false, List, ℕ, length, refl, subst}
-use Rattle.cil_stream.specs.Device.{Gains, GainsFront}
+use Rattle.std.proofs.Common.{◌++◌, false, List, ℕ, Ok, Err, length, refl, subst}
 use Rattle.cil_store_specs.specs.Store.{Store}
 use Rattle.cil_store_specs.specs.StoreReport.{modules_text}
-use Rattle.cil_store_specs.specs.Script.{by_modules, end_line}
-use Rattle.cil_stream.proofs.Gaining.{on_err}
+use Rattle.cil_store_specs.specs.Script.{asks_modules, by_modules, end_line}
+use Rattle.cil_program.specs.Reply.{Writes}
+use Rattle.cil_program.proofs.SessionLemmas.{tries-ok, tries-err}
 use Rattle.cil_program.proofs.script.session.answer_modules.Goals as goal
 
 -- the report of a store
 abbrev report : Store → List ℕ
 report store = modules_text store ++ end_line (length store.entries)
 
-pub returns-clause-ok : goal.returns-clause-ok
-returns-clause-ok g c =
-    let taken = g.W.Sink.taken in
-    record {
-      answer = record { bytes = report (g.C.Compiled.store c.args.engine.now); refuses = false };
-      answers = by_modules refl refl refl;
-      written = subst (λ s. Gains (taken c.args.sink.now) (taken c.write_modules.new.sink) (report s)) c.store.ensures c.in_ok-write_modules.ensures.ok;
-      is = refl;
-    }
+pub returns : goal.returns
+returns g c =
+    let W = g.W.Sink in
+    let store = g.C.Compiled.store c.args.engine.now in
+    tries-ok W.taken W.failures c.args.sink.now c.write_modules.new.sink store store asks_modules (record { bytes = report store; refuses = false }) _ (by_modules refl refl refl)
+    (subst (λ s. Writes W.taken W.failures c.args.sink.now c.write_modules.new.sink (report s) (Ok _)) c.store.ensures c.in_ok-write_modules.ensures)
 
-pub returns-in_err-write_modules-clause-err : goal.returns-in_err-write_modules-clause-err
-returns-in_err-write_modules-clause-err g c =
-    let taken = g.W.Sink.taken in
-    on_err c.from_residual.result (record {
-      answer = record { bytes = report (g.C.Compiled.store c.args.engine.now); refuses = false };
-      answers = by_modules refl refl refl;
-      written = subst (λ s. GainsFront (taken c.args.sink.now) (taken c.write_modules.new.sink) (report s)) c.store.ensures c.in_err-write_modules.ensures.err;
-    })
+pub returns-in_err-write_modules : goal.returns-in_err-write_modules
+returns-in_err-write_modules g c =
+    let W = g.W.Sink in
+    let store = g.C.Compiled.store c.args.engine.now in
+    tries-err W.taken W.failures c.args.sink.now c.write_modules.new.sink store store asks_modules (record { bytes = report store; refuses = false }) _ c.from_residual.result c.from_residual.ensures.0 (by_modules refl refl refl)
+    (subst (λ s. Writes W.taken W.failures c.args.sink.now c.write_modules.new.sink (report s) (Err _)) c.store.ensures c.in_err-write_modules.ensures)

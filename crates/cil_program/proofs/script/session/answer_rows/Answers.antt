@@ -1,66 +1,66 @@
-use Rattle.std.proofs.Common.{Err, ◌≡◌, ◌++◌, List, ℕ, Option, length, flat_map, refl, ap, subst}
-use Rattle.cil_stream.specs.Device.{Gains, GainsFront}
+use Rattle.std.proofs.Common.{Err, ◌≡◌, List, length, flat_map, refl, ap}
+use Rattle.cil_stream.proofs.Gaining.{front-longer}
 use Rattle.cil_specs.specs.Report.{Row, row_line}
+use Rattle.cil_store_specs.specs.Store.{Store}
 use Rattle.cil_store_specs.specs.Next.{for_memory}
-use Rattle.cil_store_specs.specs.Run.{ask_rows, refused, listed, lists, out_of_memory}
-use Rattle.cil_store_specs.specs.Script.{answer_of, by_engine, end_line, refusal_line, reply_text}
-use Rattle.cil_stream.proofs.Gaining.{gains-both, front-longer, on_err}
-use Rattle.cil_program.proofs.ReplyLemmas.{report-cut}
+use Rattle.cil_store_specs.specs.Run.{AreRowsOf, ask_rows, refused, listed, lists, out_of_memory}
+use Rattle.cil_store_specs.specs.Script.{Answers, asks_rules, answer_of, by_engine, end_line, refusal_line}
+use Rattle.cil_program.specs.Reply.{Writes}
+use Rattle.cil_program.proofs.ReplyLemmas.{writes-report, writes-later}
+use Rattle.cil_program.proofs.SessionLemmas.{tries-ok, tries-err}
 use Rattle.cil_program.proofs.script.session.answer_rows.Goals as goal
 
--- the rows and then the last line are the answer
-listing : (old mid new : Option (List ℕ)) (rows : List Row) (n : ℕ) → n ≡ length rows → Gains old mid (flat_map row_line rows) → Gains mid new (end_line n) → Gains old new (reply_text (listed rows))
-listing old mid new rows n is a b = subst (Gains old new) (ap (λ k. flat_map row_line rows ++ end_line k) is) (gains-both old mid new (flat_map row_line rows) (end_line n) a b)
+answers : (store : Store) (rows : List Row) → AreRowsOf store rows → Answers store asks_rules (answer_of (listed rows)) store
+answers store rows are = by_engine ask_rows (listed rows) refl (lists rows refl refl are refl) refl
 
-pub returns-in_ok-write_end-in-Ok-clause-ok : goal.returns-in_ok-write_end-in-Ok-clause-ok
-returns-in_ok-write_end-in-Ok-clause-ok g c =
-    let taken = g.W.Sink.taken in
+no-memory : (store : Store) → Answers store asks_rules (answer_of (refused for_memory)) store
+no-memory store = by_engine ask_rows (refused for_memory) refl (out_of_memory refl refl) refl
+
+pub returns-in_ok-write_end-in-Ok : goal.returns-in_ok-write_end-in-Ok
+returns-in_ok-write_end-in-Ok g c =
+    let W = g.W.Sink in
+    let store = g.C.Compiled.store c.args.engine.now in
     let some = c.in-Ok.ensures.ok in
-    record {
-      answer = answer_of (listed some.0);
-      answers = by_engine ask_rows (listed some.0) refl (lists some.0 refl refl some.1 refl) refl;
-      written = listing (taken c.args.sink.now) (taken c.write_listing.new.sink) (taken c.write_end.new.sink) some.0 c.in-Ok.rows some.2 some.3 c.in_ok-write_end-in-Ok.ensures.ok;
-      is = refl;
-    }
+    tries-ok W.taken W.failures c.args.sink.now c.write_end.new.sink store store asks_rules (answer_of (listed some.0)) _ (answers store some.0 some.1)
+    (writes-report W.taken W.failures c.args.sink.now c.write_listing.new.sink c.write_end.new.sink (flat_map row_line some.0) c.in-Ok.rows (length some.0) _ some.2 some.3 c.in-Ok.ensures.counted c.in_ok-write_end-in-Ok.ensures)
 
-pub returns-in_ok-write_no_memory-in-Err-Memory-clause-ok : goal.returns-in_ok-write_no_memory-in-Err-Memory-clause-ok
-returns-in_ok-write_no_memory-in-Err-Memory-clause-ok g c =
-    let taken = g.W.Sink.taken in
-    let same : taken c.write_listing.new.sink ≡ taken c.args.sink.now = c.in-Err-Memory.ensures.memory (ap Err c.in-Err-Memory.field-0-is) in
-    record {
-      answer = answer_of (refused for_memory);
-      answers = by_engine ask_rows (refused for_memory) refl (out_of_memory refl refl) refl;
-      written = subst (λ t. Gains t (taken c.write_no_memory.new.sink) (refusal_line for_memory)) same c.in_ok-write_no_memory-in-Err-Memory.ensures.ok;
-      is = refl;
-    }
-
-pub returns-in_err-write_end-in-Ok-clause-err : goal.returns-in_err-write_end-in-Ok-clause-err
-returns-in_err-write_end-in-Ok-clause-err g c =
-    let taken = g.W.Sink.taken in
+pub returns-in_err-write_end-in-Ok : goal.returns-in_err-write_end-in-Ok
+returns-in_err-write_end-in-Ok g c =
+    let W = g.W.Sink in
+    let store = g.C.Compiled.store c.args.engine.now in
     let some = c.in-Ok.ensures.ok in
-    on_err c.from_residual.result (record {
-      answer = answer_of (listed some.0);
-      answers = by_engine ask_rows (listed some.0) refl (lists some.0 refl refl some.1 refl) refl;
-      written = report-cut (taken c.args.sink.now) (taken c.write_listing.new.sink) (taken c.write_end.new.sink) (flat_map row_line some.0) c.in-Ok.rows (length some.0) some.2 some.3
-          c.in_err-write_end-in-Ok.ensures.err;
-    })
+    tries-err W.taken W.failures c.args.sink.now c.write_end.new.sink store store asks_rules (answer_of (listed some.0)) _ c.from_residual.result c.from_residual.ensures.0 (answers store some.0 some.1)
+    (writes-report W.taken W.failures c.args.sink.now c.write_listing.new.sink c.write_end.new.sink (flat_map row_line some.0) c.in-Ok.rows (length some.0) _ some.2 some.3 c.in-Ok.ensures.counted c.in_err-write_end-in-Ok.ensures)
 
-pub returns-in_err-write_no_memory-in-Err-Memory-clause-err : goal.returns-in_err-write_no_memory-in-Err-Memory-clause-err
-returns-in_err-write_no_memory-in-Err-Memory-clause-err g c =
-    let taken = g.W.Sink.taken in
-    let same : taken c.write_listing.new.sink ≡ taken c.args.sink.now = c.in-Err-Memory.ensures.memory (ap Err c.in-Err-Memory.field-0-is) in
-    on_err c.from_residual-in_err-write_no_memory-in-Err-Memory.result (record {
-      answer = answer_of (refused for_memory);
-      answers = by_engine ask_rows (refused for_memory) refl (out_of_memory refl refl) refl;
-      written = subst (λ t. GainsFront t (taken c.write_no_memory.new.sink) (refusal_line for_memory)) same c.in_err-write_no_memory-in-Err-Memory.ensures.err;
-    })
+pub returns-in_ok-write_no_memory-in-Err-Memory : goal.returns-in_ok-write_no_memory-in-Err-Memory
+returns-in_ok-write_no_memory-in-Err-Memory g c =
+    let W = g.W.Sink in
+    let store = g.C.Compiled.store c.args.engine.now in
+    let same : W.taken c.write_listing.new.sink ≡ W.taken c.args.sink.now = c.in-Err-Memory.ensures.memory (ap Err c.in-Err-Memory.field-0-is) in
+    tries-ok W.taken W.failures c.args.sink.now c.write_no_memory.new.sink store store asks_rules (answer_of (refused for_memory)) _ (no-memory store)
+    (writes-later W.taken W.failures c.args.sink.now c.write_listing.new.sink c.write_no_memory.new.sink (refusal_line for_memory) _ same c.in-Err-Memory.ensures.counted c.in_ok-write_no_memory-in-Err-Memory.ensures)
 
-pub returns-in-Err-Sink-clause-err : goal.returns-in-Err-Sink-clause-err
-returns-in-Err-Sink-clause-err g c =
-    let taken = g.W.Sink.taken in
+pub returns-in_err-write_no_memory-in-Err-Memory : goal.returns-in_err-write_no_memory-in-Err-Memory
+returns-in_err-write_no_memory-in-Err-Memory g c =
+    let W = g.W.Sink in
+    let store = g.C.Compiled.store c.args.engine.now in
+    let same : W.taken c.write_listing.new.sink ≡ W.taken c.args.sink.now = c.in-Err-Memory.ensures.memory (ap Err c.in-Err-Memory.field-0-is) in
+    let r = c.from_residual-in_err-write_no_memory-in-Err-Memory in
+    tries-err W.taken W.failures c.args.sink.now c.write_no_memory.new.sink store store asks_rules (answer_of (refused for_memory)) _ r.result r.ensures.0 (no-memory store)
+    (writes-later W.taken W.failures c.args.sink.now c.write_listing.new.sink c.write_no_memory.new.sink (refusal_line for_memory) _ same c.in-Err-Memory.ensures.counted c.in_err-write_no_memory-in-Err-Memory.ensures)
+
+pub returns-in-Err-Sink : goal.returns-in-Err-Sink
+returns-in-Err-Sink g c =
+    let W = g.W.Sink in
+    let store = g.C.Compiled.store c.args.engine.now in
     let some = c.in-Err-Sink.ensures.err in
+    let text = flat_map row_line some.0 in
+    let writes : Writes W.taken W.failures c.args.sink.now c.write_listing.new.sink (answer_of (listed some.0)).bytes (Err record {}) =
     record {
-      answer = answer_of (listed some.0);
-      answers = by_engine ask_rows (listed some.0) refl (lists some.0 refl refl some.1 refl) refl;
-      written = front-longer (taken c.args.sink.now) (taken c.write_listing.new.sink) (flat_map row_line some.0) (end_line (length some.0)) some.2;
+      ok = tt;
+      err = front-longer (W.taken c.args.sink.now) (W.taken c.write_listing.new.sink) text (end_line (length some.0)) some.2;
+      failed = c.in-Err-Sink.ensures.failed (ap Err c.in-Err-Sink.field-0-is);
+      counted = c.in-Err-Sink.ensures.counted;
     }
+    in
+    tries-err W.taken W.failures c.args.sink.now c.write_listing.new.sink store store asks_rules (answer_of (listed some.0)) _ (Err _) refl (answers store some.0 some.1) writes
