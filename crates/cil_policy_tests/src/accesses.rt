@@ -1,7 +1,10 @@
 //! The accesses of small policies, their changes and their rows by place.
 
+ghost use Rattle.cil_tables.specs.Tables.{AreTables};
+
 use crate::policies::resolved;
 use crate::shown::{shown, shown_if};
+use cil_resolve::Resolved;
 use cil_rules::{Atom, Changes, Row, Rows, Table, write_row_line};
 use cil_sets::Members;
 use cil_stream::MemorySink;
@@ -10,12 +13,24 @@ use cil_text::RuleKind;
 use std::alloc::Global;
 use std::process::Abort;
 
+// The tables of a policy.
+fn tables(rt: &impl Abort, alloc: Global, policy: &Resolved) -> Tables
+    ensures { AreTables policy.now result }
+{
+    let members = Members::plain(alloc, policy).expect(rt, "memory");
+    Tables::plain(alloc, policy, &members).expect(rt, "memory")
+}
+
+// The accesses of a policy.
+fn table_of(rt: &impl Abort, alloc: Global, policy: &Resolved) -> Table {
+    let tables = tables(rt, alloc, policy);
+    Table::of(alloc, policy, &tables).expect(rt, "memory")
+}
+
 // The accesses of the policy of the modules m and n of two texts.
 fn table(rt: &impl Abort, alloc: Global, m: &[u8], n: &[u8]) -> Table {
     let policy = resolved(rt, alloc, m, n);
-    let members = Members::plain(alloc, &policy).expect(rt, "memory");
-    let tables = Tables::plain(alloc, &policy, &members).expect(rt, "memory");
-    Table::of(alloc, &policy, &tables).expect(rt, "memory")
+    table_of(rt, alloc, &policy)
 }
 
 // Texts of three accesses in two rows, and of two in one row.
@@ -97,20 +112,35 @@ const ONLY: [Access<'static>; 4] = [SEE_BACK, None, None, None];
 
 const NONE: [Access<'static>; 4] = [None; 4];
 
+fn are_three(table: &Table) -> bool {
+    !table.is_empty() && table.len() == 3 && accesses(table) == ALL
+}
+
+fn between(rt: &impl Abort, alloc: Global, old: &Table, new: &Table) -> Changes {
+    Changes::between(alloc, old, new).expect(rt, "memory")
+}
+
+// Whether all three accesses come where none was.
+fn have_come(rt: &impl Abort, alloc: Global, three: &Table) -> bool {
+    let none = Table::empty(alloc);
+    let changes = between(rt, alloc, &none, three);
+    none.is_empty() && are_changes(&changes, &ALL, &NONE, (3, 0))
+}
+
+// Whether one comes and two go.
+fn have_changed(rt: &impl Abort, alloc: Global, three: &Table, two: &Table) -> bool {
+    let changes = between(rt, alloc, three, two);
+    are_changes(&changes, &ONLY, &BOTH, (1, 2))
+}
+
 #[test]
 fn accesses_and_changes_by_place(rt: HostRuntime) {
     let alloc = rt.alloc();
-    let none = Table::empty(alloc);
     let three = table(&rt, alloc, START, THREE);
     let two = table(&rt, alloc, START, TWO);
-    let first = Changes::between(alloc, &none, &three).expect(&rt, "memory");
-    let second = Changes::between(alloc, &three, &two).expect(&rt, "memory");
-    let same = none.is_empty() && !three.is_empty() && three.len() == 3 && accesses(&three) == ALL;
-    assert!(rt; same);
-    let same = are_changes(&first, &ALL, &NONE, (3, 0));
-    assert!(rt; same);
-    let same = are_changes(&second, &ONLY, &BOTH, (1, 2));
-    assert!(rt; same);
+    let has_come = are_three(&three) && have_come(&rt, alloc, &three);
+    let has_changed = have_changed(&rt, alloc, &three, &two);
+    assert!(rt; has_come && has_changed);
 }
 
 // A row of the class p: its source, its target, how many permissions it has, and the first three of them.
