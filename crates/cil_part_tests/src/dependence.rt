@@ -1,8 +1,9 @@
 //! Small graphs, and a long chain.
 
-ghost use Rattle.std.specs.Prelude.{◌<◌, All, IsTrue};
+ghost use Rattle.std.specs.Prelude.{◌<◌, All, IsTrue, length};
 ghost use Rattle.cil_dependence.specs.Dependence.{IsDependence};
 ghost use Rattle.cil_dependence.specs.Graph.{AreNodes};
+ghost use Rattle.cil_dependence.specs.Items.{AreEachOnce};
 
 use cil_dependence::{Dependence, dependence, items_in_order};
 use std::alloc::Global;
@@ -23,7 +24,12 @@ fn are_nodes(graph: &[Vec<usize>]) -> bool
 fn are_below(nodes: &[usize], len: usize) -> bool
     ensures { IsTrue result → All (λ node. node < len) nodes.now }
 {
-    nodes.iter().all(|node| *node < len)
+    for node in nodes {
+        if *node >= len {
+            return false;
+        }
+    }
+    true
 }
 
 // The graph of these lists.
@@ -54,24 +60,36 @@ fn circle(rt: &impl Abort, alloc: Global, graph: &[Vec<usize>]) -> Option<usize>
     }
 }
 
-// The order of the nodes, and items in the order of their nodes.
-fn ordered(
-    rt: &impl Abort,
-    alloc: Global,
-    graph: &[Vec<usize>],
-    nodes: &[usize],
-) -> (Vec<usize>, Vec<usize>) {
+// The order of the nodes.
+fn order_of(rt: &impl Abort, alloc: Global, graph: &[Vec<usize>]) -> Vec<usize>
+    ensures { AreEachOnce (length result.items) result.items }
+{
     let Dependence::Order(order) = told(rt, alloc, graph) else {
         rt.abort()
     };
-    let have = are_below(nodes, order.len());
-    assert!(rt; have);
+    order
+}
+
+// Whether that is the order of the nodes, and items stand in the order of their nodes.
+fn is_ordered(rt: &impl Abort, alloc: Global, graph: &[Vec<usize>], ordered: &Ordered) -> bool {
+    let (_, want, nodes, want_items) = ordered;
+    let order = order_of(rt, alloc, graph);
+    if !are_below(nodes, order.len()) {
+        return false;
+    }
     let items = items_in_order(alloc, &order, nodes).expect(rt, "memory");
-    (order, items)
+    order.as_slice() == *want && items.as_slice() == *want_items
 }
 
 // Graphs without a circle, as the nodes that each node leads to, their order, the nodes of items, and the order of these.
-const ORDERS: &[(&[&[usize]], &[usize], &[usize], &[usize])] = &[
+type Ordered = (
+    &'static [&'static [usize]],
+    &'static [usize],
+    &'static [usize],
+    &'static [usize],
+);
+
+const ORDERS: &[Ordered] = &[
     (&[], &[], &[], &[]),
     (&[&[], &[], &[]], &[0, 1, 2], &[2, 1, 0], &[2, 1, 0]),
     (
@@ -94,11 +112,9 @@ const CIRCLES: &[(&[&[usize]], usize)] = &[
 
 #[test]
 fn small_graphs(rt: HostRuntime) {
-    for (lists, order, nodes, items) in ORDERS {
-        let graph = graph_of(&rt, rt.alloc(), lists);
-        let found = ordered(&rt, rt.alloc(), &graph, nodes);
-        let same = found.0.as_slice() == *order && found.1.as_slice() == *items;
-        assert!(&rt; same);
+    for ordered in ORDERS {
+        let graph = graph_of(&rt, rt.alloc(), ordered.0);
+        assert!(&rt; is_ordered(&rt, rt.alloc(), &graph, ordered));
     }
     for (lists, node) in CIRCLES {
         let graph = graph_of(&rt, rt.alloc(), lists);
@@ -125,7 +141,7 @@ fn chain(rt: &impl Abort, alloc: Global, count: usize, ends: bool) -> Vec<Vec<us
 fn long_chains(rt: HostRuntime) {
     let count: usize = 100_000;
     let graph = chain(&rt, rt.alloc(), count, true);
-    let (order, _items) = ordered(&rt, rt.alloc(), &graph, &[]);
+    let order = order_of(&rt, rt.alloc(), &graph);
     assert!(&rt; order.len() == count && order.first() == Some(&(count - 1)));
     let graph = chain(&rt, rt.alloc(), count, false);
     assert!(&rt; circle(&rt, rt.alloc(), &graph) == Some(count - 1));

@@ -1,94 +1,82 @@
 //! Lines of counters whose growths are refused in turn.
 
+use crate::lines::{Step, wanted};
 use cil_lines::Line;
 use refusing::Refusing;
 use std::alloc::Global;
 use std::process::Abort;
 
-// Where to add 1: the targets of a word that its mask has.
-#[derive(Clone, Copy)]
-struct Added {
-    word: u32,
-    mask: u64,
-}
-
-fn at(word: u32, mask: u64) -> Added {
-    Added { word, mask }
-}
+const EACH: u64 = u64::MAX;
 
 // Words in front and far behind, counters up to 8, and entries enough to become dense.
-fn additions() -> [Added; 22] {
-    [
-        at(0, 0b1111),
-        at(0, 0b1110),
-        at(30, u64::MAX),
-        at(30, 1 << 63),
-        at(30, 1 << 63),
-        at(30, 1 << 63),
-        at(20, 7),
-        at(0, 0b1100),
-        at(20, 7),
-        at(40, 3),
-        at(25, 1),
-        at(35, 1),
-        at(30, u64::MAX),
-        at(28, 5),
-        at(22, 1 << 63),
-        at(24, 1),
-        at(32, 1),
-        at(38, 1),
-        at(30, u64::MAX),
-        at(30, u64::MAX),
-        at(30, u64::MAX),
-        at(50, 9),
-    ]
-}
+const ADDITIONS: &[Step] = &[
+    (0, 0b1111, 1),
+    (0, 0b1110, 1),
+    (30, EACH, 1),
+    (30, 1 << 63, 1),
+    (30, 1 << 63, 1),
+    (30, 1 << 63, 1),
+    (20, 7, 1),
+    (0, 0b1100, 1),
+    (20, 7, 1),
+    (40, 3, 1),
+    (25, 1, 1),
+    (35, 1, 1),
+    (30, EACH, 1),
+    (28, 5, 1),
+    (22, 1 << 63, 1),
+    (24, 1, 1),
+    (32, 1, 1),
+    (38, 1, 1),
+    (30, EACH, 1),
+    (30, EACH, 1),
+    (30, EACH, 1),
+    (50, 9, 1),
+];
 
 // The targets up to here are looked at.
 const TARGETS: usize = 64 * 52;
 
-// How many of the first additions add to a target.
-fn wanted(all: &[Added], first: usize, target: usize) -> u64 {
-    let mut count: u64 = 0;
-    for added in all.iter().take(first) {
-        if added.word as usize == target / 64 && (added.mask >> (target % 64)) & 1 == 1 {
-            count = count.saturating_add(1);
-        }
-    }
-    count
-}
-
-fn assert_counts(rt: &impl Abort, line: &Line<&Refusing<Global>>, all: &[Added], first: usize) {
+fn assert_counts(rt: &impl Abort, line: &Line<&Refusing<Global>>, first: &[Step]) {
     for target in 0..TARGETS {
-        assert!(rt; line.count(target) == wanted(all, first, target));
+        assert!(rt; line.count(target) == wanted(first, target));
     }
 }
 
-// Adds with the nth growth refused. A refused addition leaves each counter as it was, and succeeds when asked again.
-// Says whether any was refused.
-fn was_refused(rt: &impl Abort, alloc: Global, all: &[Added], nth: u64) -> bool {
+// Makes an addition behind others. Where it is refused, it leaves each counter as it was, and succeeds when asked again.
+fn add<'h>(
+    rt: &impl Abort,
+    heap: &'h Refusing<Global>,
+    line: &mut Line<&'h Refusing<Global>>,
+    first: &[Step],
+    added: &Step,
+) {
+    let (word, mask, _) = *added;
+    let before = heap.refused();
+    if line.add(heap, word as usize, mask).is_err() {
+        assert!(rt; heap.refused() > before);
+        assert_counts(rt, line, first);
+        line.add(heap, word as usize, mask).expect(rt, "memory");
+    }
+}
+
+// Adds with the nth growth refused, and says whether any was refused.
+fn was_refused(rt: &impl Abort, alloc: Global, nth: u64) -> bool {
     let heap = Refusing::new(alloc);
     let mut line = Line::new(&heap);
     heap.refuse(nth);
-    for (n, added) in all.iter().enumerate() {
-        let word = added.word as usize;
-        let before = heap.refused();
-        if line.add(&heap, word, added.mask).is_err() {
-            assert!(rt; heap.refused() > before);
-            assert_counts(rt, &line, all, n);
-            line.add(&heap, word, added.mask).expect(rt, "memory");
-        }
+    for (n, added) in ADDITIONS.iter().enumerate() {
+        add(rt, &heap, &mut line, &ADDITIONS[..n], added);
     }
-    assert_counts(rt, &line, all, all.len());
+    assert_counts(rt, &line, ADDITIONS);
     heap.refused() > 0
 }
 
 #[test]
 fn each_growth_of_a_line(rt: HostRuntime) {
-    let all = additions();
     let mut growths = 0;
     for nth in 1..100u64 {
-        if was_refused(&rt, rt.alloc(), &all, nth) {
+        if was_refused(&rt, rt.alloc(), nth) {
             assert!(&rt; growths == nth - 1);
             growths = nth;
         }

@@ -4,8 +4,8 @@ use cil_lines::Line;
 use std::alloc::Global;
 use std::process::Abort;
 
-// Where to add 1 how often: a word, its targets that a mask has, and how many times. Where it is never, room is made for it.
-type Step = (u32, u64, u32);
+/// Where to add 1 how often: a word, its targets that a mask has, and how many times. Where it is never, room is made for it.
+pub type Step = (u32, u64, u32);
 
 const ALL: u64 = u64::MAX;
 
@@ -31,8 +31,8 @@ fn line_of(rt: &impl Abort, alloc: Global, steps: &[Step]) -> Line {
     line
 }
 
-// How often the steps add to a target.
-fn wanted(steps: &[Step], target: usize) -> u64 {
+/// How often the steps add to a target.
+pub fn wanted(steps: &[Step], target: usize) -> u64 {
     let mut count: u64 = 0;
     for (word, mask, times) in steps {
         if *word as usize == target / 64 && (*mask >> (target % 64)) & 1 == 1 {
@@ -162,36 +162,51 @@ const STEPS: &[(&[Step], u32)] = &[
     ),
 ];
 
+// Asserts that a line counts what these steps add, all of it in words below one.
+fn assert_steps(rt: &impl Abort, alloc: Global, steps: &[Step], words: u32) {
+    let line = line_of(rt, alloc, steps);
+    assert_line(rt, &line, steps, words);
+    assert!(rt; line.next_present_word(words as usize).is_none());
+}
+
 // After each number of steps.
 #[test]
 fn lines_count_what_is_added(rt: HostRuntime) {
     for (steps, words) in STEPS {
         for n in 0..=steps.len() {
-            let line = line_of(&rt, rt.alloc(), &steps[..n]);
-            assert_line(&rt, &line, &steps[..n], *words);
-            assert!(&rt; line.next_present_word(*words as usize).is_none());
+            assert_steps(&rt, rt.alloc(), &steps[..n], *words);
         }
     }
 }
 
-// Words that rise, then words that fall.
-fn sweep(rt: &impl Abort, alloc: Global, rises: bool, falls: bool) -> Vec<Step> {
-    let mut steps = Vec::new(alloc);
-    for i in 0..70u32 {
-        if rises {
-            steps.push((i, 1 << (i % 64), 1)).expect(rt, "memory");
-        }
+// The first words that rise, then those that fall.
+const fn swept(i: u32) -> Step {
+    if i < 70 {
+        (i, 1 << (i % 64), 1)
+    } else {
+        (139_u32.saturating_sub(i), 3 << (i % 70 % 32), 1)
     }
-    for i in 0..70u32 {
-        if falls {
-            steps.push((69 - i, 3 << (i % 32), 1)).expect(rt, "memory");
-        }
+}
+
+// The steps of a sweep from one to another.
+fn sweep(rt: &impl Abort, alloc: Global, from: u32, to: u32) -> Vec<Step> {
+    let mut steps = Vec::new(alloc);
+    for i in from..to {
+        steps.push(swept(i)).expect(rt, "memory");
     }
     steps
 }
 
 // Steps; a target with its counter; and a word with its targets, those of them that are counted once, and the first word from it on.
-const ASKED: &[(&[Step], usize, u64, usize, (u64, u64, Option<usize>))] = &[
+type Asked = (
+    &'static [Step],
+    usize,
+    u64,
+    usize,
+    (u64, u64, Option<usize>),
+);
+
+const ASKED: &[Asked] = &[
     (&[], 0, 0, 0, (0, 0, None)),
     (&[], usize::MAX, 0, usize::MAX, (0, 0, None)),
     (&FAR, 64 * LAST + 1, 1, 8, (0, 0, Some(LAST))),
@@ -209,20 +224,23 @@ const ASKED: &[(&[Step], usize, u64, usize, (u64, u64, Option<usize>))] = &[
 
 const FAR: [Step; 2] = [(u32::MAX, 2, 1), (7, 1, 1)];
 
+// Whether that is so of the line after the steps.
+fn is_asked(rt: &impl Abort, alloc: Global, asked: &Asked) -> bool {
+    let (steps, target, count, word, want) = asked;
+    let line = line_of(rt, alloc, steps);
+    let next = line.next_present_word(*word);
+    let found = (line.present(*word), line.single(*word), next);
+    line.count(*target) == *count && found == *want
+}
+
+// Words that rise, words that fall, and both.
 #[test]
 fn long_lines(rt: HostRuntime) {
-    for (rises, falls) in [(true, false), (false, true), (true, true)] {
-        let steps = sweep(&rt, rt.alloc(), rises, falls);
-        let line = line_of(&rt, rt.alloc(), &steps);
-        assert_line(&rt, &line, &steps, 72);
-        assert!(&rt; line.next_present_word(72).is_none());
+    for (from, to) in [(0, 70), (70, 140), (0, 140)] {
+        let steps = sweep(&rt, rt.alloc(), from, to);
+        assert_steps(&rt, rt.alloc(), &steps, 72);
     }
-    for (steps, target, count, word, want) in ASKED {
-        let line = line_of(&rt, rt.alloc(), steps);
-        assert!(&rt; line.count(*target) == *count);
-        let next = line.next_present_word(*word);
-        let found = (line.present(*word), line.single(*word), next);
-        let same = found == *want;
-        assert!(&rt; same);
+    for asked in ASKED {
+        assert!(&rt; is_asked(&rt, rt.alloc(), asked));
     }
 }
