@@ -4,7 +4,7 @@ ghost use Rattle.std.specs.Prelude.{◌≡◌, true};
 ghost use Rattle.cil_lines.specs.Limit.{CanLower};
 ghost use Rattle.cil_keyed_lines.specs.Keyed.{count_now};
 
-use crate::recorded::{Changed, listed};
+use crate::recorded::{Changed, are_changes};
 use cil_keyed_lines::{KeyedLines, SymbolKey};
 use std::alloc::Global;
 use std::process::Abort;
@@ -81,35 +81,20 @@ fn take(rt: &impl Abort, alloc: Global, lines: &mut KeyedLines, step: Step) {
     }
 }
 
-// The lines after these steps.
-fn lines_of(rt: &impl Abort, alloc: Global, steps: &[Step]) -> KeyedLines {
+// The lines after the first of these steps.
+fn lines_of(rt: &impl Abort, alloc: Global, steps: &[Step], n: usize) -> KeyedLines {
+    assert!(rt; n <= steps.len());
     let mut lines = KeyedLines::new(alloc);
-    for step in steps {
+    for step in &steps[..n] {
         take(rt, alloc, &mut lines, *step);
     }
     lines
 }
 
 // The counters of the first four targets of a word and of its last, its targets, and the first word of the line from this one on.
-type Counted = ([u64; 5], u64, Option<usize>);
+type Counted = (&'static [u64], u64, Option<usize>);
 
-const NOTHING: Counted = ([0; 5], 0, None);
-
-// What is counted in a word of the line of a key.
-fn word_of(lines: &KeyedLines, key: SymbolKey, word: u32) -> Counted {
-    let first = 64 * word as usize;
-    let counts = [
-        lines.count(key, first),
-        lines.count(key, first + 1),
-        lines.count(key, first + 2),
-        lines.count(key, first + 3),
-        lines.count(key, first + 63),
-    ];
-    let place = lines.find(key).unwrap_or(lines.len());
-    let word = word as usize;
-    let next = lines.next_present_word(place, word);
-    (counts, lines.present(place, word), next)
-}
+const NOTHING: Counted = (&[0, 0, 0, 0, 0], 0, None);
 
 // Two rules give an access.
 const TWO: &[Step] = &[
@@ -142,7 +127,15 @@ const KEPT: &[Step] = &[
 ];
 
 // The first steps of some, the keys in their order, whether steps are pending, and what they changed.
-const STEPS: &[(&[Step], usize, &[SymbolKey], bool, &[Changed])] = &[
+type Stepped = (
+    &'static [Step],
+    usize,
+    &'static [SymbolKey],
+    bool,
+    &'static [Changed],
+);
+
+const STEPS: &[Stepped] = &[
     (&[], 0, &[], false, &[]),
     // A shift to what was is no step.
     (&[Shift(READ, 0, 0b101, 0b101)], 1, &[], false, &[]),
@@ -162,60 +155,83 @@ const STEPS: &[(&[Step], usize, &[SymbolKey], bool, &[Changed])] = &[
 ];
 
 // The first steps of some, a key and a word, and what is counted there.
-const WORDS: &[(&[Step], usize, SymbolKey, u32, Counted)] = &[
+type Word = (&'static [Step], usize, SymbolKey, usize, Counted);
+
+const WORDS: &[Word] = &[
     (&[], 0, READ, 0, NOTHING),
     (&[Shift(READ, 0, 0b101, 0b101)], 1, READ, 0, NOTHING),
-    (TWO, 2, READ, 0, ([1, 2, 1, 0, 0], 0b0111, Some(0))),
-    (TWO, 4, READ, 0, ([1, 1, 0, 0, 0], 0b0011, Some(0))),
-    (TWO, 5, READ, 0, ([1, 0, 0, 1, 0], 0b1001, Some(0))),
-    (TWO, 6, READ, 0, ([1, 2, 1, 0, 0], 0b0111, Some(0))),
-    (THREE, 6, READ, 2, ([1, 0, 0, 0, 0], 0b1, Some(2))),
-    (THREE, 6, WRITE, 2, ([1, 1, 0, 0, 0], 0b11, Some(2))),
-    (THREE, 6, OTHER_READ, 0, ([0; 5], 0, Some(3))),
-    (THREE, 6, OTHER_READ, 3, ([0, 0, 1, 0, 0], 0b100, Some(3))),
-    (THREE, 6, OTHER_READ, 4, ([0; 5], 0, Some(90))),
+    (TWO, 2, READ, 0, (&[1, 2, 1, 0, 0], 0b0111, Some(0))),
+    (TWO, 4, READ, 0, (&[1, 1, 0, 0, 0], 0b0011, Some(0))),
+    (TWO, 5, READ, 0, (&[1, 0, 0, 1, 0], 0b1001, Some(0))),
+    (TWO, 6, READ, 0, (&[1, 2, 1, 0, 0], 0b0111, Some(0))),
+    (THREE, 6, READ, 2, (&[1, 0, 0, 0, 0], 0b1, Some(2))),
+    (THREE, 6, WRITE, 2, (&[1, 1, 0, 0, 0], 0b11, Some(2))),
+    (THREE, 6, OTHER_READ, 0, (&[0, 0, 0, 0, 0], 0, Some(3))),
+    (THREE, 6, OTHER_READ, 3, (&[0, 0, 1, 0, 0], 0b100, Some(3))),
+    (THREE, 6, OTHER_READ, 4, (&[0, 0, 0, 0, 0], 0, Some(90))),
     (
         THREE,
         6,
         OTHER_READ,
         90,
-        ([1, 1, 1, 1, 0], ALL >> 1, Some(90)),
+        (&[1, 1, 1, 1, 0], ALL >> 1, Some(90)),
     ),
     (THREE, 7, WRITE, 2, NOTHING),
-    (THREE, 7, OTHER_READ, 3, ([0; 5], 0, Some(90))),
-    (THREE, 7, OTHER_READ, 90, ([1; 5], ALL, Some(90))),
-    (KEPT, 5, READ, 1, ([0, 1, 0, 0, 0], 0b10, Some(1))),
+    (THREE, 7, OTHER_READ, 3, (&[0, 0, 0, 0, 0], 0, Some(90))),
+    (THREE, 7, OTHER_READ, 90, (&[1, 1, 1, 1, 1], ALL, Some(90))),
+    (KEPT, 5, READ, 1, (&[0, 1, 0, 0, 0], 0b10, Some(1))),
 ];
 
-// Asserts that these are the keys, in their order.
-fn assert_keys(rt: &impl Abort, lines: &KeyedLines, keys: &[SymbolKey]) {
-    assert!(rt; lines.len() == keys.len() && lines.is_empty() == keys.is_empty());
+// Whether these are the keys, in their order.
+fn are_keys(lines: &KeyedLines, keys: &[SymbolKey]) -> bool {
     for place in 0..keys.len() {
-        let at = lines.at(place) == Some(keys[place]);
-        assert!(rt; at && lines.find(keys[place]) == Some(place));
+        let key = keys[place];
+        if lines.at(place) != Some(key) || lines.find(key) != Some(place) {
+            return false;
+        }
     }
-    assert!(rt; lines.at(keys.len()).is_none());
+    let len = lines.len();
+    len == keys.len() && lines.is_empty() == (len == 0) && lines.at(len).is_none()
+}
+
+// Whether that is told of the lines after the steps.
+fn is_stepped(rt: &impl Abort, alloc: Global, stepped: &Stepped) -> bool {
+    let (steps, n, keys, is_pending, changes) = stepped;
+    let lines = lines_of(rt, alloc, steps, *n);
+    let found = lines.changes(alloc).expect(rt, "memory");
+    let are_told = are_changes(&found, changes) & are_keys(&lines, keys);
+    are_told & (lines.is_pending() == *is_pending)
 }
 
 #[test]
 fn steps_of_keyed_lines(rt: HostRuntime) {
-    for (steps, n, keys, is_pending, changes) in STEPS {
-        assert!(&rt; *n <= steps.len());
-        let lines = lines_of(&rt, rt.alloc(), &steps[..*n]);
-        assert_keys(&rt, &lines, keys);
-        assert!(&rt; lines.is_pending() == *is_pending);
-        let found = lines.changes(rt.alloc()).expect(&rt, "memory");
-        assert!(&rt; listed(&rt, rt.alloc(), &found).as_slice() == *changes);
+    for stepped in STEPS {
+        assert!(&rt; is_stepped(&rt, rt.alloc(), stepped));
     }
+}
+
+// The first four targets of a word, and its last.
+const BITS: [usize; 5] = [0, 1, 2, 3, 63];
+
+// Whether that is counted in the word after the steps.
+fn is_counted(rt: &impl Abort, alloc: Global, counted: &Word) -> bool {
+    let (steps, n, key, word, (counts, present, next)) = counted;
+    let lines = lines_of(rt, alloc, steps, *n);
+    let first = word.saturating_mul(64);
+    for i in 0..BITS.len() {
+        let count = lines.count(*key, first.saturating_add(BITS[i]));
+        if counts.get(i) != Some(&count) {
+            return false;
+        }
+    }
+    let place = lines.find(*key).unwrap_or(lines.len());
+    lines.present(place, *word) == *present && lines.next_present_word(place, *word) == *next
 }
 
 #[test]
 fn words_of_keyed_lines(rt: HostRuntime) {
-    for (steps, n, key, word, want) in WORDS {
-        assert!(&rt; *n <= steps.len());
-        let lines = lines_of(&rt, rt.alloc(), &steps[..*n]);
-        let same = word_of(&lines, *key, *word) == *want;
-        assert!(&rt; same);
+    for counted in WORDS {
+        assert!(&rt; is_counted(&rt, rt.alloc(), counted));
     }
 }
 

@@ -9,14 +9,16 @@ const ALL: u64 = u64::MAX;
 /// A line and a word, the targets whose counters were 0 and are above 0, and those whose counters were above 0 and are 0.
 pub type Changed = (usize, usize, u64, u64);
 
-/// Changes as they are listed here.
-pub fn listed(rt: &impl Abort, alloc: Global, changes: &[Change]) -> Vec<Changed> {
-    let mut all = Vec::new(alloc);
-    for change in changes {
-        all.push((change.line, change.word, change.appeared, change.gone))
-            .expect(rt, "memory");
+/// Whether these are the changes, in their order.
+pub fn are_changes(changes: &[Change], want: &[Changed]) -> bool {
+    for i in 0..changes.len() {
+        let change = &changes[i];
+        let found = (change.line, change.word, change.appeared, change.gone);
+        if want.get(i) != Some(&found) {
+            return false;
+        }
     }
-    all
+    changes.len() == want.len()
 }
 
 // A step adds 1 to the counters of a line at the targets of a word that a mask has, or takes 1 away.
@@ -69,51 +71,35 @@ fn take(rt: &impl Abort, alloc: Global, lines: &mut RecordedLines, step: Step) {
     }
 }
 
-// Three lines after these steps.
-fn lines_of(rt: &impl Abort, alloc: Global, steps: &[Step]) -> RecordedLines {
+// Three lines after the first of these steps.
+fn lines_of(rt: &impl Abort, alloc: Global, steps: &[Step], n: usize) -> RecordedLines {
+    assert!(rt; n <= steps.len());
     let mut lines = RecordedLines::new(alloc);
     for _ in 0..3u32 {
         lines.put_in(alloc).expect(rt, "memory");
     }
-    for step in steps {
+    for step in &steps[..n] {
         take(rt, alloc, &mut lines, *step);
     }
     lines
 }
 
-// The steps, each by its line and word.
-fn places(rt: &impl Abort, alloc: Global, lines: &RecordedLines) -> Vec<(usize, usize)> {
-    let mut places = Vec::new(alloc);
+// Whether these are the steps, each by its line and word.
+fn are_places(lines: &RecordedLines, want: &[(usize, usize)]) -> bool {
     for step in 0..lines.steps() {
         let place = lines.place(step);
-        places.push((place.line, place.word)).expect(rt, "memory");
+        if want.get(step) != Some(&(place.line, place.word)) {
+            return false;
+        }
     }
-    places
+    lines.steps() == want.len()
 }
 
 // The counters of the first targets of a word, its targets whose counters are above 0 and those whose are 1, and the first word of the
 // line.
-type Counted = ([u64; 4], u64, u64, Option<usize>);
+type Counted = (&'static [u64], u64, u64, Option<usize>);
 
-const NOTHING: Counted = ([0; 4], 0, 0, None);
-
-// What is counted in a word of a line.
-fn word_of(lines: &RecordedLines, line: usize, word: u32) -> Counted {
-    let first = 64 * word as usize;
-    let counts = [
-        lines.count(line, first),
-        lines.count(line, first + 1),
-        lines.count(line, first + 2),
-        lines.count(line, first + 3),
-    ];
-    let word = word as usize;
-    (
-        counts,
-        lines.present(line, word),
-        lines.single(line, word),
-        lines.next_present_word(line, 0),
-    )
-}
+const NOTHING: Counted = (&[0, 0, 0, 0], 0, 0, None);
 
 // Steps that are kept, and some behind them.
 const KEPT: &[Step] = &[
@@ -151,7 +137,14 @@ const PLACED: &[Step] = &[
 ];
 
 // The first steps of some, what they changed, and where the steps were that `undo` would take back.
-const STEPS: &[(&[Step], usize, &[Changed], &[(usize, usize)])] = &[
+type Stepped = (
+    &'static [Step],
+    usize,
+    &'static [Changed],
+    &'static [(usize, usize)],
+);
+
+const STEPS: &[Stepped] = &[
     (&[], 0, &[], &[]),
     (&[Undo, Settle], 2, &[], &[]),
     (KEPT, 2, &[(1, 2, 0b0111, 0)], &[(1, 2), (1, 2)]),
@@ -190,34 +183,52 @@ const STEPS: &[(&[Step], usize, &[Changed], &[(usize, usize)])] = &[
 ];
 
 // The first steps of some, a line and a word, and what is counted there.
-const WORDS: &[(&[Step], usize, usize, u32, Counted)] = &[
+type Word = (&'static [Step], usize, usize, usize, Counted);
+
+const WORDS: &[Word] = &[
     (&[], 0, 1, 0, NOTHING),
     // There is no such line.
     (&[], 0, 7, 0, NOTHING),
-    (KEPT, 3, 1, 2, ([1, 2, 2, 0], 0b0111, 0b0001, Some(2))),
-    (KEPT, 6, 1, 2, ([0, 2, 3, 1], 0b1110, 0b1000, Some(2))),
-    (KEPT, 6, 2, 90, ([1, 1, 1, 1], ALL, ALL, Some(90))),
-    (KEPT, 7, 1, 2, ([1, 2, 2, 0], 0b0111, 0b0001, Some(2))),
+    (KEPT, 3, 1, 2, (&[1, 2, 2, 0], 0b0111, 0b0001, Some(2))),
+    (KEPT, 6, 1, 2, (&[0, 2, 3, 1], 0b1110, 0b1000, Some(2))),
+    (KEPT, 6, 2, 90, (&[1, 1, 1, 1], ALL, ALL, Some(90))),
+    (KEPT, 7, 1, 2, (&[1, 2, 2, 0], 0b0111, 0b0001, Some(2))),
     (KEPT, 7, 2, 90, NOTHING),
     // What is kept stays.
-    (KEPT_TWICE, 5, 0, 0, ([0, 1, 0, 0], 0b10, 0b10, Some(0))),
+    (KEPT_TWICE, 5, 0, 0, (&[0, 1, 0, 0], 0b10, 0b10, Some(0))),
 ];
+
+// Whether that is told of the lines after the steps.
+fn is_stepped(rt: &impl Abort, alloc: Global, stepped: &Stepped) -> bool {
+    let (steps, n, changes, places) = stepped;
+    let lines = lines_of(rt, alloc, steps, *n);
+    let found = lines.changes(alloc).expect(rt, "memory");
+    let are_told = are_changes(&found, changes) & are_places(&lines, places);
+    let is_pending = lines.is_pending() != places.is_empty();
+    are_told & is_pending & (lines.len() == 3) & !lines.is_empty()
+}
+
+// Whether that is counted in the word after the steps.
+fn is_counted(rt: &impl Abort, alloc: Global, counted: &Word) -> bool {
+    let (steps, n, line, word, (counts, present, single, next)) = counted;
+    let lines = lines_of(rt, alloc, steps, *n);
+    let first = word.saturating_mul(64);
+    for i in 0..4usize {
+        let count = lines.count(*line, first.saturating_add(i));
+        if counts.get(i) != Some(&count) {
+            return false;
+        }
+    }
+    let masks = (lines.present(*line, *word), lines.single(*line, *word));
+    masks == (*present, *single) && lines.next_present_word(*line, 0) == *next
+}
 
 #[test]
 fn steps_of_lines(rt: HostRuntime) {
-    for (steps, n, changes, stepped) in STEPS {
-        assert!(&rt; *n <= steps.len());
-        let lines = lines_of(&rt, rt.alloc(), &steps[..*n]);
-        let found = lines.changes(rt.alloc()).expect(&rt, "memory");
-        assert!(&rt; listed(&rt, rt.alloc(), &found).as_slice() == *changes);
-        assert!(&rt; places(&rt, rt.alloc(), &lines).as_slice() == *stepped);
-        assert!(&rt; lines.is_pending() != stepped.is_empty());
-        assert!(&rt; lines.len() == 3 && !lines.is_empty());
+    for stepped in STEPS {
+        assert!(&rt; is_stepped(&rt, rt.alloc(), stepped));
     }
-    for (steps, n, line, word, want) in WORDS {
-        assert!(&rt; *n <= steps.len());
-        let lines = lines_of(&rt, rt.alloc(), &steps[..*n]);
-        let same = word_of(&lines, *line, *word) == *want;
-        assert!(&rt; same);
+    for counted in WORDS {
+        assert!(&rt; is_counted(&rt, rt.alloc(), counted));
     }
 }
