@@ -1,6 +1,6 @@
 //! Members while statements come and go, taken back or kept.
 
-use crate::recorded::{Changed, listed};
+use crate::recorded::{Changed, are_changes};
 use cil_member_rows::MemberRows;
 use std::alloc::Global;
 use std::process::Abort;
@@ -44,31 +44,14 @@ fn take(rt: &impl Abort, alloc: Global, rows: &mut MemberRows, step: Step) {
     }
 }
 
-// The rows after these steps.
-fn rows_of(rt: &impl Abort, alloc: Global, steps: &[Step]) -> MemberRows {
+// The rows after the first of these steps.
+fn rows_of(rt: &impl Abort, alloc: Global, steps: &[Step], n: usize) -> MemberRows {
+    assert!(rt; n <= steps.len());
     let mut rows = MemberRows::new(alloc);
-    for step in steps {
+    for step in &steps[..n] {
         take(rt, alloc, &mut rows, *step);
     }
     rows
-}
-
-// Of the first types of a word: how many statements hold each, whether it is a member and whether it was one.
-fn types_of(rows: &MemberRows, row: usize, ty: usize) -> (u64, bool, bool) {
-    (rows.count(row, ty), rows.has(row, ty), rows.had(row, ty))
-}
-
-// The members among the types of a word, those of before the steps and those that changed, and the first word with members from this one
-// on.
-type Word = (u64, u64, u64, Option<usize>);
-
-fn word_of(rows: &MemberRows, row: usize, word: usize) -> Word {
-    (
-        rows.present(row, word),
-        rows.held(row, word),
-        rows.changed(row, word),
-        rows.next_present_word(row, word),
-    )
 }
 
 // A type is a member until the last statement goes.
@@ -140,52 +123,77 @@ const TURNED: &[Step] = &[
 ];
 
 // The first steps of some, how many rows there are, which of the first four had a step, and what changed.
-const STEPS: &[(&[Step], usize, usize, [bool; 4], &[Changed])] = &[
-    (&[], 0, 0, [false; 4], &[]),
-    (&[AddRow, AddRow, Undo, Settle], 4, 2, [false; 4], &[]),
-    (UNTIL, 4, 1, [false; 4], &[]),
-    (UNTIL, 6, 1, [true, false, false, false], &[(0, 0, 0, 0b10)]),
-    (UNTIL, 7, 1, [false; 4], &[]),
+type Stepped = (
+    &'static [Step],
+    usize,
+    usize,
+    &'static [bool],
+    &'static [Changed],
+);
+
+const NONE: &[bool] = &[false, false, false, false];
+
+const STEPS: &[Stepped] = &[
+    (&[], 0, 0, NONE, &[]),
+    (&[AddRow, AddRow, Undo, Settle], 4, 2, NONE, &[]),
+    (UNTIL, 4, 1, NONE, &[]),
+    (
+        UNTIL,
+        6,
+        1,
+        &[true, false, false, false],
+        &[(0, 0, 0, 0b10)],
+    ),
+    (UNTIL, 7, 1, NONE, &[]),
     (
         BACK,
         6,
         2,
-        [true, true, false, false],
+        &[true, true, false, false],
         &[(0, 2, 0b0001, 0), (1, 1, 0b1000, 0b0010)],
     ),
-    (BACK, 7, 2, [false; 4], &[]),
-    (LATER, 3, 2, [true, false, false, false], &[(0, 4, 0b1, 0)]),
-    (LATER, 5, 2, [false; 4], &[]),
+    (BACK, 7, 2, NONE, &[]),
+    (LATER, 3, 2, &[true, false, false, false], &[(0, 4, 0b1, 0)]),
+    (LATER, 5, 2, NONE, &[]),
     // Changes stand in order and once.
     (
         ONCE,
         7,
         2,
-        [true, true, false, false],
+        &[true, true, false, false],
         &[(0, 0, 0b100, 0b001), (1, 5, 0b100, 0)],
     ),
     (
         TURNED,
         4,
         3,
-        [false, true, false, false],
+        &[false, true, false, false],
         &[(1, 1, 0b11, 0)],
     ),
-    (TURNED, 5, 3, [false; 4], &[]),
+    (TURNED, 5, 3, NONE, &[]),
     // A statement that holds what it held is no step.
-    (TURNED, 6, 3, [false; 4], &[]),
+    (TURNED, 6, 3, NONE, &[]),
     (
         TURNED,
         8,
         3,
-        [false, true, true, false],
+        &[false, true, true, false],
         &[(1, 1, 0, 0b01), (2, 0, 0b1, 0)],
     ),
-    (TURNED, 9, 3, [false; 4], &[]),
+    (TURNED, 9, 3, NONE, &[]),
 ];
 
-// The first steps of some, a row and a word, and what is there.
-const WORDS: &[(&[Step], usize, usize, usize, Word)] = &[
+// The first steps of some, a row and a word, and what is there: the members among the types of the word, those of before the steps and
+// those that changed, and the first word with members from this one on.
+type Word = (
+    &'static [Step],
+    usize,
+    usize,
+    usize,
+    (u64, u64, u64, Option<usize>),
+);
+
+const WORDS: &[Word] = &[
     (&[AddRow, AddRow], 2, 1, 3, (0, 0, 0, None)),
     (&[AddRow, AddRow], 2, 9, 3, (0, 0, 0, None)),
     (UNTIL, 6, 0, 0, (0b01, 0b11, 0b10, Some(0))),
@@ -204,8 +212,11 @@ const WORDS: &[(&[Step], usize, usize, usize, Word)] = &[
     (COUNTED, 5, 0, 0, (0, 0, 0, None)),
 ];
 
-// The first steps of some, a row and a type, and what is told of them.
-const TYPES: &[(&[Step], usize, usize, usize, (u64, bool, bool))] = &[
+// The first steps of some, a row and a type, and what is told of them: how many statements hold the type, whether it is a member and
+// whether it was one.
+type Type = (&'static [Step], usize, usize, usize, (u64, bool, bool));
+
+const TYPES: &[Type] = &[
     (&[AddRow, AddRow], 2, 1, 64, (0, false, false)),
     (&[AddRow, AddRow], 2, 9, 0, (0, false, false)),
     (UNTIL, 4, 0, 1, (2, true, true)),
@@ -228,41 +239,61 @@ const TYPES: &[(&[Step], usize, usize, usize, (u64, bool, bool))] = &[
     (COUNTED, 5, 9, 65, (0, false, false)),
 ];
 
-// Which of the first rows had a step.
-fn turned(rows: &MemberRows) -> [bool; 4] {
-    [
-        rows.has_turned(0),
-        rows.has_turned(1),
-        rows.has_turned(2),
-        rows.has_turned(3),
-    ]
+// Whether these of the first rows had a step.
+fn have_turned(rows: &MemberRows, want: &[bool]) -> bool {
+    for row in 0..want.len() {
+        if rows.has_turned(row) != want[row] {
+            return false;
+        }
+    }
+    rows.is_pending() == want.contains(&true)
+}
+
+// Whether that is told of the rows after the steps.
+fn is_stepped(rt: &impl Abort, alloc: Global, stepped: &Stepped) -> bool {
+    let (steps, n, len, turns, changes) = stepped;
+    let rows = rows_of(rt, alloc, steps, *n);
+    let found = rows.changes(alloc).expect(rt, "memory");
+    let are_told = are_changes(&found, changes) & have_turned(&rows, turns);
+    are_told & (rows.len() == *len) & (rows.is_empty() == (*len == 0))
 }
 
 #[test]
 fn steps_of_member_rows(rt: HostRuntime) {
-    for (steps, n, len, turns, changes) in STEPS {
-        assert!(&rt; *n <= steps.len());
-        let rows = rows_of(&rt, rt.alloc(), &steps[..*n]);
-        assert!(&rt; rows.len() == *len && rows.is_empty() == (*len == 0));
-        assert!(&rt; turned(&rows) == *turns);
-        assert!(&rt; rows.is_pending() == turns.contains(&true));
-        let found = rows.changes(rt.alloc()).expect(&rt, "memory");
-        assert!(&rt; listed(&rt, rt.alloc(), &found).as_slice() == *changes);
+    for stepped in STEPS {
+        assert!(&rt; is_stepped(&rt, rt.alloc(), stepped));
     }
+}
+
+fn is_word(rt: &impl Abort, alloc: Global, asked: &Word) -> bool {
+    let (steps, n, row, word, want) = asked;
+    let rows = rows_of(rt, alloc, steps, *n);
+    let found = (
+        rows.present(*row, *word),
+        rows.held(*row, *word),
+        rows.changed(*row, *word),
+        rows.next_present_word(*row, *word),
+    );
+    found == *want
+}
+
+fn is_type(rt: &impl Abort, alloc: Global, asked: &Type) -> bool {
+    let (steps, n, row, ty, want) = asked;
+    let rows = rows_of(rt, alloc, steps, *n);
+    let found = (
+        rows.count(*row, *ty),
+        rows.has(*row, *ty),
+        rows.had(*row, *ty),
+    );
+    found == *want
 }
 
 #[test]
 fn members_after_steps(rt: HostRuntime) {
-    for (steps, n, row, word, want) in WORDS {
-        assert!(&rt; *n <= steps.len());
-        let rows = rows_of(&rt, rt.alloc(), &steps[..*n]);
-        let same = word_of(&rows, *row, *word) == *want;
-        assert!(&rt; same);
+    for asked in WORDS {
+        assert!(&rt; is_word(&rt, rt.alloc(), asked));
     }
-    for (steps, n, row, ty, want) in TYPES {
-        assert!(&rt; *n <= steps.len());
-        let rows = rows_of(&rt, rt.alloc(), &steps[..*n]);
-        let same = types_of(&rows, *row, *ty) == *want;
-        assert!(&rt; same);
+    for asked in TYPES {
+        assert!(&rt; is_type(&rt, rt.alloc(), asked));
     }
 }

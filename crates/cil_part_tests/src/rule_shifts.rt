@@ -2,7 +2,7 @@
 
 ghost use Rattle.std.specs.Prelude.{◌≡◌, ◌+◌, ◌≤◌, ◌^◌, ◌∷◌, [], ℕ, false};
 ghost use Rattle.cil_keyed_lines.specs.Keyed.{count_now};
-ghost use Rattle.cil_rule_shifts.specs.Reach.{gives, is_present, one_if, IsShort};
+ghost use Rattle.cil_rule_shifts.specs.Reach.{gives, is_present, one_if, AreShort, IsShort};
 
 use cil_keyed_lines::{KeyedLines, SymbolKey};
 use cil_lines::Line;
@@ -28,35 +28,24 @@ fn line_of(rt: &impl Abort, alloc: Global, symbols: &[u32]) -> Line
     line
 }
 
-// A rule between sets.
-fn between(rt: &impl Abort, alloc: Global, sources: &[u32], targets: &[u32]) -> Reach
-    ensures { IsShort result }
-{
-    Reach {
-        sources: line_of(rt, alloc, sources),
-        targets: Targets::These(line_of(rt, alloc, targets)),
-    }
-}
-
-// A rule of each source to itself.
-fn to_itself(rt: &impl Abort, alloc: Global, sources: &[u32]) -> Reach
-    ensures { IsShort result }
-{
-    Reach {
-        sources: line_of(rt, alloc, sources),
-        targets: Targets::Itself,
-    }
-}
-
 // The sources of a rule, and its targets, if these aren't each source itself.
 type Rule<'t> = (&'t [u32], Option<&'t [u32]>);
+
+fn targets(rt: &impl Abort, alloc: Global, rule: &Rule<'_>) -> Targets
+    ensures { AreShort result }
+{
+    match rule.1 {
+        Some(targets) => Targets::These(line_of(rt, alloc, targets)),
+        None => Targets::Itself,
+    }
+}
 
 fn reach(rt: &impl Abort, alloc: Global, rule: &Rule<'_>) -> Reach
     ensures { IsShort result }
 {
-    match rule.1 {
-        Some(targets) => between(rt, alloc, rule.0, targets),
-        None => to_itself(rt, alloc, rule.0),
+    Reach {
+        sources: line_of(rt, alloc, rule.0),
+        targets: targets(rt, alloc, rule),
     }
 }
 
@@ -70,13 +59,12 @@ fn add(rt: &impl Abort, alloc: Global, lines: &mut KeyedLines, rule: &Reach)
 }
 
 // The lines of two rules, kept.
-fn kept(rt: &impl Abort, alloc: Global, first: &Reach, second: &Reach) -> KeyedLines
-    requires first { IsShort first.now }
-    requires second { IsShort second.now }
+fn kept(rt: &impl Abort, alloc: Global, first: &Rule<'_>, second: &Reach) -> KeyedLines
+    requires { IsShort second.now }
     ensures { (k : SymbolKey) (t : ℕ) → one_if (gives second.now 7 (3 ∷ 5 ∷ []) k t) ≤ count_now result k t }
 {
     let mut lines = KeyedLines::new(alloc);
-    add(rt, alloc, &mut lines, first);
+    add(rt, alloc, &mut lines, &reach(rt, alloc, first));
     add(rt, alloc, &mut lines, second);
     lines.settle();
     lines
@@ -231,21 +219,37 @@ const SHIFTS: &[Shift<'static>] = &[
 
 const NO_RULE: Rule<'static> = (&[], None);
 
+// Whether the third rule comes in the place of the second so.
+fn are_moved(
+    rt: &impl Abort,
+    alloc: Global,
+    lines: &mut KeyedLines,
+    was: &Reach,
+    shift: &Shift<'_>,
+) -> bool
+    requires short { IsShort was.now }
+    requires counted { (k : SymbolKey) (t : ℕ) → one_if (gives was.now 7 (3 ∷ 5 ∷ []) k t) ≤ count_now lines.old k t }
+{
+    let (_, _, is, moved, words, counts) = shift;
+    let is = reach(rt, alloc, is);
+    let found = shift_rule(lines, alloc, CLASS, PERMISSIONS, was, &is).expect(rt, "memory");
+    let changes = lines.changes(alloc).expect(rt, "memory");
+    found == *moved && changes.len() == *words && are_counted(lines, counts, true)
+}
+
+// Whether it does, and all is as before when it is taken back.
+fn is_shifted(rt: &impl Abort, alloc: Global, shift: &Shift<'_>) -> bool {
+    let was = reach(rt, alloc, &shift.1);
+    let mut lines = kept(rt, alloc, &shift.0, &was);
+    let is_before = are_counted(&lines, shift.5, false);
+    let is_behind = are_moved(rt, alloc, &mut lines, &was, shift);
+    lines.undo();
+    is_before & is_behind & are_counted(&lines, shift.5, false)
+}
+
 #[test]
 fn rules_in_the_place_of_others(rt: HostRuntime) {
-    let alloc = rt.alloc();
-    for (beside, was, is, moved, words, counts) in SHIFTS {
-        let beside = reach(&rt, alloc, beside);
-        let was = reach(&rt, alloc, was);
-        let is = reach(&rt, alloc, is);
-        let mut lines = kept(&rt, alloc, &beside, &was);
-        assert!(&rt; are_counted(&lines, counts, false));
-        let found = shift_rule(&mut lines, alloc, CLASS, PERMISSIONS, &was, &is);
-        assert!(&rt; found.expect(&rt, "memory") == *moved);
-        assert!(&rt; are_counted(&lines, counts, true));
-        let changes = lines.changes(alloc).expect(&rt, "memory");
-        assert!(&rt; changes.len() == *words);
-        lines.undo();
-        assert!(&rt; are_counted(&lines, counts, false));
+    for shift in SHIFTS {
+        assert!(&rt; is_shifted(&rt, rt.alloc(), shift));
     }
 }
