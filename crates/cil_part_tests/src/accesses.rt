@@ -69,67 +69,71 @@ fn accesses(rt: &impl Abort, alloc: Global, chunks: &[Given]) -> Accesses {
     Accesses::of(all)
 }
 
-// The accesses one by one, up to 200.
-fn by_places(rt: &impl Abort, alloc: Global, accesses: &Accesses) -> Vec<Listed> {
-    let mut all = Vec::new(alloc);
+// Whether these are the accesses one by one, looked for at 200 places.
+fn are_placed(accesses: &Accesses, listed: &[Listed]) -> bool {
     for i in 0..200usize {
-        if let Some(access) = accesses.get(i) {
-            all.push(listed_as(&access)).expect(rt, "memory");
+        let found = match accesses.get(i) {
+            Some(access) => Some(listed_as(&access)),
+            None => None,
+        };
+        if found != listed.get(i).copied() {
+            return false;
         }
     }
-    all
-}
-
-// Appends the accesses of a row.
-fn push_row(rt: &impl Abort, all: &mut Vec<Listed>, row: &AccessRow) {
-    let bit = row.bit;
-    assert!(rt; bit < 64);
-    for chunk in row.chunks {
-        assert!(rt; chunk.word < 1 << 26);
-        if chunk.has_bit(bit) {
-            let access = chunk.access(bit);
-            all.push(listed_as(&access)).expect(rt, "memory");
-        }
-    }
-}
-
-// The accesses row by row, and the first of each row.
-fn by_rows(rt: &impl Abort, alloc: Global, accesses: &Accesses) -> (Vec<Listed>, Vec<Listed>) {
-    let mut all = Vec::new(alloc);
-    let mut firsts = Vec::new(alloc);
-    let mut rows = accesses.rows();
-    for _ in 0..200u32 {
-        if let Some(row) = rows.next() {
-            firsts.push(listed_as(&row.first)).expect(rt, "memory");
-            push_row(rt, &mut all, &row);
-        }
-    }
-    (all, firsts)
-}
-
-// Those of some accesses that aren't of one row with the access before.
-fn firsts(rt: &impl Abort, alloc: Global, listed: &[Listed]) -> Vec<Listed> {
-    let mut firsts = Vec::new(alloc);
-    for i in 0..listed.len() {
-        if i == 0 || !is_in_row(&listed[i], &listed[i - 1]) {
-            firsts.push(listed[i]).expect(rt, "memory");
-        }
-    }
-    firsts
+    accesses.len() == listed.len() as u128
 }
 
 fn is_in_row(access: &Listed, other: &Listed) -> bool {
     access.0 == other.0 && access.1 == other.1 && access.2 == other.2 && access.3 == other.3
 }
 
-// Asserts that these are the accesses, by places and by rows.
-fn assert_listed(rt: &impl Abort, alloc: Global, accesses: &Accesses, listed: &[Listed]) {
-    assert!(rt; accesses.len() == listed.len() as u128);
-    let places = by_places(rt, alloc, accesses);
-    assert!(rt; places.as_slice() == listed);
-    let (all, found) = by_rows(rt, alloc, accesses);
-    assert!(rt; all.as_slice() == listed);
-    assert!(rt; found.as_slice() == firsts(rt, alloc, listed).as_slice());
+// Whether an access stands at a place, where it is or isn't of one row with the access before.
+fn is_placed(access: &AccessNumbers, listed: &[Listed], place: usize, is_first: bool) -> bool {
+    if place >= listed.len() || listed[place] != listed_as(access) {
+        return false;
+    }
+    let begins = place == 0 || !is_in_row(&listed[place], &listed[place - 1]);
+    begins == is_first
+}
+
+// Where the accesses of a row that begin at a place end, if they are those of the row.
+fn row_end(row: &AccessRow, listed: &[Listed], place: usize) -> Option<usize> {
+    if row.bit >= 64 || !is_placed(&row.first, listed, place, true) {
+        return None;
+    }
+    let mut n = place;
+    for chunk in row.chunks {
+        if chunk.word >= 1 << 26 {
+            return None;
+        }
+        if chunk.has_bit(row.bit) {
+            if !is_placed(&chunk.access(row.bit), listed, n, n == place) {
+                return None;
+            }
+            n = n.saturating_add(1);
+        }
+    }
+    if n == place { None } else { Some(n) }
+}
+
+// Whether these are the accesses, by places and by rows.
+fn are_listed(accesses: &Accesses, listed: &[Listed]) -> bool {
+    let mut rows = accesses.rows();
+    let mut n = 0;
+    for _ in 0..200u32 {
+        if let Some(row) = rows.next() {
+            let Some(end) = row_end(&row, listed, n) else {
+                return false;
+            };
+            n = end;
+        }
+    }
+    n == listed.len() && are_placed(accesses, listed)
+}
+
+// Whether these are the accesses of chunks.
+fn are_of(rt: &impl Abort, alloc: Global, chunks: &[Given], listed: &[Listed]) -> bool {
+    are_listed(&accesses(rt, alloc, chunks), listed)
 }
 
 // 64 accesses of a source, by class 1 and permission 1, to the types from one on.
@@ -186,18 +190,25 @@ const LISTED: &[(&[Given], &[Listed])] = &[
 #[test]
 fn accesses_of_chunks(rt: HostRuntime) {
     let alloc = rt.alloc();
-    assert_listed(&rt, alloc, &Accesses::empty(alloc), &[]);
+    assert!(&rt; are_listed(&Accesses::empty(alloc), &[]));
     for (chunks, listed) in LISTED {
-        assert_listed(&rt, alloc, &accesses(&rt, alloc, chunks), listed);
+        assert!(&rt; are_of(&rt, alloc, chunks, listed));
     }
     let full = (ALLOW, 7, 3, 1, 1, ALL);
     assert!(&rt; chunk_of(&full).len() == 64);
     let listed = word_of(&rt, alloc, 7, 192);
-    assert_listed(&rt, alloc, &accesses(&rt, alloc, &[full]), &listed);
+    assert!(&rt; are_of(&rt, alloc, &[full], &listed));
 }
 
 // Chunks, chunks in their place, and the accesses that go and come.
-const CHANGED: &[(&[Given], &[Given], &[Listed], &[Listed])] = &[
+type Changed = (
+    &'static [Given],
+    &'static [Given],
+    &'static [Listed],
+    &'static [Listed],
+);
+
+const CHANGED: &[Changed] = &[
     (
         &[
             (ALLOW, 1, 0, 1, 1, 0b0111),
@@ -215,11 +226,19 @@ const CHANGED: &[(&[Given], &[Given], &[Listed], &[Listed])] = &[
     (SOME, SOME, &[], &[]),
 ];
 
+// Whether those accesses go and come.
+fn have_changed(rt: &impl Abort, alloc: Global, changed: &Changed) -> bool {
+    let old = accesses(rt, alloc, changed.0);
+    let new = accesses(rt, alloc, changed.1);
+    let found = Difference::between(alloc, &old, &new).expect(rt, "memory");
+    are_listed(&found.removed, changed.2) && are_listed(&found.added, changed.3)
+}
+
 // Three chunks of the sources 3, 2 and 1 are put in order from a place on; and their sources then.
 const SORTED: &[(usize, &[u32])] = &[(0, &[1, 2, 3]), (1, &[3, 1, 2]), (3, &[3, 2, 1])];
 
-// The sources of the chunks that are put in order from a place on.
-fn sorted(rt: &impl Abort, alloc: Global, start: usize) -> Vec<u32> {
+// Whether the chunks that are put in order from a place on have these sources.
+fn are_sorted(rt: &impl Abort, alloc: Global, start: usize, want: &[u32]) -> bool {
     let mut chunks = Vec::new(alloc);
     for source in [3, 2, 1] {
         chunks
@@ -227,25 +246,21 @@ fn sorted(rt: &impl Abort, alloc: Global, start: usize) -> Vec<u32> {
             .expect(rt, "memory");
     }
     sort_from(&mut chunks, start);
-    let mut sources = Vec::new(alloc);
-    for chunk in &chunks {
-        sources.push(chunk.source).expect(rt, "memory");
+    for i in 0..chunks.len() {
+        if want.get(i) != Some(&chunks[i].source) {
+            return false;
+        }
     }
-    sources
+    chunks.len() == want.len()
 }
 
 #[test]
 fn differences_and_orders(rt: HostRuntime) {
-    let alloc = rt.alloc();
-    for (old, new, removed, added) in CHANGED {
-        let old = accesses(&rt, alloc, old);
-        let new = accesses(&rt, alloc, new);
-        let found = Difference::between(alloc, &old, &new).expect(&rt, "memory");
-        assert_listed(&rt, alloc, &found.removed, removed);
-        assert_listed(&rt, alloc, &found.added, added);
+    for changed in CHANGED {
+        assert!(&rt; have_changed(&rt, rt.alloc(), changed));
     }
     for (start, want) in SORTED {
-        assert!(&rt; sorted(&rt, alloc, *start).as_slice() == *want);
+        assert!(&rt; are_sorted(&rt, rt.alloc(), *start, want));
     }
 }
 
@@ -295,12 +310,23 @@ fn assert_within(rt: &impl Abort, accesses: &Accesses, len: usize)
 }
 
 // The accesses of chunks with the numbers at the places of their own, which rise.
-fn renumbered(rt: &impl Abort, alloc: Global, chunks: &[Given], runs: &[Run]) -> Accesses {
+fn renumbered(rt: &impl Abort, alloc: Global, chunks: &[Given], numbers: &[u32]) -> Accesses {
     let old = accesses(rt, alloc, chunks);
-    let numbers = numbers(rt, alloc, runs);
-    assert_rising(rt, &numbers);
+    assert_rising(rt, numbers);
     assert_within(rt, &old, numbers.len());
-    old.renumbered(alloc, &numbers).expect(rt, "memory")
+    old.renumbered(alloc, numbers).expect(rt, "memory")
+}
+
+// Whether these are those accesses.
+fn are_renumbered(
+    rt: &impl Abort,
+    alloc: Global,
+    chunks: &[Given],
+    runs: &[Run],
+    listed: &[Listed],
+) -> bool {
+    let numbers = numbers(rt, alloc, runs);
+    are_listed(&renumbered(rt, alloc, chunks, &numbers), listed)
 }
 
 // Chunks, rising numbers, and their accesses by these.
@@ -384,13 +410,12 @@ const OVER: &[Given] = &[
 fn accesses_by_numbers_that_rise(rt: HostRuntime) {
     let alloc = rt.alloc();
     for (chunks, runs, listed) in RENUMBERED {
-        let found = renumbered(&rt, alloc, chunks, runs);
-        assert_listed(&rt, alloc, &found, listed);
+        assert!(&rt; are_renumbered(&rt, alloc, chunks, runs, listed));
     }
     // Targets that stay in their word.
     let full = [(ALLOW, 1, 0, 1, 1, ALL), (ALLOW, 1, 0, 2, 1, 0)];
-    let found = renumbered(&rt, alloc, &full, &[(64, 0, 1)]);
-    assert_listed(&rt, alloc, &found, &word_of(&rt, alloc, 1, 0));
+    let listed = word_of(&rt, alloc, 1, 0);
+    assert!(&rt; are_renumbered(&rt, alloc, &full, &[(64, 0, 1)], &listed));
 }
 
 // Asserts that the numbers of all accesses that a chunk may have are low enough.
@@ -462,20 +487,31 @@ fn by_turns(rt: &impl Abort, alloc: Global) -> Vec<u32> {
     all
 }
 
+// Whether these are the accesses of the chunks by the numbers.
+fn are_pushed(
+    rt: &impl Abort,
+    alloc: Global,
+    chunks: &[Given],
+    runs: &[Run],
+    listed: &[Listed],
+) -> bool {
+    let numbers = numbers(rt, alloc, runs);
+    are_listed(&Accesses::of(pushed(rt, alloc, chunks, &numbers)), listed)
+}
+
+// How many chunks and how many accesses there are where all targets of a word stand in two words by turns.
+fn pushed_by_turns(rt: &impl Abort, alloc: Global) -> (usize, u128) {
+    let numbers = by_turns(rt, alloc);
+    let found = pushed(rt, alloc, &[(ALLOW, 1, 0, 2, 3, ALL)], &numbers);
+    let chunks = found.len();
+    (chunks, Accesses::of(found).len())
+}
+
 #[test]
 fn accesses_by_numbers_in_any_order(rt: HostRuntime) {
     let alloc = rt.alloc();
     for (chunks, runs, listed) in PUSHED {
-        let numbers = numbers(&rt, alloc, runs);
-        let found = pushed(&rt, alloc, chunks, &numbers);
-        assert_listed(&rt, alloc, &Accesses::of(found), listed);
+        assert!(&rt; are_pushed(&rt, alloc, chunks, runs, listed));
     }
-    let found = pushed(
-        &rt,
-        alloc,
-        &[(ALLOW, 1, 0, 2, 3, ALL)],
-        &by_turns(&rt, alloc),
-    );
-    assert!(&rt; found.len() == 2);
-    assert!(&rt; Accesses::of(found).len() == 64);
+    assert!(&rt; pushed_by_turns(&rt, alloc) == (2, 64));
 }

@@ -11,7 +11,7 @@ use cil_accesses::{AccessNumbers, Accesses};
 use cil_keyed_lines::SymbolKey;
 use cil_lines::Line;
 use cil_rule_shifts::{Reach, Targets};
-use cil_symbol_changes::{AccessChanges, accesses, changes};
+use cil_symbol_changes::{accesses, changes};
 use cil_symbol_tables::SymbolTables;
 use cil_text::RuleKind;
 use std::alloc::Global;
@@ -59,7 +59,12 @@ fn line_of(rt: &impl Abort, alloc: Global, symbols: &[u32]) -> Line
 fn are_low(symbols: &[u32]) -> bool
     ensures { result ≡ true → All (λ s. s < 192) symbols.now }
 {
-    symbols.iter().all(|symbol| *symbol < 192)
+    for symbol in symbols {
+        if *symbol >= 192 {
+            return false;
+        }
+    }
+    true
 }
 
 // A rule of type 1 to others.
@@ -146,20 +151,6 @@ fn are_listed(found: &Accesses, kind: RuleKind, targets: &[u32]) -> bool {
         }
     }
     found.len() == targets.len() as u128
-}
-
-// The accesses that appeared, and that went.
-fn changed(rt: &impl Abort, alloc: Global, numbers: &[u32], tables: &SymbolTables) -> AccessChanges
-    requires { AreNumbered numbers.now tables.now }
-{
-    changes(alloc, tables, numbers).expect(rt, "memory")
-}
-
-// The accesses that stand in the tables.
-fn present(rt: &impl Abort, alloc: Global, numbers: &[u32], tables: &SymbolTables) -> Accesses
-    requires { AreNumbered numbers.now tables.now }
-{
-    accesses(alloc, tables, numbers).expect(rt, "memory")
 }
 
 // Whether so many rules of a kind give type 1 the permission to type 63, and none of another kind.
@@ -253,7 +244,7 @@ fn stand(
 ) -> bool
     requires { AreNumbered numbers.now tables.now }
 {
-    let found = present(rt, alloc, numbers, tables);
+    let found = accesses(alloc, tables, numbers).expect(rt, "memory");
     are_listed(&found, kind, targets)
 }
 
@@ -268,85 +259,136 @@ fn turned(
 ) -> bool
     requires { AreNumbered numbers.now tables.now }
 {
-    let found = changed(rt, alloc, numbers, tables);
-    let are_added = are_listed(&found.added, kind, targets.0);
-    let are_removed = are_listed(&found.removed, kind, targets.1);
-    are_added && are_removed
+    let found = changes(alloc, tables, numbers).expect(rt, "memory");
+    are_listed(&found.added, kind, targets.0) && are_listed(&found.removed, kind, targets.1)
 }
 
-// The second rule comes, the first goes, comes back, and all is taken back.
-fn assert_case(rt: &impl Abort, alloc: Global, kind: RuleKind, case: &Case<'_>) {
-    let (first, second, kept, all, added, removed, once, both) = case;
-    let numbers = numbers(rt, alloc);
-    let first = rule(rt, alloc, first);
-    let second = rule(rt, alloc, second);
-    let mut tables = SymbolTables::new(alloc);
-    let none = stand(rt, alloc, &numbers, &tables, kind, &[]);
-    add(rt, alloc, &numbers, &mut tables, kind, &first);
-    settle(&numbers, &mut tables);
-    let one = stand(rt, alloc, &numbers, &tables, kind, kept);
-    let is_kept = !tables.is_pending() && is_counted(&tables, kind, *once);
-    add(rt, alloc, &numbers, &mut tables, kind, &second);
-    let came = turned(rt, alloc, &numbers, &tables, kind, (added, &[]));
-    let two = stand(rt, alloc, &numbers, &tables, kind, all);
-    let are_counted = is_counted(&tables, kind, *both);
-    take(rt, alloc, &numbers, &mut tables, kind, &first);
-    let went = turned(rt, alloc, &numbers, &tables, kind, (added, removed));
+// The first rule comes and is kept.
+fn is_kept(
+    rt: &impl Abort,
+    alloc: Global,
+    numbers: &[u32],
+    tables: &mut SymbolTables,
+    kind: RuleKind,
+    first: &Reach,
+    case: &Case<'_>,
+) -> bool
+    requires short { IsShort first.now }
+    requires known { (s t : ℕ) → reaches first.now s t ≡ true → (s < 192) × (t < 192) }
+    requires numbers { length numbers.now ≡ 192 }
+    requires numbered { AreNumbered numbers.now tables.old }
+    ensures numbered { AreNumbered numbers.now tables.new }
+    ensures counted { (key : SymbolKey) (t : ℕ) → one_if (gives first.now 7 (3 ∷ []) key t) ≤ count_now tables.new kind key t }
+{
+    let none = stand(rt, alloc, numbers, tables, kind, &[]);
+    add(rt, alloc, numbers, tables, kind, first);
+    settle(numbers, tables);
+    let one = stand(rt, alloc, numbers, tables, kind, case.2);
+    none & one & !tables.is_pending() & is_counted(tables, kind, case.6)
+}
+
+// The second rule comes.
+fn has_come(
+    rt: &impl Abort,
+    alloc: Global,
+    numbers: &[u32],
+    tables: &mut SymbolTables,
+    kind: RuleKind,
+    case: &Case<'_>,
+) -> bool
+    requires numbers { length numbers.now ≡ 192 }
+    requires numbered { AreNumbered numbers.now tables.old }
+    ensures numbered { AreNumbered numbers.now tables.new }
+    ensures kept { (key : SymbolKey) (t : ℕ) → count_now tables.old kind key t ≤ count_now tables.new kind key t }
+{
+    let second = rule(rt, alloc, case.1);
+    add(rt, alloc, numbers, tables, kind, &second);
+    let came = turned(rt, alloc, numbers, tables, kind, (case.4, &[]));
+    let two = stand(rt, alloc, numbers, tables, kind, case.3);
+    came & two & is_counted(tables, kind, case.7)
+}
+
+// The first rule goes, comes back, and all behind it is taken back.
+fn has_gone(
+    rt: &impl Abort,
+    alloc: Global,
+    numbers: &[u32],
+    tables: &mut SymbolTables,
+    kind: RuleKind,
+    first: &Reach,
+    case: &Case<'_>,
+) -> bool
+    requires short { IsShort first.now }
+    requires known { (s t : ℕ) → reaches first.now s t ≡ true → (s < 192) × (t < 192) }
+    requires counted { (key : SymbolKey) (t : ℕ) → one_if (gives first.now 7 (3 ∷ []) key t) ≤ count_now tables.old kind key t }
+    requires numbers { length numbers.now ≡ 192 }
+    requires numbered { AreNumbered numbers.now tables.old }
+{
+    take(rt, alloc, numbers, tables, kind, first);
+    let went = turned(rt, alloc, numbers, tables, kind, (case.4, case.5));
     let is_pending = tables.is_pending();
-    add(rt, alloc, &numbers, &mut tables, kind, &first);
-    let back = turned(rt, alloc, &numbers, &tables, kind, (added, &[]));
+    add(rt, alloc, numbers, tables, kind, first);
+    let back = turned(rt, alloc, numbers, tables, kind, (case.4, &[]));
     tables.undo();
-    let is_undone = !tables.is_pending() && is_counted(&tables, kind, *once);
-    assert!(rt; none && one && is_kept && came);
-    assert!(rt; two && are_counted && went && is_pending && back && is_undone);
+    went & is_pending & back & !tables.is_pending() & is_counted(tables, kind, case.6)
+}
+
+// Whether a case is so.
+fn is_case(rt: &impl Abort, alloc: Global, kind: RuleKind, case: &Case<'_>) -> bool {
+    let numbers = numbers(rt, alloc);
+    let first = rule(rt, alloc, case.0);
+    let mut tables = SymbolTables::new(alloc);
+    let kept = is_kept(rt, alloc, &numbers, &mut tables, kind, &first, case);
+    let came = has_come(rt, alloc, &numbers, &mut tables, kind, case);
+    kept & came & has_gone(rt, alloc, &numbers, &mut tables, kind, &first, case)
 }
 
 #[test]
 fn accesses_of_each_kind(rt: HostRuntime) {
     for kind in KINDS {
         for case in CASES {
-            assert_case(&rt, rt.alloc(), kind, case);
+            assert!(&rt; is_case(&rt, rt.alloc(), kind, case));
         }
     }
 }
 
 // A rule of each kind, the last kinds first.
+fn add_each(rt: &impl Abort, alloc: Global, numbers: &[u32], tables: &mut SymbolTables)
+    requires numbers { length numbers.now ≡ 192 }
+    requires numbered { AreNumbered numbers.now tables.old }
+    ensures { AreNumbered numbers.now tables.new }
+{
+    let rule = rule(rt, alloc, &[64]);
+    add(rt, alloc, numbers, tables, RuleKind::NeverAllow, &rule);
+    add(rt, alloc, numbers, tables, RuleKind::AuditAllow, &rule);
+    add(rt, alloc, numbers, tables, RuleKind::DontAudit, &rule);
+    add(rt, alloc, numbers, tables, RuleKind::Allow, &rule);
+}
+
+// Whether an access of each kind stands in a list, in the order of the kinds.
+fn are_each(found: &Accesses) -> bool {
+    for i in 0..KINDS.len() {
+        if found.get(i) != Some(access(KINDS[i], 127)) {
+            return false;
+        }
+    }
+    found.len() == 4
+}
+
+// Whether those appeared, none went, and those stand in the tables.
+fn are_in_order(rt: &impl Abort, alloc: Global, numbers: &[u32], tables: &SymbolTables) -> bool
+    requires { AreNumbered numbers.now tables.now }
+{
+    let found = changes(alloc, tables, numbers).expect(rt, "memory");
+    let present = accesses(alloc, tables, numbers).expect(rt, "memory");
+    are_each(&found.added) && found.removed.len() == 0 && are_each(&present)
+}
+
 #[test]
 fn kinds_stand_in_their_order(rt: HostRuntime) {
     let alloc = rt.alloc();
     let numbers = numbers(&rt, alloc);
     let mut tables = SymbolTables::new(alloc);
-    let rule = rule(&rt, alloc, &[64]);
-    add(
-        &rt,
-        alloc,
-        &numbers,
-        &mut tables,
-        RuleKind::NeverAllow,
-        &rule,
-    );
-    add(
-        &rt,
-        alloc,
-        &numbers,
-        &mut tables,
-        RuleKind::AuditAllow,
-        &rule,
-    );
-    add(
-        &rt,
-        alloc,
-        &numbers,
-        &mut tables,
-        RuleKind::DontAudit,
-        &rule,
-    );
-    add(&rt, alloc, &numbers, &mut tables, RuleKind::Allow, &rule);
-    let found = changed(&rt, alloc, &numbers, &tables);
-    let present = present(&rt, alloc, &numbers, &tables);
-    assert!(&rt; found.added.len() == 4 && found.removed.len() == 0 && present.len() == 4);
-    for i in 0..KINDS.len() {
-        let want = Some(access(KINDS[i], 127));
-        assert!(&rt; found.added.get(i) == want && present.get(i) == want);
-    }
+    add_each(&rt, alloc, &numbers, &mut tables);
+    assert!(&rt; are_in_order(&rt, alloc, &numbers, &tables));
 }
