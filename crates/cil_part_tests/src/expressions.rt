@@ -13,7 +13,7 @@ use std::process::Abort;
 const START: &[u8] = b"(type o)(type x)(typeattribute y)(typeattribute s)(typeattributeset s ";
 
 // Whether the only set statement holds a type, where the attribute y does or doesn't.
-fn held(resolved: &Resolved, ty: &[u8], by: bool) -> bool {
+fn holds(resolved: &Resolved, ty: &[u8], by: bool) -> bool {
     let mut meter = Meter::new();
     match resolved.number(ty) {
         Some(ty) => resolved.evaluate(0, ty, |_| by, &mut meter),
@@ -21,75 +21,84 @@ fn held(resolved: &Resolved, ty: &[u8], by: bool) -> bool {
     }
 }
 
-// That, where x isn't the type and y doesn't hold it, where x is, where y does, and both; and whether it may hold what neither name does.
-fn table(resolved: &Resolved) -> ([bool; 4], bool) {
-    let held = [
-        held(resolved, b"o", false),
-        held(resolved, b"x", false),
-        held(resolved, b"o", true),
-        held(resolved, b"x", true),
-    ];
-    (held, resolved.may_hold_any(0))
+// The four cases: x isn't the type and y doesn't hold it, x is, y does, and both.
+const ASKED: [(&[u8], bool); 4] = [(b"o", false), (b"x", false), (b"o", true), (b"x", true)];
+
+// Whether the statement holds the type in these of the cases.
+fn is_held(resolved: &Resolved, want: &[bool]) -> bool {
+    for i in 0..ASKED.len() {
+        let (ty, by) = ASKED[i];
+        if want.get(i) != Some(&holds(resolved, ty, by)) {
+            return false;
+        }
+    }
+    true
 }
 
-// The names of the statement in their order, x where it is a type and y where it is an attribute.
-fn names(rt: &impl Abort, alloc: Global, resolved: &Resolved) -> Vec<u8> {
-    let mut names = Vec::new(alloc);
-    for element in resolved.set_names(0) {
-        let letter = match element {
+// Whether these are the names of the statement in their order, x where it is a type and y where it is an attribute.
+fn are_names(resolved: &Resolved, letters: &[u8]) -> bool {
+    let names = resolved.set_names(0);
+    for i in 0..names.len() {
+        let letter = match names[i] {
             Element::Type(_) => b'x',
             Element::Attribute(_) => b'y',
         };
-        names.push(letter).expect(rt, "memory");
+        if letters.get(i) != Some(&letter) {
+            return false;
+        }
     }
-    names
+    names.len() == letters.len()
 }
 
-// Expressions, their names, and the table above.
-const EXPRESSIONS: &[(&[u8], &[u8], [bool; 4], bool)] = &[
-    (b"x", b"x", [false, true, false, true], false),
-    (b"y", b"y", [false, false, true, true], false),
-    (b"(and x y)", b"xy", [false, false, false, true], false),
-    (b"(or x y)", b"xy", [false, true, true, true], false),
-    (b"(xor x y)", b"xy", [false, true, true, false], false),
-    (b"(not x)", b"x", [true, false, true, false], true),
+// Expressions, their names, whether they hold the type in each of the cases, and whether they may hold what neither name does.
+type Told = (&'static [u8], &'static [u8], &'static [bool], bool);
+
+const EXPRESSIONS: &[Told] = &[
+    (b"x", b"x", &[false, true, false, true], false),
+    (b"y", b"y", &[false, false, true, true], false),
+    (b"(and x y)", b"xy", &[false, false, false, true], false),
+    (b"(or x y)", b"xy", &[false, true, true, true], false),
+    (b"(xor x y)", b"xy", &[false, true, true, false], false),
+    (b"(not x)", b"x", &[true, false, true, false], true),
     // No name is asked.
-    (b"all", b"", [true; 4], true),
-    (b"(not all)", b"", [false; 4], false),
-    (b"()", b"", [false; 4], false),
-    (b"(())", b"", [false; 4], false),
+    (b"all", b"", &[true, true, true, true], true),
+    (b"(not all)", b"", &[false, false, false, false], false),
+    (b"()", b"", &[false, false, false, false], false),
+    (b"(())", b"", &[false, false, false, false], false),
     // A list holds what an element does.
-    (b"(x)", b"x", [false, true, false, true], false),
-    (b"(y)", b"y", [false, false, true, true], false),
-    (b"(x y)", b"xy", [false, true, true, true], false),
-    (b"(x y x)", b"xyx", [false, true, true, true], false),
-    (b"((x y) x)", b"xyx", [false, true, true, true], false),
-    (b"((not x) y)", b"xy", [true, false, true, true], true),
+    (b"(x)", b"x", &[false, true, false, true], false),
+    (b"(y)", b"y", &[false, false, true, true], false),
+    (b"(x y)", b"xy", &[false, true, true, true], false),
+    (b"(x y x)", b"xyx", &[false, true, true, true], false),
+    (b"((x y) x)", b"xyx", &[false, true, true, true], false),
+    (b"((not x) y)", b"xy", &[true, false, true, true], true),
     // Operands may be operations.
     (
         b"(xor (and (x y) (not y)) (and (not (x)) y))",
         b"xyyxy",
-        [false, true, true, false],
+        &[false, true, true, false],
         false,
     ),
     (
         b"(and (not x) y)",
         b"xy",
-        [false, false, true, false],
+        &[false, false, true, false],
         false,
     ),
-    (b"(xor (not x) y)", b"xy", [true, false, false, true], true),
+    (b"(xor (not x) y)", b"xy", &[true, false, false, true], true),
 ];
+
+// Whether that is told of the policy of an expression.
+fn is_told(rt: &impl Abort, alloc: Global, told: &Told) -> bool {
+    let (expression, letters, holds, any) = *told;
+    let resolved = policy(rt, alloc, &[START, expression, b")"]);
+    is_held(&resolved, holds) && resolved.may_hold_any(0) == any && are_names(&resolved, letters)
+}
 
 #[test]
 fn expressions_by_their_names(rt: HostRuntime) {
-    for (expression, letters, holds, any) in EXPRESSIONS {
-        let resolved = policy(&rt, rt.alloc(), &[START, expression, b")"]);
-        let found = table(&resolved);
-        let same = found == (*holds, *any);
-        assert!(&rt; same);
-        let found = names(&rt, rt.alloc(), &resolved);
-        assert!(&rt; found.as_slice() == *letters);
+    for told in EXPRESSIONS {
+        assert!(&rt; is_told(&rt, rt.alloc(), told));
     }
 }
 
@@ -125,36 +134,45 @@ fn expression(x: Spelling) -> SetExpression {
     SetExpression::new(x.nodes, x.names)
 }
 
-fn spelt(rt: &impl Abort, alloc: Global, element: Element) -> (SetExpression, SetExpression) {
-    let alone = alone(alloc, element).expect(rt, "memory");
-    let list = in_list(alloc, element).expect(rt, "memory");
-    (expression(alone), expression(list))
-}
-
 fn are_same(x: &SetExpression, y: &SetExpression) -> bool {
     x.is_same(y, |a, b| a == b)
+}
+
+// Whether an expression is the same as the name alone, and as the list of it.
+fn are_as(rt: &impl Abort, alloc: Global, x: &SetExpression, element: Element) -> (bool, bool) {
+    let alone = expression(alone(alloc, element).expect(rt, "memory"));
+    let list = expression(in_list(alloc, element).expect(rt, "memory"));
+    (are_same(x, &alone), are_same(x, &list))
+}
+
+// Whether the only name of an expression is one, and it holds what that does.
+fn is_of(x: &SetExpression, element: Element) -> bool {
+    x.names() == [element].as_slice() && x.holds(|e| e == element) && !x.holds(|e| e != element)
+}
+
+// Whether an expression of one name is that, and not one of the same number of the other kind.
+fn is_one(
+    rt: &impl Abort,
+    alloc: Global,
+    x: &SetExpression,
+    elements: (Element, Element),
+    want: (bool, bool),
+) -> bool {
+    is_of(x, elements.0)
+        && are_as(rt, alloc, x, elements.0) == want
+        && are_as(rt, alloc, x, elements.1) == (false, false)
 }
 
 // One name needs no nodes of its own. A type and an attribute of one number are two names.
 #[test]
 fn expressions_of_one_name(rt: HostRuntime) {
-    for (element, other) in [
+    for elements in [
         (Element::Type(7), Element::Attribute(7)),
         (Element::Attribute(7), Element::Type(7)),
     ] {
-        let (alone, list) = spelt(&rt, rt.alloc(), element);
-        let (named, listed) = (
-            SetExpression::named(element),
-            SetExpression::listed(element),
-        );
-        assert!(&rt; are_same(&named, &alone) && are_same(&listed, &list));
-        assert!(&rt; !are_same(&named, &list) && !are_same(&listed, &alone));
-        let (alone, list) = spelt(&rt, rt.alloc(), other);
-        assert!(&rt; !are_same(&named, &alone) && !are_same(&listed, &list));
-        assert!(&rt;
-            named.names() == [element].as_slice() && listed.names() == [element].as_slice()
-        );
-        assert!(&rt; named.holds(|e| e == element) && listed.holds(|e| e == element));
-        assert!(&rt; !named.holds(|e| e != element) && !listed.holds(|e| e != element));
+        let named = SetExpression::named(elements.0);
+        assert!(&rt; is_one(&rt, rt.alloc(), &named, elements, (true, false)));
+        let listed = SetExpression::listed(elements.0);
+        assert!(&rt; is_one(&rt, rt.alloc(), &listed, elements, (false, true)));
     }
 }
