@@ -1,6 +1,6 @@
 //! Set statements and rules of small policies that stand in other ones.
 
-use crate::policies::{policy, policy_of_two};
+use crate::policies::policy_of_two;
 use cil_matching::{RuleMatching, SetMatching};
 use cil_resolve::Resolved;
 use std::alloc::Global;
@@ -27,42 +27,83 @@ type Places<'t> = (
     &'t [Option<usize>],
 );
 
-// The places in the new policy of the set statements of the old one, and back.
-fn sets_of(
+// Whether these are the places in the new policy of the set statements of the old one, and back.
+fn are_sets(
     rt: &impl Abort,
     alloc: Global,
     old: &Resolved,
     new: &Resolved,
-) -> (Vec<Option<usize>>, Vec<Option<usize>>) {
+    places: (&[Option<usize>], &[Option<usize>]),
+) -> bool {
     let matching = SetMatching::of(alloc, old, new).expect(rt, "memory");
-    let mut ahead = Vec::new(alloc);
     for i in 0..=old.sets_len() {
-        ahead.push(matching.new_place(i)).expect(rt, "memory");
+        if places.0.get(i) != Some(&matching.new_place(i)) {
+            return false;
+        }
     }
-    let mut back = Vec::new(alloc);
     for j in 0..=new.sets_len() {
-        back.push(matching.old_place(j)).expect(rt, "memory");
+        if places.1.get(j) != Some(&matching.old_place(j)) {
+            return false;
+        }
     }
-    (ahead, back)
+    true
 }
 
-// The same of rules. The first rules are the same where one has the place of the other.
-fn rules_of(
+// The same of rules.
+fn are_rules(
     rt: &impl Abort,
     alloc: Global,
     old: &Resolved,
     new: &Resolved,
-) -> (Vec<Option<usize>>, Vec<Option<usize>>) {
+    places: (&[Option<usize>], &[Option<usize>]),
+) -> bool {
     let matching = RuleMatching::of(alloc, old, new).expect(rt, "memory");
-    let mut ahead = Vec::new(alloc);
     for i in 0..=old.rules_len() {
-        ahead.push(matching.new_place(i)).expect(rt, "memory");
+        if places.0.get(i) != Some(&matching.new_place(i)) {
+            return false;
+        }
     }
-    let mut back = Vec::new(alloc);
     for j in 0..=new.rules_len() {
-        back.push(matching.old_place(j)).expect(rt, "memory");
+        if places.1.get(j) != Some(&matching.old_place(j)) {
+            return false;
+        }
     }
-    (ahead, back)
+    true
+}
+
+// Whether the set statements, or the rules, have these places and no more.
+fn are_placed(rt: &impl Abort, alloc: Global, places: &Places<'_>, rules: bool) -> bool {
+    let (old, new, ahead, back) = places;
+    let old = policy_of_two(rt, alloc, old.0, old.1);
+    let new = policy_of_two(rt, alloc, new.0, new.1);
+    let (lens, same) = if rules {
+        let same = are_rules(rt, alloc, &old, &new, (ahead, back));
+        ((old.rules_len(), new.rules_len()), same)
+    } else {
+        let same = are_sets(rt, alloc, &old, &new, (ahead, back));
+        ((old.sets_len(), new.sets_len()), same)
+    };
+    same && lens == (ahead.len().saturating_sub(1), back.len().saturating_sub(1))
+}
+
+// The places of the only statement of a text and of one behind it, which is the same as the only one of another text or isn't.
+fn places_of(text: &[u8], same: bool) -> &'static [Option<usize>] {
+    if same {
+        SAME
+    } else if text.is_empty() {
+        &[None]
+    } else {
+        NONE
+    }
+}
+
+// Whether the statements of two texts behind the start are the same, or aren't.
+fn is_same(rt: &impl Abort, alloc: Global, texts: &(&[u8], &[u8], bool), rules: bool) -> bool {
+    let (old, new, same) = *texts;
+    let (ahead, back) = (places_of(old, same), places_of(new, same));
+    let (old, new): (&[&[u8]], &[&[u8]]) = (&[START, old], &[START, new]);
+    let none: &[&[u8]] = &[];
+    are_placed(rt, alloc, &((old, none), (new, none), ahead, back), rules)
 }
 
 const SAME: &[Option<usize>] = &[Some(0), None];
@@ -178,18 +219,11 @@ const SET_PLACES: &[Places<'static>] = &[
 
 #[test]
 fn set_statements_of_two_policies(rt: HostRuntime) {
-    for (old, new, same) in SETS {
-        let old = policy(&rt, rt.alloc(), &[START, old]);
-        let new = policy(&rt, rt.alloc(), &[START, new]);
-        let (ahead, back) = sets_of(&rt, rt.alloc(), &old, &new);
-        let want = if *same { Some(0) } else { None };
-        assert!(&rt; ahead.first() == Some(&want) && back.first() == Some(&want));
+    for texts in SETS {
+        assert!(&rt; is_same(&rt, rt.alloc(), texts, false));
     }
-    for (old, new, want_ahead, want_back) in SET_PLACES {
-        let old = policy_of_two(&rt, rt.alloc(), old.0, old.1);
-        let new = policy_of_two(&rt, rt.alloc(), new.0, new.1);
-        let (ahead, back) = sets_of(&rt, rt.alloc(), &old, &new);
-        assert!(&rt; ahead.as_slice() == *want_ahead && back.as_slice() == *want_back);
+    for places in SET_PLACES {
+        assert!(&rt; are_placed(&rt, rt.alloc(), places, false));
     }
 }
 
@@ -370,17 +404,10 @@ const RULE_PLACES: &[Places<'static>] = &[
 
 #[test]
 fn rules_of_two_policies(rt: HostRuntime) {
-    for (old, new, same) in RULES {
-        let old = policy(&rt, rt.alloc(), &[START, old]);
-        let new = policy(&rt, rt.alloc(), &[START, new]);
-        let (ahead, back) = rules_of(&rt, rt.alloc(), &old, &new);
-        let want = if *same { Some(0) } else { None };
-        assert!(&rt; ahead.first() == Some(&want) && back.first() == Some(&want));
+    for texts in RULES {
+        assert!(&rt; is_same(&rt, rt.alloc(), texts, true));
     }
-    for (old, new, want_ahead, want_back) in RULE_PLACES {
-        let old = policy_of_two(&rt, rt.alloc(), old.0, old.1);
-        let new = policy_of_two(&rt, rt.alloc(), new.0, new.1);
-        let (ahead, back) = rules_of(&rt, rt.alloc(), &old, &new);
-        assert!(&rt; ahead.as_slice() == *want_ahead && back.as_slice() == *want_back);
+    for places in RULE_PLACES {
+        assert!(&rt; are_placed(&rt, rt.alloc(), places, true));
     }
 }

@@ -10,77 +10,69 @@ use std::process::Abort;
 const START: &[u8] =
     b"(class p (use))(type a)(type b)(type c)(typeattribute s)(typeattribute n)(typeattribute z)";
 
-// The names of the types of a set, as they are found one behind the other, and as they are asked for.
-fn types_of(
-    rt: &impl Abort,
-    alloc: Global,
-    resolved: &Resolved,
-    types: TypeSet<'_>,
-) -> (Vec<u8>, Vec<u8>) {
-    let mut found = Vec::new(alloc);
-    let mut asked = Vec::new(alloc);
+// Whether the name of a number is the letter at a place.
+fn is_named(resolved: &Resolved, number: usize, letters: &[u8], place: usize) -> bool {
+    let name = resolved.name(number);
+    name.len() == 1 && name.first() == letters.get(place)
+}
+
+// Whether the types of a set have just these names of one letter, as they are found one behind the other and as they are asked for.
+fn are_types(resolved: &Resolved, types: TypeSet<'_>, want: &[u8]) -> bool {
     let mut next = types.next(0);
+    let mut n: usize = 0;
     for ty in 0..=resolved.names_len() {
-        let name = resolved.name(ty);
-        if next == Some(ty) {
-            found.extend_from_slice(name).expect(rt, "memory");
+        let is_next = next == Some(ty);
+        if types.has(ty) != is_next || is_next && !is_named(resolved, ty, want, n) {
+            return false;
+        }
+        if is_next {
             next = types.next(ty.saturating_add(1));
-        }
-        if types.has(ty) {
-            asked.extend_from_slice(name).expect(rt, "memory");
+            n = n.saturating_add(1);
         }
     }
-    assert!(rt; next.is_none());
-    (found, asked)
+    next.is_none() && n == want.len()
 }
 
-// The names of the members of an attribute, likewise, and as they are listed.
-fn members_of(
-    rt: &impl Abort,
-    alloc: Global,
-    resolved: &Resolved,
-    attribute: &[u8],
-) -> [Vec<u8>; 3] {
-    let members = Members::plain(alloc, resolved).expect(rt, "memory");
-    let row = number(resolved, attribute);
-    let mut found = Vec::new(alloc);
-    let mut asked = Vec::new(alloc);
-    let mut listed = Vec::new(alloc);
+// Whether the members of an attribute have, likewise.
+fn are_found(resolved: &Resolved, members: &Members, row: usize, want: &[u8]) -> bool {
     let mut next = members.next_member(row, 0);
+    let mut n: usize = 0;
     for ty in 0..=resolved.names_len() {
-        let name = resolved.name(ty);
-        if next == Some(ty) {
-            found.extend_from_slice(name).expect(rt, "memory");
+        let is_next = next == Some(ty);
+        if members.has(row, ty) != is_next || is_next && !is_named(resolved, ty, want, n) {
+            return false;
+        }
+        if is_next {
             next = members.next_member(row, ty.saturating_add(1));
-        }
-        if members.has(row, ty) {
-            asked.extend_from_slice(name).expect(rt, "memory");
+            n = n.saturating_add(1);
         }
     }
-    assert!(rt; next.is_none());
-    for ty in members.members(alloc, row).expect(rt, "memory") {
-        listed
-            .extend_from_slice(resolved.name(ty))
-            .expect(rt, "memory");
-    }
-    [found, asked, listed]
+    next.is_none() && n == want.len()
 }
 
-// Asserts the members of an attribute, whose names have one letter each.
-fn assert_members(
+// Whether they do, and are listed so.
+fn are_members(
     rt: &impl Abort,
     alloc: Global,
     resolved: &Resolved,
-    attribute: &[u8],
-    want: &[u8],
-) {
-    let [found, asked, listed] = members_of(rt, alloc, resolved, attribute);
-    assert!(rt; found.as_slice() == want && asked.as_slice() == want);
-    assert!(rt; listed.as_slice() == want);
+    members: &Members,
+    attribute: (&[u8], &[u8]),
+) -> bool {
+    let (name, want) = attribute;
+    let row = number(resolved, name);
+    let listed = members.members(alloc, row).expect(rt, "memory");
+    for i in 0..listed.len() {
+        if !is_named(resolved, listed[i], want, i) {
+            return false;
+        }
+    }
+    listed.len() == want.len() && are_found(resolved, members, row, want)
 }
 
 // Statements behind the start, and the members of s and of n.
-const STATEMENTS: &[(&[u8], &[u8], &[u8])] = &[
+type Stated = (&'static [u8], &'static [u8], &'static [u8]);
+
+const STATEMENTS: &[Stated] = &[
     (
         b"(typeattributeset s (a c))(typeattributeset n (not (s)))",
         b"ac",
@@ -143,33 +135,49 @@ const SOURCES: &[(&[u8], &[u8])] = &[
 
 const ALIAS: &[u8] = b"(typealias k)(typealiasactual k b)(typeattributeset s (c a))";
 
+// Whether the attributes have those members, and z, a type and a name that isn't there have none.
+fn are_stated(rt: &impl Abort, alloc: Global, stated: &Stated) -> bool {
+    let (statements, s, n) = *stated;
+    let resolved = policy(rt, alloc, &[START, statements]);
+    let members = Members::plain(alloc, &resolved).expect(rt, "memory");
+    let attributes: [(&[u8], &[u8]); 5] = [
+        (b"s", s),
+        (b"n", n),
+        (b"z", b""),
+        (b"a", b""),
+        (b"no", b""),
+    ];
+    for attribute in attributes {
+        if !are_members(rt, alloc, &resolved, &members, attribute) {
+            return false;
+        }
+    }
+    true
+}
+
+// Whether the source of the only rule stands for these types.
+fn are_sources(rt: &impl Abort, alloc: Global, rule: &[u8], want: &[u8]) -> bool {
+    let resolved = policy(rt, alloc, &[START, ALIAS, rule]);
+    let members = Members::plain(alloc, &resolved).expect(rt, "memory");
+    let rules = resolved.rules();
+    rules.len() == 1 && are_types(&resolved, members.types_of(rules[0].source), want)
+}
+
 #[test]
 fn members_of_small_policies(rt: HostRuntime) {
-    let alloc = rt.alloc();
-    for (statements, s, n) in STATEMENTS {
-        let resolved = policy(&rt, alloc, &[START, statements]);
-        assert_members(&rt, alloc, &resolved, b"s", s);
-        assert_members(&rt, alloc, &resolved, b"n", n);
-        assert_members(&rt, alloc, &resolved, b"z", b"");
-        assert_members(&rt, alloc, &resolved, b"a", b"");
-        // There is no such name.
-        assert_members(&rt, alloc, &resolved, b"no", b"");
+    for stated in STATEMENTS {
+        assert!(&rt; are_stated(&rt, rt.alloc(), stated));
     }
     for (rule, want) in SOURCES {
-        let resolved = policy(&rt, alloc, &[START, ALIAS, rule]);
-        let members = Members::plain(alloc, &resolved).expect(&rt, "memory");
-        let rules = resolved.rules();
-        assert!(&rt; rules.len() == 1);
-        let (found, asked) = types_of(&rt, alloc, &resolved, members.types_of(rules[0].source));
-        assert!(&rt; found.as_slice() == *want && asked.as_slice() == *want);
+        assert!(&rt; are_sources(&rt, rt.alloc(), rule, want));
     }
 }
 
 // Appends a number of two digits between two parts.
 fn push_numbered(rt: &impl Abort, text: &mut Vec<u8>, front: &[u8], number: u8, back: &[u8]) {
     text.extend_from_slice(front).expect(rt, "memory");
-    text.push(b'0' + number / 10 % 10).expect(rt, "memory");
-    text.push(b'0' + number % 10).expect(rt, "memory");
+    let digits = [b'0' + number / 10 % 10, b'0' + number % 10];
+    text.extend_from_slice(&digits).expect(rt, "memory");
     text.extend_from_slice(back).expect(rt, "memory");
 }
 
@@ -196,10 +204,15 @@ fn named(rt: &impl Abort, alloc: Global) -> Vec<u8> {
     text
 }
 
-// How many evaluations the members of a policy of these declarations and statements take.
-fn evaluations(rt: &impl Abort, alloc: Global, statements: &[u8]) -> u128 {
+// The policy of these declarations and statements.
+fn declared(rt: &impl Abort, alloc: Global, statements: &[u8]) -> Resolved {
     let declared = declarations(rt, alloc);
-    let resolved = policy(rt, alloc, &[&declared, statements]);
+    policy(rt, alloc, &[&declared, statements])
+}
+
+// How many evaluations the members of that policy take.
+fn evaluations(rt: &impl Abort, alloc: Global, statements: &[u8]) -> u128 {
+    let resolved = declared(rt, alloc, statements);
     let mut meter = Meter::new();
     Members::metered(alloc, &resolved, &mut meter).expect(rt, "memory");
     meter.evaluations()

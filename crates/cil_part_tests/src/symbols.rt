@@ -14,39 +14,29 @@ const SECOND: &[u8] = b"(class p (use))(type d)(type a)";
 // The name e.
 const THIRD: &[u8] = b"(type e)";
 
-// Asserts the names, in the order of their numbers.
-fn assert_names(rt: &impl Abort, symbols: &Symbols, want: &[&[u8]]) {
-    assert!(rt; symbols.len() == want.len());
+// Whether these are the names, in the order of their numbers.
+fn are_names(symbols: &Symbols, want: &[&[u8]]) -> bool {
     for n in 0..want.len() {
-        assert!(rt; symbols.find(want[n]) == Some(n));
-    }
-}
-
-// The symbols of a policy's names.
-fn symbols_of(rt: &impl Abort, alloc: Global, numbering: &Numbering) -> Vec<usize> {
-    let mut all = Vec::new(alloc);
-    for local in 0..numbering.len() {
-        if let Some(symbol) = numbering.symbol(local) {
-            all.push(symbol).expect(rt, "memory");
+        if symbols.find(want[n]) != Some(n) {
+            return false;
         }
     }
-    assert!(rt; numbering.symbol(numbering.len()).is_none());
-    all
+    symbols.len() == want.len()
 }
 
-// The policy's number of each symbol, and of one that isn't there.
-fn locals_of(
-    rt: &impl Abort,
-    alloc: Global,
-    numbering: &Numbering,
-    symbols: usize,
-) -> Vec<Option<usize>> {
-    let mut all = Vec::new(alloc);
-    for symbol in 0..symbols {
-        all.push(numbering.local(symbol)).expect(rt, "memory");
+// Whether these are the symbols of a policy's names, and the policy's numbers of the symbols and of one that isn't there.
+fn are_numbers(numbering: &Numbering, numbers: &[usize], locals: &[Option<usize>]) -> bool {
+    for local in 0..=numbering.len() {
+        if numbering.symbol(local) != numbers.get(local).copied() {
+            return false;
+        }
     }
-    all.push(numbering.local(symbols)).expect(rt, "memory");
-    all
+    for symbol in 0..locals.len() {
+        if numbering.local(symbol) != locals[symbol] {
+            return false;
+        }
+    }
+    numbering.len() == numbers.len()
 }
 
 // Texts of policies that come one after the other; the names after the last, the symbols of its names, and its number of each
@@ -94,39 +84,57 @@ const POLICIES: &[Numbered<'static>] = &[
     ),
 ];
 
-// The numbering of the last of some policies.
+// The numbering of the policy of a text.
+fn numbering_of(rt: &impl Abort, alloc: Global, symbols: &mut Symbols, text: &[u8]) -> Numbering {
+    let resolved = policy(rt, alloc, &[text]);
+    Numbering::of(alloc, symbols, &resolved).expect(rt, "memory")
+}
+
+// The numbering of the last of some policies, of which the first has no name.
 fn numbered(rt: &impl Abort, alloc: Global, symbols: &mut Symbols, texts: &[&[u8]]) -> Numbering {
-    let empty = policy(rt, alloc, &[]);
-    let mut last = Numbering::of(alloc, symbols, &empty).expect(rt, "memory");
+    let mut last = numbering_of(rt, alloc, symbols, b"");
     for text in texts {
-        let resolved = policy(rt, alloc, &[*text]);
-        last = Numbering::of(alloc, symbols, &resolved).expect(rt, "memory");
+        last = numbering_of(rt, alloc, symbols, text);
     }
     last
 }
 
+// Whether the last of some policies is numbered so.
+fn is_numbered(rt: &impl Abort, alloc: Global, policies: &Numbered<'_>) -> bool {
+    let (texts, names, numbers, locals) = policies;
+    let mut symbols = Symbols::new(alloc);
+    let numbering = numbered(rt, alloc, &mut symbols, texts);
+    are_names(&symbols, names)
+        && are_numbers(&numbering, numbers, locals)
+        && symbols.len() == locals.len().saturating_sub(1)
+}
+
 #[test]
 fn numbers_from_policy_to_policy(rt: HostRuntime) {
-    let alloc = rt.alloc();
-    for (texts, names, numbers, locals) in POLICIES {
-        let mut symbols = Symbols::new(alloc);
-        let numbering = numbered(&rt, alloc, &mut symbols, texts);
-        assert_names(&rt, &symbols, names);
-        assert!(&rt; symbols_of(&rt, alloc, &numbering).as_slice() == *numbers);
-        let found = locals_of(&rt, alloc, &numbering, symbols.len());
-        assert!(&rt; found.as_slice() == *locals);
+    for policies in POLICIES {
+        assert!(&rt; is_numbered(&rt, rt.alloc(), policies));
     }
+}
+
+// Names that come, and their numbers.
+const COME: &[(&[u8], usize)] = &[(b"b", 0), (b"a", 1), (b"b", 0), (b"c", 2), (b"a", 1)];
+
+// Whether names have those numbers, and others none.
+fn have_numbers(rt: &impl Abort, alloc: Global) -> bool {
+    let mut symbols = Symbols::new(alloc);
+    let is_empty = are_names(&symbols, &[]);
+    for (name, want) in COME {
+        if symbols.number(alloc, name).expect(rt, "memory") != *want {
+            return false;
+        }
+    }
+    is_empty
+        && are_names(&symbols, &[b"b", b"a", b"c"])
+        && symbols.find(b"ab").is_none()
+        && symbols.find(b"").is_none()
 }
 
 #[test]
 fn names_by_numbers(rt: HostRuntime) {
-    let alloc = rt.alloc();
-    let mut symbols = Symbols::new(alloc);
-    assert_names(&rt, &symbols, &[]);
-    for (name, want) in [(b"b", 0), (b"a", 1), (b"b", 0), (b"c", 2), (b"a", 1)] {
-        let number = symbols.number(alloc, name).expect(&rt, "memory");
-        assert!(&rt; number == want);
-    }
-    assert_names(&rt, &symbols, &[b"b", b"a", b"c"]);
-    assert!(&rt; symbols.find(b"ab").is_none() && symbols.find(b"").is_none());
+    assert!(&rt; have_numbers(&rt, rt.alloc()));
 }

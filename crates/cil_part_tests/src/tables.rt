@@ -56,40 +56,48 @@ const COUNTS: &[(&[u8], RuleKind, &[Counted<'static>])] = &[
     ),
 ];
 
-// Asserts how many rules of a kind give accesses.
-fn assert_counts(
+// Whether so many rules of a kind give accesses.
+fn are_counted(
     rt: &impl Abort,
     alloc: Global,
     statements: &[u8],
     kind: RuleKind,
     wanted: &[Counted<'_>],
-) {
+) -> bool {
     let resolved = policy(rt, alloc, &[START, statements]);
     let tables = tables_of(rt, alloc, &resolved);
     for access in wanted {
         let key = key_of(&resolved, access);
-        let count = tables.count_at(kind, key, number(&resolved, access.1));
-        assert!(rt; count == access.4);
+        if tables.count_at(kind, key, number(&resolved, access.1)) != access.4 {
+            return false;
+        }
     }
+    true
 }
+
+// More rules than 2^16.
+fn many_rules(rt: &impl Abort, alloc: Global) -> Vec<u8> {
+    let mut rules = Vec::new(alloc);
+    for _ in 0..65_540u32 {
+        rules
+            .extend_from_slice(b"(allow a b (p (use)))")
+            .expect(rt, "memory");
+    }
+    rules
+}
+
+const MANY: &[Counted<'static>] = &[
+    (b"a", b"b", b"p", b"use", 65_540),
+    (b"b", b"b", b"p", b"use", 0),
+];
 
 #[test]
 fn counted_accesses(rt: HostRuntime) {
     for (statements, kind, wanted) in COUNTS {
-        assert_counts(&rt, rt.alloc(), statements, *kind, wanted);
+        assert!(&rt; are_counted(&rt, rt.alloc(), statements, *kind, wanted));
     }
-    // More rules than 2^16.
-    let mut rules = Vec::new(rt.alloc());
-    for _ in 0..65_540u32 {
-        rules
-            .extend_from_slice(b"(allow a b (p (use)))")
-            .expect(&rt, "memory");
-    }
-    let wanted: [Counted<'static>; 2] = [
-        (b"a", b"b", b"p", b"use", 65_540),
-        (b"b", b"b", b"p", b"use", 0),
-    ];
-    assert_counts(&rt, rt.alloc(), &rules, RuleKind::Allow, &wanted);
+    let rules = many_rules(&rt, rt.alloc());
+    assert!(&rt; are_counted(&rt, rt.alloc(), &rules, RuleKind::Allow, MANY));
 }
 
 const RULES: &[u8] =
@@ -121,18 +129,31 @@ fn is_line(resolved: &Resolved, lines: &Lines, place: usize, access: &Counted<'_
     }
 }
 
+// Whether the lines are those of accesses, in their order.
+fn are_lines(resolved: &Resolved, lines: &Lines, wanted: &[Counted<'_>]) -> bool {
+    for place in 0..wanted.len() {
+        if !is_line(resolved, lines, place, &wanted[place]) {
+            return false;
+        }
+    }
+    let len = wanted.len();
+    lines.len() == len && lines.is_empty() == (len == 0) && lines.at(len).is_none()
+}
+
+// Whether the lines of each kind are.
+fn are_all_lines(rt: &impl Abort, alloc: Global) -> bool {
+    let resolved = policy(rt, alloc, &[START, RULES]);
+    let tables = tables_of(rt, alloc, &resolved);
+    for (kind, wanted) in LINES {
+        if !are_lines(&resolved, tables.lines(*kind), wanted) {
+            return false;
+        }
+    }
+    true
+}
+
 // Lines go by source, then by class, then by permission.
 #[test]
 fn lines_in_their_order(rt: HostRuntime) {
-    let resolved = policy(&rt, rt.alloc(), &[START, RULES]);
-    let tables = tables_of(&rt, rt.alloc(), &resolved);
-    for (kind, wanted) in LINES {
-        let lines = tables.lines(*kind);
-        assert!(&rt; lines.len() == wanted.len());
-        assert!(&rt; lines.is_empty() == wanted.is_empty());
-        for place in 0..wanted.len() {
-            assert!(&rt; is_line(&resolved, lines, place, &wanted[place]));
-        }
-        assert!(&rt; lines.at(wanted.len()).is_none());
-    }
+    assert!(&rt; are_all_lines(&rt, rt.alloc()));
 }

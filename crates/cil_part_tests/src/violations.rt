@@ -5,7 +5,7 @@ use cil_resolve::RuleView;
 use cil_sets::Members;
 use cil_stream::MemorySink;
 use cil_text::RuleKind;
-use cil_violations::{Violation, Violations};
+use cil_violations::{Permissions, Violations};
 use std::alloc::Global;
 use std::process::Abort;
 use std::rc::Rc;
@@ -26,23 +26,58 @@ fn violations_of(rt: &impl Abort, alloc: Global, statements: &[u8]) -> Violation
     Violations::of(alloc, &resolved, &members).expect(rt, "memory")
 }
 
-// Asserts the kind and the place of a rule of the module m.
-fn assert_rule(rt: &impl Abort, rule: &RuleView<'_>, kind: RuleKind, line: u32, column: u32) {
-    assert!(rt; rule.kind == kind && rule.module == b"m".as_slice());
-    assert!(rt; rule.at.line == line && rule.at.column == column);
+// Whether a rule of the module m has that kind and stands there.
+fn is_rule(rule: &RuleView<'_>, kind: RuleKind, place: (u32, u32)) -> bool {
+    let found = (rule.at.line, rule.at.column);
+    rule.kind == kind && rule.module == b"m".as_slice() && found == place
 }
 
-// Asserts a violation of the target b, at see and use of the class p.
-fn assert_violation(rt: &impl Abort, found: &Violation<'_>, source: &[u8]) {
-    assert_rule(rt, &found.never, RuleKind::NeverAllow, 1, 79);
-    assert_rule(rt, &found.allowed, RuleKind::Allow, 2, 2);
-    assert!(rt; found.source == source && found.target == b"b".as_slice());
-    assert!(rt; found.class == b"p".as_slice());
-    let permissions = &found.permissions;
-    assert!(rt; permissions.len() == 2 && !permissions.is_empty());
-    assert!(rt; permissions.get(0) == Some(b"see".as_slice()));
-    assert!(rt; permissions.get(1) == Some(b"use".as_slice()));
-    assert!(rt; permissions.get(2).is_none());
+// Whether the only permissions are see and use.
+fn are_permissions(permissions: &Permissions<'_>) -> bool {
+    let found = [permissions.get(0), permissions.get(1), permissions.get(2)];
+    let want = [Some(b"see".as_slice()), Some(b"use".as_slice()), None];
+    found == want && permissions.len() == 2 && !permissions.is_empty()
+}
+
+// Whether the violation of a place is one of that source and the target b, at see and use of the class p.
+fn is_violation(violations: &Violations, place: usize, source: &[u8]) -> bool {
+    let Some(found) = violations.get(place) else {
+        return false;
+    };
+    let names = (found.source, found.target, found.class);
+    let are_rules = is_rule(&found.never, RuleKind::NeverAllow, (1, 79))
+        & is_rule(&found.allowed, RuleKind::Allow, (2, 2));
+    let are_names = names == (source, b"b".as_slice(), b"p".as_slice());
+    are_rules & are_names & are_permissions(&found.permissions)
+}
+
+// Whether there are two violations, of the sources a and b.
+fn are_two(rt: &impl Abort, alloc: Global) -> bool {
+    let violations = violations_of(rt, alloc, RULES);
+    is_violation(&violations, 0, b"a")
+        && is_violation(&violations, 1, b"b")
+        && violations.get(2).is_none()
+        && !violations.is_empty()
+}
+
+// Whether the report is written whole.
+fn is_whole(rt: &impl Abort, alloc: Global, violations: &Violations, want: &[u8]) -> bool {
+    let mut sink = MemorySink::new(alloc);
+    let written = violations.write(&mut sink).expect(rt, "a sink");
+    sink.bytes() == want && written == violations.len()
+}
+
+// Whether a sink that takes no more than 20 bytes has a beginning of it.
+fn is_cut(alloc: Global, violations: &Violations, want: &[u8]) -> bool {
+    let mut short = MemorySink::with_limits(alloc, 7, 20);
+    let failed = violations.write(&mut short).is_err();
+    want.starts_with(short.bytes()) && failed == (want.len() > 20)
+}
+
+// Whether the report of statements is that one.
+fn is_report(rt: &impl Abort, alloc: Global, statements: &[u8], want: &[u8]) -> bool {
+    let violations = violations_of(rt, alloc, statements);
+    is_whole(rt, alloc, &violations, want) && is_cut(alloc, &violations, want)
 }
 
 // Statements behind the start, and the report.
@@ -50,20 +85,8 @@ const REPORTS: &[(&[u8], &[u8])] = &[(b"(allow a b (p (use)))", b""), (RULES, RE
 
 #[test]
 fn violations_by_place(rt: HostRuntime) {
-    let violations = violations_of(&rt, rt.alloc(), RULES);
-    let first = violations.get(0).expect(&rt, "a first violation");
-    let second = violations.get(1).expect(&rt, "a second violation");
-    assert_violation(&rt, &first, b"a");
-    assert_violation(&rt, &second, b"b");
-    assert!(&rt; violations.get(2).is_none() && !violations.is_empty());
-    // A sink that takes no more than 20 bytes has a beginning of the report.
+    assert!(&rt; are_two(&rt, rt.alloc()));
     for (statements, want) in REPORTS {
-        let violations = violations_of(&rt, rt.alloc(), statements);
-        let mut sink = MemorySink::new(rt.alloc());
-        let written = violations.write(&mut sink).expect(&rt, "a sink");
-        assert!(&rt; sink.bytes() == *want && written == violations.len());
-        let mut short = MemorySink::with_limits(rt.alloc(), 7, 20);
-        let failed = violations.write(&mut short).is_err();
-        assert!(&rt; want.starts_with(short.bytes()) && failed == (want.len() > 20));
+        assert!(&rt; is_report(&rt, rt.alloc(), statements, want));
     }
 }

@@ -17,7 +17,18 @@ fn push_name(rt: &impl Abort, text: &mut Vec<u8>, ty: usize) {
     text.extend_from_slice(&digits).expect(rt, "memory");
 }
 
-// A policy of the types t000 and so on, and of an attribute by an expression: s, which stands in front of them, or u.
+// The declarations of the types t000 and so on.
+fn declared(rt: &impl Abort, alloc: Global, types: usize) -> Vec<u8> {
+    let mut text = Vec::new(alloc);
+    for ty in 0..types {
+        text.extend_from_slice(b"(type ").expect(rt, "memory");
+        push_name(rt, &mut text, ty);
+        text.push(b')').expect(rt, "memory");
+    }
+    text
+}
+
+// A policy of so many types, and of an attribute by an expression: s, which stands in front of them, or u.
 fn wide_policy(
     rt: &impl Abort,
     alloc: Global,
@@ -25,22 +36,18 @@ fn wide_policy(
     attribute: &[u8],
     expression: &[u8],
 ) -> Resolved {
-    let mut text = Vec::new(alloc);
-    for ty in 0..types {
-        text.extend_from_slice(b"(type ").expect(rt, "memory");
-        push_name(rt, &mut text, ty);
-        text.extend_from_slice(b")").expect(rt, "memory");
-    }
-    for part in [
+    let text = declared(rt, alloc, types);
+    let parts: [&[u8]; 8] = [
+        &text,
         b"(typeattribute ",
         attribute,
         b")(typeattributeset ",
         attribute,
         b" ",
-    ] {
-        text.extend_from_slice(part).expect(rt, "memory");
-    }
-    policy(rt, alloc, &[&text, expression, b")"])
+        expression,
+        b")",
+    ];
+    policy(rt, alloc, &parts)
 }
 
 // The expression of some types.
@@ -55,19 +62,20 @@ fn list_of(rt: &impl Abort, alloc: Global, types: &[usize]) -> Vec<u8> {
     text
 }
 
-// Asserts that the types of a set are these, in the order of their numbers, each found from each place in front of it.
-fn assert_types(rt: &impl Abort, types: TypeSet<'_>, want: &[usize]) {
-    let mut k = 0;
+// Whether the types of a set are these, in the order of their numbers, each found from each place in front of it.
+fn are_types(types: TypeSet<'_>, want: &[usize]) -> bool {
+    let mut k: usize = 0;
     for ty in 0..200usize {
         let next = want.get(k).copied();
-        assert!(rt; types.next(ty) == next);
         let here = next == Some(ty);
-        assert!(rt; types.has(ty) == here);
+        if types.next(ty) != next || types.has(ty) != here {
+            return false;
+        }
         if here {
-            k += 1;
+            k = k.saturating_add(1);
         }
     }
-    assert!(rt; types.next(1000).is_none() && !types.has(1000));
+    types.next(1000).is_none() && !types.has(1000)
 }
 
 // The word at a place in which these types have their bits, and the first word from it on.
@@ -85,32 +93,45 @@ fn word_of(want: &[usize], index: usize) -> (u64, Option<usize>) {
     (word, next)
 }
 
-// Asserts that these are the types of a set, one by one and by words.
-fn assert_set(rt: &impl Abort, types: TypeSet<'_>, want: &[usize]) {
-    assert_types(rt, types, want);
+// Whether these are the types of a set, one by one and by words.
+fn is_set(types: TypeSet<'_>, want: &[usize]) -> bool {
     for index in 0..5usize {
-        let found = (types.word(index), types.next_word(index));
-        let same = found == word_of(want, index);
-        assert!(rt; same);
+        if (types.word(index), types.next_word(index)) != word_of(want, index) {
+            return false;
+        }
     }
+    are_types(types, want)
 }
 
-// Asserts that these are the members of an attribute, by their numbers.
-fn assert_members(
+// Whether these are the members of an attribute, by their numbers, and one that isn't there has none.
+fn are_members(
     rt: &impl Abort,
     alloc: Global,
     resolved: &Resolved,
     attribute: &[u8],
     want: &[usize],
-) {
+) -> bool {
     let members = Members::plain(alloc, resolved).expect(rt, "memory");
     let row = number(resolved, attribute);
-    assert_set(rt, members.types_of(Element::Attribute(row)), want);
     let listed = members.members(alloc, row).expect(rt, "memory");
-    assert!(rt; listed.as_slice() == want);
-    // An attribute that isn't there.
     let other = Element::Attribute(resolved.names_len());
-    assert_set(rt, members.types_of(other), &[]);
+    listed.as_slice() == want
+        && is_set(members.types_of(Element::Attribute(row)), want)
+        && is_set(members.types_of(other), &[])
+}
+
+// Whether that is so where the types of a list are members of the attribute.
+fn are_listed(
+    rt: &impl Abort,
+    alloc: Global,
+    types: usize,
+    attribute: &[u8],
+    marked: &[usize],
+    want: &[usize],
+) -> bool {
+    let list = list_of(rt, alloc, marked);
+    let resolved = wide_policy(rt, alloc, types, attribute, &list);
+    are_members(rt, alloc, &resolved, attribute, want)
 }
 
 // How many types there are; those that are members of an attribute whose number is the first; and their numbers.
@@ -141,22 +162,22 @@ fn others(rt: &impl Abort, alloc: Global, number: usize) -> Vec<usize> {
     others
 }
 
+// Whether all types but one are members, more than two words of them.
+fn are_others(rt: &impl Abort, alloc: Global) -> bool {
+    let others = others(rt, alloc, 64);
+    let resolved = wide_policy(rt, alloc, 130, b"u", b"(not (t064))");
+    are_members(rt, alloc, &resolved, b"u", &others)
+}
+
 #[test]
 fn members_at_the_edges_of_words(rt: HostRuntime) {
-    let alloc = rt.alloc();
     for (types, marked, want) in BEHIND {
-        let list = list_of(&rt, alloc, marked);
-        let resolved = wide_policy(&rt, alloc, *types, b"s", &list);
-        assert_members(&rt, alloc, &resolved, b"s", want);
+        assert!(&rt; are_listed(&rt, rt.alloc(), *types, b"s", marked, want));
     }
     for (types, want) in IN_FRONT {
-        let list = list_of(&rt, alloc, want);
-        let resolved = wide_policy(&rt, alloc, *types, b"u", &list);
-        assert_members(&rt, alloc, &resolved, b"u", want);
+        assert!(&rt; are_listed(&rt, rt.alloc(), *types, b"u", want, want));
     }
-    // All types but one, more than two words of them.
-    let resolved = wide_policy(&rt, alloc, 130, b"u", b"(not (t064))");
-    assert_members(&rt, alloc, &resolved, b"u", &others(&rt, alloc, 64));
+    assert!(&rt; are_others(&rt, rt.alloc()));
 }
 
 // So many names, of which some are members of the first.
@@ -180,19 +201,29 @@ const PUT: &[(usize, &[usize])] = &[
     (130, &[0, 63, 64, 129]),
 ];
 
+// Whether they are, and the second has no members.
+fn are_put(rt: &impl Abort, alloc: Global, names: usize, want: &[usize]) -> bool {
+    let members = put_in(rt, alloc, names, want);
+    is_set(members.types_of(Element::Attribute(0)), want)
+        && is_set(members.types_of(Element::Attribute(1)), &[])
+}
+
+// Whether the only member of 130 names is one.
+fn is_put(rt: &impl Abort, alloc: Global, ty: usize) -> bool {
+    let members = put_in(rt, alloc, 130, &[ty]);
+    is_set(members.types_of(Element::Attribute(0)), &[ty])
+        && is_set(members.types_of(Element::Type(ty)), &[ty])
+        && members.has(0, ty)
+        && members.next_member(0, ty) == Some(ty)
+}
+
 // Elements are numbers alone, so these need no names.
 #[test]
 fn sets_without_a_policy(rt: HostRuntime) {
-    let alloc = rt.alloc();
     for (names, want) in PUT {
-        let members = put_in(&rt, alloc, *names, want);
-        assert_set(&rt, members.types_of(Element::Attribute(0)), want);
-        assert_set(&rt, members.types_of(Element::Attribute(1)), &[]);
+        assert!(&rt; are_put(&rt, rt.alloc(), *names, want));
     }
     for ty in 0..130usize {
-        let members = put_in(&rt, alloc, 130, &[ty]);
-        assert_set(&rt, members.types_of(Element::Attribute(0)), &[ty]);
-        assert_set(&rt, members.types_of(Element::Type(ty)), &[ty]);
-        assert!(&rt; members.has(0, ty) && members.next_member(0, ty) == Some(ty));
+        assert!(&rt; is_put(&rt, rt.alloc(), ty));
     }
 }
