@@ -1,12 +1,10 @@
 //! All that an engine answers of its store.
 
-use crate::attempt::write_texts;
 use crate::case::Names;
-use crate::engine::{Engine, Heap};
+use crate::engine::{Access, Engine, Rule};
 use crate::fault::Fault;
-use cil_rules::Atom;
+use crate::report::write_texts;
 use cil_stream::MemorySink;
-use cil_text::RuleKind;
 use itoa::Buffer;
 
 const QUESTIONS: &[u8] = b"modules\nrules\nviolations\ndropped\n";
@@ -14,23 +12,23 @@ const QUESTIONS: &[u8] = b"modules\nrules\nviolations\ndropped\n";
 /// A module that compiles to nothing comes and goes again. Each compiles the store anew.
 const PROBE: &[u8] = b"install probe 400 0\n\ndropped\nremove probe 400\n";
 
-const KINDS: [(RuleKind, &str); 4] = [
-    (RuleKind::Allow, "allow"),
-    (RuleKind::AuditAllow, "auditallow"),
-    (RuleKind::DontAudit, "dontaudit"),
-    (RuleKind::NeverAllow, "neverallow"),
+const RULES: [(Rule, &str); 4] = [
+    (Rule::Allow, "allow"),
+    (Rule::AuditAllow, "auditallow"),
+    (Rule::DontAudit, "dontaudit"),
+    (Rule::NeverAllow, "neverallow"),
 ];
 
 /// Writes which types are members of which attributes.
-fn write_members(
+fn write_members<T: Engine>(
     report: &mut MemorySink,
-    engine: &Engine<'_>,
+    engine: &T,
     names: &Names<'_>,
 ) -> Result<(), Fault> {
     for attribute in &names.attributes {
         for ty in &names.types {
-            let (attribute, ty) = (attribute.as_bytes(), ty.as_bytes());
             if engine.has(attribute, ty) {
+                let (attribute, ty) = (attribute.as_bytes(), ty.as_bytes());
                 write_texts(report, &[b"has ", attribute, b" ", ty, b"\n"])?;
             }
         }
@@ -39,66 +37,63 @@ fn write_members(
 }
 
 /// Writes how many rules give an access, if some do.
-fn write_count(
+fn write_count<T: Engine>(
     report: &mut MemorySink,
-    engine: &Engine<'_>,
-    access: &Atom<'_>,
-    kind: &str,
+    engine: &T,
+    access: Access<'_>,
+    rule: &str,
 ) -> Result<(), Fault> {
     let count = engine.count(access);
     if count == 0 {
         return Ok(());
     }
     let mut digits = Buffer::new();
-    let count = digits.format(count).as_bytes();
-    let (source, target) = (access.source, access.target);
-    let (class, permission) = (access.class, access.permission);
     write_texts(
         report,
         &[
             b"count ",
-            kind.as_bytes(),
+            rule.as_bytes(),
             b" ",
-            source,
+            access.source.as_bytes(),
             b" ",
-            target,
+            access.target.as_bytes(),
             b" ",
-            class,
+            access.class.as_bytes(),
             b" ",
-            permission,
+            access.permission.as_bytes(),
             b" ",
-            count,
+            digits.format(count).as_bytes(),
             b"\n",
         ],
     )
 }
 
 /// Writes the counts of the accesses of a type to another one.
-fn write_pair(
+fn write_pair<T: Engine>(
     report: &mut MemorySink,
-    engine: &Engine<'_>,
+    engine: &T,
     names: &Names<'_>,
     source: &str,
     target: &str,
 ) -> Result<(), Fault> {
-    for (kind, name) in &KINDS {
+    for (rule, word) in &RULES {
         for (class, permission) in &names.permissions {
-            let access = Atom {
-                kind: *kind,
-                source: source.as_bytes(),
-                target: target.as_bytes(),
-                class: class.as_bytes(),
-                permission: permission.as_bytes(),
+            let access = Access {
+                rule: *rule,
+                source,
+                target,
+                class,
+                permission,
             };
-            write_count(report, engine, &access, name)?;
+            write_count(report, engine, access, word)?;
         }
     }
     Ok(())
 }
 
-fn write_counts(
+fn write_counts<T: Engine>(
     report: &mut MemorySink,
-    engine: &Engine<'_>,
+    engine: &T,
     names: &Names<'_>,
 ) -> Result<(), Fault> {
     for source in &names.types {
@@ -110,38 +105,31 @@ fn write_counts(
 }
 
 /// Writes the answers to a script.
-fn ask<'h>(
-    report: &mut MemorySink,
-    heap: &'h Heap,
-    engine: &mut Engine<'h>,
-    script: &[u8],
-) -> Result<(), Fault> {
-    match engine.answer(heap, script, report) {
-        Ok(_) => Ok(()),
-        Err(_) => Err(Fault::Memory),
+fn ask<T: Engine>(report: &mut MemorySink, engine: &mut T, script: &[u8]) -> Result<(), Fault> {
+    if engine.answer(script, report).is_fault() {
+        return Err(Fault::Memory);
     }
+    Ok(())
 }
 
 /// Writes what an engine answers of its store: its modules, the listing, the violations, the optionals that drop, the members and the
 /// counts.
-pub fn write_state<'h>(
+pub fn write_state<T: Engine>(
     report: &mut MemorySink,
-    heap: &'h Heap,
-    engine: &mut Engine<'h>,
+    engine: &mut T,
     names: &Names<'_>,
 ) -> Result<(), Fault> {
-    ask(report, heap, engine, QUESTIONS)?;
+    ask(report, engine, QUESTIONS)?;
     write_members(report, engine, names)?;
     write_counts(report, engine, names)
 }
 
 /// Writes the state, and what a module that compiles to nothing changes of it.
-pub fn write_probed<'h>(
+pub fn write_probed<T: Engine>(
     report: &mut MemorySink,
-    heap: &'h Heap,
-    engine: &mut Engine<'h>,
+    engine: &mut T,
     names: &Names<'_>,
 ) -> Result<(), Fault> {
-    write_state(report, heap, engine, names)?;
-    ask(report, heap, engine, PROBE)
+    write_state(report, engine, names)?;
+    ask(report, engine, PROBE)
 }

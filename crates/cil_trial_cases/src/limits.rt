@@ -4,7 +4,7 @@ use crate::fault::Fault;
 
 /// How much the source gives a call and in all before it fails, after how many bytes it ends, and how much the sink takes a call and in
 /// all before it fails.
-#[derive(Clone, Copy, Debug)]
+#[derive(Clone, Copy)]
 pub struct Limits {
     pub give: usize,
     pub given: usize,

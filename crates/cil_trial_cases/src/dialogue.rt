@@ -1,12 +1,12 @@
 //! Dialogues with a peer that sends on only once it has the answers so far.
 
-use crate::attempt::{write_end, write_number, write_text};
 use crate::case::{Case, Peer};
-use crate::engine::{Engine, Memory};
+use crate::engine::{End, Engine};
 use crate::fault::Fault;
+use crate::report::{write_end, write_number, write_text};
 use crate::state::write_state;
-use cil_program::script::session::{SessionFault, Status};
 use cil_stream::{MemorySink, MemorySource, ReaderSource, WriterSink};
+use std::alloc::Global;
 use std::cell::Cell;
 use std::io;
 use std::io::{BufWriter, ErrorKind, Read, Write};
@@ -83,27 +83,23 @@ fn write_asked(report: &mut MemorySink, asked: &[usize], arrived: &Arrived) -> R
 }
 
 /// A session with a peer, which notes what it had each time it was asked.
-fn talk<'h>(
-    memory: Memory<'h>,
-    engine: &mut Engine<'h>,
-    sender: Sender<'_>,
-) -> Result<Result<Status, SessionFault>, Fault> {
+fn talk<T: Engine>(alloc: Global, engine: &mut T, sender: Sender<'_>) -> Result<End, Fault> {
     let wire = Wire {
         arrived: sender.arrived,
     };
-    let Ok(writer) = BufWriter::new(memory.ample, wire) else {
+    let Ok(writer) = BufWriter::new(alloc, wire) else {
         return Err(Fault::Memory);
     };
     let mut source = ReaderSource::new(sender);
     let mut sink = WriterSink::new(writer);
-    Ok(engine.session(memory.heap, &mut source, &mut sink))
+    Ok(engine.session(&mut source, &mut sink))
 }
 
 /// Holds a session with a peer, and writes what it had each time it was asked for more.
-pub fn write_dialogue<'h>(
+pub fn write_dialogue<T: Engine>(
     report: &mut MemorySink,
-    memory: Memory<'h>,
-    engine: &mut Engine<'h>,
+    alloc: Global,
+    engine: &mut T,
     case: &Case<'_>,
     peer: &Peer,
 ) -> Result<bool, Fault> {
@@ -111,14 +107,14 @@ pub fn write_dialogue<'h>(
         bytes: Cell::new(0),
         writes: Cell::new(0),
     };
-    let mut asked = Vec::new(memory.ample);
+    let mut asked = Vec::new(alloc);
     let sender = Sender {
         script: case.script,
         parts: peer.parts.as_slice(),
         arrived: &arrived,
         asked: &mut asked,
     };
-    let end = talk(memory, engine, sender)?;
+    let end = talk(alloc, engine, sender)?;
     write_end(report, end)?;
     write_asked(report, asked.as_slice(), &arrived)?;
     Ok(false)
@@ -145,19 +141,18 @@ impl Write for Clogged {
 }
 
 /// Writes what comes of a session over a sink whose flushes fail after so many, and the state after it.
-pub fn write_flushed<'h>(
+pub fn write_flushed<T: Engine>(
     report: &mut MemorySink,
-    memory: Memory<'h>,
-    engine: &mut Engine<'h>,
+    engine: &mut T,
     case: &Case<'_>,
     flushes: usize,
 ) -> Result<bool, Fault> {
     let mut source = MemorySource::new(case.script);
     let mut sink = WriterSink::new(Clogged { flushes });
-    let end = engine.session(memory.heap, &mut source, &mut sink);
+    let end = engine.session(&mut source, &mut sink);
     write_end(report, end)?;
     write_number(report, "given ", source.given(), "\n")?;
     write_text(report, b"state\n")?;
-    write_state(report, memory.heap, engine, &case.names)?;
+    write_state(report, engine, &case.names)?;
     Ok(false)
 }

@@ -1,13 +1,19 @@
 //! The text of a case, which `scripts/check.py` writes: lines of words, of which the first says what the line is about. After a line of
 //! a script stand the bytes of the script.
 
-use crate::engine::Kind;
 use crate::fault::Fault;
 use crate::limits::Limits;
 use std::alloc::Global;
 
+/// Which engine a trial is made with.
+#[derive(Clone, Copy)]
+pub enum Kind {
+    Plain,
+    Delta,
+}
+
 /// Which growths are refused.
-#[derive(Clone, Copy, Debug, PartialEq, Eq)]
+#[derive(Clone, Copy)]
 pub enum Refusal {
     None,
     /// The nth alone, counted from 1.
@@ -17,7 +23,7 @@ pub enum Refusal {
 }
 
 /// What is tried in turn.
-#[derive(Clone, Copy, Debug, PartialEq, Eq)]
+#[derive(Clone, Copy)]
 pub enum Each {
     /// The source fails after each number of bytes.
     SourceFails,
@@ -30,7 +36,7 @@ pub enum Each {
 }
 
 /// How an engine is asked.
-#[derive(Clone, Copy, Debug, PartialEq, Eq)]
+#[derive(Clone, Copy)]
 pub enum Way {
     /// By the script of a session.
     Session,
@@ -285,4 +291,11 @@ pub fn read_case(alloc: Global, text: &[u8]) -> Result<Case<'_>, Fault> {
         Ok(()) => Ok(case),
         Err(fault) => Err(fault),
     }
+}
+
+/// The text of an install, and what follows its line feed.
+pub fn text_of(rest: &[u8], len: usize) -> Result<(&[u8], &[u8]), Fault> {
+    let text = rest.get(..len).ok_or(Fault::Case)?;
+    let after = rest.get(len..).ok_or(Fault::Case)?;
+    Ok((text, after.get(1..).ok_or(Fault::Case)?))
 }

@@ -1,0 +1,31 @@
+//! The writers of replies.
+
+use crate::engine::Heap;
+use cil_program::script::reply;
+use cil_store::Reply;
+use cil_stream::{MemorySink, SinkFault, write_all};
+
+fn write_reply(sink: &mut MemorySink, reply: &Reply<&Heap>) -> Result<(), SinkFault> {
+    match reply {
+        Reply::Changes(changes) => reply::write_changes(sink, changes),
+        Reply::Refused(refusal) => reply::write_refusal(sink, refusal),
+        Reply::Dropped(dropped) => reply::write_dropped(sink, dropped),
+        Reply::Listing(text) => write_all(sink, text.as_slice()),
+        Reply::Violations(violations) => {
+            let count = violations.write(sink)?;
+            reply::write_end(sink, count as u128)
+        }
+        Reply::Rows(rows) => {
+            let count = rows.write(sink)?;
+            reply::write_end(sink, count as u128)
+        }
+    }
+}
+
+/// Writes replies one after the other.
+pub fn write_replies(sink: &mut MemorySink, replies: &[Reply<&Heap>]) -> Result<(), SinkFault> {
+    for reply in replies {
+        write_reply(sink, reply)?;
+    }
+    Ok(())
+}
