@@ -70,13 +70,13 @@ module _ (keys news : List SymbolKey) (place : ℕ) (within : place < length key
       elim (cases_eq i place) [
         | inl here ↦
             let last : get_or news i k ≡ get_or keys n k =
-                ap (λ l. get_or l i k) (taken k) ∙ get_or-take n (set keys place (get_or keys n k)) i k less ∙ ap (λ j. get_or (set keys place (get_or keys n k)) j k) here
-                ∙ get_or-set_same keys place (get_or keys n k) k within
+            ap (λ l. get_or l i k) (taken k) ∙ get_or-take n (set keys place (get_or keys n k)) i k less ∙ ap (λ j. get_or (set keys place (get_or keys n k)) j k) here
+            ∙ get_or-set_same keys place (get_or keys n k) k within
             in
             (n, omega (arith, less), sym last ∙ at)
         | inr apart ↦
             let same : get_or news i k ≡ get_or keys i k =
-                ap (λ l. get_or l i k) (taken k) ∙ get_or-take n (set keys place (get_or keys n k)) i k less ∙ get_or-set_other keys place i (get_or keys n k) k apart
+            ap (λ l. get_or l i k) (taken k) ∙ get_or-take n (set keys place (get_or keys n k)) i k less ∙ get_or-set_other keys place i (get_or keys n k) k apart
             in
             (i, omega (arith, less), sym same ∙ at)
       ]
@@ -130,7 +130,7 @@ counted_popped steps left s m n old new is less counted here same i within none 
       | inl e ↦ let (t, above) = here (omega (arith, e, within)) in (t, omega (arith, above, ap (λ l. recorded.count_now new l t) e))
       | inr apart ↦
           let quiet : has_line steps i ≡ false =
-              ap (λ ss. has_line ss i) is ∙ list_any-append (λ (x : Step). x.line == i) left (s ∷ []) ∙ or_false (has_line left i) (s.line == i) none (not_line s.line i apart) in
+          ap (λ ss. has_line ss i) is ∙ list_any-append (λ (x : Step). x.line == i) left (s ∷ []) ∙ or_false (has_line left i) (s.line == i) none (not_line s.line i apart) in
           let (t, above) = counted i (omega (arith, within, less)) quiet in
           (t, omega (arith, above, same i t apart within))
     ]

@@ -179,9 +179,21 @@ const STEPS: &[(&[Step], usize, &[SymbolKey], bool, &[Changed])] = &[
     (THREE, 7, &[READ, OTHER_READ], false, &[]),
     (KEPT, 5, &[READ], false, &[]),
     (ENDED, 7, &[READ, WRITE, OTHER_READ], false, &[]),
-    (ENDED, 9, &[READ, WRITE, OTHER_READ], true, &[(0, 2, 0, 0b1), (2, 90, 0, ALL)]),
+    (
+        ENDED,
+        9,
+        &[READ, WRITE, OTHER_READ],
+        true,
+        &[(0, 2, 0, 0b1), (2, 90, 0, ALL)],
+    ),
     (ENDED, 10, &[WRITE], false, &[]),
-    (ENDED, 12, &[WRITE, READ], true, &[(0, 1, 0, 0b11), (1, 5, 0b1, 0)]),
+    (
+        ENDED,
+        12,
+        &[WRITE, READ],
+        true,
+        &[(0, 1, 0, 0b11), (1, 5, 0b1, 0)],
+    ),
     (ENDED, 13, &[READ], false, &[]),
     (ENDED, 15, &[], false, &[]),
 ];

@@ -24,7 +24,7 @@ returns-clause-now g c =
     let keys = c.args.keys.now.keys in
     let old = count_now c.args.lines.now in
     let cut : (l t : ℕ) → l < length keys → count_now c.truncate.new.self l t ≡ count_now c.args.lines.now l t =
-        (λ l t within. c.truncate.ensures.now l t (omega (arith, within, c.len.ensures.len)) ∙ c.give_up_words.ensures.now l t) in
+    (λ l t within. c.truncate.ensures.now l t (omega (arith, within, c.len.ensures.len)) ∙ c.give_up_words.ensures.now l t) in
     count_ended keys c.take_out_ended.new.keys.keys old (count_now c.truncate.new.self) (count_now c.take_out_ended.new.lines) (count_now c.settle_into.new.self) cut c.take_out_ended.ensures.counts c.settle_into.ensures.now
 
 pub returns-clause-before : goal.returns-clause-before
@@ -32,5 +32,5 @@ returns-clause-before g c =
     let keys = c.args.keys.now.keys in
     let old = count_now c.args.lines.now in
     let cut : (l t : ℕ) → l < length keys → count_now c.truncate.new.self l t ≡ count_now c.args.lines.now l t =
-        (λ l t within. c.truncate.ensures.now l t (omega (arith, within, c.len.ensures.len)) ∙ c.give_up_words.ensures.now l t) in
+    (λ l t within. c.truncate.ensures.now l t (omega (arith, within, c.len.ensures.len)) ∙ c.give_up_words.ensures.now l t) in
     count_ended keys c.take_out_ended.new.keys.keys old (count_now c.truncate.new.self) (count_now c.take_out_ended.new.lines) (count_before c.settle_into.new.self) cut c.take_out_ended.ensures.counts c.settle_into.ensures.before

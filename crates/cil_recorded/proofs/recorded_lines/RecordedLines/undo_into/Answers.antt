@@ -14,7 +14,7 @@ loop-left-preserved-then-step g c =
     let here : get_or log n s ≡ s = ap (λ l. get_or l n s) (sym c.loop-left.invariant.log) ∙ sym c.index-step.ensures in
     let long : c.loop-left.left ≡ n + 1 = omega arith in
     let split : take c.loop-left.left log ≡ take n log ++ s ∷ [] =
-        ap (λ k. take k log) long ∙ take_more log n s within ∙ ap (λ x. take n log ++ x ∷ []) here in
+    ap (λ k. take k log) long ∙ take_more log n s within ∙ ap (λ x. take n log ++ x ∷ []) here in
     let step = c.lower.ensures in
     let old = count_in was.lines.items in
     let new = count_in c.lower.new.lines.items in
@@ -38,7 +38,7 @@ loop-left-preserved g c =
     let here : get_or log n s ≡ s = ap (λ l. get_or l n s) (sym c.loop-left.invariant.log) ∙ sym c.index-step.ensures in
     let long : c.loop-left.left ≡ n + 1 = omega arith in
     let split : take c.loop-left.left log ≡ take n log ++ s ∷ [] =
-        ap (λ k. take k log) long ∙ take_more log n s within ∙ ap (λ x. take n log ++ x ∷ []) here in
+    ap (λ k. take k log) long ∙ take_more log n s within ∙ ap (λ x. take n log ++ x ∷ []) here in
     let step = c.raise.ensures in
     let old = count_in was.lines.items in
     let new = count_in c.raise.new.lines.items in
