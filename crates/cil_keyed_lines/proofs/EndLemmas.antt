@@ -1,5 +1,5 @@
 -- Keys that are taken out with their lines, and the counters of the others.
-use Rattle.std.proofs.Common.{◌≡◌, ◌≢◌, ℕ, ◌+◌, ◌-◌, ◌<◌, ◌≤◌, ◌==◌, Bool, false, if◌then◌else◌, List, [], ◌∷◌, ◌++◌, length, get_or, set, take, position, slice_get, Option, None, Some, IfSome, bit_and, w64, refl, sym, ap, ◌∙◌, true≢false, inl, inr, arith, ◌^◌, eq-eqb, ◌||◌}
+use Rattle.std.proofs.Common.{◌≡◌, ◌≢◌, ◌⊎◌, ℕ, ◌+◌, ◌-◌, ◌<◌, ◌≤◌, ◌==◌, Bool, false, if◌then◌else◌, List, [], ◌∷◌, ◌++◌, length, get_or, set, take, position, slice_get, Option, None, Some, IfSome, bit_and, w64, refl, sym, ap, ◌∙◌, true≢false, inl, inr, arith, ◌^◌, eq-eqb, ◌||◌}
 use Rattle.std.specs.Int.{bit_not, bit_at}
 use Rattle.std.specs.List.{list_any, IsDistinct, swap_remove}
 use Rattle.std.proofs.lemmas.Bool.{cases_eq, cases_lt, ne_eqb}
@@ -246,11 +246,16 @@ counted_kept steps old cut n is counted same i within none =
     let (t, above) = counted i within quiet in
     (t, omega (arith, above, same i t within quiet))
 
--- lines that are cut off, and words that are given up, take no counter
-pub counted_cut : (steps : List Step) (old cut : State) (n : ℕ) → AreCounted steps n old → ((l t : ℕ) → l < n → recorded.count_now cut l t ≡ recorded.count_now old l t) → AreCounted steps n cut
-counted_cut steps old cut n counted same i within none =
-    let (t, above) = counted i within none in
+-- lines that are cut off, and words that are given up, take no counter; lines that have one need no step
+pub counted_cut : (steps left : List Step) (old cut : State) (n : ℕ) → AreCounted steps n old → ((l : ℕ) → l < n → has_line left l ≡ false → (has_line steps l ≡ false) ⊎ HasCount old l)
+    → ((l t : ℕ) → l < n → recorded.count_now cut l t ≡ recorded.count_now old l t) → AreCounted left n cut
+counted_cut steps left old cut n counted marked same i within none =
+    let (t, above) = by (marked i within none) in
     (t, omega (arith, above, same i t within))
+  where
+    by : (has_line steps i ≡ false) ⊎ HasCount old i → HasCount old i
+    by (inl quiet) = counted i within quiet
+    by (inr has) = has
 
 pub count_ended : (keys news : List SymbolKey) (old cut out new : ℕ → ℕ → ℕ) → ((l t : ℕ) → l < length keys → cut l t ≡ old l t)
     → ((k : SymbolKey) (t : ℕ) → count_by out news k t ≡ count_by cut keys k t) → ((l t : ℕ) → new l t ≡ out l t)

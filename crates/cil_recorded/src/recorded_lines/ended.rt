@@ -1,6 +1,7 @@
 //! Lines that are left without counters once steps have ended.
 
-ghost use Rattle.std.specs.Prelude.{◌≡◌, ◌≢◌, ℕ, ◌+◌, ◌<◌, false, min, true};
+ghost use Rattle.std.specs.Prelude.{◌≡◌, ◌≢◌, ℕ, ◌+◌, ◌<◌, ◌⊎◌, false, length, min, slice_index_or, true};
+ghost use Rattle.cil_recorded.specs.Log.{has_line};
 ghost use Rattle.cil_recorded.specs.Recorded.{count_before, count_now, lines_in, steps_in, HasCount};
 
 use crate::recorded_lines::RecordedLines;
@@ -8,6 +9,16 @@ use crate::step::Step;
 use crate::word_steps;
 use std::alloc::Allocator;
 use std::mem;
+
+/// Lets a step be of a line behind the last one.
+fn mark_counted<A: Allocator>(steps: &mut Vec<Step, A>, i: usize, line: usize)
+    requires { i < length steps.old.items }
+    ensures len { length steps.new.items ≡ length steps.old.items }
+    ensures others { (l : ℕ) (d : Step) → l ≢ line → has_line steps.new.items l ≡ false → (has_line steps.old.items l ≡ false) ⊎ (l ≡ (slice_index_or steps.old.items i d).line) }
+{
+    let step = steps[i];
+    steps[i] = Step { line, ..step };
+}
 
 impl<A: Allocator> RecordedLines<A> {
     /// Keeps the steps, so that they can't be taken back any more, and exchanges their list for another, which is emptied: the lines of
@@ -45,16 +56,37 @@ impl<A: Allocator> RecordedLines<A> {
         self.log.clear();
     }
 
-    /// Gives up the places of the words of steps that have no counter above 0. It takes no memory.
-    pub fn give_up_words(&mut self, steps: &[Step])
+    /// Gives up the places of a word of a line that has no counter above 0, and answers whether the line has one there or behind.
+    fn give_up_word(&mut self, line: usize, word: usize) -> bool
         requires settled { steps_in self.old ≡ 0 }
         ensures lines { lines_in self.new ≡ lines_in self.old }
         ensures steps { steps_in self.new ≡ 0 }
         ensures now { (l t : ℕ) → count_now self.new l t ≡ count_now self.old l t }
+        ensures counted { result ≡ true → HasCount self.old line }
     {
-        for step in steps {
-            if step.line < self.lines.len() {
-                word_steps::give_up(&mut self.lines, step.line, step.word);
+        let next = self.next_present_word(line, word);
+        if next == Some(word) {
+            return true;
+        }
+        if line < self.lines.len() {
+            word_steps::give_up(&mut self.lines, line, word);
+        }
+        next.is_some()
+    }
+
+    /// Gives up the places of the words of steps that have no counter above 0. Steps of lines of which a counter above 0 was met are told
+    /// to be of no line. It takes no memory.
+    pub fn give_up_words(&mut self, steps: &mut Vec<Step, A>)
+        requires settled { steps_in self.old ≡ 0 }
+        ensures lines { lines_in self.new ≡ lines_in self.old }
+        ensures steps { steps_in self.new ≡ 0 }
+        ensures now { (l t : ℕ) → count_now self.new l t ≡ count_now self.old l t }
+        ensures counted { (l : ℕ) → l < lines_in self.old → has_line steps.new.items l ≡ false → (has_line steps.old.items l ≡ false) ⊎ HasCount self.old l }
+    {
+        for i in 0..steps.len() {
+            let step = steps[i];
+            if self.give_up_word(step.line, step.word) {
+                mark_counted(steps, i, self.lines.len());
             }
         }
     }

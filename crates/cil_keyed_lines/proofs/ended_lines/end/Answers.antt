@@ -5,7 +5,8 @@ use Rattle.cil_keyed_lines.proofs.ended_lines.end.Goals as goal
 
 pub take_out_ended-requires-clause-counted : goal.take_out_ended-requires-clause-counted
 take_out_ended-requires-clause-counted g c =
-    counted_cut c.args.steps.now.items c.args.lines.now c.truncate.new.self (length c.args.keys.now.keys) c.requires.counted
+    counted_cut c.args.steps.now.items c.give_up_words.new.steps.items c.args.lines.now c.truncate.new.self (length c.args.keys.now.keys) c.requires.counted
+    (λ l within none. c.give_up_words.ensures.counted l (omega (arith, within, c.requires.within)) none)
     (λ l t within. c.truncate.ensures.now l t (omega (arith, within, c.len.ensures.len)) ∙ c.give_up_words.ensures.now l t)
 
 pub returns-clause-held : goal.returns-clause-held

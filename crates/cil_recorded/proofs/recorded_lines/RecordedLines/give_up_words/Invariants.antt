@@ -1,10 +1,14 @@
-use Rattle.std.proofs.Common.{◌≡◌, ℕ, length}
-use Rattle.cil_recorded.specs.Recorded.{count_in, count_now}
+use Rattle.std.proofs.Common.{◌≡◌, ◌<◌, ◌⊎◌, ℕ, false, length}
+use Rattle.cil_recorded.specs.Log.{has_line}
+use Rattle.cil_recorded.specs.Recorded.{count_now, lines_in, steps_in, HasCount}
 use Rattle.cil_recorded.proofs.recorded_lines.RecordedLines.give_up_words.Given as goal
 
-abbrev pub invariant-loop-step : goal.invariant-loop-step
-invariant-loop-step g l = record {
-  log : length l.self-inside.log.items ≡ 0;
-  len : length l.self-inside.lines.items ≡ length l.fn.self.lines;
-  now : (m t : ℕ) → count_in l.self-inside.lines.items m t ≡ count_now l.fn.self m t;
+-- lines of no step that is left had none, or have a counter above 0
+abbrev pub invariant-loop-i : goal.invariant-loop-i
+invariant-loop-i g l = record {
+  log : steps_in l.self ≡ 0;
+  len : lines_in l.self ≡ lines_in l.fn.self;
+  now : (m t : ℕ) → count_now l.self m t ≡ count_now l.fn.self m t;
+  steps : length l.steps.items ≡ length l.fn.steps.items;
+  counted : (m : ℕ) → m < lines_in l.fn.self → has_line l.steps.items m ≡ false → (has_line l.fn.steps.items m ≡ false) ⊎ HasCount l.fn.self m;
 }
