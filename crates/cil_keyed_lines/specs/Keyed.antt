@@ -1,10 +1,12 @@
 -- Lines of counters by their keys, and the log of their steps.
-use Rattle.std.specs.Prelude.{◌≡◌, ◌≤◌, ℕ, ◌==◌, ◌&&◌, Bool, List, [], ◌∷◌, ◌++◌, length, position, slice_get, Some, if◌then◌else◌}
+use Rattle.std.specs.Prelude.{◌≡◌, ◌<◌, ◌≤◌, ℕ, ◌==◌, ◌&&◌, Bool, false, List, [], ◌∷◌, ◌++◌, length, position, slice_get, Some, if◌then◌else◌, Contains}
 use Rattle.std.specs.List.{list_any, IsDistinct}
 use Rattle.std.specs.Option.{option_map_or}
 use Rattle.cil_lines.specs.Line.{hit}
 use Rattle.cil_recorded.specs.Recorded as recorded
-use Rattle.cil_recorded.specs.Recorded.{State, lines_in}
+use Rattle.cil_recorded.specs.Log.{has_line}
+use Rattle.cil_recorded.specs.Recorded.{State, lines_in, HasCount}
+use Rattle.cil_recorded.specs.declared.step.Step.{Step}
 use Rattle.cil_keyed_lines.specs.declared.symbol_key.SymbolKey.{SymbolKey}
 
 -- the keys by the places of their lines, and the lines
@@ -68,3 +70,26 @@ pub record IsNoLine (k : Keyed) (i : ℕ) : Type 0 where
 -- no counter of the key is above 0
 abbrev pub NoneCounted : Keyed → SymbolKey → Type 0
 NoneCounted k key = (t : ℕ) → (count_now k key t ≡ 0) × (count_before k key t ≡ 0)
+
+-- each of the first n lines has a counter above 0, but for lines of the steps of a list
+abbrev pub AreCounted : List Step → ℕ → State → Type 0
+AreCounted steps n lines = (i : ℕ) → i < n → has_line steps i ≡ false → HasCount lines i
+
+-- the lines of keys, of which each has a counter above 0 or a step
+pub record AreHeld (keys : List SymbolKey) (lines : State) : Type 0 where
+  pub keyed : AreKeyed keys lines
+  pub counted : AreCounted lines.log (length keys) lines
+
+-- each line is that of a key, and no step can be taken back
+pub record ArePaired (keys : List SymbolKey) (lines : State) : Type 0 where
+  pub distinct : IsDistinct is_key keys
+  pub len : lines_in lines ≡ length keys
+  pub settled : recorded.steps_in lines ≡ 0
+
+-- each of these keys is one of others
+abbrev pub AreAmong : List SymbolKey → List SymbolKey → Type 0
+AreAmong keys others = (key : SymbolKey) → Contains keys key → Contains others key
+
+-- each line has a counter above 0
+abbrev pub AllCounted : Keyed → Type 0
+AllCounted k = (i : ℕ) → i < length k.keys → (t : ℕ) × (0 < now_at k i t)

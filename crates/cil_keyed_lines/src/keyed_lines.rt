@@ -1,25 +1,63 @@
 //! Lines of counters by their keys.
 
-ghost use Rattle.std.specs.Prelude.{◌≡◌, ◌↔◌, ℕ, ◌+◌, ◌-◌, ◌<◌, ◌≤◌, ◌^◌, ◌==◌, false, length, min, bit_and, bit_xor, count_ones, position, slice_get, Some, if◌then◌else◌, IfOk, IsTrue, MatchOption, OnErr, OnOk};
+ghost use Rattle.std.specs.Prelude.{◌≡◌, ◌≢◌, ◌↔◌, ℕ, ◌+◌, ◌-◌, ◌<◌, ◌≤◌, ◌^◌, ◌==◌, false, length, min, bit_and, bit_xor, count_ones, position, slice_get, Some, if◌then◌else◌, IfOk, IsTrue, MatchOption, OnErr, OnOk};
 ghost use Rattle.std.specs.Int.{bit_not, w64};
 ghost use Rattle.std.specs.List.{list_any};
 ghost use Rattle.std.specs.Option.{is_some};
 ghost use Rattle.cil_lines.specs.Line.{IsPresence, IsNextPresent, NonePresent};
-ghost use Rattle.cil_lines.specs.Limit.{CanLower};
+ghost use Rattle.cil_lines.specs.Limit.{CanLower, CanRaise};
 ghost use Rattle.cil_recorded.specs.Differences.{appeared_at, change_key, gone_at, Ascends};
-ghost use Rattle.cil_keyed_lines.specs.Keyed.{before_at, count_before, count_now, hit_of, is_key, now_at, steps_in, with_key, IsLineOf, IsNoLine, NoneCounted};
+ghost use Rattle.cil_recorded.specs.Recorded.{count_before as recorded_before, count_now as recorded_now, limit_now, spare};
+ghost use Rattle.cil_keyed_lines.specs.Keyed.{before_at, count_before, count_now, hit_of, is_key, now_at, steps_in, with_key, AllCounted, AreAmong, AreKeyed, IsLineOf, IsNoLine, NoneCounted};
 
+use crate::ended_lines::end;
 use crate::line_steps;
 use crate::read_ahead::ReadAhead;
 use crate::symbol_key::SymbolKey;
-use cil_recorded::{Change, RecordedLines};
+use cil_recorded::{Change, RecordedLines, Step};
 use indexmap::IndexSet;
 use std::alloc::{AllocError, Allocator, Global};
 use std::hash::{BuildHasherDefault, FoldHasher};
 use std::marker::Model;
 
+/// Makes room for a step down and one up of a word of the line of a key whose place is told, if it has one, and answers the place. A key
+/// that has none gets a line.
+fn reach<A: Allocator + Copy>(
+    keys: &mut IndexSet<SymbolKey, BuildHasherDefault<FoldHasher>, A>,
+    lines: &mut RecordedLines<A>,
+    alloc: A,
+    key: SymbolKey,
+    found: Option<usize>,
+    word: usize,
+    come: u64,
+) -> Result<usize, AllocError>
+    requires keyed { AreKeyed keys.old.keys lines.old }
+    requires found { found ≡ position (is_key key) keys.old.keys }
+    requires listed { is_some found ≡ list_any (is_key key) keys.old.keys }
+    requires word { word < 2 ^ 58 }
+    ensures place { IfOk result (λ i. position (is_key key) keys.new.keys ≡ Some i) }
+    ensures others { IfOk result (λ i. (l : ℕ) → l < length keys.new.keys → l ≢ i → l < length keys.old.keys) }
+    ensures room { IfOk result (λ i. CanRaise (recorded_now lines.new i) (limit_now lines.new i) word come) }
+    ensures spare { OnOk result (2 ≤ spare lines.new) }
+    ensures keys { OnOk result (keys.new.keys ≡ with_key keys.old.keys key) }
+    ensures kept { OnErr result (keys.new.keys ≡ keys.old.keys) }
+    ensures keyed { AreKeyed keys.new.keys lines.new }
+    ensures log { lines.new.log ≡ lines.old.log }
+    ensures now { (l t : ℕ) → recorded_now lines.new l t ≡ recorded_now lines.old l t }
+    ensures before { (l t : ℕ) → recorded_before lines.new l t ≡ recorded_before lines.old l t }
+{
+    if let Some(place) = found {
+        line_steps::make_room(lines, alloc, place, word, come)?;
+        return Ok(place);
+    }
+    let place = keys.len();
+    line_steps::make_room(lines, alloc, place, word, come)?;
+    keys.insert_full(key)?;
+    Ok(place)
+}
+
 /// Lines of counters, each found by its key. They are changed in steps, which `undo` takes back and `settle` keeps. The place of a
-/// key's line stays while other keys come.
+/// key's line stays while other keys come. At the end of the steps, keys are taken out whose lines have no counter above 0.
 #[derive(Drop)]
 pub struct KeyedLines<A: Allocator = Global> {
     keys: IndexSet<SymbolKey, BuildHasherDefault<FoldHasher>, A>,
@@ -29,16 +67,18 @@ pub struct KeyedLines<A: Allocator = Global> {
     hint: usize,
     /// Lines that were read ahead of their changes. No contract tells of it.
     ahead: ReadAhead,
+    /// The room of the log while keys are taken out, and nothing otherwise.
+    ended: Vec<Step, A>,
 }
 
 impl<A: Allocator> Model for KeyedLines<A> {
-    ghost use Rattle.cil_keyed_lines.specs.Keyed.{AreKeyed, Keyed};
+    ghost use Rattle.cil_keyed_lines.specs.Keyed.{AreHeld, Keyed};
 
     ghost Value = { Keyed };
 
     ghost view = { λ k. record { keys = k.keys.keys; lines = k.lines } };
 
-    ghost invariant = { λ k. AreKeyed k.keys.keys k.lines };
+    ghost invariant = { λ k. AreHeld k.keys.keys k.lines };
 }
 
 impl<A: Allocator + Copy> KeyedLines<A> {
@@ -54,26 +94,8 @@ impl<A: Allocator + Copy> KeyedLines<A> {
             lines: RecordedLines::new(alloc),
             hint: 0,
             ahead: ReadAhead::new(),
+            ended: Vec::new(alloc),
         }
-    }
-
-    /// The place of a key's line, which is made if there is none.
-    fn reach(&mut self, alloc: A, key: SymbolKey) -> Result<usize, AllocError>
-        ensures place { IfOk result (λ i. position (is_key key) self.new.keys ≡ Some i) }
-        ensures keys { OnOk result (self.new.keys ≡ with_key self.old.keys key) }
-        ensures kept { OnErr result (self.new.keys ≡ self.old.keys) }
-        ensures steps { steps_in self.new ≡ steps_in self.old }
-        ensures now { (k : SymbolKey) (t : ℕ) → count_now self.new k t ≡ count_now self.old k t }
-        ensures before { (k : SymbolKey) (t : ℕ) → count_before self.new k t ≡ count_before self.old k t }
-    {
-        if let Some(place) = self.place_of(key) {
-            self.hint = place;
-            return Ok(place);
-        }
-        line_steps::reach(&mut self.lines, alloc, self.keys.len())?;
-        let (place, _new) = self.keys.insert_full(key)?;
-        self.hint = place;
-        Ok(place)
     }
 
     /// A rule gave the targets `was` of a word in the line of a key, and gives those of `is` now: takes 1 from the counter of each
@@ -101,33 +123,21 @@ impl<A: Allocator + Copy> KeyedLines<A> {
         if was == is {
             return Ok(0);
         }
-        let place = self.reach(alloc, key)?;
-        self.shift_at(alloc, place, key, word, was & !is, is & !was)?;
-        Ok((was ^ is).count_ones())
-    }
-
-    /// Takes 1 from the counter of each target that goes in the line of a place, and adds 1 to that of each that comes.
-    fn shift_at(
-        &mut self,
-        alloc: A,
-        place: usize,
-        key: SymbolKey,
-        word: usize,
-        gone: u64,
-        come: u64,
-    ) -> Result<(), AllocError>
-        requires place { position (is_key key) self.old.keys ≡ Some place }
-        requires word { word < 2 ^ 58 }
-        requires above { CanLower (count_now self.old key) word gone }
-        ensures now { OnOk result ((k : SymbolKey) (t : ℕ) → count_now self.new k t + hit_of key word gone k t ≡ count_now self.old k t + hit_of key word come k t) }
-        ensures steps { OnOk result (steps_in self.new ≡ steps_in self.old + min 1 gone + min 1 come) }
-        ensures kept { OnErr result ((k : SymbolKey) (t : ℕ) → count_now self.new k t ≡ count_now self.old k t) }
-        ensures kept_steps { OnErr result (steps_in self.new ≡ steps_in self.old) }
-        ensures keys { self.new.keys ≡ self.old.keys }
-        ensures before { (k : SymbolKey) (t : ℕ) → count_before self.new k t ≡ count_before self.old k t }
-    {
+        let found = self.place_of(key);
+        let come = is & !was;
+        let place = reach(
+            &mut self.keys,
+            &mut self.lines,
+            alloc,
+            key,
+            found,
+            word,
+            come,
+        )?;
+        self.hint = place;
         self.ahead = self.ahead.read(&self.lines, place, word);
-        line_steps::shift(&mut self.lines, alloc, place, word, gone, come)
+        line_steps::shift(&mut self.lines, place, word, was & !is, come);
+        Ok((was ^ is).count_ones())
     }
 
     /// Which targets appeared and which went since the last settling, by the place of the line and by word. A word where none
@@ -220,31 +230,37 @@ impl<A: Allocator> KeyedLines<A> {
         self.lines.next_present_word(place, from)
     }
 
-    /// Whether there are steps that `undo` would take back.
+    /// Whether there are steps that `undo` would take back. Where there are none, each line has a counter above 0.
     pub fn is_pending(&self) -> bool
+        ensures counted { result ≡ false → AllCounted self.now }
         ensures steps { IsTrue result ↔ (0 < steps_in self.now) }
         ensures none { result ≡ false → (k : SymbolKey) (t : ℕ) → count_before self.now k t ≡ count_now self.now k t }
     {
         self.lines.is_pending()
     }
 
-    /// Takes the steps back. Keys that came keep their lines. It takes no memory.
+    /// Takes the steps back, and takes out the keys whose lines are left without counters: those that came. It takes no memory.
     pub fn undo(&mut self)
-        ensures keys { self.new.keys ≡ self.old.keys }
+        ensures keys { AreAmong self.new.keys self.old.keys }
+        ensures counted { AllCounted self.new }
         ensures steps { steps_in self.new ≡ 0 }
         ensures now { (k : SymbolKey) (t : ℕ) → count_now self.new k t ≡ count_before self.old k t }
         ensures before { (k : SymbolKey) (t : ℕ) → count_before self.new k t ≡ count_before self.old k t }
     {
-        self.lines.undo();
+        self.lines.undo_into(&mut self.ended);
+        end(&mut self.keys, &mut self.lines, &mut self.ended);
     }
 
-    /// Keeps the steps, so that they can't be taken back any more.
+    /// Keeps the steps, so that they can't be taken back any more, and takes out the keys whose lines are left without counters. It
+    /// takes no memory.
     pub fn settle(&mut self)
-        ensures keys { self.new.keys ≡ self.old.keys }
+        ensures keys { AreAmong self.new.keys self.old.keys }
+        ensures counted { AllCounted self.new }
         ensures steps { steps_in self.new ≡ 0 }
         ensures now { (k : SymbolKey) (t : ℕ) → count_now self.new k t ≡ count_now self.old k t }
         ensures before { (k : SymbolKey) (t : ℕ) → count_before self.new k t ≡ count_now self.old k t }
     {
-        self.lines.settle();
+        self.lines.settle_into(&mut self.ended);
+        end(&mut self.keys, &mut self.lines, &mut self.ended);
     }
 }

@@ -1,30 +1,36 @@
 //! Steps of one of several lines.
 
-ghost use Rattle.std.specs.Prelude.{◌≡◌, ℕ, ◌+◌, ◌<◌, ◌≤◌, ◌^◌, min, OnErr, OnOk};
+ghost use Rattle.std.specs.Prelude.{◌≡◌, ℕ, ◌+◌, ◌<◌, ◌≤◌, ◌^◌, false, min, OnOk};
 ghost use Rattle.cil_lines.specs.Limit.{CanLower, CanRaise};
-ghost use Rattle.cil_recorded.specs.Log.{hit_at};
+ghost use Rattle.cil_recorded.specs.Log.{has_line, hit_at};
 ghost use Rattle.cil_recorded.specs.Recorded.{count_before, count_now, limit_now, lines_in, spare, steps_in};
 
 use cil_recorded::RecordedLines;
 use std::alloc::{AllocError, Allocator};
 
-/// Puts in a line where there is none at the place behind the others.
-pub fn reach<A: Allocator + Copy>(
+/// Makes room for a step down and one up of a word of a line, which is put in where there is none at the place behind the others.
+pub fn make_room<A: Allocator + Copy>(
     lines: &mut RecordedLines<A>,
     alloc: A,
     line: usize,
+    word: usize,
+    come: u64,
 ) -> Result<(), AllocError>
-    requires { line ≤ lines_in lines.old }
+    requires line { line ≤ lines_in lines.old }
+    requires word { word < 2 ^ 58 }
     ensures line { OnOk result (line < lines_in lines.new) }
     ensures lines { lines_in lines.old ≤ lines_in lines.new }
-    ensures steps { steps_in lines.new ≡ steps_in lines.old }
+    ensures room { OnOk result (CanRaise (count_now lines.new line) (limit_now lines.new line) word come) }
+    ensures spare { OnOk result (2 ≤ spare lines.new) }
+    ensures log { lines.new.log ≡ lines.old.log }
     ensures now { (l t : ℕ) → count_now lines.new l t ≡ count_now lines.old l t }
     ensures before { (l t : ℕ) → count_before lines.new l t ≡ count_before lines.old l t }
 {
-    if line < lines.len() {
-        return Ok(());
+    if line == lines.len() {
+        lines.put_in(alloc)?;
     }
-    lines.put_in(alloc)
+    lines.reserve(2)?;
+    lines.make_room(alloc, line, word, come)
 }
 
 /// Takes 1 from the counter of each target of a mask. An empty mask makes no step.
@@ -34,6 +40,7 @@ fn lower<A: Allocator>(lines: &mut RecordedLines<A>, line: usize, word: usize, m
     requires above { CanLower (count_now lines.old line) word mask }
     ensures lines { lines_in lines.new ≡ lines_in lines.old }
     ensures steps { steps_in lines.new ≡ steps_in lines.old + min 1 mask }
+    ensures others { (l : ℕ) → has_line lines.new.log l ≡ false → (has_line lines.old.log l ≡ false) × (l ≡ line → mask ≡ 0) }
     ensures spare { spare lines.old ≤ spare lines.new + 1 }
     ensures now { (l t : ℕ) → count_now lines.new l t + hit_at line word mask l t ≡ count_now lines.old l t }
     ensures before { (l t : ℕ) → count_before lines.new l t ≡ count_before lines.old l t }
@@ -52,6 +59,7 @@ fn raise<A: Allocator>(lines: &mut RecordedLines<A>, line: usize, word: usize, m
     requires room { CanRaise (count_now lines.old line) (limit_now lines.old line) word mask }
     ensures lines { lines_in lines.new ≡ lines_in lines.old }
     ensures steps { steps_in lines.new ≡ steps_in lines.old + min 1 mask }
+    ensures others { (l : ℕ) → has_line lines.new.log l ≡ false → (has_line lines.old.log l ≡ false) × (l ≡ line → mask ≡ 0) }
     ensures now { (l t : ℕ) → count_now lines.new l t ≡ count_now lines.old l t + hit_at line word mask l t }
     ensures before { (l t : ℕ) → count_before lines.new l t ≡ count_before lines.old l t }
 {
@@ -61,29 +69,24 @@ fn raise<A: Allocator>(lines: &mut RecordedLines<A>, line: usize, word: usize, m
     lines.raise(line, word, mask);
 }
 
-/// Takes 1 from the counter of each target that goes, and adds 1 to that of each target that comes. All memory is taken before a
-/// counter changes.
-pub fn shift<A: Allocator + Copy>(
+/// Takes 1 from the counter of each target that goes, and adds 1 to that of each target that comes. It takes no memory.
+pub fn shift<A: Allocator>(
     lines: &mut RecordedLines<A>,
-    alloc: A,
     line: usize,
     word: usize,
     gone: u64,
     come: u64,
-) -> Result<(), AllocError>
+)
     requires line { line < lines_in lines.old }
-    requires word { word < 2 ^ 58 }
     requires above { CanLower (count_now lines.old line) word gone }
+    requires room { CanRaise (count_now lines.old line) (limit_now lines.old line) word come }
+    requires spare { 2 ≤ spare lines.old }
     ensures lines { lines_in lines.new ≡ lines_in lines.old }
-    ensures steps { OnOk result (steps_in lines.new ≡ steps_in lines.old + min 1 gone + min 1 come) }
-    ensures now { OnOk result ((l t : ℕ) → count_now lines.new l t + hit_at line word gone l t ≡ count_now lines.old l t + hit_at line word come l t) }
-    ensures kept_steps { OnErr result (steps_in lines.new ≡ steps_in lines.old) }
-    ensures kept { OnErr result ((l t : ℕ) → count_now lines.new l t ≡ count_now lines.old l t) }
+    ensures steps { steps_in lines.new ≡ steps_in lines.old + min 1 gone + min 1 come }
+    ensures others { (l : ℕ) → has_line lines.new.log l ≡ false → (has_line lines.old.log l ≡ false) × (l ≡ line → (gone ≡ 0) × (come ≡ 0)) }
+    ensures now { (l t : ℕ) → count_now lines.new l t + hit_at line word gone l t ≡ count_now lines.old l t + hit_at line word come l t }
     ensures before { (l t : ℕ) → count_before lines.new l t ≡ count_before lines.old l t }
 {
-    lines.reserve(2)?;
-    lines.make_room(alloc, line, word, come)?;
     lower(lines, line, word, gone);
     raise(lines, line, word, come);
-    Ok(())
 }

@@ -4,3 +4,4 @@ pub mod DigitLemmas
 pub mod PlaceLemmas
 pub mod LineLemmas
 pub mod StepLemmas
+pub mod GiveUpLemmas

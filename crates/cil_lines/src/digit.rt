@@ -205,6 +205,24 @@ impl<A: Allocator> Digit<A> {
         }
     }
 
+    /// Gives up the place of a word without bits, as far as that moves no other: that of an entry, or of the last dense word. The list
+    /// keeps its memory for others.
+    pub fn give_up(&mut self, word: usize)
+        requires { bits_of self.old word ≡ 0 }
+        ensures bits { (w : ℕ) → bits_of self.new w ≡ bits_of self.old w }
+        ensures kept { (w : ℕ) → w ≢ word → HasPlace self.old w → HasPlace self.new w }
+    {
+        if word < self.dense.len() {
+            if word + 1 == self.dense.len() {
+                self.dense.pop();
+            }
+            return;
+        }
+        if let Ok(place) = search(&self.sparse, word) {
+            self.sparse.remove(place);
+        }
+    }
+
     /// A word from which on none has a place.
     pub fn end(&self) -> usize
         ensures { (w : ℕ) → result ≤ w → bits_of self.now w ≡ 0 }

@@ -161,3 +161,16 @@ pub fn subtract<A: Allocator>(digits: &mut [Digit<A>], word: usize, mask: u64)
         borrow &= bits;
     }
 }
+
+/// Gives up the places of a word whose counters are all 0.
+pub fn give_up<A: Allocator>(digits: &mut [Digit<A>], word: usize)
+    requires { (b : ℕ) → value digits.old word b ≡ 0 }
+    ensures len { length digits.new ≡ length digits.old }
+    ensures now { (w b : ℕ) → value digits.new w b ≡ value digits.old w b }
+    ensures limits { (w : ℕ) → w ≢ word → limit digits.old w ≤ limit digits.new w }
+{
+    for i in 0..digits.len() {
+        let digit = &mut digits[i];
+        digit.give_up(word);
+    }
+}

@@ -6,12 +6,13 @@ ghost use Rattle.cil_recorded.specs.Differences.{appeared_at, change_key, gone_a
 ghost use Rattle.cil_recorded.specs.Log.{hit_at};
 ghost use Rattle.cil_member_rows.specs.Rows.{count_before, count_now, rows_in, steps_in, IsChange};
 
+mod ended;
 mod settling;
 mod shifting;
 
 use crate::bit_row::BitRow;
 use crate::{held, marks};
-use cil_recorded::{Change, RecordedLines};
+use cil_recorded::{Change, RecordedLines, Step};
 use std::alloc::{AllocError, Allocator, Global};
 use std::marker::Model;
 
@@ -26,6 +27,8 @@ pub struct MemberRows<A: Allocator = Global> {
     rows: RecordedLines<A>,
     held: Vec<BitRow<A>, A>,
     turned: Vec<bool, A>,
+    /// The room of the log while words are given up, and nothing otherwise.
+    ended: Vec<Step, A>,
 }
 
 impl<A: Allocator> Model for MemberRows<A> {
@@ -51,6 +54,7 @@ impl<A: Allocator + Copy> MemberRows<A> {
             rows: RecordedLines::new(alloc),
             held: Vec::new(alloc),
             turned: Vec::new(alloc),
+            ended: Vec::new(alloc),
         }
     }
 
@@ -189,18 +193,20 @@ impl<A: Allocator> MemberRows<A> {
         marks::is_marked(&self.turned, row)
     }
 
-    /// Takes the steps back. It takes no memory.
+    /// Takes the steps back, and gives up the words that they leave without counters. It takes no memory.
     pub fn undo(&mut self)
         ensures rows { rows_in self.new ≡ rows_in self.old }
         ensures steps { steps_in self.new ≡ 0 }
         ensures now { (r t : ℕ) → count_now self.new r t ≡ count_before self.old r t }
         ensures before { (r t : ℕ) → count_before self.new r t ≡ count_before self.old r t }
     {
-        self.rows.undo();
+        self.rows.undo_into(&mut self.ended);
+        ended::give_up(&mut self.rows, &mut self.ended);
         marks::clear(&mut self.turned);
     }
 
-    /// Keeps the steps, so that they can't be taken back any more. It takes no memory.
+    /// Keeps the steps, so that they can't be taken back any more, and gives up the words that they left without counters. It takes no
+    /// memory.
     pub fn settle(&mut self)
         ensures rows { rows_in self.new ≡ rows_in self.old }
         ensures steps { steps_in self.new ≡ 0 }
@@ -208,7 +214,8 @@ impl<A: Allocator> MemberRows<A> {
         ensures before { (r t : ℕ) → count_before self.new r t ≡ count_now self.old r t }
     {
         settling::hold(&self.rows, &mut self.held);
-        self.rows.settle();
+        self.rows.settle_into(&mut self.ended);
+        ended::give_up(&mut self.rows, &mut self.ended);
         marks::clear(&mut self.turned);
     }
 }

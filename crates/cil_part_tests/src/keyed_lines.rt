@@ -126,6 +126,25 @@ const KEPT: &[Step] = &[
     Undo,
 ];
 
+// Lines that are left without counters, whose keys go then.
+const ENDED: &[Step] = &[
+    Shift(READ, 2, 0, 0b1),
+    Shift(WRITE, 1, 0, 0b11),
+    Shift(OTHER_READ, 90, 0, ALL),
+    Settle,
+    Shift(READ, 2, 0b1, 0),
+    Shift(OTHER_READ, 90, ALL, 0),
+    Undo,
+    Shift(READ, 2, 0b1, 0),
+    Shift(OTHER_READ, 90, ALL, 0),
+    Settle,
+    Shift(WRITE, 1, 0b11, 0),
+    Shift(READ, 5, 0, 0b1),
+    Settle,
+    Shift(READ, 5, 0b1, 0),
+    Settle,
+];
+
 // The first steps of some, the keys in their order, whether steps are pending, and what they changed.
 type Stepped = (
     &'static [Step],
@@ -150,8 +169,26 @@ const STEPS: &[Stepped] = &[
         true,
         &[(1, 3, 0b100, 0), (1, 90, 0, 1 << 63), (2, 2, 0b11, 0)],
     ),
-    (THREE, 7, &[READ, OTHER_READ, WRITE], false, &[]),
+    (THREE, 7, &[READ, OTHER_READ], false, &[]),
     (KEPT, 5, &[READ], false, &[]),
+    (ENDED, 7, &[READ, WRITE, OTHER_READ], false, &[]),
+    (
+        ENDED,
+        9,
+        &[READ, WRITE, OTHER_READ],
+        true,
+        &[(0, 2, 0, 0b1), (2, 90, 0, ALL)],
+    ),
+    (ENDED, 10, &[WRITE], false, &[]),
+    (
+        ENDED,
+        12,
+        &[WRITE, READ],
+        true,
+        &[(0, 1, 0, 0b11), (1, 5, 0b1, 0)],
+    ),
+    (ENDED, 13, &[READ], false, &[]),
+    (ENDED, 15, &[], false, &[]),
 ];
 
 // The first steps of some, a key and a word, and what is counted there.
@@ -180,6 +217,10 @@ const WORDS: &[Word] = &[
     (THREE, 7, OTHER_READ, 3, (&[0, 0, 0, 0, 0], 0, Some(90))),
     (THREE, 7, OTHER_READ, 90, (&[1, 1, 1, 1, 1], ALL, Some(90))),
     (KEPT, 5, READ, 1, (&[0, 1, 0, 0, 0], 0b10, Some(1))),
+    (ENDED, 7, OTHER_READ, 90, (&[1, 1, 1, 1, 1], ALL, Some(90))),
+    (ENDED, 10, WRITE, 1, (&[1, 1, 0, 0, 0], 0b11, Some(1))),
+    (ENDED, 10, READ, 2, NOTHING),
+    (ENDED, 13, READ, 5, (&[1, 0, 0, 0, 0], 0b1, Some(5))),
 ];
 
 // Whether these are the keys, in their order.

@@ -63,11 +63,12 @@ fn lower(rt: &impl Abort, lines: &mut RecordedLines, line: usize, word: usize, m
 }
 
 fn take(rt: &impl Abort, alloc: Global, lines: &mut RecordedLines, step: Step) {
+    let mut ended = Vec::new(alloc);
     match step {
         Raise(line, word, mask) => raise(rt, alloc, lines, line as usize, word, mask),
         Lower(line, word, mask) => lower(rt, lines, line as usize, word as usize, mask),
-        Settle => lines.settle(),
-        Undo => lines.undo(),
+        Settle => lines.settle_into(&mut ended),
+        Undo => lines.undo_into(&mut ended),
     }
 }
 
@@ -136,7 +137,7 @@ const PLACED: &[Step] = &[
     Lower(1, 3, 0b01),
 ];
 
-// The first steps of some, what they changed, and where the steps were that `undo` would take back.
+// The first steps of some, what they changed, and where the steps were that `undo_into` would take back.
 type Stepped = (
     &'static [Step],
     usize,

@@ -1,3 +1,4 @@
 pub mod LogLemmas
 pub mod TurnLemmas
 pub mod PlaceLemmas
+pub mod EndLemmas

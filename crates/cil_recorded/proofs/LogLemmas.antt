@@ -291,6 +291,14 @@ module _ (lines : List Counters) (line word mask : ℕ) (x : Counters) (within :
   at_line : (l t : ℕ) → l ≡ line → count_in lines l t ≡ count_in lines line t
   at_line l t same = ap (λ k. count_in lines k t) same
 
+  -- the counters of a line that keeps its own
+  pub set_kept : ((t : ℕ) → count_of x t ≡ count_in lines line t) → (l t : ℕ) → count_in (set lines line x) l t ≡ count_in lines l t
+  set_kept same l t =
+      elim (cases_eq l line) [
+        | inl here ↦ set_here l t here ∙ same t ∙ sym (at_line l t here)
+        | inr other ↦ set_other l t other
+      ]
+
   pub set_raised : ((t : ℕ) → count_of x t ≡ count_in lines line t + hit word mask t) → (l t : ℕ) → count_in (set lines line x) l t ≡ count_in lines l t + hit_at line word mask l t
   set_raised rose l t =
       elim (cases_eq l line) [

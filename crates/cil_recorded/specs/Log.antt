@@ -1,5 +1,6 @@
 -- What a log of steps says of the counters before them, by line and target.
-use Rattle.std.specs.Prelude.{◌≡◌, ℕ, ◌+◌, ◌-◌, ◌*◌, ◌%◌, ◌<◌, ◌==◌, List, [], ◌∷◌, if◌then◌else◌, min, sum_by, MatchBool}
+use Rattle.std.specs.Prelude.{◌≡◌, Bool, ℕ, ◌+◌, ◌-◌, ◌*◌, ◌%◌, ◌<◌, ◌==◌, List, [], ◌∷◌, if◌then◌else◌, min, sum_by, MatchBool}
+use Rattle.std.specs.List.{list_any}
 use Rattle.cil_lines.specs.Line.{hit}
 use Rattle.cil_lines.specs.Limit.{CanRaise, CanLower}
 use Rattle.cil_recorded.specs.declared.step.Step.{Step}
@@ -37,3 +38,7 @@ turned_in ss l t = sum_by (λ s. turned_by s l t) ss
 -- modulo 4, that and whether a target was present make whether it is
 abbrev pub IsTurned : (ℕ → ℕ → ℕ) → (ℕ → ℕ → ℕ) → (ℕ → ℕ → ℕ) → Type 0
 IsTurned turns now before = (l t : ℕ) → (turns l t + min 1 (before l t)) % 4 ≡ min 1 (now l t)
+
+-- whether a step of a list is of a line
+abbrev pub has_line : List Step → ℕ → Bool
+has_line ss l = list_any (λ s. s.line == l) ss

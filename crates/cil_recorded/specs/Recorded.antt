@@ -1,5 +1,5 @@
 -- Lines of counters and the log of their steps.
-use Rattle.std.specs.Prelude.{ℕ, zero, suc, ◌+◌, ◌-◌, ◌*◌, List, [], length, reverse, slice_index_or}
+use Rattle.std.specs.Prelude.{ℕ, zero, suc, ◌+◌, ◌-◌, ◌*◌, ◌<◌, List, [], length, reverse, slice_index_or}
 use Rattle.cil_lines.specs.Line.{Counters, count_of}
 use Rattle.cil_lines.specs.Limit.{limit_of}
 use Rattle.cil_recorded.specs.declared.step.Step.{Step}
@@ -25,7 +25,7 @@ limit_in lines l = limit_of (line_of lines l)
 abbrev pub count_now : State → ℕ → ℕ → ℕ
 count_now s = count_in s.lines
 
--- what it was before the steps, and is again after `undo`
+-- what it was before the steps, and is again when they are taken back
 abbrev pub count_before : State → ℕ → ℕ → ℕ
 count_before s = undone (reverse s.log) (count_in s.lines)
 
@@ -57,3 +57,7 @@ sum_below (suc n) f = sum_below n f + f n
 -- how far the counters of a word moved, all together
 unfoldable pub moved : (ℕ → ℕ) → (ℕ → ℕ) → ℕ → ℕ
 moved old new word = sum_below 64 (λ b. (old (64 * word + b) - new (64 * word + b)) + (new (64 * word + b) - old (64 * word + b)))
+
+-- the line of a place has a counter above 0
+abbrev pub HasCount : State → ℕ → Type 0
+HasCount s l = (t : ℕ) × (0 < count_now s l t)

@@ -7,3 +7,4 @@ mod turn;
 mod word_steps;
 
 pub use recorded_lines::{Change, Place, RecordedLines};
+pub use step::Step;

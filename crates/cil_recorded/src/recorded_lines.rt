@@ -1,12 +1,13 @@
 //! Lines of counters with a log of the steps since the last settling.
 
-ghost use Rattle.std.specs.Prelude.{◌≡◌, ◌↔◌, ℕ, ◌+◌, ◌-◌, ◌*◌, ◌<◌, ◌≤◌, ◌^◌, false, min, count_ones, IsTrue, MatchOption, OnErr, OnOk};
+ghost use Rattle.std.specs.Prelude.{◌≡◌, ◌≢◌, ◌↔◌, ℕ, ◌+◌, ◌-◌, ◌*◌, ◌<◌, ◌≤◌, ◌^◌, false, min, count_ones, IsTrue, MatchOption, OnErr, OnOk};
 ghost use Rattle.cil_lines.specs.Line.{IsPresence, IsSingle, IsNextPresent, NonePresent};
 ghost use Rattle.cil_lines.specs.Limit.{CanLower, CanRaise};
-ghost use Rattle.cil_recorded.specs.Log.{hit_at};
+ghost use Rattle.cil_recorded.specs.Log.{has_line, hit_at};
 ghost use Rattle.cil_recorded.specs.Recorded.{count_before, count_now, limit_now, lines_in, moved, spare, steps_in};
 
 mod changes;
+mod ended;
 mod places;
 
 use crate::step::{Step, log_step};
@@ -18,7 +19,7 @@ use std::alloc::{AllocError, Allocator, Global};
 use std::marker::Model;
 
 /// Lines of counters, each at its place. They are changed in steps, each of some targets of a word of a line. The steps
-/// since the last `settle` are logged, so that `undo` takes them back.
+/// since the last `settle_into` are logged, so that `undo_into` takes them back.
 #[derive(Drop)]
 pub struct RecordedLines<A: Allocator = Global> {
     lines: Vec<Line<A>, A>,
@@ -54,6 +55,7 @@ impl<A: Allocator + Copy> RecordedLines<A> {
     pub fn put_in(&mut self, alloc: A) -> Result<(), AllocError>
         ensures ok { OnOk result (lines_in self.new ≡ lines_in self.old + 1) }
         ensures err { OnErr result (lines_in self.new ≡ lines_in self.old) }
+        ensures log { self.new.log ≡ self.old.log }
         ensures steps { steps_in self.new ≡ steps_in self.old }
         ensures spare { spare self.new ≡ spare self.old }
         ensures now { (l t : ℕ) → count_now self.new l t ≡ count_now self.old l t }
@@ -76,6 +78,7 @@ impl<A: Allocator + Copy> RecordedLines<A> {
         requires word { word < 2 ^ 58 }
         ensures room { OnOk result (CanRaise (count_now self.new line) (limit_now self.new line) word mask) }
         ensures lines { lines_in self.new ≡ lines_in self.old }
+        ensures log { self.new.log ≡ self.old.log }
         ensures steps { steps_in self.new ≡ steps_in self.old }
         ensures spare { spare self.new ≡ spare self.old }
         ensures now { (l t : ℕ) → count_now self.new l t ≡ count_now self.old l t }
@@ -106,6 +109,7 @@ impl<A: Allocator> RecordedLines<A> {
         ensures room { OnOk result (steps ≤ spare self.new) }
         ensures spare { spare self.old ≤ spare self.new }
         ensures lines { lines_in self.new ≡ lines_in self.old }
+        ensures log { self.new.log ≡ self.old.log }
         ensures steps { steps_in self.new ≡ steps_in self.old }
         ensures now { (l t : ℕ) → count_now self.new l t ≡ count_now self.old l t }
         ensures before { (l t : ℕ) → count_before self.new l t ≡ count_before self.old l t }
@@ -158,7 +162,7 @@ impl<A: Allocator> RecordedLines<A> {
         }
     }
 
-    /// Whether there are steps that `undo` would take back.
+    /// Whether there are steps that `undo_into` would take back.
     pub fn is_pending(&self) -> bool
         ensures steps { IsTrue result ↔ (0 < steps_in self.now) }
         ensures none { result ≡ false → (l t : ℕ) → count_before self.now l t ≡ count_now self.now l t }
@@ -175,6 +179,7 @@ impl<A: Allocator> RecordedLines<A> {
         ensures moved { result ≡ moved (count_now self.old line) (count_now self.new line) word }
         ensures lines { lines_in self.new ≡ lines_in self.old }
         ensures steps { steps_in self.new ≡ steps_in self.old + 1 }
+        ensures others { (l : ℕ) → has_line self.new.log l ≡ false → (has_line self.old.log l ≡ false) × (l ≢ line) }
         ensures spare { spare self.old ≤ spare self.new + 1 }
         ensures now { (l t : ℕ) → count_now self.new l t ≡ count_now self.old l t + hit_at line word mask l t }
         ensures before { (l t : ℕ) → count_before self.new l t ≡ count_before self.old l t }
@@ -201,6 +206,7 @@ impl<A: Allocator> RecordedLines<A> {
         ensures moved { result ≡ moved (count_now self.old line) (count_now self.new line) word }
         ensures lines { lines_in self.new ≡ lines_in self.old }
         ensures steps { steps_in self.new ≡ steps_in self.old + 1 }
+        ensures others { (l : ℕ) → has_line self.new.log l ≡ false → (has_line self.old.log l ≡ false) × (l ≢ line) }
         ensures spare { spare self.old ≤ spare self.new + 1 }
         ensures now { (l t : ℕ) → count_now self.new l t + hit_at line word mask l t ≡ count_now self.old l t }
         ensures before { (l t : ℕ) → count_before self.new l t ≡ count_before self.old l t }
@@ -216,35 +222,5 @@ impl<A: Allocator> RecordedLines<A> {
         log_step(&mut self.log, step);
         word_steps::lower(&mut self.lines, line, word, mask);
         mask.count_ones()
-    }
-
-    /// Takes the steps back, from the last to the first. It takes no memory.
-    pub fn undo(&mut self)
-        ensures lines { lines_in self.new ≡ lines_in self.old }
-        ensures steps { steps_in self.new ≡ 0 }
-        ensures spare { spare self.old ≤ spare self.new }
-        ensures now { (l t : ℕ) → count_now self.new l t ≡ count_before self.old l t }
-        ensures before { (l t : ℕ) → count_before self.new l t ≡ count_before self.old l t }
-        ensures limits { (l w : ℕ) → limit_now self.old l w ≤ limit_now self.new l w }
-    {
-        while let Some(step) = self.log.pop() {
-            if step.up {
-                word_steps::lower(&mut self.lines, step.line, step.word, step.mask);
-            } else {
-                word_steps::raise(&mut self.lines, step.line, step.word, step.mask);
-            }
-        }
-    }
-
-    /// Keeps the steps, so that they can't be taken back any more.
-    pub fn settle(&mut self)
-        ensures lines { lines_in self.new ≡ lines_in self.old }
-        ensures steps { steps_in self.new ≡ 0 }
-        ensures spare { spare self.old ≤ spare self.new }
-        ensures now { (l t : ℕ) → count_now self.new l t ≡ count_now self.old l t }
-        ensures before { (l t : ℕ) → count_before self.new l t ≡ count_now self.old l t }
-        ensures limits { (l w : ℕ) → limit_now self.old l w ≤ limit_now self.new l w }
-    {
-        self.log.clear();
     }
 }

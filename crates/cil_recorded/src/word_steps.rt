@@ -51,3 +51,13 @@ pub fn lower<A: Allocator>(lines: &mut Vec<Line<A>, A>, line: usize, word: usize
     let at = &mut lines[line];
     at.lower(word, mask);
 }
+
+/// Gives up the places of a word of a line without a counter above 0.
+pub fn give_up<A: Allocator>(lines: &mut Vec<Line<A>, A>, line: usize, word: usize)
+    requires line { line < length lines.old.items }
+    ensures len { length lines.new.items ≡ length lines.old.items }
+    ensures now { (l t : ℕ) → count_in lines.new.items l t ≡ count_in lines.old.items l t }
+{
+    let at = &mut lines[line];
+    at.give_up(word);
+}

@@ -6,7 +6,7 @@ use Rattle.cil_keyed_lines.specs.Keyed as keyed
 use Rattle.cil_keyed_lines.specs.Keyed.{Keyed}
 use Rattle.cil_keyed_lines.specs.declared.symbol_key.SymbolKey.{SymbolKey}
 use Rattle.cil_rule_shifts.specs.Reach.{one_if}
-use Rattle.cil_symbol_tables.specs.Tables.{count_before, count_now, is_kind, lines_of}
+use Rattle.cil_symbol_tables.specs.Tables.{count_before, count_now, is_kind, lines_of, AllCounted}
 use Rattle.cil_symbol_tables.specs.declared.symbol_tables.SymbolTables.{SymbolTables}
 
 -- what holds of the lines of each kind holds at a kind
@@ -33,6 +33,10 @@ pub all-before : {A : Type 0} (tables : SymbolTables A) (counts : RuleKind → S
     → (kind : RuleKind) (key : SymbolKey) (t : ℕ) → count_before tables kind key t ≡ counts kind key t
 unfolding count_before
 all-before tables counts allow auditallow dontaudit neverallow = each tables (λ kind lines. AreBefore lines (counts kind)) allow auditallow dontaudit neverallow
+
+pub all-counted : {A : Type 0} (tables : SymbolTables A) → keyed.AllCounted tables.allow → keyed.AllCounted tables.auditallow → keyed.AllCounted tables.dontaudit → keyed.AllCounted tables.neverallow
+    → AllCounted tables
+all-counted tables = each tables (λ _ lines. keyed.AllCounted lines)
 
 -- the counters of a kind are those of its lines
 pub counted-of : {A : Type 0} (tables : SymbolTables A) (kind other : RuleKind) (key : SymbolKey) (t : ℕ) → kind ≡ other → keyed.count_now (lines_of tables other) key t ≡ count_now tables kind key t

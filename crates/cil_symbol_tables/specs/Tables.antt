@@ -26,3 +26,7 @@ count_now tables kind key t = keyed.count_now (lines_of tables kind) key t
 
 unfoldable pub count_before : {A : Type 0} → SymbolTables A → RuleKind → SymbolKey → ℕ → ℕ
 count_before tables kind key t = keyed.count_before (lines_of tables kind) key t
+
+-- each line of each kind has a counter above 0
+abbrev pub AllCounted : {A : Type 0} → SymbolTables A → Type 0
+AllCounted tables = (kind : RuleKind) → keyed.AllCounted (lines_of tables kind)

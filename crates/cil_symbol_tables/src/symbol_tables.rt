@@ -75,7 +75,7 @@ impl<A: Allocator + Copy> SymbolTables<A> {
 
 impl<A: Allocator> SymbolTables<A> {
     ghost use Rattle.std.specs.Prelude.{◌≡◌, ◌-◌, ◌^◌, ℕ, false, min};
-    ghost use Rattle.cil_symbol_tables.specs.Tables.{count_before, count_now, lines_of};
+    ghost use Rattle.cil_symbol_tables.specs.Tables.{count_before, count_now, lines_of, AllCounted};
 
     /// The lines of the rules of a kind.
     pub fn lines(&self, kind: RuleKind) -> &KeyedLines<A>
@@ -102,9 +102,11 @@ impl<A: Allocator> SymbolTables<A> {
         }
     }
 
-    /// Whether counters may differ from those before the steps. No means that `undo` and `settle` would change nothing.
+    /// Whether counters may differ from those before the steps. No means that `undo` and `settle` would change nothing, and that each line
+    /// has a counter above 0.
     pub fn is_pending(&self) -> bool
-        ensures { result ≡ false → (kind : RuleKind) (key : SymbolKey) (t : ℕ) → count_before self.now kind key t ≡ count_now self.now kind key t }
+        ensures counted { result ≡ false → AllCounted self.now }
+        ensures same { result ≡ false → (kind : RuleKind) (key : SymbolKey) (t : ℕ) → count_before self.now kind key t ≡ count_now self.now kind key t }
     {
         let allow = self.allow.is_pending();
         let auditallow = self.auditallow.is_pending();
@@ -113,8 +115,9 @@ impl<A: Allocator> SymbolTables<A> {
         allow | auditallow | dontaudit | neverallow
     }
 
-    /// Takes the steps back. It takes no memory.
+    /// Takes the steps back, and takes out the lines that are left without counters. It takes no memory.
     pub fn undo(&mut self)
+        ensures counted { AllCounted self.new }
         ensures now { (kind : RuleKind) (key : SymbolKey) (t : ℕ) → count_now self.new kind key t ≡ count_before self.old kind key t }
         ensures before { (kind : RuleKind) (key : SymbolKey) (t : ℕ) → count_before self.new kind key t ≡ count_before self.old kind key t }
     {
@@ -124,8 +127,10 @@ impl<A: Allocator> SymbolTables<A> {
         self.neverallow.undo();
     }
 
-    /// Keeps the steps, so that they can't be taken back any more. It takes no memory.
+    /// Keeps the steps, so that they can't be taken back any more, and takes out the lines that are left without counters. It takes no
+    /// memory.
     pub fn settle(&mut self)
+        ensures counted { AllCounted self.new }
         ensures now { (kind : RuleKind) (key : SymbolKey) (t : ℕ) → count_now self.new kind key t ≡ count_now self.old kind key t }
         ensures before { (kind : RuleKind) (key : SymbolKey) (t : ℕ) → count_before self.new kind key t ≡ count_now self.old kind key t }
     {

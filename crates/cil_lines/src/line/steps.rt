@@ -53,6 +53,20 @@ impl<A: Allocator> Line<A> {
         higher::subtract(&mut self.higher, word, bits & mask);
     }
 
+    /// Gives up the places of a word without a counter above 0. It takes no memory; to raise a target of the word may take some again.
+    pub fn give_up(&mut self, word: usize)
+        ensures { (t : ℕ) → count_of self.new t ≡ count_of self.old t }
+    {
+        if self.lowest.bits(word) != 0 {
+            return;
+        }
+        if higher::present(&self.higher, word) != 0 {
+            return;
+        }
+        self.lowest.give_up(word);
+        higher::give_up(&mut self.higher, word);
+    }
+
     /// The targets of a word whose counters are exactly 1.
     pub fn single(&self, word: usize) -> u64
         ensures { IsSingle (count_of self.now) word result }

@@ -1,0 +1,13 @@
+use Rattle.std.proofs.Common.{◌≡◌, ◌∙◌, sym, false, rules}
+use Rattle.std.specs.List.{list_any}
+use Rattle.cil_keyed_lines.proofs.EndLemmas.{known, placed_new}
+use Rattle.cil_keyed_lines.specs.Keyed.{is_key}
+use Rattle.cil_keyed_lines.proofs.keyed_lines.reach.Goals as goal
+
+pub returns-in-Some-clause-keys : goal.returns-in-Some-clause-keys
+returns-in-Some-clause-keys g c = known c.args.keys.now.keys c.args.key c.in-Some.place (sym c.requires.found ∙ c.in-Some.is)
+
+pub returns-clause-place : goal.returns-clause-place
+returns-clause-place g c =
+    let unknown : list_any (is_key c.args.key) c.args.keys.now.keys ≡ false = search rules in
+    placed_new c.args.keys.now.keys c.insert_full.new.self.keys c.args.key c.len-place.result c.len-place.ensures.len unknown c.in_ok-insert_full.ensures.keys c.in_ok-insert_full.ensures.unique

@@ -1,0 +1,10 @@
+use Rattle.std.proofs.Common.{◌≡◌, ◌≤◌, ◌≢◌, ℕ}
+use Rattle.cil_lines.specs.Limit.{limit}
+use Rattle.cil_lines.specs.Line.{value}
+use Rattle.cil_lines.proofs.higher.give_up.Given as goal
+
+abbrev pub invariant-loop-i : goal.invariant-loop-i
+invariant-loop-i g l = record {
+  now : (w b : ℕ) → value l.digits w b ≡ value l.fn.digits w b;
+  limits : (w : ℕ) → w ≢ l.word → limit l.fn.digits w ≤ limit l.digits w;
+}
