@@ -1,5 +1,5 @@
 -- The counters of a policy.
-use Rattle.std.specs.Prelude.{◌≡◌, ℕ, Bool, false, List, Option, None, Some, bytes_eq, nat_lt, position}
+use Rattle.std.specs.Prelude.{◌≡◌, ◌+◌, ◌≤◌, ℕ, Bool, false, List, length, max, Option, None, Some, bytes_eq, nat_lt, position}
 use Rattle.cil_specs.specs.Rule.{Atom}
 use Rattle.cil_text.specs.Image.{rule_kind_of}
 use Rattle.cil_parse.specs.Lexicon.{AreNumbersOf}
@@ -27,6 +27,10 @@ IsNow r c = IsCounted c.names r (member_rows.count_now c.rows) (access_tables.co
 
 abbrev pub WasBefore : {A B : Type 0} → Resolved A → Counters B → Type 0
 WasBefore r c = IsCounted c.names r (member_rows.count_before c.rows) (access_tables.count_before c.tables)
+
+-- There are no more names with symbols than there were, or than two policies have.
+abbrev pub HasFewNames : {A B C : Type 0} → (one other : Resolved A) (before : Counters B) (after : Counters C) → Type 0
+HasFewNames one other before after = length after.names ≤ max (length before.names) (length one.names.items + length other.names.items)
 
 -- The counters are those of before the steps, and so are those before the steps from now on.
 pub record AreTakenBack {A : Type 0} (old new : Counters A) : Type 0 where

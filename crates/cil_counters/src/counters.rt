@@ -1,6 +1,6 @@
 //! The counters of a policy.
 
-ghost use Rattle.std.specs.Prelude.{◌≡◌, ◌-◌, ◌/◌, ◌≤◌, ◌^◌, ◌++◌, ℕ, List, bytes_eq, false, length, min, nat_lt, IfOk, OnOk};
+ghost use Rattle.std.specs.Prelude.{◌≡◌, ◌-◌, ◌≤◌, ◌^◌, ℕ, List, bytes_eq, false, length, min, IfOk, OnOk};
 ghost use Rattle.std.specs.List.{IsDistinct};
 ghost use Rattle.cil_delta_specs.specs.Work.{AdjustsFew, EvaluatesFew};
 ghost use Rattle.cil_member_rows.specs.Rows as member_rows;
@@ -14,7 +14,7 @@ ghost use Rattle.cil_resolve.specs.Meter.{adjustments_in, evaluations_in};
 ghost use Rattle.cil_resolve.specs.Resolved.{meaning_in};
 ghost use Rattle.cil_resolve.specs.Sets.{sets_in};
 ghost use Rattle.cil_sets.specs.Members.{AreMembers};
-ghost use Rattle.cil_counters.specs.Counted.{count_with, had_named, has_named, AreSettled, AreTakenBack, IsNow, WasBefore};
+ghost use Rattle.cil_counters.specs.Counted.{count_with, had_named, has_named, AreSettled, AreTakenBack, HasFewNames, IsNow, WasBefore};
 ghost use Rattle.cil_symbol_tables.specs.Tables as access_tables;
 
 use crate::member_counts::members_of;
@@ -37,8 +37,9 @@ use cil_text::RuleKind;
 use std::alloc::{AllocError, Allocator, Global};
 
 /// For each attribute and type of a policy how many set statements make the one a member of the other, and for each access how many
-/// rules give it. They are kept by symbols: numbers of names that stay while names come. They are brought from one policy to
-/// another in steps, which `undo` takes back and `settle` keeps.
+/// rules give it. They are kept by symbols: numbers of names that stay from one policy to the next. The symbol of a name that went is
+/// given to one that comes, so that there are never more than the names of two policies. They are brought from one policy to another
+/// in steps, which `undo` takes back and `settle` keeps.
 #[derive(Drop)]
 pub struct Counters<A: Allocator = Global> {
     names: Symbols<A>,
@@ -63,42 +64,34 @@ impl<A: Allocator + Copy> Counters<A> {
         })
     }
 
-    /// The counters of a policy, made from those of a policy without set statements and rules.
-    pub fn of(alloc: A, nothing: &Resolved<A>, policy: &Resolved<A>) -> Result<Self, AllocError>
-        requires sets { length (sets_in nothing.now) ≡ 0 }
-        requires rules { length (meaning_in nothing.now).rules ≡ 0 }
-        ensures now { IfOk result (IsNow policy.now) }
-        ensures before { IfOk result (WasBefore policy.now) }
-    {
-        let mut counters = Counters::none(alloc, nothing)?;
-        counters.take_steps(alloc, nothing, policy, &mut Meter::new())?;
-        counters.settle();
-        Ok(counters)
-    }
-
-    /// The symbols of a policy's names, of which those come that there aren't yet. What is counted of another policy stays.
+    /// The symbols of a new policy's names. Names that neither policy has give theirs to names that come. What is counted of the old
+    /// policy stays.
     fn number(
         &mut self,
         alloc: A,
-        counted: &Resolved<A>,
-        policy: &Resolved<A>,
+        old: Named<'_, A>,
+        new: &Resolved<A>,
     ) -> Result<Numbering<A>, AllocError>
-        requires now { IsNow counted.now self.old }
-        requires before { WasBefore counted.now self.old }
-        ensures now { IsNow counted.now self.new }
-        ensures before { WasBefore counted.now self.new }
-        ensures grown { (more : List (List ℕ)) × (self.new.names ≡ self.old.names ++ more) }
-        ensures numbers { IfOk result (λ n. AreNumbersOf self.new.names n.symbols policy.now.names.items) }
+        requires now { IsNow old.resolved.now self.old }
+        requires before { WasBefore old.resolved.now self.old }
+        requires old_numbers { AreNumbersOf self.old.names old.numbering.now.symbols old.resolved.now.names.items }
+        requires old_count { old.numbering.now.count ≡ length self.old.names }
+        ensures now { IsNow old.entry.resolved.now self.new }
+        ensures before { WasBefore old.entry.resolved.now self.new }
+        ensures kept { AreNumbersOf self.new.names old.entry.numbering.now.symbols old.entry.resolved.now.names.items }
+        ensures grown { length self.old.names ≤ length self.new.names }
+        ensures numbers { IfOk result (λ n. AreNumbersOf self.new.names n.symbols new.now.names.items) }
         ensures count { IfOk result (λ n. n.count ≡ length self.new.names) }
         ensures distinct { IsDistinct bytes_eq self.new.names }
+        ensures few { HasFewNames old.entry.resolved.now new.now self.old self.new }
     {
-        resolved_names_are_kept(counted);
-        resolved_is_sound(counted);
-        resolved_sets_are_in_order(counted);
-        resolved_is_consistent(counted);
-        counted.rules();
+        resolved_names_are_kept(old.resolved);
+        resolved_is_sound(old.resolved);
+        resolved_sets_are_in_order(old.resolved);
+        resolved_is_consistent(old.resolved);
+        old.resolved.rules();
         self.names.len();
-        let numbering = Numbering::of(alloc, &mut self.names, policy);
+        let numbering = Numbering::beside(alloc, &mut self.names, old.numbering, new);
         self.names.len();
         numbering
     }
@@ -164,9 +157,9 @@ impl<A: Allocator + Copy> Counters<A> {
         ensures evaluations { OnOk result (EvaluatesFew (meaning_in old.now) (meaning_in new.now) (evaluations_in meter.old) (evaluations_in meter.new)) }
         ensures adjustments { OnOk result ((changes : report.Changes) → AreChanges (is_in_table (meaning_in old.now)) (is_in_table (meaning_in new.now)) changes
             → AdjustsFew (meaning_in old.now) (meaning_in new.now) changes (adjustments_in meter.old) (adjustments_in meter.new)) }
+        ensures names { HasFewNames old.now new.now self.old self.new }
     {
-        let old_numbering = self.number(alloc, old, old)?;
-        let new_numbering = self.number(alloc, old, new)?;
+        let old_numbering = Numbering::known(alloc, &self.names, old)?;
         resolved_names_are_kept(old);
         resolved_names_are_kept(new);
         old.rules();
@@ -179,6 +172,7 @@ impl<A: Allocator + Copy> Counters<A> {
             resolved: old,
             numbering: &old_numbering,
         };
+        let new_numbering = self.number(alloc, old, new)?;
         let new = Named {
             resolved: new,
             numbering: &new_numbering,
@@ -249,6 +243,7 @@ impl<A: Allocator + Copy> Counters<A> {
         ensures changes { IfOk result (AreChanges (is_in_table (meaning_in old.now)) (is_in_table (meaning_in new.now))) }
         ensures evaluations { OnOk result (EvaluatesFew (meaning_in old.now) (meaning_in new.now) (evaluations_in meter.old) (evaluations_in meter.new)) }
         ensures adjustments { IfOk result (λ changes. AdjustsFew (meaning_in old.now) (meaning_in new.now) changes (adjustments_in meter.old) (adjustments_in meter.new)) }
+        ensures names { HasFewNames old.now new.now self.old self.new }
     {
         self.take_steps(alloc, old, new, meter)?;
         self.changes(alloc, old, new)
@@ -305,13 +300,6 @@ impl<A: Allocator> Counters<A> {
             permission,
         };
         self.tables.count(kind, key, target)
-    }
-
-    /// Whether a policy has fewer names than half of those that have symbols, so that most symbols are out of use.
-    pub fn is_sparse(&self, policy: &Resolved<A>) -> bool
-        ensures { result ≡ nat_lt (length policy.now.names.items) (length self.now.names / 2) }
-    {
-        policy.names_len() < self.names.len() / 2
     }
 
     /// Whether counters may differ from those before the steps. No means that `undo` and `settle` would change nothing.

@@ -11,27 +11,8 @@ ghost use Rattle.cil_counters.specs.MemberCounts.{by_numbers, in_row, HasRoom};
 use cil_member_rows::MemberRows;
 use cil_resolve::{Resolved, resolved_is_sound, resolved_sets_are_in_order};
 use cil_sets::Members;
-use cil_symbols::Symbols;
+use cil_symbols::{Symbols, known_symbols};
 use std::alloc::{AllocError, Allocator};
-
-/// The symbols of a policy's names, which all have one, in the order of the policy's numbers.
-fn symbols_of<A: Allocator + Copy>(
-    alloc: A,
-    names: &Symbols<A>,
-    policy: &Resolved<A>,
-) -> Result<Vec<usize, A>, AllocError>
-    requires { (symbols : List ℕ) × AreNumbersOf names.now symbols policy.now.names.items }
-    ensures { IfOk result (λ symbols. AreNumbersOf names.now symbols.items policy.now.names.items) }
-{
-    let mut symbols = Vec::with_capacity(alloc, policy.names_len())?;
-    for i in 0..policy.names_len() {
-        let Some(symbol) = names.find(policy.name(i)) else {
-            unreachable!("each name has a symbol");
-        };
-        symbols.push(symbol)?;
-    }
-    Ok(symbols)
-}
 
 /// So many statements make a type a member that is none yet. So many that 32 bits can't count them are told to take too much memory.
 fn put_count<A: Allocator + Copy>(
@@ -113,6 +94,6 @@ pub fn members_of<A: Allocator + Copy>(
 {
     resolved_is_sound(policy);
     resolved_sets_are_in_order(policy);
-    let symbols = symbols_of(alloc, names, policy)?;
+    let symbols = known_symbols(alloc, names, policy)?;
     counted(alloc, rows, symbols.as_slice())
 }

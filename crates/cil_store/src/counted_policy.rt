@@ -52,19 +52,6 @@ pub struct CountedPolicy<A: Allocator = Global> {
     counters: Counters<A>,
 }
 
-/// The counters of a policy, made anew.
-fn counters_of<A: Allocator + Copy>(
-    alloc: A,
-    policy: &Resolved<A>,
-) -> Result<Counters<A>, AllocError>
-    ensures now { IfOk result (IsNow policy.now) }
-    ensures before { IfOk result (WasBefore policy.now) }
-{
-    let nothing = resolve_nothing(alloc)?;
-    resolved_sets_are_in_order(&nothing);
-    Counters::of(alloc, &nothing, policy)
-}
-
 impl<A: Allocator + Copy> CountedPolicy<A> {
     /// The policy of no statement.
     pub fn empty(alloc: A) -> Result<Self, AllocError>
@@ -115,21 +102,6 @@ impl<A: Allocator + Copy> CountedPolicy<A> {
         self.resolved = next.resolved;
         self.dropped = next.dropped;
         Ok(changes)
-    }
-
-    /// Makes the counters anew where most of the names that they have symbols for are out of use, so that they don't grow from edit to
-    /// edit. That takes as long as a load, and comes once in as many edits as bring so many names. Where memory lacks, they stay.
-    pub fn renumber(&mut self, alloc: A)
-        requires { IsKept self.old }
-        ensures kept { IsKept self.new }
-        ensures meaning { counted_meaning self.new ≡ counted_meaning self.old }
-    {
-        if !self.counters.is_sparse(&self.resolved) {
-            return;
-        }
-        if let Ok(counters) = counters_of(alloc, &self.resolved) {
-            self.counters = counters;
-        }
     }
 
     /// The accesses that its rules give.

@@ -92,7 +92,6 @@ impl<A: Allocator + Copy> Delta<A> {
     {
         let mut policy = take_policy(self.alloc, &mut self.policy)?;
         let changes = policy.replace(self.alloc, &mut self.store, edit, next, meter);
-        policy.renumber(self.alloc);
         self.policy = Some(policy);
         changes
     }

@@ -1,3 +1,4 @@
+pub mod InUseLemmas
 pub mod NameLemmas
 pub mod InverseLemmas
 pub mod NumberLemmas

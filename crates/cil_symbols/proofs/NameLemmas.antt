@@ -16,7 +16,7 @@ texts names = map (λ name. name.items) names
 abbrev pub same : {A : Type 0} → Vec ℕ A → Vec ℕ A → Bool
 same a b = bytes_eq a.items b.items
 
-has_name-texts : {A : Type 0} (names : List (Vec ℕ A)) (name : List ℕ) → list_any (λ k. bytes_eq name k.items) names ≡ has_name (texts names) name
+pub has_name-texts : {A : Type 0} (names : List (Vec ℕ A)) (name : List ℕ) → list_any (λ k. bytes_eq name k.items) names ≡ has_name (texts names) name
 has_name-texts [] name = refl
 has_name-texts (x ∷ xs) name = ap (λ b. bytes_eq name x.items || b) (has_name-texts xs name)
 

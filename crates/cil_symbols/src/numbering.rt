@@ -1,10 +1,12 @@
 //! The symbols of a policy's names.
 
-ghost use Rattle.std.specs.Prelude.{◌≡◌, ◌++◌, ◌↔◌, ◌<◌, ℕ, List, fold, length, slice_get, Some, IfOk, IfSome, OnOk};
+ghost use Rattle.std.specs.Prelude.{◌≡◌, ◌+◌, ◌++◌, ◌↔◌, ◌<◌, ◌≤◌, ℕ, List, fold, length, max, slice_get, Some, IfOk, IfSome, OnOk};
 ghost use Rattle.cil_specs.specs.Lookup.{with_name};
 ghost use Rattle.cil_parse.specs.Lexicon.{AreNumbersOf};
+ghost use Rattle.cil_symbols.specs.InUse.{used_in, AreUsed, IsUsed};
 ghost use Rattle.cil_symbols.specs.Numbered.{AreApart};
 
+use crate::in_use::InUse;
 use crate::symbols::Symbols;
 use cil_resolve::Resolved;
 use std::alloc::{AllocError, Allocator, Global};
@@ -47,7 +49,95 @@ fn symbols_of<A: Allocator + Copy>(
     Ok(numbers)
 }
 
+/// The symbols of a policy's names, which all have one, in the order of the policy's numbers.
+pub fn known_symbols<A: Allocator + Copy>(
+    alloc: A,
+    symbols: &Symbols<A>,
+    resolved: &Resolved<A>,
+) -> Result<Vec<usize, A>, AllocError>
+    requires { (numbers : List ℕ) × AreNumbersOf symbols.now numbers resolved.now.names.items }
+    ensures { IfOk result (λ numbers. AreNumbersOf symbols.now numbers.items resolved.now.names.items) }
+{
+    let mut numbers = Vec::with_capacity(alloc, resolved.names_len())?;
+    for i in 0..resolved.names_len() {
+        let Some(symbol) = symbols.find(resolved.name(i)) else {
+            unreachable!("each name has a symbol");
+        };
+        numbers.push(symbol)?;
+    }
+    Ok(numbers)
+}
+
+/// The symbols of a policy's names, in the order of the policy's numbers. Names that come get symbols that aren't in use.
+fn symbols_beside<A: Allocator + Copy>(
+    alloc: A,
+    symbols: &mut Symbols<A>,
+    in_use: &mut InUse<A>,
+    resolved: &Resolved<A>,
+) -> Result<Vec<usize, A>, AllocError>
+    requires long { length in_use.old ≡ length symbols.old }
+    ensures kept { (s : ℕ) → IsUsed in_use.old s → slice_get symbols.new s ≡ slice_get symbols.old s }
+    ensures numbers { IfOk result (λ numbers. AreNumbersOf symbols.new numbers.items resolved.now.names.items) }
+    ensures grown { length symbols.old ≤ length symbols.new }
+    ensures few { length symbols.new ≤ max (length symbols.old) (used_in in_use.old + length resolved.now.names.items) }
+{
+    let mut numbers = Vec::with_capacity(alloc, resolved.names_len())?;
+    for i in 0..resolved.names_len() {
+        let symbol = in_use.number(alloc, symbols, resolved.name(i))?;
+        numbers.push(symbol)?;
+    }
+    Ok(numbers)
+}
+
 impl<A: Allocator + Copy> Numbering<A> {
+    /// The numbering of a policy whose names all have symbols.
+    pub fn known(
+        alloc: A,
+        symbols: &Symbols<A>,
+        resolved: &Resolved<A>,
+    ) -> Result<Self, AllocError>
+        requires { (numbers : List ℕ) × AreNumbersOf symbols.now numbers resolved.now.names.items }
+        ensures symbols { IfOk result (λ n. AreNumbersOf symbols.now n.symbols resolved.now.names.items) }
+        ensures count { IfOk result (λ n. n.count ≡ length symbols.now) }
+    {
+        let numbers = known_symbols(alloc, symbols, resolved)?;
+        Self::with_symbols(alloc, numbers, symbols.len())
+    }
+
+    /// The numbering of a policy beside that of another one, whose names keep their symbols. A name that has no symbol gets one that
+    /// neither policy uses, and a new one only where there is none: so there are never more symbols than the names of two policies.
+    /// The same holds where memory runs out.
+    pub fn beside(
+        alloc: A,
+        symbols: &mut Symbols<A>,
+        other: &Numbering<A>,
+        resolved: &Resolved<A>,
+    ) -> Result<Self, AllocError>
+        requires count { other.now.count ≡ length symbols.old }
+        ensures kept { (k s : ℕ) → slice_get other.now.symbols k ≡ Some s → slice_get symbols.new s ≡ slice_get symbols.old s }
+        ensures symbols { IfOk result (λ n. AreNumbersOf symbols.new n.symbols resolved.now.names.items) }
+        ensures count { IfOk result (λ n. n.count ≡ length symbols.new) }
+        ensures grown { length symbols.old ≤ length symbols.new }
+        ensures few { length symbols.new ≤ max (length symbols.old) (length other.now.symbols + length resolved.now.names.items) }
+    {
+        let mut in_use = other.in_use(alloc)?;
+        let numbers = symbols_beside(alloc, symbols, &mut in_use, resolved)?;
+        Self::with_symbols(alloc, numbers, symbols.len())
+    }
+
+    /// The symbols that the policy's names use.
+    fn in_use(&self, alloc: A) -> Result<InUse<A>, AllocError>
+        ensures long { IfOk result (λ marks. length marks ≡ self.now.count) }
+        ensures used { IfOk result (λ marks. AreUsed marks self.now.symbols) }
+        ensures count { IfOk result (λ marks. used_in marks ≡ length self.now.symbols) }
+    {
+        let mut marks = Vec::with_capacity(alloc, self.locals.len())?;
+        for local in &self.locals {
+            marks.push(local.is_some())?;
+        }
+        Ok(InUse::new(marks))
+    }
+
     /// The numbering of a policy among the symbols. A name of it that has no symbol becomes the last of them, and all others keep
     /// their numbers, also where memory runs out.
     pub fn of(

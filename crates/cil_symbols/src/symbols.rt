@@ -1,8 +1,8 @@
 //! Distinct names by numbers that stay.
 
-ghost use Rattle.std.specs.Prelude.{◌≡◌, [], bytes_eq, length, position, slice_get, Some, IfOk, OnErr, OnOk};
+ghost use Rattle.std.specs.Prelude.{◌≡◌, ◌<◌, [], bytes_eq, false, length, position, set, slice_get, Some, IfOk, OnErr, OnOk};
 ghost use Rattle.std.specs.List.{IsDistinct};
-ghost use Rattle.cil_specs.specs.Lookup.{with_name};
+ghost use Rattle.cil_specs.specs.Lookup.{has_name, with_name};
 
 use indexmap::IndexSet;
 use std::alloc::{AllocError, Allocator, Global};
@@ -48,6 +48,18 @@ impl<A: Allocator + Copy> Symbols<A> {
         }
         let (n, _new) = self.names.insert_full(Vec::from_slice(alloc, name)?)?;
         Ok(n)
+    }
+
+    /// Gives the number of another name to a new one, which stands in its place from then on. All others keep their numbers.
+    pub fn reuse(&mut self, alloc: A, number: usize, name: &[u8]) -> Result<(), AllocError>
+        requires number { number < length self.old }
+        requires new { has_name self.old name.now ≡ false }
+        ensures ok { OnOk result (self.new ≡ set self.old number name.now) }
+        ensures err { OnErr result (self.new ≡ self.old) }
+    {
+        self.names.insert(Vec::from_slice(alloc, name)?)?;
+        let _other = self.names.swap_remove_index(number);
+        Ok(())
     }
 }
 

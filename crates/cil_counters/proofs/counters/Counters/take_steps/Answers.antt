@@ -4,7 +4,6 @@ use Rattle.std.proofs.lemmas.Result.{on_ok_weaker}
 use Rattle.cil_delta_specs.specs.Work.{AdjustsFew, EvaluatesFew}
 use Rattle.cil_member_rows.specs.Rows as member_rows
 use Rattle.cil_member_updates.specs.Policy.{AreCounts}
-use Rattle.cil_member_updates.proofs.GrowthLemmas.{numbers-more}
 use Rattle.cil_parse.specs.Lexicon.{AreNumbersOf}
 use Rattle.cil_resolve.specs.Below.{is_rule_below}
 use Rattle.cil_resolve.specs.Meter.{adjustments_in, evaluations_in}
@@ -18,27 +17,23 @@ use Rattle.cil_counters.proofs.FoundLemmas.{found, tells}
 use Rattle.cil_counters.proofs.CountedLemmas.{counted-alike, members-counted}
 use Rattle.cil_counters.proofs.counters.Counters.take_steps.Goals as goal
 
-pub update_members-requires-clause-old_numbers : goal.update_members-requires-clause-old_numbers
-update_members-requires-clause-old_numbers g c =
-    subst (λ l. AreNumbersOf l c.in_ok-old_numbering.old_numbering.symbols c.args.old.now.names.items) (sym c.number-2.ensures.grown.1)
-    (numbers-more c.number.new.self.names c.number-2.ensures.grown.0 c.in_ok-old_numbering.old_numbering.symbols c.args.old.now.names.items c.in_ok-old_numbering.ensures.numbers)
+pub known-requires : goal.known-requires
+known-requires g c = (c.requires.now.symbols, c.requires.now.numbers)
 
 pub returns-in_err-update_members-clause-before : goal.returns-in_err-update_members-clause-before
 returns-in_err-update_members-clause-before g c =
-    counted-alike c.args.old.now c.number-2.new.self.names c.update_members.new.self.names (member_rows.count_before c.number-2.new.self.rows) (member_rows.count_before c.update_members.new.self.rows)
-    (access_tables.count_before c.number-2.new.self.tables) (access_tables.count_before c.update_members.new.self.tables) c.number-2.ensures.before c.update_members.ensures.names c.update_members.ensures.before
+    counted-alike c.args.old.now c.number.new.self.names c.update_members.new.self.names (member_rows.count_before c.number.new.self.rows) (member_rows.count_before c.update_members.new.self.rows)
+    (access_tables.count_before c.number.new.self.tables) (access_tables.count_before c.update_members.new.self.tables) c.number.ensures.before c.update_members.ensures.names c.update_members.ensures.before
     (λ kind key t. ap (λ tables. access_tables.count_before tables kind key t) c.update_members.ensures.tables)
 
 pub update-requires-clause-old_numbers : goal.update-requires-clause-old_numbers
 update-requires-clause-old_numbers g c =
-    subst (λ l. AreNumbersOf l c.in_ok-old_numbering.old_numbering.symbols c.args.old.now.names.items) (sym c.update_members.ensures.names)
-    (subst (λ l. AreNumbersOf l c.in_ok-old_numbering.old_numbering.symbols c.args.old.now.names.items) (sym c.number-2.ensures.grown.1)
-    (numbers-more c.number.new.self.names c.number-2.ensures.grown.0 c.in_ok-old_numbering.old_numbering.symbols c.args.old.now.names.items c.in_ok-old_numbering.ensures.numbers))
+    subst (λ l. AreNumbersOf l c.in_ok-old_numbering.old_numbering.symbols c.args.old.now.names.items) (sym c.update_members.ensures.names) c.number.ensures.kept
 
 pub update-requires-clause-old_members : goal.update-requires-clause-old_members
 update-requires-clause-old_members g c =
-    let was = counted-alike c.args.old.now c.number-2.new.self.names c.update_members.new.self.names (member_rows.count_before c.number-2.new.self.rows) (member_rows.count_before c.update_members.new.self.rows)
-    (access_tables.count_before c.number-2.new.self.tables) (access_tables.count_before c.update_members.new.self.tables) c.number-2.ensures.before c.update_members.ensures.names c.update_members.ensures.before
+    let was = counted-alike c.args.old.now c.number.new.self.names c.update_members.new.self.names (member_rows.count_before c.number.new.self.rows) (member_rows.count_before c.update_members.new.self.rows)
+    (access_tables.count_before c.number.new.self.tables) (access_tables.count_before c.update_members.new.self.tables) c.number.ensures.before c.update_members.ensures.names c.update_members.ensures.before
     (λ kind key t. ap (λ tables. access_tables.count_before tables kind key t) c.update_members.ensures.tables) in
     members-counted c.update_members.new.self.names c.args.old.now c.resolved_is_sound.ensures c.resolved_sets_are_in_order.ensures.the_same (member_rows.count_before c.update_members.new.self.rows) was.are_members
 
@@ -50,7 +45,7 @@ update-requires-clause-new_members g c =
 pub update-requires-clause-stands : goal.update-requires-clause-stands
 update-requires-clause-stands g c kind key t =
     ap (λ tables. access_tables.count_now tables kind key t) c.update_members.ensures.tables
-    ∙ c.number-2.ensures.now.are_counts kind key t
+    ∙ c.number.ensures.now.are_counts kind key t
     ∙ ap (λ l. count_named l (meaning_in c.args.old.now) kind key t) (sym c.update_members.ensures.names)
 
 pub returns-clause-now : goal.returns-clause-now
@@ -66,8 +61,8 @@ returns-clause-now g c =
 
 pub returns-clause-before : goal.returns-clause-before
 returns-clause-before g c =
-    let was = counted-alike c.args.old.now c.number-2.new.self.names c.update_members.new.self.names (member_rows.count_before c.number-2.new.self.rows) (member_rows.count_before c.update_members.new.self.rows)
-    (access_tables.count_before c.number-2.new.self.tables) (access_tables.count_before c.update_members.new.self.tables) c.number-2.ensures.before c.update_members.ensures.names c.update_members.ensures.before
+    let was = counted-alike c.args.old.now c.number.new.self.names c.update_members.new.self.names (member_rows.count_before c.number.new.self.rows) (member_rows.count_before c.update_members.new.self.rows)
+    (access_tables.count_before c.number.new.self.tables) (access_tables.count_before c.update_members.new.self.tables) c.number.ensures.before c.update_members.ensures.names c.update_members.ensures.before
     (λ kind key t. ap (λ tables. access_tables.count_before tables kind key t) c.update_members.ensures.tables) in
     counted-alike c.args.old.now c.update_members.new.self.names c.update_members.new.self.names (member_rows.count_before c.update_members.new.self.rows) (member_rows.count_before c.update_members.new.self.rows)
     (access_tables.count_before c.update_members.new.self.tables) (access_tables.count_before c.update.new.tables) was refl (λ a t. refl) c.update.ensures.before
@@ -83,11 +78,11 @@ returns-clause-adjustments g c =
     let old = c.args.old.now in
     let new = c.args.new.now in
     let was = access_tables.count_now c.update_members.new.self.tables in
-    let rows = member_rows.count_now c.number-2.new.self.rows in
+    let rows = member_rows.count_now c.number.new.self.rows in
     let is = access_tables.count_now c.update.new.tables in
     let between = adjustments_in c.update_members.new.meter in
     let after = adjustments_in c.update.new.meter in
-    let old_counted = counted-alike old c.number-2.new.self.names names rows rows (access_tables.count_now c.number-2.new.self.tables) was c.number-2.ensures.now c.update_members.ensures.names (λ a t. refl)
+    let old_counted = counted-alike old c.number.new.self.names names rows rows (access_tables.count_now c.number.new.self.tables) was c.number.ensures.now c.update_members.ensures.names (λ a t. refl)
     (λ kind key t. ap (λ tables. access_tables.count_now tables kind key t) c.update_members.ensures.tables) in
     on-ok-both c.update.result
     (λ (both : AdjustsAtMost (meaning_in old) (meaning_in new) between after × AdjustsAtLeast was is between after) counted changes are.

@@ -1,0 +1,108 @@
+-- What is counted by symbols, where names come in the place of names that the policy lacks.
+use Rattle.std.proofs.Common.{◌≡◌, ℕ, ◌+◌, ◌&&◌, Bool, true, false, List, [], ◌∷◌, length, cond, count_by, bytes_eq, get_or, nat_lt, slice_get, Option, None, Some, is_some, position, Contains, refl, sym, ap, ◌∙◌, true≢false}
+use Rattle.std.specs.List.{list_all, IsDistinct}
+use Rattle.std.proofs.lemmas.Bool.{and_parts}
+use Rattle.std.proofs.lemmas.List.Sums.{sum_by-cons}
+use Rattle.std.proofs.lemmas.Option.{none-some, slice_get_within, get_or_from_slice_get}
+use Rattle.std.proofs.lemmas.Slice.Eq.{bytes_eq-Decides}
+use Rattle.cil_specs.specs.Dependence.{AreTheSame}
+use Rattle.cil_specs.specs.Lookup.{has_name}
+use Rattle.cil_specs.specs.Meaning.{Meaning, is_in, keeps_type}
+use Rattle.cil_specs.specs.Members.{keeps_attribute, HasSoundSets}
+use Rattle.cil_specs.specs.Rule.{SetStatement}
+use Rattle.cil_specs.specs.Sets.{holds_with}
+use Rattle.cil_specs.proofs.NamesLemmas.{contains-first, contains-other}
+use Rattle.cil_parse.specs.Lexicon.{AreNumbersOf}
+use Rattle.cil_bind.proofs.PositionLemmas.{any-position}
+use Rattle.cil_text.specs.declared.statement.RuleKind.{RuleKind}
+use Rattle.cil_keyed_lines.specs.declared.symbol_key.SymbolKey.{SymbolKey}
+use Rattle.cil_resolve.specs.Below.{is_rule_below}
+use Rattle.cil_resolve.specs.Consistent.{is_consistent}
+use Rattle.cil_resolve.specs.Resolved.{meaning_in}
+use Rattle.cil_resolve.specs.Sets.{sets_in}
+use Rattle.cil_resolve.specs.declared.resolved.Resolved.{Resolved}
+use Rattle.cil_symbols.proofs.NameLemmas.{found-name}
+use Rattle.cil_member_updates.specs.Given.{gives, holds, is_of, of_name}
+use Rattle.cil_member_updates.specs.Policy.{AreCounts}
+use Rattle.cil_member_updates.proofs.NameLemmas.{named-by, same-symbol}
+use Rattle.cil_member_updates.proofs.SymbolLemmas.{symbol-name, symbol-some}
+use Rattle.cil_table_updates.proofs.GivenLemmas.{counted-named}
+use Rattle.cil_table_updates.proofs.PlaceLemmas.{names-apart}
+use Rattle.cil_counters.specs.Counted.{IsCounted}
+use Rattle.cil_counters.proofs.CountedLemmas.{members-counted}
+
+-- booleans that are true together
+alike : (a b : Bool) → (a ≡ true → b ≡ true) → (b ≡ true → a ≡ true) → a ≡ b
+alike true b there back = sym (there refl)
+alike false true there back = back refl
+alike false false there back = refl
+
+-- a name that both lists have symbols for has the same one
+symbol-both : (names others : List (List ℕ)) (numbers : List ℕ) (kept : List (List ℕ)) → AreNumbersOf names numbers kept → AreNumbersOf others numbers kept → (n : List ℕ) → has_name kept n ≡ true
+    → (s : ℕ) × (slice_get names s ≡ Some n) × (slice_get others s ≡ Some n)
+symbol-both names others numbers kept are stay n has = by (position (bytes_eq n) kept) refl
+  where
+    by : (found : Option ℕ) → position (bytes_eq n) kept ≡ found → (s : ℕ) × (slice_get names s ≡ Some n) × (slice_get others s ≡ Some n)
+    by None e = absurd (true≢false (sym has ∙ any-position (bytes_eq n) kept ∙ ap is_some e))
+    by (Some k) e =
+        let at = found-name kept n k e in
+        let some = symbol-some names numbers kept are k (slice_get_within kept k n at) in
+        let is = ap Some (get_or_from_slice_get kept k n [] at) in
+        (get_or numbers k 0, symbol-name names numbers kept are k (get_or numbers k 0) some ∙ is, symbol-name others numbers kept stay k (get_or numbers k 0) some ∙ is)
+
+-- a test that holds of such names alone holds of a symbol's name where it did
+test-stays : (names others : List (List ℕ)) (numbers : List ℕ) (kept : List (List ℕ)) → AreNumbersOf names numbers kept → AreNumbersOf others numbers kept → IsDistinct bytes_eq names → (test : List ℕ → Bool)
+    → ((name : List ℕ) → test name ≡ true → has_name kept name ≡ true) → (t : ℕ) → of_name test (slice_get names t) ≡ true → of_name test (slice_get others t) ≡ true
+test-stays names others numbers kept are stay distinct test known t passes =
+    let (n, at, is) = named-by test (slice_get names t) passes in
+    let (s, here, there) = symbol-both names others numbers kept are stay n (known n is) in
+    ap (of_name test) (ap (slice_get others) (sym (same-symbol names distinct s t n here at)) ∙ there) ∙ is
+
+module _ (names others : List (List ℕ)) (numbers : List ℕ) (kept : List (List ℕ)) (are : AreNumbersOf names numbers kept) (stay : AreNumbersOf others numbers kept) (distinct : IsDistinct bytes_eq names)
+    (apart : IsDistinct bytes_eq others) where
+  test-kept : (test : List ℕ → Bool) → ((name : List ℕ) → test name ≡ true → has_name kept name ≡ true) → (t : ℕ) → of_name test (slice_get names t) ≡ of_name test (slice_get others t)
+  test-kept test known t = alike (of_name test (slice_get names t)) (of_name test (slice_get others t)) (test-stays names others numbers kept are stay distinct test known t) (test-stays others names numbers kept stay are apart test known t)
+
+  module _ (meaning : Meaning) (types : (name : List ℕ) → keeps_type meaning name ≡ true → has_name kept name ≡ true) where
+    holds-kept : (s : SetStatement) (t : ℕ) → holds names meaning s t ≡ holds others meaning s t
+    unfolding holds
+    holds-kept s t = test-kept (is_in meaning s.expr) (λ name is. types name (keeps name is)) t
+      where
+        keeps : (name : List ℕ) → is_in meaning s.expr name ≡ true → keeps_type meaning name ≡ true
+        keeps name is = (and_parts (keeps_type meaning name) (holds_with meaning.sets (length meaning.attributes) s.expr name) is).0
+
+    gives-kept : (s : SetStatement) → has_name kept s.attribute ≡ true → (a t : ℕ) → gives names meaning a t s ≡ gives others meaning a t s
+    unfolding is_of
+    gives-kept s has a t =
+        ap (λ b. b && holds names meaning s t)
+        (test-kept (λ name. bytes_eq name s.attribute) (λ name is. ap (has_name kept) ((bytes_eq-Decides name s.attribute).0 is) ∙ has) a)
+        ∙ ap (λ b. is_of others s a && b) (holds-kept s t)
+
+    -- so as many of some set statements give
+    count-kept : (sets : List SetStatement) → ((s : SetStatement) → Contains sets s → has_name kept s.attribute ≡ true) → (a t : ℕ) → count_by (gives names meaning a t) sets ≡ count_by (gives others meaning a t) sets
+    count-kept [] has a t = refl
+    count-kept (s ∷ sets) has a t =
+        sum_by-cons (λ x. cond (gives names meaning a t x) 1 0) s sets
+        ∙ ap (λ b. cond b 1 0 + count_by (gives names meaning a t) sets) (gives-kept s (has s (contains-first s sets)) a t)
+        ∙ ap (λ n. cond (gives others meaning a t s) 1 0 + n) (count-kept sets (λ x there. has x (contains-other s sets x there)) a t)
+        ∙ sym (sum_by-cons (λ x. cond (gives others meaning a t x) 1 0) s sets)
+
+-- what is counted of a policy stays where its names keep their symbols
+pub counted-kept : {A : Type 0} (names others : List (List ℕ)) (r : Resolved A) (numbers : List ℕ) → AreNumbersOf names numbers r.names.items → AreNumbersOf others numbers r.names.items → IsDistinct bytes_eq names → IsDistinct bytes_eq others
+    → HasSoundSets (meaning_in r) → AreTheSame (meaning_in r).sets (sets_in r) → ((name : List ℕ) → keeps_type (meaning_in r) name ≡ true → has_name r.names.items name ≡ true)
+    → ((name : List ℕ) → keeps_attribute (meaning_in r) name ≡ true → has_name r.names.items name ≡ true) → list_all (is_rule_below (length r.names.items)) r.rules.items ≡ true → is_consistent (meaning_in r) ≡ true
+    → (members : ℕ → ℕ → ℕ) (counts : RuleKind → SymbolKey → ℕ → ℕ) → IsCounted names r members counts → IsCounted others r members counts
+counted-kept names others r numbers are stay distinct apart sound same types attributes below consistent members counts is = record {
+  symbols = numbers;
+  numbers = stay;
+  are_members = all;
+  are_counts = λ kind key t.
+      is.are_counts kind key t
+      ∙ sym (counted-named names (names-apart names distinct) r numbers are members (members-counted names r sound same members is.are_members) kind key t below consistent)
+      ∙ counted-named others (names-apart others apart) r numbers stay members (members-counted others r sound same members all) kind key t below consistent;
+}
+  where
+    all : AreCounts others r members
+    all a t =
+        is.are_members a t
+        ∙ count-kept names others numbers r.names.items are stay distinct apart (meaning_in r) types (sets_in r) (λ s there. attributes s.attribute (sound.own.attributes s ((same s).1 there))) a t

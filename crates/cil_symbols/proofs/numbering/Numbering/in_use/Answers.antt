@@ -1,0 +1,23 @@
+use Rattle.std.proofs.Common.{◌∙◌, ap, arith, is_some, length, map, option_map, slice_get}
+use Rattle.std.proofs.lemmas.List.{take_all}
+use Rattle.std.proofs.lemmas.Option.{slice_get-map}
+use Rattle.cil_symbols.specs.InUse.{used_in}
+use Rattle.cil_symbols.proofs.InUseLemmas.{marks-count}
+use Rattle.cil_symbols.proofs.numbering.Numbering.in_use.Goals as goal
+
+pub returns-clause-used : goal.returns-clause-used
+returns-clause-used g c k s at =
+    let locals = c.self.inside.locals.items in
+    let all = c.new.ensures ∙ c.loop-local.invariant ∙ ap (map is_some) (take_all c.loop-local.local-index c.deref-local-items.result.now c.loop-local-test.false ∙ c.deref-local-items.ensures.value) in
+    let here = ap (λ n. slice_get n.symbols k) c.self.view_is ∙ at in
+    ap (λ l. slice_get l s) all ∙ slice_get-map is_some locals s ∙ ap (option_map is_some) (c.self.invariant.forth k s here)
+
+pub returns-clause-count : goal.returns-clause-count
+returns-clause-count g c =
+    let locals = c.self.inside.locals.items in
+    let all = c.new.ensures ∙ c.loop-local.invariant ∙ ap (map is_some) (take_all c.loop-local.local-index c.deref-local-items.result.now c.loop-local-test.false ∙ c.deref-local-items.ensures.value) in
+    let marks = ap used_in all in
+    let counted = marks-count locals in
+    let others = c.self.invariant.others in
+    let symbols = ap (λ n. length n.symbols) c.self.view_is in
+    omega (arith, marks, counted, others, symbols)
