@@ -1,4 +1,3 @@
-use Rattle.std.proofs.Common.{sym}
 use Rattle.cil_symbol_changes.proofs.CountLemmas.{kind-come, kind-gone}
 use Rattle.cil_symbol_changes.proofs.counted_changes.count_kind.Goals as goal
 
