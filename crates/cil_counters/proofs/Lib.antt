@@ -5,3 +5,4 @@ pub mod ChangedLemmas
 pub mod FoundLemmas
 pub mod TableLemmas
 pub mod MemberLemmas
+pub mod ChangeCountLemmas
