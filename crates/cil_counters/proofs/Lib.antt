@@ -6,3 +6,4 @@ pub mod FoundLemmas
 pub mod TableLemmas
 pub mod MemberLemmas
 pub mod KeptLemmas
+pub mod ChangeCountLemmas

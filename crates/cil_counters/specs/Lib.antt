@@ -1,3 +1,4 @@
 pub mod Counted
 pub mod SymbolRanks
 pub mod MemberCounts
+pub mod ChangeCounts

@@ -14,6 +14,7 @@ ghost use Rattle.cil_resolve.specs.Meter.{adjustments_in, evaluations_in};
 ghost use Rattle.cil_resolve.specs.Resolved.{meaning_in};
 ghost use Rattle.cil_resolve.specs.Sets.{sets_in};
 ghost use Rattle.cil_sets.specs.Members.{AreMembers};
+ghost use Rattle.cil_counters.specs.ChangeCounts.{CountsSome};
 ghost use Rattle.cil_counters.specs.Counted.{count_with, had_named, has_named, AreSettled, AreTakenBack, HasFewNames, IsNow, WasBefore};
 ghost use Rattle.cil_symbol_tables.specs.Tables as access_tables;
 
@@ -30,6 +31,7 @@ use cil_resolve::{
 };
 use cil_rules::{Changes, Table, names_of, rank};
 use cil_sets::Members;
+use cil_symbol_changes::ChangeCounts;
 use cil_symbol_tables::SymbolTables;
 use cil_symbols::{Numbering, Symbols};
 use cil_table_updates::Named;
@@ -206,6 +208,22 @@ impl<A: Allocator + Copy> Counters<A> {
         Changes::of(ranks.names, found.added, found.removed)
     }
 
+    /// How many changes there are from an old policy, whose counters stand before the steps, to a new one, whose counters stand now. No
+    /// access is put together.
+    fn count_changes(
+        &self,
+        alloc: A,
+        old: &Resolved<A>,
+        new: &Resolved<A>,
+    ) -> Result<ChangeCounts, AllocError>
+        requires now { IsNow new.now self.now }
+        requires before { WasBefore old.now self.now }
+        requires distinct { IsDistinct bytes_eq self.now.names }
+        ensures { IfOk result (CountsSome (AreChanges (is_in_table (meaning_in old.now)) (is_in_table (meaning_in new.now)))) }
+    {
+        cil_symbol_changes::count_changes(alloc, &self.tables)
+    }
+
     /// The access table of the policy whose counters stand now. No rule is gone over.
     pub fn table(&self, alloc: A, policy: &Resolved<A>) -> Result<Table<A>, AllocError>
         requires { IsNow policy.now self.now }
@@ -247,6 +265,29 @@ impl<A: Allocator + Copy> Counters<A> {
     {
         self.take_steps(alloc, old, new, meter)?;
         self.changes(alloc, old, new)
+    }
+
+    /// `update`, which answers how many changes there are and none of them: no access is put together, ranked or put in order.
+    pub fn update_counted(
+        &mut self,
+        alloc: A,
+        old: &Resolved<A>,
+        new: &Resolved<A>,
+        meter: &mut Meter,
+    ) -> Result<ChangeCounts, AllocError>
+        requires now { IsNow old.now self.old }
+        requires before { WasBefore old.now self.old }
+        ensures now { OnOk result (IsNow new.now self.new) }
+        ensures before { WasBefore old.now self.new }
+        ensures changes { IfOk result (CountsSome (AreChanges (is_in_table (meaning_in old.now)) (is_in_table (meaning_in new.now)))) }
+        ensures evaluations { OnOk result (EvaluatesFew (meaning_in old.now) (meaning_in new.now) (evaluations_in meter.old) (evaluations_in meter.new)) }
+        ensures adjustments { OnOk result ((changes : report.Changes) → AreChanges (is_in_table (meaning_in old.now)) (is_in_table (meaning_in new.now)) changes
+            → AdjustsFew (meaning_in old.now) (meaning_in new.now) changes (adjustments_in meter.old) (adjustments_in meter.new)) }
+        ensures names { HasFewNames old.now new.now self.old self.new }
+    {
+        self.take_steps(alloc, old, new, meter)?;
+        self.names.len();
+        self.count_changes(alloc, old, new)
     }
 }
 

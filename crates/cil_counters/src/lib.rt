@@ -7,5 +7,6 @@ mod member_counts;
 mod more_rows;
 mod symbol_ranks;
 
+pub use cil_symbol_changes::ChangeCounts;
 pub use counters::Counters;
 pub use laws::{counters_tell_accesses, counters_tell_changes, counters_tell_members};

@@ -2,3 +2,4 @@ pub mod GainedLemmas
 pub mod OrderLemmas
 pub mod ChangeLemmas
 pub mod PresentLemmas
+pub mod CountLemmas

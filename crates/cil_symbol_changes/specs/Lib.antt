@@ -1,3 +1,4 @@
 pub mod Numbered
 pub mod Gained
 pub mod SourceOrder
+pub mod Counts

@@ -3,10 +3,12 @@
 
 mod access_changes;
 mod changed_chunks;
+mod counted_changes;
 mod present_accesses;
 mod present_chunks;
 mod source_order;
 mod targets;
 
 pub use access_changes::{AccessChanges, changes};
+pub use counted_changes::{ChangeCounts, count_changes};
 pub use present_accesses::accesses;

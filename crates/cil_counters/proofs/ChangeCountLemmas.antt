@@ -1,0 +1,237 @@
+-- How many accesses came to a table, told by the counters.
+use Rattle.std.proofs.Common.{◌≡◌, ◌≢◌, ◌⊎◌, ℕ, ◌<◌, ◌&&◌, Bool, true, not, List, [], ◌∷◌, length, map, get_or, nat_lt, slice_get, Some, Contains, Less, Equal, Greater, refl, sym, ap, subst, ◌∙◌, inl, inr, arith}
+use Rattle.std.specs.Bool.{IsTrue}
+use Rattle.std.specs.List.{AllByRecursion, AllPairs}
+use Rattle.std.specs.List.Sorted.{IsStrictlySortedBy}
+use Rattle.std.specs.Ordering.{ordering_reverse}
+use Rattle.std.specs.declared.cmp.Ordering.{Ordering}
+use Rattle.std.proofs.lemmas.Bool.{ltb-true}
+use Rattle.std.proofs.lemmas.Cmp.{tied_itself}
+use Rattle.std.proofs.lemmas.List.{length-map}
+use Rattle.std.proofs.lemmas.Map.Keys.{Less-from_sorted}
+use Rattle.std.proofs.lemmas.Option.{slice_get-get_or}
+use Rattle.cil_sums.proofs.PairLemmas.{at-most-all, from-mapped, mapped, pairs-map}
+use Rattle.cil_specs.specs.Meaning.{count_of, is_in_table}
+use Rattle.cil_specs.specs.Report.{atom_cmp, AreAtoms, AreChanges, Changes}
+use Rattle.cil_specs.specs.Rule.{Atom}
+use Rattle.cil_specs.specs.Statements as spec
+use Rattle.cil_specs.specs.Statements.{allow, auditallow, dontaudit, neverallow}
+use Rattle.cil_specs.proofs.ReportLemmas.{atom_exact, atom_total}
+use Rattle.cil_specs.proofs.ReportLemmasMembers.{AnyByRecursion, all_weaker, contains_from, contains_to}
+use Rattle.cil_text.specs.Image.{rule_kind_of}
+use Rattle.cil_text.specs.declared.statement.RuleKind.{RuleKind}
+use Rattle.cil_text.specs.declared.statement.RuleKind.TheVariants.{Allow, AuditAllow, DontAudit, NeverAllow}
+use Rattle.cil_keyed_lines.specs.declared.symbol_key.SymbolKey.{SymbolKey}
+use Rattle.cil_resolve.specs.Resolved.{meaning_in}
+use Rattle.cil_resolve.specs.declared.resolved.Resolved.{Resolved}
+use Rattle.cil_rule_reach.specs.Named.{atom_of, is_named, name_at}
+use Rattle.cil_symbol_changes.specs.Counts.{has_come, has_risen, AreSoMany, SymbolAccess}
+use Rattle.cil_symbol_changes.specs.declared.counted_changes.ChangeCounts.{ChangeCounts}
+use Rattle.cil_symbol_changes.proofs.CountLemmas.{both-hold}
+use Rattle.cil_table_updates.specs.Policies.{AreApart}
+use Rattle.cil_table_updates.proofs.GivenLemmas.{and-first, and-second}
+use Rattle.cil_counters.specs.ChangeCounts.{CountsSome}
+use Rattle.cil_counters.specs.Counted.{IsCounted}
+use Rattle.cil_counters.proofs.ChangedLemmas.{counted-atom, counted-listed, table-key}
+
+-- ---- accesses put in order
+
+-- a list in order that has one access beside those of another list
+record HasBeside (a : Atom) (others : List Atom) : Type 0 where
+  atoms : List Atom
+  ascends : IsStrictlySortedBy atom_cmp atoms
+  all : (b : Atom) → ((b ≡ a) ⊎ AnyByRecursion (λ y. y ≡ b) others) → AnyByRecursion (λ y. y ≡ b) atoms
+  only : (b : Atom) → AnyByRecursion (λ y. y ≡ b) atoms → (b ≡ a) ⊎ AnyByRecursion (λ y. y ≡ b) others
+
+of-each : (P : Atom → Type 0) (atoms : List Atom) → ((b : Atom) → AnyByRecursion (λ y. y ≡ b) atoms → P b) → AllByRecursion P atoms
+of-each P [] each = tt
+of-each P (a ∷ atoms) each = (each a (inl refl), of-each P atoms (λ b at. each b (inr at)))
+
+at-each : (P : Atom → Type 0) (atoms : List Atom) → AllByRecursion P atoms → (b : Atom) → AnyByRecursion (λ y. y ≡ b) atoms → P b
+at-each P [] all b at = absurd at
+at-each P (a ∷ atoms) all b (inl same) = subst P same all.0
+at-each P (a ∷ atoms) all b (inr at) = at-each P atoms all.1 b at
+
+put-in : (a : Atom) (others : List Atom) → IsStrictlySortedBy atom_cmp others → HasBeside a others
+unfolding IsStrictlySortedBy
+put-in a [] sorted = record {
+  atoms = a ∷ [];
+  ascends = (tt, tt);
+  all = λ b some. elim some [ inl same ↦ inl (sym same) | inr at ↦ absurd at ];
+  only = λ b at. elim at [ inl same ↦ inl (sym same) | inr none ↦ absurd none ];
+}
+put-in a (b ∷ others) sorted = by (put-in a others sorted.1) (atom_cmp a b) refl
+  where
+    by : HasBeside a others → (o : Ordering) → atom_cmp a b ≡ o → HasBeside a (b ∷ others)
+    by rest Less less = record {
+      atoms = a ∷ b ∷ others;
+      ascends = ((less, all_weaker (λ y. atom_cmp b y ≡ Less) (λ y. atom_cmp a y ≡ Less) (λ y more. atom_total.trans a b y less more) others sorted.0), sorted);
+      all = λ c some. elim some [ inl same ↦ inl (sym same) | inr at ↦ inr at ];
+      only = λ c at. elim at [ inl same ↦ inl (sym same) | inr rest ↦ inr rest ];
+    }
+    by rest Equal equal = record {
+      atoms = b ∷ others;
+      ascends = sorted;
+      all = λ c some. elim some [ inl same ↦ inl (sym (atom_exact a b equal) ∙ sym same) | inr at ↦ at ];
+      only = λ c at. inr at;
+    }
+    by rest Greater greater =
+        let below : atom_cmp b a ≡ Less = atom_total.antisymm b a ∙ ap ordering_reverse greater in
+        record {
+          atoms = b ∷ rest.atoms;
+          ascends = (
+            of-each (λ y. atom_cmp b y ≡ Less) rest.atoms (λ c at. elim (rest.only c at) [
+              | inl same ↦ subst (λ y. atom_cmp b y ≡ Less) (sym same) below
+              | inr there ↦ at-each (λ y. atom_cmp b y ≡ Less) others sorted.0 c there
+            ]),
+            rest.ascends,
+          );
+          all = λ c some. elim some [
+            | inl same ↦ inr (rest.all c (inl same))
+            | inr at ↦ elim at [ inl first ↦ inl first | inr there ↦ inr (rest.all c (inr there)) ]
+          ];
+          only = λ c at. elim at [
+            | inl first ↦ inr (inl first)
+            | inr there ↦ elim (rest.only c there) [ inl same ↦ inl same | inr further ↦ inr (inr further) ]
+          ];
+        }
+
+-- the accesses of a list, in order
+record AreInOrder (atoms : List Atom) : Type 0 where
+  ordered : List Atom
+  ascends : IsStrictlySortedBy atom_cmp ordered
+  all : (b : Atom) → AnyByRecursion (λ y. y ≡ b) atoms → AnyByRecursion (λ y. y ≡ b) ordered
+  only : (b : Atom) → AnyByRecursion (λ y. y ≡ b) ordered → AnyByRecursion (λ y. y ≡ b) atoms
+
+in-order : (atoms : List Atom) → AreInOrder atoms
+unfolding IsStrictlySortedBy
+in-order [] = record { ordered = []; ascends = tt; all = λ b at. at; only = λ b at. at }
+in-order (a ∷ atoms) =
+    let rest = in-order atoms in
+    let put = put-in a rest.ordered rest.ascends in
+    record {
+      ordered = put.atoms;
+      ascends = put.ascends;
+      all = λ b at. elim at [ inl same ↦ put.all b (inl (sym same)) | inr there ↦ put.all b (inr (rest.all b there)) ];
+      only = λ b at. elim (put.only b at) [ inl same ↦ inl (sym same) | inr there ↦ inr (rest.only b there) ];
+    }
+
+-- what ascends is apart
+atoms-apart : (atoms : List Atom) → IsStrictlySortedBy atom_cmp atoms → AllPairs (λ a b. a ≢ b) atoms
+atoms-apart atoms ordered i j d less within same =
+    never (sym (Less-from_sorted atom_cmp atoms i j d ordered less within) ∙ ap (atom_cmp (get_or atoms i d)) (sym same) ∙ tied_itself atom_total (get_or atoms i d))
+  where
+    never : Less ≡ Equal → ⊥
+    never e = cc
+
+-- ---- accesses by symbols
+
+-- a kind as the code has it
+kind_for : spec.RuleKind → RuleKind
+kind_for allow = Allow
+kind_for auditallow = AuditAllow
+kind_for dontaudit = DontAudit
+kind_for neverallow = NeverAllow
+
+kind-back : (kind : RuleKind) → kind_for (rule_kind_of kind) ≡ kind
+unfolding kind_for
+kind-back Allow = refl
+kind-back AuditAllow = refl
+kind-back DontAudit = refl
+kind-back NeverAllow = refl
+
+-- the symbols of an access stand for names
+record AreLow (symbols : List (List ℕ)) (key : SymbolKey) (t : ℕ) : Type 0 where
+  source : key.source < length symbols
+  target : t < length symbols
+  the_class : key.class < length symbols
+  permission : key.permission < length symbols
+
+are-low : (symbols : List (List ℕ)) (key : SymbolKey) (t : ℕ) → is_named symbols key t ≡ true → AreLow symbols key t
+are-low symbols key t named =
+    let n = length symbols in
+    let ends = and-first (nat_lt key.source n && nat_lt t n) (nat_lt key.class n && nat_lt key.permission n) named in
+    let others = and-second (nat_lt key.source n && nat_lt t n) (nat_lt key.class n && nat_lt key.permission n) named in
+    record {
+      source = ltb-true key.source n (and-first (nat_lt key.source n) (nat_lt t n) ends);
+      target = ltb-true t n (and-second (nat_lt key.source n) (nat_lt t n) ends);
+      the_class = ltb-true key.class n (and-first (nat_lt key.class n) (nat_lt key.permission n) others);
+      permission = ltb-true key.permission n (and-second (nat_lt key.class n) (nat_lt key.permission n) others);
+    }
+
+module _ (symbols : List (List ℕ)) (apart : AreApart symbols) where
+  abbrev pub by_names : SymbolAccess → Atom
+  by_names a = atom_of symbols a.kind a.key a.target
+
+  same-symbol : (i j : ℕ) → i < length symbols → j < length symbols → name_at symbols i ≡ name_at symbols j → i ≡ j
+  same-symbol i j first second same = apart i j (name_at symbols j) (slice_get-get_or symbols i [] first ∙ ap Some same) (slice_get-get_or symbols j [] second)
+
+  -- one access has one kind and one symbol for each of its names
+  one-access : (a b : SymbolAccess) → AreLow symbols a.key a.target → AreLow symbols b.key b.target → by_names a ≡ by_names b → a ≡ b
+  one-access a b low other same =
+      let kinds : a.kind ≡ b.kind = sym (kind-back a.kind) ∙ ap (λ (x : Atom). kind_for x.kind) same ∙ kind-back b.kind in
+      let sources = same-symbol a.key.source b.key.source low.source other.source (ap (λ (x : Atom). x.source) same) in
+      let targets = same-symbol a.target b.target low.target other.target (ap (λ (x : Atom). x.target) same) in
+      let classes = same-symbol a.key.class b.key.class low.the_class other.the_class (ap (λ (x : Atom). x.the_class) same) in
+      let permissions = same-symbol a.key.permission b.key.permission low.permission other.permission (ap (λ (x : Atom). x.permission) same) in
+      λ i. record { kind = kinds i; key = record { source = sources i; class = classes i; permission = permissions i }; target = targets i }
+
+-- ---- from an old policy to a new one
+
+module _ {A : Type 0} (symbols : List (List ℕ)) (apart : AreApart symbols) (old new : Resolved A) (old_members new_members : ℕ → ℕ → ℕ) (was now : RuleKind → SymbolKey → ℕ → ℕ) (old_counted : IsCounted symbols old old_members was)
+    (new_counted : IsCounted symbols new new_members now) (count : ℕ) (many : AreSoMany (has_come was now) count) where
+  abbrev comes : Atom → Bool
+  comes a = is_in_table (meaning_in new) a && not (is_in_table (meaning_in old) a)
+
+  -- a counter rose from 0 where the access of its names came to the table
+  risen : (a : SymbolAccess) → is_named symbols a.key a.target ≡ true → has_come was now a ≡ comes (by_names symbols apart a)
+  risen a named =
+      ap (λ n. has_risen n (now a.kind a.key a.target)) (counted-atom symbols old old_members was old_counted a.kind a.key a.target named)
+      ∙ ap (has_risen (count_of (meaning_in old) (by_names symbols apart a))) (counted-atom symbols new new_members now new_counted a.kind a.key a.target named)
+
+  come-named : (a : SymbolAccess) → has_come was now a ≡ true → is_named symbols a.key a.target ≡ true
+  come-named a come =
+      let present = (both-hold (nat_lt 0 (now a.kind a.key a.target)) (not (nat_lt 0 (was a.kind a.key a.target))) come).0 in
+      counted-listed symbols new new_members now new_counted a.kind a.key a.target (ltb-true 0 (now a.kind a.key a.target) present)
+
+  abbrev atoms : List Atom
+  atoms = map (by_names symbols apart) many.those
+
+  once : AllPairs (λ a b. a ≢ b) atoms
+  once = pairs-map (by_names symbols apart) (λ a b. a ≢ b) many.those many.once (λ a b one other different same.
+      different (one-access symbols apart a b (are-low symbols a.key a.target (come-named a ((many.exact a).0 one))) (are-low symbols b.key b.target (come-named b ((many.exact b).0 other))) same))
+
+  to-come : (a : Atom) → Contains atoms a → IsTrue (comes a)
+  to-come a at =
+      let (x, there, same) = from-mapped (by_names symbols apart) many.those a at in
+      let come = (many.exact x).0 there in
+      subst (λ b. comes b ≡ true) same (sym (risen x (come-named x come)) ∙ come)
+
+  from-come : (a : Atom) → IsTrue (comes a) → Contains atoms a
+  from-come a come =
+      let by = table-key symbols new new_members now new_counted a (both-hold (is_in_table (meaning_in new) a) (not (is_in_table (meaning_in old) a)) come).0 in
+      let x : SymbolAccess = record { kind = by.kind; key = by.key; target = by.target } in
+      let there = (many.exact x).1 (risen x by.listed ∙ ap comes by.same ∙ come) in
+      subst (Contains atoms) by.same (mapped (by_names symbols apart) many.those x there)
+
+  -- The accesses that came, in order, are so many.
+  pub come-listed : (list : List Atom) × AreAtoms comes list × (count ≡ length list)
+  come-listed =
+      let put = in-order atoms in
+      let to : (a : Atom) → Contains put.ordered a → Contains atoms a = λ a at. contains_from atoms a (put.only a (contains_to put.ordered a at)) in
+      let from : (a : Atom) → Contains atoms a → Contains put.ordered a = λ a at. contains_from put.ordered a (put.all a (contains_to atoms a at)) in
+      let less = at-most-all atoms put.ordered once from in
+      let more = at-most-all put.ordered atoms (atoms-apart put.ordered put.ascends) to in
+      (put.ordered, record { ordered = put.ascends; exact = λ a. ((λ at. to-come a (to a at)), λ come. from a (from-come a come)) }, omega (arith, many.all, length-map many.those (by_names symbols apart), less, more))
+
+-- the changes between two policies, by what came and what went
+pub changes-counted : {A : Type 0} (symbols : List (List ℕ)) (apart : AreApart symbols) (old new : Resolved A) (old_members new_members : ℕ → ℕ → ℕ) (was now : RuleKind → SymbolKey → ℕ → ℕ) → IsCounted symbols old old_members was
+    → IsCounted symbols new new_members now → (counts : ChangeCounts) → AreSoMany (has_come was now) counts.added → AreSoMany (has_come now was) counts.removed → CountsSome (AreChanges (is_in_table (meaning_in old)) (is_in_table (meaning_in new))) counts
+changes-counted symbols apart old new old_members new_members was now old_counted new_counted counts came went =
+    let (added, are_added, so_many) = come-listed symbols apart old new old_members new_members was now old_counted new_counted counts.added came in
+    let (removed, are_removed, so_many_went) = come-listed symbols apart new old new_members old_members now was new_counted old_counted counts.removed went in
+    record {
+      changes = record { added = added; removed = removed };
+      those = record { added = are_added; removed = are_removed };
+      are_counts = record { added = so_many; removed = so_many_went };
+    }
