@@ -3,37 +3,42 @@
 ghost use Rattle.std.specs.Prelude.{◌<◌};
 ghost use Rattle.cil_counters.specs.Counted.{IsNow, WasBefore};
 
-use crate::policies::policy;
+use crate::policies::{number, policy};
 use cil_counters::Counters;
 use cil_resolve::{Meter, Resolved};
 use cil_rules::{Atom, Changes, Table};
+use cil_sets::Members;
 use cil_text::RuleKind;
 use std::alloc::Global;
 use std::process::Abort;
 
 const START: &[u8] = b"(class p (use))(type a)(type b)(typeattribute s)";
 
-// How much work an update was: evaluations and adjustments.
-type Work = (u128, u128);
-
-// Brings counters from one policy to another, and answers the changes and the work.
+// Brings counters from one policy to another, and answers the changes.
 fn bring(
     rt: &impl Abort,
     alloc: Global,
     counters: &mut Counters,
     old: &Resolved,
     new: &Resolved,
-) -> (Changes, Work)
+    meter: &mut Meter,
+) -> Changes
     requires now { IsNow old.now counters.old }
     requires before { WasBefore old.now counters.old }
     ensures now { IsNow new.now counters.new }
     ensures before { WasBefore old.now counters.new }
 {
-    let mut meter = Meter::new();
-    let changes = counters
-        .update(alloc, old, new, &mut meter)
-        .expect(rt, "memory");
-    (changes, (meter.evaluations(), meter.adjustments()))
+    counters.update(alloc, old, new, meter).expect(rt, "memory")
+}
+
+// Brings counters from one policy to another.
+fn go_on(rt: &impl Abort, alloc: Global, counters: &mut Counters, old: &Resolved, new: &Resolved)
+    requires now { IsNow old.now counters.old }
+    requires before { WasBefore old.now counters.old }
+    ensures now { IsNow new.now counters.new }
+    ensures before { WasBefore old.now counters.new }
+{
+    bring(rt, alloc, counters, old, new, &mut Meter::new());
 }
 
 // Keeps the counters of a policy.
@@ -54,16 +59,24 @@ fn take_back(counters: &mut Counters, policy: &Resolved)
     counters.undo();
 }
 
+// The counters of a policy without set statements and rules.
+fn none(rt: &impl Abort, alloc: Global, empty: &Resolved) -> Counters
+    ensures now { IsNow empty.now result }
+    ensures before { WasBefore empty.now result }
+{
+    assert!(rt; empty.sets_len() == 0);
+    assert!(rt; empty.rules_len() == 0);
+    Counters::none(alloc, empty).expect(rt, "memory")
+}
+
 // The counters of a policy, kept.
 fn counted(rt: &impl Abort, alloc: Global, resolved: &Resolved) -> Counters
     ensures now { IsNow resolved.now result }
     ensures before { WasBefore resolved.now result }
 {
     let empty = policy(rt, alloc, &[]);
-    assert!(rt; empty.sets_len() == 0);
-    assert!(rt; empty.rules_len() == 0);
-    let mut counters = Counters::none(alloc, &empty).expect(rt, "memory");
-    bring(rt, alloc, &mut counters, &empty, resolved);
+    let mut counters = none(rt, alloc, &empty);
+    go_on(rt, alloc, &mut counters, &empty, resolved);
     keep(&mut counters, resolved);
     counters
 }
@@ -72,10 +85,10 @@ fn counted(rt: &impl Abort, alloc: Global, resolved: &Resolved) -> Counters
 type Access<'t> = (RuleKind, &'t [u8], &'t [u8], u64, u64);
 
 // An attribute, and its members before an edit and behind it; their names have one letter each.
-type Members<'t> = (&'t [u8], &'t [u8], &'t [u8]);
+type Attribute<'t> = (&'t [u8], &'t [u8], &'t [u8]);
 
 // What follows the start before an edit and behind it, accesses, and attributes.
-type Edit<'t> = (&'t [u8], &'t [u8], &'t [Access<'t>], &'t [Members<'t>]);
+type Edit<'t> = (&'t [u8], &'t [u8], &'t [Access<'t>], &'t [Attribute<'t>]);
 
 // Whether accesses are counted as they are behind an edit, or before it.
 fn are_counted(counters: &Counters, accesses: &[Access<'_>], behind: bool) -> bool {
@@ -90,7 +103,7 @@ fn are_counted(counters: &Counters, accesses: &[Access<'_>], behind: bool) -> bo
 }
 
 // Whether the types a, b and c are members of attributes as they are behind an edit, or before it; z isn't there.
-fn are_members(counters: &Counters, attributes: &[Members<'_>], behind: bool) -> bool {
+fn are_members(counters: &Counters, attributes: &[Attribute<'_>], behind: bool) -> bool {
     for (attribute, before, after) in attributes {
         let want = if behind { *after } else { *before };
         for ty in b"abcz" {
@@ -103,7 +116,7 @@ fn are_members(counters: &Counters, attributes: &[Members<'_>], behind: bool) ->
 }
 
 // Whether types of attributes have changed as the edit says, or not.
-fn have_changed(counters: &Counters, attributes: &[Members<'_>], changed: bool) -> bool {
+fn have_changed(counters: &Counters, attributes: &[Attribute<'_>], changed: bool) -> bool {
     for (attribute, before, after) in attributes {
         for ty in b"abcz" {
             let turns = before.contains(ty) != after.contains(ty);
@@ -115,18 +128,12 @@ fn have_changed(counters: &Counters, attributes: &[Members<'_>], changed: bool) 
     true
 }
 
-// Asserts what is counted behind an edit or before it, and whether steps are pending.
-fn assert_counters(
-    rt: &impl Abort,
-    counters: &Counters,
-    edit: &Edit<'_>,
-    behind: bool,
-    pending: bool,
-) {
-    assert!(rt; are_counted(counters, edit.2, behind));
-    assert!(rt; are_members(counters, edit.3, behind));
-    assert!(rt; have_changed(counters, edit.3, pending));
-    assert!(rt; counters.is_pending() == pending);
+// Whether that is counted behind an edit or before it, and steps are pending or not.
+fn is_told(counters: &Counters, edit: &Edit<'_>, behind: bool, pending: bool) -> bool {
+    are_counted(counters, edit.2, behind)
+        & are_members(counters, edit.3, behind)
+        & have_changed(counters, edit.3, pending)
+        & (counters.is_pending() == pending)
 }
 
 const EDITS: &[Edit<'static>] = &[
@@ -234,25 +241,52 @@ const OLD: &[u8] = b"(typeattributeset s (a))(allow s b (p (use)))(allow a self 
 // The attribute holds b, so the same rule gives another access; the other rule is one of another kind.
 const NEW: &[u8] = b"(typeattributeset s (b))(allow s b (p (use)))(auditallow a self (p (use)))";
 
-// Asserts an edit, taken back, and done again and kept.
-fn assert_edit(rt: &impl Abort, alloc: Global, edit: &Edit<'_>) {
+// Whether an edit that is done is told.
+fn is_done(
+    rt: &impl Abort,
+    alloc: Global,
+    counters: &mut Counters,
+    old: &Resolved,
+    new: &Resolved,
+    edit: &Edit<'_>,
+) -> bool
+    requires now { IsNow old.now counters.old }
+    requires before { WasBefore old.now counters.old }
+    ensures now { IsNow new.now counters.new }
+    ensures before { WasBefore old.now counters.new }
+{
+    go_on(rt, alloc, counters, old, new);
+    is_told(counters, edit, true, true)
+}
+
+// Whether it is, taken back, and done again and kept.
+fn is_edited(
+    rt: &impl Abort,
+    alloc: Global,
+    old: &Resolved,
+    new: &Resolved,
+    edit: &Edit<'_>,
+) -> bool {
+    let mut counters = counted(rt, alloc, old);
+    let first = is_told(&counters, edit, false, false);
+    let done = is_done(rt, alloc, &mut counters, old, new, edit);
+    take_back(&mut counters, old);
+    let back = is_told(&counters, edit, false, false);
+    let again = is_done(rt, alloc, &mut counters, old, new, edit);
+    keep(&mut counters, new);
+    first & done & back & again & is_told(&counters, edit, true, false)
+}
+
+fn is_edit(rt: &impl Abort, alloc: Global, edit: &Edit<'_>) -> bool {
     let old = policy(rt, alloc, &[START, edit.0]);
     let new = policy(rt, alloc, &[START, edit.1]);
-    let mut counters = counted(rt, alloc, &old);
-    assert_counters(rt, &counters, edit, false, false);
-    bring(rt, alloc, &mut counters, &old, &new);
-    assert_counters(rt, &counters, edit, true, true);
-    take_back(&mut counters, &old);
-    assert_counters(rt, &counters, edit, false, false);
-    bring(rt, alloc, &mut counters, &old, &new);
-    keep(&mut counters, &new);
-    assert_counters(rt, &counters, edit, true, false);
+    is_edited(rt, alloc, &old, &new, edit)
 }
 
 #[test]
 fn edits_of_small_policies(rt: HostRuntime) {
     for edit in EDITS {
-        assert_edit(&rt, rt.alloc(), edit);
+        assert!(&rt; is_edit(&rt, rt.alloc(), edit));
     }
 }
 
@@ -282,16 +316,14 @@ const FIRST_COME: Named<'static> = (RuleKind::Allow, b"b", b"b");
 const SECOND_COME: Named<'static> = (RuleKind::AuditAllow, b"a", b"a");
 
 fn is_table(table: &Table, first: Named<'static>, second: Named<'static>) -> bool {
-    table.len() == 2 && is_access(table.get(0), first) && is_access(table.get(1), second)
+    is_access(table.get(0), first) & is_access(table.get(1), second) & (table.len() == 2)
 }
 
 fn are_changes(changes: &Changes) -> bool {
-    changes.removed_len() == 2
-        && is_access(changes.removed(0), FIRST_GONE)
-        && is_access(changes.removed(1), SECOND_GONE)
-        && changes.added_len() == 2
-        && is_access(changes.added(0), FIRST_COME)
-        && is_access(changes.added(1), SECOND_COME)
+    let gone = is_access(changes.removed(0), FIRST_GONE)
+        & is_access(changes.removed(1), SECOND_GONE);
+    let come = is_access(changes.added(0), FIRST_COME) & is_access(changes.added(1), SECOND_COME);
+    gone & come & ((changes.removed_len(), changes.added_len()) == (2, 2))
 }
 
 // Statements before an edit and after it. From b to a and to b, and from a to a and from b to b are four adjustments; the last rule stays
@@ -316,28 +348,51 @@ fn has_table(
     is_table(&table, accesses.0, accesses.1)
 }
 
+// Whether those accesses come and go.
+fn has_changed(
+    rt: &impl Abort,
+    alloc: Global,
+    counters: &mut Counters,
+    old: &Resolved,
+    new: &Resolved,
+) -> bool
+    requires now { IsNow old.now counters.old }
+    requires before { WasBefore old.now counters.old }
+    ensures now { IsNow new.now counters.new }
+    ensures before { WasBefore old.now counters.new }
+{
+    are_changes(&bring(rt, alloc, counters, old, new, &mut Meter::new()))
+}
+
+// Whether they do, and the tables are those, of the new policy and of the old one again.
+fn have_tables(rt: &impl Abort, alloc: Global, old: &Resolved, new: &Resolved) -> bool {
+    let mut counters = counted(rt, alloc, old);
+    let changed = has_changed(rt, alloc, &mut counters, old, new);
+    let is_new = has_table(rt, alloc, &counters, new, (FIRST_COME, SECOND_COME));
+    take_back(&mut counters, old);
+    changed & is_new & has_table(rt, alloc, &counters, old, (FIRST_GONE, SECOND_GONE))
+}
+
 #[test]
 fn changes_and_tables(rt: HostRuntime) {
-    let alloc = rt.alloc();
-    let old = policy(&rt, alloc, &[START, OLD]);
-    let new = policy(&rt, alloc, &[START, NEW]);
-    let mut counters = counted(&rt, alloc, &old);
-    let (changes, _work) = bring(&rt, alloc, &mut counters, &old, &new);
-    let is_changed = are_changes(&changes);
-    let is_new = has_table(&rt, alloc, &counters, &new, (FIRST_COME, SECOND_COME));
-    take_back(&mut counters, &old);
-    let is_old = has_table(&rt, alloc, &counters, &old, (FIRST_GONE, SECOND_GONE));
-    assert!(&rt; is_changed && is_new && is_old);
+    let old = policy(&rt, rt.alloc(), &[START, OLD]);
+    let new = policy(&rt, rt.alloc(), &[START, NEW]);
+    assert!(&rt; have_tables(&rt, rt.alloc(), &old, &new));
+}
+
+// How much work an update is: evaluations and adjustments.
+fn work(rt: &impl Abort, alloc: Global, old: &Resolved, new: &Resolved) -> (u128, u128) {
+    let mut counters = counted(rt, alloc, old);
+    let mut meter = Meter::new();
+    bring(rt, alloc, &mut counters, old, new, &mut meter);
+    (meter.evaluations(), meter.adjustments())
 }
 
 #[test]
 fn work_of_an_edit(rt: HostRuntime) {
-    let alloc = rt.alloc();
-    let old = policy(&rt, alloc, &[START, FEW_OLD]);
-    let new = policy(&rt, alloc, &[START, FEW_NEW]);
-    let mut counters = counted(&rt, alloc, &old);
-    let (_changes, work) = bring(&rt, alloc, &mut counters, &old, &new);
-    assert!(&rt; work == (2, 4));
+    let old = policy(&rt, rt.alloc(), &[START, FEW_OLD]);
+    let new = policy(&rt, rt.alloc(), &[START, FEW_NEW]);
+    assert!(&rt; work(&rt, rt.alloc(), &old, &new) == (2, 4));
 }
 
 // The attribute holds all types, of which there are two.
@@ -346,54 +401,72 @@ const TWO: &[u8] = b"        (typeattributeset s (all))(allow s s (p (use)))";
 // The same at the same places, and there are three.
 const THREE: &[u8] = b"(type c)(typeattributeset s (all))(allow s s (p (use)))";
 
-// An edit and the edit that leads back, both kept: how many accesses come and go, and what is counted in between and at the end.
-fn there_and_back(
+// An edit that is kept: how many accesses come and go.
+fn kept(
     rt: &impl Abort,
     alloc: Global,
     counters: &mut Counters,
     old: &Resolved,
     new: &Resolved,
-) -> ([u128; 4], bool, bool)
+) -> (u128, u128)
     requires now { IsNow old.now counters.old }
     requires before { WasBefore old.now counters.old }
-    ensures now { IsNow old.now counters.new }
-    ensures before { WasBefore old.now counters.new }
+    ensures now { IsNow new.now counters.new }
+    ensures before { WasBefore new.now counters.new }
 {
-    let (there, _work) = bring(rt, alloc, counters, old, new);
+    let changes = bring(rt, alloc, counters, old, new, &mut Meter::new());
     keep(counters, new);
-    let between = has_third(counters, true);
-    let (back, _work) = bring(rt, alloc, counters, new, old);
-    keep(counters, old);
-    let changed = [
-        there.added_len(),
-        there.removed_len(),
-        back.added_len(),
-        back.removed_len(),
-    ];
-    (changed, between, has_third(counters, false))
+    (changes.added_len(), changes.removed_len())
 }
 
 // Whether the type c is counted as a type that is there, or as one that isn't, beside the others.
 fn has_third(counters: &Counters, is_there: bool) -> bool {
     let count = if is_there { 1 } else { 0 };
     let allow = RuleKind::Allow;
-    counters.has(b"s", b"c") == is_there
-        && counters.count(allow, b"c", b"a", b"p", b"use") == count
-        && counters.count(allow, b"a", b"c", b"p", b"use") == count
-        && counters.count(allow, b"a", b"b", b"p", b"use") == 1
+    let counts = (
+        counters.count(allow, b"c", b"a", b"p", b"use"),
+        counters.count(allow, b"a", b"c", b"p", b"use"),
+        counters.count(allow, b"a", b"b", b"p", b"use"),
+    );
+    counts == (count, count, 1) && counters.has(b"s", b"c") == is_there
+}
+
+// An edit and the edit that leads back, both kept: whether five accesses come and go, and the third type is counted in between.
+fn leads_back(
+    rt: &impl Abort,
+    alloc: Global,
+    counters: &mut Counters,
+    old: &Resolved,
+    new: &Resolved,
+) -> bool
+    requires now { IsNow old.now counters.old }
+    requires before { WasBefore old.now counters.old }
+    ensures now { IsNow old.now counters.new }
+    ensures before { WasBefore old.now counters.new }
+{
+    let there = kept(rt, alloc, counters, old, new);
+    let between = has_third(counters, true);
+    let back = kept(rt, alloc, counters, new, old);
+    let are_told = (there, back) == ((5, 0), (0, 5));
+    are_told & between & has_third(counters, false)
+}
+
+// Whether that is so a hundred times.
+fn always_leads_back(rt: &impl Abort, alloc: Global, old: &Resolved, new: &Resolved) -> bool {
+    let mut counters = counted(rt, alloc, old);
+    for _ in 0..100 {
+        if !leads_back(rt, alloc, &mut counters, old, new) {
+            return false;
+        }
+    }
+    true
 }
 
 #[test]
 fn an_edit_done_and_taken_back_a_hundred_times(rt: HostRuntime) {
-    let alloc = rt.alloc();
-    let old = policy(&rt, alloc, &[START, TWO]);
-    let new = policy(&rt, alloc, &[START, THREE]);
-    let mut counters = counted(&rt, alloc, &old);
-    for _ in 0..100 {
-        let found = there_and_back(&rt, alloc, &mut counters, &old, &new);
-        let same = found == ([5, 0, 0, 5], true, true);
-        assert!(&rt; same);
-    }
+    let old = policy(&rt, rt.alloc(), &[START, TWO]);
+    let new = policy(&rt, rt.alloc(), &[START, THREE]);
+    assert!(&rt; always_leads_back(&rt, rt.alloc(), &old, &new));
 }
 
 // How many types there are in the largest policy.
@@ -406,16 +479,22 @@ const fn type_name(n: u32) -> [u8; 3]
     [b't', b'0' + (n / 10) as u8, b'0' + (n % 10) as u8]
 }
 
-// Types that have the permission use to one another: all, or those with an odd number.
-fn types(rt: &impl Abort, alloc: Global, even: bool) -> Resolved {
+// The declarations of types: all, or those with an odd number.
+fn declared(rt: &impl Abort, alloc: Global, even: bool) -> Vec<u8> {
     let mut text = Vec::new(alloc);
     for n in 0..TYPES {
         if even || n % 2 == 1 {
             text.extend_from_slice(b"(type ").expect(rt, "memory");
             text.extend_from_slice(&type_name(n)).expect(rt, "memory");
-            text.extend_from_slice(b")").expect(rt, "memory");
+            text.push(b')').expect(rt, "memory");
         }
     }
+    text
+}
+
+// Those types, which have the permission use to one another.
+fn types(rt: &impl Abort, alloc: Global, even: bool) -> Resolved {
+    let text = declared(rt, alloc, even);
     let rules = b"(class p (use))(typeattribute s)(typeattributeset s (all))(allow s s (p (use)))";
     policy(rt, alloc, &[rules, &text])
 }
@@ -434,30 +513,52 @@ fn has_all(table: &Table) -> bool {
     table.len() == 6400
 }
 
-// How many members the attribute s has.
-fn count_members(rt: &impl Abort, alloc: Global, counters: &Counters, resolved: &Resolved) -> usize
+fn has_each(rt: &impl Abort, alloc: Global, counters: &Counters, resolved: &Resolved) -> bool
+    requires { IsNow resolved.now counters.now }
+{
+    has_all(&counters.table(alloc, resolved).expect(rt, "memory"))
+}
+
+// Whether just the types are members of the attribute s, and it is none of any.
+fn are_types(members: &Members, resolved: &Resolved, s: usize) -> bool {
+    for ty in 0..resolved.names_len() {
+        let is_type = resolved.name(ty).starts_with(b"t");
+        if members.has(s, ty) != is_type || members.has(ty, s) {
+            return false;
+        }
+    }
+    true
+}
+
+// Whether so many types are.
+fn has_members(
+    rt: &impl Abort,
+    alloc: Global,
+    counters: &Counters,
+    resolved: &Resolved,
+    count: usize,
+) -> bool
     requires { IsNow resolved.now counters.now }
 {
     let members = counters.members(alloc, resolved).expect(rt, "memory");
-    let s = resolved.number(b"s").expect(rt, "a number");
-    for ty in 0..resolved.names_len() {
-        let is_type = resolved.name(ty).starts_with(b"t");
-        assert!(rt; members.has(s, ty) == is_type && !members.has(ty, s));
-    }
-    members.members(alloc, s).expect(rt, "memory").len()
+    let s = number(resolved, b"s");
+    let listed = members.members(alloc, s).expect(rt, "memory");
+    listed.len() == count && are_types(&members, resolved, s)
 }
 
-// The types with an even number come later.
+// Whether the types with an even number come.
+fn have_come(rt: &impl Abort, alloc: Global, odd: &Resolved, all: &Resolved) -> bool {
+    let mut counters = counted(rt, alloc, odd);
+    go_on(rt, alloc, &mut counters, odd, all);
+    let each = has_each(rt, alloc, &counters, all);
+    let come = has_members(rt, alloc, &counters, all, 80);
+    take_back(&mut counters, odd);
+    each & come & has_members(rt, alloc, &counters, odd, 40)
+}
+
 #[test]
 fn many_types(rt: HostRuntime) {
-    let alloc = rt.alloc();
-    let odd = types(&rt, alloc, false);
-    let all = types(&rt, alloc, true);
-    let mut counters = counted(&rt, alloc, &odd);
-    bring(&rt, alloc, &mut counters, &odd, &all);
-    let table = counters.table(alloc, &all).expect(&rt, "memory");
-    assert!(&rt; has_all(&table));
-    assert!(&rt; count_members(&rt, alloc, &counters, &all) == 80);
-    take_back(&mut counters, &odd);
-    assert!(&rt; count_members(&rt, alloc, &counters, &odd) == 40);
+    let odd = types(&rt, rt.alloc(), false);
+    let all = types(&rt, rt.alloc(), true);
+    assert!(&rt; have_come(&rt, rt.alloc(), &odd, &all));
 }

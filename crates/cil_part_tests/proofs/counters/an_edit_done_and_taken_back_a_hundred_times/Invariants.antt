@@ -1,5 +1,5 @@
 use Rattle.cil_counters.specs.Counted.{IsNow, WasBefore}
-use Rattle.cil_part_tests.proofs.counters.an_edit_done_and_taken_back_a_hundred_times.Given as goal
+use Rattle.cil_part_tests.proofs.counters.always_leads_back.Given as goal
 
 -- the counters are those of the old policy
 abbrev pub invariant-loop : goal.invariant-loop
