@@ -32,8 +32,13 @@ WasBefore r c = IsCounted c.names r (member_rows.count_before c.rows) (access_ta
 abbrev pub HasFewNames : {A B C : Type 0} → (one other : Resolved A) (before : Counters B) (after : Counters C) → Type 0
 HasFewNames one other before after = length after.names ≤ max (length before.names) (length one.names.items + length other.names.items)
 
+-- how many steps there are that `undo` would take back
+abbrev pub steps_in : {A : Type 0} → Counters A → ℕ
+steps_in c = member_rows.steps_in c.rows + access_tables.steps_in c.tables
+
 -- The counters are those of before the steps, and so are those before the steps from now on.
 pub record AreTakenBack {A : Type 0} (old new : Counters A) : Type 0 where
+  pub none : steps_in new ≡ 0
   pub names : new.names ≡ old.names
   pub members : (a t : ℕ) → member_rows.count_now new.rows a t ≡ member_rows.count_before old.rows a t
   pub members_before : (a t : ℕ) → member_rows.count_before new.rows a t ≡ member_rows.count_before old.rows a t
@@ -42,6 +47,7 @@ pub record AreTakenBack {A : Type 0} (old new : Counters A) : Type 0 where
 
 -- The counters stay, and are those before the steps from now on.
 pub record AreSettled {A : Type 0} (old new : Counters A) : Type 0 where
+  pub none : steps_in new ≡ 0
   pub names : new.names ≡ old.names
   pub members : (a t : ℕ) → member_rows.count_now new.rows a t ≡ member_rows.count_now old.rows a t
   pub members_before : (a t : ℕ) → member_rows.count_before new.rows a t ≡ member_rows.count_now old.rows a t

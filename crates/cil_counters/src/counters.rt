@@ -1,6 +1,6 @@
 //! The counters of a policy.
 
-ghost use Rattle.std.specs.Prelude.{◌≡◌, ◌-◌, ◌≤◌, ◌^◌, ℕ, List, bytes_eq, false, length, min, IfOk, OnOk};
+ghost use Rattle.std.specs.Prelude.{◌≡◌, ◌↔◌, ◌-◌, ◌<◌, ◌≤◌, ◌^◌, ℕ, List, bytes_eq, false, length, min, IfOk, IsTrue, OnOk};
 ghost use Rattle.std.specs.List.{IsDistinct};
 ghost use Rattle.cil_delta_specs.specs.Work.{AdjustsFew, EvaluatesFew};
 ghost use Rattle.cil_member_rows.specs.Rows as member_rows;
@@ -15,7 +15,7 @@ ghost use Rattle.cil_resolve.specs.Resolved.{meaning_in};
 ghost use Rattle.cil_resolve.specs.Sets.{sets_in};
 ghost use Rattle.cil_sets.specs.Members.{AreMembers};
 ghost use Rattle.cil_counters.specs.ChangeCounts.{CountsSome};
-ghost use Rattle.cil_counters.specs.Counted.{count_with, had_named, has_named, AreSettled, AreTakenBack, HasFewNames, IsNow, WasBefore};
+ghost use Rattle.cil_counters.specs.Counted.{count_with, had_named, has_named, steps_in, AreSettled, AreTakenBack, HasFewNames, IsNow, WasBefore};
 ghost use Rattle.cil_symbol_tables.specs.Tables as access_tables;
 
 use crate::member_counts::members_of;
@@ -343,8 +343,9 @@ impl<A: Allocator> Counters<A> {
         self.tables.count(kind, key, target)
     }
 
-    /// Whether counters may differ from those before the steps. No means that `undo` and `settle` would change nothing.
+    /// Whether there are steps that `undo` would take back. No means that `undo` and `settle` would change nothing.
     pub fn is_pending(&self) -> bool
+        ensures steps { IsTrue result ↔ (0 < steps_in self.now) }
         ensures members { result ≡ false → (a t : ℕ) → member_rows.count_before self.now.rows a t ≡ member_rows.count_now self.now.rows a t }
         ensures accesses { result ≡ false → (kind : RuleKind) (key : SymbolKey) (t : ℕ) → access_tables.count_before self.now.tables kind key t ≡ access_tables.count_now self.now.tables kind key t }
     {

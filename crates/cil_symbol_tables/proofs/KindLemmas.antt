@@ -1,5 +1,6 @@
 -- The lines of each kind of rule.
-use Rattle.std.proofs.Common.{◌≡◌, ℕ, ◌+◌, ◌≤◌, ◌&&◌, Bool, refl, sym, ap, subst}
+use Rattle.std.proofs.Common.{◌≡◌, ◌↔◌, ℕ, ◌+◌, ◌<◌, ◌≤◌, ◌&&◌, ◌||◌, Bool, true, false, IsTrue, inl, inr, refl, sym, ap, subst, arith, true≢false}
+use Rattle.std.proofs.lemmas.Bool.{cases_lt}
 use Rattle.cil_text.specs.declared.statement.RuleKind.{RuleKind}
 use Rattle.cil_text.specs.declared.statement.RuleKind.TheVariants.{Allow, AuditAllow, DontAudit, NeverAllow}
 use Rattle.cil_keyed_lines.specs.Keyed as keyed
@@ -37,6 +38,14 @@ all-before tables counts allow auditallow dontaudit neverallow = each tables (λ
 pub all-counted : {A : Type 0} (tables : SymbolTables A) → keyed.AllCounted tables.allow → keyed.AllCounted tables.auditallow → keyed.AllCounted tables.dontaudit → keyed.AllCounted tables.neverallow
     → AllCounted tables
 all-counted tables = each tables (λ _ lines. keyed.AllCounted lines)
+
+-- some of two have steps where the one or the other has
+pub either-steps : (a b : Bool) (m n : ℕ) → (IsTrue a ↔ (0 < m)) → (IsTrue b ↔ (0 < n)) → IsTrue (a || b) ↔ (0 < m + n)
+either-steps true b m n one other = (λ _. let some = one.0 refl in omega (arith, some), λ _. refl)
+either-steps false b m n one other = (λ is. let some = other.0 is in omega (arith, some), λ some. elim (cases_lt 0 m) [
+  | inl first ↦ absurd (true≢false (sym (one.1 first)))
+  | inr none ↦ other.1 (omega (arith, some, none))
+])
 
 -- the counters of a kind are those of its lines
 pub counted-of : {A : Type 0} (tables : SymbolTables A) (kind other : RuleKind) (key : SymbolKey) (t : ℕ) → kind ≡ other → keyed.count_now (lines_of tables other) key t ≡ count_now tables kind key t

@@ -1,5 +1,5 @@
 -- The access tables by symbols: for each kind of rule, access by access, how many rules give it, now and before the steps.
-use Rattle.std.specs.Prelude.{◌==◌, ℕ, Bool}
+use Rattle.std.specs.Prelude.{◌==◌, ◌+◌, ℕ, Bool}
 use Rattle.cil_specs.specs.Rule.{kind_index}
 use Rattle.cil_text.specs.Image.{rule_kind_of}
 use Rattle.cil_text.specs.declared.statement.RuleKind.{RuleKind}
@@ -30,3 +30,7 @@ count_before tables kind key t = keyed.count_before (lines_of tables kind) key t
 -- each line of each kind has a counter above 0
 abbrev pub AllCounted : {A : Type 0} → SymbolTables A → Type 0
 AllCounted tables = (kind : RuleKind) → keyed.AllCounted (lines_of tables kind)
+
+-- how many steps there are that `undo` would take back
+abbrev pub steps_in : {A : Type 0} → SymbolTables A → ℕ
+steps_in tables = keyed.steps_in tables.allow + keyed.steps_in tables.auditallow + keyed.steps_in tables.dontaudit + keyed.steps_in tables.neverallow

@@ -74,8 +74,8 @@ impl<A: Allocator + Copy> SymbolTables<A> {
 }
 
 impl<A: Allocator> SymbolTables<A> {
-    ghost use Rattle.std.specs.Prelude.{◌≡◌, ◌-◌, ◌^◌, ℕ, false, min};
-    ghost use Rattle.cil_symbol_tables.specs.Tables.{count_before, count_now, lines_of, AllCounted};
+    ghost use Rattle.std.specs.Prelude.{◌≡◌, ◌↔◌, ◌-◌, ◌<◌, ◌^◌, ℕ, false, min, IsTrue};
+    ghost use Rattle.cil_symbol_tables.specs.Tables.{count_before, count_now, lines_of, steps_in, AllCounted};
 
     /// The lines of the rules of a kind.
     pub fn lines(&self, kind: RuleKind) -> &KeyedLines<A>
@@ -102,9 +102,10 @@ impl<A: Allocator> SymbolTables<A> {
         }
     }
 
-    /// Whether counters may differ from those before the steps. No means that `undo` and `settle` would change nothing, and that each line
-    /// has a counter above 0.
+    /// Whether there are steps that `undo` would take back. No means that `undo` and `settle` would change nothing, and that each line has a
+    /// counter above 0.
     pub fn is_pending(&self) -> bool
+        ensures steps { IsTrue result ↔ (0 < steps_in self.now) }
         ensures counted { result ≡ false → AllCounted self.now }
         ensures same { result ≡ false → (kind : RuleKind) (key : SymbolKey) (t : ℕ) → count_before self.now kind key t ≡ count_now self.now kind key t }
     {
@@ -117,6 +118,7 @@ impl<A: Allocator> SymbolTables<A> {
 
     /// Takes the steps back, and takes out the lines that are left without counters. It takes no memory.
     pub fn undo(&mut self)
+        ensures steps { steps_in self.new ≡ 0 }
         ensures counted { AllCounted self.new }
         ensures now { (kind : RuleKind) (key : SymbolKey) (t : ℕ) → count_now self.new kind key t ≡ count_before self.old kind key t }
         ensures before { (kind : RuleKind) (key : SymbolKey) (t : ℕ) → count_before self.new kind key t ≡ count_before self.old kind key t }
@@ -130,6 +132,7 @@ impl<A: Allocator> SymbolTables<A> {
     /// Keeps the steps, so that they can't be taken back any more, and takes out the lines that are left without counters. It takes no
     /// memory.
     pub fn settle(&mut self)
+        ensures steps { steps_in self.new ≡ 0 }
         ensures counted { AllCounted self.new }
         ensures now { (kind : RuleKind) (key : SymbolKey) (t : ℕ) → count_now self.new kind key t ≡ count_now self.old kind key t }
         ensures before { (kind : RuleKind) (key : SymbolKey) (t : ℕ) → count_before self.new kind key t ≡ count_now self.old kind key t }

@@ -1,6 +1,15 @@
+use Rattle.std.proofs.Common.{arith}
 use Rattle.cil_symbol_tables.specs.Tables.{count_now}
 use Rattle.cil_symbol_tables.proofs.KindLemmas.{all-before, all-counted, all-now}
 use Rattle.cil_symbol_tables.proofs.symbol_tables.SymbolTables.settle.Goals as goal
+
+pub returns-clause-steps : goal.returns-clause-steps
+returns-clause-steps g c =
+    let allow = c.settle.ensures.steps in
+    let auditallow = c.settle-2.ensures.steps in
+    let dontaudit = c.settle-3.ensures.steps in
+    let neverallow = c.settle-4.ensures.steps in
+    omega (arith, allow, auditallow, dontaudit, neverallow)
 
 pub returns-clause-now : goal.returns-clause-now
 unfolding count_now

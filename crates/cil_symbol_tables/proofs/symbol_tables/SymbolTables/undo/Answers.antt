@@ -1,6 +1,15 @@
+use Rattle.std.proofs.Common.{arith}
 use Rattle.cil_symbol_tables.specs.Tables.{count_before}
 use Rattle.cil_symbol_tables.proofs.KindLemmas.{all-before, all-counted, all-now}
 use Rattle.cil_symbol_tables.proofs.symbol_tables.SymbolTables.undo.Goals as goal
+
+pub returns-clause-steps : goal.returns-clause-steps
+returns-clause-steps g c =
+    let allow = c.undo.ensures.steps in
+    let auditallow = c.undo-2.ensures.steps in
+    let dontaudit = c.undo-3.ensures.steps in
+    let neverallow = c.undo-4.ensures.steps in
+    omega (arith, allow, auditallow, dontaudit, neverallow)
 
 pub returns-clause-now : goal.returns-clause-now
 unfolding count_before
