@@ -42,10 +42,13 @@ all-counted tables = each tables (λ _ lines. keyed.AllCounted lines)
 -- some of two have steps where the one or the other has
 pub either-steps : (a b : Bool) (m n : ℕ) → (IsTrue a ↔ (0 < m)) → (IsTrue b ↔ (0 < n)) → IsTrue (a || b) ↔ (0 < m + n)
 either-steps true b m n one other = (λ _. let some = one.0 refl in omega (arith, some), λ _. refl)
-either-steps false b m n one other = (λ is. let some = other.0 is in omega (arith, some), λ some. elim (cases_lt 0 m) [
-  | inl first ↦ absurd (true≢false (sym (one.1 first)))
-  | inr none ↦ other.1 (omega (arith, some, none))
-])
+either-steps false b m n one other = (
+  λ is. let some = other.0 is in omega (arith, some),
+  λ some. elim (cases_lt 0 m) [
+    | inl first ↦ absurd (true≢false (sym (one.1 first)))
+    | inr none ↦ other.1 (omega (arith, some, none))
+  ],
+)
 
 -- the counters of a kind are those of its lines
 pub counted-of : {A : Type 0} (tables : SymbolTables A) (kind other : RuleKind) (key : SymbolKey) (t : ℕ) → kind ≡ other → keyed.count_now (lines_of tables other) key t ≡ count_now tables kind key t

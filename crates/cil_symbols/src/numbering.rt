@@ -91,11 +91,7 @@ fn symbols_beside<A: Allocator + Copy>(
 
 impl<A: Allocator + Copy> Numbering<A> {
     /// The numbering of a policy whose names all have symbols.
-    pub fn known(
-        alloc: A,
-        symbols: &Symbols<A>,
-        resolved: &Resolved<A>,
-    ) -> Result<Self, AllocError>
+    pub fn known(alloc: A, symbols: &Symbols<A>, resolved: &Resolved<A>) -> Result<Self, AllocError>
         requires { (numbers : List ℕ) × AreNumbersOf symbols.now numbers resolved.now.names.items }
         ensures symbols { IfOk result (λ n. AreNumbersOf symbols.now n.symbols resolved.now.names.items) }
         ensures count { IfOk result (λ n. n.count ≡ length symbols.now) }
