@@ -8,8 +8,10 @@ use Rattle.cil_specs.specs.Report.{AreAtoms, Changes, Row, AreRows}
 use Rattle.cil_specs.specs.Violations.{Violation, AreViolations}
 use Rattle.cil_specs.specs.Rule.{Atom, SetStatement}
 use Rattle.cil_specs.proofs.NamesLemmas.{contains-first}
+use Rattle.cil_counters.specs.ChangeCounts.{CountsSome}
 use Rattle.cil_counters.specs.Counted.{AreSettled, AreTakenBack, IsNow, WasBefore}
 use Rattle.cil_counters.specs.declared.counters.Counters.{Counters}
+use Rattle.cil_symbol_changes.specs.declared.counted_changes.ChangeCounts.{ChangeCounts}
 use Rattle.cil_counters.proofs.CountedLemmas.{back-before, back-now, settled-before, settled-now}
 use Rattle.cil_resolve.specs.declared.resolved.Resolved.{Resolved}
 use Rattle.cil_store_specs.specs.Next.{Edit, IsMeaningOf, changed}
@@ -32,11 +34,12 @@ of-kept store policy P counted is meaning meant = subst P (meaning-same store (m
 -- ---- a policy that is replaced
 
 -- whose steps are taken back
-pub kept-back : {A : Type 0} (p : CountedPolicy A) (mid new : Counters A) (r : Resolved A) → r ≡ rc_value p.resolved → IsKept p → WasBefore r mid → AreTakenBack mid new → IsKept (record { resolved = p.resolved; dropped = p.dropped; counters = new })
-kept-back p mid new r same is was back = record {
-  now = back-now (rc_value p.resolved) mid new (subst (λ x. WasBefore x mid) same was) back;
-  before = back-before (rc_value p.resolved) mid new (subst (λ x. WasBefore x mid) same was) back;
-  are_dropped = is.are_dropped;
+pub kept-back : {A : Type 0} (p : CountedPolicy A) (new : Counters A) → p.dropped ≡ (counted_meaning p).dropped → WasBefore (rc_value p.resolved) p.counters → AreTakenBack p.counters new
+    → IsKept (record { resolved = p.resolved; dropped = p.dropped; counters = new })
+kept-back p new dropped was back = record {
+  now = back-now (rc_value p.resolved) p.counters new was back;
+  before = back-before (rc_value p.resolved) p.counters new was back;
+  are_dropped = dropped;
 }
 
 -- whose steps are kept
@@ -67,6 +70,16 @@ module _ {X E : Type 0} (old new : Store) (edit : Edit) (before now next : Meani
       subst (λ y. P y n (changes x)) (meaning-same old before m meant was)
       (subst (λ y. P before y (changes x)) (meaning-same new next n (subst (λ s. IsMeaningOf s next) (sym made) means) is) are)
   told-after P changes (Err e) made are = tt
+
+-- so is what is told of changes whose numbers are known
+pub told-counted : {E : Type 0} (old new : Store) (edit : Edit) (before next : Meaning) → IsMeaningOf old before → IsMeaningOf (changed old edit) next → (P : Meaning → Meaning → Changes → Type 0) (r : Result ChangeCounts E)
+    → OnOk r (new ≡ changed old edit) → IfOk r (CountsSome (P before next)) → IfOk r (CountsSome (λ changes. (m n : Meaning) → IsMeaningOf old m → IsMeaningOf new n → P m n changes))
+told-counted {E} old new edit before next meant means P (Ok counts) made some = record {
+  changes = some.changes;
+  those = told-after {E = E} old new edit before next next meant means P (λ changes. changes) (Ok some.changes) made some.those;
+  are_counts = some.are_counts;
+}
+told-counted old new edit before next meant means P (Err e) made some = tt
 
 pub counted-empty : {A : Type 0} (policy : Option (CountedPolicy A)) → policy ≡ None → IsCountedTo empty policy
 counted-empty policy none = subst (IsCountedTo empty) (sym none) (record { is_meaning = none-meant; is_kept = tt })

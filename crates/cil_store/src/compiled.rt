@@ -1,22 +1,24 @@
 //! Engines that keep a store compiled.
 
-ghost use Rattle.std.specs.Prelude.{◌≡◌, ◌≤◌, List, IfOk, OnErr, IsErrOf, length, flat_map};
+ghost use Rattle.std.specs.Prelude.{◌≡◌, ◌≤◌, List, IfErr, IfOk, OnErr, IsErrOf, length, flat_map};
 ghost use Rattle.cil_stream.specs.Device.{HasFailed, Gains, GainsFront};
 ghost use Rattle.cil_specs.specs.Meaning.{Meaning, count_of};
 ghost use Rattle.cil_specs.specs.Members.{is_member};
 ghost use Rattle.cil_specs.specs.Report.{Row, row_line};
+ghost use Rattle.cil_counters.specs.ChangeCounts.{CountsSome};
 ghost use Rattle.cil_rules.specs.Atoms.{atom_of};
 ghost use Rattle.cil_store_specs.specs.Next.{IsMeaningOf};
-ghost use Rattle.cil_store_specs.specs.Run.{an_edit, AreRowsOf, AreViolationsOf, AreDroppedOf, Step};
+ghost use Rattle.cil_store_specs.specs.Run.{an_edit, changed_by, refused, AreRowsOf, AreViolationsOf, AreDroppedOf, Step};
 ghost use Rattle.cil_store_specs.specs.Store as spec;
 ghost use Rattle.cil_specs.specs.Violations.{Violation, violations_text};
 ghost use Rattle.cil_store.specs.Calls.{edit_reply};
-ghost use Rattle.cil_store.specs.Edits.{edit_of};
+ghost use Rattle.cil_store.specs.Edits.{edit_of, refusal_of};
 
 use crate::dropped::Dropped;
 use crate::edit::Edit;
 use crate::modules::Store;
 use crate::refusal::Refusal;
+use cil_counters::ChangeCounts;
 use cil_rules::{Atom, Changes, Rows};
 use cil_stream::Sink;
 use cil_violations::Violations;
@@ -56,6 +58,11 @@ pub trait Compiled<A: Allocator + Copy> {
     /// refusal, out of memory too, the store is as before.
     fn edit(&mut self, edit: Edit<'_>) -> Result<Changes<A>, Refusal<A>>
         ensures { Step (store self.old) (an_edit (edit_of edit.entry)) (edit_reply result) (store self.new) };
+
+    /// `edit`, whose reply tells how many accesses came and went, and not which.
+    fn edit_counted(&mut self, edit: Edit<'_>) -> Result<ChangeCounts, Refusal<A>>
+        ensures ok { IfOk result (CountsSome (λ changes. Step (store self.old) (an_edit (edit_of edit.entry)) (changed_by changes) (store self.new))) }
+        ensures err { IfErr result (λ refusal. Step (store self.old) (an_edit (edit_of edit.entry)) (refused (refusal_of refusal)) (store self.new)) };
 
     /// The listing, by rows.
     fn rows(&self) -> Result<Rows<A>, AllocError>

@@ -6,6 +6,7 @@ ghost use Rattle.cil_specs.specs.Meaning.{count_of, is_in_table, meaning_of};
 ghost use Rattle.cil_specs.specs.Members.{is_member};
 ghost use Rattle.cil_specs.specs.Report.{AreAtoms};
 ghost use Rattle.cil_specs.specs.Violations.{AreViolations};
+ghost use Rattle.cil_counters.specs.ChangeCounts.{CountsSome};
 ghost use Rattle.cil_counters.specs.Counted.{IsNow, WasBefore};
 ghost use Rattle.cil_resolve.specs.Resolved.{meaning_in};
 ghost use Rattle.cil_rules.specs.Atoms.{atom_of};
@@ -17,7 +18,7 @@ use crate::dropped::Dropped;
 use crate::modules::Store;
 use crate::ready::Ready;
 use crate::resolving::resolve_nothing;
-use cil_counters::{Counters, counters_tell_accesses, counters_tell_members};
+use cil_counters::{ChangeCounts, Counters, counters_tell_accesses, counters_tell_members};
 use cil_resolve::{Meter, Resolved, resolved_sets_are_in_order};
 use cil_rules::{Atom, Changes, Table};
 use cil_violations::Violations;
@@ -107,6 +108,55 @@ impl<A: Allocator + Copy> CountedPolicy<A> {
             self.counters.undo();
             return Err(AllocError);
         };
+        self.take_over(store, edit, next)?;
+        Ok(changes)
+    }
+
+    /// `replace`, which answers how many changes there are.
+    pub fn replace_counted(
+        &mut self,
+        alloc: A,
+        store: &mut Store<A>,
+        edit: Ready<'_, A>,
+        next: NextPolicy<A>,
+        meter: &mut Meter,
+    ) -> Result<ChangeCounts, AllocError>
+        requires { IsKept self.old }
+        ensures kept { IsKept self.new }
+        ensures changes { IfOk result (CountsSome (AreCountedChanges (counted_meaning self.old) (meaning_in (rc_value next.resolved)) meter.old meter.new)) }
+        ensures store { OnOk result (store.new ≡ changed store.old (ready_edit edit.entry)) }
+        ensures meaning { OnOk result (counted_meaning self.new ≡ meaning_in (rc_value next.resolved)) }
+        ensures err_store { OnErr result (store.new ≡ store.old) }
+        ensures err_meaning { OnErr result (counted_meaning self.new ≡ counted_meaning self.old) }
+    {
+        let updated = self
+            .counters
+            .update_counted(alloc, &self.resolved, &next.resolved, meter);
+        let Ok(counts) = updated else {
+            self.counters.undo();
+            return Err(AllocError);
+        };
+        self.take_over(store, edit, next)?;
+        Ok(counts)
+    }
+
+    /// Makes the edit that leads to the policy to which the counters were brought, and puts that policy in place of this one. After an
+    /// out of memory the counters are taken back.
+    fn take_over(
+        &mut self,
+        store: &mut Store<A>,
+        edit: Ready<'_, A>,
+        next: NextPolicy<A>,
+    ) -> Result<(), AllocError>
+        requires now { IsNow (rc_value next.resolved) self.old.counters }
+        requires before { WasBefore (rc_value self.old.resolved) self.old.counters }
+        requires dropped { self.old.dropped ≡ (counted_meaning self.old).dropped }
+        ensures kept { IsKept self.new }
+        ensures store { OnOk result (store.new ≡ changed store.old (ready_edit edit.entry)) }
+        ensures meaning { OnOk result (counted_meaning self.new ≡ meaning_in (rc_value next.resolved)) }
+        ensures err_store { OnErr result (store.new ≡ store.old) }
+        ensures err_meaning { OnErr result (counted_meaning self.new ≡ counted_meaning self.old) }
+    {
         if store.put(edit).is_err() {
             self.counters.undo();
             return Err(AllocError);
@@ -114,7 +164,7 @@ impl<A: Allocator + Copy> CountedPolicy<A> {
         self.counters.settle();
         self.resolved = next.resolved;
         self.dropped = next.dropped;
-        Ok(changes)
+        Ok(())
     }
 
     /// Makes the counters anew where most of the names that they have symbols for are out of use, so that they don't grow from edit to

@@ -1,12 +1,13 @@
 //! The engine that changes its counters in place.
 
-ghost use Rattle.std.specs.Prelude.{◌≡◌, ◌⊎◌, IfErr, IfOk, OnErr, OnOk};
+ghost use Rattle.std.specs.Prelude.{◌≡◌, ◌⊎◌, None, IfErr, IfOk, OnErr, OnOk};
 ghost use Rattle.std.specs.Rc.{rc_value};
 ghost use Rattle.cil_specs.specs.Meaning.{Meaning, is_in_table};
 ghost use Rattle.cil_specs.specs.Report.{AreAtoms};
+ghost use Rattle.cil_counters.specs.ChangeCounts.{CountsSome};
 ghost use Rattle.cil_resolve.specs.Resolved.{meaning_in};
-ghost use Rattle.cil_store_specs.specs.Next.{IsMeaningOf, changed, for_memory};
-ghost use Rattle.cil_store_specs.specs.Run.{an_edit, Step};
+ghost use Rattle.cil_store_specs.specs.Next.{HasGoodText, IsMeaningOf, changed, for_memory, store_refusal};
+ghost use Rattle.cil_store_specs.specs.Run.{an_edit, changed_by, refused, Step};
 ghost use Rattle.cil_store_specs.specs.Store.{empty};
 ghost use Rattle.cil_store.specs.Calls.{edit_reply};
 ghost use Rattle.cil_store.specs.Counted.{counted_meaning, meaning_kept, AreCountedBetween, CountsStay, IsKept, IsKeptWhere};
@@ -22,6 +23,7 @@ use crate::modules::Store;
 use crate::ready::Ready;
 use crate::refusal::Refusal;
 use crate::resolving::resolve_after;
+use cil_counters::ChangeCounts;
 use cil_resolve::Meter;
 use cil_rules::{Atom, Changes, Rows, Table};
 use cil_stream::Sink;
@@ -66,6 +68,13 @@ fn take_policy<A: Allocator + Copy>(
     }
 }
 
+/// An edit that nothing is against, with the policy that it leads to. What memory it needs is taken, but for that of the counters.
+#[derive(Drop)]
+struct Prepared<'e, A: Allocator> {
+    edit: Ready<'e, A>,
+    next: NextPolicy<A>,
+}
+
 impl<A: Allocator + Copy> Delta<A> {
     /// An engine of an empty store. It takes no memory.
     pub fn new(alloc: A) -> Self
@@ -97,6 +106,42 @@ impl<A: Allocator + Copy> Delta<A> {
         changes
     }
 
+    /// `replace`, which answers how many changes there are.
+    fn replace_counted(
+        &mut self,
+        edit: Ready<'_, A>,
+        next: NextPolicy<A>,
+        meter: &mut Meter,
+    ) -> Result<ChangeCounts, AllocError>
+        requires { IsMeaningOf (changed self.old (ready_edit edit)) (meaning_in (rc_value next.resolved)) }
+        ensures ok { OnOk result (self.new ≡ changed self.old (ready_edit edit.entry)) }
+        ensures changes { IfOk result (CountsSome (AreCountedBetween self.old self.new meter.old meter.new)) }
+        ensures err { OnErr result (self.new ≡ self.old) }
+    {
+        let mut policy = take_policy(self.alloc, &mut self.policy)?;
+        let counts = policy.replace_counted(self.alloc, &mut self.store, edit, next, meter);
+        policy.renumber(self.alloc);
+        self.policy = Some(policy);
+        counts
+    }
+
+    /// Judges an edit, and takes the memory that it needs but for that of the counters. The store stays.
+    fn prepare<'e>(&mut self, edit: Edit<'e>) -> Result<Prepared<'e, A>, Refusal<A>>
+        ensures kept { self.new ≡ self.old }
+        ensures edit { IfOk result (λ prepared. ready_edit prepared.edit ≡ edit_of edit.entry) }
+        ensures meant { OnOk result ((before : Meaning) × IsMeaningOf self.old before) }
+        ensures taken { OnOk result (store_refusal self.old (edit_of edit.entry) ≡ None) }
+        ensures text { OnOk result (HasGoodText (edit_of edit.entry)) }
+        ensures means { IfOk result (λ prepared. IsMeaningOf (changed self.old (edit_of edit.entry)) (meaning_in (rc_value prepared.next.resolved))) }
+        ensures err { IfErr result (λ refusal. Step self.old (an_edit (edit_of edit.entry)) (refused (refusal_of refusal)) self.old) }
+    {
+        let admitted = admit(self.alloc, &self.store, edit)?;
+        let resolved = resolve_after(self.alloc, &self.store, &admitted)?;
+        let next = NextPolicy::of(self.alloc, resolved)?;
+        let edit = self.store.prepare(self.alloc, admitted)?;
+        Ok(Prepared { edit, next })
+    }
+
     /// `edit`, which counts in a meter how often set statements are evaluated and counters of accesses adjusted. After an out of memory
     /// the meter may have counted some.
     pub fn edit_metered(
@@ -108,12 +153,25 @@ impl<A: Allocator + Copy> Delta<A> {
         ensures counted { IfOk result (AreCountedBetween self.old self.new meter.old meter.new) }
         ensures uncounted { IfErr result (λ refusal. (refusal_of refusal ≡ for_memory) ⊎ CountsStay meter.old meter.new) }
     {
-        let admitted = admit(self.alloc, &self.store, edit)?;
-        let resolved = resolve_after(self.alloc, &self.store, &admitted)?;
-        let next = NextPolicy::of(self.alloc, resolved)?;
-        let ready = self.store.prepare(self.alloc, admitted)?;
-        let changes = self.replace(ready, next, meter)?;
+        let prepared = self.prepare(edit)?;
+        let changes = self.replace(prepared.edit, prepared.next, meter)?;
         Ok(changes)
+    }
+
+    /// `edit_counted`, which counts in a meter as `edit_metered` does.
+    pub fn edit_counted_metered(
+        &mut self,
+        edit: Edit<'_>,
+        meter: &mut Meter,
+    ) -> Result<ChangeCounts, Refusal<A>>
+        ensures ok { IfOk result (CountsSome (λ changes. Step self.old (an_edit (edit_of edit.entry)) (changed_by changes) self.new)) }
+        ensures err { IfErr result (λ refusal. Step self.old (an_edit (edit_of edit.entry)) (refused (refusal_of refusal)) self.new) }
+        ensures counted { IfOk result (CountsSome (AreCountedBetween self.old self.new meter.old meter.new)) }
+        ensures uncounted { IfErr result (λ refusal. (refusal_of refusal ≡ for_memory) ⊎ CountsStay meter.old meter.new) }
+    {
+        let prepared = self.prepare(edit)?;
+        let counts = self.replace_counted(prepared.edit, prepared.next, meter)?;
+        Ok(counts)
     }
 
     /// The accesses that the store allows.
@@ -150,6 +208,10 @@ impl<A: Allocator + Copy> Compiled<A> for Delta<A> {
 
     fn edit(&mut self, edit: Edit<'_>) -> Result<Changes<A>, Refusal<A>> {
         self.edit_metered(edit, &mut Meter::new())
+    }
+
+    fn edit_counted(&mut self, edit: Edit<'_>) -> Result<ChangeCounts, Refusal<A>> {
+        self.edit_counted_metered(edit, &mut Meter::new())
     }
 
     fn rows(&self) -> Result<Rows<A>, AllocError> {

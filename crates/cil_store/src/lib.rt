@@ -24,6 +24,7 @@ mod resolving;
 mod runs;
 
 pub use call::{Call, Reply};
+pub use cil_counters::ChangeCounts;
 pub use compiled::{Compiled, WriteFault};
 pub use delta::Delta;
 pub use dropped::Dropped;

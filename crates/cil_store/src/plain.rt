@@ -24,6 +24,7 @@ use crate::modules::Store;
 use crate::policy::Policy;
 use crate::refusal::Refusal;
 use crate::resolving::resolve_after;
+use cil_counters::ChangeCounts;
 use cil_resolve::Resolved;
 use cil_rules::{Atom, Changes, Rows, Table};
 use cil_stream::Sink;
@@ -170,6 +171,16 @@ impl<A: Allocator + Copy> Compiled<A> for Plain<A> {
         let changes = Changes::between(self.alloc, &self.table, &made.table)?;
         self.replace(admitted, made)?;
         Ok(changes)
+    }
+
+    fn edit_counted(&mut self, edit: Edit<'_>) -> Result<ChangeCounts, Refusal<A>> {
+        match self.edit(edit) {
+            Ok(changes) => Ok(ChangeCounts {
+                added: changes.added_len(),
+                removed: changes.removed_len(),
+            }),
+            Err(refusal) => Err(refusal),
+        }
     }
 
     fn rows(&self) -> Result<Rows<A>, AllocError> {

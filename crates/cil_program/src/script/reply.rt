@@ -2,7 +2,8 @@
 
 ghost use Rattle.std.specs.Prelude.{◌+◌, ◌++◌, flat_map, length};
 ghost use Rattle.cil_store_specs.specs.Next.{by_store, at_place, for_memory};
-ghost use Rattle.cil_specs.specs.Report.{dropped_line};
+ghost use Rattle.cil_specs.specs.Report.{dropped_line, Changes};
+ghost use Rattle.cil_counters.specs.ChangeCounts.{AreCountsOf};
 ghost use Rattle.cil_store_specs.specs.Script.{refusal_line, reply_text, end_line, last_line, stops, dump_edits, dump_text};
 ghost use Rattle.cil_store_specs.specs.Run.{changed_by, dropped_optionals};
 ghost use Rattle.cil_text.specs.Image.{place_of};
@@ -14,20 +15,17 @@ ghost use Rattle.cil_program.specs.Reply.{Writes};
 ghost use Rattle.cil_program.specs.Dump.{install_command, disable_command};
 
 use cil_resolve::NameView;
-use cil_rules::Changes;
-use cil_store::{Dropped, Entry, Refusal, Store};
+use cil_store::{ChangeCounts, Dropped, Entry, Refusal, Store};
 use cil_stream::{Sink, SinkFault, write_all, write_pieces};
 use cil_text::Place;
 use itoa::Buffer;
 use std::alloc::Allocator;
 
 /// Writes how many accesses came and went with an accepted edit.
-pub fn write_changes<W: Sink, A: Allocator>(
-    sink: &mut W,
-    changes: &Changes<A>,
-) -> Result<(), SinkFault>
-    ensures { Writes W.taken W.failures sink.old sink.new
-        (reply_text (changed_by changes.now)) result }
+pub fn write_changes<W: Sink>(sink: &mut W, counts: ChangeCounts) -> Result<(), SinkFault>
+    ensures { (changes : Changes) → AreCountsOf changes counts →
+        Writes W.taken W.failures sink.old sink.new
+        (reply_text (changed_by changes)) result }
 {
     let mut added = Buffer::new();
     let mut removed = Buffer::new();
@@ -35,9 +33,9 @@ pub fn write_changes<W: Sink, A: Allocator>(
         sink,
         &[
             b"ok ",
-            added.format(changes.added_len()).as_bytes(),
+            added.format(counts.added).as_bytes(),
             b" ",
-            removed.format(changes.removed_len()).as_bytes(),
+            removed.format(counts.removed).as_bytes(),
             b"\n",
         ],
     )

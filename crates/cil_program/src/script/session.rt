@@ -189,9 +189,9 @@ fn answer_edit<W: Sink, A: Allocator + Copy, C: Compiled<A>>(
     ensures { Tries W.taken W.failures sink.old sink.new (C.store engine.old) (C.store engine.new)
         (makes (edit_of edit.entry)) result }
 {
-    match engine.edit(edit) {
-        Ok(changes) => {
-            reply::write_changes(sink, &changes)?;
+    match engine.edit_counted(edit) {
+        Ok(counts) => {
+            reply::write_changes(sink, counts)?;
             Ok(Outcome::Accepted)
         }
         Err(refusal) => {

@@ -9,8 +9,8 @@ line first second a b e f = (λ i. codes "ok " ++ (e i ++ (codes " " ++ (f i ++ 
     regroup x y = simp append_assoc
 
 pub returns : goal.returns
-returns g c =
+returns g c changes are =
     subst (λ (l : List ℕ). Writes g.W.Sink.taken g.W.Sink.failures c.args.sink.now c.write_pieces.new.sink l c.write_pieces.result)
-    (line c.as_bytes.result.now c.as_bytes-2.result.now (length c.args.changes.now.added) (length c.args.changes.now.removed) (c.as_bytes.ensures.value ∙ c.format.ensures.text ∙ ap decimal c.added_len.ensures)
-    (c.as_bytes-2.ensures.value ∙ c.format-2.ensures.text ∙ ap decimal c.removed_len.ensures))
+    (line c.as_bytes.result.now c.as_bytes-2.result.now (length changes.added) (length changes.removed) (c.as_bytes.ensures.value ∙ c.format.ensures.text ∙ ap decimal are.added)
+    (c.as_bytes-2.ensures.value ∙ c.format-2.ensures.text ∙ ap decimal are.removed))
     (record { ok = c.write_pieces.ensures.ok; err = c.write_pieces.ensures.err; failed = c.write_pieces.ensures.failed; counted = c.write_pieces.ensures.counted })

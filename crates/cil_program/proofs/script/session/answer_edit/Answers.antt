@@ -10,25 +10,32 @@ returns-in_ok-write_changes-in-Ok g c =
     let W = g.W.Sink in
     let store = g.C.Compiled.store in
     let edit = edit_of c.args.edit in
-    tries-ok W.taken W.failures c.args.sink.now c.write_changes.new.sink (store c.args.engine.now) (store c.edit.new.self) (makes edit) (answer_of (changed_by c.in-Ok.changes)) _ (by_engine (an_edit edit) (changed_by c.in-Ok.changes) refl c.in-Ok.ensures refl) c.in_ok-write_changes-in-Ok.ensures
+    let some = c.in-Ok.ensures.ok in
+    tries-ok W.taken W.failures c.args.sink.now c.write_changes.new.sink (store c.args.engine.now) (store c.edit_counted.new.self) (makes edit) (answer_of (changed_by some.changes)) _
+    (by_engine (an_edit edit) (changed_by some.changes) refl some.those refl) (c.in_ok-write_changes-in-Ok.ensures some.changes some.are_counts)
 
 pub returns-in_ok-write_refusal-in-Err : goal.returns-in_ok-write_refusal-in-Err
 returns-in_ok-write_refusal-in-Err g c =
     let W = g.W.Sink in
     let store = g.C.Compiled.store in
     let edit = edit_of c.args.edit in
-    tries-ok W.taken W.failures c.args.sink.now c.write_refusal.new.sink (store c.args.engine.now) (store c.edit.new.self) (makes edit) (answer_of (refused (refusal_of c.in-Err.refusal))) _ (by_engine (an_edit edit) (refused (refusal_of c.in-Err.refusal)) refl c.in-Err.ensures refl) c.in_ok-write_refusal-in-Err.ensures
+    tries-ok W.taken W.failures c.args.sink.now c.write_refusal.new.sink (store c.args.engine.now) (store c.edit_counted.new.self) (makes edit) (answer_of (refused (refusal_of c.in-Err.refusal))) _
+    (by_engine (an_edit edit) (refused (refusal_of c.in-Err.refusal)) refl c.in-Err.ensures.err refl) c.in_ok-write_refusal-in-Err.ensures
 
 pub returns-in_err-write_changes-in-Ok : goal.returns-in_err-write_changes-in-Ok
 returns-in_err-write_changes-in-Ok g c =
     let W = g.W.Sink in
     let store = g.C.Compiled.store in
     let edit = edit_of c.args.edit in
-    tries-err W.taken W.failures c.args.sink.now c.write_changes.new.sink (store c.args.engine.now) (store c.edit.new.self) (makes edit) (answer_of (changed_by c.in-Ok.changes)) _ c.from_residual.result c.from_residual.ensures.0 (by_engine (an_edit edit) (changed_by c.in-Ok.changes) refl c.in-Ok.ensures refl) c.in_err-write_changes-in-Ok.ensures
+    let some = c.in-Ok.ensures.ok in
+    tries-err W.taken W.failures c.args.sink.now c.write_changes.new.sink (store c.args.engine.now) (store c.edit_counted.new.self) (makes edit) (answer_of (changed_by some.changes)) _ c.from_residual.result
+    c.from_residual.ensures.0 (by_engine (an_edit edit) (changed_by some.changes) refl some.those refl) (c.in_err-write_changes-in-Ok.ensures some.changes some.are_counts)
 
 pub returns-in_err-write_refusal-in-Err : goal.returns-in_err-write_refusal-in-Err
 returns-in_err-write_refusal-in-Err g c =
     let W = g.W.Sink in
     let store = g.C.Compiled.store in
     let edit = edit_of c.args.edit in
-    tries-err W.taken W.failures c.args.sink.now c.write_refusal.new.sink (store c.args.engine.now) (store c.edit.new.self) (makes edit) (answer_of (refused (refusal_of c.in-Err.refusal))) _ c.from_residual-in_err-write_refusal-in-Err.result c.from_residual-in_err-write_refusal-in-Err.ensures.0 (by_engine (an_edit edit) (refused (refusal_of c.in-Err.refusal)) refl c.in-Err.ensures refl) c.in_err-write_refusal-in-Err.ensures
+    tries-err W.taken W.failures c.args.sink.now c.write_refusal.new.sink (store c.args.engine.now) (store c.edit_counted.new.self) (makes edit) (answer_of (refused (refusal_of c.in-Err.refusal))) _
+    c.from_residual-in_err-write_refusal-in-Err.result c.from_residual-in_err-write_refusal-in-Err.ensures.0 (by_engine (an_edit edit) (refused (refusal_of c.in-Err.refusal)) refl c.in-Err.ensures.err refl)
+    c.in_err-write_refusal-in-Err.ensures

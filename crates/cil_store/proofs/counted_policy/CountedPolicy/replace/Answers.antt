@@ -1,22 +1,24 @@
-use Rattle.std.proofs.Common.{◌∙◌, subst, sym}
+use Rattle.std.proofs.Common.{subst}
 use Rattle.std.specs.Rc.{rc_value}
+use Rattle.cil_counters.specs.Counted.{IsNow, WasBefore}
 use Rattle.cil_resolve.specs.Resolved.{meaning_in}
 use Rattle.cil_store.specs.Counted.{AreCountedChanges}
-use Rattle.cil_store.proofs.CountedPolicyLemmas.{kept-back, kept-settled, on-err}
+use Rattle.cil_store.proofs.CountedPolicyLemmas.{kept-back}
 use Rattle.cil_store.proofs.counted_policy.CountedPolicy.replace.Goals as goal
 
 pub returns-in_default-clause-kept : goal.returns-in_default-clause-kept
-returns-in_default-clause-kept g c = kept-back c.args.self.now c.update-updated.new.self c.undo.new.self c.deref.result.now c.deref.ensures c.requires c.in_default.ensures.before c.undo.ensures
+returns-in_default-clause-kept g c =
+    kept-back (record { resolved = c.args.self.now.resolved; dropped = c.args.self.now.dropped; counters = c.update-updated.new.self }) c.undo.new.self c.requires.are_dropped
+    (subst (λ r. WasBefore r c.update-updated.new.self) c.deref.ensures c.in_default.ensures.before) c.undo.ensures
 
-pub returns-then-is_err-clause-kept : goal.returns-then-is_err-clause-kept
-returns-then-is_err-clause-kept g c = kept-back c.args.self.now c.update-updated.new.self c.undo-then-is_err.new.self c.deref.result.now c.deref.ensures c.requires c.in-Ok.ensures.before c.undo-then-is_err.ensures
+pub take_over-requires-clause-now : goal.take_over-requires-clause-now
+take_over-requires-clause-now g c = subst (λ r. IsNow r c.update-updated.new.self) c.deref-2.ensures c.in-Ok.ensures.now
 
-pub returns-then-is_err-clause-err_store : goal.returns-then-is_err-clause-err_store
-returns-then-is_err-clause-err_store g c = on-err c.put.result _ c.put.ensures.err (sym c.is_err.ensures.value ∙ c.if-is_err.true)
+pub take_over-requires-clause-before : goal.take_over-requires-clause-before
+take_over-requires-clause-before g c = subst (λ r. WasBefore r c.update-updated.new.self) c.deref.ensures c.in-Ok.ensures.before
 
-pub returns-clause-kept : goal.returns-clause-kept
-returns-clause-kept g c =
-    kept-settled (record { resolved = c.args.next.resolved; dropped = c.args.next.dropped; counters = c.settle.new.self }) c.update-updated.new.self c.deref-2.result.now c.deref-2.ensures c.args.next.are_dropped c.in-Ok.ensures.now c.settle.ensures
+pub take_over-requires-clause-dropped : goal.take_over-requires-clause-dropped
+take_over-requires-clause-dropped g c = c.requires.are_dropped
 
 pub returns-clause-changes : goal.returns-clause-changes
 returns-clause-changes g c =
