@@ -58,48 +58,47 @@ unfolding IsStrictlySortedBy
 no-violations = record { ordered = tt; exact = λ v. ((λ has. absurd (omega (arith, has.1))), λ is. absurd (not-in-none v.never is.never)) }
 
 -- where no policy is kept the store has no violation
-pub none-violated : {A : Type 0} (store : Store) (policy : Option (Policy A)) (table : List Atom) (dropped : List Declared) → policy ≡ None → IsCompiledTo store policy table dropped → AreViolationsOf store []
-none-violated store policy table dropped none compiled = (meaning_by policy, compiled.is_meaning, subst (λ p. AreViolations (meaning_by p) []) (sym none) no-violations)
+pub none-violated : {A : Type 0} (store : Store) (policy : Option (Policy A)) (dropped : List Declared) → policy ≡ None → IsCompiledTo store policy dropped → AreViolationsOf store []
+none-violated store policy dropped none compiled = (meaning_by policy, compiled.is_meaning, subst (λ p. AreViolations (meaning_by p) []) (sym none) no-violations)
 
 -- what a new engine keeps
-pub kept-empty : {A : Type 0} (policy : Option (Policy A)) (table : List Atom) (dropped : List Declared) → policy ≡ None → table ≡ [] → dropped ≡ [] → IsCompiledTo empty policy table dropped
-kept-empty policy table dropped no_policy none nothing = subst (λ p. IsCompiledTo empty p table dropped) (sym no_policy) (record {
-  is_meaning = none-meant;
-  are_atoms = subst (AreAtoms (is_in_table (meaning_of [] []))) (sym none) no-atoms;
-  are_dropped = nothing;
-})
+pub kept-empty : {A : Type 0} (policy : Option (Policy A)) (dropped : List Declared) → policy ≡ None → dropped ≡ [] → IsCompiledTo empty policy dropped
+kept-empty policy dropped no_policy nothing = subst (λ p. IsCompiledTo empty p dropped) (sym no_policy) (record { is_meaning = none-meant; are_dropped = nothing })
 
 -- what a store compiles to, by a policy that means what it does
-pub compiled-to : {A : Type 0} (store : Store) (atoms : List Atom) (dropped : List Declared) (meaning : Meaning) (policy : Policy A) → IsMeaningOf store meaning → policy_meaning policy ≡ meaning
-    → AreAtoms (is_in_table (policy_meaning policy)) atoms → dropped ≡ (policy_meaning policy).dropped → IsCompiledTo store (Some policy) atoms dropped
-compiled-to store atoms dropped meaning policy means same are_atoms are_dropped = record {
-  is_meaning = subst (IsMeaningOf store) (sym same) means;
-  are_atoms = are_atoms;
-  are_dropped = are_dropped;
-}
+pub compiled-to : {A : Type 0} (store : Store) (dropped : List Declared) (meaning : Meaning) (policy : Policy A) → IsMeaningOf store meaning → policy_meaning policy ≡ meaning → dropped ≡ (policy_meaning policy).dropped
+    → IsCompiledTo store (Some policy) dropped
+compiled-to store dropped meaning policy means same are_dropped = record { is_meaning = subst (IsMeaningOf store) (sym same) means; are_dropped = are_dropped }
 
 -- the step of an edit that was made
-pub accepted-step : {A : Type 0} (store : Store) (edit : Edit) (first second : Option (Policy A)) (old atoms : List Atom) (dropped others : List Declared) (changes : Changes) → store_refusal store edit ≡ None → HasGoodText edit
-    → IsCompiledTo store first old dropped → IsCompiledTo (changed store edit) second atoms others → ((p q : Atom → Bool) → AreAtoms p old → AreAtoms q atoms → AreChanges p q changes) → Step store (an_edit edit) (changed_by changes) (changed store edit)
-accepted-step store edit first second old atoms dropped others changes taken good_text was made between =
-    made-step store edit (meaning_by first) (meaning_by second) changes taken good_text was.is_meaning made.is_meaning (between (is_in_table (meaning_by first)) (is_in_table (meaning_by second)) was.are_atoms made.are_atoms)
+pub accepted-step : {A : Type 0} (store : Store) (edit : Edit) (first : Option (Policy A)) (second : Policy A) (dropped others : List Declared) (changes : Changes) → store_refusal store edit ≡ None → HasGoodText edit
+    → IsCompiledTo store first dropped → IsCompiledTo (changed store edit) (Some second) others
+    → ((meaning : Meaning) → IsMeaningOf store meaning → AreChanges (is_in_table meaning) (is_in_table (policy_meaning second)) changes) → Step store (an_edit edit) (changed_by changes) (changed store edit)
+accepted-step store edit first second dropped others changes taken good_text was made between =
+    made-step store edit (meaning_by first) (policy_meaning second) changes taken good_text was.is_meaning made.is_meaning (between (meaning_by first) was.is_meaning)
 
 -- what is so of the meaning of what is kept is so of each meaning of the store
-pub of-meaning : {A : Type 0} (store : Store) (policy : Option (Policy A)) (table : List Atom) (dropped : List Declared) (P : Meaning → Type 0) → IsCompiledTo store policy table dropped → P (meaning_by policy)
+pub of-meaning : {A : Type 0} (store : Store) (policy : Option (Policy A)) (dropped : List Declared) (P : Meaning → Type 0) → IsCompiledTo store policy dropped → P (meaning_by policy)
     → (meaning : Meaning) → IsMeaningOf store meaning → P meaning
-of-meaning store policy table dropped P compiled is meaning meant = subst P (meaning-same store (meaning_by policy) meaning compiled.is_meaning meant) is
+of-meaning store policy dropped P compiled is meaning meant = subst P (meaning-same store (meaning_by policy) meaning compiled.is_meaning meant) is
 
--- the rows of a table are those of the store that it is of
-pub rows-of : {X E A : Type 0} (listing : X → List Row) (r : Result X E) (store : Store) (policy : Option (Policy A)) (table : List Atom) (dropped : List Declared) → IsCompiledTo store policy table dropped
-    → IfOk r (λ rows. (p : Atom → Bool) → AreAtoms p table → AreRows p (listing rows)) → IfOk r (λ rows. AreRowsOf store (listing rows))
-rows-of listing (Err _) store policy table dropped kept are = tt
-rows-of listing (Ok rows) store policy table dropped kept are = (meaning_by policy, kept.is_meaning, are (is_in_table (meaning_by policy)) kept.are_atoms)
+-- the accesses of the policy that is kept are those of the store
+pub atoms-kept : {X E A : Type 0} (listing : X → List Atom) (r : Result X E) (store : Store) (policy : Option (Policy A)) (dropped : List Declared) → IsCompiledTo store policy dropped → IfOk r (λ table. AreAtoms (is_in_table (meaning_by policy)) (listing table))
+    → IfOk r (λ table. (meaning : Meaning) → IsMeaningOf store meaning → AreAtoms (is_in_table meaning) (listing table))
+atoms-kept listing (Ok table) store policy dropped kept are = λ meaning meant. of-meaning store policy dropped (λ m. AreAtoms (is_in_table m) (listing table)) kept are meaning meant
+atoms-kept listing (Err _) store policy dropped kept are = tt
+
+-- the rows of a table of them are those of the store
+pub rows-of : {X E A : Type 0} (listing : X → List Row) (r : Result X E) (store : Store) (policy : Option (Policy A)) (dropped : List Declared) (table : List Atom) → IsCompiledTo store policy dropped
+    → ((meaning : Meaning) → IsMeaningOf store meaning → AreAtoms (is_in_table meaning) table) → IfOk r (λ rows. (p : Atom → Bool) → AreAtoms p table → AreRows p (listing rows)) → IfOk r (λ rows. AreRowsOf store (listing rows))
+rows-of listing (Err _) store policy dropped table kept told are = tt
+rows-of listing (Ok rows) store policy dropped table kept told are = (meaning_by policy, kept.is_meaning, are (is_in_table (meaning_by policy)) (told (meaning_by policy) kept.is_meaning))
 
 -- the violations of a policy are those of the store that it is of
-pub violations-of : {X E A : Type 0} (listing : X → List Violation) (r : Result X E) (store : Store) (policy : Option (Policy A)) (table : List Atom) (dropped : List Declared) (meaning : Meaning) → IsCompiledTo store policy table dropped
+pub violations-of : {X E A : Type 0} (listing : X → List Violation) (r : Result X E) (store : Store) (policy : Option (Policy A)) (dropped : List Declared) (meaning : Meaning) → IsCompiledTo store policy dropped
     → meaning ≡ meaning_by policy → IfOk r (λ found. AreViolations meaning (listing found)) → IfOk r (λ found. AreViolationsOf store (listing found))
-violations-of listing (Err _) store policy table dropped meaning kept same are = tt
-violations-of listing (Ok found) store policy table dropped meaning kept same are = (meaning_by policy, kept.is_meaning, subst (λ m. AreViolations m (listing found)) same are)
+violations-of listing (Err _) store policy dropped meaning kept same are = tt
+violations-of listing (Ok found) store policy dropped meaning kept same are = (meaning_by policy, kept.is_meaning, subst (λ m. AreViolations m (listing found)) same are)
 
 -- no statements hold no type
 pub none-held : (attribute t : List ℕ) → false ≡ is_member (meaning_of [] []) attribute t

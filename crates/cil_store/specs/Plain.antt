@@ -1,8 +1,7 @@
 -- What the plain engine keeps.
 use Rattle.std.specs.Prelude.{◌≡◌, List, [], Option, Some, None}
-use Rattle.cil_specs.specs.Rule.{Atom, Declared}
-use Rattle.cil_specs.specs.Meaning.{Meaning, meaning_of, is_in_table}
-use Rattle.cil_specs.specs.Report.{AreAtoms}
+use Rattle.cil_specs.specs.Rule.{Declared}
+use Rattle.cil_specs.specs.Meaning.{Meaning, meaning_of}
 use Rattle.cil_store_specs.specs.Store.{Store}
 use Rattle.cil_store_specs.specs.Next.{IsMeaningOf}
 use Rattle.cil_store.specs.Policy.{policy_meaning}
@@ -13,8 +12,7 @@ abbrev pub meaning_by : {A : Type 0} → Option (Policy A) → Meaning
 meaning_by None = meaning_of [] []
 meaning_by (Some policy) = policy_meaning policy
 
--- the policy means what the store does, the table is that of it, and these are its optionals that drop
-pub record IsCompiledTo {A : Type 0} (store : Store) (policy : Option (Policy A)) (table : List Atom) (dropped : List Declared) : Type 0 where
+-- the policy means what the store does, and these are its optionals that drop
+pub record IsCompiledTo {A : Type 0} (store : Store) (policy : Option (Policy A)) (dropped : List Declared) : Type 0 where
   pub is_meaning : IsMeaningOf store (meaning_by policy)
-  pub are_atoms : AreAtoms (is_in_table (meaning_by policy)) table
   pub are_dropped : dropped ≡ (meaning_by policy).dropped

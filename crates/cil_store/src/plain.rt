@@ -2,10 +2,10 @@
 
 ghost use Rattle.std.specs.Prelude.{◌≡◌, Some, IfOk, IfErr, OnOk, OnErr, map};
 ghost use Rattle.std.specs.Rc.{rc_value};
-ghost use Rattle.cil_store_specs.specs.Next.{Of, accepts, changed};
+ghost use Rattle.cil_store_specs.specs.Next.{Of, accepts, changed, IsMeaningOf};
 ghost use Rattle.cil_store_specs.specs.Store.{empty};
-ghost use Rattle.cil_specs.specs.Meaning.{is_in_table};
-ghost use Rattle.cil_specs.specs.Report.{AreAtoms};
+ghost use Rattle.cil_specs.specs.Meaning.{Meaning, is_in_table};
+ghost use Rattle.cil_specs.specs.Report.{AreAtoms, AreChanges};
 ghost use Rattle.cil_resolve.specs.Resolved.{meaning_in};
 ghost use Rattle.cil_store.specs.Admitted.{admitted_edit, IsAdmitted};
 ghost use Rattle.cil_store.specs.Edits.{refusal_of};
@@ -36,24 +36,17 @@ use std::marker::Model;
 #[derive(Drop)]
 struct Made<A: Allocator> {
     policy: Policy<A>,
-    table: Table<A>,
     dropped: Dropped<A>,
 }
 
-/// A policy with its table and the optionals that drop.
-fn tabulate<A: Allocator + Copy>(alloc: A, resolved: Resolved<A>) -> Result<Made<A>, AllocError>
+/// A policy with the optionals that drop.
+fn with_dropped<A: Allocator + Copy>(alloc: A, resolved: Resolved<A>) -> Result<Made<A>, AllocError>
     ensures policy { IfOk result (λ made. policy_meaning made.policy ≡ meaning_in resolved) }
-    ensures table { IfOk result (λ made. AreAtoms (is_in_table (policy_meaning made.policy)) made.table) }
     ensures dropped { IfOk result (λ made. made.dropped ≡ (policy_meaning made.policy).dropped) }
 {
     let policy = Policy::of(alloc, resolved)?;
     let dropped = policy.dropped(alloc)?;
-    let table = policy.table(alloc)?;
-    Ok(Made {
-        policy,
-        table,
-        dropped,
-    })
+    Ok(Made { policy, dropped })
 }
 
 /// What a store compiles to after an edit.
@@ -63,23 +56,22 @@ fn compile<A: Allocator + Copy>(
     edit: &Admitted<'_, A>,
 ) -> Result<Made<A>, Refusal<A>>
     requires { IsAdmitted edit.now }
-    ensures ok { IfOk result (λ made. IsCompiledTo (changed store.now (admitted_edit edit.now)) (Some made.policy) made.table made.dropped) }
+    ensures ok { IfOk result (λ made. IsCompiledTo (changed store.now (admitted_edit edit.now)) (Some made.policy) made.dropped) }
     ensures err { IfErr result (λ refusal. IsRefusedPolicy store.now (admitted_edit edit.now) (refusal_of refusal)) }
 {
     let resolved = resolve_after(alloc, store, edit)?;
-    let made = tabulate(alloc, resolved)?;
+    let made = with_dropped(alloc, resolved)?;
     Ok(made)
 }
 
-/// A store and what it compiles to: its policy, which a new store has none of, the table of its accesses, and the optionals
-/// that drop. At an edit the text that it brings is parsed, the changed store is compiled anew from its parsed modules, and what it
-/// compiles to put in place of the old where nothing is against it.
+/// A store and what it compiles to: its policy, which a new store has none of, and the optionals that drop. At an edit the text that it
+/// brings is parsed, the changed store is compiled anew from its parsed modules, and what it compiles to put in place of the old where
+/// nothing is against it. The table of the accesses is made when it is asked: for the listing, and before and after an edit.
 #[derive(Drop)]
 pub struct Plain<A: Allocator = Global> {
     alloc: A,
     store: Store<A>,
     policy: Option<Policy<A>>,
-    table: Table<A>,
     dropped: Dropped<A>,
 }
 
@@ -91,7 +83,7 @@ impl<A: Allocator> Model for Plain<A> {
 
     ghost view = { λ p. p.store };
 
-    ghost invariant = { λ p. IsCompiledTo p.store p.policy p.table p.dropped };
+    ghost invariant = { λ p. IsCompiledTo p.store p.policy p.dropped };
 }
 
 impl<A: Allocator + Copy> Plain<A> {
@@ -103,7 +95,6 @@ impl<A: Allocator + Copy> Plain<A> {
             alloc,
             store: Store::new(alloc),
             policy: None,
-            table: Table::empty(alloc),
             dropped: Dropped::empty(alloc),
         }
     }
@@ -124,7 +115,6 @@ impl<A: Allocator + Copy> Plain<A> {
             alloc,
             store,
             policy: Some(made.policy),
-            table: made.table,
             dropped: made.dropped,
         })
     }
@@ -132,15 +122,36 @@ impl<A: Allocator + Copy> Plain<A> {
     /// Makes an edit, and puts what the store compiles to after it in place.
     fn replace(&mut self, edit: Admitted<'_, A>, made: Made<A>) -> Result<(), AllocError>
         requires admitted { IsAdmitted edit }
-        requires made { IsCompiledTo (changed self.old (admitted_edit edit)) (Some made.policy) made.table made.dropped }
+        requires made { IsCompiledTo (changed self.old (admitted_edit edit)) (Some made.policy) made.dropped }
         ensures ok { OnOk result (self.new ≡ changed self.old (admitted_edit edit.entry)) }
         ensures err { OnErr result (self.new ≡ self.old) }
     {
         self.store.make(self.alloc, edit)?;
         self.policy = Some(made.policy);
-        self.table = made.table;
         self.dropped = made.dropped;
         Ok(())
+    }
+}
+
+impl<A: Allocator + Copy> Plain<A> {
+    /// The accesses that the store allows.
+    fn table(&self) -> Result<Table<A>, AllocError>
+        ensures { IfOk result (λ table. (meaning : Meaning) → IsMeaningOf self.now meaning → AreAtoms (is_in_table meaning) table) }
+    {
+        match &self.policy {
+            Some(policy) => policy.table(self.alloc),
+            None => Ok(Table::empty(self.alloc)),
+        }
+    }
+
+    /// The accesses by which those of another policy differ from them.
+    fn changes_to(&self, policy: &Policy<A>) -> Result<Changes<A>, AllocError>
+        ensures { IfOk result (λ changes. (meaning : Meaning) → IsMeaningOf self.now meaning
+            → AreChanges (is_in_table meaning) (is_in_table (policy_meaning policy.now)) changes) }
+    {
+        let old = self.table()?;
+        let new = policy.table(self.alloc)?;
+        Changes::between(self.alloc, &old, &new)
     }
 }
 
@@ -168,7 +179,7 @@ impl<A: Allocator + Copy> Compiled<A> for Plain<A> {
     fn edit(&mut self, edit: Edit<'_>) -> Result<Changes<A>, Refusal<A>> {
         let admitted = admit(self.alloc, &self.store, edit)?;
         let made = compile(self.alloc, &self.store, &admitted)?;
-        let changes = Changes::between(self.alloc, &self.table, &made.table)?;
+        let changes = self.changes_to(&made.policy)?;
         self.replace(admitted, made)?;
         Ok(changes)
     }
@@ -184,7 +195,7 @@ impl<A: Allocator + Copy> Compiled<A> for Plain<A> {
     }
 
     fn rows(&self) -> Result<Rows<A>, AllocError> {
-        self.table.rows(self.alloc)
+        self.table()?.rows(self.alloc)
     }
 
     fn violations(&self) -> Result<Violations<A>, AllocError> {
@@ -199,7 +210,11 @@ impl<A: Allocator + Copy> Compiled<A> for Plain<A> {
     }
 
     fn write_listing<W: Sink>(&self, sink: &mut W) -> Result<u128, WriteFault> {
-        match self.table.write_listing(sink) {
+        let _ = &self.policy;
+        let Ok(table) = self.table() else {
+            return Err(WriteFault::Memory);
+        };
+        match table.write_listing(sink) {
             Ok(rows) => Ok(rows),
             Err(_) => Err(WriteFault::Sink),
         }

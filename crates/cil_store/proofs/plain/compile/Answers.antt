@@ -7,5 +7,4 @@ use Rattle.cil_store.proofs.plain.compile.Goals as goal
 pub returns-clause-ok : goal.returns-clause-ok
 returns-clause-ok g c =
     let made = c.in_ok-made.made in
-    compiled-to (changed c.args.store.now (admitted_edit c.args.edit.now)) made.table made.dropped (meaning_in c.in_ok-resolved.resolved) made.policy c.in_ok-resolved.ensures.ok c.in_ok-made.ensures.policy c.in_ok-made.ensures.table
-    c.in_ok-made.ensures.dropped
+    compiled-to (changed c.args.store.now (admitted_edit c.args.edit.now)) made.dropped (meaning_in c.in_ok-resolved.resolved) made.policy c.in_ok-resolved.ensures.ok c.in_ok-made.ensures.policy c.in_ok-made.ensures.dropped

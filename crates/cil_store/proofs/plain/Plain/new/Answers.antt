@@ -4,4 +4,4 @@ use Rattle.cil_store.proofs.PlainLemmas.{kept-empty}
 use Rattle.cil_store.proofs.plain.Plain.new.Goals as goal
 
 pub invariant_of-result : goal.invariant_of-result
-invariant_of-result g c = subst (λ s. IsCompiledTo s None c.empty.result c.empty-2.result) (sym c.new.ensures) (kept-empty None c.empty.result c.empty-2.result refl c.empty.ensures c.empty-2.ensures)
+invariant_of-result g c = subst (λ s. IsCompiledTo s None c.empty.result) (sym c.new.ensures) (kept-empty None c.empty.result refl c.empty.ensures)

@@ -11,8 +11,8 @@ pub invariant_of-self-2 : goal.invariant_of-self-2
 invariant_of-self-2 g c =
     let edit = admitted_edit c.args.edit in
     let made = c.args.made in
-    subst (λ (s : Store). IsCompiledTo s (Some made.policy) made.table made.dropped) (sym c.in_ok-make.ensures.ok)
-    (subst (λ (s : Store). IsCompiledTo (changed s edit) (Some made.policy) made.table made.dropped) (sym c.self.view_is) c.requires.made)
+    subst (λ (s : Store). IsCompiledTo s (Some made.policy) made.dropped) (sym c.in_ok-make.ensures.ok)
+    (subst (λ (s : Store). IsCompiledTo (changed s edit) (Some made.policy) made.dropped) (sym c.self.view_is) c.requires.made)
 
 pub returns-clause-ok : goal.returns-clause-ok
 returns-clause-ok g c = c.in_ok-make.ensures.ok ∙ (λ i. changed (c.self.view_is i) (admitted_edit c.args.edit))

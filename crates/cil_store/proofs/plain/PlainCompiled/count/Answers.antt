@@ -9,14 +9,14 @@ pub returns-in-Some : goal.returns-in-Some
 returns-in-Some g c meaning meant =
     let self = c.self.inside in
     let access = atom_of c.args.access.now in
-    let compiled = subst (λ s. IsCompiledTo s self.policy self.table self.dropped) c.self.view_is c.self.invariant in
+    let compiled = subst (λ s. IsCompiledTo s self.policy self.dropped) c.self.view_is c.self.invariant in
     let is = subst (λ p. c.count.result ≡ count_of (meaning_by p) access) (sym c.in-Some.is) c.count.ensures in
-    of-meaning c.args.self.now self.policy self.table self.dropped (λ m. c.count.result ≡ count_of m access) compiled is meaning meant
+    of-meaning c.args.self.now self.policy self.dropped (λ m. c.count.result ≡ count_of m access) compiled is meaning meant
 
 pub returns-in-None : goal.returns-in-None
 returns-in-None g c meaning meant =
     let self = c.self.inside in
     let access = atom_of c.args.access.now in
-    let compiled = subst (λ s. IsCompiledTo s self.policy self.table self.dropped) c.self.view_is c.self.invariant in
+    let compiled = subst (λ s. IsCompiledTo s self.policy self.dropped) c.self.view_is c.self.invariant in
     let is = subst (λ p. 0 ≡ count_of (meaning_by p) access) (sym c.in-None.is) refl in
-    of-meaning c.args.self.now self.policy self.table self.dropped (λ m. 0 ≡ count_of m access) compiled is meaning meant
+    of-meaning c.args.self.now self.policy self.dropped (λ m. 0 ≡ count_of m access) compiled is meaning meant

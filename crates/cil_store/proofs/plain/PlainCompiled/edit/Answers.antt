@@ -46,8 +46,8 @@ returns g c =
     let edit = admitted_edit admitted in
     let changes = c.in_ok-changes.changes in
     let taken = subst (λ (s : Store). store_refusal s edit ≡ None) c.self.view_is (subst (λ e. store_refusal self.store e ≡ None) (sym same) c.in_ok-admitted.ensures.taken) in
-    let was = subst (λ (s : Store). IsCompiledTo s self.policy self.table self.dropped) c.self.view_is c.self.invariant in
-    let is = subst (λ (s : Store). IsCompiledTo (changed s edit) (Some made.policy) made.table made.dropped) c.self.view_is c.in_ok-made.ensures.ok in
-    let step = accepted-step store edit self.policy (Some made.policy) self.table made.table self.dropped made.dropped changes taken (admitted-text admitted c.in_ok-admitted.ensures.ok.0) was is c.in_ok-changes.ensures in
+    let was = subst (λ (s : Store). IsCompiledTo s self.policy self.dropped) c.self.view_is c.self.invariant in
+    let is = subst (λ (s : Store). IsCompiledTo (changed s edit) (Some made.policy) made.dropped) c.self.view_is c.in_ok-made.ensures.ok in
+    let step = accepted-step store edit self.policy made.policy self.dropped made.dropped changes taken (admitted-text admitted c.in_ok-admitted.ensures.ok.0) was is c.in_ok-changes.ensures in
     let stored = subst (λ after. Step store (an_edit edit) (changed_by changes) after) (sym c.in_ok-replace.ensures.ok) step in
     subst (λ e. Step store (an_edit e) (changed_by changes) c.replace.new.self) same stored

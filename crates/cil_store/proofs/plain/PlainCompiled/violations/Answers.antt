@@ -8,10 +8,10 @@ pub returns-in-Some : goal.returns-in-Some
 returns-in-Some g c =
     let self = c.self.inside in
     subst (λ s. IfOk c.violations.result (λ found. AreViolationsOf s found)) c.self.view_is
-    (violations-of (λ found. found) c.violations.result self.store self.policy self.table self.dropped _ c.self.invariant (ap meaning_by (sym c.in-Some.is)) c.violations.ensures)
+    (violations-of (λ found. found) c.violations.result self.store self.policy self.dropped _ c.self.invariant (ap meaning_by (sym c.in-Some.is)) c.violations.ensures)
 
 pub returns-in_ok-empty-in-None : goal.returns-in_ok-empty-in-None
 returns-in_ok-empty-in-None g c =
     let self = c.self.inside in
     subst (λ s. IfOk c.violations-in-None.result (λ found. AreViolationsOf s found)) c.self.view_is
-    (violations-of (λ found. found) c.violations-in-None.result self.store self.policy self.table self.dropped _ c.self.invariant (c.in_ok-empty-in-None.ensures ∙ ap meaning_by (sym c.in-None.is)) c.violations-in-None.ensures)
+    (violations-of (λ found. found) c.violations-in-None.result self.store self.policy self.dropped _ c.self.invariant (c.in_ok-empty-in-None.ensures ∙ ap meaning_by (sym c.in-None.is)) c.violations-in-None.ensures)

@@ -1,18 +1,34 @@
-use Rattle.std.proofs.Common.{subst}
+use Rattle.std.proofs.Common.{List, subst, arith}
 use Rattle.cil_specs.specs.Meaning.{is_in_table}
+use Rattle.cil_specs.specs.Rule.{Atom}
+use Rattle.cil_stream.proofs.Gaining.{gains-none}
+use Rattle.cil_rules.specs.Rows.{rows_of}
+use Rattle.cil_rules.proofs.RowLemmas.{are-rows}
+use Rattle.cil_store_specs.proofs.AllAtoms.{all-atoms}
 use Rattle.cil_store.specs.Plain.{meaning_by, IsCompiledTo}
 use Rattle.cil_store.proofs.plain.PlainCompiled.write_listing.Goals as goal
 
-pub returns-in-Ok-clause-ok : goal.returns-in-Ok-clause-ok
-returns-in-Ok-clause-ok g c =
+-- nothing is written of a listing for which there is no memory
+pub returns-in_default-clause-err : goal.returns-in_default-clause-err
+returns-in_default-clause-err g c =
     let self = c.self.inside in
-    let kept : IsCompiledTo c.args.self.now self.policy self.table self.dropped = subst (λ s. IsCompiledTo s self.policy self.table self.dropped) c.self.view_is c.self.invariant in
-    let written = c.in-Ok.ensures.ok (is_in_table (meaning_by self.policy)) kept.are_atoms in
-    (written.0, (meaning_by self.policy, kept.is_meaning, written.1), written.2, written.3)
+    let kept = subst (λ s. IsCompiledTo s self.policy self.dropped) c.self.view_is c.self.invariant in
+    let meaning = meaning_by self.policy in
+    let (atoms, are) = all-atoms meaning in
+    (rows_of atoms, (meaning, kept.is_meaning, are-rows (is_in_table meaning) atoms are), (0, omega arith, gains-none (g.W.Sink.taken c.args.sink.now)))
 
-pub returns-in-Err-clause-err : goal.returns-in-Err-clause-err
-returns-in-Err-clause-err g c =
+pub returns-in-Ok-write_listing-clause-ok : goal.returns-in-Ok-write_listing-clause-ok
+returns-in-Ok-write_listing-clause-ok g c =
     let self = c.self.inside in
-    let kept : IsCompiledTo c.args.self.now self.policy self.table self.dropped = subst (λ s. IsCompiledTo s self.policy self.table self.dropped) c.self.view_is c.self.invariant in
-    let written = c.in-Err.ensures.err (is_in_table (meaning_by self.policy)) kept.are_atoms in
-    (written.0, (meaning_by self.policy, kept.is_meaning, written.1), written.2)
+    let kept = subst (λ s. IsCompiledTo s self.policy self.dropped) c.self.view_is c.self.invariant in
+    let meaning = meaning_by self.policy in
+    let written = c.in-Ok-write_listing.ensures.ok (is_in_table meaning) (c.in-Ok.ensures meaning kept.is_meaning) in
+    (written.0, (meaning, kept.is_meaning, written.1), written.2, written.3)
+
+pub returns-clause-err : goal.returns-clause-err
+returns-clause-err g c =
+    let self = c.self.inside in
+    let kept = subst (λ s. IsCompiledTo s self.policy self.dropped) c.self.view_is c.self.invariant in
+    let meaning = meaning_by self.policy in
+    let written = c.in-Err.ensures.err (is_in_table meaning) (c.in-Ok.ensures meaning kept.is_meaning) in
+    (written.0, (meaning, kept.is_meaning, written.1), written.2)

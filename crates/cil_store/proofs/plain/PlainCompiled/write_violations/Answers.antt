@@ -8,7 +8,7 @@ pub returns-in-None-clause-ok : goal.returns-in-None-clause-ok
 returns-in-None-clause-ok g c =
     let self = c.self.inside in (
       [],
-      subst (λ s. AreViolationsOf s []) c.self.view_is (none-violated self.store self.policy self.table self.dropped c.in-None.is c.self.invariant),
+      subst (λ s. AreViolationsOf s []) c.self.view_is (none-violated self.store self.policy self.dropped c.in-None.is c.self.invariant),
       refl,
       gains-none (g.W.Sink.taken c.args.sink.now),
     )
