@@ -49,16 +49,22 @@ pub fn push_calls<'a>(calls: &mut Vec<Call<'a>>, script: &'a [u8]) -> Result<(),
     Ok(())
 }
 
-/// Appends the entries that calls install.
-pub fn push_entries<'a>(entries: &mut Vec<Entry<'a>>, calls: &[Call<'a>]) -> Result<(), Fault> {
-    for call in calls {
+/// Appends the entries that the commands of a script install.
+pub fn push_entries<'a>(entries: &mut Vec<Entry<'a>>, script: &'a [u8]) -> Result<(), Fault> {
+    let mut rest = script;
+    for _ in 0..script.len() {
+        if rest.is_empty() {
+            break;
+        }
+        let (line, after) = first_line(rest);
+        let (call, after) = call_of(line, after)?;
         let Call::Edit(
             Edit::Install {
                 name,
                 priority,
                 text,
             },
-        ) = *call
+        ) = call
         else {
             return Err(Fault::Case);
         };
@@ -67,6 +73,7 @@ pub fn push_entries<'a>(entries: &mut Vec<Entry<'a>>, calls: &[Call<'a>]) -> Res
             priority,
             text,
         })?;
+        rest = after;
     }
     Ok(())
 }

@@ -94,16 +94,6 @@ impl<'h, C: Compiled<&'h Heap> + Own<'h> + Drop> Tried<'h, C> {
             Err(refusal) => reply::write_refusal(sink, &refusal),
         }
     }
-
-    /// Compiles the entries that calls install.
-    fn compile_calls(&mut self, calls: &[Call<'_>], sink: &mut MemorySink) -> Result<(), Fault> {
-        let mut entries = Vec::new(self.alloc);
-        push_entries(&mut entries, calls)?;
-        match self.compile_entries(entries.as_slice(), sink) {
-            Ok(()) => Ok(()),
-            Err(_) => Err(Fault::Memory),
-        }
-    }
 }
 
 impl<'h, C: Compiled<&'h Heap> + Own<'h> + Drop> Engine for Tried<'h, C> {
@@ -137,16 +127,17 @@ impl<'h, C: Compiled<&'h Heap> + Own<'h> + Drop> Engine for Tried<'h, C> {
     }
 
     fn compile(&mut self, script: &[u8], sink: &mut MemorySink) -> Result<(), Fault> {
-        let mut calls = Vec::new(self.alloc);
-        push_calls(&mut calls, script)?;
-        self.compile_calls(calls.as_slice(), sink)
+        let mut entries = Vec::new(self.alloc);
+        push_entries(&mut entries, script)?;
+        match self.compile_entries(entries.as_slice(), sink) {
+            Ok(()) => Ok(()),
+            Err(_) => Err(Fault::Memory),
+        }
     }
 
     fn work(&mut self, script: &[u8], sink: &mut MemorySink) -> Result<(), Fault> {
-        let mut calls = Vec::new(self.alloc);
-        push_calls(&mut calls, script)?;
         match self.engine.counting() {
-            Some(delta) => make_edits(sink, delta, calls.as_slice()),
+            Some(delta) => make_edits(sink, delta, script),
             None => Err(Fault::Case),
         }
     }

@@ -1,11 +1,12 @@
 //! Edits with counted work.
 
+use crate::calls::call_of;
 use crate::engine::Heap;
 use cil_program::script::reply;
 use cil_resolve::Meter;
 use cil_store::{Call, Compiled, Delta, Edit};
 use cil_stream::{MemorySink, SinkFault};
-use cil_trial_cases::{Fault, write_work};
+use cil_trial_cases::{Fault, first_line, write_work};
 
 /// Makes an edit, and writes what it answers. The meter counts its work.
 fn write_edit<'h>(
@@ -42,17 +43,24 @@ fn make_edit<'h>(
     }
 }
 
-/// Makes edits one after the other, and writes what each answers and its work.
+/// Makes the edits that the commands of a script ask for one after the other, and writes what each answers and its work.
 pub fn make_edits<'h>(
     report: &mut MemorySink,
     engine: &mut Delta<&'h Heap>,
-    calls: &[Call<'_>],
+    script: &[u8],
 ) -> Result<(), Fault> {
-    for call in calls {
+    let mut rest = script;
+    for _ in 0..script.len() {
+        if rest.is_empty() {
+            break;
+        }
+        let (line, after) = first_line(rest);
+        let (call, after) = call_of(line, after)?;
         let Call::Edit(edit) = call else {
             return Err(Fault::Case);
         };
-        make_edit(report, engine, *edit)?;
+        make_edit(report, engine, edit)?;
+        rest = after;
     }
     Ok(())
 }
