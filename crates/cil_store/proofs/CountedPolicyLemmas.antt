@@ -1,5 +1,5 @@
 -- What the engine keeps that changes its counters in place.
-use Rattle.std.proofs.Common.{◌≡◌, ℕ, Bool, true, List, [], ◌∷◌, length, Option, Some, None, Result, Ok, Err, IfOk, OnOk, OnErr, Contains, refl, sym, subst, true≢false, arith}
+use Rattle.std.proofs.Common.{◌≡◌, Bool, true, List, [], ◌∷◌, length, Option, None, Result, Ok, Err, IfOk, OnOk, OnErr, Contains, refl, sym, subst, true≢false, arith}
 use Rattle.std.specs.Result.{is_err}
 use Rattle.std.specs.Rc.{rc_value}
 use Rattle.cil_specs.specs.Dependence.{AreTheSame}

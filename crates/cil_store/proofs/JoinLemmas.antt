@@ -1,6 +1,6 @@
 -- The parsed modules of entries, one list of them after another.
 use Rattle.std.proofs.Common.{◌≡◌, inl, inr, zero, suc, arith, ◌==◌, ◌+◌, ◌<◌, List, ℕ, [], ◌∷◌, ◌++◌, length, get_or, map, take, filter, cond, not, ◌&&◌, ◌||◌, Bool, true, false, IsTrue, bytes_eq, true≢false, refl, ap, sym, ◌∙◌, subst, append_assoc}
-use Rattle.std.specs.List.{list_any, AllByRecursion, IsDistinct}
+use Rattle.std.specs.List.{AllByRecursion, IsDistinct}
 use Rattle.std.specs.List.Sorted.{IsStrictlySortedBy, IsPermutation}
 use Rattle.std.specs.Ordering.{is_lt, ordering_reverse}
 use Rattle.std.specs.declared.cmp.Ordering.TheVariants.{Less}

@@ -1,7 +1,7 @@
 -- What the plain engine keeps, and what its steps lead to.
-use Rattle.std.proofs.Common.{◌≡◌, ◌++◌, List, [], ◌∷◌, length, map, Bool, false, Option, Some, None, Result, Ok, Err, IfOk, ℕ, Contains, refl, ap, sym, ◌∙◌, subst, true≢false, length-append, arith}
+use Rattle.std.proofs.Common.{◌≡◌, List, [], ◌∷◌, length, map, Bool, false, Option, Some, None, Result, Ok, Err, IfOk, ℕ, Contains, refl, ap, sym, ◌∙◌, subst, true≢false, length-append, arith}
 use Rattle.std.specs.List.Sorted.{IsStrictlySortedBy}
-use Rattle.cil_specs.specs.Joined.{Module, joined}
+use Rattle.cil_specs.specs.Joined.{joined}
 use Rattle.cil_specs.specs.PolicyFault.{PolicyFaultKind, twice}
 use Rattle.cil_specs.specs.Rule.{Rule, Atom, Declared}
 use Rattle.cil_specs.specs.Meaning.{Meaning, Means, meaning_of, is_in_table}
@@ -9,7 +9,7 @@ use Rattle.cil_specs.specs.Members.{is_member}
 use Rattle.cil_specs.specs.Report.{AreAtoms, Changes, AreChanges, Row, AreRows, name_cmp}
 use Rattle.cil_specs.specs.Violations.{Violation, AreViolations}
 use Rattle.cil_specs.specs.Kept.{Optionals, AreKept, judged, Compiles}
-use Rattle.cil_store_specs.specs.Store.{Store, empty, active}
+use Rattle.cil_store_specs.specs.Store.{Store, empty}
 use Rattle.cil_store_specs.specs.Next.{IsMeaningOf, Edit, HasGoodText, changed, store_refusal}
 use Rattle.cil_store_specs.specs.Run.{an_edit, changed_by, AreRowsOf, AreViolationsOf, Step}
 use Rattle.cil_store_specs.proofs.OneStore.{meaning-same}

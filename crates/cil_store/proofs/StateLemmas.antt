@@ -1,9 +1,9 @@
 -- The state of an entry by its place.
-use Rattle.std.proofs.Common.{◌≡◌, ◌∙◌, ◌<◌, ap, sym, subst, List, [], ℕ, Bool, true, false, codes, length, get_or, bytes_eq, if◌then◌else◌}
+use Rattle.std.proofs.Common.{◌≡◌, ◌∙◌, ◌<◌, ap, sym, subst, List, [], ℕ, Bool, codes, length, get_or, bytes_eq, if◌then◌else◌}
 use Rattle.std.specs.List.{list_any}
 use Rattle.std.specs.List.Sorted.{IsStrictlySortedBy}
 use Rattle.std.proofs.lemmas.List.{get_or_default}
-use Rattle.cil_store_specs.specs.Store.{Entry, Store, entry_cmp, is_highest}
+use Rattle.cil_store_specs.specs.Store.{Entry, Store, entry_cmp}
 use Rattle.cil_store_specs.specs.StoreReport.{is_disabled, state_word}
 use Rattle.cil_store_specs.specs.Store.{entry_at}
 use Rattle.cil_store_specs.proofs.ActiveLemmas.{is_first_at, highest-at}

@@ -2,12 +2,18 @@
 
 use crate::engine::Heap;
 use cil_program::script::reply;
-use cil_store::Reply;
+use cil_store::{ChangeCounts, Reply};
 use cil_stream::{MemorySink, SinkFault, write_all};
 
 fn write_reply(sink: &mut MemorySink, reply: &Reply<&Heap>) -> Result<(), SinkFault> {
     match reply {
-        Reply::Changes(changes) => reply::write_changes(sink, changes),
+        Reply::Changes(changes) => reply::write_changes(
+            sink,
+            ChangeCounts {
+                added: changes.added_len(),
+                removed: changes.removed_len(),
+            },
+        ),
         Reply::Refused(refusal) => reply::write_refusal(sink, refusal),
         Reply::Dropped(dropped) => reply::write_dropped(sink, dropped),
         Reply::Listing(text) => write_all(sink, text.as_slice()),

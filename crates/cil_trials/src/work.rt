@@ -15,8 +15,8 @@ fn write_edit<'h>(
     edit: Edit<'_>,
     meter: &mut Meter,
 ) -> Result<(), SinkFault> {
-    match engine.edit_metered(edit, meter) {
-        Ok(changes) => reply::write_changes(report, &changes),
+    match engine.edit_counted_metered(edit, meter) {
+        Ok(counts) => reply::write_changes(report, counts),
         Err(refusal) => reply::write_refusal(report, &refusal),
     }
 }

@@ -1,4 +1,4 @@
-use Rattle.std.proofs.Common.{◌≡◌, ◌∙◌, ◌+◌, ◌<◌, ◌≤◌, ◌++◌, ◌∷◌, [], false, true, ap, sym, subst, not, length, get_or, filter, take, arith}
+use Rattle.std.proofs.Common.{◌∙◌, ◌+◌, ◌<◌, [], ap, sym, subst, get_or, filter, take, arith}
 use Rattle.std.proofs.lemmas.List.{take_all}
 use Rattle.cil_bind.specs.declared.joined.NamedModule.{NamedModule}
 use Rattle.cil_parse.specs.Parsed.{IsParsed}

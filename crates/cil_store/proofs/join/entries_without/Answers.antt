@@ -1,4 +1,4 @@
-use Rattle.std.proofs.Common.{◌≡◌, ◌∙◌, ◌++◌, List, ap, sym, subst}
+use Rattle.std.proofs.Common.{◌∙◌, ◌++◌, ap, sym, subst}
 use Rattle.cil_store_specs.specs.Store.{without}
 use Rattle.cil_store.specs.Stored.{AreParsedOf}
 use Rattle.cil_store.proofs.JoinLemmas.{parsed-append}

@@ -1,8 +1,8 @@
-use Rattle.std.proofs.Common.{◌≡◌, ◌∙◌, ◌<◌, ◌&&◌, [], Bool, true, false, refl, ap, sym, subst, not, length, get_or}
+use Rattle.std.proofs.Common.{◌≡◌, ◌∙◌, ◌<◌, ◌&&◌, [], Bool, true, false, refl, ap, sym, subst, not, get_or}
 use Rattle.cil_store_specs.specs.Next.{changed}
-use Rattle.cil_store_specs.specs.Store.{Store, IsStore}
+use Rattle.cil_store_specs.specs.Store.{IsStore}
 use Rattle.cil_store_specs.specs.Store.{entry_at}
-use Rattle.cil_store_specs.proofs.ActiveLemmas.{is_disabled_after, is_first_at}
+use Rattle.cil_store_specs.proofs.ActiveLemmas.{is_disabled_after}
 use Rattle.cil_store.specs.Admitted.{admitted_edit}
 use Rattle.cil_store.proofs.JoinLemmas.{active-is, name-at, parsed-length}
 use Rattle.cil_store.proofs.join.is_active_after.Goals as goal

@@ -1,4 +1,4 @@
-use Rattle.std.proofs.Common.{◌≡◌, ◌∙◌, ◌-◌, ◌==◌, ◌||◌, [], ap, sym, not, bytes_eq, get_or, arith}
+use Rattle.std.proofs.Common.{◌∙◌, ◌-◌, ◌||◌, [], ap, not, bytes_eq, get_or, arith}
 use Rattle.cil_store_specs.specs.Store.{entry_at}
 use Rattle.cil_store.proofs.JoinLemmas.{name-at, not-zero}
 use Rattle.cil_store.proofs.join.is_first_at.Goals as goal

@@ -1,4 +1,4 @@
-use Rattle.std.proofs.Common.{◌≡◌, ◌∙◌, []}
+use Rattle.std.proofs.Common.{◌∙◌, []}
 use Rattle.cil_resolve.specs.Resolved.{meaning_in}
 use Rattle.cil_store.proofs.JoinLemmas.{distinct-from_sorted, permutation-one}
 use Rattle.cil_store.proofs.PlainLemmas.{none-means, none-parsed, none-sorted}

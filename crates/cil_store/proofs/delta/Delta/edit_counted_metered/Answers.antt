@@ -3,12 +3,11 @@ use Rattle.std.specs.Rc.{rc_value}
 use Rattle.std.proofs.lemmas.Result.{err_from_is_err_and}
 use Rattle.cil_counters.specs.ChangeCounts.{CountsSome}
 use Rattle.cil_resolve.specs.Resolved.{meaning_in}
-use Rattle.cil_store_specs.specs.Next.{Edit, IsMeaningOf, changed}
+use Rattle.cil_store_specs.specs.Next.{IsMeaningOf, changed}
 use Rattle.cil_store_specs.specs.Run.{Step, an_edit, changed_by, out_of_memory, refused}
 use Rattle.cil_store_specs.specs.Store.{Store}
 use Rattle.cil_store.specs.Counted.{AreCountedBetween}
 use Rattle.cil_store.specs.Edits.{edit_of, refusal_of}
-use Rattle.cil_store.specs.Ready.{ready_edit}
 use Rattle.cil_store.proofs.StepLemmas.{made-step}
 use Rattle.cil_store.proofs.delta.Delta.edit_counted_metered.Goals as goal
 

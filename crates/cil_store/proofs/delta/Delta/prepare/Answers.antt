@@ -1,5 +1,4 @@
 use Rattle.std.proofs.Common.{◌≡◌, ◌∙◌, None, refl, sym, subst}
-use Rattle.std.specs.Rc.{rc_value}
 use Rattle.std.proofs.lemmas.Result.{err_from_is_err_and}
 use Rattle.cil_resolve.specs.Resolved.{meaning_in}
 use Rattle.cil_store_specs.specs.Next.{HasGoodText, IsMeaningOf, changed, store_refusal}

@@ -1,4 +1,4 @@
-use Rattle.std.proofs.Common.{◌≡◌, ◌∙◌, Some, sym, subst, IfOk}
+use Rattle.std.proofs.Common.{sym, subst, IfOk}
 use Rattle.std.specs.Rc.{rc_value}
 use Rattle.cil_resolve.specs.Resolved.{meaning_in}
 use Rattle.cil_store_specs.specs.Next.{IsMeaningOf, changed}
@@ -16,12 +16,12 @@ invariant_of-self-2 g c =
     let next = meaning_in (rc_value c.args.next.resolved) in
     let before = counted_meaning c.in_ok-policy.policy in
     record {
-      is_meaning = subst (IsMeaningOf c.replace-changes.new.store) (sym c.renumber.ensures.meaning)
-          (means-after inside c.replace-changes.new.store edit before (counted_meaning c.replace-changes.new.self) next
+      is_meaning =
+          means-after inside c.replace-changes.new.store edit before (counted_meaning c.replace-changes.new.self) next
           (subst (IsMeaningOf inside) (sym c.in_ok-policy.ensures.meaning) c.self.invariant.is_meaning)
           (subst (λ s. IsMeaningOf (changed s edit) next) (sym c.self.view_is) c.requires)
-          c.replace-changes.result c.replace-changes.ensures.store c.replace-changes.ensures.meaning c.replace-changes.ensures.err_store c.replace-changes.ensures.err_meaning);
-      is_kept = c.renumber.ensures.kept;
+          c.replace-changes.result c.replace-changes.ensures.store c.replace-changes.ensures.meaning c.replace-changes.ensures.err_store c.replace-changes.ensures.err_meaning;
+      is_kept = c.replace-changes.ensures.kept;
     }
 
 pub returns-clause-changes : goal.returns-clause-changes

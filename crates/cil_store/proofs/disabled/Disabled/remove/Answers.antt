@@ -1,4 +1,4 @@
-use Rattle.std.proofs.Common.{◌≡◌, ◌∙◌, ap, sym, subst, remove, bytes_eq, not}
+use Rattle.std.proofs.Common.{◌∙◌, ap, sym, subst, remove, bytes_eq, not}
 use Rattle.std.specs.List.Sorted.{IsStrictlySortedBy}
 use Rattle.std.proofs.lemmas.List.Kept.{IsStrictlySortedBy-filter}
 use Rattle.std.proofs.lemmas.Cmp.{nat_list_cmp_total}

@@ -1,7 +1,7 @@
-use Rattle.std.proofs.Common.{◌∙◌, sym, subst, true}
+use Rattle.std.proofs.Common.{◌∙◌, sym}
 use Rattle.cil_store_specs.specs.Store.{entry_cmp}
 use Rattle.cil_store_specs.specs.Store.{entry_at}
-use Rattle.cil_store.proofs.EntryLemmas.{tied-at, tied-nowhere, entry-tied, tied-entry}
+use Rattle.cil_store.proofs.EntryLemmas.{tied-at, entry-tied, tied-entry}
 use Rattle.cil_store.proofs.entries.Entries.has_at.Goals as goal
 
 pub returns-clause-value : goal.returns-clause-value

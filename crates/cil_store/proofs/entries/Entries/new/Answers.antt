@@ -1,4 +1,4 @@
-use Rattle.std.proofs.Common.{[], sym, subst}
+use Rattle.std.proofs.Common.{sym, subst}
 use Rattle.std.specs.List.Sorted.{IsStrictlySortedBy}
 use Rattle.cil_store_specs.specs.Store.{entry_cmp}
 use Rattle.cil_store.proofs.entries.Entries.new.Goals as goal

@@ -1,4 +1,4 @@
-use Rattle.std.proofs.Common.{◌≡◌, ◌∙◌, ap, sym, subst, remove, filter, not}
+use Rattle.std.proofs.Common.{◌∙◌, ap, sym, subst, remove, not}
 use Rattle.std.specs.List.Sorted.{IsStrictlySortedBy}
 use Rattle.std.proofs.lemmas.List.Kept.{IsStrictlySortedBy-filter}
 use Rattle.cil_store_specs.specs.Store.{entry_cmp, is_entry}

@@ -1,4 +1,4 @@
-use Rattle.std.proofs.Common.{◌≡◌, ◌∙◌, ◌-◌, ◌∷◌, ◌++◌, ap, sym, subst, take, drop, length, suc, ◌+◌, arith}
+use Rattle.std.proofs.Common.{◌∙◌, ◌∷◌, ◌++◌, sym, subst, take, ◌+◌, arith}
 use Rattle.std.proofs.lemmas.List.{take-append-drop}
 use Rattle.std.specs.List.Sorted.{IsStrictlySortedBy}
 use Rattle.cil_store_specs.specs.Store.{entry_cmp, is_entry}

@@ -1,4 +1,4 @@
-use Rattle.std.proofs.Common.{◌≡◌, ◌∙◌, ap, sym, subst, None, Some, Option, List, ℕ}
+use Rattle.std.proofs.Common.{◌≡◌, ◌∙◌, ap, sym, subst, None, Some}
 use Rattle.std.specs.Option.{option_map}
 use Rattle.cil_store_specs.specs.Store.{Entry, Store, active_text}
 use Rattle.cil_store_specs.proofs.ActiveLemmas.{active-first, active-none}

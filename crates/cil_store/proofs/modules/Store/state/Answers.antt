@@ -1,4 +1,4 @@
-use Rattle.std.proofs.Common.{◌≡◌, [], ◌<◌, ◌∙◌, ap, sym, subst, length, codes, slice_index_or, if◌then◌else◌}
+use Rattle.std.proofs.Common.{[], ◌<◌, ◌∙◌, ap, sym, subst, length, codes, slice_index_or, if◌then◌else◌}
 use Rattle.cil_store_specs.specs.Store.{Store}
 use Rattle.cil_store_specs.specs.StoreReport.{state_word}
 use Rattle.cil_store_specs.specs.Store.{entry_at}

@@ -1,4 +1,3 @@
-use Rattle.std.proofs.Common.{Bool}
 use Rattle.std.proofs.lemmas.Result.{IfOk-weaker}
 use Rattle.cil_specs.specs.Meaning.{is_in_table}
 use Rattle.cil_store.specs.Policy.{policy_meaning}

@@ -1,9 +1,8 @@
-use Rattle.std.proofs.Common.{◌≡◌, ◌∙◌, inl, ℕ, List, [], ◌∷◌, length, refl, ap, sym, subst, arith}
+use Rattle.std.proofs.Common.{◌≡◌, ◌∙◌, inl, List, [], ◌∷◌, length, refl, ap, sym, subst, arith}
 use Rattle.std.proofs.lemmas.Result.{err_from_is_err_and}
 use Rattle.cil_specs.specs.Meaning.{meaning_of}
 use Rattle.cil_store_specs.specs.Next.{IsMeaningOf, changed, install_of}
 use Rattle.cil_store_specs.specs.Store.{Store}
-use Rattle.cil_store.specs.Admitted.{admitted_edit}
 use Rattle.cil_store.specs.Edits.{edit_of, refusal_of}
 use Rattle.cil_store.specs.Policy.{policy_meaning}
 use Rattle.cil_store.specs.Refusing.{IsRefusedEdit, IsRefusedPolicy}

@@ -1,5 +1,5 @@
 use Rattle.std.proofs.Common.{◌≡◌, refl, sym, subst}
-use Rattle.cil_specs.specs.Meaning.{Meaning, count_of}
+use Rattle.cil_specs.specs.Meaning.{count_of}
 use Rattle.cil_rules.specs.Atoms.{atom_of}
 use Rattle.cil_store.specs.Plain.{meaning_by, IsCompiledTo}
 use Rattle.cil_store.proofs.PlainLemmas.{of-meaning}

@@ -1,7 +1,7 @@
 use Rattle.std.proofs.Common.{◌≡◌, Some, None, refl, sym, subst}
 use Rattle.std.proofs.lemmas.Result.{err_from_is_err_and}
-use Rattle.cil_store_specs.specs.Next.{Edit, HasGoodText, changed, store_refusal}
-use Rattle.cil_store_specs.specs.Run.{Step, an_edit, changed_by, refused, out_of_memory}
+use Rattle.cil_store_specs.specs.Next.{HasGoodText, changed, store_refusal}
+use Rattle.cil_store_specs.specs.Run.{Step, an_edit, changed_by, out_of_memory}
 use Rattle.cil_store_specs.specs.Store.{Store}
 use Rattle.cil_store.specs.Admitted.{admitted_edit}
 use Rattle.cil_store.specs.Edits.{edit_of, refusal_of}

@@ -1,5 +1,4 @@
-use Rattle.std.proofs.Common.{◌≡◌, false, refl, sym, subst}
-use Rattle.cil_specs.specs.Meaning.{Meaning}
+use Rattle.std.proofs.Common.{◌≡◌, false, sym, subst}
 use Rattle.cil_specs.specs.Members.{is_member}
 use Rattle.cil_store.specs.Plain.{meaning_by, IsCompiledTo}
 use Rattle.cil_store.proofs.PlainLemmas.{of-meaning, none-held}

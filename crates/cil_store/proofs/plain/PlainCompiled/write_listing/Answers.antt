@@ -1,6 +1,5 @@
-use Rattle.std.proofs.Common.{List, subst, arith}
+use Rattle.std.proofs.Common.{subst, arith}
 use Rattle.cil_specs.specs.Meaning.{is_in_table}
-use Rattle.cil_specs.specs.Rule.{Atom}
 use Rattle.cil_stream.proofs.Gaining.{gains-none}
 use Rattle.cil_rules.specs.Rows.{rows_of}
 use Rattle.cil_rules.proofs.RowLemmas.{are-rows}
