@@ -2,10 +2,11 @@
 
 usage: long_session.py PROGRAM [EDITS [SEED]]
 
-A module has types, attributes and classes. Forty others, each with types, set statements and rules of its own over these, are installed
-in one of four texts each, removed, disabled and enabled at random. After a tenth of the edits and after all of them, all modules but the
-first are removed: then the peak of memory, what is held, and the least time of five listings are told, and what the last of them is of
-the first. A session that holds its policy and not its history has the same both times.
+A module has types, attributes and classes. Forty others, each with types, set statements and rules of its own over these, are installed,
+each in four texts in turn; then they are installed in one of these, removed, disabled and enabled at random. After a tenth of the edits
+and after all of them, all modules are installed in their first texts, and then removed: the peak of memory, what is held, and the least
+time of nine listings of both stores are told, and what the late ones are of the early ones. A session that holds its policy and not its
+history has the same both times.
 """
 import random
 import subprocess
@@ -69,6 +70,9 @@ def main():
     texts = {name: [text(rng, name) for _ in range(4)] for name in range(MODULES)}
     session = Session(program)
     session.install("base", base())
+    for name in range(MODULES):
+        for body in texts[name]:
+            session.install(f"m{name}", body)
     told = []
     for done in range(1, count + 1):
         name = rng.randrange(MODULES)
@@ -78,10 +82,13 @@ def main():
         else:
             session.edit(f"{what} m{name}" + (" 400" if what == "remove" else ""))
         if done in (count // 10, count):
-            full = min(session.listing() for _ in range(5))
+            for other in range(MODULES):
+                session.edit(f"enable m{other}")
+                session.install(f"m{other}", texts[other][0])
+            full = min(session.listing() for _ in range(9))
             for other in range(MODULES):
                 session.edit(f"remove m{other} 400")
-            empty = min(session.listing() for _ in range(5))
+            empty = min(session.listing() for _ in range(9))
             told.append((*session.memory(), full, empty))
             peak, held, full, empty = told[-1]
             print(f"after {done:6} edits: peak {peak / 1024:7.1f} MiB, held {held / 1024:7.1f} MiB, listing {full * 1000:7.2f} ms, of the base {empty * 1000:7.2f} ms")
