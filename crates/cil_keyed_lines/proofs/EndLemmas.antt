@@ -1,18 +1,20 @@
 -- Keys that are taken out with their lines, and the counters of the others.
-use Rattle.std.proofs.Common.{◌≡◌, ◌≢◌, ◌⊎◌, ℕ, ◌+◌, ◌-◌, ◌<◌, ◌≤◌, ◌==◌, Bool, false, if◌then◌else◌, List, [], ◌∷◌, ◌++◌, length, get_or, set, take, position, slice_get, Option, None, Some, IfSome, bit_and, w64, refl, sym, ap, ◌∙◌, true≢false, inl, inr, arith, ◌^◌, eq-eqb, ◌||◌}
+use Rattle.std.proofs.Common.{◌≡◌, ◌≢◌, ◌⊎◌, ℕ, ◌+◌, ◌-◌, ◌*◌, ◌%◌, ◌<◌, ◌≤◌, ◌==◌, Bool, true, false, cond, not, if◌then◌else◌, List, [], ◌∷◌, ◌++◌, length, get_or, set, take, position, slice_get, Option, None, Some, IfSome, bit_and, w64, refl, sym, ap, ◌∙◌, true≢false, inl, inr, arith, ◌^◌, eq-eqb, ◌||◌}
 use Rattle.std.specs.Int.{bit_not, bit_at}
 use Rattle.std.specs.List.{list_any, IsDistinct, swap_remove}
 use Rattle.std.proofs.lemmas.Bool.{cases_eq, cases_lt, ne_eqb}
 use Rattle.std.proofs.lemmas.List.{get_or_default, length-append, length-set, length-take-le, get_or-take, get_or-set_same, get_or-set_other, get_or_at}
 use Rattle.std.proofs.lemmas.List.Folds.{list_any-append, list_any_at}
 use Rattle.std.proofs.lemmas.Nat.Bits.{bit_at_and, bit_at_not, bit_at-zero, bit_at-lt, same_from_bits_below}
+use Rattle.std.proofs.lemmas.Nat.{and_le_l}
 use Rattle.std.proofs.lemmas.Option.{none-some, slice_get-get_or}
+use Rattle.cil_lines.proofs.LineLemmas.{some_bit}
 use Rattle.cil_lines.specs.Limit.{CanLower}
-use Rattle.cil_recorded.specs.Log.{has_line, hit_at}
+use Rattle.cil_recorded.specs.Log.{falls, has_line, hit_at}
 use Rattle.cil_recorded.specs.Recorded as recorded
 use Rattle.cil_recorded.specs.Recorded.{State, HasCount, lines_in}
 use Rattle.cil_recorded.specs.declared.step.Step.{Step}
-use Rattle.cil_recorded.proofs.LogLemmas.{count_past, hit_off}
+use Rattle.cil_recorded.proofs.LogLemmas.{count_past, hit_nothing, hit_off, hit_on}
 use Rattle.cil_recorded.proofs.PlaceLemmas.{untouched}
 use Rattle.cil_keyed_lines.specs.declared.symbol_key.SymbolKey.{SymbolKey}
 use Rattle.cil_keyed_lines.specs.Keyed.{count_by, hit_of, is_key, with_key, AreAmong, AreCounted, AreHeld, AreKeyed, ArePaired}
@@ -116,6 +118,10 @@ module _ (keys news : List SymbolKey) (place : ℕ) (within : place < length key
 
 -- ---- lines of steps
 
+both_false : (a b : Bool) → (a || b) ≡ false → (a ≡ false) × (b ≡ false)
+both_false false b is = (refl, is)
+both_false true b is = absurd (true≢false is)
+
 or_false : (a b : Bool) → a ≡ false → b ≡ false → (a || (b || false)) ≡ false
 or_false a b x y = ap (λ c. c || (b || false)) x ∙ ap (λ c. c || false) y
 
@@ -170,18 +176,29 @@ moves was is was_fits is_fits gone come =
       bit_at-lt is b,
     ))
 
--- the lines of other keys are as they were, and the line of a place has a step
-pub counted_shifted : (old mid new : State) (n m place word was is : ℕ) → was < 2 ^ 64 → is < 2 ^ 64 → was ≢ is → mid.log ≡ old.log → AreCounted old.log n old
+-- the lines of other keys are as they were, and the line of a place has a counter or a step that took from its counters
+pub counted_shifted : (old mid new : State) (n m place word was is : ℕ) → was < 2 ^ 64 → is < 2 ^ 64 → was ≢ is → mid.log ≡ old.log → AreCounted (falls old.log) n old
     → ((l : ℕ) → l < m → l ≢ place → l < n)
     → ((l t : ℕ) → recorded.count_now mid l t ≡ recorded.count_now old l t)
-    → ((l : ℕ) → has_line new.log l ≡ false → (has_line mid.log l ≡ false) × (l ≡ place → (bit_and was (bit_not w64 is) ≡ 0) × (bit_and is (bit_not w64 was) ≡ 0)))
+    → ((l : ℕ) → has_line (falls new.log) l ≡ false → (has_line (falls mid.log) l ≡ false) × (l ≡ place → bit_and was (bit_not w64 is) ≡ 0))
     → ((l t : ℕ) → recorded.count_now new l t + hit_at place word (bit_and was (bit_not w64 is)) l t ≡ recorded.count_now mid l t + hit_at place word (bit_and is (bit_not w64 was)) l t)
-    → AreCounted new.log m new
+    → AreCounted (falls new.log) m new
 counted_shifted old mid new n m place word was is was_fits is_fits differ log counted within same others shifted i less none =
     let (quiet, nothing) = others i none in
-    let apart : i ≢ place = (λ e. let (gone, come) = nothing e in differ (moves was is was_fits is_fits gone come)) in
-    let (t, above) = counted i (within i less apart) (ap (λ ss. has_line ss i) (sym log) ∙ quiet) in
-    (t, omega (arith, above, same i t, shifted i t, hit_off place word (bit_and was (bit_not w64 is)) i t apart, hit_off place word (bit_and is (bit_not w64 was)) i t apart))
+    let gone = bit_and was (bit_not w64 is) in
+    let come = bit_and is (bit_not w64 was) in
+    elim (cases_eq i place) [
+      | inl here ↦
+          let come_fits : come < 2 ^ 64 = omega (arith, and_le_l is (bit_not w64 was), is_fits) in
+          let (b, low, set) = some_bit 64 come come_fits (λ e. differ (moves was is was_fits is_fits (nothing here) e)) in
+          let t = 64 * word + b in
+          let hit : hit_at place word come i t ≡ 1 = hit_on place word come i t here (omega (arith, low)) ∙ ap (bit_at come) (let e : t % 64 ≡ b = omega (arith, low) in e) ∙ set in
+          let none_gone : hit_at place word gone i t ≡ 0 = ap (λ m. hit_at place word m i t) (nothing here) ∙ hit_nothing place word i t in
+          (t, omega (arith, shifted i t, hit, none_gone))
+      | inr apart ↦
+          let (t, above) = counted i (within i less apart) (ap (λ ss. has_line (falls ss) i) (sym log) ∙ quiet) in
+          (t, omega (arith, above, same i t, shifted i t, hit_off place word gone i t apart, hit_off place word come i t apart))
+    ]
 
 -- a key gets a line where it had none, and a step is made
 module _ (keys news : List SymbolKey) (old mid new : State) (key : SymbolKey) (place word was is : ℕ) (was_fits : was < 2 ^ 64) (is_fits : is < 2 ^ 64)
@@ -206,7 +223,7 @@ module _ (keys news : List SymbolKey) (old mid new : State) (key : SymbolKey) (p
   module _ (shifted : (l t : ℕ) → recorded.count_now new l t + hit_at place word gone l t ≡ recorded.count_now mid l t + hit_at place word come l t)
       (before : (l t : ℕ) → recorded.count_before new l t ≡ recorded.count_before mid l t) where
     pub held_shifted : lines_in new ≡ lines_in mid → was ≢ is → mid.log ≡ old.log → ((l : ℕ) → l < length news → l ≢ place → l < length keys)
-        → ((l : ℕ) → has_line new.log l ≡ false → (has_line mid.log l ≡ false) × (l ≡ place → (gone ≡ 0) × (come ≡ 0))) → AreHeld news new
+        → ((l : ℕ) → has_line (falls new.log) l ≡ false → (has_line (falls mid.log) l ≡ false) × (l ≡ place → gone ≡ 0)) → AreHeld news new
     held_shifted len differ log within others = record {
       keyed = record {
         distinct = reached.distinct;
@@ -239,12 +256,24 @@ before_quiet s l t none =
     untouched s.log (recorded.count_now s) l t (λ k _ within line _.
     true≢false (sym (list_any_at (λ (x : Step). x.line == l) s.log k (record { line = 0; word = 0; mask = 0; turned = 0; up = false }) within (eq-eqb _ l line)) ∙ none))
 
-pub counted_kept : (steps : List Step) (old cut : State) (n : ℕ) → steps ≡ old.log → AreCounted old.log n old → ((l t : ℕ) → l < n → has_line old.log l ≡ false → recorded.count_now cut l t ≡ recorded.count_now old l t)
-    → AreCounted steps n cut
-counted_kept steps old cut n is counted same i within none =
+-- a line without a step has none that took from its counters
+pub quiet-falls : (ss : List Step) (l : ℕ) → has_line ss l ≡ false → has_line (falls ss) l ≡ false
+quiet-falls [] l none = refl
+quiet-falls (s ∷ ss) l none =
+    let (here, rest) = both_false (s.line == l) (has_line ss l) none in
+    by (not s.up) here (quiet-falls ss l rest)
+  where
+    by : (b : Bool) → (s.line == l) ≡ false → has_line (falls ss) l ≡ false → has_line (cond b (s ∷ falls ss) (falls ss)) l ≡ false
+    by true here rest = ap (λ c. c || has_line (falls ss) l) here ∙ rest
+    by false here rest = rest
+
+-- after the steps are taken back, each line of a key has a counter above 0 or a step
+pub counted_back : (steps : List Step) (old cut : State) (n : ℕ) → steps ≡ old.log → AreCounted (falls old.log) n old
+    → ((l t : ℕ) → recorded.count_now cut l t ≡ recorded.count_before old l t) → AreCounted steps n cut
+counted_back steps old cut n is counted back i within none =
     let quiet = ap (λ ss. has_line ss i) (sym is) ∙ none in
-    let (t, above) = counted i within quiet in
-    (t, omega (arith, above, same i t within quiet))
+    let (t, above) = counted i within (quiet-falls old.log i quiet) in
+    (t, omega (arith, above, back i t, before_quiet old i t quiet))
 
 -- lines that are cut off, and words that are given up, take no counter; lines that have one need no step
 pub counted_cut : (steps left : List Step) (old cut : State) (n : ℕ) → AreCounted steps n old → ((l : ℕ) → l < n → has_line left l ≡ false → (has_line steps l ≡ false) ⊎ HasCount old l)

@@ -4,7 +4,7 @@ use Rattle.std.specs.List.{list_any, IsDistinct}
 use Rattle.std.specs.Option.{option_map_or}
 use Rattle.cil_lines.specs.Line.{hit}
 use Rattle.cil_recorded.specs.Recorded as recorded
-use Rattle.cil_recorded.specs.Log.{has_line}
+use Rattle.cil_recorded.specs.Log.{falls, has_line}
 use Rattle.cil_recorded.specs.Recorded.{State, lines_in, HasCount}
 use Rattle.cil_recorded.specs.declared.step.Step.{Step}
 use Rattle.cil_keyed_lines.specs.declared.symbol_key.SymbolKey.{SymbolKey}
@@ -75,10 +75,10 @@ NoneCounted k key = (t : ℕ) → (count_now k key t ≡ 0) × (count_before k k
 abbrev pub AreCounted : List Step → ℕ → State → Type 0
 AreCounted steps n lines = (i : ℕ) → i < n → has_line steps i ≡ false → HasCount lines i
 
--- the lines of keys, of which each has a counter above 0 or a step
+-- the lines of keys, of which each has a counter above 0 or a step that took from its counters
 pub record AreHeld (keys : List SymbolKey) (lines : State) : Type 0 where
   pub keyed : AreKeyed keys lines
-  pub counted : AreCounted lines.log (length keys) lines
+  pub counted : AreCounted (falls lines.log) (length keys) lines
 
 -- each line is that of a key, and no step can be taken back
 pub record ArePaired (keys : List SymbolKey) (lines : State) : Type 0 where

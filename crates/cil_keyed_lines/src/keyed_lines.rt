@@ -7,6 +7,7 @@ ghost use Rattle.std.specs.Option.{is_some};
 ghost use Rattle.cil_lines.specs.Line.{IsPresence, IsNextPresent, NonePresent};
 ghost use Rattle.cil_lines.specs.Limit.{CanLower, CanRaise};
 ghost use Rattle.cil_recorded.specs.Differences.{appeared_at, change_key, gone_at, Ascends};
+ghost use Rattle.cil_recorded.specs.Log.{IsTurned};
 ghost use Rattle.cil_recorded.specs.Recorded.{count_before as recorded_before, count_now as recorded_now, limit_now, spare};
 ghost use Rattle.cil_keyed_lines.specs.Keyed.{before_at, count_before, count_now, hit_of, is_key, now_at, steps_in, with_key, AllCounted, AreAmong, AreKeyed, IsLineOf, IsNoLine, NoneCounted};
 
@@ -152,6 +153,16 @@ impl<A: Allocator + Copy> KeyedLines<A> {
 }
 
 impl<A: Allocator> KeyedLines<A> {
+    /// The steps since the last settling, from the oldest on, by the places of lines. Each line of a step that turned a target is that of a
+    /// key.
+    pub fn log(&self) -> &[Step]
+        ensures log { result.now ≡ self.now.lines.log }
+        ensures turned { IsTurned self.now.lines.log (now_at self.now) (before_at self.now) }
+        ensures keyed { AreKeyed self.now.keys self.now.lines }
+    {
+        self.lines.log()
+    }
+
     /// How many keys have a line.
     pub fn len(&self) -> usize
         ensures { result ≡ length self.now.keys }
@@ -252,7 +263,7 @@ impl<A: Allocator> KeyedLines<A> {
     }
 
     /// Keeps the steps, so that they can't be taken back any more, and takes out the keys whose lines are left without counters. It
-    /// takes no memory.
+    /// takes no memory, and looks at no line that no step took from.
     pub fn settle(&mut self)
         ensures keys { AreAmong self.new.keys self.old.keys }
         ensures counted { AllCounted self.new }

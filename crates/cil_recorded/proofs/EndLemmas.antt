@@ -1,8 +1,10 @@
 -- Steps that have ended, and the lines that stay.
-use Rattle.std.proofs.Common.{◌≡◌, ◌≢◌, ◌⊎◌, ℕ, zero, suc, ◌==◌, List, [], ◌∷◌, ◌++◌, Bool, true, false, ◌||◌, get_or, set, refl, sym, ap, ◌∙◌, true≢false, eq-eqb, eqb-true, inl, inr}
+use Rattle.std.proofs.Common.{◌≡◌, ◌≢◌, ◌⊎◌, ℕ, zero, suc, ◌==◌, List, [], ◌∷◌, ◌++◌, Bool, true, false, ◌||◌, cond, not, get_or, set, refl, sym, ap, ◌∙◌, true≢false, eq-eqb, eqb-true, inl, inr}
 use Rattle.std.proofs.lemmas.List.Folds.{list_any-append}
+use Rattle.std.proofs.lemmas.List.{append-nil}
+use Rattle.std.proofs.lemmas.List.Elements.{filter-append}
 use Rattle.cil_recorded.specs.declared.step.Step.{Step}
-use Rattle.cil_recorded.specs.Log.{has_line}
+use Rattle.cil_recorded.specs.Log.{falls, has_line}
 
 or_none : (a b : Bool) → (a || (b || false)) ≡ false → (a ≡ false) × (b ≡ false)
 or_none false false is = (refl, refl)
@@ -14,6 +16,13 @@ pub none_pushed : (ss : List Step) (s : Step) (l : ℕ) → has_line (ss ++ s �
 none_pushed ss s l none =
     let (old, here) = or_none (has_line ss l) _ (sym (list_any-append (λ (x : Step). x.line == l) ss (s ∷ [])) ∙ none) in
     (old, λ e. true≢false (sym (eq-eqb s.line l (sym e)) ∙ here))
+
+-- a step up is none of those that took from counters
+pub falls_up : (ss : List Step) (s : Step) → s.up ≡ true → falls (ss ++ s ∷ []) ≡ falls ss
+falls_up ss s up = filter-append (λ (x : Step). not x.up) ss (s ∷ []) ∙ ap (λ b. falls ss ++ (cond (not b) (s ∷ []) [])) up ∙ append-nil (falls ss)
+
+pub falls_down : (ss : List Step) (s : Step) → s.up ≡ false → falls (ss ++ s ∷ []) ≡ falls ss ++ s ∷ []
+falls_down ss s down = filter-append (λ (x : Step). not x.up) ss (s ∷ []) ∙ ap (λ b. falls ss ++ (cond (not b) (s ∷ []) [])) down
 
 or_both : (a b : Bool) → (a || b) ≡ false → (a ≡ false) × (b ≡ false)
 or_both false b is = (refl, is)

@@ -15,7 +15,7 @@ use Rattle.cil_lines.proofs.StepLemmas.{hit-here, hit-there, hit-none}
 use Rattle.cil_lines.specs.Line.{Counters, count_of, hit, IsPresence, IsSingle}
 use Rattle.cil_lines.specs.Limit.{has_place, limit, limit_of, CanRaise, CanLower}
 use Rattle.cil_recorded.specs.declared.step.Step.{Step}
-use Rattle.cil_recorded.specs.Log.{hit_at, taken_back, turned_by, undone, CanUndo}
+use Rattle.cil_recorded.specs.Log.{came_by, hit_at, taken_back, undone, went_by, CanUndo}
 use Rattle.cil_recorded.specs.Recorded.{count_in, limit_in, IsSound, sum_below, moved}
 
 -- ---- targets of a line
@@ -171,7 +171,8 @@ module _ (lines lines' : List Counters) (log : List Step) (sound : IsSound lines
                   arith,
                   sound.turned l t,
                   before_up turned l t,
-                  sum_by_push (λ s. turned_by s l t) log (up turned),
+                  sum_by_push (λ s. came_by s l t) log (up turned),
+                  sum_by_push (λ s. went_by s l t) log (up turned),
                   turns_up line word mask (count_in lines) (count_in lines') present fits is rose l t,
                 );
           }
@@ -204,7 +205,8 @@ module _ (lines lines' : List Counters) (log : List Step) (sound : IsSound lines
                   arith,
                   sound.turned l t,
                   before_down turned l t,
-                  sum_by_push (λ s. turned_by s l t) log (down turned),
+                  sum_by_push (λ s. came_by s l t) log (down turned),
+                  sum_by_push (λ s. went_by s l t) log (down turned),
                   turns_down line word mask (count_in lines) (count_in lines') single is fell l t,
                 );
           }

@@ -1,5 +1,5 @@
 -- Turns and changes in the order of their words.
-use Rattle.std.proofs.Common.{◌≡◌, ◌≢◌, ℕ, ◌+◌, ◌-◌, ◌*◌, ◌/◌, ◌%◌, ◌^◌, ◌<◌, ◌≤◌, List, [], ◌∷◌, ◌++◌, bit_xor, bit_and, min, refl, sym, arith, inl, inr, Result, Ok, Err, IfOk}
+use Rattle.std.proofs.Common.{◌≡◌, ◌≢◌, ℕ, Bool, true, false, if◌then◌else◌, ◌+◌, ◌-◌, ◌*◌, ◌/◌, ◌%◌, ◌^◌, ◌<◌, ◌≤◌, List, [], ◌∷◌, ◌++◌, bit_xor, bit_and, min, refl, sym, arith, inl, inr, Result, Ok, Err, IfOk}
 use Rattle.std.proofs.lemmas.Bool.{cases_eq}
 use Rattle.std.proofs.lemmas.List.Sums.{sum_by-cons}
 use Rattle.std.proofs.lemmas.Nat.Bits.{bit_at_xor, bit_at_and, bit_at-lt}
@@ -7,7 +7,8 @@ use Rattle.cil_recorded.proofs.LogLemmas.{hit_on, hit_off, hit_out}
 use Rattle.cil_recorded.specs.declared.recorded_lines.changes.Change.{Change}
 use Rattle.cil_recorded.specs.declared.turn.Turn.{Turn}
 use Rattle.cil_recorded.specs.Differences.{Ascends, alone_at, appeared_at, balance_at, gone_at, key_of, low_at, turn_key}
-use Rattle.cil_recorded.specs.Log.{hit_at, IsTurned}
+use Rattle.cil_recorded.specs.Log.{came_by, came_in, hit_at, turned_by, turned_in, went_by, went_in, IsTurned}
+use Rattle.cil_recorded.specs.declared.step.Step.{Step}
 
 -- words of lines that differ have numbers that differ
 pub key_is : (a b x y : ℕ) → x < 2 ^ 64 → y < 2 ^ 64 → key_of a x ≡ key_of b y → (a ≡ b) × (x ≡ y)
@@ -195,13 +196,40 @@ once k (x ∷ xs) l t up =
           )
     ]
 
+-- modulo 4, one that went once is one that came three times
+step-turned : (s : Step) (l t : ℕ) → turned_by s l t ≡ came_by s l t + 3 * went_by s l t
+step-turned s l t = by s.up
+  where
+    here : ℕ
+    here = hit_at s.line s.word s.turned l t
+
+    by : (up : Bool) → (if up then here else 3 * here) ≡ (if up then here else 0) + 3 * (if up then 0 else here)
+    by true = omega arith
+    by false = omega arith
+
+turned-sum : (ss : List Step) (l t : ℕ) → turned_in ss l t ≡ came_in ss l t + 3 * went_in ss l t
+turned-sum [] l t = refl
+turned-sum (s ∷ ss) l t =
+    omega (
+      arith,
+      step-turned s l t,
+      turned-sum ss l t,
+      sum_by-cons (λ s. turned_by s l t) s ss,
+      sum_by-cons (λ s. came_by s l t) s ss,
+      sum_by-cons (λ s. went_by s l t) s ss,
+    )
+
+-- so the turns of steps and whether a target was present make whether it is, modulo 4
+pub turned-modulo : (ss : List Step) (now before : ℕ → ℕ → ℕ) → IsTurned ss now before → (l t : ℕ) → (turned_in ss l t + min 1 (before l t)) % 4 ≡ min 1 (now l t)
+turned-modulo ss now before turned l t = omega (arith, turned l t, turned-sum ss l t)
+
 -- what came on the whole appeared, and what went is gone
 pub came : (balance steps now before a g rest : ℕ) → balance ≡ a + 3 * g + 2 * rest → a + g + rest ≤ 1 → balance % 4 ≡ steps % 4 → (steps + min 1 before) % 4 ≡ min 1 now
     → (a ≡ min 1 now - min 1 before) × (g ≡ min 1 before - min 1 now)
 came balance steps now before a g rest is few same turned = (omega (arith, is, few, same, turned), omega (arith, is, few, same, turned))
 
 -- so it is of the changes of turns
-pub split_changes : (ts : List Turn) (steps now before : ℕ → ℕ → ℕ) → Ascends turn_key 0 ts → ((l t : ℕ) → balance_at ts l t % 4 ≡ steps l t % 4) → IsTurned steps now before
+pub split_changes : (ts : List Turn) (steps now before : ℕ → ℕ → ℕ) → Ascends turn_key 0 ts → ((l t : ℕ) → balance_at ts l t % 4 ≡ steps l t % 4) → ((l t : ℕ) → (steps l t + min 1 (before l t)) % 4 ≡ min 1 (now l t))
     → (cs : List Change) → ((l t : ℕ) → balance_at ts l t ≡ appeared_at cs l t + 3 * gone_at cs l t + 2 * alone_at ts l t) → ((l t : ℕ) → appeared_at cs l t + gone_at cs l t ≡ low_at ts l t)
     → (l t : ℕ) → (appeared_at cs l t ≡ min 1 (now l t) - min 1 (before l t)) × (gone_at cs l t ≡ min 1 (before l t) - min 1 (now l t))
 split_changes ts steps now before up same turned cs is low l t =

@@ -1,6 +1,6 @@
 -- What a log of steps says of the counters before them, by line and target.
-use Rattle.std.specs.Prelude.{◌≡◌, Bool, ℕ, ◌+◌, ◌-◌, ◌*◌, ◌%◌, ◌<◌, ◌==◌, List, [], ◌∷◌, if◌then◌else◌, min, sum_by, MatchBool}
-use Rattle.std.specs.List.{list_any}
+use Rattle.std.specs.Prelude.{◌≡◌, Bool, ℕ, ◌+◌, ◌-◌, ◌*◌, ◌<◌, ◌==◌, List, [], ◌∷◌, if◌then◌else◌, min, not, sum_by, MatchBool}
+use Rattle.std.specs.List.{filter, list_any}
 use Rattle.cil_lines.specs.Line.{hit}
 use Rattle.cil_lines.specs.Limit.{CanRaise, CanLower}
 use Rattle.cil_recorded.specs.declared.step.Step.{Step}
@@ -35,9 +35,28 @@ turned_by s l t = if s.up then hit_at s.line s.word s.turned l t else 3 * hit_at
 abbrev pub turned_in : List Step → ℕ → ℕ → ℕ
 turned_in ss l t = sum_by (λ s. turned_by s l t) ss
 
--- modulo 4, that and whether a target was present make whether it is
-abbrev pub IsTurned : (ℕ → ℕ → ℕ) → (ℕ → ℕ → ℕ) → (ℕ → ℕ → ℕ) → Type 0
-IsTurned turns now before = (l t : ℕ) → (turns l t + min 1 (before l t)) % 4 ≡ min 1 (now l t)
+-- 1 for a target of a line that a step let appear, and 0 for any other
+abbrev pub came_by : Step → ℕ → ℕ → ℕ
+came_by s l t = if s.up then hit_at s.line s.word s.turned l t else 0
+
+-- 1 for one that it let go
+abbrev pub went_by : Step → ℕ → ℕ → ℕ
+went_by s l t = if s.up then 0 else hit_at s.line s.word s.turned l t
+
+-- how often steps let a target of a line appear, and how often they let it go
+abbrev pub came_in : List Step → ℕ → ℕ → ℕ
+came_in ss l t = sum_by (λ s. came_by s l t) ss
+
+abbrev pub went_in : List Step → ℕ → ℕ → ℕ
+went_in ss l t = sum_by (λ s. went_by s l t) ss
+
+-- these and whether a target was present make whether it is
+abbrev pub IsTurned : List Step → (ℕ → ℕ → ℕ) → (ℕ → ℕ → ℕ) → Type 0
+IsTurned ss now before = (l t : ℕ) → came_in ss l t + min 1 (before l t) ≡ went_in ss l t + min 1 (now l t)
+
+-- the steps that took from counters
+abbrev pub falls : List Step → List Step
+falls ss = filter (λ s. not s.up) ss
 
 -- whether a step of a list is of a line
 abbrev pub has_line : List Step → ℕ → Bool

@@ -3,7 +3,7 @@ use Rattle.std.specs.Prelude.{ℕ, zero, suc, ◌+◌, ◌-◌, ◌*◌, ◌<◌
 use Rattle.cil_lines.specs.Line.{Counters, count_of}
 use Rattle.cil_lines.specs.Limit.{limit_of}
 use Rattle.cil_recorded.specs.declared.step.Step.{Step}
-use Rattle.cil_recorded.specs.Log.{undone, CanUndo, turned_in, IsTurned}
+use Rattle.cil_recorded.specs.Log.{undone, CanUndo, IsTurned}
 
 -- the lines, the steps since the last settling from the oldest on, and the number of steps that can be logged without memory
 pub record State : Type 0 where
@@ -47,7 +47,7 @@ spare s = s.room
 -- the steps can be taken back, and say which targets came and went
 pub record IsSound (lines : List Counters) (log : List Step) : Type 0 where
   pub can : CanUndo (length lines) (reverse log) (count_in lines) (limit_in lines)
-  pub turned : IsTurned (turned_in log) (count_in lines) (undone (reverse log) (count_in lines))
+  pub turned : IsTurned log (count_in lines) (undone (reverse log) (count_in lines))
 
 -- the sum over the numbers below n
 abbrev pub sum_below : ℕ → (ℕ → ℕ) → ℕ

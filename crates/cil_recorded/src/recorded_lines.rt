@@ -3,7 +3,7 @@
 ghost use Rattle.std.specs.Prelude.{◌≡◌, ◌≢◌, ◌↔◌, ℕ, ◌+◌, ◌-◌, ◌*◌, ◌<◌, ◌≤◌, ◌^◌, false, min, count_ones, IsTrue, MatchOption, OnErr, OnOk};
 ghost use Rattle.cil_lines.specs.Line.{IsPresence, IsSingle, IsNextPresent, NonePresent};
 ghost use Rattle.cil_lines.specs.Limit.{CanLower, CanRaise};
-ghost use Rattle.cil_recorded.specs.Log.{has_line, hit_at};
+ghost use Rattle.cil_recorded.specs.Log.{falls, has_line, hit_at, IsTurned};
 ghost use Rattle.cil_recorded.specs.Recorded.{count_before, count_now, limit_now, lines_in, moved, spare, steps_in};
 
 mod changes;
@@ -170,6 +170,15 @@ impl<A: Allocator> RecordedLines<A> {
         !self.log.is_empty()
     }
 
+    /// The steps since the last settling, from the oldest on. A target that is present appeared once more often than it went, unless it was
+    /// present before them.
+    pub fn log(&self) -> &[Step]
+        ensures log { result.now ≡ self.now.log }
+        ensures turned { IsTurned self.now.log (count_now self.now) (count_before self.now) }
+    {
+        &self.log
+    }
+
     /// Adds 1 to the counter of each target of a mask. It takes no memory, and answers how many counters moved.
     pub fn raise(&mut self, line: usize, word: usize, mask: u64) -> u32
         requires line { line < lines_in self.old }
@@ -179,7 +188,7 @@ impl<A: Allocator> RecordedLines<A> {
         ensures moved { result ≡ moved (count_now self.old line) (count_now self.new line) word }
         ensures lines { lines_in self.new ≡ lines_in self.old }
         ensures steps { steps_in self.new ≡ steps_in self.old + 1 }
-        ensures others { (l : ℕ) → has_line self.new.log l ≡ false → (has_line self.old.log l ≡ false) × (l ≢ line) }
+        ensures falls { falls self.new.log ≡ falls self.old.log }
         ensures spare { spare self.old ≤ spare self.new + 1 }
         ensures now { (l t : ℕ) → count_now self.new l t ≡ count_now self.old l t + hit_at line word mask l t }
         ensures before { (l t : ℕ) → count_before self.new l t ≡ count_before self.old l t }
@@ -206,7 +215,7 @@ impl<A: Allocator> RecordedLines<A> {
         ensures moved { result ≡ moved (count_now self.old line) (count_now self.new line) word }
         ensures lines { lines_in self.new ≡ lines_in self.old }
         ensures steps { steps_in self.new ≡ steps_in self.old + 1 }
-        ensures others { (l : ℕ) → has_line self.new.log l ≡ false → (has_line self.old.log l ≡ false) × (l ≢ line) }
+        ensures others { (l : ℕ) → has_line (falls self.new.log) l ≡ false → (has_line (falls self.old.log) l ≡ false) × (l ≢ line) }
         ensures spare { spare self.old ≤ spare self.new + 1 }
         ensures now { (l t : ℕ) → count_now self.new l t + hit_at line word mask l t ≡ count_now self.old l t }
         ensures before { (l t : ℕ) → count_before self.new l t ≡ count_before self.old l t }

@@ -1,6 +1,6 @@
 //! How often steps let targets appear and go.
 
-ghost use Rattle.std.specs.Prelude.{◌≡◌, ◌≢◌, true, false, ℕ, ◌+◌, ◌%◌, IfOk, OnOk};
+ghost use Rattle.std.specs.Prelude.{◌≡◌, ◌≢◌, true, false, ℕ, ◌+◌, ◌%◌, ◌≤◌, ◌^◌, IfOk, OnErr, OnOk};
 ghost use Rattle.std.specs.List.Sorted.{IsNonDecreasingBy};
 ghost use Rattle.cil_recorded.specs.Differences.{balance_at, balance_of, turn_key, Ascends};
 ghost use Rattle.cil_recorded.specs.Log.{turned_by, turned_in};
@@ -36,9 +36,10 @@ fn is_same_word(first: &Turn, second: &Turn) -> bool
     first.line == second.line && word == other
 }
 
-/// The number of a line or a word in 32 bits. One that needs more is answered as out of memory.
+/// The number of a line or a word in 32 bits. One that needs more, and no other, is answered as out of memory.
 fn in_32_bits(number: usize) -> Result<u32, AllocError>
-    ensures { IfOk result (λ n. n ≡ number) }
+    ensures same { IfOk result (λ n. n ≡ number) }
+    ensures beyond { OnErr result (2 ^ 32 ≤ number) }
 {
     match u32::try_from(number) {
         Ok(n) => Ok(n),

@@ -1,6 +1,6 @@
 //! Collects the accesses of the access tables of a policy.
 
-ghost use Rattle.std.specs.Prelude.{◌≡◌, ◌<◌, ◌≤◌, ◌/◌, ◌^◌, ◌↔◌, ⊤, IfOk, OnOk, length, map};
+ghost use Rattle.std.specs.Prelude.{◌≡◌, ◌<◌, ◌≤◌, ◌/◌, ◌^◌, ◌↔◌, ⊤, IfOk, OnErr, OnOk, length, map};
 ghost use Rattle.std.specs.List.{All};
 ghost use Rattle.cil_specs.specs.Meaning.{is_in_table};
 ghost use Rattle.cil_specs.specs.Report.{AreAtoms};
@@ -67,6 +67,7 @@ impl LineHead {
 fn word_number(n: usize) -> Result<u32, AllocError>
     ensures same { IfOk result (λ word. word ≡ n) }
     ensures short { IfOk result (λ word. word < 2 ^ 26) }
+    ensures beyond { OnErr result (2 ^ 26 ≤ n) }
 {
     let word = number(n)?;
     if word < WORDS {

@@ -1,6 +1,6 @@
 //! Accesses by numbers.
 
-ghost use Rattle.std.specs.Prelude.{◌≡◌, length, IfOk};
+ghost use Rattle.std.specs.Prelude.{◌≡◌, ◌≤◌, ◌^◌, length, IfOk, OnErr};
 ghost use Rattle.cil_specs.specs.Report.{is_listed};
 ghost use Rattle.cil_text.specs.Image.{rule_kind_of};
 ghost use Rattle.cil_accesses.specs.Renumbered.{IsWithin};
@@ -12,9 +12,10 @@ use cil_resolve::Text;
 use cil_text::RuleKind;
 use std::alloc::{AllocError, Allocator};
 
-/// A place in a list of names in 32 bits. More names than these can number don't fit in memory.
+/// A place in a list of names in 32 bits. More names than these can number don't fit in memory; no other place is refused.
 pub fn number(n: usize) -> Result<u32, AllocError>
-    ensures { IfOk result (λ k. k ≡ n) }
+    ensures same { IfOk result (λ k. k ≡ n) }
+    ensures beyond { OnErr result (2 ^ 32 ≤ n) }
 {
     match u32::try_from(n) {
         Ok(k) => Ok(k),

@@ -1,21 +1,23 @@
 -- How many accesses came: word by word, change by change, key by key and kind by kind.
-use Rattle.std.proofs.Common.{◌≡◌, ◌≢◌, ℕ, zero, suc, ◌+◌, ◌-◌, ◌*◌, ◌/◌, ◌%◌, ◌^◌, ◌<◌, ◌≤◌, ◌==◌, ◌&&◌, Bool, true, false, not, cond, List, [], ◌∷◌, Option, None, Some, MatchOption, map, length, get_or, take, min, nat_lt, count_ones, position, slice_get, refl, sym, ap, subst, ◌∙◌, inl, inr, arith, true≢false, zero-add, eqb-true}
+use Rattle.std.proofs.Common.{◌≡◌, ◌≢◌, ◌⊎◌, if◌then◌else◌, ℕ, zero, suc, ◌+◌, ◌-◌, ◌*◌, ◌/◌, ◌%◌, ◌^◌, ◌<◌, ◌≤◌, ◌==◌, ◌&&◌, Bool, true, false, not, cond, List, [], ◌∷◌, Option, None, Some, MatchOption, map, length, get_or, take, min, nat_lt, count_ones, position, slice_get, refl, sym, ap, subst, ◌∙◌, inl, inr, arith, true≢false, zero-add, eqb-true}
 use Rattle.std.specs.Int.{bit_at}
 use Rattle.std.specs.List.{All, Contains, sum_by}
 use Rattle.std.proofs.lemmas.Bool.{cases_eq, cases_lt, eq-eqb, le-ltb, lt-ltb, ltb-true}
 use Rattle.std.proofs.lemmas.List.{length-map}
 use Rattle.std.proofs.lemmas.List.Elements.{All-contains}
 use Rattle.std.proofs.lemmas.List.Sums.{sum_by-cons, sum_by_more}
+use Rattle.std.proofs.lemmas.Nat.{zero_from_ones}
 use Rattle.std.proofs.lemmas.Nat.Bits.{bit_at_above, bit_at-lt}
-use Rattle.std.proofs.lemmas.Option.{get_or_from_slice_get, same_Some}
+use Rattle.std.proofs.lemmas.Option.{get_or_from_slice_get, same_Some, slice_get-get_or}
 use Rattle.cil_keyed_lines.specs.Keyed as keyed
-use Rattle.cil_keyed_lines.specs.Keyed.{Keyed, IsLineOf, NoneCounted, before_at, is_key, now_at}
+use Rattle.cil_keyed_lines.specs.Keyed.{AreKeyed, Keyed, IsLineOf, NoneCounted, before_at, is_key, now_at}
 use Rattle.cil_keyed_lines.specs.declared.symbol_key.SymbolKey.{SymbolKey}
-use Rattle.cil_keyed_lines.proofs.KeyedLemmas.{line_of_key}
+use Rattle.cil_keyed_lines.proofs.KeyedLemmas.{line_of_key, placed_at}
 use Rattle.cil_recorded.specs.Differences.{appeared_at, gone_at}
-use Rattle.cil_recorded.specs.Log.{hit_at}
+use Rattle.cil_recorded.specs.Log.{came_by, came_in, hit_at, went_by, went_in, IsTurned}
 use Rattle.cil_recorded.specs.declared.recorded_lines.changes.Change.{Change}
-use Rattle.cil_recorded.proofs.LogLemmas.{hit_off, hit_on, hit_out}
+use Rattle.cil_recorded.specs.declared.step.Step.{Step}
+use Rattle.cil_recorded.proofs.LogLemmas.{hit_nothing, hit_off, hit_on, hit_out}
 use Rattle.cil_sums.specs.Rises.{below, RisesBy}
 use Rattle.cil_sums.proofs.PairLemmas.{from-mapped, mapped, pairs-map}
 use Rattle.cil_sums.proofs.RiseLemmas.{rises-added, rises-bits, rises-both, rises-first, rises-map, rises-next, rises-none, rises-same}
@@ -23,7 +25,7 @@ use Rattle.cil_symbol_tables.specs.Tables.{count_before, count_now, lines_of}
 use Rattle.cil_symbol_tables.specs.declared.symbol_tables.SymbolTables.{SymbolTables}
 use Rattle.cil_text.specs.declared.statement.RuleKind.{RuleKind}
 use Rattle.cil_text.specs.declared.statement.RuleKind.TheVariants.{Allow, AuditAllow, DontAudit, NeverAllow}
-use Rattle.cil_symbol_changes.specs.Counts.{has_come, has_come_to, has_risen, is_at, is_found, is_found_at, ones_in, AreSoMany, SymbolAccess}
+use Rattle.cil_symbol_changes.specs.Counts.{came, has_come, has_come_to, has_risen, went, AreSoMany, SymbolAccess}
 
 -- Things that stand for those that pass, each for one, are as many.
 module _ {X Y : Type 0} (f : X → Y) (p : X → Bool) (q : Y → Bool) (alone : (a b : X) → p a ≡ true → p b ≡ true → f a ≡ f b → a ≡ b) (there : (x : X) → p x ≡ true → q (f x) ≡ true)
@@ -94,12 +96,11 @@ module _ (line word mask : ℕ) (fits : mask < 2 ^ 64) where
   pub word-count : RisesBy hits 0 (count_ones mask)
   word-count = rises-map place (λ a b same. let e = ap (λ p. p.1) same in omega (arith, e)) (λ b. bit_at mask b == 1) hits there back 0 (count_ones mask) (rises-bits 64 mask fits)
 
--- ---- changes
+-- ---- masks of words of lines
 
 -- two numbers of which one at most is above 0, and no more than 1
-either-counts : (own : Bool) (x y : ℕ) → x + y ≤ 1 → cond (own && nat_lt 0 x) 1 0 + cond (own && nat_lt 0 y) 1 0 ≡ cond (own && nat_lt 0 (x + y)) 1 0
-either-counts false x y few = refl
-either-counts true x y few =
+either-counts : (x y : ℕ) → x + y ≤ 1 → cond (nat_lt 0 x) 1 0 + cond (nat_lt 0 y) 1 0 ≡ cond (nat_lt 0 (x + y)) 1 0
+either-counts x y few =
     elim (cases_lt 0 x) [
       | inl some ↦
           ap (λ b. cond b 1 0 + cond (nat_lt 0 y) 1 0) (lt-ltb 0 x some) ∙ ap (λ b. 1 + cond b 1 0) (le-ltb 0 y (omega (arith, some, few)))
@@ -109,62 +110,39 @@ either-counts true x y few =
           ∙ ap (λ n. cond (nat_lt 0 n) 1 0) (let same : y ≡ x + y = omega (arith, none) in same)
     ]
 
-module _ (own : ℕ → Bool) (mask_of : Change → ℕ) where
-  abbrev pub at : Change → ℕ → ℕ → ℕ
-  at c l t = hit_at c.line c.word (mask_of c) l t
+-- things that have a mask for a word of a line each
+module _ {X : Type 0} (line_of word_of mask_of : X → ℕ) where
+  abbrev pub at : X → ℕ → ℕ → ℕ
+  at x l t = hit_at (line_of x) (word_of x) (mask_of x) l t
 
-  -- how many targets the mask of a change has, where its line counts
-  abbrev pub ones : Change → ℕ
-  ones c = cond (own c.line) (count_ones (mask_of c)) 0
+  -- how often a target stands in them
+  abbrev pub hits_in : List X → ℕ → ℕ → ℕ
+  hits_in xs l t = sum_by (λ x. at x l t) xs
 
-  -- whether a target stands in a change, and in some changes
-  abbrev in_one : Change → ℕ × ℕ → Bool
-  in_one c p = own p.0 && nat_lt 0 (at c p.0 p.1)
-
-  abbrev pub in_all : List Change → ℕ × ℕ → Bool
-  in_all changes p = own p.0 && nat_lt 0 (sum_by (λ c. at c p.0 p.1) changes)
-
-  elsewhere : (c : Change) (p : ℕ × ℕ) → p.0 ≢ c.line → nat_lt 0 (at c p.0 p.1) ≡ false
-  elsewhere c p other = let none = hit_off c.line c.word (mask_of c) p.0 p.1 other in le-ltb 0 (at c p.0 p.1) (omega (arith, none))
-
-  never : (b : Bool) → (b && false) ≡ false
-  never true = refl
-  never false = refl
-
-  one-change : (c : Change) → mask_of c < 2 ^ 64 → RisesBy (in_one c) 0 (ones c)
-  one-change c fits = by (own c.line) refl
+  -- how many targets the masks have, where each target stands in one at most
+  pub all-masks : (xs : List X) → ((x : X) → Contains xs x → mask_of x < 2 ^ 64) → ((l t : ℕ) → hits_in xs l t ≤ 1) → RisesBy (λ (p : ℕ × ℕ). nat_lt 0 (hits_in xs p.0 p.1)) 0 (sum_by (λ x. count_ones (mask_of x)) xs)
+  all-masks [] fits few = rises-none (λ (p : ℕ × ℕ). nat_lt 0 (hits_in [] p.0 p.1)) 0 (λ p. refl)
+  all-masks (x ∷ xs) fits few =
+      let ones : X → ℕ = λ y. count_ones (mask_of y) in
+      let rest = all-masks xs (λ y there. fits y (suc there.0, omega (arith, there.1), there.2)) (λ l t. omega (arith, few l t, sum_by-cons (λ y. at y l t) x xs)) in
+      subst (RisesBy (λ (p : ℕ × ℕ). nat_lt 0 (hits_in (x ∷ xs) p.0 p.1)) 0) (sym (sum_by-cons ones x xs))
+      (rises-both (λ (p : ℕ × ℕ). nat_lt 0 (at x p.0 p.1)) (λ (p : ℕ × ℕ). nat_lt 0 (hits_in xs p.0 p.1)) (λ (p : ℕ × ℕ). nat_lt 0 (hits_in (x ∷ xs) p.0 p.1)) joined 0 (ones x) (ones x + sum_by ones xs)
+      (word-count (line_of x) (word_of x) (mask_of x) (fits x (0, omega arith, refl)))
+      (rises-added (λ (p : ℕ × ℕ). nat_lt 0 (hits_in xs p.0 p.1)) (ones x) (sum_by ones xs) (ones x + sum_by ones xs) rest (omega arith) (omega arith)))
     where
-      same : own c.line ≡ true → (p : ℕ × ℕ) → nat_lt 0 (at c p.0 p.1) ≡ in_one c p
-      same is p =
-          elim (cases_eq p.0 c.line) [
-            | inl here ↦ ap (λ b. b && nat_lt 0 (at c p.0 p.1)) (sym (ap own here ∙ is))
-            | inr other ↦ elsewhere c p other ∙ sym (ap (λ b. own p.0 && b) (elsewhere c p other) ∙ never (own p.0))
-          ]
-
-      none : own c.line ≡ false → (p : ℕ × ℕ) → in_one c p ≡ false
-      none is p =
-          elim (cases_eq p.0 c.line) [
-            | inl here ↦ ap (λ b. b && nat_lt 0 (at c p.0 p.1)) (ap own here ∙ is)
-            | inr other ↦ ap (λ b. own p.0 && b) (elsewhere c p other) ∙ never (own p.0)
-          ]
-
-      by : (b : Bool) → own c.line ≡ b → RisesBy (in_one c) 0 (cond b (count_ones (mask_of c)) 0)
-      by true is = rises-same (hits c.line c.word (mask_of c) fits) (in_one c) 0 (count_ones (mask_of c)) (same is) (word-count c.line c.word (mask_of c) fits)
-      by false is = rises-none (in_one c) 0 (none is)
-
-  pub all-changes : (changes : List Change) → ((c : Change) → Contains changes c → mask_of c < 2 ^ 64) → ((l t : ℕ) → sum_by (λ c. at c l t) changes ≤ 1) → RisesBy (in_all changes) 0 (sum_by ones changes)
-  all-changes [] fits few = rises-none (in_all []) 0 (λ p. never (own p.0))
-  all-changes (c ∷ changes) fits few =
-      let rest = all-changes changes (λ d there. fits d (suc there.0, omega (arith, there.1), there.2)) (λ l t. omega (arith, few l t, sum_by-cons (λ d. at d l t) c changes)) in
-      subst (RisesBy (in_all (c ∷ changes)) 0) (sym (sum_by-cons ones c changes))
-      (rises-both (in_one c) (in_all changes) (in_all (c ∷ changes)) joined 0 (ones c) (ones c + sum_by ones changes) (one-change c (fits c (0, omega arith, refl)))
-      (rises-added (in_all changes) (ones c) (sum_by ones changes) (ones c + sum_by ones changes) rest (omega arith) (omega arith)))
-    where
-      joined : (p : ℕ × ℕ) → cond (in_one c p) 1 0 + cond (in_all changes p) 1 0 ≡ cond (in_all (c ∷ changes) p) 1 0
+      joined : (p : ℕ × ℕ) → cond (nat_lt 0 (at x p.0 p.1)) 1 0 + cond (nat_lt 0 (hits_in xs p.0 p.1)) 1 0 ≡ cond (nat_lt 0 (hits_in (x ∷ xs) p.0 p.1)) 1 0
       joined p =
-          let sum = sum_by-cons (λ d. at d p.0 p.1) c changes in
-          either-counts (own p.0) (at c p.0 p.1) (sum_by (λ d. at d p.0 p.1) changes) (omega (arith, few p.0 p.1, sum))
-          ∙ ap (λ n. cond (own p.0 && nat_lt 0 n) 1 0) (sym sum)
+          let sum = sum_by-cons (λ y. at y p.0 p.1) x xs in
+          either-counts (at x p.0 p.1) (hits_in xs p.0 p.1) (omega (arith, few p.0 p.1, sum)) ∙ ap (λ n. cond (nat_lt 0 n) 1 0) (sym sum)
+
+  -- masks without a target hit none
+  pub no-masks : (xs : List X) → sum_by (λ x. count_ones (mask_of x)) xs ≡ 0 → (l t : ℕ) → hits_in xs l t ≡ 0
+  no-masks [] none l t = refl
+  no-masks (x ∷ xs) none l t =
+      let sum = sum_by-cons (λ y. count_ones (mask_of y)) x xs in
+      let empty : mask_of x ≡ 0 = zero_from_ones (mask_of x) (omega (arith, none, sum)) in
+      let here : at x l t ≡ 0 = ap (λ m. hit_at (line_of x) (word_of x) m l t) empty ∙ hit_nothing (line_of x) (word_of x) l t in
+      omega (arith, here, no-masks xs (omega (arith, none, sum)) l t, sum_by-cons (λ y. at y l t) x xs)
 
 -- ---- keys
 
@@ -174,19 +152,13 @@ pub record IsFound (lines : Keyed) (l : ℕ) : Type 0 where
   pub at : slice_get lines.keys l ≡ Some key
   pub leads : position (is_key key) lines.keys ≡ Some l
 
-pub found-key : (lines : Keyed) (l : ℕ) → is_found lines l ≡ true → IsFound lines l
-found-key lines l is = by (slice_get lines.keys l) refl is
-  where
-    leads : (key : SymbolKey) (o : Option ℕ) → position (is_key key) lines.keys ≡ o → is_at o l ≡ true → position (is_key key) lines.keys ≡ Some l
-    leads key None at is = absurd (true≢false (sym is))
-    leads key (Some found) at is = at ∙ ap Some (eqb-true found l is)
-
-    by : (o : Option SymbolKey) → slice_get lines.keys l ≡ o → is_found_at lines l o ≡ true → IsFound lines l
-    by None at is = absurd (true≢false (sym is))
-    by (Some key) at is = record { key = key; at = at; leads = leads key (position (is_key key) lines.keys) refl is }
-
-pub found-at : (lines : Keyed) (l : ℕ) (key : SymbolKey) → slice_get lines.keys l ≡ Some key → position (is_key key) lines.keys ≡ Some l → is_found lines l ≡ true
-found-at lines l key at leads = ap (is_found_at lines l) at ∙ ap (λ o. is_at o l) leads ∙ eq-eqb l l refl
+-- the line of a counter above 0 is found
+pub found-line : (lines : Keyed) (l : ℕ) → AreKeyed lines.keys lines.lines → l < length lines.keys → IsFound lines l
+found-line lines l held within =
+    let none : SymbolKey = record { source = 0; class = 0; permission = 0 } in
+    let key = get_or lines.keys l none in
+    let at : slice_get lines.keys l ≡ Some key = slice_get-get_or lines.keys l none within in
+    record { key = key; at = at; leads = placed_at lines.keys l key held.distinct at }
 
 pub line-led : (lines : Keyed) (l : ℕ) (key : SymbolKey) → position (is_key key) lines.keys ≡ Some l → IsLineOf lines l key
 line-led lines l key leads = line_of_key lines key (Some l) (sym leads)
@@ -202,16 +174,19 @@ turned-risen stands was is turned =
       | inr none ↦ le-ltb 0 stands (omega (arith, turned, none)) ∙ sym (ap (λ b. b && not (nat_lt 0 was)) (le-ltb 0 is none))
     ]
 
-module _ (lines : Keyed) (stands f g : ℕ → ℕ → ℕ) (was is : SymbolKey → ℕ → ℕ) (turned : (l t : ℕ) → stands l t ≡ min 1 (g l t) - min 1 (f l t))
+module _ (lines : Keyed) (stands f g : ℕ → ℕ → ℕ) (was is : SymbolKey → ℕ → ℕ) (turned : (l t : ℕ) → stands l t ≡ min 1 (g l t) - min 1 (f l t)) (found : (l t : ℕ) → 0 < g l t → IsFound lines l)
     (at : (l : ℕ) (key : SymbolKey) → IsLineOf lines l key → (t : ℕ) → (f l t ≡ was key t) × (g l t ≡ is key t)) (find : (key : SymbolKey) (t : ℕ) → 0 < is key t → (l : ℕ) × (position (is_key key) lines.keys ≡ Some l)) where
   abbrev pub in_lines : ℕ × ℕ → Bool
-  in_lines p = is_found lines p.0 && nat_lt 0 (stands p.0 p.1)
+  in_lines p = nat_lt 0 (stands p.0 p.1)
 
   no_key : SymbolKey
   no_key = record { source = 0; class = 0; permission = 0 }
 
   abbrev by_key : ℕ × ℕ → SymbolKey × ℕ
   by_key p = (get_or lines.keys p.0 no_key, p.1)
+
+  led : (p : ℕ × ℕ) → in_lines p ≡ true → IsFound lines p.0
+  led p passes = let some = ltb-true 0 (stands p.0 p.1) passes in found p.0 p.1 (omega (arith, some, turned p.0 p.1))
 
   risen-at : (l : ℕ) (key : SymbolKey) (t : ℕ) → position (is_key key) lines.keys ≡ Some l → nat_lt 0 (stands l t) ≡ has_come_to was is (key, t)
   risen-at l key t leads =
@@ -220,9 +195,8 @@ module _ (lines : Keyed) (stands f g : ℕ → ℕ → ℕ) (was is : SymbolKey 
 
   of-lines : (p : ℕ × ℕ) → in_lines p ≡ true → has_come_to was is (by_key p) ≡ true
   of-lines p passes =
-      let (found, some) = both-hold (is_found lines p.0) (nat_lt 0 (stands p.0 p.1)) passes in
-      let led = found-key lines p.0 found in
-      ap (λ key. has_come_to was is (key, p.1)) (get_or_from_slice_get lines.keys p.0 led.key no_key led.at) ∙ sym (risen-at p.0 led.key p.1 led.leads) ∙ some
+      let line = led p passes in
+      ap (λ key. has_come_to was is (key, p.1)) (get_or_from_slice_get lines.keys p.0 line.key no_key line.at) ∙ sym (risen-at p.0 line.key p.1 line.leads) ∙ passes
 
   to-lines : (q : SymbolKey × ℕ) → has_come_to was is q ≡ true → (p : ℕ × ℕ) × (in_lines p ≡ true) × (by_key p ≡ q)
   to-lines q come =
@@ -230,12 +204,12 @@ module _ (lines : Keyed) (stands f g : ℕ → ℕ → ℕ) (was is : SymbolKey 
       let (l, leads) = find q.0 q.1 (ltb-true 0 (is q.0 q.1) present) in
       let line = line-led lines l q.0 leads in
       let key = get_or_from_slice_get lines.keys l q.0 no_key line.at in
-      ((l, q.1), ap (λ b. b && nat_lt 0 (stands l q.1)) (found-at lines l q.0 line.at leads) ∙ risen-at l q.0 q.1 leads ∙ come, λ i. (key i, q.1))
+      ((l, q.1), risen-at l q.0 q.1 leads ∙ come, λ i. (key i, q.1))
 
   one-line : (p q : ℕ × ℕ) → in_lines p ≡ true → in_lines q ≡ true → by_key p ≡ by_key q → p ≡ q
   one-line p q first second same =
-      let one = found-key lines p.0 (both-hold (is_found lines p.0) (nat_lt 0 (stands p.0 p.1)) first).0 in
-      let other = found-key lines q.0 (both-hold (is_found lines q.0) (nat_lt 0 (stands q.0 q.1)) second).0 in
+      let one = led p first in
+      let other = led q second in
       let keys : one.key ≡ other.key = sym (get_or_from_slice_get lines.keys p.0 one.key no_key one.at) ∙ ap (λ r. r.0) same ∙ get_or_from_slice_get lines.keys q.0 other.key no_key other.at in
       let lines_same = same_Some p.0 q.0 (sym one.leads ∙ ap (λ key. position (is_key key) lines.keys) keys ∙ other.leads) in
       let targets = ap (λ r. r.1) same in
@@ -259,39 +233,136 @@ place-before lines key t some = by (position (is_key key) lines.keys) refl (line
     by None at none = let zero = (none t).1 in absurd (omega (arith, some, zero))
     by (Some l) at line = (l, at)
 
--- ---- the numbers of changes
+-- ---- the numbers of a kind
 
--- one change more
-pub count-more : (lines : Keyed) (mask_of : Change → ℕ) (changes : List Change) (place : ℕ) (d : Change) (count after : ℕ) (found : Bool) → place < length changes
-    → count ≡ sum_by (λ c. ones_in lines c.line (mask_of c)) (take place changes) → found ≡ is_found lines (get_or changes place d).line → after ≡ count + cond found (count_ones (mask_of (get_or changes place d))) 0
-    → after ≡ sum_by (λ c. ones_in lines c.line (mask_of c)) (take (place + 1) changes)
-count-more lines mask_of changes place d count after found within counted known more =
-    more ∙ ap (λ n. n + cond found (count_ones (mask_of (get_or changes place d))) 0) counted
-    ∙ ap (λ b. sum_by (λ c. ones_in lines c.line (mask_of c)) (take place changes) + cond b (count_ones (mask_of (get_or changes place d))) 0) known
-    ∙ sym (sum_by_more (λ c. ones_in lines c.line (mask_of c)) changes place d within)
+module _ {A : Type 0} (tables : SymbolTables A) (kind : RuleKind) (lines : Keyed) (at : lines ≡ lines_of tables kind) (held : AreKeyed lines.keys lines.lines) (stands : ℕ → ℕ → ℕ) (count : ℕ)
+    (many : RisesBy (λ (p : ℕ × ℕ). nat_lt 0 (stands p.0 p.1)) 0 count) where
+  here-now : (l t : ℕ) → 0 < now_at lines l t → IsFound lines l
+  here-now l t some =
+      found-line lines l held (elim (cases_lt l (length lines.keys)) [
+        | inl within ↦ within
+        | inr behind ↦ let none = held.now l t behind in absurd (omega (arith, some, none))
+      ])
 
-module _ {A : Type 0} (tables : SymbolTables A) (kind : RuleKind) (lines : Keyed) (given changes : List Change) (at : lines ≡ lines_of tables kind) (all : given ≡ changes) (count : ℕ) where
+  here-before : (l t : ℕ) → 0 < before_at lines l t → IsFound lines l
+  here-before l t some =
+      found-line lines l held (elim (cases_lt l (length lines.keys)) [
+        | inl within ↦ within
+        | inr behind ↦ let none = held.before l t behind in absurd (omega (arith, some, none))
+      ])
+
   -- the number of what appeared in the lines of a kind
-  pub kind-come : ((l t : ℕ) → appeared_at changes l t ≡ min 1 (now_at lines l t) - min 1 (before_at lines l t)) → All (λ (c : Change). c.appeared < 2 ^ 64) given → count ≡ sum_by (λ c. ones_in lines c.line c.appeared) given
-      → RisesBy (has_come_to (count_before tables kind) (count_now tables kind)) 0 count
+  pub kind-come : ((l t : ℕ) → stands l t ≡ min 1 (now_at lines l t) - min 1 (before_at lines l t)) → RisesBy (has_come_to (count_before tables kind) (count_now tables kind)) 0 count
   unfolding count_now count_before
-  kind-come appeared fit counted =
-      let turned : (l t : ℕ) → appeared_at given l t ≡ min 1 (now_at lines l t) - min 1 (before_at lines l t) = λ l t. ap (λ cs. appeared_at cs l t) all ∙ appeared l t in
-      let many = all-changes (is_found lines) (λ c. c.appeared) given (λ c there. All-contains (λ (d : Change). d.appeared < 2 ^ 64) given c fit there) (λ l t. omega (arith, turned l t)) in
+  kind-come turned =
       subst (λ (k : Keyed). RisesBy (has_come_to (keyed.count_before k) (keyed.count_now k)) 0 count) at
-      (key-count lines (appeared_at given) (before_at lines) (now_at lines) (keyed.count_before lines) (keyed.count_now lines) turned (λ l key line t. (line.before t, line.now t)) (place-now lines) count
-      (subst (RisesBy (in_all (is_found lines) (λ c. c.appeared) given) 0) (sym counted) many))
+      (key-count lines stands (before_at lines) (now_at lines) (keyed.count_before lines) (keyed.count_now lines) turned here-now (λ l key line t. (line.before t, line.now t)) (place-now lines) count many)
 
   -- and of what went
-  pub kind-gone : ((l t : ℕ) → gone_at changes l t ≡ min 1 (before_at lines l t) - min 1 (now_at lines l t)) → All (λ (c : Change). c.gone < 2 ^ 64) given → count ≡ sum_by (λ c. ones_in lines c.line c.gone) given
-      → RisesBy (has_come_to (count_now tables kind) (count_before tables kind)) 0 count
+  pub kind-gone : ((l t : ℕ) → stands l t ≡ min 1 (before_at lines l t) - min 1 (now_at lines l t)) → RisesBy (has_come_to (count_now tables kind) (count_before tables kind)) 0 count
   unfolding count_now count_before
-  kind-gone gone fit counted =
-      let turned : (l t : ℕ) → gone_at given l t ≡ min 1 (before_at lines l t) - min 1 (now_at lines l t) = λ l t. ap (λ cs. gone_at cs l t) all ∙ gone l t in
-      let many = all-changes (is_found lines) (λ c. c.gone) given (λ c there. All-contains (λ (d : Change). d.gone < 2 ^ 64) given c fit there) (λ l t. omega (arith, turned l t)) in
+  kind-gone turned =
       subst (λ (k : Keyed). RisesBy (has_come_to (keyed.count_now k) (keyed.count_before k)) 0 count) at
-      (key-count lines (gone_at given) (now_at lines) (before_at lines) (keyed.count_now lines) (keyed.count_before lines) turned (λ l key line t. (line.now t, line.before t)) (place-before lines) count
-      (subst (RisesBy (in_all (is_found lines) (λ c. c.gone) given) 0) (sym counted) many))
+      (key-count lines stands (now_at lines) (before_at lines) (keyed.count_now lines) (keyed.count_before lines) turned here-before (λ l key line t. (line.now t, line.before t)) (place-before lines) count many)
+
+-- ---- steps that turned targets one way
+
+came-hit : (s : Step) (l t : ℕ) → came_by s l t ≡ hit_at s.line s.word (came s) l t
+came-hit s l t = by s.up
+  where
+    by : (up : Bool) → (if up then hit_at s.line s.word s.turned l t else 0) ≡ hit_at s.line s.word (cond up s.turned 0) l t
+    by true = refl
+    by false = sym (hit_nothing s.line s.word l t)
+
+went-hit : (s : Step) (l t : ℕ) → went_by s l t ≡ hit_at s.line s.word (went s) l t
+went-hit s l t = by s.up
+  where
+    by : (up : Bool) → (if up then 0 else hit_at s.line s.word s.turned l t) ≡ hit_at s.line s.word (cond up 0 s.turned) l t
+    by true = sym (hit_nothing s.line s.word l t)
+    by false = refl
+
+pub came-fits : (s : Step) → s.turned < 2 ^ 64 → came s < 2 ^ 64
+came-fits s fits = by s.up
+  where
+    by : (up : Bool) → cond up s.turned 0 < 2 ^ 64
+    by true = fits
+    by false = omega arith
+
+pub went-fits : (s : Step) → s.turned < 2 ^ 64 → went s < 2 ^ 64
+went-fits s fits = by s.up
+  where
+    by : (up : Bool) → cond up 0 s.turned < 2 ^ 64
+    by true = omega arith
+    by false = fits
+
+abbrev pub came_at : List Step → ℕ → ℕ → ℕ
+came_at ss l t = hits_in (λ (s : Step). s.line) (λ (s : Step). s.word) came ss l t
+
+abbrev pub went_at : List Step → ℕ → ℕ → ℕ
+went_at ss l t = hits_in (λ (s : Step). s.line) (λ (s : Step). s.word) went ss l t
+
+module _ (ss : List Step) (now before : ℕ → ℕ → ℕ) (turned : IsTurned ss now before) where
+  balance : (l t : ℕ) → came_at ss l t + min 1 (before l t) ≡ went_at ss l t + min 1 (now l t)
+  balance l t =
+      let up : came_in ss l t ≡ came_at ss l t = λ i. sum_by (λ s. came-hit s l t i) ss in
+      let down : went_in ss l t ≡ went_at ss l t = λ i. sum_by (λ s. went-hit s l t i) ss in
+      omega (arith, turned l t, up, down)
+
+  -- where none went each that came is present and was not, and where none came the other way round
+  one-way : (sum_by (λ s. count_ones (came s)) ss ≡ 0) ⊎ (sum_by (λ s. count_ones (went s)) ss ≡ 0)
+      → (l t : ℕ) → (came_at ss l t ≡ min 1 (now l t) - min 1 (before l t)) × (went_at ss l t ≡ min 1 (before l t) - min 1 (now l t))
+  one-way (inl none) l t =
+      let zero = no-masks (λ (s : Step). s.line) (λ (s : Step). s.word) came ss none l t in
+      (omega (arith, balance l t, zero), omega (arith, balance l t, zero))
+  one-way (inr none) l t =
+      let zero = no-masks (λ (s : Step). s.line) (λ (s : Step). s.word) went ss none l t in
+      (omega (arith, balance l t, zero), omega (arith, balance l t, zero))
+
+module _ {A : Type 0} (tables : SymbolTables A) (kind : RuleKind) (lines : Keyed) (at : lines ≡ lines_of tables kind) (held : AreKeyed lines.keys lines.lines) (log : List Step) (is : log ≡ lines.lines.log)
+    (turned : IsTurned lines.lines.log (now_at lines) (before_at lines)) (fits : All (λ (s : Step). s.turned < 2 ^ 64) log) (added removed : ℕ) (came_is : added ≡ sum_by (λ s. count_ones (came s)) log)
+    (went_is : removed ≡ sum_by (λ s. count_ones (went s)) log) (none : (added ≡ 0) ⊎ (removed ≡ 0)) where
+  each : (l t : ℕ) → (came_at log l t ≡ min 1 (now_at lines l t) - min 1 (before_at lines l t)) × (went_at log l t ≡ min 1 (before_at lines l t) - min 1 (now_at lines l t))
+  each =
+      one-way log (now_at lines) (before_at lines) (subst (λ ss. IsTurned ss (now_at lines) (before_at lines)) (sym is) turned)
+      (elim none [
+        | inl nothing ↦ inl (sym came_is ∙ nothing)
+        | inr nothing ↦ inr (sym went_is ∙ nothing)
+      ])
+
+  pub steps-come : RisesBy (has_come_to (count_before tables kind) (count_now tables kind)) 0 added
+  steps-come =
+      kind-come tables kind lines at held (came_at log) added
+      (subst (RisesBy (λ (p : ℕ × ℕ). nat_lt 0 (came_at log p.0 p.1)) 0) (sym came_is)
+      (all-masks (λ (s : Step). s.line) (λ (s : Step). s.word) came log (λ s there. came-fits s (All-contains (λ (t : Step). t.turned < 2 ^ 64) log s fits there)) (λ l t. let e = (each l t).0 in omega (arith, e))))
+      (λ l t. (each l t).0)
+
+  pub steps-gone : RisesBy (has_come_to (count_now tables kind) (count_before tables kind)) 0 removed
+  steps-gone =
+      kind-gone tables kind lines at held (went_at log) removed
+      (subst (RisesBy (λ (p : ℕ × ℕ). nat_lt 0 (went_at log p.0 p.1)) 0) (sym went_is)
+      (all-masks (λ (s : Step). s.line) (λ (s : Step). s.word) went log (λ s there. went-fits s (All-contains (λ (t : Step). t.turned < 2 ^ 64) log s fits there)) (λ l t. let e = (each l t).1 in omega (arith, e))))
+      (λ l t. (each l t).1)
+
+-- ---- changes
+
+module _ {A : Type 0} (tables : SymbolTables A) (kind : RuleKind) (lines : Keyed) (at : lines ≡ lines_of tables kind) (held : AreKeyed lines.keys lines.lines) (given changes : List Change) (all : given ≡ changes) (count : ℕ) where
+  pub changes-come : ((l t : ℕ) → appeared_at changes l t ≡ min 1 (now_at lines l t) - min 1 (before_at lines l t)) → All (λ (c : Change). c.appeared < 2 ^ 64) given → count ≡ sum_by (λ c. count_ones c.appeared) given
+      → RisesBy (has_come_to (count_before tables kind) (count_now tables kind)) 0 count
+  changes-come appeared fit counted =
+      let turned : (l t : ℕ) → appeared_at given l t ≡ min 1 (now_at lines l t) - min 1 (before_at lines l t) = λ l t. ap (λ cs. appeared_at cs l t) all ∙ appeared l t in
+      kind-come tables kind lines at held (appeared_at given) count
+      (subst (RisesBy (λ (p : ℕ × ℕ). nat_lt 0 (appeared_at given p.0 p.1)) 0) (sym counted)
+      (all-masks (λ (c : Change). c.line) (λ (c : Change). c.word) (λ (c : Change). c.appeared) given (λ c there. All-contains (λ (d : Change). d.appeared < 2 ^ 64) given c fit there) (λ l t. omega (arith, turned l t))))
+      turned
+
+  pub changes-gone : ((l t : ℕ) → gone_at changes l t ≡ min 1 (before_at lines l t) - min 1 (now_at lines l t)) → All (λ (c : Change). c.gone < 2 ^ 64) given → count ≡ sum_by (λ c. count_ones c.gone) given
+      → RisesBy (has_come_to (count_now tables kind) (count_before tables kind)) 0 count
+  changes-gone gone fit counted =
+      let turned : (l t : ℕ) → gone_at given l t ≡ min 1 (before_at lines l t) - min 1 (now_at lines l t) = λ l t. ap (λ cs. gone_at cs l t) all ∙ gone l t in
+      kind-gone tables kind lines at held (gone_at given) count
+      (subst (RisesBy (λ (p : ℕ × ℕ). nat_lt 0 (gone_at given p.0 p.1)) 0) (sym counted)
+      (all-masks (λ (c : Change). c.line) (λ (c : Change). c.word) (λ (c : Change). c.gone) given (λ c there. All-contains (λ (d : Change). d.gone < 2 ^ 64) given c fit there) (λ l t. omega (arith, turned l t))))
+      turned
 
 -- ---- kinds
 

@@ -1,8 +1,8 @@
 -- How many accesses came and went.
-use Rattle.std.specs.Prelude.{◌≡◌, ◌≢◌, ◌↔◌, ◌==◌, ◌&&◌, ℕ, Bool, false, List, Option, None, Some, cond, count_ones, length, nat_lt, not, position, slice_get, IsTrue}
+use Rattle.std.specs.Prelude.{◌≡◌, ◌≢◌, ◌↔◌, ◌&&◌, ℕ, Bool, List, cond, length, nat_lt, not, IsTrue}
 use Rattle.std.specs.List.{AllPairs, Contains}
-use Rattle.cil_keyed_lines.specs.Keyed.{is_key, Keyed}
 use Rattle.cil_keyed_lines.specs.declared.symbol_key.SymbolKey.{SymbolKey}
+use Rattle.cil_recorded.specs.declared.step.Step.{Step}
 use Rattle.cil_text.specs.declared.statement.RuleKind.{RuleKind}
 
 -- an access, by the symbols of its names
@@ -30,20 +30,9 @@ pub record AreSoMany {X : Type 0} (test : X → Bool) (count : ℕ) : Type 0 whe
   pub once : AllPairs (λ x y. x ≢ y) those
   pub all : count ≡ length those
 
--- whether a key was found at a place
-abbrev pub is_at : Option ℕ → ℕ → Bool
-is_at None place = false
-is_at (Some found) place = found == place
+-- the targets of a word that a step let appear, and those that it let go
+abbrev pub came : Step → ℕ
+came s = cond s.up s.turned 0
 
--- whether a key is found at a place where it stands
-abbrev pub is_found_at : Keyed → ℕ → Option SymbolKey → Bool
-is_found_at lines place None = false
-is_found_at lines place (Some key) = is_at (position (is_key key) lines.keys) place
-
--- whether the line of a place is that which its key leads to
-abbrev pub is_found : Keyed → ℕ → Bool
-is_found lines place = is_found_at lines place (slice_get lines.keys place)
-
--- how many targets a mask has; none where the key of the line doesn't lead to it
-abbrev pub ones_in : Keyed → ℕ → ℕ → ℕ
-ones_in lines place mask = cond (is_found lines place) (count_ones mask) 0
+abbrev pub went : Step → ℕ
+went s = cond s.up 0 s.turned

@@ -1,13 +1,12 @@
 //! How many accesses appeared and how many went in access tables.
 
-ghost use Rattle.std.specs.Prelude.{◌≡◌, ◌+◌, ◌<◌, ◌^◌, cond, count_ones, sum_by, IfOk};
+ghost use Rattle.std.specs.Prelude.{◌≡◌, ◌+◌, ◌<◌, ◌^◌, count_ones, sum_by, IfOk};
 ghost use Rattle.std.specs.List.{All};
 ghost use Rattle.cil_sums.specs.Rises.{RisesBy};
 ghost use Rattle.cil_symbol_tables.specs.Tables.{count_before, count_now};
-ghost use Rattle.cil_symbol_changes.specs.Counts.{has_come, has_come_to, is_found, ones_in, AreSoMany};
+ghost use Rattle.cil_symbol_changes.specs.Counts.{came, has_come, has_come_to, went, AreSoMany};
 
-use cil_keyed_lines::KeyedLines;
-use cil_recorded::Change;
+use cil_recorded::{Change, Step};
 use cil_symbol_tables::SymbolTables;
 use cil_text::RuleKind;
 use std::alloc::{AllocError, Allocator};
@@ -19,67 +18,51 @@ pub struct ChangeCounts {
     pub removed: u128,
 }
 
-/// A line that was looked at, and whether its key leads to it.
-#[derive(Clone, Copy)]
-struct KnownLine {
-    line: usize,
-    is_found: bool,
-}
-
-/// Whether the key of a place's line leads to it.
-fn is_line_found<A: Allocator>(lines: &KeyedLines<A>, place: usize) -> bool
-    ensures { result ≡ is_found lines.now place }
-{
-    let Some(key) = lines.at(place) else {
-        return false;
-    };
-    match lines.find(key) {
-        Some(found) => found == place,
-        None => false,
-    }
-}
-
-/// A line, which is looked at unless it is the one that was last.
-fn known_line<A: Allocator>(lines: &KeyedLines<A>, last: KnownLine, line: usize) -> KnownLine
-    requires { last.is_found ≡ is_found lines.now last.line }
-    ensures { result ≡ record { line = line; is_found = is_found lines.now line } }
-{
-    if last.line == line {
-        return last;
-    }
-    KnownLine {
-        line,
-        is_found: is_line_found(lines, line),
-    }
-}
-
-/// The numbers with those of the targets of a change, where its line is found.
-fn with_change(counts: ChangeCounts, change: &Change, is_found: bool) -> ChangeCounts
+/// The numbers with those of the targets of a word that appeared, and of those that went.
+fn with_targets(counts: ChangeCounts, appeared: u64, gone: u64) -> ChangeCounts
     requires few_added { counts.added < 2 ^ 96 }
     requires few_removed { counts.removed < 2 ^ 96 }
-    ensures added { result.added ≡ counts.added + cond is_found (count_ones change.now.appeared) 0 }
-    ensures removed { result.removed ≡ counts.removed + cond is_found (count_ones change.now.gone) 0 }
+    ensures added { result.added ≡ counts.added + count_ones appeared }
+    ensures removed { result.removed ≡ counts.removed + count_ones gone }
     ensures few_added { result.added < counts.added + 2 ^ 32 }
     ensures few_removed { result.removed < counts.removed + 2 ^ 32 }
-    ensures appeared { change.now.appeared < 2 ^ 64 }
-    ensures gone { change.now.gone < 2 ^ 64 }
+    ensures appeared { appeared < 2 ^ 64 }
+    ensures gone { gone < 2 ^ 64 }
 {
-    let appeared = change.appeared;
-    let gone = change.gone;
-    if !is_found {
-        return counts;
-    }
     ChangeCounts {
         added: counts.added + u128::from(appeared.count_ones()),
         removed: counts.removed + u128::from(gone.count_ones()),
     }
 }
 
-/// The numbers of the targets that appeared in changes of lines, and of those that went. There are fewer changes than 2^64, and fewer
-/// than 2^32 targets in each, so that the numbers fit.
-fn count_targets<A: Allocator>(lines: &KeyedLines<A>, changes: &[Change]) -> ChangeCounts
-    ensures added { result.added ≡ sum_by (λ c. ones_in lines.now c.line c.appeared) changes.now }
-    ensures removed { result.removed ≡ sum_by (λ c. ones_in lines.now c.line c.gone) changes.now }
+/// How often steps let targets appear, and how often they let them go. There are fewer steps than 2^64, and fewer than 2^32 targets in
+/// each, so that the numbers fit.
+fn count_steps(log: &[Step]) -> ChangeCounts
+    ensures added { result.added ≡ sum_by (λ s. count_ones (came s)) log.now }
+    ensures removed { result.removed ≡ sum_by (λ s. count_ones (went s)) log.now }
+    ensures few_added { result.added < 2 ^ 96 }
+    ensures few_removed { result.removed < 2 ^ 96 }
+    ensures turned { All (λ s. s.turned < 2 ^ 64) log.now }
+{
+    let mut counts = ChangeCounts {
+        added: 0,
+        removed: 0,
+    };
+    for step in log {
+        counts = if step.up {
+            with_targets(counts, step.turned, 0)
+        } else {
+            with_targets(counts, 0, step.turned)
+        };
+    }
+    counts
+}
+
+/// The numbers of the targets that appeared in changes of lines, and of those that went. There are fewer changes than 2^64, so that they
+/// fit, too.
+fn count_targets(changes: &[Change]) -> ChangeCounts
+    ensures added { result.added ≡ sum_by (λ c. count_ones c.appeared) changes.now }
+    ensures removed { result.removed ≡ sum_by (λ c. count_ones c.gone) changes.now }
     ensures few_added { result.added < 2 ^ 96 }
     ensures few_removed { result.removed < 2 ^ 96 }
     ensures appeared { All (λ c. c.appeared < 2 ^ 64) changes.now }
@@ -89,19 +72,14 @@ fn count_targets<A: Allocator>(lines: &KeyedLines<A>, changes: &[Change]) -> Cha
         added: 0,
         removed: 0,
     };
-    let mut last = KnownLine {
-        line: 0,
-        is_found: is_line_found(lines, 0),
-    };
-    for place in 0..changes.len() {
-        let change = &changes[place];
-        last = known_line(lines, last, change.line);
-        counts = with_change(counts, change, last.is_found);
+    for change in changes {
+        counts = with_targets(counts, change.appeared, change.gone);
     }
     counts
 }
 
-/// How many accesses of a kind appeared in tables, and how many went.
+/// How many accesses of a kind appeared in tables, and how many went. Where all steps turned targets one way, each target turned once, and
+/// the steps are counted as they stand. Else those of a word are put together first.
 fn count_kind<A: Allocator + Copy>(
     alloc: A,
     tables: &SymbolTables<A>,
@@ -113,13 +91,17 @@ fn count_kind<A: Allocator + Copy>(
     ensures few_removed { IfOk result (λ n. n.removed < 2 ^ 96) }
 {
     let lines = tables.lines(kind);
+    let turned = count_steps(lines.log());
+    if turned.added == 0 || turned.removed == 0 {
+        return Ok(turned);
+    }
     let changes = lines.changes(alloc)?;
-    Ok(count_targets(lines, &changes))
+    Ok(count_targets(&changes))
 }
 
 /// How many accesses appeared in tables since the last settling, and how many went: those that some rule gives now and none gave before,
-/// and those that some rule gave and none gives now. It takes time by the steps since then. No access is put together, and none is
-/// given a name.
+/// and those that some rule gave and none gives now. It takes time by the steps since then, and memory only where accesses of a kind both
+/// appeared and went. No access is put together, and none is given a name.
 pub fn count_changes<A: Allocator + Copy>(
     alloc: A,
     tables: &SymbolTables<A>,

@@ -1,6 +1,6 @@
 //! The accesses of a line to the targets of a word.
 
-ghost use Rattle.std.specs.Prelude.{◌≡◌, ◌<◌, ◌^◌, IfOk, OnOk};
+ghost use Rattle.std.specs.Prelude.{◌≡◌, ◌<◌, ◌≤◌, ◌^◌, IfOk, OnErr, OnOk};
 ghost use Rattle.std.specs.List.{All};
 ghost use Rattle.cil_lines.specs.Line.{hit};
 ghost use Rattle.cil_symbol_changes.specs.Gained.{AreGained, AreKnown, chunk_by, IsShort, IsTo};
@@ -10,9 +10,10 @@ use cil_keyed_lines::SymbolKey;
 use cil_text::RuleKind;
 use std::alloc::{AllocError, Allocator};
 
-/// A symbol or a place in 32 bits. More than these can number don't fit in memory.
+/// A symbol or a place in 32 bits. More than these can number don't fit in memory; no other is refused.
 pub fn short(symbol: usize) -> Result<u32, AllocError>
-    ensures { IfOk result (λ n. n ≡ symbol) }
+    ensures same { IfOk result (λ n. n ≡ symbol) }
+    ensures beyond { OnErr result (2 ^ 32 ≤ symbol) }
 {
     match u32::try_from(symbol) {
         Ok(n) => Ok(n),
@@ -24,6 +25,7 @@ pub fn short(symbol: usize) -> Result<u32, AllocError>
 fn short_word(word: usize) -> Result<u32, AllocError>
     ensures same { IfOk result (λ n. n ≡ word) }
     ensures low { IfOk result (λ n. n < 2 ^ 26) }
+    ensures beyond { OnErr result (2 ^ 26 ≤ word) }
 {
     let word = short(word)?;
     if word > u32::MAX / 64 {

@@ -1,7 +1,7 @@
 //! Lines that are left without counters once steps have ended.
 
 ghost use Rattle.std.specs.Prelude.{◌≡◌, ◌≢◌, ℕ, ◌+◌, ◌<◌, ◌⊎◌, false, length, min, slice_index_or, true};
-ghost use Rattle.cil_recorded.specs.Log.{has_line};
+ghost use Rattle.cil_recorded.specs.Log.{falls, has_line};
 ghost use Rattle.cil_recorded.specs.Recorded.{count_before, count_now, lines_in, steps_in, HasCount};
 
 use crate::recorded_lines::RecordedLines;
@@ -21,10 +21,10 @@ fn mark_counted<A: Allocator>(steps: &mut Vec<Step, A>, i: usize, line: usize)
 }
 
 impl<A: Allocator> RecordedLines<A> {
-    /// Keeps the steps, so that they can't be taken back any more, and exchanges their list for another, which is emptied: the lines of
-    /// the steps are those that may be left without counters. It takes no memory.
+    /// Keeps the steps, so that they can't be taken back any more, and exchanges their list for another, which is emptied. Those that took
+    /// from counters stay in the list that is handed out: only their lines may be left without counters. It takes no memory.
     pub fn settle_into(&mut self, steps: &mut Vec<Step, A>)
-        ensures given { steps.new.items ≡ self.old.log }
+        ensures falls { steps.new.items ≡ falls self.old.log }
         ensures lines { lines_in self.new ≡ lines_in self.old }
         ensures steps { steps_in self.new ≡ 0 }
         ensures now { (l t : ℕ) → count_now self.new l t ≡ count_now self.old l t }
@@ -32,6 +32,7 @@ impl<A: Allocator> RecordedLines<A> {
     {
         mem::swap(&mut self.log, steps);
         self.log.clear();
+        steps.retain(|step| !step.up);
     }
 
     /// Takes the steps back, from the last to the first, and exchanges their list for another, which is emptied. It takes no memory.

@@ -1,24 +1,21 @@
-use Rattle.std.proofs.Common.{◌<◌, ◌^◌, ◌∙◌, length, ap, sym, arith}
+use Rattle.std.proofs.Common.{◌<◌, ◌^◌, ◌∙◌, ap, arith, count_ones}
 use Rattle.std.proofs.lemmas.List.Elements.{All-more}
+use Rattle.std.proofs.lemmas.List.Sums.{sum_by_more}
 use Rattle.cil_recorded.specs.declared.recorded_lines.changes.Change.{Change}
-use Rattle.cil_symbol_changes.specs.Counts.{is_found}
-use Rattle.cil_symbol_changes.proofs.CountLemmas.{count-more}
 use Rattle.cil_symbol_changes.proofs.counted_changes.count_targets.Goals as goal
 
-pub loop-place-preserved : goal.loop-place-preserved
-loop-place-preserved g c =
+pub loop-change-preserved : goal.loop-change-preserved
+loop-change-preserved c =
     let changes = c.args.changes.now in
-    let place = c.loop-place.place in
-    let within : place < length changes = omega (arith, c.loop-place-test.true) in
-    let known = ap (λ k. k.is_found) c.known_line-last.ensures in
+    let i = c.loop-change.change-index in
+    let none : Change = record { line = 0; word = 0; appeared = 0; gone = 0 } in
+    let was = c.loop-change.invariant in
+    let told = c.with_targets-counts.ensures in
     record {
-      added = count-more c.args.lines.now (λ d. d.appeared) changes place _ c.loop-place.counts.added c.with_change-counts.result.added c.known_line-last.result.is_found within c.loop-place.invariant.added known
-          c.with_change-counts.ensures.added;
-      removed = count-more c.args.lines.now (λ d. d.gone) changes place _ c.loop-place.counts.removed c.with_change-counts.result.removed c.known_line-last.result.is_found within c.loop-place.invariant.removed known
-          c.with_change-counts.ensures.removed;
-      few_added = omega (arith, c.with_change-counts.ensures.few_added, c.loop-place.invariant.few_added);
-      few_removed = omega (arith, c.with_change-counts.ensures.few_removed, c.loop-place.invariant.few_removed);
-      appeared = All-more (λ (d : Change). d.appeared < 2 ^ 64) changes place _ within c.loop-place.invariant.appeared c.with_change-counts.ensures.appeared;
-      gone = All-more (λ (d : Change). d.gone < 2 ^ 64) changes place _ within c.loop-place.invariant.gone c.with_change-counts.ensures.gone;
-      last = known ∙ ap (is_found c.args.lines.now) (sym (ap (λ k. k.line) c.known_line-last.ensures));
+      added = omega (arith, told.added, was.added, sum_by_more (λ (d : Change). count_ones d.appeared) changes i none c.loop-change-test.true);
+      removed = omega (arith, told.removed, was.removed, sum_by_more (λ (d : Change). count_ones d.gone) changes i none c.loop-change-test.true);
+      few_added = omega (arith, told.few_added, was.few_added);
+      few_removed = omega (arith, told.few_removed, was.few_removed);
+      appeared = All-more (λ (d : Change). d.appeared < 2 ^ 64) changes i none c.loop-change-test.true was.appeared told.appeared;
+      gone = All-more (λ (d : Change). d.gone < 2 ^ 64) changes i none c.loop-change-test.true was.gone told.gone;
     }

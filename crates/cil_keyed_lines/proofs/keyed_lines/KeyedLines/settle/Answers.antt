@@ -1,13 +1,14 @@
-use Rattle.std.proofs.Common.{◌∙◌, length}
-use Rattle.cil_keyed_lines.proofs.EndLemmas.{counted_kept}
+use Rattle.std.proofs.Common.{◌∙◌, sym, ap, arith}
 use Rattle.cil_keyed_lines.proofs.KeyedLemmas.{count_same}
+use Rattle.cil_recorded.specs.Log.{has_line}
 use Rattle.cil_recorded.specs.Recorded.{count_now}
 use Rattle.cil_keyed_lines.proofs.keyed_lines.KeyedLines.settle.Goals as goal
 
 pub end-requires-clause-counted : goal.end-requires-clause-counted
-end-requires-clause-counted g c =
+end-requires-clause-counted g c i within none =
     let old = c.self.inside in
-    counted_kept c.settle_into.new.steps.items old.lines c.settle_into.new.self (length old.keys.keys) c.settle_into.ensures.given c.self.invariant.counted (λ l t _ quiet. c.settle_into.ensures.now l t)
+    let (t, above) = c.self.invariant.counted i within (ap (λ ss. has_line ss i) (sym c.settle_into.ensures.falls) ∙ none) in
+    (t, omega (arith, above, c.settle_into.ensures.now i t))
 
 pub returns-clause-now : goal.returns-clause-now
 returns-clause-now g c k t =

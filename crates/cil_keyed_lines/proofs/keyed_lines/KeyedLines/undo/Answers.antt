@@ -1,5 +1,5 @@
-use Rattle.std.proofs.Common.{◌∙◌, length, sym}
-use Rattle.cil_keyed_lines.proofs.EndLemmas.{before_quiet, counted_kept}
+use Rattle.std.proofs.Common.{◌∙◌, length}
+use Rattle.cil_keyed_lines.proofs.EndLemmas.{counted_back}
 use Rattle.cil_keyed_lines.proofs.KeyedLemmas.{count_same}
 use Rattle.cil_recorded.specs.Recorded.{count_before, count_now}
 use Rattle.cil_keyed_lines.proofs.keyed_lines.KeyedLines.undo.Goals as goal
@@ -7,7 +7,7 @@ use Rattle.cil_keyed_lines.proofs.keyed_lines.KeyedLines.undo.Goals as goal
 pub end-requires-clause-counted : goal.end-requires-clause-counted
 end-requires-clause-counted g c =
     let old = c.self.inside in
-    counted_kept c.undo_into.new.steps.items old.lines c.undo_into.new.self (length old.keys.keys) c.undo_into.ensures.given c.self.invariant.counted (λ l t _ quiet. c.undo_into.ensures.now l t ∙ sym (before_quiet old.lines l t quiet))
+    counted_back c.undo_into.new.steps.items old.lines c.undo_into.new.self (length old.keys.keys) c.undo_into.ensures.given c.self.invariant.counted c.undo_into.ensures.now
 
 pub returns-clause-now : goal.returns-clause-now
 returns-clause-now g c k t =

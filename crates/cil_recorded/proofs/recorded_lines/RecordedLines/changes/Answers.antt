@@ -1,5 +1,5 @@
 use Rattle.std.proofs.Common.{reverse}
-use Rattle.cil_recorded.proofs.TurnLemmas.{split_changes, IfOk-both}
+use Rattle.cil_recorded.proofs.TurnLemmas.{split_changes, turned-modulo, IfOk-both}
 use Rattle.cil_recorded.specs.Log.{turned_in, undone}
 use Rattle.cil_recorded.specs.Recorded.{count_in}
 use Rattle.cil_recorded.proofs.recorded_lines.RecordedLines.changes.Goals as goal
@@ -13,7 +13,7 @@ returns-clause-appeared g c =
     let same = rw c.deref.ensures.value at c.in_ok-turns.ensures.turned in
     rw (← c.self.view_is)
     (IfOk-both c.split.result
-    (λ v is some l t. (split_changes c.in_ok-turns.turns.items (turned_in log) (count_in lines) (undone (reverse log) (count_in lines)) c.in_ok-turns.ensures.order same c.self.invariant.turned v.items is some l t).0)
+    (λ v is some l t. (split_changes c.in_ok-turns.turns.items (turned_in log) (count_in lines) (undone (reverse log) (count_in lines)) c.in_ok-turns.ensures.order same (turned-modulo log (count_in lines) (undone (reverse log) (count_in lines)) c.self.invariant.turned) v.items is some l t).0)
     balance low)
 
 pub returns-clause-gone : goal.returns-clause-gone
@@ -25,5 +25,5 @@ returns-clause-gone g c =
     let same = rw c.deref.ensures.value at c.in_ok-turns.ensures.turned in
     rw (← c.self.view_is)
     (IfOk-both c.split.result
-    (λ v is some l t. (split_changes c.in_ok-turns.turns.items (turned_in log) (count_in lines) (undone (reverse log) (count_in lines)) c.in_ok-turns.ensures.order same c.self.invariant.turned v.items is some l t).1)
+    (λ v is some l t. (split_changes c.in_ok-turns.turns.items (turned_in log) (count_in lines) (undone (reverse log) (count_in lines)) c.in_ok-turns.ensures.order same (turned-modulo log (count_in lines) (undone (reverse log) (count_in lines)) c.self.invariant.turned) v.items is some l t).1)
     balance low)

@@ -1,7 +1,8 @@
-use Rattle.std.proofs.Common.{◌<◌, length, bit_and, rules}
+use Rattle.std.proofs.Common.{◌<◌, ◌∙◌, length, bit_and, refl, sym, ap, rules}
 use Rattle.cil_lines.specs.Line.{IsSingle}
-use Rattle.cil_recorded.proofs.EndLemmas.{none_pushed}
+use Rattle.cil_recorded.proofs.EndLemmas.{falls_down, none_pushed}
 use Rattle.cil_recorded.proofs.LogLemmas.{before_down, moved_down, sound_down}
+use Rattle.cil_recorded.specs.Log.{falls, has_line}
 use Rattle.cil_recorded.specs.Recorded.{count_in}
 use Rattle.cil_recorded.proofs.recorded_lines.RecordedLines.lower.Goals as goal
 
@@ -29,4 +30,6 @@ returns-clause-before g c l t =
     (before_down old c.lower.new.lines.items log c.self.invariant step.limits step.len c.args.line c.args.word c.args.mask within step.now (bit_and c.args.mask c.single.result) l t)
 
 pub returns-clause-others : goal.returns-clause-others
-returns-clause-others g c l none = rw (← c.self.view_is) (none_pushed c.self.inside.log.items _ l (rw c.log_step.ensures.items at none))
+returns-clause-others g c l none =
+    let log = c.self.inside.log.items in
+    rw (← c.self.view_is) (none_pushed (falls log) _ l (sym (ap (λ ss. has_line ss l) (ap falls c.log_step.ensures.items ∙ falls_down log _ refl)) ∙ none))

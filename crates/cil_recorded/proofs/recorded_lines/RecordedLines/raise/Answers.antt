@@ -1,7 +1,7 @@
-use Rattle.std.proofs.Common.{◌<◌, length, bit_and, w64, rules}
+use Rattle.std.proofs.Common.{◌<◌, length, bit_and, w64, refl, rules}
 use Rattle.std.specs.Int.{bit_not}
 use Rattle.cil_lines.specs.Line.{IsPresence}
-use Rattle.cil_recorded.proofs.EndLemmas.{none_pushed}
+use Rattle.cil_recorded.proofs.EndLemmas.{falls_up}
 use Rattle.cil_recorded.proofs.LogLemmas.{before_up, moved_up, sound_up}
 use Rattle.cil_recorded.specs.Recorded.{count_in}
 use Rattle.cil_recorded.proofs.recorded_lines.RecordedLines.raise.Goals as goal
@@ -29,5 +29,5 @@ returns-clause-before g c l t =
     rw (c.log_step.ensures.items, ← c.self.view_is)
     (before_up old c.raise.new.lines.items log c.self.invariant step.limits step.len c.args.line c.args.word c.args.mask within step.now (bit_and c.args.mask (bit_not w64 c.present.result)) l t)
 
-pub returns-clause-others : goal.returns-clause-others
-returns-clause-others g c l none = rw (← c.self.view_is) (none_pushed c.self.inside.log.items _ l (rw c.log_step.ensures.items at none))
+pub returns-clause-falls : goal.returns-clause-falls
+returns-clause-falls g c = rw (c.log_step.ensures.items, ← c.self.view_is) (falls_up c.self.inside.log.items _ refl)

@@ -1,0 +1,41 @@
+use Rattle.std.proofs.Common.{◌≡◌, ◌<◌, ◌^◌, ap, arith, cond, count_ones, get_or, false}
+use Rattle.std.proofs.lemmas.List.Elements.{All-more}
+use Rattle.std.proofs.lemmas.List.Sums.{sum_by_more}
+use Rattle.cil_recorded.specs.declared.step.Step.{Step}
+use Rattle.cil_symbol_changes.specs.Counts.{came, went}
+use Rattle.cil_symbol_changes.proofs.counted_changes.count_steps.Goals as goal
+use Rattle.cil_symbol_changes.proofs.counted_changes.count_steps.Goals.{then-step, else-step}
+
+pub loop-step-preserved : goal.loop-step-preserved
+loop-step-preserved c =
+    let log = c.args.log.now in
+    let i = c.loop-step.step-index in
+    let none : Step = record { line = 0; word = 0; mask = 0; turned = 0; up = false } in
+    let s = get_or log i none in
+    let was = c.loop-step.invariant in
+    elim c.if-step.branch [
+      | then-step w ↦
+          let up : count_ones (came s) ≡ count_ones s.turned = ap (λ b. count_ones (cond b s.turned 0)) w.if-step.true in
+          let down : count_ones (went s) ≡ count_ones 0 = ap (λ b. count_ones (cond b 0 s.turned)) w.if-step.true in
+          let told = w.with_targets-counts.ensures in
+          rw w.counts-is
+          (record {
+            added = omega (arith, told.added, was.added, up, sum_by_more (λ (x : Step). count_ones (came x)) log i none c.loop-step-test.true);
+            removed = omega (arith, told.removed, was.removed, down, sum_by_more (λ (x : Step). count_ones (went x)) log i none c.loop-step-test.true);
+            few_added = omega (arith, told.few_added, was.few_added);
+            few_removed = omega (arith, told.few_removed, was.few_removed);
+            turned = All-more (λ (x : Step). x.turned < 2 ^ 64) log i none c.loop-step-test.true was.turned told.appeared;
+          })
+      | else-step w ↦
+          let up : count_ones (came s) ≡ count_ones 0 = ap (λ b. count_ones (cond b s.turned 0)) w.if-step.false in
+          let down : count_ones (went s) ≡ count_ones s.turned = ap (λ b. count_ones (cond b 0 s.turned)) w.if-step.false in
+          let told = w.with_targets-counts-else-step.ensures in
+          rw w.counts-is
+          (record {
+            added = omega (arith, told.added, was.added, up, sum_by_more (λ (x : Step). count_ones (came x)) log i none c.loop-step-test.true);
+            removed = omega (arith, told.removed, was.removed, down, sum_by_more (λ (x : Step). count_ones (went x)) log i none c.loop-step-test.true);
+            few_added = omega (arith, told.few_added, was.few_added);
+            few_removed = omega (arith, told.few_removed, was.few_removed);
+            turned = All-more (λ (x : Step). x.turned < 2 ^ 64) log i none c.loop-step-test.true was.turned told.gone;
+          })
+    ]

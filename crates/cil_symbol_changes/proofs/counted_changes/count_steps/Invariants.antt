@@ -1,0 +1,15 @@
+use Rattle.std.proofs.Common.{◌≡◌, ◌*◌, ◌^◌, ◌<◌, ◌≤◌, count_ones, take}
+use Rattle.std.specs.List.{All, sum_by}
+use Rattle.cil_recorded.specs.declared.step.Step.{Step}
+use Rattle.cil_symbol_changes.specs.Counts.{came, went}
+use Rattle.cil_symbol_changes.proofs.counted_changes.count_steps.Given as goal
+
+-- the steps so far are counted
+abbrev pub invariant-loop-step : goal.invariant-loop-step
+invariant-loop-step l = record {
+  added : l.counts.added ≡ sum_by (λ s. count_ones (came s)) (take l.step-index l.log);
+  removed : l.counts.removed ≡ sum_by (λ s. count_ones (went s)) (take l.step-index l.log);
+  few_added : l.counts.added ≤ 2 ^ 32 * l.step-index;
+  few_removed : l.counts.removed ≤ 2 ^ 32 * l.step-index;
+  turned : All (λ (s : Step). s.turned < 2 ^ 64) (take l.step-index l.log);
+}
