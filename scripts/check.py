@@ -1,8 +1,8 @@
 #!/usr/bin/env python3
 """Has the built programs answer the scripts of scripts/*.cases, make the trials of trials/*.trials and do the commands of
-commands/*.commands, and compares what they print.
+commands/*.commands, and compares what they print; and has PROGRAM make the long sessions of long_session.py, whose memory must not grow.
 
-usage: check.py [FILE..]     (all files, where none is named)
+usage: check.py [FILE..]     (all files, where none is named; scripts/long_session.py for the long sessions)
 
 The programs are those that `make test` builds, or those of the variables PROGRAM, PLAIN and TRIALS. Each script and each trial is for both
 engines. There a program has to print what is wanted, to end with the exit status that follows from it, and to say nothing on standard
@@ -21,6 +21,7 @@ sys.path.insert(0, f"{TOP}/scripts")
 
 from cases import Fault, cases_of
 from commands import commands_of
+from long_session import SESSIONS
 from trials import trials_of
 
 PROGRAM = os.environ.get("PROGRAM", f"{TOP}/crates/cilsem/out/cilsem")
@@ -61,6 +62,9 @@ def tasks_of(path):
         for trial in trials_of(path, name):
             for engine, texts in trial.runs():
                 yield trial, engine, (make_trials, texts)
+    elif path.endswith(".py"):
+        for session in SESSIONS:
+            yield session, PROGRAM, (session.told, PROGRAM)
     elif path.endswith(".commands"):
         for command in commands_of(path, name):
             yield command, f"`{command.line}`", (command.ran, PROGRAM, SECONDS)
@@ -71,7 +75,7 @@ def tasks_of(path):
 
 
 def main(paths):
-    kinds = ("scripts/*.cases", "trials/*.trials", "commands/*.commands")
+    kinds = ("scripts/*.cases", "trials/*.trials", "commands/*.commands", "scripts/long_session.py")
     paths = paths or sorted(path for kind in kinds for path in glob.glob(f"{TOP}/{kind}"))
     passed = failed = 0
     with ThreadPoolExecutor(os.cpu_count()) as pool:

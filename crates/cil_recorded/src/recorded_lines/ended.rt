@@ -76,7 +76,8 @@ impl<A: Allocator> RecordedLines<A> {
     }
 
     /// Gives up the places of the words of steps that have no counter above 0. Steps of lines of which a counter above 0 was met are told
-    /// to be of no line. It takes no memory.
+    /// to be of no line. It goes from the newest step to the oldest: the words of a line come in order, so the last one is given up first,
+    /// and no word that has no counter is gone over again. It takes no memory.
     pub fn give_up_words(&mut self, steps: &mut Vec<Step, A>)
         requires settled { steps_in self.old ≡ 0 }
         ensures lines { lines_in self.new ≡ lines_in self.old }
@@ -84,7 +85,7 @@ impl<A: Allocator> RecordedLines<A> {
         ensures now { (l t : ℕ) → count_now self.new l t ≡ count_now self.old l t }
         ensures counted { (l : ℕ) → l < lines_in self.old → has_line steps.new.items l ≡ false → (has_line steps.old.items l ≡ false) ⊎ HasCount self.old l }
     {
-        for i in 0..steps.len() {
+        for i in (0..steps.len()).rev() {
             let step = steps[i];
             if self.give_up_word(step.line, step.word) {
                 mark_counted(steps, i, self.lines.len());
