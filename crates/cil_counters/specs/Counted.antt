@@ -32,6 +32,11 @@ WasBefore r c = IsCounted c.names r (member_rows.count_before c.rows) (access_ta
 abbrev pub HasFewNames : {A B C : Type 0} → (one other : Resolved A) (before : Counters B) (after : Counters C) → Type 0
 HasFewNames one other before after = length after.names ≤ max (length before.names) (length one.names.items + length other.names.items)
 
+-- No counter of an access is above the number of rules of two policies that give it.
+abbrev pub AreBounded : {A B C : Type 0} → (one : Resolved A) (other : Resolved B) → Counters C → Type 0
+AreBounded one other c = (kind : RuleKind) (key : SymbolKey) (t : ℕ)
+    → access_tables.count_now c.tables kind key t ≤ count_named c.names (meaning_in one) kind key t + count_named c.names (meaning_in other) kind key t
+
 -- how many steps there are that `undo` would take back
 abbrev pub steps_in : {A : Type 0} → Counters A → ℕ
 steps_in c = member_rows.steps_in c.rows + access_tables.steps_in c.tables

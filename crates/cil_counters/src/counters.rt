@@ -15,7 +15,7 @@ ghost use Rattle.cil_resolve.specs.Resolved.{meaning_in};
 ghost use Rattle.cil_resolve.specs.Sets.{sets_in};
 ghost use Rattle.cil_sets.specs.Members.{AreMembers};
 ghost use Rattle.cil_counters.specs.ChangeCounts.{CountsSome};
-ghost use Rattle.cil_counters.specs.Counted.{count_with, had_named, has_named, steps_in, AreSettled, AreTakenBack, HasFewNames, IsNow, WasBefore};
+ghost use Rattle.cil_counters.specs.Counted.{count_with, had_named, has_named, steps_in, AreBounded, AreSettled, AreTakenBack, HasFewNames, IsNow, WasBefore};
 ghost use Rattle.cil_symbol_tables.specs.Tables as access_tables;
 
 use crate::member_counts::members_of;
@@ -160,6 +160,7 @@ impl<A: Allocator + Copy> Counters<A> {
         ensures adjustments { OnOk result ((changes : report.Changes) → AreChanges (is_in_table (meaning_in old.now)) (is_in_table (meaning_in new.now)) changes
             → AdjustsFew (meaning_in old.now) (meaning_in new.now) changes (adjustments_in meter.old) (adjustments_in meter.new)) }
         ensures names { HasFewNames old.now new.now self.old self.new }
+        ensures bounded { AreBounded old.now new.now self.new }
     {
         let old_numbering = Numbering::known(alloc, &self.names, old)?;
         resolved_names_are_kept(old);
@@ -246,7 +247,7 @@ impl<A: Allocator + Copy> Counters<A> {
     /// Brings the counters from those of an old policy, which they hold, to those of a new one, in steps, and answers the changes from
     /// the access table of the old policy to that of the new one. The meter counts as an adjustment each counter of an access that it
     /// moves, and as an evaluation each look whether a set statement holds a type. Also after an out of memory `undo` leads back to
-    /// the old policy.
+    /// the old policy, and no counter of an access is above the number of rules of both policies that give it.
     pub fn update(
         &mut self,
         alloc: A,
@@ -262,6 +263,7 @@ impl<A: Allocator + Copy> Counters<A> {
         ensures evaluations { OnOk result (EvaluatesFew (meaning_in old.now) (meaning_in new.now) (evaluations_in meter.old) (evaluations_in meter.new)) }
         ensures adjustments { IfOk result (λ changes. AdjustsFew (meaning_in old.now) (meaning_in new.now) changes (adjustments_in meter.old) (adjustments_in meter.new)) }
         ensures names { HasFewNames old.now new.now self.old self.new }
+        ensures bounded { AreBounded old.now new.now self.new }
     {
         self.take_steps(alloc, old, new, meter)?;
         self.changes(alloc, old, new)
@@ -284,6 +286,7 @@ impl<A: Allocator + Copy> Counters<A> {
         ensures adjustments { OnOk result ((changes : report.Changes) → AreChanges (is_in_table (meaning_in old.now)) (is_in_table (meaning_in new.now)) changes
             → AdjustsFew (meaning_in old.now) (meaning_in new.now) changes (adjustments_in meter.old) (adjustments_in meter.new)) }
         ensures names { HasFewNames old.now new.now self.old self.new }
+        ensures bounded { AreBounded old.now new.now self.new }
     {
         self.take_steps(alloc, old, new, meter)?;
         self.names.len();

@@ -1,8 +1,9 @@
 -- Counters moved word by word, permission by permission and source by source.
-use Rattle.std.proofs.Common.{◌≡◌, ℕ, zero, suc, ◌+◌, ◌-◌, ◌^◌, ◌/◌, ◌%◌, ◌<◌, ◌≤◌, ◌==◌, ◌&&◌, ◌||◌, Bool, true, false, cond, nat_lt, nat_eq, List, length, take, get_or, refl, sym, ap, ◌∙◌, subst, inl, inr, arith, true≢false, bit_and, add-zero, zero-add}
+use Rattle.std.proofs.Common.{◌≡◌, ℕ, zero, suc, ◌+◌, ◌-◌, ◌^◌, ◌/◌, ◌%◌, ◌<◌, ◌≤◌, ◌==◌, ◌&&◌, ◌||◌, Bool, true, false, cond, nat_lt, nat_eq, List, [], ◌∷◌, length, take, get_or, refl, sym, ap, ◌∙◌, subst, inl, inr, arith, le_of_eq, true≢false, bit_and, add-zero, zero-add}
 use Rattle.std.specs.List.Sorted.{IsStrictlyIncreasing}
 use Rattle.std.proofs.lemmas.Bool.{cases_eq, cases_lt, eq-eqb, ne_eqb, eqb-true, lt-ltb, le-ltb}
 use Rattle.std.proofs.lemmas.List.Folds.{list_any_at, list_any_more}
+use Rattle.std.specs.List.{list_any}
 use Rattle.std.proofs.lemmas.List.Kept.{AllPairs-from_increasing}
 use Rattle.std.proofs.lemmas.Nat.Bits.{bit_at_and}
 use Rattle.cil_lines.specs.Line.{hit}
@@ -41,6 +42,22 @@ hit-less word a b t =
           omega (arith, one, other)
       | inr apart ↦ let none = hit-there word (bit_and a b) t apart in omega (arith, none)
     ]
+
+-- what stands in the front of a list stands in the list
+any-taken : (test : ℕ → Bool) (xs : List ℕ) (n : ℕ) → list_any test (take n xs) ≡ true → list_any test xs ≡ true
+any-taken test [] zero any = any
+any-taken test [] (suc n) any = any
+any-taken test (x ∷ xs) zero any = absurd (true≢false (sym any))
+any-taken test (x ∷ xs) (suc n) any = by (test x) any (any-taken test xs n)
+  where
+    by : (b : Bool) → (b || list_any test (take n xs)) ≡ true → (list_any test (take n xs) ≡ true → list_any test xs ≡ true) → (b || list_any test xs) ≡ true
+    by true first behind = refl
+    by false rest behind = behind rest
+
+-- a test that holds where another one does counts as much at least
+one-less : (a b w : Bool) → (a ≡ true → b ≡ true) → one_if (a && w) ≤ one_if (b && w)
+one-less true b w holds = le_of_eq (ap (λ c. one_if (c && w)) (sym (holds refl)))
+one-less false b w holds = omega arith
 
 -- a permission that stands in the front of a rising list is below the next
 bounded : (xs : List ℕ) → IsStrictlyIncreasing xs → (i p : ℕ) → i < length xs → has_permission (take i xs) p ≡ true → p < get_or xs i 0
@@ -105,6 +122,15 @@ module _ (xs : List ℕ) (rising : IsStrictlyIncreasing xs) (i p : ℕ) (within 
       ∙ ap (λ b. one_if (b && w)) (sym (more q))
   line-more true false w q = refl
   line-more false c w q = refl
+
+  -- are lines of the whole list
+  pub line-within : (s c w : Bool) (q : ℕ) → one_if ((s && (c && has_permission (take i xs) q)) && w) + one_if ((s && (c && (p == q))) && w) ≤ one_if ((s && (c && has_permission xs q)) && w)
+  line-within s c w q = let less = one-less (s && (c && has_permission (take (i + 1) xs) q)) (s && (c && has_permission xs q)) w (there s c) in omega (arith, line-more s c w q, less)
+    where
+      there : (s c : Bool) → (s && (c && has_permission (take (i + 1) xs) q)) ≡ true → (s && (c && has_permission xs q)) ≡ true
+      there true true front = any-taken (nat_eq q) xs (i + 1) front
+      there true false front = front
+      there false c front = front
 
   module _ (source class : ℕ) where
     abbrev key : SymbolKey

@@ -27,6 +27,7 @@ fn shift_line<A: Allocator + Copy>(
     requires counted { (t : ℕ) → one_if (takes was.now key.source t) ≤ count_now lines.old key t }
     ensures now { OnOk result ((k : SymbolKey) (t : ℕ) → count_now lines.new k t + one_if (is_key key k && takes was.now key.source t)
         ≡ count_now lines.old k t + one_if (is_key key k && takes is.now key.source t)) }
+    ensures bounded { (k : SymbolKey) (t : ℕ) → count_now lines.new k t ≤ count_now lines.old k t + one_if (is_key key k && takes is.now key.source t) }
     ensures before { (k : SymbolKey) (t : ℕ) → count_before lines.new k t ≡ count_before lines.old k t }
     ensures moved { IfOk result (RisesBy (moves_in key was.now is.now) 0) }
 {
@@ -57,6 +58,7 @@ fn shift_lines<A: Allocator + Copy>(
     requires counted { (k : SymbolKey) (t : ℕ) → one_if (is_line source class permissions.now k && takes was.now source t) ≤ count_now lines.old k t }
     ensures now { OnOk result ((k : SymbolKey) (t : ℕ) → count_now lines.new k t + one_if (is_line source class permissions.now k && takes was.now source t)
         ≡ count_now lines.old k t + one_if (is_line source class permissions.now k && takes is.now source t)) }
+    ensures bounded { (k : SymbolKey) (t : ℕ) → count_now lines.new k t ≤ count_now lines.old k t + one_if (is_line source class permissions.now k && takes is.now source t) }
     ensures before { (k : SymbolKey) (t : ℕ) → count_before lines.new k t ≡ count_before lines.old k t }
     ensures moved { IfOk result (RisesBy (moves_for source class permissions.now was.now is.now) 0) }
 {
@@ -120,6 +122,7 @@ fn shift_source<A: Allocator + Copy>(
     requires counted { (k : SymbolKey) (t : ℕ) → one_if ((source == k.source) && gives was.now class permissions.now k t) ≤ count_now lines.old k t }
     ensures now { OnOk result ((k : SymbolKey) (t : ℕ) → count_now lines.new k t + one_if ((source == k.source) && gives was.now class permissions.now k t)
         ≡ count_now lines.old k t + one_if ((source == k.source) && gives is.now class permissions.now k t)) }
+    ensures bounded { (k : SymbolKey) (t : ℕ) → count_now lines.new k t ≤ count_now lines.old k t + one_if ((source == k.source) && gives is.now class permissions.now k t) }
     ensures before { (k : SymbolKey) (t : ℕ) → count_before lines.new k t ≡ count_before lines.old k t }
     ensures moved { IfOk result (RisesBy (moves_of source was.now is.now class permissions.now) 0) }
 {
@@ -155,6 +158,7 @@ fn shift_sources<A: Allocator + Copy>(
     requires counted { (k : SymbolKey) (t : ℕ) → one_if (gives was.now class permissions.now k t) ≤ count_now lines.old k t }
     ensures now { OnOk result ((k : SymbolKey) (t : ℕ) → count_now lines.new k t + one_if (gives was.now class permissions.now k t)
         ≡ count_now lines.old k t + one_if (gives is.now class permissions.now k t)) }
+    ensures bounded { (k : SymbolKey) (t : ℕ) → count_now lines.new k t ≤ count_now lines.old k t + one_if (gives is.now class permissions.now k t) }
     ensures before { (k : SymbolKey) (t : ℕ) → count_before lines.new k t ≡ count_before lines.old k t }
     ensures moved { IfOk result (RisesBy (moves_where was.now is.now class permissions.now) 0) }
 {
@@ -171,7 +175,7 @@ fn shift_sources<A: Allocator + Copy>(
 
 /// Moves the counters of what a rule of a class gave by its permissions to those of what it gives, and answers how many moved, or the
 /// greatest `u128` where they are more. The permissions are symbols, each once and in their order. After an out of memory some counters
-/// may have moved; their steps are logged.
+/// may have moved; their steps are logged. No counter is more than 1 above what it was then, either.
 pub fn shift_rule<A: Allocator + Copy>(
     lines: &mut KeyedLines<A>,
     alloc: A,
@@ -186,6 +190,7 @@ pub fn shift_rule<A: Allocator + Copy>(
     requires counted { (k : SymbolKey) (t : ℕ) → one_if (gives was.now class permissions.now k t) ≤ count_now lines.old k t }
     ensures now { OnOk result ((k : SymbolKey) (t : ℕ) → count_now lines.new k t + one_if (gives was.now class permissions.now k t)
         ≡ count_now lines.old k t + one_if (gives is.now class permissions.now k t)) }
+    ensures bounded { (k : SymbolKey) (t : ℕ) → count_now lines.new k t ≤ count_now lines.old k t + one_if (gives is.now class permissions.now k t) }
     ensures before { (k : SymbolKey) (t : ℕ) → count_before lines.new k t ≡ count_before lines.old k t }
     ensures moved { IfOk result (RisesBy (moves_where was.now is.now class permissions.now) 0) }
 {

@@ -107,6 +107,54 @@ module _ {A : Type 0} (old : SymbolTables A) (was is : SymbolKey → ℕ → Boo
       by DontAudit key t = refl
       by NeverAllow key t = moved key t
 
+-- the counters of one kind rise by what a rule gives at most, and those of others stay
+module _ {A : Type 0} (old : SymbolTables A) (gives : SymbolKey → ℕ → Bool) (lines : Keyed) where
+  abbrev IsBounded : Keyed → Type 0
+  IsBounded before = (key : SymbolKey) (t : ℕ) → keyed.count_now lines key t ≤ keyed.count_now before key t + one_if (gives key t)
+
+  abbrev AreBounded : RuleKind → SymbolTables A → Type 0
+  AreBounded kind new = (other : RuleKind) (key : SymbolKey) (t : ℕ) → count_now new other key t ≤ count_now old other key t + one_if (is_kind kind other && gives key t)
+
+  pub bounded-allow : (kind : RuleKind) → kind ≡ Allow → IsBounded old.allow → AreBounded kind (record old { allow = lines })
+  unfolding count_now
+  bounded-allow kind at bounded = subst (λ k. AreBounded k (record old { allow = lines })) (sym at) by
+    where
+      by : AreBounded Allow (record old { allow = lines })
+      by Allow key t = bounded key t
+      by AuditAllow key t = omega arith
+      by DontAudit key t = omega arith
+      by NeverAllow key t = omega arith
+
+  pub bounded-auditallow : (kind : RuleKind) → kind ≡ AuditAllow → IsBounded old.auditallow → AreBounded kind (record old { auditallow = lines })
+  unfolding count_now
+  bounded-auditallow kind at bounded = subst (λ k. AreBounded k (record old { auditallow = lines })) (sym at) by
+    where
+      by : AreBounded AuditAllow (record old { auditallow = lines })
+      by Allow key t = omega arith
+      by AuditAllow key t = bounded key t
+      by DontAudit key t = omega arith
+      by NeverAllow key t = omega arith
+
+  pub bounded-dontaudit : (kind : RuleKind) → kind ≡ DontAudit → IsBounded old.dontaudit → AreBounded kind (record old { dontaudit = lines })
+  unfolding count_now
+  bounded-dontaudit kind at bounded = subst (λ k. AreBounded k (record old { dontaudit = lines })) (sym at) by
+    where
+      by : AreBounded DontAudit (record old { dontaudit = lines })
+      by Allow key t = omega arith
+      by AuditAllow key t = omega arith
+      by DontAudit key t = bounded key t
+      by NeverAllow key t = omega arith
+
+  pub bounded-neverallow : (kind : RuleKind) → kind ≡ NeverAllow → IsBounded old.neverallow → AreBounded kind (record old { neverallow = lines })
+  unfolding count_now
+  bounded-neverallow kind at bounded = subst (λ k. AreBounded k (record old { neverallow = lines })) (sym at) by
+    where
+      by : AreBounded NeverAllow (record old { neverallow = lines })
+      by Allow key t = omega arith
+      by AuditAllow key t = omega arith
+      by DontAudit key t = omega arith
+      by NeverAllow key t = bounded key t
+
 -- what stays where one kind's lines do
 module _ {A : Type 0} (old : SymbolTables A) (lines : Keyed) where
   abbrev IsKept : Keyed → Type 0

@@ -1,5 +1,5 @@
 -- A rule's counters moved by what it reaches.
-use Rattle.std.proofs.Common.{◌≡◌, ℕ, ◌+◌, ◌≤◌, ◌==◌, ◌&&◌, Bool, true, false, List, slice_index, refl, sym, ap, ◌∙◌, subst, add-zero}
+use Rattle.std.proofs.Common.{◌≡◌, ℕ, ◌+◌, ◌≤◌, ◌==◌, ◌&&◌, Bool, true, false, List, slice_index, refl, sym, ap, ◌∙◌, subst, add-zero, arith}
 use Rattle.std.proofs.lemmas.Bool.{eq-eqb}
 use Rattle.cil_specs.specs.Rule.{kind_index}
 use Rattle.cil_text.specs.Image.{rule_kind_of}
@@ -70,6 +70,19 @@ module _ {A B : Type 0} (symbols : List ℕ) (rule : NumberedRule A) (was is : R
       ap (λ k. new kind key t + one_if (is_kind k kind && covered key t)) alike
       ∙ sym (ap (λ b. new kind key t + one_if (is_kind rule.kind kind && b)) (was_same key t))
       ∙ moved kind key t ∙ ap (λ b. old kind key t + one_if (is_kind rule.kind kind && b)) (is_same key t)
+
+-- counters that rise by what a rule covers at most
+pub bounded-covered : (rule_kind : RuleKind) (gives covers : SymbolKey → ℕ → Bool) (new old : RuleKind → SymbolKey → ℕ → ℕ) → ((key : SymbolKey) (t : ℕ) → gives key t ≡ covers key t)
+    → ((kind : RuleKind) (key : SymbolKey) (t : ℕ) → new kind key t ≤ old kind key t + one_if (is_kind rule_kind kind && gives key t))
+    → (kind : RuleKind) (key : SymbolKey) (t : ℕ) → new kind key t ≤ old kind key t + one_if (is_kind rule_kind kind && covers key t)
+bounded-covered rule_kind gives covers new old same bounded kind key t =
+    subst (λ b. new kind key t ≤ old kind key t + one_if (is_kind rule_kind kind && b)) (same key t) (bounded kind key t)
+
+pub bounded-nothing : (rule_kind : RuleKind) (gives : SymbolKey → ℕ → Bool) (new old : RuleKind → SymbolKey → ℕ → ℕ) → ((key : SymbolKey) (t : ℕ) → gives key t ≡ false)
+    → ((kind : RuleKind) (key : SymbolKey) (t : ℕ) → new kind key t ≤ old kind key t + one_if (is_kind rule_kind kind && gives key t)) → (kind : RuleKind) (key : SymbolKey) (t : ℕ) → new kind key t ≤ old kind key t
+bounded-nothing rule_kind gives new old none bounded kind key t =
+    let zero = ap (λ b. one_if (is_kind rule_kind kind && b)) (none key t) ∙ and-no (is_kind rule_kind kind) in
+    omega (arith, bounded kind key t, zero)
 
 -- what is counted of a rule's kind
 pub counted-kind : (kind_of_old kind : RuleKind) (gives covered : SymbolKey → ℕ → Bool) (counts : RuleKind → SymbolKey → ℕ → ℕ) → kind_of_old ≡ kind → ((key : SymbolKey) (t : ℕ) → gives key t ≡ covered key t)

@@ -1,6 +1,6 @@
 //! Tables brought from an old policy to a new one.
 
-ghost use Rattle.std.specs.Prelude.{◌≡◌, ◌≤◌, ℕ, length, OnOk};
+ghost use Rattle.std.specs.Prelude.{◌≡◌, ◌+◌, ◌≤◌, ℕ, length, OnOk};
 ghost use Rattle.cil_member_rows.specs.Rows as members;
 ghost use Rattle.cil_parse.specs.Lexicon.{AreNumbersOf};
 ghost use Rattle.cil_resolve.specs.Meter.{adjustments_in, evaluations_in};
@@ -25,7 +25,8 @@ use std::alloc::{AllocError, Allocator};
 
 /// Brings the tables of an old policy to a new one in steps, which `undo` takes back, also after an out of memory. The rows hold
 /// the members of the old policy before their steps, and those of the new one now. Rules that both policies have, of the same module,
-/// offset and content, are passed over where the members of their source and target stayed. The meter counts each counter that moves.
+/// offset and content, are passed over where the members of their source and target stayed. The meter counts each counter that moves. No
+/// counter is ever above the number of rules of both policies that give its access.
 pub fn update<A: Allocator + Copy>(
     tables: &mut SymbolTables<A>,
     alloc: A,
@@ -44,6 +45,8 @@ pub fn update<A: Allocator + Copy>(
     requires stands { (kind : RuleKind) (key : SymbolKey) (t : ℕ) → count_now tables.old kind key t ≡ count_named names.now (meaning_in old.resolved.now) kind key t }
     ensures now { OnOk result ((kind : RuleKind) (key : SymbolKey) (t : ℕ) → count_now tables.new kind key t ≡ count_named names.now (meaning_in new.entry.resolved.now) kind key t) }
     ensures before { (kind : RuleKind) (key : SymbolKey) (t : ℕ) → count_before tables.new kind key t ≡ count_before tables.old kind key t }
+    ensures bounded { (kind : RuleKind) (key : SymbolKey) (t : ℕ) → count_now tables.new kind key t ≤ count_named names.now (meaning_in old.entry.resolved.now) kind key t
+        + count_named names.now (meaning_in new.entry.resolved.now) kind key t }
     ensures at_most { OnOk result (AdjustsAtMost (meaning_in old.entry.resolved.now) (meaning_in new.entry.resolved.now) (adjustments_in meter.old) (adjustments_in meter.new)) }
     ensures at_least { OnOk result (AdjustsAtLeast (count_now tables.old) (count_now tables.new) (adjustments_in meter.old) (adjustments_in meter.new)) }
     ensures evaluations { evaluations_in meter.new ≡ evaluations_in meter.old }

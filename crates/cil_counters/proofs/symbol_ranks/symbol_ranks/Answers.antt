@@ -19,7 +19,7 @@ loop-place-preserved g c =
       | in-Some+in_ok-numbers-2 w ↦
           let symbol = w.in-Some.symbol in
           let found : position (bytes_eq name) symbols ≡ Some symbol = sym c.find.ensures ∙ w.in-Some.is in
-          let is = ap (λ v. v.items) w.numbers-is ∙ ap (λ n. set numbers symbol n) w.in_ok-numbers-2.ensures in
+          let is = ap (λ v. v.items) w.numbers-is ∙ ap (λ n. set numbers symbol n) w.in_ok-numbers-2.ensures.same in
           subst (AreRanks names symbols (place + 1)) (sym is) (ranks-more names symbols place name numbers at c.loop-place.invariant (names-apart symbols c.len.ensures.distinct) symbol found)
       | in_default w ↦
           subst (λ v. AreRanks names symbols (place + 1) v.items) (sym w.numbers-is) (ranks-past names symbols place name numbers at c.loop-place.invariant (sym c.find.ensures ∙ w.in_default.is))

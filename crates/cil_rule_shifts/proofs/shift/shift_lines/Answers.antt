@@ -3,7 +3,7 @@ use Rattle.cil_keyed_lines.specs.Keyed.{count_now}
 use Rattle.cil_keyed_lines.specs.declared.symbol_key.SymbolKey.{SymbolKey}
 use Rattle.cil_rule_shifts.specs.Reach.{takes}
 use Rattle.cil_rule_shifts.proofs.MoveLemmas.{lines-step}
-use Rattle.cil_rule_shifts.proofs.ShiftLemmas.{above-line, line-more}
+use Rattle.cil_rule_shifts.proofs.ShiftLemmas.{above-line, line-more, line-within}
 use Rattle.cil_rule_shifts.proofs.shift.shift_lines.Goals as goal
 
 pub shift_line-requires-clause-counted : goal.shift_line-requires-clause-counted
@@ -29,3 +29,12 @@ loop-permission-preserved g c = (
   lines-step c.args.source c.args.class c.args.permissions.now c.requires.permissions c.args.was.now c.args.is.now c.loop-permission.permission-index c.loop-permission.moved c.in_ok-here.here c.saturating_add-moved.result
       c.loop-permission-test.true c.loop-permission.invariant.2 c.in_ok-here.ensures.moved c.saturating_add-moved.ensures,
 )
+
+pub returns-in_err-here-clause-bounded : goal.returns-in_err-here-clause-bounded
+returns-in_err-here-clause-bounded g c k t =
+    let xs = c.args.permissions.now in
+    let i = c.loop-permission.permission-index in
+    let within = line-within xs c.requires.permissions i (slice_index_or xs i 0) c.loop-permission-test.true refl (c.args.source == k.source) (c.args.class == k.class) (takes c.args.is.now c.args.source t) k.permission in
+    let step = c.in_err-here.ensures.bounded k t in
+    let moved = c.loop-permission.invariant.0 k t in
+    omega (arith, within, step, moved)

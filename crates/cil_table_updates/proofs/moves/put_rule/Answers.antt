@@ -2,8 +2,9 @@ use Rattle.std.proofs.lemmas.Result.{on_ok_weaker}
 use Rattle.cil_resolve.specs.Meter.{adjustments_in}
 use Rattle.cil_rule_reach.specs.Reaches.{covers_by, members_of}
 use Rattle.cil_symbol_tables.specs.Tables.{count_now}
+use Rattle.cil_table_updates.specs.Moves.{gives_as}
 use Rattle.cil_table_updates.proofs.AdjustedLemmas.{put-rises}
-use Rattle.cil_table_updates.proofs.MoveLemmas.{gives-covered, gives-nothing, put-moved}
+use Rattle.cil_table_updates.proofs.MoveLemmas.{bounded-covered, gives-covered, gives-nothing, put-moved}
 use Rattle.cil_table_updates.proofs.moves.put_rule.Goals as goal
 
 pub returns-clause-now : goal.returns-clause-now
@@ -27,3 +28,11 @@ returns-clause-adjustments g c =
     put-rises symbols rule c.none.result c.in_ok-is.is' (adjustments_in c.args.meter.now) (adjustments_in c.shift_as.new.meter) rises (covers_by members symbols rule) (gives-nothing symbols rule c.none.result c.none.ensures.none)
     (gives-covered symbols rule c.in_ok-is.is' members c.in_ok-is.ensures.sources c.in_ok-is.ensures.targets))
     c.shift_as.ensures.adjustments
+
+pub returns-clause-bounded : goal.returns-clause-bounded
+returns-clause-bounded g c =
+    let symbols = c.args.policy.now.numbering.now.symbols in
+    let members = members_of c.args.policy.now.members in
+    let rule = c.args.rule.now in
+    bounded-covered rule.kind (gives_as symbols rule c.in_ok-is.is') (covers_by members symbols rule) (count_now c.shift_as.new.tables) (count_now c.args.tables.now)
+    (gives-covered symbols rule c.in_ok-is.is' members c.in_ok-is.ensures.sources c.in_ok-is.ensures.targets) c.shift_as.ensures.bounded

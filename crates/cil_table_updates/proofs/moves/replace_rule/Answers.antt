@@ -5,7 +5,7 @@ use Rattle.cil_rule_reach.specs.Reaches.{covers_by, members_of}
 use Rattle.cil_symbol_tables.specs.Tables.{count_now}
 use Rattle.cil_table_updates.specs.Moves.{gives_as}
 use Rattle.cil_table_updates.proofs.AdjustedLemmas.{replace-rises}
-use Rattle.cil_table_updates.proofs.MoveLemmas.{counted-kind, covered-alike, gives-covered, replace-moved}
+use Rattle.cil_table_updates.proofs.MoveLemmas.{bounded-covered, counted-kind, covered-alike, gives-covered, replace-moved}
 use Rattle.cil_table_updates.proofs.moves.replace_rule.Goals as goal
 
 pub shift_as-requires-clause-counted : goal.shift_as-requires-clause-counted
@@ -56,3 +56,11 @@ returns-clause-adjustments g c =
     ∙ gives-covered was_symbols was_rule c.in_ok-was.was' was_members c.in_ok-was.ensures.sources c.in_ok-was.ensures.targets key t)
     (gives-covered symbols rule c.in_ok-is.is' members c.in_ok-is.ensures.sources c.in_ok-is.ensures.targets))
     c.shift_as.ensures.adjustments
+
+pub returns-clause-bounded : goal.returns-clause-bounded
+returns-clause-bounded g c =
+    let symbols = c.args.new.now.numbering.now.symbols in
+    let members = members_of c.args.new.now.members in
+    let rule = c.args.new_rule.now in
+    bounded-covered rule.kind (gives_as symbols rule c.in_ok-is.is') (covers_by members symbols rule) (count_now c.shift_as.new.tables) (count_now c.args.tables.now)
+    (gives-covered symbols rule c.in_ok-is.is' members c.in_ok-is.ensures.sources c.in_ok-is.ensures.targets) c.shift_as.ensures.bounded

@@ -5,7 +5,7 @@ use Rattle.cil_rule_reach.specs.Reaches.{covers_by, members_of}
 use Rattle.cil_symbol_tables.specs.Tables.{count_now}
 use Rattle.cil_table_updates.specs.Moves.{gives_as}
 use Rattle.cil_table_updates.proofs.AdjustedLemmas.{take-rises}
-use Rattle.cil_table_updates.proofs.MoveLemmas.{counted-kind, gives-covered, gives-nothing, take-moved}
+use Rattle.cil_table_updates.proofs.MoveLemmas.{bounded-nothing, counted-kind, gives-covered, gives-nothing, take-moved}
 use Rattle.cil_table_updates.proofs.moves.take_rule.Goals as goal
 
 pub shift_as-requires-clause-counted : goal.shift_as-requires-clause-counted
@@ -37,3 +37,9 @@ returns-clause-adjustments g c =
     take-rises symbols rule c.in_ok-was.was' c.none.result (adjustments_in c.args.meter.now) (adjustments_in c.shift_as.new.meter) rises (covers_by members symbols rule) (gives-nothing symbols rule c.none.result c.none.ensures.none)
     (gives-covered symbols rule c.in_ok-was.was' members c.in_ok-was.ensures.sources c.in_ok-was.ensures.targets))
     c.shift_as.ensures.adjustments
+
+pub returns-clause-bounded : goal.returns-clause-bounded
+returns-clause-bounded g c =
+    let symbols = c.args.policy.now.numbering.now.symbols in
+    let rule = c.args.rule.now in
+    bounded-nothing rule.kind (gives_as symbols rule c.none.result) (count_now c.shift_as.new.tables) (count_now c.args.tables.now) (gives-nothing symbols rule c.none.result c.none.ensures.none) c.shift_as.ensures.bounded

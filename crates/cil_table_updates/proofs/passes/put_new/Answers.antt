@@ -40,3 +40,11 @@ loop-j-preserved g c = record {
       c.in_ok-put_or_replace.ensures.adjustments;
   evaluations = c.in_ok-put_or_replace.ensures.evaluations ∙ c.loop-j.invariant.evaluations;
 }
+
+pub returns-in_err-put_or_replace-clause-bounded : goal.returns-in_err-put_or_replace-clause-bounded
+returns-in_err-put_or_replace-clause-bounded g c kind key t =
+    let within = subst (λ l. c.loop-j.j < length l) c.rules-j-end.ensures.rules c.loop-j-test.true in
+    let part = sum-part (given c.args.new.now kind key t) c.loop-j.j (length c.args.new.now.resolved.now.rules.items) within in
+    let put = c.loop-j.invariant.now kind key t in
+    let one = c.in_err-put_or_replace.ensures.bounded kind key t in
+    omega (arith, part, put, one)

@@ -1,4 +1,4 @@
-use Rattle.std.proofs.Common.{◌≡◌, ◌+◌, ◌≤◌, ◌==◌, ◌∙◌, false, sym, ap, add-zero, length, not, slice_get, subst, Some}
+use Rattle.std.proofs.Common.{◌≡◌, ◌+◌, ◌≤◌, ◌==◌, ◌∙◌, false, sym, ap, add-zero, arith, length, not, slice_get, subst, Some}
 use Rattle.std.proofs.lemmas.Result.{on_ok_weaker}
 use Rattle.cil_resolve.specs.Below.{is_rule_below}
 use Rattle.cil_resolve.specs.Meter.{adjustments_in}
@@ -73,3 +73,10 @@ returns-in-None-clause-adjustments g c =
     (across-none (given old x.kind x.key x.target) c.args.matching.now.back c.args.j
     (never (λ i. slice_get c.args.matching.now.back c.args.j ≡ Some (Some i)) c.old_place.result c.old_place.ensures c.in-None.is)))))
     c.put_rule.ensures.adjustments
+
+pub returns-in-None-clause-bounded : goal.returns-in-None-clause-bounded
+returns-in-None-clause-bounded g c kind key t =
+    let rules = c.args.new.now.resolved.now.rules.items in
+    let read = read-at c.rules.result.now rules c.args.j c.index-rules-j.result c.rules.ensures.rules c.requires.within c.index-rules-j.is in
+    let gives = given-rule c.args.new.now kind key t c.args.j c.index-rules-j.result read in
+    omega (arith, c.put_rule.ensures.bounded kind key t, gives)

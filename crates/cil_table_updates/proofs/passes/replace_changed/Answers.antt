@@ -123,3 +123,11 @@ returns-clause-adjustments g c =
     ∙ sym (ap (λ n. not (n == one_if (gives_it c.args.new.now c.index-rules-j.result x))) (given-rule c.args.old.now x.kind x.key x.target c.args.i c.index-rules-i.result read))
     ∙ sym (ap (λ n. not (given c.args.old.now x.kind x.key x.target c.args.i == n)) (given-rule c.args.new.now x.kind x.key x.target c.args.j c.index-rules-j.result other))))
     c.replace_rule.ensures.adjustments
+
+pub returns-clause-bounded : goal.returns-clause-bounded
+returns-clause-bounded g c kind key t =
+    let rules = c.args.new.now.resolved.now.rules.items in
+    let within = slice_get_within rules c.args.j c.requires.replaced.new_rule c.requires.replaced.there in
+    let read = read-at c.rules.result.now rules c.args.j c.index-rules-j.result c.rules.ensures.rules within c.index-rules-j.is in
+    let gives = given-rule c.args.new.now kind key t c.args.j c.index-rules-j.result read in
+    omega (arith, c.replace_rule.ensures.bounded kind key t, gives)

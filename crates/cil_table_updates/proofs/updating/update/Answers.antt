@@ -1,4 +1,4 @@
-use Rattle.std.proofs.Common.{◌∙◌, length, sym, ap, subst}
+use Rattle.std.proofs.Common.{◌∙◌, arith, length, sym, ap, subst}
 use Rattle.std.proofs.lemmas.Result.{on_ok_weaker}
 use Rattle.cil_matching.proofs.ApartLemmas.{apart-rules}
 use Rattle.cil_resolve.specs.Meter.{adjustments_in}
@@ -71,3 +71,13 @@ returns-clause-at_least g c =
     rises-at-least old new c.in_ok-matching.matching (length old.resolved.now.rules.items) (length new.resolved.now.rules.items) (adjustments_in c.args.meter.now) (adjustments_in c.take_gone.new.meter) (adjustments_in c.put_new.new.meter)
     c.in_ok-take_gone.ensures.adjustments rises (count_now c.args.tables.now) (count_now c.take_gone.new.tables) (count_now c.put_new.new.tables) c.in_ok-take_gone.ensures.now put)
     c.put_new.ensures.adjustments c.put_new.ensures.now
+
+pub returns-clause-bounded : goal.returns-clause-bounded
+returns-clause-bounded g c kind key t =
+    let put = c.put_new.ensures.bounded kind key t in
+    let taken = c.in_ok-take_gone.ensures.bounded kind key t in
+    let stands = c.requires.stands kind key t in
+    let named =
+    given-named c.args.names.now c.of-new.ensures.apart c.of-new.result c.of-new.ensures.policy kind key t c.of-new.ensures.below c.of-new.ensures.consistent
+    ∙ ap (λ r. count_named c.args.names.now (meaning_in r) kind key t) c.of-new.ensures.resolved in
+    omega (arith, put, taken, stands, named)

@@ -100,3 +100,6 @@ returns-clause-adjustments g c =
     (subst (λ l. list_all (is_rule_below (length new.names.items)) l ≡ true) c.rules-2.ensures.rules c.rules-2.ensures.within))
     changes are between after both.0 both.1))
     (on-ok-both c.update.result (λ most least. (most, least)) c.update.ensures.at_most c.update.ensures.at_least) c.update.ensures.now
+
+pub returns-in_err-old_numbering-clause-bounded : goal.returns-in_err-old_numbering-clause-bounded
+returns-in_err-old_numbering-clause-bounded g c kind key t = bounded-now c.args.old.now c.args.new.now c.args.self.now c.requires.now kind key t

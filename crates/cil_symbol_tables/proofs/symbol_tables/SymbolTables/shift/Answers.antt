@@ -1,7 +1,7 @@
 use Rattle.std.proofs.lemmas.Result.{on_ok_weaker}
 use Rattle.cil_rule_shifts.specs.Reach.{gives, one_if}
 use Rattle.cil_text.specs.declared.statement.RuleKind.TheVariants.{Allow, AuditAllow, DontAudit, NeverAllow}
-use Rattle.cil_symbol_tables.proofs.KindLemmas.{above-of, kept-allow, kept-auditallow, kept-dontaudit, kept-neverallow, moved-allow, moved-auditallow, moved-dontaudit, moved-neverallow}
+use Rattle.cil_symbol_tables.proofs.KindLemmas.{above-of, bounded-allow, bounded-auditallow, bounded-dontaudit, bounded-neverallow, kept-allow, kept-auditallow, kept-dontaudit, kept-neverallow, moved-allow, moved-auditallow, moved-dontaudit, moved-neverallow}
 use Rattle.cil_symbol_tables.proofs.symbol_tables.SymbolTables.shift.Goals as goal
 
 pub shift_rule-requires-clause-counted : goal.shift_rule-requires-clause-counted
@@ -51,3 +51,15 @@ returns-in-NeverAllow-clause-now g c =
 
 pub returns-in-NeverAllow-clause-before : goal.returns-in-NeverAllow-clause-before
 returns-in-NeverAllow-clause-before g c = kept-neverallow {A = g.row.A.Denot} c.args.self.now c.shift_rule-in-NeverAllow.new.lines c.shift_rule-in-NeverAllow.ensures.before
+
+pub returns-in-Allow-clause-bounded : goal.returns-in-Allow-clause-bounded
+returns-in-Allow-clause-bounded g c = bounded-allow {A = g.row.A.Denot} c.args.self.now (gives c.args.is.now c.args.class c.args.permissions.now) c.shift_rule.new.lines c.args.kind c.in-Allow.is c.shift_rule.ensures.bounded
+
+pub returns-in-AuditAllow-clause-bounded : goal.returns-in-AuditAllow-clause-bounded
+returns-in-AuditAllow-clause-bounded g c = bounded-auditallow {A = g.row.A.Denot} c.args.self.now (gives c.args.is.now c.args.class c.args.permissions.now) c.shift_rule-in-AuditAllow.new.lines c.args.kind c.in-AuditAllow.is c.shift_rule-in-AuditAllow.ensures.bounded
+
+pub returns-in-DontAudit-clause-bounded : goal.returns-in-DontAudit-clause-bounded
+returns-in-DontAudit-clause-bounded g c = bounded-dontaudit {A = g.row.A.Denot} c.args.self.now (gives c.args.is.now c.args.class c.args.permissions.now) c.shift_rule-in-DontAudit.new.lines c.args.kind c.in-DontAudit.is c.shift_rule-in-DontAudit.ensures.bounded
+
+pub returns-in-NeverAllow-clause-bounded : goal.returns-in-NeverAllow-clause-bounded
+returns-in-NeverAllow-clause-bounded g c = bounded-neverallow {A = g.row.A.Denot} c.args.self.now (gives c.args.is.now c.args.class c.args.permissions.now) c.shift_rule-in-NeverAllow.new.lines c.args.kind c.in-NeverAllow.is c.shift_rule-in-NeverAllow.ensures.bounded
