@@ -7,3 +7,4 @@ pub mod TableLemmas
 pub mod MemberLemmas
 pub mod KeptLemmas
 pub mod ChangeCountLemmas
+pub mod BoundLemmas

@@ -1,12 +1,12 @@
 //! What counters say by full names. The functions have no code.
 
-ghost use Rattle.std.specs.Prelude.{◌≡◌, ◌↔◌, ℕ, List, IsTrue};
+ghost use Rattle.std.specs.Prelude.{◌≡◌, ◌↔◌, ◌+◌, ◌≤◌, ℕ, List, IsTrue};
 ghost use Rattle.cil_delta_specs.specs.Dirty.{IsChanged};
 ghost use Rattle.cil_specs.specs.Meaning.{count_of};
 ghost use Rattle.cil_specs.specs.Members.{is_member};
 ghost use Rattle.cil_specs.specs.Sets.{differ};
 ghost use Rattle.cil_resolve.specs.Resolved.{meaning_in};
-ghost use Rattle.cil_counters.specs.Counted.{atom_with, count_with, had_named, has_named, IsNow, WasBefore};
+ghost use Rattle.cil_counters.specs.Counted.{atom_with, count_with, had_named, has_named, AreBounded, IsNow, WasBefore};
 
 use crate::counters::Counters;
 use cil_resolve::{
@@ -52,3 +52,15 @@ pub fn counters_tell_accesses<A: Allocator>(resolved: &Resolved<A>, counters: &C
     resolved_names_are_kept(resolved);
     resolved.rules();
 }
+
+/// Counters that are no more than the rules of two policies tell of no access more rules than give it in the one and in the other.
+pub fn counters_are_bounded<A: Allocator>(
+    one: &Resolved<A>,
+    other: &Resolved<A>,
+    counters: &Counters<A>,
+)
+    requires { AreBounded one.now other.now counters.now }
+    ensures { (kind : RuleKind) (source target class permission : List ℕ) → count_with counters.now kind source target class permission
+        ≤ count_of (meaning_in one.now) (atom_with kind source target class permission)
+        + count_of (meaning_in other.now) (atom_with kind source target class permission) }
+{}

@@ -9,4 +9,6 @@ mod symbol_ranks;
 
 pub use cil_symbol_changes::ChangeCounts;
 pub use counters::Counters;
-pub use laws::{counters_tell_accesses, counters_tell_changes, counters_tell_members};
+pub use laws::{
+    counters_are_bounded, counters_tell_accesses, counters_tell_changes, counters_tell_members,
+};

@@ -13,6 +13,7 @@ use Rattle.cil_table_updates.specs.Adjusted.{AdjustsAtLeast, AdjustsAtMost}
 use Rattle.cil_table_updates.specs.Policies.{count_named}
 use Rattle.cil_table_updates.proofs.DirtyLemmas.{on-ok-both}
 use Rattle.cil_table_updates.proofs.FewLemmas.{adjusts-few}
+use Rattle.cil_counters.proofs.BoundLemmas.{bounded-counts}
 use Rattle.cil_counters.proofs.FoundLemmas.{found, tells}
 use Rattle.cil_counters.proofs.CountedLemmas.{counted-alike, members-counted}
 use Rattle.cil_counters.proofs.counters.Counters.take_steps.Goals as goal
@@ -102,4 +103,16 @@ returns-clause-adjustments g c =
     (on-ok-both c.update.result (λ most least. (most, least)) c.update.ensures.at_most c.update.ensures.at_least) c.update.ensures.now
 
 pub returns-in_err-old_numbering-clause-bounded : goal.returns-in_err-old_numbering-clause-bounded
-returns-in_err-old_numbering-clause-bounded g c kind key t = bounded-now c.args.old.now c.args.new.now c.args.self.now c.requires.now kind key t
+returns-in_err-old_numbering-clause-bounded g c =
+    bounded-counts c.args.old.now c.args.new.now c.args.self.now.names (member_rows.count_now c.args.self.now.rows) (access_tables.count_now c.args.self.now.tables) c.requires.now
+
+pub returns-in_err-new_numbering-clause-bounded : goal.returns-in_err-new_numbering-clause-bounded
+returns-in_err-new_numbering-clause-bounded g c =
+    bounded-counts c.args.old.now c.args.new.now c.number.new.self.names (member_rows.count_now c.number.new.self.rows) (access_tables.count_now c.number.new.self.tables) c.number.ensures.now
+
+pub returns-in_err-update_members-clause-bounded : goal.returns-in_err-update_members-clause-bounded
+returns-in_err-update_members-clause-bounded g c =
+    let rows = member_rows.count_now c.number.new.self.rows in
+    bounded-counts c.args.old.now c.args.new.now c.update_members.new.self.names rows (access_tables.count_now c.update_members.new.self.tables)
+    (counted-alike c.args.old.now c.number.new.self.names c.update_members.new.self.names rows rows (access_tables.count_now c.number.new.self.tables) (access_tables.count_now c.update_members.new.self.tables) c.number.ensures.now
+    c.update_members.ensures.names (λ a t. refl) (λ kind key t. ap (λ tables. access_tables.count_now tables kind key t) c.update_members.ensures.tables))
