@@ -8,3 +8,4 @@ pub mod MemberLemmas
 pub mod KeptLemmas
 pub mod ChangeCountLemmas
 pub mod BoundLemmas
+pub mod ChangedMemberLemmas

@@ -15,9 +15,11 @@ ghost use Rattle.cil_resolve.specs.Resolved.{meaning_in};
 ghost use Rattle.cil_resolve.specs.Sets.{sets_in};
 ghost use Rattle.cil_sets.specs.Members.{AreMembers};
 ghost use Rattle.cil_counters.specs.ChangeCounts.{CountsSome};
+ghost use Rattle.cil_counters.specs.ChangedMembers.{pairs_of, AreChangedMembers};
 ghost use Rattle.cil_counters.specs.Counted.{count_with, had_named, has_named, steps_in, AreBounded, AreSettled, AreTakenBack, HasFewNames, IsNow, WasBefore};
 ghost use Rattle.cil_symbol_tables.specs.Tables as access_tables;
 
+use crate::changed_members::{ChangedMember, changed_members_of};
 use crate::member_counts::members_of;
 use crate::more_rows::add_rows;
 use crate::symbol_ranks::symbol_ranks;
@@ -242,6 +244,15 @@ impl<A: Allocator + Copy> Counters<A> {
         ensures { IfOk result (AreMembers policy.now) }
     {
         members_of(alloc, &self.names, &self.rows, policy)
+    }
+
+    /// Who became a member since the last settling, and who is none any more: each attribute with such a type, once. It takes time by
+    /// the steps.
+    pub fn changed_members(&self, alloc: A) -> Result<Vec<ChangedMember<'_>, A>, AllocError>
+        ensures { IfOk result (λ members. AreChangedMembers (λ attribute ty. differ (had_named self.now attribute ty) (has_named self.now attribute ty)) (pairs_of members.items)) }
+    {
+        self.names.len();
+        changed_members_of(alloc, &self.names, &self.rows)
     }
 
     /// Brings the counters from those of an old policy, which they hold, to those of a new one, in steps, and answers the changes from

@@ -1,12 +1,14 @@
 //! The members and the accesses of a policy, counted, and brought to another policy in place.
 #![tactic(auto)]
 
+mod changed_members;
 mod counters;
 mod laws;
 mod member_counts;
 mod more_rows;
 mod symbol_ranks;
 
+pub use changed_members::ChangedMember;
 pub use cil_symbol_changes::ChangeCounts;
 pub use counters::Counters;
 pub use laws::{

@@ -1,6 +1,6 @@
 //! Distinct names by numbers that stay.
 
-ghost use Rattle.std.specs.Prelude.{◌≡◌, ◌<◌, [], bytes_eq, false, length, position, set, slice_get, Some, IfOk, OnErr, OnOk};
+ghost use Rattle.std.specs.Prelude.{◌≡◌, ◌<◌, [], bytes_eq, false, length, position, set, slice_get, None, Some, IfOk, MatchOption, OnErr, OnOk};
 ghost use Rattle.std.specs.List.{IsDistinct};
 ghost use Rattle.cil_specs.specs.Lookup.{has_name, with_name};
 
@@ -77,5 +77,14 @@ impl<A: Allocator> Symbols<A> {
         ensures { result ≡ position (bytes_eq name.now) self.now }
     {
         self.names.get_index_of(name)
+    }
+    /// The name that has a number.
+    pub fn name(&self, number: usize) -> Option<&[u8]>
+        ensures { MatchOption result (slice_get self.now number ≡ None) (λ name. slice_get self.now number ≡ Some name.now) }
+    {
+        match self.names.get_index(number) {
+            Some(name) => Some(name.as_slice()),
+            None => None,
+        }
     }
 }
