@@ -1,39 +1,16 @@
 -- The first place in a list at which a test passes.
-use Rattle.std.proofs.Common.{◌≡◌, ℕ, ◌+◌, ◌<◌, ◌≤◌, zero, suc, Bool, true, false, not, ◌||◌, nat_lt, List, [], ◌∷◌, ◌++◌, length, take, drop, cond, Option, Some, None, is_some, option_map, position, refl, sym, ap, ◌∙◌, add-one, arith}
-use Rattle.std.specs.List.{list_any, slice_get, position_or_len}
+use Rattle.std.proofs.Common.{◌≡◌, ℕ, ◌+◌, zero, suc, Bool, true, false, ◌||◌, nat_lt, List, [], ◌∷◌, ◌++◌, length, take, drop, cond, Option, Some, None, is_some, option_map, position, refl, sym, ap, ◌∙◌, add-one, arith}
+use Rattle.std.specs.List.{list_any, slice_get}
 use Rattle.std.specs.Option.{option_or}
 use Rattle.std.proofs.lemmas.Option.{none-some, same_Some}
 use Rattle.std.proofs.Math.Bool.{or-false}
 use Rattle.std.proofs.lemmas.List.Folds.{list_any-append}
-use Rattle.std.proofs.lemmas.Bool.{ltb-true, ltb-false, lt-ltb, le-ltb}
+use Rattle.std.proofs.lemmas.Bool.{lt-ltb, le-ltb}
+pub use Rattle.cil_names.proofs.TextLemmas.{less-suc, position-cons}
 
 -- the place at which a test passes, if a condition holds
 abbrev pub at_if : Bool → ℕ → Option ℕ
 at_if b n = cond b (Some n) None
-
-less-suc : (m n : ℕ) → nat_lt (suc m) (suc n) ≡ nat_lt m n
-less-suc m n = by (nat_lt m n) refl
-  where
-    by : (b : Bool) → nat_lt m n ≡ b → nat_lt (suc m) (suc n) ≡ b
-    by true e = let l : m < n = ltb-true m n e in lt-ltb (suc m) (suc n) (omega arith)
-    by false e = let l : n ≤ m = ltb-false m n e in le-ltb (suc m) (suc n) (omega arith)
-
-pub position-cons : {X : Type 0} (p : X → Bool) (x : X) (xs : List X) → position p (x ∷ xs) ≡ cond (p x) (Some 0) (option_map suc (position p xs))
-position-cons p x xs = by (p x)
-  where
-    n : ℕ
-    n = position_or_len p xs
-
-    shifted : (d : Bool) → cond d (Some (suc n)) None ≡ option_map suc (cond d (Some n) None)
-    shifted true = refl
-    shifted false = refl
-
-    one_more : 1 + n ≡ suc n
-    one_more = omega arith
-
-    by : (b : Bool) → cond (nat_lt (cond (not b) (1 + n) 0) (suc (length xs))) (Some (cond (not b) (1 + n) 0)) None ≡ cond b (Some 0) (option_map suc (cond (nat_lt n (length xs)) (Some n) None))
-    by true = ap (λ d. cond d (Some 0) None) (lt-ltb 0 (suc (length xs)) (omega arith))
-    by false = ap (λ m. cond (nat_lt m (suc (length xs))) (Some m) None) one_more ∙ ap (λ d. cond d (Some (suc n)) None) (less-suc n (length xs)) ∙ shifted (nat_lt n (length xs))
 
 pub position-append : {X : Type 0} (p : X → Bool) (xs : List X) (y : X) → position p (xs ++ y ∷ []) ≡ option_or (position p xs) (at_if (p y) (length xs))
 position-append p [] y = position-cons p y []

@@ -9,7 +9,6 @@ mod laws;
 mod lookup;
 mod memo;
 mod moving;
-mod names;
 mod namespaces;
 mod policy;
 mod redeclaration;

@@ -54,7 +54,7 @@ impl<A: Allocator + Copy> Namespaces<A> {
         ensures distinct { IsDistinct bytes_eq self.old → IsDistinct bytes_eq self.new }
         ensures err { OnErr result (self.new ≡ self.old) }
     {
-        if self.blocks.len() >= 0xFFFF_FFFD {
+        if self.blocks.len() > 0xFFFF_FFFD {
             return Err(AllocError);
         }
         let (index, _new) = self.blocks.insert_full(Block { outer, word })?;

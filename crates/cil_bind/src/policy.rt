@@ -16,10 +16,11 @@ use crate::declarations::{Declarations, Declared};
 use crate::joined::Joined;
 use crate::lookup::Lookup;
 use crate::moving::{kept_kinds, places_of, rebind};
-use crate::names::Names;
 use crate::redeclaration::Redeclaration;
 use crate::rows::{Row, is_kept};
 use crate::scope::Scope;
+use crate::words::number_modules;
+use cil_names::{Names, counted_in_32_bits};
 use cil_parse::{Lists, StatementKind};
 use std::alloc::{AllocError, Allocator, Global};
 
@@ -49,8 +50,8 @@ impl<'m, A: Allocator + Copy> Policy<'m, A> {
         ensures made { IfOk result (λ made. (modules : List Module) → AreSpelt joined.now.modules.items modules → Makes joined.now.modules.items (joined_policy modules) made) }
         ensures around { IfOk result (λ made. (modules : List Module) → AreSpelt joined.now.modules.items modules → TellsAround (joined_policy modules) made) }
     {
-        let mut names = Names::new(alloc);
-        let words = names.number_modules(alloc, joined)?;
+        let mut names = Names::new(alloc, joined.seed);
+        let words = number_modules(alloc, &mut names, joined)?;
         Policy::of_names(alloc, joined, names, words)
     }
 
@@ -68,9 +69,7 @@ impl<'m, A: Allocator + Copy> Policy<'m, A> {
         ensures around { IfOk result (λ made. (modules : List Module) → AreSpelt joined.now.modules.items modules → TellsAround (joined_policy modules) made) }
     {
         let scope = Scope::of(alloc, names, joined)?;
-        if scope.rows.len() > 0xFFFF_FFFF {
-            return Err(AllocError);
-        }
+        counted_in_32_bits(scope.rows.len())?;
         Policy::of_statements(alloc, joined, scope, words)
     }
 

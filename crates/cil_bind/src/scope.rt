@@ -1,6 +1,6 @@
 //! The statements of a joined policy by numbers.
 
-ghost use Rattle.std.specs.Prelude.{◌≡◌, ◌<◌, ◌≤◌, ◌+◌, ◌++◌, ◌∷◌, ◌^◌, ℕ, suc, List, length, take, slice_get, [], IfOk, OnOk, IfSome, Some};
+ghost use Rattle.std.specs.Prelude.{◌≡◌, ◌<◌, ◌≤◌, ◌+◌, ◌++◌, ◌∷◌, ◌^◌, ◌⊎◌, ℕ, suc, List, length, take, slice_get, [], IfOk, OnOk, IfNone, IfSome, Some};
 ghost use Rattle.cil_specs.specs.Names.{Word};
 ghost use Rattle.cil_specs.specs.Statements.{Statements, is_optional as is_optional_form};
 ghost use Rattle.std.specs.Prelude.{bytes_eq};
@@ -15,9 +15,10 @@ ghost use Rattle.cil_bind.specs.declared.joined.NamedModule.{NamedModule};
 ghost use Rattle.cil_bind.specs.declared.rows.Row.{Row};
 
 use crate::joined::Joined;
-use crate::names::Names;
 use crate::namespaces::Namespaces;
 use crate::rows::Row;
+use crate::words::number_word;
+use cil_names::{Names, in_32_bits};
 use cil_parse::{ParsedModule, StatementKind, StatementView, Table};
 use std::alloc::{AllocError, Allocator, Global};
 
@@ -77,10 +78,7 @@ impl<'m, A: Allocator + Copy> Scope<'m, A> {
         ensures around { OnOk result ((modules : List Module) → AreSpelt joined.now.modules.items modules → AreAround (joined_policy modules) 0 self.new.rows.items (joined_policy modules)) }
     {
         for i in 0..joined.modules.len() {
-            if i > 0xFFFF_FFFF {
-                return Err(AllocError);
-            }
-            self.add(i as u32, joined.modules[i].module)?;
+            self.add(in_32_bits(i)?, joined.modules[i].module)?;
         }
         Ok(())
     }
@@ -97,12 +95,9 @@ impl<'m, A: Allocator + Copy> Scope<'m, A> {
             → AreAround (before ++ (placed name [] [] statements ++ behind)) 0 self.old.rows.items before
             → AreAround (before ++ (placed name [] [] statements ++ behind)) 0 self.new.rows.items (before ++ placed name [] [] statements)) }
     {
-        let start = self.rows.len();
-        if start > 0xFFFF_FFFF {
-            return Err(AllocError);
-        }
+        let start = in_32_bits(self.rows.len())?;
         for i in 0..module.len() {
-            self.place(number, start as u32, module, i)?;
+            self.place(number, start, module, i)?;
         }
         Ok(())
     }
@@ -119,7 +114,7 @@ impl<'m, A: Allocator + Copy> Scope<'m, A> {
         let Some((table, word)) = view.declared() else {
             return Ok(None);
         };
-        let number = self.names.number(module.text(word.text as usize))?;
+        let number = number_word(&mut self.names, module.text(word.text as usize))?;
         Ok(Some((table, number)))
     }
 
@@ -206,7 +201,8 @@ fn is_optional(kind: StatementKind) -> bool
 
 /// An index, and the number of the innermost optional in the policy by that in its module, whose statements begin at a place.
 fn numbers_at(start: u32, index: usize, optional: u32) -> Option<(u32, u32)>
-    ensures { IfSome result (λ numbers. (numbers.0 ≡ index) × (numbers.1 ≡ optional_number start optional)) }
+    ensures same { IfSome result (λ numbers. (numbers.0 ≡ index) × (numbers.1 ≡ optional_number start optional)) }
+    ensures beyond { IfNone result ((2 ^ 32 ≤ index) ⊎ (2 ^ 32 ≤ start + optional)) }
 {
     if index > 0xFFFF_FFFF {
         return None;

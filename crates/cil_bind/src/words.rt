@@ -1,6 +1,6 @@
 //! The words of modules in one numbering.
 
-ghost use Rattle.std.specs.Prelude.{◌≡◌, ◌++◌, ◌<◌, ℕ, List, bytes_eq, length, IfOk, Some};
+ghost use Rattle.std.specs.Prelude.{◌≡◌, ◌++◌, ◌∷◌, ◌⊎◌, ◌<◌, [], ℕ, List, bytes_eq, length, slice_get, IfOk, Some};
 ghost use Rattle.std.specs.List.{IsDistinct};
 ghost use Rattle.cil_specs.specs.Lookup.{is_global as is_global_text};
 ghost use Rattle.cil_parse.specs.Lexicon.{AreNumbersOf};
@@ -9,45 +9,56 @@ ghost use Rattle.cil_bind.specs.Words.{AreWorded, AsKnown, LeadsTo};
 
 use crate::joined::Joined;
 use crate::lookup::Lookup;
-use crate::names::Names;
+use cil_names::{Names, in_32_bits};
 use cil_parse::{ParsedModule, Table};
 use std::alloc::{AllocError, Allocator};
 
-impl<'m, A: Allocator + Copy> Names<'m, A> {
-    /// The numbers of the names of a module, in the order of their numbers there.
-    fn number_names(
-        &mut self,
-        alloc: A,
-        module: &'m ParsedModule<A>,
-    ) -> Result<Vec<u32, A>, AllocError>
-        ensures numbers { IfOk result (λ words. AreNumbersOf self.new words.items (names_of «module».now)) }
-        ensures kept { IfOk result (λ words. (more : List (List ℕ)) × (self.new ≡ self.old ++ more)) }
-        ensures distinct { IfOk result (λ words. IsDistinct bytes_eq self.old → IsDistinct bytes_eq self.new) }
-    {
-        let mut words = Vec::with_capacity(alloc, module.name_count())?;
-        for i in 0..module.name_count() {
-            let number = self.number(module.name(i))?;
-            words.push(number)?;
-        }
-        Ok(words)
-    }
+/// The number of a word, a new one where it has none. More than 4294967296 words are answered as out of memory.
+pub fn number_word<'m, A: Allocator>(
+    names: &mut Names<'m, A>,
+    word: &'m [u8],
+) -> Result<u32, AllocError>
+    ensures named { IfOk result (λ n. slice_get names.new n ≡ Some word.now) }
+    ensures kept { (names.new ≡ names.old) ⊎ (names.new ≡ names.old ++ word.now ∷ []) }
+    ensures distinct { IfOk result (λ n. IsDistinct bytes_eq names.new) }
+{
+    let (index, _new) = names.insert(word)?;
+    in_32_bits(index)
+}
 
-    /// The numbers of the names of each module. It looks a word up by its bytes once for each module that has it.
-    pub fn number_modules(
-        &mut self,
-        alloc: A,
-        joined: &Joined<'m, A>,
-    ) -> Result<Vec<Vec<u32, A>, A>, AllocError>
-        ensures worded { IfOk result (λ words. AreWorded self.new words.items joined.now.modules.items) }
-        ensures distinct { IfOk result (λ words. IsDistinct bytes_eq self.old → IsDistinct bytes_eq self.new) }
-    {
-        let mut words = Vec::with_capacity(alloc, joined.modules.len())?;
-        for i in 0..joined.modules.len() {
-            let numbers = self.number_names(alloc, joined.modules[i].module)?;
-            words.push(numbers)?;
-        }
-        Ok(words)
+/// The numbers of the names of a module, in the order of their numbers there.
+fn number_names<'m, A: Allocator + Copy>(
+    alloc: A,
+    names: &mut Names<'m, A>,
+    module: &'m ParsedModule<A>,
+) -> Result<Vec<u32, A>, AllocError>
+    ensures numbers { IfOk result (λ words. AreNumbersOf names.new words.items (names_of «module».now)) }
+    ensures kept { IfOk result (λ words. (more : List (List ℕ)) × (names.new ≡ names.old ++ more)) }
+    ensures distinct { IfOk result (λ words. IsDistinct bytes_eq names.old → IsDistinct bytes_eq names.new) }
+{
+    let mut words = Vec::with_capacity(alloc, module.name_count())?;
+    for i in 0..module.name_count() {
+        let number = number_word(names, module.name(i))?;
+        words.push(number)?;
     }
+    Ok(words)
+}
+
+/// The numbers of the names of each module. It looks a word up by its bytes once for each module that has it.
+pub fn number_modules<'m, A: Allocator + Copy>(
+    alloc: A,
+    names: &mut Names<'m, A>,
+    joined: &Joined<'m, A>,
+) -> Result<Vec<Vec<u32, A>, A>, AllocError>
+    ensures worded { IfOk result (λ words. AreWorded names.new words.items joined.now.modules.items) }
+    ensures distinct { IfOk result (λ words. IsDistinct bytes_eq names.old → IsDistinct bytes_eq names.new) }
+{
+    let mut words = Vec::with_capacity(alloc, joined.modules.len())?;
+    for i in 0..joined.modules.len() {
+        let numbers = number_names(alloc, names, joined.modules[i].module)?;
+        words.push(numbers)?;
+    }
+    Ok(words)
 }
 
 /// Whether a reference has a leading dot.

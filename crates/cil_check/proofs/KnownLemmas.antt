@@ -7,7 +7,7 @@ use Rattle.cil_specs.specs.Names.{Word}
 use Rattle.cil_specs.specs.Statements.{Form, block, optional, type_name, type_alias, alias_actual, type_attribute, attribute_set, common, class, class_common, class_order, rule, itself, the_named}
 use Rattle.cil_specs.specs.Joined.{Placed}
 use Rattle.cil_specs.specs.Lookup.{classes, declared_in, holds_of, has_name, texts, permissions_of, references, named_permissions}
-use Rattle.cil_specs.specs.PolicyFault.{PolicyFaultKind, twice, missing, wrong_kind, alias_twice, alias_unset, second_common, too_many_permissions, circular, code_of, is_unfound, is_lacking, missing_words, kinds_asked, is_of_another_kind, alias_words, has_earlier_actual, element_words, is_unset, alias_unset_words, common_words, has_earlier_common, has_too_many, is_outside}
+use Rattle.cil_specs.specs.PolicyFault.{PolicyFaultKind, twice, missing, wrong_kind, alias_twice, alias_unset, second_common, too_many_permissions, circular, code_of, is_unfound, is_lacking, missing_words, kinds_asked, is_of_another_kind, alias_words, has_earlier_actual, element_words, is_unset, alias_unset_words, common_words, has_earlier_common, has_too_many}
 use Rattle.cil_specs.proofs.FirstLemmas.{faulty_words}
 use Rattle.cil_parse.specs.Forms.{kind_of, permissions_in}
 use Rattle.cil_bind.specs.Lookup.{IsLead}

@@ -32,6 +32,7 @@ use crate::inherited::add_commons;
 use crate::kinds::Kind;
 use crate::permissions::Permissions;
 use crate::witnesses::Witnesses;
+use cil_names::counted_in_32_bits;
 use cil_parse::{NumberedWord, StatementKind};
 use std::alloc::{AllocError, Allocator, Global};
 
@@ -103,9 +104,7 @@ impl<'p, 'm, A: Allocator + Copy> Checker<'p, 'm, A> {
         ensures inherited { OnOk result ((policy : List Placed) → IsOf self.old.bound policy → HasInherited policy self.new.inherited) }
         ensures few { OnOk result ((policy : List Placed) → IsOf self.old.bound policy → length policy < 2 ^ 32) }
     {
-        if self.bound.len() > 0xFFFF_FFFF {
-            return Err(AllocError);
-        }
+        counted_in_32_bits(self.bound.len())?;
         self.actuals.fill(&self.bound, Association::Actual)?;
         self.commons.fill(&self.bound, Association::Common)?;
         add_commons(&mut self.inherited, alloc, &self.bound)?;

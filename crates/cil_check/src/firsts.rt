@@ -7,6 +7,7 @@ ghost use Rattle.cil_check.specs.Bound.{IsOf, IsSeen};
 ghost use Rattle.cil_check.specs.Associations.{association_table, given_kind, given_lead, first_at, with_first, HasFirsts};
 
 use crate::bound::{BoundPolicy, Seen};
+use cil_names::counted_in_32_bits;
 use cil_parse::StatementKind;
 use indexmap::IndexMap;
 use std::alloc::{AllocError, Allocator, Global};
@@ -91,9 +92,7 @@ impl<A: Allocator + Copy> Firsts<A> {
         ensures { OnOk result ((policy : List Placed) → IsOf bound.now policy → HasFirsts association policy self.new) }
     {
         let count = bound.len();
-        if count > 0xFFFF_FFFF {
-            return Err(AllocError);
-        }
+        counted_in_32_bits(count)?;
         for i in 0..count {
             let Some(to) = association.lead_at(bound, i) else {
                 continue;

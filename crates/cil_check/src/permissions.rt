@@ -14,6 +14,7 @@ ghost use Rattle.cil_check.specs.Bound.{IsOf};
 ghost use Rattle.cil_bind.specs.Written.{IsOneName};
 
 use crate::bound::{BoundPolicy, Seen};
+use cil_names::counted_in_32_bits;
 use cil_parse::{Lists, NumberedWord, StatementKind};
 use indexmap::IndexSet;
 use std::alloc::{AllocError, Allocator, Global};
@@ -95,9 +96,7 @@ impl<A: Allocator + Copy> Permissions<A> {
         ensures words { IfOk result (λ permissions. (policy : List Placed) → IsOf bound.now policy → HaveWords bound.now.policy.now.names policy permissions.words.0) }
     {
         let count = bound.len();
-        if count > 0xFFFF_FFFF {
-            return Err(AllocError);
-        }
+        counted_in_32_bits(count)?;
         let mut permissions = Permissions {
             listed: IndexSet::new(alloc),
             words: Lists::with_capacity(alloc, count, 0)?,

@@ -27,6 +27,7 @@ use cil_keyed_lines::SymbolKey;
 use cil_matching::SetMatching;
 use cil_member_rows::MemberRows;
 use cil_member_updates::{KeptTypes, Side};
+use cil_names::Seed;
 use cil_resolve::{
     Meter, Resolved, resolved_is_consistent, resolved_is_sound, resolved_names_are_kept,
     resolved_sets_are_in_order,
@@ -52,14 +53,14 @@ pub struct Counters<A: Allocator = Global> {
 }
 
 impl<A: Allocator + Copy> Counters<A> {
-    /// The counters of a policy without set statements and rules, as that of an empty store is.
-    pub fn none(alloc: A, policy: &Resolved<A>) -> Result<Self, AllocError>
+    /// The counters of a policy without set statements and rules, as that of an empty store is. The tables of names are hashed by a seed.
+    pub fn none(alloc: A, seed: Seed, policy: &Resolved<A>) -> Result<Self, AllocError>
         requires sets { length (sets_in policy.now) ≡ 0 }
         requires rules { length (meaning_in policy.now).rules ≡ 0 }
         ensures now { IfOk result (IsNow policy.now) }
         ensures before { IfOk result (WasBefore policy.now) }
     {
-        let mut names = Symbols::new(alloc);
+        let mut names = Symbols::new(alloc, seed);
         Numbering::of(alloc, &mut names, policy)?;
         Ok(Counters {
             names,
@@ -123,7 +124,7 @@ impl<A: Allocator + Copy> Counters<A> {
     {
         let old_kept = KeptTypes::of(alloc, &self.names, old.resolved, old.numbering)?;
         let new_kept = KeptTypes::of(alloc, &self.names, new.resolved, new.numbering)?;
-        let matching = SetMatching::of(alloc, old.resolved, new.resolved)?;
+        let matching = SetMatching::of(alloc, self.names.seed(), old.resolved, new.resolved)?;
         add_rows(&mut self.rows, alloc, self.names.len())?;
         let old_side = Side {
             resolved: old.resolved,

@@ -9,6 +9,7 @@ ghost use Rattle.cil_sets.specs.Members.{count_in, AreMembers};
 ghost use Rattle.cil_counters.specs.MemberCounts.{by_numbers, in_row, HasRoom};
 
 use cil_member_rows::MemberRows;
+use cil_names::in_32_bits;
 use cil_resolve::{Resolved, resolved_is_sound, resolved_sets_are_in_order};
 use cil_sets::Members;
 use cil_symbols::{Symbols, known_symbols};
@@ -31,9 +32,7 @@ fn put_count<A: Allocator + Copy>(
     ensures len { OnOk result (length members.new.rows.items ≡ length members.old.rows.items) }
     ensures wide { OnOk result (AreWide (length members.new.rows.items) members.new.rows.items) }
 {
-    let Ok(count) = u32::try_from(count) else {
-        return Err(AllocError);
-    };
+    let count = in_32_bits(count as usize)?;
     if count == 0 {
         return Ok(());
     }

@@ -1,5 +1,5 @@
 -- Keys that are taken out with their lines, and the counters of the others.
-use Rattle.std.proofs.Common.{◌≡◌, ◌≢◌, ◌⊎◌, ℕ, ◌+◌, ◌-◌, ◌*◌, ◌%◌, ◌<◌, ◌≤◌, ◌==◌, Bool, true, false, cond, not, if◌then◌else◌, List, [], ◌∷◌, ◌++◌, length, get_or, set, take, position, slice_get, Option, None, Some, IfSome, bit_and, w64, refl, sym, ap, ◌∙◌, true≢false, inl, inr, arith, ◌^◌, eq-eqb, ◌||◌}
+use Rattle.std.proofs.Common.{◌≡◌, ◌≢◌, ◌⊎◌, ℕ, ◌+◌, ◌-◌, ◌*◌, ◌%◌, ◌<◌, ◌≤◌, ◌==◌, Bool, true, false, cond, not, if◌then◌else◌, List, [], ◌∷◌, ◌++◌, length, get_or, set, take, position, slice_get, Option, None, Some, IfSome, bit_and, w64, refl, sym, ap, ◌∙◌, true≢false, inl, inr, arith, ◌^◌, eq-eqb, ◌||◌, ◌&&◌}
 use Rattle.std.specs.Int.{bit_not, bit_at}
 use Rattle.std.specs.List.{list_any, IsDistinct, swap_remove}
 use Rattle.std.proofs.lemmas.Bool.{cases_eq, cases_lt, ne_eqb}
@@ -12,7 +12,7 @@ use Rattle.cil_lines.proofs.LineLemmas.{some_bit}
 use Rattle.cil_lines.specs.Limit.{CanLower}
 use Rattle.cil_recorded.specs.Log.{falls, has_line, hit_at}
 use Rattle.cil_recorded.specs.Recorded as recorded
-use Rattle.cil_recorded.specs.Recorded.{State, HasCount, lines_in}
+use Rattle.cil_recorded.specs.Recorded.{State, HasCount, AreLeft, lines_in}
 use Rattle.cil_recorded.specs.declared.step.Step.{Step}
 use Rattle.cil_recorded.proofs.LogLemmas.{count_past, hit_nothing, hit_off, hit_on}
 use Rattle.cil_recorded.proofs.PlaceLemmas.{untouched}
@@ -176,11 +176,11 @@ moves was is was_fits is_fits gone come =
       bit_at-lt is b,
     ))
 
--- the lines of other keys are as they were, and the line of a place has a counter or a step that took from its counters
+-- the lines of other keys are as they were, and the line of a place has a counter or a step that let targets go
 pub counted_shifted : (old mid new : State) (n m place word was is : ℕ) → was < 2 ^ 64 → is < 2 ^ 64 → was ≢ is → mid.log ≡ old.log → AreCounted (falls old.log) n old
     → ((l : ℕ) → l < m → l ≢ place → l < n)
     → ((l t : ℕ) → recorded.count_now mid l t ≡ recorded.count_now old l t)
-    → ((l : ℕ) → has_line (falls new.log) l ≡ false → (has_line (falls mid.log) l ≡ false) × (l ≡ place → bit_and was (bit_not w64 is) ≡ 0))
+    → AreLeft mid new place (bit_and was (bit_not w64 is))
     → ((l t : ℕ) → recorded.count_now new l t + hit_at place word (bit_and was (bit_not w64 is)) l t ≡ recorded.count_now mid l t + hit_at place word (bit_and is (bit_not w64 was)) l t)
     → AreCounted (falls new.log) m new
 counted_shifted old mid new n m place word was is was_fits is_fits differ log counted within same others shifted i less none =
@@ -188,13 +188,16 @@ counted_shifted old mid new n m place word was is was_fits is_fits differ log co
     let gone = bit_and was (bit_not w64 is) in
     let come = bit_and is (bit_not w64 was) in
     elim (cases_eq i place) [
-      | inl here ↦
-          let come_fits : come < 2 ^ 64 = omega (arith, and_le_l is (bit_not w64 was), is_fits) in
-          let (b, low, set) = some_bit 64 come come_fits (λ e. differ (moves was is was_fits is_fits (nothing here) e)) in
-          let t = 64 * word + b in
-          let hit : hit_at place word come i t ≡ 1 = hit_on place word come i t here (omega (arith, low)) ∙ ap (bit_at come) (let e : t % 64 ≡ b = omega (arith, low) in e) ∙ set in
-          let none_gone : hit_at place word gone i t ≡ 0 = ap (λ m. hit_at place word m i t) (nothing here) ∙ hit_nothing place word i t in
-          (t, omega (arith, shifted i t, hit, none_gone))
+      | inl here ↦ elim (nothing here) [
+        | inl none_go ↦
+            let come_fits : come < 2 ^ 64 = omega (arith, and_le_l is (bit_not w64 was), is_fits) in
+            let (b, low, set) = some_bit 64 come come_fits (λ e. differ (moves was is was_fits is_fits none_go e)) in
+            let t = 64 * word + b in
+            let hit : hit_at place word come i t ≡ 1 = hit_on place word come i t here (omega (arith, low)) ∙ ap (bit_at come) (let e : t % 64 ≡ b = omega (arith, low) in e) ∙ set in
+            let none_gone : hit_at place word gone i t ≡ 0 = ap (λ m. hit_at place word m i t) none_go ∙ hit_nothing place word i t in
+            (t, omega (arith, shifted i t, hit, none_gone))
+        | inr (t, above) ↦ (t, omega (arith, above, ap (λ l. recorded.count_now new l t) here))
+      ]
       | inr apart ↦
           let (t, above) = counted i (within i less apart) (ap (λ ss. has_line (falls ss) i) (sym log) ∙ quiet) in
           (t, omega (arith, above, same i t, shifted i t, hit_off place word gone i t apart, hit_off place word come i t apart))
@@ -223,7 +226,7 @@ module _ (keys news : List SymbolKey) (old mid new : State) (key : SymbolKey) (p
   module _ (shifted : (l t : ℕ) → recorded.count_now new l t + hit_at place word gone l t ≡ recorded.count_now mid l t + hit_at place word come l t)
       (before : (l t : ℕ) → recorded.count_before new l t ≡ recorded.count_before mid l t) where
     pub held_shifted : lines_in new ≡ lines_in mid → was ≢ is → mid.log ≡ old.log → ((l : ℕ) → l < length news → l ≢ place → l < length keys)
-        → ((l : ℕ) → has_line (falls new.log) l ≡ false → (has_line (falls mid.log) l ≡ false) × (l ≡ place → gone ≡ 0)) → AreHeld news new
+        → AreLeft mid new place gone → AreHeld news new
     held_shifted len differ log within others = record {
       keyed = record {
         distinct = reached.distinct;
@@ -256,12 +259,12 @@ before_quiet s l t none =
     untouched s.log (recorded.count_now s) l t (λ k _ within line _.
     true≢false (sym (list_any_at (λ (x : Step). x.line == l) s.log k (record { line = 0; word = 0; mask = 0; turned = 0; up = false }) within (eq-eqb _ l line)) ∙ none))
 
--- a line without a step has none that took from its counters
+-- a line without a step has none that let targets go
 pub quiet-falls : (ss : List Step) (l : ℕ) → has_line ss l ≡ false → has_line (falls ss) l ≡ false
 quiet-falls [] l none = refl
 quiet-falls (s ∷ ss) l none =
     let (here, rest) = both_false (s.line == l) (has_line ss l) none in
-    by (not s.up) here (quiet-falls ss l rest)
+    by (not s.up && not (s.turned == 0)) here (quiet-falls ss l rest)
   where
     by : (b : Bool) → (s.line == l) ≡ false → has_line (falls ss) l ≡ false → has_line (cond b (s ∷ falls ss) (falls ss)) l ≡ false
     by true here rest = ap (λ c. c || has_line (falls ss) l) here ∙ rest

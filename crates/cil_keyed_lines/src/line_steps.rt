@@ -1,9 +1,9 @@
 //! Steps of one of several lines.
 
-ghost use Rattle.std.specs.Prelude.{◌≡◌, ℕ, ◌+◌, ◌<◌, ◌≤◌, ◌^◌, false, min, OnOk};
+ghost use Rattle.std.specs.Prelude.{◌≡◌, ℕ, ◌+◌, ◌<◌, ◌≤◌, ◌^◌, min, OnOk};
 ghost use Rattle.cil_lines.specs.Limit.{CanLower, CanRaise};
-ghost use Rattle.cil_recorded.specs.Log.{falls, has_line, hit_at};
-ghost use Rattle.cil_recorded.specs.Recorded.{count_before, count_now, limit_now, lines_in, spare, steps_in};
+ghost use Rattle.cil_recorded.specs.Log.{falls, hit_at};
+ghost use Rattle.cil_recorded.specs.Recorded.{count_before, count_now, limit_now, lines_in, spare, steps_in, AreLeft};
 
 use cil_recorded::RecordedLines;
 use std::alloc::{AllocError, Allocator};
@@ -40,7 +40,7 @@ fn lower<A: Allocator>(lines: &mut RecordedLines<A>, line: usize, word: usize, m
     requires above { CanLower (count_now lines.old line) word mask }
     ensures lines { lines_in lines.new ≡ lines_in lines.old }
     ensures steps { steps_in lines.new ≡ steps_in lines.old + min 1 mask }
-    ensures others { (l : ℕ) → has_line (falls lines.new.log) l ≡ false → (has_line (falls lines.old.log) l ≡ false) × (l ≡ line → mask ≡ 0) }
+    ensures others { AreLeft lines.old lines.new line mask }
     ensures spare { spare lines.old ≤ spare lines.new + 1 }
     ensures now { (l t : ℕ) → count_now lines.new l t + hit_at line word mask l t ≡ count_now lines.old l t }
     ensures before { (l t : ℕ) → count_before lines.new l t ≡ count_before lines.old l t }
@@ -83,7 +83,7 @@ pub fn shift<A: Allocator>(
     requires spare { 2 ≤ spare lines.old }
     ensures lines { lines_in lines.new ≡ lines_in lines.old }
     ensures steps { steps_in lines.new ≡ steps_in lines.old + min 1 gone + min 1 come }
-    ensures others { (l : ℕ) → has_line (falls lines.new.log) l ≡ false → (has_line (falls lines.old.log) l ≡ false) × (l ≡ line → gone ≡ 0) }
+    ensures others { AreLeft lines.old lines.new line gone }
     ensures now { (l t : ℕ) → count_now lines.new l t + hit_at line word gone l t ≡ count_now lines.old l t + hit_at line word come l t }
     ensures before { (l t : ℕ) → count_before lines.new l t ≡ count_before lines.old l t }
 {

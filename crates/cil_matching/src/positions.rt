@@ -1,20 +1,35 @@
 //! Positions of statements.
 
 ghost use Rattle.std.specs.Prelude.{◌≡◌, ◌++◌, ◌∷◌, [], false, position, IfOk, OnOk};
+ghost use Rattle.std.specs.Cmp.Rules.{hashing};
+ghost use Rattle.std.specs.Hash as fed;
 ghost use Rattle.std.specs.List.{list_any};
+ghost use Rattle.std.proofs.Common.{rules};
 ghost use Rattle.cil_matching.specs.Spot.{same_spot, spot_cmp, spot_of};
 
+use cil_names::Seed;
 use indexmap::IndexSet;
 use std::alloc::{AllocError, Allocator, Global};
 use std::cmp::Ordering;
-use std::hash::{BuildHasherDefault, FoldHasher};
+use std::hash::{Hash, Hasher};
 use std::marker::Model;
 
 /// Where a statement stands: the name of its module, and the offset in the module's text.
-#[derive(Clone, Copy, PartialEq, Eq, Hash)]
+#[derive(Clone, Copy, PartialEq, Eq)]
 pub struct Position<'r> {
     pub module: &'r [u8],
     pub offset: u32,
+}
+
+impl<'r> Hash for Position<'r> {
+    ghost hash_input = { λ position. position.module.now ∷ fed.u32 position.offset };
+
+    ghost respects_eq = { Prim.search (hashing, rules) };
+
+    fn hash<H: Hasher>(&self, state: &mut H) {
+        state.write(self.module);
+        state.write_u32(self.offset);
+    }
 }
 
 impl Position<'_> {
@@ -31,7 +46,7 @@ impl Position<'_> {
 /// Positions, each of which finds its place among them. Contracts see it as the list of them.
 #[derive(Drop)]
 pub struct Positions<'r, A: Allocator = Global> {
-    positions: IndexSet<Position<'r>, BuildHasherDefault<FoldHasher>, A>,
+    positions: IndexSet<Position<'r>, Seed, A>,
 }
 
 impl<'r, A: Allocator> Model for Positions<'r, A> {
@@ -44,11 +59,11 @@ impl<'r, A: Allocator> Model for Positions<'r, A> {
 }
 
 impl<'r, A: Allocator + Copy> Positions<'r, A> {
-    /// No positions, with room for so many.
-    pub fn with_capacity(alloc: A, count: usize) -> Result<Self, AllocError>
+    /// No positions, with room for so many, in a table that is hashed by a seed.
+    pub fn with_capacity(alloc: A, seed: Seed, count: usize) -> Result<Self, AllocError>
         ensures { IfOk result (λ made. made ≡ []) }
     {
-        let positions = IndexSet::with_capacity(alloc, count)?;
+        let positions = IndexSet::with_capacity_and_hasher(alloc, count, seed)?;
         Ok(Positions { positions })
     }
 

@@ -8,6 +8,7 @@ ghost use Rattle.cil_matching.specs.Spot.{Spot, same_spot, set_spot, spot_of};
 
 use crate::inverse::{inverse, place_at};
 use crate::positions::{Position, Positions};
+use cil_names::Seed;
 use cil_resolve::{Resolved, resolved_sets_are_apart};
 use std::alloc::{AllocError, Allocator, Global};
 use std::marker::Model;
@@ -43,12 +44,13 @@ fn position<A: Allocator>(resolved: &Resolved<A>, i: usize) -> Position<'_>
 /// The positions of a policy's set statements, in the order of their places.
 fn positions<A: Allocator + Copy>(
     alloc: A,
+    seed: Seed,
     resolved: &Resolved<A>,
 ) -> Result<Positions<'_, A>, AllocError>
     ensures { IfOk result (λ positions. positions ≡ map set_spot (sets_in resolved.now)) }
 {
     resolved_sets_are_apart(resolved);
-    let mut positions = Positions::with_capacity(alloc, resolved.sets_len())?;
+    let mut positions = Positions::with_capacity(alloc, seed, resolved.sets_len())?;
     for i in 0..resolved.sets_len() {
         positions.add(position(resolved, i))?;
     }
@@ -66,6 +68,7 @@ fn stands_at<A: Allocator>(resolved: &Resolved<A>, j: usize, wanted: Position<'_
 /// stand in one order. Where each is at its likely place, the positions are never put together.
 fn find<'r, A: Allocator + Copy>(
     alloc: A,
+    seed: Seed,
     resolved: &'r Resolved<A>,
     positions: &mut Option<Positions<'r, A>>,
     likely: usize,
@@ -82,7 +85,7 @@ fn find<'r, A: Allocator + Copy>(
     if let Some(known) = positions {
         return Ok(known.find(wanted));
     }
-    let made = self::positions(alloc, resolved)?;
+    let made = self::positions(alloc, seed, resolved)?;
     let found = made.find(wanted);
     *positions = Some(made);
     Ok(found)
@@ -112,6 +115,7 @@ fn same<A: Allocator>(
 /// For each set statement of the old policy the place of the same one in the new one, if that has it.
 fn set_places<A: Allocator + Copy>(
     alloc: A,
+    seed: Seed,
     old: &Resolved<A>,
     new: &Resolved<A>,
 ) -> Result<Vec<Option<usize>, A>, AllocError>
@@ -121,7 +125,7 @@ fn set_places<A: Allocator + Copy>(
     let mut positions = None;
     let mut likely = 0;
     for i in 0..old.sets_len() {
-        let found = find(alloc, new, &mut positions, likely, position(old, i))?;
+        let found = find(alloc, seed, new, &mut positions, likely, position(old, i))?;
         places.push(same(old, i, new, found))?;
         likely = found.map_or(likely, |j| j.saturating_add(1));
     }
@@ -130,12 +134,17 @@ fn set_places<A: Allocator + Copy>(
 
 impl<A: Allocator + Copy> SetMatching<A> {
     /// The set statements of an old policy that stand in a new one: those of the same module, offset and content. Its time goes
-    /// with the size of the two.
-    pub fn of(alloc: A, old: &Resolved<A>, new: &Resolved<A>) -> Result<Self, AllocError>
+    /// with the size of the two. The table of the statements' places is hashed by a seed.
+    pub fn of(
+        alloc: A,
+        seed: Seed,
+        old: &Resolved<A>,
+        new: &Resolved<A>,
+    ) -> Result<Self, AllocError>
         ensures { IfOk result (AreMatched IsSameSet (sets_in old.now) (sets_in new.now)) }
     {
         resolved_sets_are_apart(old);
-        let ahead = set_places(alloc, old, new)?;
+        let ahead = set_places(alloc, seed, old, new)?;
         let back = inverse(alloc, &ahead, new.sets_len())?;
         Ok(SetMatching { ahead, back })
     }

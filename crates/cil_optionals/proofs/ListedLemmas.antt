@@ -1,5 +1,5 @@
 -- What is listed and given the other way round.
-use Rattle.std.proofs.Common.{◌≡◌, ℕ, zero, suc, ◌<◌, ◌==◌, ◌&&◌, ◌||◌, Bool, true, false, List, [], ◌∷◌, ◌++◌, length, set, position, replicate, get_or, slice_get, Option, Some, None, is_some, Vec, Bor, Result, Ok, Err, OnOk, OnErr, bytes_eq, refl, sym, ap, ◌∙◌, true≢false, arith, inl, inr, if◌then◌else◌}
+use Rattle.std.proofs.Common.{◌≡◌, ℕ, zero, suc, ◌<◌, ◌==◌, ◌&&◌, ◌||◌, Bool, true, false, List, [], ◌∷◌, ◌++◌, length, set, position, replicate, get_or, slice_get, Option, Some, None, is_some, Vec, Result, Ok, Err, OnOk, OnErr, bytes_eq, refl, sym, ap, ◌∙◌, true≢false, arith, inl, inr, if◌then◌else◌}
 use Rattle.std.specs.List.{list_any}
 use Rattle.std.specs.Option.{option_or, option_and_then}
 use Rattle.std.proofs.lemmas.Bool.{eqb-true, eq-eqb, ne_eqb, cases_eq}
@@ -10,6 +10,7 @@ use Rattle.std.proofs.Math.Bool.{or-false}
 use Rattle.std.proofs.lemmas.Slice.Eq.{bytes_eq-Decides}
 use Rattle.indexmap.specs.IndexSet.{insert_key}
 use Rattle.cil_specs.proofs.Runs.{first_true, second_true}
+use Rattle.cil_specs.specs.Lookup.{has_name, with_name}
 use Rattle.cil_bind.proofs.PositionLemmas.{at_if, position-append, any-position}
 use Rattle.cil_optionals.specs.Given.{lists, places_in, commons_at, listers_at, has_gift, given_at, IsInverse, AreAnswers, AreRecent}
 use Rattle.cil_optionals.specs.declared.listed.Gift.{Gift}
@@ -47,9 +48,9 @@ meet-turn (x ∷ xs) ys = (λ k. list_any (λ y. eq-turn x y k) ys || meet-turn 
 
 -- the statements that list a name are asked in place of the commons that are given
 pub by-listers : {A : Type 0} (p : Listed A) (the_class : ℕ) (name : List ℕ) → IsInverse p
-    → list_any (λ c. has_gift p.gifts.keys the_class c) (listers_at p.names.keys p.listers.items name) ≡ list_any (λ c. lists p.listed.keys c name) (commons_at p.given.items the_class)
+    → list_any (λ c. has_gift p.gifts.keys the_class c) (listers_at p.names p.listers.items name) ≡ list_any (λ c. lists p.listed.keys c name) (commons_at p.given.items the_class)
 by-listers p the_class name is =
-    (λ k. list_any (λ c. is.gifts the_class c k) (listers_at p.names.keys p.listers.items name)) ∙ meet-turn (listers_at p.names.keys p.listers.items name) (commons_at p.given.items the_class)
+    (λ k. list_any (λ c. is.gifts the_class c k) (listers_at p.names p.listers.items name)) ∙ meet-turn (listers_at p.names p.listers.items name) (commons_at p.given.items the_class)
     ∙ (λ k. list_any (λ c. is.listers c name k) (commons_at p.given.items the_class))
 
 get-low : {X : Type 0} (xs ys : List X) (n : ℕ) → n < length xs → slice_get (xs ++ ys) n ≡ slice_get xs n
@@ -80,20 +81,29 @@ commons-kept {A} given after new more empty i = ap (λ l. commons_at l i) more �
     by (x ∷ xs) (suc j) = by xs j
 
 -- nothing is taken up
-pub inverse-none : {A : Type 0} (p : Listed A) → p.listed.keys ≡ [] → p.gifts.keys ≡ [] → p.names.keys ≡ [] → p.listers.items ≡ [] → ((i : ℕ) → commons_at p.given.items i ≡ []) → IsInverse p
+pub inverse-none : {A : Type 0} (p : Listed A) → p.listed.keys ≡ [] → p.gifts.keys ≡ [] → p.names ≡ [] → p.listers.items ≡ [] → ((i : ℕ) → commons_at p.given.items i ≡ []) → IsInverse p
 inverse-none p no_keys no_gifts no_names no_listers empty = record {
   gifts = λ i c. ap (λ l. has_gift l i c) no_gifts ∙ sym (ap (list_any (λ d. c == d)) (empty i));
   listers = λ i name. (λ k. list_any (λ q. i == q) (listers_at (no_names k) (no_listers k) name)) ∙ sym (ap (λ l. lists l i name) no_keys);
   long = ap length no_names ∙ sym (ap length no_listers);
 }
 
+-- a name that isn't found is none of them
+pub missing : (names : List (List ℕ)) (name : List ℕ) (found : Option ℕ) → found ≡ position (bytes_eq name) names → ((n : ℕ) → found ≡ Some n → ⊥) → has_name names name ≡ false
+missing names name None is none = any-position (bytes_eq name) names ∙ ap is_some (sym is)
+missing names name (Some n) is none = absurd (none n refl)
+
+-- with it there is one name more
+pub with-new : (names : List (List ℕ)) (name : List ℕ) → has_name names name ≡ false → with_name names name ≡ names ++ name ∷ []
+with-new names name new = ap (λ b. if b then names else names ++ name ∷ []) new
+
 -- a new name, which no statement lists
-pub number-new : {A : Type 0} (names : List (Bor (List ℕ))) (listers : List (Vec ℕ A)) (w : Bor (List ℕ)) (v : Vec ℕ A) → length names ≡ length listers → v.items ≡ [] → (other : List ℕ)
+pub number-new : {A : Type 0} (names : List (List ℕ)) (listers : List (Vec ℕ A)) (w : List ℕ) (v : Vec ℕ A) → length names ≡ length listers → v.items ≡ [] → (other : List ℕ)
     → listers_at (names ++ w ∷ []) (listers ++ v ∷ []) other ≡ listers_at names listers other
 number-new {A} names listers w v long none other = ap (λ o. places_in (option_and_then (slice_get (listers ++ v ∷ [])) o)) (position-append test names w) ∙ by (position test names) refl
   where
-    test : Bor (List ℕ) → Bool
-    test n = bytes_eq other n.now
+    test : List ℕ → Bool
+    test n = bytes_eq other n
 
     last : (b : Bool) → places_in (option_and_then (slice_get (listers ++ v ∷ [])) (at_if b (length names))) ≡ []
     last true = ap (λ n. places_in (slice_get (listers ++ v ∷ []) n)) long ∙ ap places_in (get-last listers v) ∙ none
@@ -103,41 +113,41 @@ number-new {A} names listers w v long none other = ap (λ o. places_in (option_a
     by (Some n) e = ap places_in (get-low listers (v ∷ []) n (let low = (position-Some test names n w e).0 in omega (arith, low, long)))
     by None e = last (test w)
 
-pub number-named : (names : List (Bor (List ℕ))) (w : Bor (List ℕ)) → list_any (λ n. bytes_eq w.now n.now) names ≡ false → position (λ n. bytes_eq w.now n.now) (names ++ w ∷ []) ≡ Some (length names)
+pub number-named : (names : List (List ℕ)) (w : List ℕ) → list_any (bytes_eq w) names ≡ false → position (bytes_eq w) (names ++ w ∷ []) ≡ Some (length names)
 number-named names w absent =
-    position-append (λ n. bytes_eq w.now n.now) names w ∙ ap (λ o. option_or o (at_if (bytes_eq w.now w.now) (length names))) (none (position (λ n. bytes_eq w.now n.now) names) (sym (any-position (λ n. bytes_eq w.now n.now) names) ∙ absent))
-    ∙ ap (λ b. at_if b (length names)) ((bytes_eq-Decides w.now w.now).1 refl)
+    position-append (bytes_eq w) names w ∙ ap (λ o. option_or o (at_if (bytes_eq w w) (length names))) (none (position (bytes_eq w) names) (sym (any-position (bytes_eq w) names) ∙ absent))
+    ∙ ap (λ b. at_if b (length names)) ((bytes_eq-Decides w w).1 refl)
   where
     none : (o : Option ℕ) → is_some o ≡ false → o ≡ None
     none None e = refl
     none (Some n) e = absurd (true≢false e)
 
 -- one statement more that lists a name
-listers-push : {A : Type 0} (names : List (Bor (List ℕ))) (listers : List (Vec ℕ A)) (name : List ℕ) (d : Bor (List ℕ)) (number place : ℕ) (v w : Vec ℕ A) → position (λ n. bytes_eq name n.now) names ≡ Some number
+listers-push : {A : Type 0} (names : List (List ℕ)) (listers : List (Vec ℕ A)) (name : List ℕ) (d : List ℕ) (number place : ℕ) (v w : Vec ℕ A) → position (bytes_eq name) names ≡ Some number
     → slice_get listers number ≡ Some v → w.items ≡ v.items ++ place ∷ [] → (other : List ℕ)
     → listers_at names (set listers number w) other ≡ listers_at names listers other ++ (if bytes_eq other name then place ∷ [] else [])
 listers-push {A} names listers name d number place v w named at more other = by (bytes_eq other name) refl
   where
-    same-one : (n : ℕ) → n ≡ number → position (λ m. bytes_eq other m.now) names ≡ Some n → bytes_eq other name ≡ true
+    same-one : (n : ℕ) → n ≡ number → position (bytes_eq other) names ≡ Some n → bytes_eq other name ≡ true
     same-one n e found =
-        let there = (position-Some (λ m. bytes_eq other m.now) names n d found).1 in
-        let here = (position-Some (λ m. bytes_eq name m.now) names number d named).1 in
-        (bytes_eq-Decides other name).1 ((bytes_eq-Decides other (get_or names n d).now).0 there ∙ ap (λ k. (get_or names k d).now) e ∙ sym ((bytes_eq-Decides name (get_or names number d).now).0 here))
+        let there = (position-Some (bytes_eq other) names n d found).1 in
+        let here = (position-Some (bytes_eq name) names number d named).1 in
+        (bytes_eq-Decides other name).1 ((bytes_eq-Decides other (get_or names n d)).0 there ∙ ap (λ k. get_or names k d) e ∙ sym ((bytes_eq-Decides name (get_or names number d)).0 here))
 
     keep : (xs : List ℕ) → xs ≡ xs ++ []
     keep [] = refl
     keep (x ∷ xs) = ap (λ l. x ∷ l) (keep xs)
 
-    elsewhere : (o : Option ℕ) → position (λ m. bytes_eq other m.now) names ≡ o → bytes_eq other name ≡ false → places_in (option_and_then (slice_get (set listers number w)) o) ≡ places_in (option_and_then (slice_get listers) o)
+    elsewhere : (o : Option ℕ) → position (bytes_eq other) names ≡ o → bytes_eq other name ≡ false → places_in (option_and_then (slice_get (set listers number w)) o) ≡ places_in (option_and_then (slice_get listers) o)
     elsewhere None e isnt = refl
     elsewhere (Some n) e isnt = ap places_in (get-set_other listers number n w (λ same. true≢false (sym (same-one n same e) ∙ isnt)))
 
     by : (b : Bool) → bytes_eq other name ≡ b → listers_at names (set listers number w) other ≡ listers_at names listers other ++ (if b then place ∷ [] else [])
     by true e =
-        let found : position (λ m. bytes_eq other m.now) names ≡ Some number = ap (λ text. position (λ m. bytes_eq text m.now) names) ((bytes_eq-Decides other name).0 e) ∙ named in
+        let found : position (bytes_eq other) names ≡ Some number = ap (λ text. position (bytes_eq text) names) ((bytes_eq-Decides other name).0 e) ∙ named in
         ap (λ o. places_in (option_and_then (slice_get (set listers number w)) o)) found ∙ ap places_in (get-set_same listers number v w at) ∙ more
         ∙ ap (λ o. places_in o ++ place ∷ []) (sym at) ∙ ap (λ o. places_in (option_and_then (slice_get listers) o) ++ place ∷ []) (sym found)
-    by false e = elsewhere (position (λ m. bytes_eq other m.now) names) refl e ∙ keep (listers_at names listers other)
+    by false e = elsewhere (position (bytes_eq other) names) refl e ∙ keep (listers_at names listers other)
 
 any-one : (b : Bool) (place i : ℕ) → list_any (λ other. i == other) (if b then place ∷ [] else []) ≡ ((i == place) && b)
 any-one true place i = or-false (i == place) ∙ sym (and-true (i == place))
@@ -151,7 +161,7 @@ any-one false place i = sym (and-false (i == place))
     and-false true = refl
     and-false false = refl
 
-pub listers-insert : {A : Type 0} (names : List (Bor (List ℕ))) (listers : List (Vec ℕ A)) (old new : List Permission) (name : List ℕ) (d : Bor (List ℕ)) (number place : ℕ) (v w : Vec ℕ A) → position (λ n. bytes_eq name n.now) names ≡ Some number
+pub listers-insert : {A : Type 0} (names : List (List ℕ)) (listers : List (Vec ℕ A)) (old new : List Permission) (name : List ℕ) (d : List ℕ) (number place : ℕ) (v w : Vec ℕ A) → position (bytes_eq name) names ≡ Some number
     → slice_get listers number ≡ Some v → w.items ≡ v.items ++ place ∷ []
     → ((i : ℕ) (other : List ℕ) → list_any (λ q. i == q) (listers_at names listers other) ≡ lists old i other)
     → ((i : ℕ) (other : List ℕ) → lists new i other ≡ (lists old i other || (i == place && bytes_eq other name)))

@@ -1,6 +1,5 @@
 -- The permissions that are listed and the commons that are given.
 use Rattle.std.specs.Prelude.{◌≡◌, ℕ, ◌-◌, Bool, true, false, ◌||◌, ◌&&◌, ◌==◌, List, [], ◌∷◌, length, take, slice_get, slice_index_or, bytes_eq, Option, Some, None, Vec, position, if◌then◌else◌}
-use Rattle.std.specs.Borrow.{Bor}
 use Rattle.std.specs.List.{list_all, list_any}
 use Rattle.std.specs.Option.{option_and_then}
 use Rattle.cil_specs.specs.Statements.{Form, class_common}
@@ -29,8 +28,8 @@ abbrev pub commons_at : {A : Type 0} → List (Vec ℕ A) → ℕ → List ℕ
 commons_at given class = places_in (slice_get given class)
 
 -- the statements that list a name
-abbrev pub listers_at : {A : Type 0} → List (Bor (List ℕ)) → List (Vec ℕ A) → List ℕ → List ℕ
-listers_at names listers name = places_in (option_and_then (slice_get listers) (position (λ other. bytes_eq name other.now) names))
+abbrev pub listers_at : {A : Type 0} → List (List ℕ) → List (Vec ℕ A) → List ℕ → List ℕ
+listers_at names listers name = places_in (option_and_then (slice_get listers) (position (bytes_eq name) names))
 
 -- whether a common is given to a class
 abbrev pub has_gift : List Gift → ℕ → ℕ → Bool
@@ -90,8 +89,8 @@ pub record IsUpTo {A : Type 0} (policy : List Placed) (n : ℕ) (p : Listed A) :
 -- The pairs are those of the commons that are given, and for each name there are the statements that list it.
 pub record IsInverse {A : Type 0} (p : Listed A) : Type 0 where
   pub gifts : (the_class the_common : ℕ) → has_gift p.gifts.keys the_class the_common ≡ list_any (λ c. the_common == c) (commons_at p.given.items the_class)
-  pub listers : (place : ℕ) (name : List ℕ) → list_any (λ other. place == other) (listers_at p.names.keys p.listers.items name) ≡ lists p.listed.keys place name
-  pub long : length p.names.keys ≡ length p.listers.items
+  pub listers : (place : ℕ) (name : List ℕ) → list_any (λ other. place == other) (listers_at p.names p.listers.items name) ≡ lists p.listed.keys place name
+  pub long : length p.names ≡ length p.listers.items
 
 -- these questions are answered so
 abbrev pub AreAnswers : (ℕ → List ℕ → Bool) → List Permission → Bool → Type 0

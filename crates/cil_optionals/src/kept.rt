@@ -14,6 +14,7 @@ use crate::greatest::{Need, greatest};
 use crate::others::others;
 use crate::providers::providers;
 use cil_bind::{Joined, Policy, Row};
+use cil_names::counted_in_32_bits;
 use std::alloc::{AllocError, Allocator};
 
 /// Whether no row is an optional.
@@ -78,9 +79,7 @@ pub fn kept_optionals<'m, A: Allocator + Copy>(
         → ShowsKept all policy.now.rows.items kept.items) }
 {
     let count = policy.rows.len();
-    if count > 0xFFFF_FFFF {
-        return Err(AllocError);
-    }
+    counted_in_32_bits(count)?;
     if none_is_optional(policy.rows.as_slice()) {
         return all_marked(alloc, count + 1);
     }

@@ -1,7 +1,10 @@
 //! What classes and commons list, and the commons that are given to classes.
 
-ghost use Rattle.std.specs.Prelude.{◌≡◌, ◌<◌, ◌+◌, ◌&&◌, ◌||◌, ◌==◌, ◌++◌, ℕ, [], List, Some, map, length, bytes_eq, position, slice_get, IfOk, OnOk};
+ghost use Rattle.std.specs.Prelude.{◌≡◌, ◌<◌, ◌+◌, ◌&&◌, ◌||◌, ◌==◌, ◌++◌, ◌∷◌, ℕ, [], List, Some, map, length, bytes_eq, position, slice_get, IfOk, OnOk};
+ghost use Rattle.std.specs.Cmp.Rules.{hashing};
+ghost use Rattle.std.specs.Hash as fed;
 ghost use Rattle.std.specs.List.{list_any};
+ghost use Rattle.std.proofs.Common.{rules};
 ghost use Rattle.cil_specs.specs.Names.{Word};
 ghost use Rattle.cil_specs.specs.Joined.{Placed};
 ghost use Rattle.cil_specs.specs.Lookup.{has_name, texts};
@@ -15,16 +18,28 @@ ghost use Rattle.cil_optionals.specs.Permissions.{HavePermissions};
 ghost use Rattle.cil_optionals.specs.Providers.{IsReady};
 
 use cil_bind::{Joined, Policy};
+use cil_names::{Names, Seed};
 use cil_parse::{NumberedWord, ParsedModule, StatementKind};
 use indexmap::IndexSet;
 use std::alloc::{AllocError, Allocator, Global};
-use std::hash::{BuildHasherDefault, FoldHasher};
+use std::hash::{BuildHasherDefault, FoldHasher, Hash, Hasher};
 
 /// A permission that the class or the common at a place lists.
-#[derive(Clone, Copy, PartialEq, Eq, Hash)]
+#[derive(Clone, Copy, PartialEq, Eq)]
 pub struct Permission<'m> {
     pub place: u32,
     pub name: &'m [u8],
+}
+
+impl<'m> Hash for Permission<'m> {
+    ghost hash_input = { λ permission. fed.u32 permission.place ++ permission.name.now ∷ [] };
+
+    ghost respects_eq = { Prim.search (hashing, rules) };
+
+    fn hash<H: Hasher>(&self, state: &mut H) {
+        state.write_u32(self.place);
+        state.write(self.name);
+    }
 }
 
 /// A common that is given to a class, by their places.
@@ -39,10 +54,10 @@ pub struct Gift {
 /// name the places of the statements that list it.
 #[derive(Drop)]
 pub struct Listed<'m, A: Allocator = Global> {
-    listed: IndexSet<Permission<'m>, BuildHasherDefault<FoldHasher>, A>,
+    listed: IndexSet<Permission<'m>, Seed, A>,
     given: Vec<Vec<u32, A>, A>,
     gifts: IndexSet<Gift, BuildHasherDefault<FoldHasher>, A>,
-    names: IndexSet<&'m [u8], BuildHasherDefault<FoldHasher>, A>,
+    names: Names<'m, A>,
     listers: Vec<Vec<u32, A>, A>,
 }
 
@@ -87,15 +102,15 @@ fn make_room<A: Allocator + Copy>(
 
 impl<'m, A: Allocator + Copy> Listed<'m, A> {
     /// What nothing lists, where at no place a common is given yet.
-    pub fn new(alloc: A) -> Self
+    pub fn new(alloc: A, seed: Seed) -> Self
         ensures up_to { (all : List Placed) → IsUpTo all 0 result }
         ensures inverse { IsInverse result }
     {
         Listed {
-            listed: IndexSet::new(alloc),
+            listed: IndexSet::with_hasher(alloc, seed),
             given: Vec::new(alloc),
             gifts: IndexSet::new(alloc),
-            names: IndexSet::new(alloc),
+            names: Names::new(alloc, seed),
             listers: Vec::new(alloc),
         }
     }
@@ -184,15 +199,15 @@ impl<'m, A: Allocator + Copy> Listed<'m, A> {
 
     /// The number of a name, a new one, which no statement lists yet, where it has none.
     fn number(&mut self, alloc: A, name: &'m [u8]) -> Result<usize, AllocError>
-        requires { length self.old.names.keys ≡ length self.old.listers.items }
-        ensures long { OnOk result (length self.new.names.keys ≡ length self.new.listers.items) }
-        ensures named { IfOk result (λ number. position (λ other. bytes_eq name.now other.now) self.new.names.keys ≡ Some number) }
-        ensures listers { OnOk result ((other : List ℕ) → listers_at self.new.names.keys self.new.listers.items other ≡ listers_at self.old.names.keys self.old.listers.items other) }
+        requires { length self.old.names ≡ length self.old.listers.items }
+        ensures long { OnOk result (length self.new.names ≡ length self.new.listers.items) }
+        ensures named { IfOk result (λ number. position (bytes_eq name.now) self.new.names ≡ Some number) }
+        ensures listers { OnOk result ((other : List ℕ) → listers_at self.new.names self.new.listers.items other ≡ listers_at self.old.names self.old.listers.items other) }
         ensures listed { OnOk result (self.new.listed ≡ self.old.listed) }
         ensures given { OnOk result (self.new.given ≡ self.old.given) }
         ensures gifts { OnOk result (self.new.gifts ≡ self.old.gifts) }
     {
-        if let Some(number) = self.names.get_index_of(&name) {
+        if let Some(number) = self.names.find(name) {
             return Ok(number);
         }
         let number = self.listers.len();
@@ -245,10 +260,10 @@ impl<'m, A: Allocator> Listed<'m, A> {
 
     /// The places of the statements that list a name.
     fn listers(&self, name: &'m [u8]) -> &[u32]
-        requires { length self.now.names.keys ≡ length self.now.listers.items }
-        ensures { result.now ≡ listers_at self.now.names.keys self.now.listers.items name.now }
+        requires { length self.now.names ≡ length self.now.listers.items }
+        ensures { result.now ≡ listers_at self.now.names self.now.listers.items name.now }
     {
-        match self.names.get_index_of(&name) {
+        match self.names.find(name) {
             Some(number) => self.listers[number].as_slice(),
             None => &[],
         }

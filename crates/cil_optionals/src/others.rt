@@ -147,6 +147,6 @@ pub fn others<'m, A: Allocator + Copy>(
     requires ready { (all : List Placed) × IsReady policy.now joined.now.modules.items all }
     ensures { IfOk result (λ needs. (all : List Placed) → IsReady policy.now joined.now.modules.items all → AreOthers all policy.now.rows.items needs.items) }
 {
-    let mut listed = Listed::new(alloc);
+    let mut listed = Listed::new(alloc, joined.seed);
     others_listed(alloc, joined, policy, &mut listed)
 }

@@ -16,10 +16,10 @@ ghost use Rattle.cil_optionals.specs.Providers.{IsReady};
 
 use crate::listed::{Listed, Permission};
 use cil_bind::{Joined, KnownLists, PermissionList, Policy};
+use cil_names::Seed;
 use cil_parse::{NumberedWord, ParsedModule, StatementKind};
 use indexmap::IndexSet;
 use std::alloc::{AllocError, Allocator, Global};
-use std::hash::{BuildHasherDefault, FoldHasher};
 
 /// How many questions are at hand.
 const RECENT: usize = 4096;
@@ -31,8 +31,8 @@ const RECENT: usize = 4096;
 pub struct Permissions<'l, 'm, A: Allocator = Global> {
     listed: &'l Listed<'m, A>,
     joined: &'l Joined<'m, A>,
-    held: IndexSet<Permission<'m>, BuildHasherDefault<FoldHasher>, A>,
-    lacked: IndexSet<Permission<'m>, BuildHasherDefault<FoldHasher>, A>,
+    held: IndexSet<Permission<'m>, Seed, A>,
+    lacked: IndexSet<Permission<'m>, Seed, A>,
     recent: Vec<Option<Permission<'m>>, A>,
     known: KnownLists<A>,
     ghost inverse: { IsInverse listed.now },
@@ -92,8 +92,8 @@ impl<'l, 'm, A: Allocator + Copy> Permissions<'l, 'm, A> {
         Ok(Permissions {
             listed,
             joined,
-            held: IndexSet::new(alloc),
-            lacked: IndexSet::new(alloc),
+            held: IndexSet::with_hasher(alloc, joined.seed),
+            lacked: IndexSet::with_hasher(alloc, joined.seed),
             recent,
             known: KnownLists::new(alloc),
         })

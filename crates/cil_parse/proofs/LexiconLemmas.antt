@@ -7,6 +7,7 @@ use Rattle.std.proofs.lemmas.Option.{slice_get-map}
 use Rattle.std.proofs.lemmas.Slice.Eq.{bytes_eq-Decides}
 use Rattle.indexmap.specs.IndexSet.{insert_key}
 use Rattle.cil_specs.specs.Lookup.{has_name, with_name}
+use Rattle.cil_names.proofs.TextLemmas.{stored-text, with_name-texts}
 use Rattle.cil_parse.specs.Lexicon.{seen, Keeps, AreNumbersOf}
 
 abbrev pub Name : Type 0
@@ -51,17 +52,6 @@ each-append f xs more ys others is new = map-append f xs more ∙ ap (λ l. l ++
 pub lists-append : {X Y T : Type 0} (f : X → Y) (h : T → Y) (xs : List X) (x : X) (ts : List T) (t : T) → map f xs ≡ map h ts → f x ≡ h t → map f (xs ++ x ∷ []) ≡ map h (ts ++ t ∷ [])
 lists-append f h xs x ts t is new = map-append f xs (x ∷ []) ∙ ap (λ l. l ++ f x ∷ []) is ∙ ap (λ y. map h ts ++ y ∷ []) new ∙ sym (map-append h ts (t ∷ []))
 
-has_name-seen : (names : List Name) (name : List ℕ) → list_any (λ k. bytes_eq name k.now) names ≡ has_name (seen names) name
-has_name-seen [] name = refl
-has_name-seen (x ∷ xs) name = ap (λ b. bytes_eq name x.now || b) (has_name-seen xs name)
-
-pub with_name-seen : (names : List Name) (name : Name) → seen (insert_key same names name) ≡ with_name (seen names) name.now
-with_name-seen names name = by (list_any (same name) names) (has_name-seen names name.now)
-  where
-    by : (b : Bool) → b ≡ has_name (seen names) name.now → seen (if b then names else names ++ name ∷ []) ≡ with_name (seen names) name.now
-    by true e = ap (λ b. if b then seen names else seen names ++ name.now ∷ []) e
-    by false e = map-append (λ n. n.now) names (name ∷ []) ∙ ap (λ b. if b then seen names else seen names ++ name.now ∷ []) e
-
 pub with_name-keeps : (names : List (List ℕ)) (name : List ℕ) → Keeps names (with_name names name)
 with_name-keeps names name n x is = by (has_name names name)
   where
@@ -69,34 +59,34 @@ with_name-keeps names name n x is = by (has_name names name)
     by true = is
     by false = get-append names (name ∷ []) n x is
 
--- what is stored at a number under an equal name
-pub stored-name : (names : List Name) (n : ℕ) (name : Name) → ((k : Name) × (slice_get names n ≡ Some k) × (same name k ≡ true)) → slice_get (seen names) n ≡ Some name.now
-stored-name names n name (k, at, is) =
-    slice_get-map (λ n. n.now) names n ∙ ap (option_map (λ n. n.now)) at ∙ ap Some (sym ((bytes_eq-Decides name.now k.now).0 is))
+-- the names with one that is new, and with one that is known
+pub name-added : (names : List (List ℕ)) (name : List ℕ) (all : List (List ℕ)) → all ≡ with_name names name → true ≡ not (has_name names name) → all ≡ names ++ name ∷ []
+name-added names name all is new = by (has_name names name) refl
+  where
+    by : (b : Bool) → b ≡ has_name names name → all ≡ names ++ name ∷ []
+    by true e = absurd (true≢false (new ∙ ap not (sym e)))
+    by false e = is ∙ ap (λ b. if b then names else names ++ name ∷ []) (sym e)
+
+pub name-known : (names : List (List ℕ)) (name : List ℕ) (all : List (List ℕ)) → all ≡ with_name names name → false ≡ not (has_name names name) → all ≡ names
+name-known names name all is new = by (has_name names name) refl
+  where
+    by : (b : Bool) → b ≡ has_name names name → all ≡ names
+    by true e = is ∙ ap (λ b. if b then names else names ++ name ∷ []) (sym e)
+    by false e = absurd (true≢false (sym (new ∙ ap not (sym e))))
+
+pub with_name-kept : (names : List (List ℕ)) (name : List ℕ) (all : List (List ℕ)) → all ≡ with_name names name → Keeps names all
+with_name-kept names name all is = subst (Keeps names) (sym is) (with_name-keeps names name)
 
 -- a name's number behind others
+pub name-numbered : (names : List (List ℕ)) (name : List ℕ) (all : List (List ℕ)) (numbers more : List ℕ) (n k : ℕ) → all ≡ with_name names name → slice_get all n ≡ Some name → k ≡ n → more ≡ numbers ++ k ∷ []
+    → (before : List (List ℕ)) → AreNumbersOf names numbers before → AreNumbersOf all more (before ++ name ∷ [])
+name-numbered names name all numbers more n k is at same_number pushed before known =
+    let here : slice_get all k ≡ Some name = ap (slice_get all) same_number ∙ at in
+    let kept = each-keeps (slice_get names) (slice_get all) (with_name-kept names name all is) numbers before known in
+    ap (map (slice_get all)) pushed ∙ each-append (slice_get all) numbers (k ∷ []) before (name ∷ []) kept (ap (λ o. o ∷ []) here)
+
+-- the same of keys that are borrowed
 pub number-pushed : (names : List Name) (name : Name) (all : List Name) (numbers more : List ℕ) (n k : ℕ) → all ≡ insert_key same names name → ((key : Name) × (slice_get all n ≡ Some key) × (same name key ≡ true)) → k ≡ n → more ≡ numbers ++ k ∷ []
     → (before : List (List ℕ)) → AreNumbersOf (seen names) numbers before → AreNumbersOf (seen all) more (before ++ name.now ∷ [])
 number-pushed names name all numbers more n k is stored same_number pushed before known =
-    let keeps : Keeps (seen names) (seen all) = subst (Keeps (seen names)) (sym (ap seen is ∙ with_name-seen names name)) (with_name-keeps (seen names) name.now) in
-    let here : slice_get (seen all) k ≡ Some name.now = ap (slice_get (seen all)) same_number ∙ stored-name all n name stored in
-    let kept = each-keeps (slice_get (seen names)) (slice_get (seen all)) keeps numbers before known in
-    ap (map (slice_get (seen all))) pushed ∙ each-append (slice_get (seen all)) numbers (k ∷ []) before (name.now ∷ []) kept (ap (λ o. o ∷ []) here)
-
-pub insert-keeps : (names : List Name) (name : Name) (all : List Name) → all ≡ insert_key same names name → Keeps (seen names) (seen all)
-insert-keeps names name all is = subst (Keeps (seen names)) (sym (ap seen is ∙ with_name-seen names name)) (with_name-keeps (seen names) name.now)
-
--- the keys with one that is new, and with one that is known
-pub insert-new : (names : List Name) (name : Name) (all : List Name) → all ≡ insert_key same names name → true ≡ not (list_any (same name) names) → seen all ≡ seen names ++ name.now ∷ []
-insert-new names name all is new = by (list_any (same name) names) refl
-  where
-    by : (b : Bool) → b ≡ list_any (same name) names → seen all ≡ seen names ++ name.now ∷ []
-    by true e = absurd (true≢false (new ∙ ap not (sym e)))
-    by false e = ap seen (is ∙ ap (λ b. if b then names else names ++ name ∷ []) (sym e)) ∙ map-append (λ n. n.now) names (name ∷ [])
-
-pub insert-known : (names : List Name) (name : Name) (all : List Name) → all ≡ insert_key same names name → false ≡ not (list_any (same name) names) → all ≡ names
-insert-known names name all is new = by (list_any (same name) names) refl
-  where
-    by : (b : Bool) → b ≡ list_any (same name) names → all ≡ names
-    by true e = is ∙ ap (λ b. if b then names else names ++ name ∷ []) (sym e)
-    by false e = absurd (true≢false (sym (new ∙ ap not (sym e))))
+    name-numbered (seen names) name.now (seen all) numbers more n k (ap seen is ∙ with_name-texts (λ key. key.now) names name) (stored-text (λ key. key.now) all name n stored) same_number pushed before known

@@ -9,10 +9,10 @@ abbrev pub seen : {T : Type 0} → List (Bor (List T)) → List (List T)
 seen names = map (λ name. name.now) names
 
 abbrev pub texts_in : {A : Type 0} → Lexicon A → List (List ℕ)
-texts_in l = seen l.texts.keys
+texts_in l = l.texts
 
 abbrev pub names_in : {A : Type 0} → Lexicon A → List (List ℕ)
-names_in l = seen l.names.keys
+names_in l = l.names
 
 -- what has a number in the one list has it in the other
 abbrev pub Keeps : List (List ℕ) → List (List ℕ) → Type 0

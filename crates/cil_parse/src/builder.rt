@@ -15,9 +15,10 @@ ghost use Rattle.cil_parse.specs.Forms.{expr_nodes, kind_of};
 ghost use Rattle.cil_parse.specs.Builder.{IsAt, Adds, AddsExpr, AddsForm, Closes, Puts, Places, top};
 ghost use Rattle.cil_parse.specs.FromTrees.{PlacesTrees, IsAtTrees};
 
-use crate::lexicon::{Lexicon, number};
+use crate::lexicon::Lexicon;
 use crate::lists::Lists;
 use crate::row::{Around, NumberedWord, Row, SetNode, StatementKind};
+use cil_names::{Seed, in_32_bits};
 use cil_text::{
     Expr, Forest, Place, RuleKind, Statement, Target, TextFault, TreeSlice, Word, next_statement,
 };
@@ -34,11 +35,11 @@ pub struct Builder<'a, A: Allocator = Global> {
 
 impl<'a, A: Allocator + Copy> Builder<'a, A> {
     /// Nothing was gone over.
-    fn new(alloc: A) -> Result<Self, AllocError>
+    fn new(alloc: A, seed: Seed) -> Result<Self, AllocError>
         ensures { IfOk result (λ b. IsAt b [] [] []) }
     {
         Ok(Builder {
-            lexicon: Lexicon::new(alloc)?,
+            lexicon: Lexicon::new(alloc, seed)?,
             words: Lists::with_capacity(alloc, 0, 0)?,
             nodes: Lists::with_capacity(alloc, 0, 0)?,
             rows: Vec::new(alloc),
@@ -252,11 +253,11 @@ impl<'a, A: Allocator + Copy> Builder<'a, A> {
             self.head(around, statement)?;
             match statement {
                 Statement::Block { body, .. } => {
-                    let block = number(self.rows.len())?;
+                    let block = in_32_bits(self.rows.len())?;
                     self.place(Around { block, ..around }, body)?;
                 }
                 Statement::Optional { body, .. } => {
-                    let optional = number(self.rows.len())?;
+                    let optional = in_32_bits(self.rows.len())?;
                     self.place(Around { optional, ..around }, body)?;
                 }
                 _ => {}
@@ -288,11 +289,11 @@ impl<'a, A: Allocator + Copy> Builder<'a, A> {
     }
 
     /// Goes over the statements that the trees of a text spell. The trees are let go then.
-    pub fn of(alloc: A, forest: Forest<'a, A>) -> Result<Self, TextFault<'a>>
+    pub fn of(alloc: A, seed: Seed, forest: Forest<'a, A>) -> Result<Self, TextFault<'a>>
         ensures ok { IfOk result (IsAtTrees (forest_of forest.entry)) }
         ensures err { IfErr result (λ fault. FaultIs fault (IsFirstShapeFault (forest_of forest.entry))) }
     {
-        let mut builder = Builder::new(alloc)?;
+        let mut builder = Builder::new(alloc, seed)?;
         let around = Around {
             block: 0,
             optional: 0,

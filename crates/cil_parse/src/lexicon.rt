@@ -7,27 +7,16 @@ ghost use Rattle.cil_specs.specs.Lookup.{with_name};
 ghost use Rattle.cil_parse.specs.Lexicon.{texts_in, AddsNames, SplitsText, IsLexicon};
 
 use crate::lists::Lists;
-use indexmap::IndexSet;
+use cil_names::{Names, Seed, in_32_bits};
 use std::alloc::{AllocError, Allocator, Global};
-use std::hash::{BuildHasherDefault, FoldHasher};
 
 /// The distinct texts of words and the distinct names between their dots, each in the order of their first use, and for each text the
 /// numbers of its names.
 #[derive(Drop)]
 pub struct Lexicon<'a, A: Allocator = Global> {
-    pub texts: IndexSet<&'a [u8], BuildHasherDefault<FoldHasher>, A>,
-    pub names: IndexSet<&'a [u8], BuildHasherDefault<FoldHasher>, A>,
+    pub texts: Names<'a, A>,
+    pub names: Names<'a, A>,
     pub components: Lists<u32, A>,
-}
-
-/// A number of 32 bits; one that needs more is answered as out of memory.
-pub fn number(n: usize) -> Result<u32, AllocError>
-    ensures { IfOk result (λ k. k ≡ n) }
-{
-    match u32::try_from(n) {
-        Ok(k) => Ok(k),
-        Err(_) => Err(AllocError),
-    }
 }
 
 /// The text behind a leading dot, if it has one.
@@ -52,13 +41,13 @@ fn split_dot(text: &[u8]) -> Option<(&[u8], &[u8])>
 
 impl<'a, A: Allocator + Copy> Lexicon<'a, A> {
     /// No word.
-    pub fn new(alloc: A) -> Result<Self, AllocError>
+    pub fn new(alloc: A, seed: Seed) -> Result<Self, AllocError>
         ensures lexicon { IfOk result IsLexicon }
         ensures empty { IfOk result (λ l. texts_in l ≡ []) }
     {
         Ok(Lexicon {
-            texts: IndexSet::new(alloc),
-            names: IndexSet::new(alloc),
+            texts: Names::new(alloc, seed),
+            names: Names::new(alloc, seed),
             components: Lists::with_capacity(alloc, 0, 0)?,
         })
     }
@@ -67,8 +56,8 @@ impl<'a, A: Allocator + Copy> Lexicon<'a, A> {
     fn push_name(&mut self, name: &'a [u8]) -> Result<(), AllocError>
         ensures { OnOk result (AddsNames self.old self.new (name.now ∷ [])) }
     {
-        let (n, _new) = self.names.insert_full(name)?;
-        self.components.push(number(n)?)?;
+        let (n, _new) = self.names.insert(name)?;
+        self.components.push(in_32_bits(n)?)?;
         Ok(())
     }
 
@@ -100,8 +89,8 @@ impl<'a, A: Allocator + Copy> Lexicon<'a, A> {
         ensures texts { OnOk result (texts_in self.new ≡ with_name (texts_in self.old) text.now) }
         ensures lexicon { OnOk result (IsLexicon self.old → IsLexicon self.new) }
     {
-        let (n, new) = self.texts.insert_full(text)?;
-        let k = number(n)?;
+        let (n, new) = self.texts.insert(text)?;
+        let k = in_32_bits(n)?;
         if new {
             self.split(text)?;
         }

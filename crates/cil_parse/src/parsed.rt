@@ -13,15 +13,16 @@ ghost use Rattle.cil_parse.specs.Forms.{kind_of, permissions_in};
 ghost use Rattle.cil_parse.specs.PermissionLists.{AreListed};
 
 use crate::builder::Builder;
-use crate::copied::copies;
+use crate::copied::copied_names;
 use crate::lists::Lists;
 use crate::permission_lists::PermissionLists;
 use crate::row::{NumberedWord, Row, SetNode, StatementKind};
 use crate::view::StatementView;
+use cil_names::Seed;
 use cil_text::{Forest, TextFault};
 use std::alloc::{AllocError, Allocator, Global};
 
-/// The statements of a module, one behind the other. It is a function of the module alone, borrows nothing and knows no other module.
+/// The statements of a module, one behind the other. It is a function of the module alone, borrows nothing and knows no other module, whatever seed its tables were hashed by.
 /// Each distinct text of a word has a number, and each distinct name between the dots of these texts, in the order of their first
 /// use. Each distinct list of permissions has a number too. Numbers have 32 bits; a module that needs a greater one is answered as out
 /// of memory.
@@ -45,21 +46,21 @@ impl<A: Allocator + Copy> ParsedModule<A> {
     ghost use Rattle.cil_parse.specs.Parsed.{IsWhole, IsOwned};
 
     /// The parsed form of the statements that the trees of a text spell, or the first fault of their shape.
-    pub fn of<'a>(alloc: A, forest: Forest<'a, A>) -> Result<Self, TextFault<'a>>
+    pub fn of<'a>(alloc: A, seed: Seed, forest: Forest<'a, A>) -> Result<Self, TextFault<'a>>
         ensures ok { IfOk result (SpellsTrees (forest_of forest.entry)) }
         ensures err { IfErr result (λ fault. FaultIs fault (IsFirstShapeFault (forest_of forest.entry))) }
     {
-        let builder = Builder::of(alloc, forest)?;
-        let parsed = ParsedModule::owned(alloc, builder)?;
+        let builder = Builder::of(alloc, seed, forest)?;
+        let parsed = ParsedModule::owned(alloc, seed, builder)?;
         Ok(parsed)
     }
 
     /// What a builder went over, with words of its own.
-    fn owned(alloc: A, builder: Builder<'_, A>) -> Result<Self, AllocError>
+    fn owned(alloc: A, seed: Seed, builder: Builder<'_, A>) -> Result<Self, AllocError>
         requires { IsWhole builder }
         ensures { IfOk result (IsOwned builder.entry) }
     {
-        let copies = Copies::of(alloc, &builder)?;
+        let copies = Copies::of(alloc, seed, &builder)?;
         Ok(ParsedModule::with_copies(builder, copies))
     }
 
@@ -99,16 +100,16 @@ struct Copies<A: Allocator = Global> {
 
 impl<A: Allocator + Copy> Copies<A> {
     /// Those of a builder.
-    fn of(alloc: A, builder: &Builder<'_, A>) -> Result<Self, AllocError>
+    fn of(alloc: A, seed: Seed, builder: &Builder<'_, A>) -> Result<Self, AllocError>
         requires { length builder.now.words.0 ≡ length builder.now.rows.items }
         ensures texts { IfOk result (λ copies. copies.texts.0 ≡ texts_in builder.now.lexicon) }
         ensures names { IfOk result (λ copies. copies.names.0 ≡ names_in builder.now.lexicon) }
         ensures listed { IfOk result (λ copies. AreListed copies.permission_lists builder.now.rows.items builder.now.words.0) }
     {
         Ok(Copies {
-            texts: copies(alloc, builder.lexicon.texts.as_slice())?,
-            names: copies(alloc, builder.lexicon.names.as_slice())?,
-            permission_lists: PermissionLists::of(alloc, &builder.rows, &builder.words)?,
+            texts: copied_names(alloc, builder.lexicon.texts.as_slice())?,
+            names: copied_names(alloc, builder.lexicon.names.as_slice())?,
+            permission_lists: PermissionLists::of(alloc, seed, &builder.rows, &builder.words)?,
         })
     }
 }

@@ -5,12 +5,11 @@ ghost use Rattle.cil_parse.specs.Lexicon.{seen, AreNumbersOf};
 ghost use Rattle.cil_parse.specs.PermissionLists.{permission_words, permission_texts, AreListed};
 
 use crate::copied::copies;
-use crate::lexicon::number;
 use crate::lists::Lists;
 use crate::row::{NumberedWord, Row, StatementKind};
+use cil_names::{Seed, in_32_bits};
 use indexmap::IndexSet;
 use std::alloc::{AllocError, Allocator, Global};
-use std::hash::{BuildHasherDefault, FoldHasher};
 
 /// For each statement the number of the permissions that it lists, and the distinct lists by the numbers of their texts.
 #[derive(Drop)]
@@ -22,7 +21,7 @@ pub struct PermissionLists<A: Allocator = Global> {
 /// Lists, each once, and the number of each.
 #[derive(Drop)]
 struct Distinct<'l, A: Allocator = Global> {
-    lists: IndexSet<&'l [u32], BuildHasherDefault<FoldHasher>, A>,
+    lists: IndexSet<&'l [u32], Seed, A>,
     numbers: Vec<u32, A>,
 }
 
@@ -82,29 +81,35 @@ fn listed<A: Allocator + Copy>(
 /// The lists, each once.
 fn each_once<'l, A: Allocator + Copy>(
     alloc: A,
+    seed: Seed,
     lists: &'l Lists<u32, A>,
 ) -> Result<Distinct<'l, A>, AllocError>
     ensures { IfOk result (λ d. AreNumbersOf (seen d.lists.keys) d.numbers.items lists.now.0) }
 {
     let mut distinct = Distinct {
-        lists: IndexSet::new(alloc),
+        lists: IndexSet::with_hasher(alloc, seed),
         numbers: Vec::with_capacity(alloc, lists.len())?,
     };
     for i in 0..lists.len() {
         let (n, _new) = distinct.lists.insert_full(lists.get(i))?;
-        distinct.numbers.push(number(n)?)?;
+        distinct.numbers.push(in_32_bits(n)?)?;
     }
     Ok(distinct)
 }
 
 impl<A: Allocator + Copy> PermissionLists<A> {
     /// Those of statements with these words.
-    pub fn of(alloc: A, rows: &[Row], words: &Lists<NumberedWord, A>) -> Result<Self, AllocError>
+    pub fn of(
+        alloc: A,
+        seed: Seed,
+        rows: &[Row],
+        words: &Lists<NumberedWord, A>,
+    ) -> Result<Self, AllocError>
         requires { length words.now.0 ≡ length rows.now }
         ensures { IfOk result (λ p. AreListed p rows.now words.now.0) }
     {
         let lists = listed(alloc, rows, words)?;
-        let distinct = each_once(alloc, &lists)?;
+        let distinct = each_once(alloc, seed, &lists)?;
         Ok(PermissionLists {
             lists: copies(alloc, distinct.lists.as_slice())?,
             numbers: distinct.numbers,

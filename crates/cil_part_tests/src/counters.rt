@@ -4,6 +4,7 @@ ghost use Rattle.cil_counters.specs.Counted.{IsNow, WasBefore};
 
 use crate::policies::policy;
 use cil_counters::Counters;
+use cil_names::Seed;
 use cil_resolve::{Meter, Resolved};
 use cil_rules::{Atom, Changes, Table};
 use cil_text::RuleKind;
@@ -56,7 +57,7 @@ fn none(rt: &impl Abort, alloc: Global, empty: &Resolved) -> Counters
 {
     assert!(rt; empty.sets_len() == 0);
     assert!(rt; empty.rules_len() == 0);
-    Counters::none(alloc, empty).expect(rt, "memory")
+    Counters::none(alloc, Seed::fixed(), empty).expect(rt, "memory")
 }
 
 // The counters of a policy, kept.

@@ -2,6 +2,7 @@
 
 use crate::policies::policy_of_two;
 use cil_matching::{RuleMatching, SetMatching};
+use cil_names::Seed;
 use cil_resolve::Resolved;
 use std::alloc::Global;
 use std::process::Abort;
@@ -35,7 +36,7 @@ fn are_sets(
     new: &Resolved,
     places: (&[Option<usize>], &[Option<usize>]),
 ) -> bool {
-    let matching = SetMatching::of(alloc, old, new).expect(rt, "memory");
+    let matching = SetMatching::of(alloc, Seed::fixed(), old, new).expect(rt, "memory");
     for i in 0..=old.sets_len() {
         if places.0.get(i) != Some(&matching.new_place(i)) {
             return false;

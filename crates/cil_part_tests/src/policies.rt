@@ -5,6 +5,7 @@ ghost use Rattle.cil_specs.specs.Joined.{Module};
 ghost use Rattle.cil_parse.specs.Parsed.{IsParsed};
 ghost use Rattle.cil_resolve.specs.Modules.{AreParsedFrom};
 
+use cil_names::Seed;
 use cil_parse::{ParsedModule, parse};
 use cil_resolve::{Joined, NamedModule, Resolved, resolve};
 use std::alloc::{AllocError, Global};
@@ -19,7 +20,7 @@ fn module_of(rt: &impl Abort, alloc: Global, parts: &[&[u8]]) -> ParsedModule
         text.extend_from_slice(part).expect(rt, "memory");
     }
     assert!(rt; text.len() <= 16_777_216, "too long a text");
-    parse(alloc, &text).expect(rt, "a module")
+    parse(alloc, Seed::fixed(), &text).expect(rt, "a module")
 }
 
 // The modules m and n.
@@ -45,7 +46,10 @@ fn joined<'m>(
             },
         ],
     )?;
-    Ok(Joined { modules })
+    Ok(Joined {
+        modules,
+        seed: Seed::fixed(),
+    })
 }
 
 /// The policy of the modules m and n, each of the text of its parts.

@@ -1,6 +1,7 @@
 //! Numbers of names from one small policy to the next.
 
 use crate::policies::policy;
+use cil_names::Seed;
 use cil_symbols::{Numbering, Symbols};
 use std::alloc::Global;
 use std::process::Abort;
@@ -102,7 +103,7 @@ fn numbered(rt: &impl Abort, alloc: Global, symbols: &mut Symbols, texts: &[&[u8
 // Whether the last of some policies is numbered so.
 fn is_numbered(rt: &impl Abort, alloc: Global, policies: &Numbered<'_>) -> bool {
     let (texts, names, numbers, locals) = policies;
-    let mut symbols = Symbols::new(alloc);
+    let mut symbols = Symbols::new(alloc, Seed::fixed());
     let numbering = numbered(rt, alloc, &mut symbols, texts);
     are_names(&symbols, names)
         && are_numbers(&numbering, numbers, locals)
@@ -121,7 +122,7 @@ const COME: &[(&[u8], usize)] = &[(b"b", 0), (b"a", 1), (b"b", 0), (b"c", 2), (b
 
 // Whether names have those numbers, and others none.
 fn have_numbers(rt: &impl Abort, alloc: Global) -> bool {
-    let mut symbols = Symbols::new(alloc);
+    let mut symbols = Symbols::new(alloc, Seed::fixed());
     let is_empty = are_names(&symbols, &[]);
     for (name, want) in COME {
         if symbols.number(alloc, name).expect(rt, "memory") != *want {

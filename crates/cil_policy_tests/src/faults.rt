@@ -2,6 +2,7 @@
 
 use crate::policies::{Told, is_refused};
 use crate::shown::shown;
+use cil_names::Seed;
 use cil_parse::parse;
 use cil_resolve::{PolicyFault, PolicyFaultKind};
 use cil_stream::{SinkFault, SourceFault};
@@ -44,7 +45,7 @@ fn is_refused_text(alloc: Global, faulty: &Faulty) -> bool {
     if faulty.0.len() > 16_777_216 {
         return false;
     }
-    match parse(alloc, faulty.0) {
+    match parse(alloc, Seed::fixed(), faulty.0) {
         Ok(_) => false,
         Err(fault) => is_faulty(&fault, faulty),
     }

@@ -1,6 +1,7 @@
 //! Modules kept parsed.
 
 use crate::shown::shown;
+use cil_names::Seed;
 use cil_parse::{NumberedWord, ParsedModule, SetNode, StatementKind, StatementView, Table, parse};
 use cil_text::{RuleKind, read};
 use std::alloc::Global;
@@ -9,7 +10,7 @@ use std::process::Abort;
 // The parsed module of a text.
 fn parsed(rt: &impl Abort, alloc: Global, text: &[u8]) -> ParsedModule {
     assert!(rt; text.len() <= 16_777_216, "too long a text");
-    parse(alloc, text).expect(rt, "a module")
+    parse(alloc, Seed::fixed(), text).expect(rt, "a module")
 }
 
 // The statement of a place.
@@ -209,7 +210,7 @@ const NODES: &[SetNode] = &[
 fn parsed_from_trees(rt: &impl Abort, alloc: Global, text: &[u8]) -> ParsedModule {
     assert!(rt; text.len() <= 16_777_216, "too long a text");
     let forest = read(alloc, text).expect(rt, "trees");
-    ParsedModule::of(alloc, forest).expect(rt, "statements")
+    ParsedModule::of(alloc, Seed::fixed(), forest).expect(rt, "statements")
 }
 
 // Whether a module is one statement of the nodes above, and of the words s, a and b.

@@ -9,6 +9,7 @@ ghost use Rattle.cil_resolve.specs.Modules.{AreParsedFrom};
 
 use crate::shown::shown;
 use cil_bind::{Joining, Policy};
+use cil_names::Seed;
 use cil_parse::{ParsedModule, parse};
 use cil_resolve::{Joined, NamedModule, PolicyFault, Resolved, join, resolve};
 use std::alloc::{AllocError, Global};
@@ -19,7 +20,7 @@ fn module_of(rt: &impl Abort, alloc: Global, text: &[u8]) -> ParsedModule
     ensures { (text : List ℕ) × IsParsed text result }
 {
     assert!(rt; text.len() <= 16_777_216, "too long a text");
-    parse(alloc, text).expect(rt, "a module")
+    parse(alloc, Seed::fixed(), text).expect(rt, "a module")
 }
 
 // The modules m and n.
@@ -46,7 +47,10 @@ fn joined<'m>(
             },
         ],
     )?;
-    Ok(Joined { modules })
+    Ok(Joined {
+        modules,
+        seed: Seed::fixed(),
+    })
 }
 
 // The modules n and m.
@@ -68,7 +72,7 @@ fn unsorted<'m>(
             },
         ],
     )?;
-    Ok(join(modules))
+    Ok(join(modules, Seed::fixed()))
 }
 
 // Whether modules are m and n.

@@ -16,16 +16,17 @@ pub mod compile;
 pub mod files;
 mod words;
 
-use crate::command_line::compile::{Report, compile_entries, refuse_for_memory};
+use crate::command_line::compile::{Asked, Report, compile_entries, refuse_for_memory};
 use crate::command_line::files::{ReadFault, TextFiles, entries_of, read_files};
 use crate::command_line::words::{COMPILE, FILES, VIOLATIONS, matches_of};
 use crate::script::session::{SessionFault, Status, session};
-use cil_store::Delta;
+use cil_store::{Delta, Seed};
 use cil_stream::{Sink, SinkFault, Source, write_all, write_pieces};
 use clap::error::ErrorKind;
 use clap::{ArgMatches, Error};
 use std::alloc::{Allocator, Global};
 use std::convert::AsStr;
+use std::random::RandomSource;
 use std::rt::Files;
 
 /// The exit status of a session.
@@ -40,9 +41,11 @@ pub fn exit_status(end: Result<Status, SessionFault>) -> u8
     }
 }
 
-/// Answers the script of a source, with an empty store at its start, and gives the exit status.
+/// Answers the script of a source, with an empty store at its start, and gives the exit status. The tables of names are hashed by a
+/// seed.
 pub fn answer_session<S: Source, W: Sink, A: Allocator + Copy>(
     alloc: A,
+    seed: Seed,
     source: &mut S,
     out: &mut W,
 ) -> u8
@@ -50,7 +53,7 @@ pub fn answer_session<S: Source, W: Sink, A: Allocator + Copy>(
         (record { taken = W.taken out.old; flushed = W.flushed out.old; failures = W.failures out.old })
         (record { taken = W.taken out.new; flushed = W.flushed out.new; failures = W.failures out.new }) result }
 {
-    let mut engine = Delta::new(alloc);
+    let mut engine = Delta::with_seed(alloc, seed);
     exit_status(session(alloc, source, out, &mut engine))
 }
 
@@ -103,7 +106,7 @@ fn compile_files<'a, F: TextFiles, W: Sink, E: Sink>(
     from: &F,
     alloc: Global,
     paths: &[&'a str],
-    report: Report,
+    asked: Asked,
     out: &mut W,
     err: &mut E,
 ) -> Result<u8, SinkFault>
@@ -111,12 +114,12 @@ fn compile_files<'a, F: TextFiles, W: Sink, E: Sink>(
     ensures ok { IfOk result (λ status. (printed : List ℕ) × (told : List ℕ)
         × Gains (W.taken out.old) (W.taken out.new) printed
         × Gains (E.taken err.old) (E.taken err.new) told
-        × CompilesFiles (F.content from.now) (map (λ path. path.now) paths.now) report
+        × CompilesFiles (F.content from.now) (map (λ path. path.now) paths.now) asked.report
         printed told status) }
     ensures err { OnErr result ((printed : List ℕ) × (told : List ℕ) × (status : ℕ)
         × GainsFront (W.taken out.old) (W.taken out.new) printed
         × GainsFront (E.taken err.old) (E.taken err.new) told
-        × CompilesFiles (F.content from.now) (map (λ path. path.now) paths.now) report
+        × CompilesFiles (F.content from.now) (map (λ path. path.now) paths.now) asked.report
         printed told status) }
     ensures failed { OnErr result (HasFailed (W.failures out.old) (W.failures out.new) ⊎ HasFailed (E.failures err.old) (E.failures err.new)) }
     ensures out_counted { W.failures out.old ≤ W.failures out.new }
@@ -130,14 +133,15 @@ fn compile_files<'a, F: TextFiles, W: Sink, E: Sink>(
     let Ok(entries) = entries_of(alloc, files.as_slice()) else {
         return refuse_for_memory(err);
     };
-    compile_entries(alloc, entries.as_slice(), report, out, err)
+    compile_entries(alloc, entries.as_slice(), asked, out, err)
 }
 
 /// Does what is asked of `compile`, and gives the exit status.
 fn answer_compile<F: TextFiles, W: Sink, E: Sink>(
     from: &F,
     alloc: Global,
-    asked: &ArgMatches<'_>,
+    seed: Seed,
+    words: &ArgMatches<'_>,
     out: &mut W,
     err: &mut E,
 ) -> Result<u8, SinkFault>
@@ -145,23 +149,24 @@ fn answer_compile<F: TextFiles, W: Sink, E: Sink>(
     ensures ok { IfOk result (λ status. (printed : List ℕ) × (told : List ℕ)
         × Gains (W.taken out.old) (W.taken out.new) printed
         × Gains (E.taken err.old) (E.taken err.new) told
-        × IsToBeWritten (F.content from.now) (rows_of (found_of asked.now)) printed told status) }
+        × IsToBeWritten (F.content from.now) (rows_of (found_of words.now)) printed told status) }
     ensures err { OnErr result ((printed : List ℕ) × (told : List ℕ) × (status : ℕ)
         × GainsFront (W.taken out.old) (W.taken out.new) printed
         × GainsFront (E.taken err.old) (E.taken err.new) told
-        × IsToBeWritten (F.content from.now) (rows_of (found_of asked.now)) printed told status) }
+        × IsToBeWritten (F.content from.now) (rows_of (found_of words.now)) printed told status) }
     ensures failed { OnErr result (HasFailed (W.failures out.old) (W.failures out.new) ⊎ HasFailed (E.failures err.old) (E.failures err.new)) }
     ensures out_counted { W.failures out.old ≤ W.failures out.new }
     ensures err_counted { E.failures err.old ≤ E.failures err.new }
 {
-    let report = if asked.get_flag(VIOLATIONS) {
+    let report = if words.get_flag(VIOLATIONS) {
         Report::Violations
     } else {
         Report::Listing
     };
-    match asked.get_strs(FILES) {
-        Some(paths) => compile_files(from, alloc, paths, report, out, err),
-        None => compile_files(from, alloc, &[], report, out, err),
+    let asked = Asked { report, seed };
+    match words.get_strs(FILES) {
+        Some(paths) => compile_files(from, alloc, paths, asked, out, err),
+        None => compile_files(from, alloc, &[], asked, out, err),
     }
 }
 
@@ -196,8 +201,9 @@ fn finish<W: Sink, E: Sink>(answered: Result<u8, SinkFault>, out: &mut W, err: &
     }
 }
 
-/// Does what the words of a command line ask for, of which the first is the program's name, and gives the exit status.
-pub fn command<R: Files, T: AsStr, S: Source, W: Sink, E: Sink>(
+/// Does what the words of a command line ask for, of which the first is the program's name, and gives the exit status. The tables of
+/// names are hashed by a seed that is drawn from the runtime, or by the fixed one where it gives none.
+pub fn command<R: Files + RandomSource, T: AsStr, S: Source, W: Sink, E: Sink>(
     rt: &R,
     alloc: Global,
     words: &[T],
@@ -231,6 +237,7 @@ pub fn command<R: Files, T: AsStr, S: Source, W: Sink, E: Sink>(
     ensures flushed { result ≢ 3 → W.flushed out.new ≡ W.taken out.new }
     ensures either { (err.new ≡ err.old) ⊎ (source.new ≡ source.old) }
 {
+    let seed = Seed::random(rt).unwrap_or(Seed::fixed());
     let matches = match matches_of(alloc, words) {
         Ok(matches) => matches,
         Err(error) => {
@@ -239,8 +246,8 @@ pub fn command<R: Files, T: AsStr, S: Source, W: Sink, E: Sink>(
         }
     };
     let Some(asked) = matches.subcommand_matches(COMPILE) else {
-        return answer_session(alloc, source, out);
+        return answer_session(alloc, seed, source, out);
     };
-    let answered = answer_compile(rt, alloc, asked, out, err);
+    let answered = answer_compile(rt, alloc, seed, asked, out, err);
     finish(answered, out, err)
 }

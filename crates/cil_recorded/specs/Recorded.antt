@@ -1,9 +1,9 @@
 -- Lines of counters and the log of their steps.
-use Rattle.std.specs.Prelude.{ℕ, zero, suc, ◌+◌, ◌-◌, ◌*◌, ◌<◌, List, [], length, reverse, slice_index_or}
+use Rattle.std.specs.Prelude.{◌≡◌, ◌⊎◌, ℕ, zero, suc, ◌+◌, ◌-◌, ◌*◌, ◌<◌, false, List, [], length, reverse, slice_index_or}
 use Rattle.cil_lines.specs.Line.{Counters, count_of}
 use Rattle.cil_lines.specs.Limit.{limit_of}
 use Rattle.cil_recorded.specs.declared.step.Step.{Step}
-use Rattle.cil_recorded.specs.Log.{undone, CanUndo, IsTurned}
+use Rattle.cil_recorded.specs.Log.{falls, has_line, undone, CanUndo, IsTurned}
 
 -- the lines, the steps since the last settling from the oldest on, and the number of steps that can be logged without memory
 pub record State : Type 0 where
@@ -61,3 +61,7 @@ moved old new word = sum_below 64 (λ b. (old (64 * word + b) - new (64 * word +
 -- the line of a place has a counter above 0
 abbrev pub HasCount : State → ℕ → Type 0
 HasCount s l = (t : ℕ) × (0 < count_now s l t)
+
+-- A line without a step that let targets go had none before; and the line of a step down that took from a mask has a counter left.
+abbrev pub AreLeft : State → State → ℕ → ℕ → Type 0
+AreLeft old new line mask = (l : ℕ) → has_line (falls new.log) l ≡ false → (has_line (falls old.log) l ≡ false) × (l ≡ line → (mask ≡ 0) ⊎ HasCount new line)

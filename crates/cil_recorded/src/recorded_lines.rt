@@ -1,10 +1,10 @@
 //! Lines of counters with a log of the steps since the last settling.
 
-ghost use Rattle.std.specs.Prelude.{◌≡◌, ◌≢◌, ◌↔◌, ℕ, ◌+◌, ◌-◌, ◌*◌, ◌<◌, ◌≤◌, ◌^◌, false, min, count_ones, IsTrue, MatchOption, OnErr, OnOk};
+ghost use Rattle.std.specs.Prelude.{◌≡◌, ◌↔◌, ℕ, ◌+◌, ◌-◌, ◌*◌, ◌<◌, ◌≤◌, ◌^◌, false, min, count_ones, IsTrue, MatchOption, OnErr, OnOk};
 ghost use Rattle.cil_lines.specs.Line.{IsPresence, IsSingle, IsNextPresent, NonePresent};
 ghost use Rattle.cil_lines.specs.Limit.{CanLower, CanRaise};
-ghost use Rattle.cil_recorded.specs.Log.{falls, has_line, hit_at, IsTurned};
-ghost use Rattle.cil_recorded.specs.Recorded.{count_before, count_now, limit_now, lines_in, moved, spare, steps_in};
+ghost use Rattle.cil_recorded.specs.Log.{falls, hit_at, IsTurned};
+ghost use Rattle.cil_recorded.specs.Recorded.{count_before, count_now, limit_now, lines_in, moved, spare, steps_in, AreLeft};
 
 mod changes;
 mod ended;
@@ -215,7 +215,7 @@ impl<A: Allocator> RecordedLines<A> {
         ensures moved { result ≡ moved (count_now self.old line) (count_now self.new line) word }
         ensures lines { lines_in self.new ≡ lines_in self.old }
         ensures steps { steps_in self.new ≡ steps_in self.old + 1 }
-        ensures others { (l : ℕ) → has_line (falls self.new.log) l ≡ false → (has_line (falls self.old.log) l ≡ false) × (l ≢ line) }
+        ensures others { AreLeft self.old self.new line mask }
         ensures spare { spare self.old ≤ spare self.new + 1 }
         ensures now { (l t : ℕ) → count_now self.new l t + hit_at line word mask l t ≡ count_now self.old l t }
         ensures before { (l t : ℕ) → count_before self.new l t ≡ count_before self.old l t }

@@ -1,4 +1,3 @@
-pub mod NameSets
 pub mod FullNamesLemmas
 pub mod StatementLemmas
 pub mod ListLemmas

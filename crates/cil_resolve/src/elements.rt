@@ -16,6 +16,7 @@ ghost use Rattle.cil_expression.specs.declared.expression.Element.TheVariants.{Â
 use crate::words::number_at;
 use cil_check::{BoundPolicy, Checker};
 use cil_expression::Element;
+use cil_names::counted_in_32_bits;
 use cil_parse::StatementKind;
 use std::alloc::{AllocError, Allocator};
 
@@ -78,9 +79,7 @@ pub fn elements<A: Allocator + Copy>(
         â†’ HaveElements names policy elements.items) }
 {
     let count = checker.bound.len();
-    if count > 0xFFFF_FFFF {
-        return Err(AllocError);
-    }
+    counted_in_32_bits(count)?;
     let mut elements = Vec::with_capacity(alloc, count)?;
     for i in 0..count {
         elements.push(element_at(checker, places, i as u32))?;

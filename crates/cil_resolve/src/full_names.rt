@@ -12,6 +12,7 @@ use crate::text::Text;
 use crate::words::text_of;
 use cil_bind::Policy;
 use cil_check::{BoundPolicy, Seen};
+use cil_names::counted_in_32_bits;
 use cil_parse::{Lists, NumberedWord, StatementKind};
 use std::alloc::{AllocError, Allocator};
 
@@ -52,7 +53,7 @@ fn space_name<A: Allocator + Copy>(
     let Some(block) = policy.lookup.namespaces.opened_by(n) else {
         return Text::of(alloc, b"");
     };
-    let word = policy.names.word(block.word).unwrap();
+    let word = policy.names.name(block.word as usize).unwrap();
     let name = full_name(alloc, spaces, block.outer, word)?;
     Ok(name)
 }
@@ -67,9 +68,7 @@ pub fn space_names<A: Allocator + Copy>(
     ensures { IfOk result (λ names. names.items ≡ map (λ space. space_text (named policy.now.names space)) policy.now.lookup.namespaces) }
 {
     let count = policy.lookup.namespaces.len();
-    if count > 0xFFFF_FFFF {
-        return Err(AllocError);
-    }
+    counted_in_32_bits(count)?;
     let mut names = Vec::with_capacity(alloc, count)?;
     for n in 0..count {
         let name = space_name(alloc, policy, &names, n as u32)?;

@@ -11,7 +11,7 @@ mod laws;
 mod lowered;
 mod lowering;
 mod meter;
-mod name_set;
+mod names;
 mod numbered;
 mod numbering;
 mod one_name;

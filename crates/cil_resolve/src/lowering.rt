@@ -30,6 +30,7 @@ use crate::permission_numbers::PermissionNumbers;
 use crate::words::number_at;
 use cil_check::{Checker, Seen};
 use cil_expression::{Element, SetExpression};
+use cil_names::counted_in_32_bits;
 use cil_parse::{NumberedWord, StatementKind};
 use std::alloc::{AllocError, Allocator, Global};
 
@@ -353,9 +354,7 @@ impl<'l, 'p, 'm, A: Allocator + Copy> Lowering<'l, 'p, 'm, A> {
             → ArePartsOf (modules_of self.now.checker.now.bound.joined.now) self.now.numbering.now.names.items policy policy parts) }
     {
         let count = self.checker.bound.len();
-        if count > 0xFFFF_FFFF {
-            return Err(AllocError);
-        }
+        counted_in_32_bits(count)?;
         let (sets, rules) = self.room();
         let mut parts = Parts {
             types: Vec::new(self.alloc),

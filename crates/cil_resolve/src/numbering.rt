@@ -16,10 +16,11 @@ ghost use Rattle.cil_resolve.specs.FullNames.{full_name_of, is_numbered_kind};
 ghost use Rattle.cil_resolve.specs.Numbering.{names_with, AreNamesOf, HavePlaces, HavePermissions, HavePermissionsOf};
 
 use crate::full_names::{full_names, is_numbered};
-use crate::name_set::NameSet;
+use crate::names::{number_of, to_texts};
 use crate::text::Text;
 use crate::words::{lists_own, text_of};
 use cil_check::{BoundPolicy, Seen};
+use cil_names::Names;
 use cil_parse::{Lists, NumberedWord, StatementKind};
 use std::alloc::{AllocError, Allocator, Global};
 
@@ -44,7 +45,7 @@ impl<A: Allocator + Copy> Numbering<A> {
         let full_names = full_names(alloc, bound)?;
         let names = sorted_names(alloc, bound, &full_names)?;
         Ok(Numbering {
-            names: names.to_texts(alloc)?,
+            names: to_texts(alloc, &names)?,
             places: place_numbers(alloc, bound, &full_names, &names)?,
             permissions: permission_numbers(alloc, bound, &names)?,
         })
@@ -53,7 +54,7 @@ impl<A: Allocator + Copy> Numbering<A> {
 
 /// Puts in the names of words of a statement.
 fn insert_words<'t, 'm: 't, A: Allocator + Copy>(
-    names: &mut NameSet<'t, A>,
+    names: &mut Names<'t, A>,
     seen: &Seen<'_, 'm, A>,
     words: &[NumberedWord],
 ) -> Result<(), AllocError>
@@ -68,7 +69,7 @@ fn insert_words<'t, 'm: 't, A: Allocator + Copy>(
 
 /// Puts in the names that a statement brings: its full name, if it declares a type, an attribute or a class, and permissions.
 fn insert_names<'t, 'm: 't, A: Allocator + Copy>(
-    names: &mut NameSet<'t, A>,
+    names: &mut Names<'t, A>,
     seen: &Seen<'_, 'm, A>,
     full_name: &'t [u8],
 ) -> Result<(), AllocError>
@@ -93,7 +94,7 @@ fn brings_names(kind: StatementKind) -> bool
 
 /// Puts in the names that the statement of a place brings. Only a statement of a kind that brings some is looked at whole.
 fn insert_names_at<'t, 'm: 't, A: Allocator + Copy>(
-    names: &mut NameSet<'t, A>,
+    names: &mut Names<'t, A>,
     bound: &BoundPolicy<'_, 'm, A>,
     full_names: &'t Lists<u8, A>,
     i: usize,
@@ -113,12 +114,12 @@ fn sorted_names<'t, 'm: 't, A: Allocator + Copy>(
     alloc: A,
     bound: &BoundPolicy<'_, 'm, A>,
     full_names: &'t Lists<u8, A>,
-) -> Result<NameSet<'t, A>, AllocError>
+) -> Result<Names<'t, A>, AllocError>
     requires is { (policy : List Placed) × IsOf bound.now policy × (full_names.now.0 ≡ map full_name_of policy) }
     ensures ordered { IfOk result (λ names. IsTrue (names_rise names)) }
     ensures names { IfOk result (λ names. (policy : List Placed) → IsOf bound.now policy → full_names.now.0 ≡ map full_name_of policy → AreNamesOf policy names) }
 {
-    let mut names = NameSet::new(alloc);
+    let mut names = Names::new(alloc, bound.joined.seed);
     for i in 0..bound.len() {
         insert_names_at(&mut names, bound, full_names, i)?;
     }
@@ -131,7 +132,7 @@ fn place_numbers<A: Allocator + Copy>(
     alloc: A,
     bound: &BoundPolicy<'_, '_, A>,
     full_names: &Lists<u8, A>,
-    names: &NameSet<'_, A>,
+    names: &Names<'_, A>,
 ) -> Result<Vec<usize, A>, AllocError>
     requires is { (policy : List Placed) × IsOf bound.now policy × (full_names.now.0 ≡ map full_name_of policy) × AreNamesOf policy names.now }
     ensures { IfOk result (λ places. (policy : List Placed) → IsOf bound.now policy → full_names.now.0 ≡ map full_name_of policy → HavePlaces names.now policy places.items) }
@@ -139,7 +140,7 @@ fn place_numbers<A: Allocator + Copy>(
     let mut places = Vec::with_capacity(alloc, bound.len())?;
     for i in 0..bound.len() {
         if is_numbered(bound.kind(i)) {
-            places.push(names.number(full_names.get(i)))?;
+            places.push(number_of(names, full_names.get(i)))?;
         } else {
             places.push(0)?;
         }
@@ -150,7 +151,7 @@ fn place_numbers<A: Allocator + Copy>(
 /// Notes the numbers of permissions at those of their words.
 fn note_words<A: Allocator>(
     permissions: &mut Vec<usize, A>,
-    names: &NameSet<'_, A>,
+    names: &Names<'_, A>,
     seen: &Seen<'_, '_, A>,
     words: &[NumberedWord],
 )
@@ -162,7 +163,7 @@ fn note_words<A: Allocator>(
 {
     for word in words {
         let at = seen.number(*word) as usize;
-        permissions[at] = names.number(text_of(seen, *word));
+        permissions[at] = number_of(names, text_of(seen, *word));
     }
 }
 
@@ -170,7 +171,7 @@ fn note_words<A: Allocator>(
 fn permission_numbers<A: Allocator + Copy>(
     alloc: A,
     bound: &BoundPolicy<'_, '_, A>,
-    names: &NameSet<'_, A>,
+    names: &Names<'_, A>,
 ) -> Result<Vec<usize, A>, AllocError>
     requires is { (policy : List Placed) × IsOf bound.now policy × AreNamesOf policy names.now }
     ensures { IfOk result (λ permissions. (policy : List Placed) → IsOf bound.now policy → HavePermissions bound.now.policy.now.names names.now policy permissions.items) }

@@ -1,7 +1,7 @@
 -- Which counters move where a rule gives something else than it gave.
-use Rattle.std.specs.Prelude.{◌≡◌, ◌<◌, ◌/◌, ◌^◌, ◌&&◌, ◌||◌, ◌==◌, ℕ, Bool, true, false, List, Option, MatchOption, Vec, length, not, slice_index}
+use Rattle.std.specs.Prelude.{◌≡◌, ◌+◌, ◌<◌, ◌≤◌, ◌/◌, ◌^◌, ◌&&◌, ◌||◌, ◌==◌, ℕ, Bool, true, false, List, Option, MatchOption, Vec, length, not, slice_index}
 use Rattle.std.specs.List.Sorted.{IsStrictlyIncreasing}
-use Rattle.cil_keyed_lines.specs.Keyed.{is_key}
+use Rattle.cil_keyed_lines.specs.Keyed.{count_now, is_key, Keyed}
 use Rattle.cil_keyed_lines.specs.declared.symbol_key.SymbolKey.{SymbolKey}
 use Rattle.cil_rule_shifts.specs.Reach.{gives, has_permission, has_source, is_line, takes}
 use Rattle.cil_rule_shifts.specs.declared.reach.Reach.{Reach}
@@ -62,3 +62,7 @@ goes_over false was is = differs was is
 -- whether a source of one rule alone, or of either, is one
 abbrev pub has_either : {A : Type 0} → Bool → Reach A → Reach A → ℕ → Bool
 has_either all was is s = goes_over all (has_source was s) (has_source is s)
+
+-- no counter rises by more than this
+abbrev pub RiseAtMost : Keyed → Keyed → (SymbolKey → ℕ → ℕ) → Type 0
+RiseAtMost old new most = (k : SymbolKey) (t : ℕ) → count_now new k t ≤ count_now old k t + most k t

@@ -3,7 +3,7 @@
 ghost use Rattle.std.specs.Prelude.{◌≡◌, ◌+◌, ◌≤◌, ◌<◌, ◌^◌, ◌/◌, ◌&&◌, ◌||◌, ◌==◌, ℕ, false, true, IfOk, IfSome, OnOk};
 ghost use Rattle.std.specs.List.Sorted.{IsStrictlyIncreasing};
 ghost use Rattle.cil_keyed_lines.specs.Keyed.{count_before, count_now, is_key};
-ghost use Rattle.cil_rule_shifts.specs.Moves.{moves_for, moves_in, moves_of, moves_where, AreTurned, AreTurnedForAll};
+ghost use Rattle.cil_rule_shifts.specs.Moves.{moves_for, moves_in, moves_of, moves_where, AreTurned, AreTurnedForAll, RiseAtMost};
 ghost use Rattle.cil_rule_shifts.specs.Reach.{gives, is_line, one_if, reaches, takes, AreShort, IsShort};
 ghost use Rattle.cil_sums.specs.Rises.{RisesBy};
 
@@ -27,7 +27,7 @@ fn shift_line<A: Allocator + Copy>(
     requires counted { (t : ℕ) → one_if (takes was.now key.source t) ≤ count_now lines.old key t }
     ensures now { OnOk result ((k : SymbolKey) (t : ℕ) → count_now lines.new k t + one_if (is_key key k && takes was.now key.source t)
         ≡ count_now lines.old k t + one_if (is_key key k && takes is.now key.source t)) }
-    ensures bounded { (k : SymbolKey) (t : ℕ) → count_now lines.new k t ≤ count_now lines.old k t + one_if (is_key key k && takes is.now key.source t) }
+    ensures bounded { RiseAtMost lines.old lines.new (λ k t. one_if (is_key key k && takes is.now key.source t)) }
     ensures before { (k : SymbolKey) (t : ℕ) → count_before lines.new k t ≡ count_before lines.old k t }
     ensures moved { IfOk result (RisesBy (moves_in key was.now is.now) 0) }
 {
@@ -58,7 +58,7 @@ fn shift_lines<A: Allocator + Copy>(
     requires counted { (k : SymbolKey) (t : ℕ) → one_if (is_line source class permissions.now k && takes was.now source t) ≤ count_now lines.old k t }
     ensures now { OnOk result ((k : SymbolKey) (t : ℕ) → count_now lines.new k t + one_if (is_line source class permissions.now k && takes was.now source t)
         ≡ count_now lines.old k t + one_if (is_line source class permissions.now k && takes is.now source t)) }
-    ensures bounded { (k : SymbolKey) (t : ℕ) → count_now lines.new k t ≤ count_now lines.old k t + one_if (is_line source class permissions.now k && takes is.now source t) }
+    ensures bounded { RiseAtMost lines.old lines.new (λ k t. one_if (is_line source class permissions.now k && takes is.now source t)) }
     ensures before { (k : SymbolKey) (t : ℕ) → count_before lines.new k t ≡ count_before lines.old k t }
     ensures moved { IfOk result (RisesBy (moves_for source class permissions.now was.now is.now) 0) }
 {
@@ -122,7 +122,7 @@ fn shift_source<A: Allocator + Copy>(
     requires counted { (k : SymbolKey) (t : ℕ) → one_if ((source == k.source) && gives was.now class permissions.now k t) ≤ count_now lines.old k t }
     ensures now { OnOk result ((k : SymbolKey) (t : ℕ) → count_now lines.new k t + one_if ((source == k.source) && gives was.now class permissions.now k t)
         ≡ count_now lines.old k t + one_if ((source == k.source) && gives is.now class permissions.now k t)) }
-    ensures bounded { (k : SymbolKey) (t : ℕ) → count_now lines.new k t ≤ count_now lines.old k t + one_if ((source == k.source) && gives is.now class permissions.now k t) }
+    ensures bounded { RiseAtMost lines.old lines.new (λ k t. one_if ((source == k.source) && gives is.now class permissions.now k t)) }
     ensures before { (k : SymbolKey) (t : ℕ) → count_before lines.new k t ≡ count_before lines.old k t }
     ensures moved { IfOk result (RisesBy (moves_of source was.now is.now class permissions.now) 0) }
 {
@@ -158,7 +158,7 @@ fn shift_sources<A: Allocator + Copy>(
     requires counted { (k : SymbolKey) (t : ℕ) → one_if (gives was.now class permissions.now k t) ≤ count_now lines.old k t }
     ensures now { OnOk result ((k : SymbolKey) (t : ℕ) → count_now lines.new k t + one_if (gives was.now class permissions.now k t)
         ≡ count_now lines.old k t + one_if (gives is.now class permissions.now k t)) }
-    ensures bounded { (k : SymbolKey) (t : ℕ) → count_now lines.new k t ≤ count_now lines.old k t + one_if (gives is.now class permissions.now k t) }
+    ensures bounded { RiseAtMost lines.old lines.new (λ k t. one_if (gives is.now class permissions.now k t)) }
     ensures before { (k : SymbolKey) (t : ℕ) → count_before lines.new k t ≡ count_before lines.old k t }
     ensures moved { IfOk result (RisesBy (moves_where was.now is.now class permissions.now) 0) }
 {
@@ -190,7 +190,7 @@ pub fn shift_rule<A: Allocator + Copy>(
     requires counted { (k : SymbolKey) (t : ℕ) → one_if (gives was.now class permissions.now k t) ≤ count_now lines.old k t }
     ensures now { OnOk result ((k : SymbolKey) (t : ℕ) → count_now lines.new k t + one_if (gives was.now class permissions.now k t)
         ≡ count_now lines.old k t + one_if (gives is.now class permissions.now k t)) }
-    ensures bounded { (k : SymbolKey) (t : ℕ) → count_now lines.new k t ≤ count_now lines.old k t + one_if (gives is.now class permissions.now k t) }
+    ensures bounded { RiseAtMost lines.old lines.new (λ k t. one_if (gives is.now class permissions.now k t)) }
     ensures before { (k : SymbolKey) (t : ℕ) → count_before lines.new k t ≡ count_before lines.old k t }
     ensures moved { IfOk result (RisesBy (moves_where was.now is.now class permissions.now) 0) }
 {

@@ -2,14 +2,15 @@
 
 use crate::shown::shown;
 use cil_program::command_line::command;
-use cil_program::command_line::compile::{Report, compile_entries};
+use cil_program::command_line::compile::{Asked, Report, compile_entries};
 use cil_program::command_line::files::{ReadFault, read_files};
-use cil_store::Entry;
+use cil_store::{Entry, Seed};
 use cil_stream::{MemorySink, MemorySource};
 use refusing::Refusing;
 use std::alloc::Global;
 use std::fs;
 use std::process::Abort;
+use std::random::RandomSource;
 use std::rt::Files;
 
 // How the program ended: its status, what it printed, and what it told on standard error.
@@ -80,7 +81,7 @@ const CASES: &[Case] = &[
 const GOOD: &[u8] = b"(class p (use))(type a)(allow a a (p (use)))(neverallow a a (p (use)))";
 
 // Asserts what the program does with words, where its source gives so many bytes and its sinks take so many.
-fn assert_done<R: Files + Abort>(rt: &R, alloc: Global, case: &Case) {
+fn assert_done<R: Files + RandomSource + Abort>(rt: &R, alloc: Global, case: &Case) {
     let (words, given, printed, told, want) = *case;
     let mut source = MemorySource::with_limits(SCRIPT, 7, given);
     let mut out = MemorySink::with_limits(alloc, 3, printed);
@@ -164,7 +165,9 @@ const REPORTS: &[(Report, u8, &str)] = &[
 
 // Whether a growth was refused while entries were compiled, from the nth on. Asserts what comes of them.
 fn is_refused_at(rt: &impl Abort, heap: Global, report: &(Report, u8, &str), nth: u64) -> bool {
-    let (asked, status, printed) = *report;
+    let (report, status, printed) = *report;
+    let seed = Seed::fixed();
+    let asked = Asked { report, seed };
     let alloc = Refusing::new(heap);
     alloc.refuse_from(nth);
     let mut out = MemorySink::new(heap);

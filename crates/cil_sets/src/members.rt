@@ -4,6 +4,7 @@ use crate::filling::Filling;
 use crate::kept::kept_types;
 use crate::row::Row;
 use crate::type_set::{Held, TypeSet};
+use cil_names::counted_in_32_bits;
 use cil_resolve::{Element, Meter, Resolved, resolved_is_sound, resolved_sets_are_in_order};
 use std::alloc::{AllocError, Allocator, Global};
 
@@ -86,9 +87,7 @@ impl<A: Allocator + Copy> Members<A> {
         resolved_is_sound(resolved);
         resolved_sets_are_in_order(resolved);
         let sets = resolved.sets_len();
-        if sets > u32::MAX as usize {
-            return Err(AllocError);
-        }
+        counted_in_32_bits(sets)?;
         let kept = kept_types(alloc, resolved)?;
         let mut filling = Filling::new(alloc, resolved)?;
         for i in 0..sets {

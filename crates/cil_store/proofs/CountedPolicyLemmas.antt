@@ -1,6 +1,5 @@
 -- What the engine keeps that changes its counters in place.
-use Rattle.std.proofs.Common.{◌≡◌, Bool, true, List, [], ◌∷◌, length, Option, None, Result, Ok, Err, IfOk, OnOk, OnErr, Contains, refl, sym, subst, true≢false, arith}
-use Rattle.std.specs.Result.{is_err}
+use Rattle.std.proofs.Common.{◌≡◌, Bool, List, [], ◌∷◌, length, Option, None, Result, Ok, Err, IfOk, OnOk, OnErr, Contains, refl, sym, subst, arith}
 use Rattle.std.specs.Rc.{rc_value}
 use Rattle.cil_specs.specs.Dependence.{AreTheSame}
 use Rattle.cil_specs.specs.Meaning.{Meaning, is_in_table}
@@ -14,7 +13,7 @@ use Rattle.cil_counters.specs.declared.counters.Counters.{Counters}
 use Rattle.cil_symbol_changes.specs.declared.counted_changes.ChangeCounts.{ChangeCounts}
 use Rattle.cil_counters.proofs.CountedLemmas.{back-before, back-now, settled-before, settled-now}
 use Rattle.cil_resolve.specs.declared.resolved.Resolved.{Resolved}
-use Rattle.cil_store_specs.specs.Next.{Edit, IsMeaningOf, changed}
+use Rattle.cil_store_specs.specs.Next.{IsMeaningOf}
 use Rattle.cil_store_specs.specs.Run.{AreRowsOf, AreViolationsOf}
 use Rattle.cil_store_specs.specs.Store.{Store, empty}
 use Rattle.cil_store_specs.proofs.OneStore.{meaning-same}
@@ -50,21 +49,16 @@ kept-settled p mid r same dropped is kept = record {
   are_dropped = dropped;
 }
 
--- what stands where a call failed
-pub on-err : {T E : Type 0} (r : Result T E) (P : Type 0) → OnErr r P → is_err r ≡ true → P
-on-err (Ok x) P h is = absurd (true≢false (sym is))
-on-err (Err e) P h is = h
-
 -- ---- an engine's policy that is replaced
 
-module _ {X E : Type 0} (old new : Store) (edit : Edit) (before now next : Meaning) (meant : IsMeaningOf old before) (means : IsMeaningOf (changed old edit) next) where
+module _ {X E : Type 0} (old new to : Store) (before now next : Meaning) (meant : IsMeaningOf old before) (means : IsMeaningOf to next) where
   -- afterwards it means what the store does
-  pub means-after : (r : Result X E) → OnOk r (new ≡ changed old edit) → OnOk r (now ≡ next) → OnErr r (new ≡ old) → OnErr r (now ≡ before) → IsMeaningOf new now
+  pub means-after : (r : Result X E) → OnOk r (new ≡ to) → OnOk r (now ≡ next) → OnErr r (new ≡ old) → OnErr r (now ≡ before) → IsMeaningOf new now
   means-after (Ok x) made is kept same = subst (IsMeaningOf new) (sym is) (subst (λ s. IsMeaningOf s next) (sym made) means)
   means-after (Err e) made is kept same = subst (IsMeaningOf new) (sym same) (subst (λ s. IsMeaningOf s before) (sym kept) meant)
 
   -- what is told of the changes is told between what the store meant and what it means
-  pub told-after : (P : Meaning → Meaning → Changes → Type 0) (changes : X → Changes) (r : Result X E) → OnOk r (new ≡ changed old edit) → IfOk r (λ x. P before next (changes x))
+  pub told-after : (P : Meaning → Meaning → Changes → Type 0) (changes : X → Changes) (r : Result X E) → OnOk r (new ≡ to) → IfOk r (λ x. P before next (changes x))
       → IfOk r (λ x. (m n : Meaning) → IsMeaningOf old m → IsMeaningOf new n → P m n (changes x))
   told-after P changes (Ok x) made are = λ m n was is.
       subst (λ y. P y n (changes x)) (meaning-same old before m meant was)
@@ -72,14 +66,14 @@ module _ {X E : Type 0} (old new : Store) (edit : Edit) (before now next : Meani
   told-after P changes (Err e) made are = tt
 
 -- so is what is told of changes whose numbers are known
-pub told-counted : {E : Type 0} (old new : Store) (edit : Edit) (before next : Meaning) → IsMeaningOf old before → IsMeaningOf (changed old edit) next → (P : Meaning → Meaning → Changes → Type 0) (r : Result ChangeCounts E)
-    → OnOk r (new ≡ changed old edit) → IfOk r (CountsSome (P before next)) → IfOk r (CountsSome (λ changes. (m n : Meaning) → IsMeaningOf old m → IsMeaningOf new n → P m n changes))
-told-counted {E} old new edit before next meant means P (Ok counts) made some = record {
+pub told-counted : {E : Type 0} (old new to : Store) (before next : Meaning) → IsMeaningOf old before → IsMeaningOf to next → (P : Meaning → Meaning → Changes → Type 0) (r : Result ChangeCounts E)
+    → OnOk r (new ≡ to) → IfOk r (CountsSome (P before next)) → IfOk r (CountsSome (λ changes. (m n : Meaning) → IsMeaningOf old m → IsMeaningOf new n → P m n changes))
+told-counted {E} old new to before next meant means P (Ok counts) made some = record {
   changes = some.changes;
-  those = told-after {E = E} old new edit before next next meant means P (λ changes. changes) (Ok some.changes) made some.those;
+  those = told-after {E = E} old new to before next next meant means P (λ changes. changes) (Ok some.changes) made some.those;
   are_counts = some.are_counts;
 }
-told-counted old new edit before next meant means P (Err e) made some = tt
+told-counted old new to before next meant means P (Err e) made some = tt
 
 pub counted-empty : {A : Type 0} (policy : Option (CountedPolicy A)) → policy ≡ None → IsCountedTo empty policy
 counted-empty policy none = subst (IsCountedTo empty) (sym none) (record { is_meaning = none-meant; is_kept = tt })

@@ -1,5 +1,5 @@
 -- Entries and names in order, by their places.
-use Rattle.std.proofs.Common.{◌≡◌, ℕ, zero, suc, ◌-◌, ◌<◌, ◌≤◌, ◌==◌, Bool, true, false, List, [], ◌∷◌, ◌++◌, length, take, drop, filter, not, get_or, slice_get, slice_set, bytes_eq, Some, None, Result, Ok, Err, OnOk, OnErr, refl, sym, ap, ◌∙◌, subst, true≢false, arith}
+use Rattle.std.proofs.Common.{◌≡◌, ℕ, zero, suc, ◌-◌, ◌<◌, ◌≤◌, ◌==◌, Bool, true, false, List, [], ◌∷◌, ◌++◌, length, take, drop, filter, not, get_or, slice_get, slice_set, bytes_eq, Some, Result, Ok, Err, OnOk, OnErr, refl, sym, ap, ◌∙◌, subst, true≢false, arith}
 use Rattle.std.specs.Cmp.{IsTotalOrder}
 use Rattle.std.specs.List.{insert, remove, prefix_len, list_any}
 use Rattle.std.specs.List.Sorted.{IsStrictlySortedBy, IsPartitionedBy, IsPartitionPoint}
@@ -12,7 +12,7 @@ use Rattle.std.proofs.lemmas.Bool.{and_parts, eqb-true, eq-eqb}
 use Rattle.std.proofs.lemmas.Cmp.{nat_list_cmp_total, ranked, tied_itself}
 use Rattle.std.proofs.lemmas.List.{take_all, length-drop}
 use Rattle.std.proofs.lemmas.Map.Lookups.{exact_bytes}
-use Rattle.std.proofs.lemmas.Option.{slice_get_past, slice_get_read}
+use Rattle.std.proofs.lemmas.Option.{slice_get_read}
 use Rattle.std.proofs.lemmas.Slice.Eq.{bytes_eq-Decides}
 use Rattle.cil_specs.specs.Report.{name_cmp}
 use Rattle.cil_specs.proofs.Runs.{both_true}
@@ -46,11 +46,6 @@ pub tied-at : {X : Type 0} (cmp : X → X → Ordering) {read xs : List X} {i : 
 tied-at cmp {read = read} {xs = xs} {i = i} {y = y} x as_read within get to back =
     let there : slice_get xs i ≡ Some y = subst (λ l. slice_get l i ≡ Some y) as_read (slice_get_read read (length read) i y refl within get) in
     (λ yes. subst (λ o. MatchOption o ⊥ (λ z. cmp z x ≡ Equal)) (sym there) (to yes), λ tied. back (subst (λ o. MatchOption o ⊥ (λ z. cmp z x ≡ Equal)) there tied))
-
-pub tied-nowhere : {X : Type 0} (cmp : X → X → Ordering) {read xs : List X} {i : ℕ} (x : X) → read ≡ xs → length read ≤ i → (false ≡ true → IsTiedAt cmp xs i x) × (IsTiedAt cmp xs i x → false ≡ true)
-tied-nowhere cmp {read = read} {xs = xs} {i = i} x as_read past =
-    let none : slice_get xs i ≡ None = subst (λ l. slice_get l i ≡ None) as_read (slice_get_past read i past) in
-    (λ no. absurd (true≢false (sym no)), λ tied. absurd (subst (λ o. MatchOption o ⊥ (λ z. cmp z x ≡ Equal)) none tied))
 
 -- names that are the same are tied, and no others
 pub name-tied : (a b : List ℕ) → bytes_eq a b ≡ true → name_cmp a b ≡ Equal
@@ -129,9 +124,6 @@ is-not b tells is p = true≢false (sym (tells p) ∙ is)
 -- what a slice up to the end has
 pub all-from : {X : Type 0} (read xs : List X) (k : ℕ) → read ≡ xs → drop k xs ≡ take (length read - k) (drop k read)
 all-from read xs k as_read = ap (drop k) (sym as_read) ∙ sym (take_all (length read - k) (drop k read) (omega (arith, length-drop k read)))
-
-pub rest-from : {X : Type 0} (read xs : List X) (k n : ℕ) → n ≡ suc k → read ≡ xs → drop (suc k) xs ≡ take (length read - n) (drop n read)
-rest-from read xs k n next as_read = ap (λ m. drop m xs) (sym next) ∙ all-from read xs n as_read
 
 -- what holds of a value that is made, and of one that is left as it was
 pub made-or-not : {T E X : Type 0} (P : X → Type 0) (r : Result T E) (new made old : X) → OnOk r (new ≡ made) → OnErr r (new ≡ old) → P made → P old → P new

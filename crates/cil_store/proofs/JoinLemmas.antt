@@ -1,22 +1,16 @@
 -- The parsed modules of entries, one list of them after another.
-use Rattle.std.proofs.Common.{◌≡◌, inl, inr, zero, suc, arith, ◌==◌, ◌+◌, ◌<◌, List, ℕ, [], ◌∷◌, ◌++◌, length, get_or, map, take, filter, cond, not, ◌&&◌, ◌||◌, Bool, true, false, IsTrue, bytes_eq, true≢false, refl, ap, sym, ◌∙◌, subst, append_assoc}
+use Rattle.std.proofs.Common.{◌≡◌, inl, inr, ◌+◌, ◌<◌, List, ℕ, [], ◌∷◌, ◌++◌, length, get_or, map, take, filter, cond, Bool, true, false, IsTrue, bytes_eq, true≢false, refl, ap, sym, ◌∙◌, subst}
 use Rattle.std.specs.List.{AllByRecursion, IsDistinct}
 use Rattle.std.specs.List.Sorted.{IsStrictlySortedBy, IsPermutation}
 use Rattle.std.specs.Ordering.{is_lt, ordering_reverse}
 use Rattle.std.specs.declared.cmp.Ordering.TheVariants.{Less}
 use Rattle.std.specs.Cmp.Lexicographic.{bytes_decides}
-use Rattle.std.proofs.lemmas.Bool.{eqb-true}
 use Rattle.std.proofs.lemmas.Cmp.{tied_itself}
 use Rattle.std.proofs.lemmas.List.Sorted.{Contains-permutation, IsPermutation-sym}
 use Rattle.std.proofs.lemmas.List.{take_more}
 use Rattle.std.proofs.lemmas.List.Elements.{filter-append}
-use Rattle.std.proofs.lemmas.Slice.Eq.{bytes_eq-Decides}
 use Rattle.cil_specs.specs.Report.{name_cmp, names_rise}
-use Rattle.cil_store_specs.specs.Store.{Entry, Store, IsStore, is_active, is_installed}
-use Rattle.cil_store_specs.specs.Next.{Edit, changed}
-use Rattle.cil_store_specs.specs.Store.{entry_at}
-use Rattle.cil_store_specs.proofs.ActiveLemmas.{is_disabled_after, is_first_at, disabled-after, highest-at}
-use Rattle.cil_store_specs.proofs.StoreOrder.{changed-ordered}
+use Rattle.cil_store_specs.specs.Store.{Entry, Store, is_active}
 use Rattle.cil_specs.proofs.ReportLemmas.{name_total, sorted_from_names_rise}
 use Rattle.cil_specs.proofs.ReportLemmasMembers.{AnyByRecursion, contains_to, contains_from}
 use Rattle.cil_bind.specs.declared.joined.NamedModule.{NamedModule}
@@ -35,48 +29,6 @@ parsed-names [] [] a = refl
 parsed-names [] (m ∷ ms) a = absurd a
 parsed-names (e ∷ es) [] a = absurd a
 parsed-names (e ∷ es) (m ∷ ms) a = λ i. a.0 i ∷ parsed-names es ms a.2 i
-
--- the parsed module of one more entry
-pub parsed-more : {A : Type 0} (entries : List Entry) (i : ℕ) (e d : Entry) (ms : List (NamedModule A)) (m : NamedModule A) → i < length entries → e ≡ get_or entries i d → AreParsedOf (take i entries) ms → m.name.now ≡ e.name
-    → IsParsed e.text m.«module».now → AreParsedOf (take (i + 1) entries) (ms ++ m ∷ [])
-parsed-more entries i e d ms m within is are name text =
-    subst (λ es. AreParsedOf es (ms ++ m ∷ [])) (sym (take_more entries i d within))
-    (parsed-append (take i entries) (get_or entries i d ∷ []) ms (m ∷ []) are (name ∙ ap (λ o. o.name) is, subst (λ t. IsParsed t m.«module».now) (ap (λ o. o.text) is) text, tt))
-
--- the parsed modules of entries before and after one, with its own between
-pub parsed-around : {A : Type 0} (before after : List Entry) (e : Entry) (first second : List (NamedModule A)) (m : NamedModule A) → AreParsedOf before first → AreParsedOf after second → m.name.now ≡ e.name
-    → IsParsed e.text m.«module».now → AreParsedOf (before ++ e ∷ after) ((first ++ m ∷ []) ++ second)
-parsed-around before after e first second m a b name text =
-    subst (AreParsedOf (before ++ e ∷ after)) (sym (append_assoc first (m ∷ []) second)) (parsed-append before (e ∷ after) first (m ∷ second) a (name, text, b))
-
--- the name at a place
-pub name-at : {A : Type 0} (entries : List Entry) (parsed : List (NamedModule A)) (i : ℕ) (d : Entry) (n : NamedModule A) → AreParsedOf entries parsed → i < length parsed → (get_or parsed i n).name.now ≡ (get_or entries i d).name
-name-at [] [] i d n are within = absurd (omega (arith, within))
-name-at [] (m ∷ parsed) i d n are within = absurd are
-name-at (e ∷ entries) [] i d n are within = absurd are
-name-at (e ∷ entries) (m ∷ parsed) zero d n are within = are.0
-name-at (e ∷ entries) (m ∷ parsed) (suc i) d n are within = name-at entries parsed i d n are.2 (omega (arith, within))
-
-pub parsed-length : {A : Type 0} (entries : List Entry) (parsed : List (NamedModule A)) → AreParsedOf entries parsed → length parsed ≡ length entries
-parsed-length [] [] are = refl
-parsed-length [] (m ∷ parsed) are = absurd are
-parsed-length (e ∷ entries) [] are = absurd are
-parsed-length (e ∷ entries) (m ∷ parsed) are = ap suc (parsed-length entries parsed are.2)
-
-pub parsed-at : {A : Type 0} (entries : List Entry) (parsed : List (NamedModule A)) (i : ℕ) (d : Entry) (n : NamedModule A) → AreParsedOf entries parsed → i < length parsed → IsParsed (get_or entries i d).text (get_or parsed i n).«module».now
-parsed-at [] [] i d n are within = absurd (omega (arith, within))
-parsed-at [] (m ∷ parsed) i d n are within = absurd are
-parsed-at (e ∷ entries) [] i d n are within = absurd are
-parsed-at (e ∷ entries) (m ∷ parsed) zero d n are within = are.1
-parsed-at (e ∷ entries) (m ∷ parsed) (suc i) d n are within = parsed-at entries parsed i d n are.2 (omega (arith, within))
-
-pub not-zero : (i : ℕ) → (i ≡ 0 → ⊥) → false ≡ (i == 0)
-not-zero zero some = absurd (some refl)
-not-zero (suc i) some = sym (by (suc i == 0) refl)
-  where
-    by : (b : Bool) → (suc i == 0) ≡ b → b ≡ false
-    by true is = absurd (some (eqb-true (suc i) 0 is))
-    by false is = refl
 
 -- names that rise differ
 unequal : (a b : List ℕ) → name_cmp a b ≡ Less → bytes_eq a b ≡ false
@@ -157,20 +109,3 @@ active-same store entries i d ms within is are =
     append-none : (xs : List Entry) → xs ++ [] ≡ xs
     append-none [] = refl
     append-none (x ∷ xs) = ap (λ l. x ∷ l) (append-none xs)
-
--- an entry that is there is installed
-pub installed-at : (entries : List Entry) (i : ℕ) (d : Entry) → i < length entries → is_installed (get_or entries i d).name entries ≡ true
-installed-at [] i d within = absurd (omega (arith, within))
-installed-at (e ∷ entries) zero d within = ap (λ b. b || is_installed e.name entries) ((bytes_eq-Decides e.name e.name).1 refl)
-installed-at (e ∷ entries) (suc i) d within = ap (λ b. bytes_eq e.name (get_or entries i d).name || b) (installed-at entries i d (omega (arith, within))) ∙ or-true (bytes_eq e.name (get_or entries i d).name)
-  where
-    or-true : (b : Bool) → (b || true) ≡ true
-    or-true true = refl
-    or-true false = refl
-
--- whether the entry at a place, of those after an edit, is compiled
-pub active-is : (store : Store) (edit : Edit) (i : ℕ) → IsStore store → i < length (changed store edit).entries → is_active (changed store edit) (get_or (changed store edit).entries i (entry_at [] 0))
-    ≡ (not (is_disabled_after edit store (get_or (changed store edit).entries i (entry_at [] 0)).name) && is_first_at (changed store edit).entries i)
-active-is store edit i ordered within =
-    let e = get_or (changed store edit).entries i (entry_at [] 0) in
-    λ k. not (disabled-after store edit e.name (installed-at (changed store edit).entries i (entry_at [] 0) within) k) && highest-at (changed store edit).entries (changed-ordered store edit ordered).entries i within k

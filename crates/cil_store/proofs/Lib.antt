@@ -4,7 +4,7 @@ pub mod SizeLemmas
 pub mod FindLemmas
 pub mod StateLemmas
 pub mod StepLemmas
-pub mod InstallLemmas
+pub mod BatchLemmas
 pub mod JoinLemmas
 pub mod DroppedLemmas
 pub mod PlainLemmas

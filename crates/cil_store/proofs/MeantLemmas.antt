@@ -6,8 +6,8 @@ use Rattle.cil_store_specs.specs.Next.{IsMeaningOf}
 use Rattle.cil_store_specs.specs.Run.{Call, Reply, Run, Step, accepted, rejected, lists, prints, tells_violations, tells_dropped, out_of_memory}
 
 step-meant : (old new : Store) (call : Call) (reply : Reply) (meaning : Meaning) → IsMeaningOf old meaning → Step old call reply new → (other : Meaning) × IsMeaningOf new other
-step-meant old new call reply meaning is (accepted edit changes asked told made) = (made.after, made.means)
-step-meant old new call reply meaning is (rejected edit refusal asked told next same) = (meaning, subst (λ s. IsMeaningOf s meaning) (sym same) is)
+step-meant old new call reply meaning is (accepted edits changes asked told made) = (made.after, made.means)
+step-meant old new call reply meaning is (rejected edits refusal asked told next same) = (meaning, subst (λ s. IsMeaningOf s meaning) (sym same) is)
 step-meant old new call reply meaning is (lists rows asked told are same) = (meaning, subst (λ s. IsMeaningOf s meaning) (sym same) is)
 step-meant old new call reply meaning is (prints rows asked told are same) = (meaning, subst (λ s. IsMeaningOf s meaning) (sym same) is)
 step-meant old new call reply meaning is (tells_violations violations asked told are same) = (meaning, subst (λ s. IsMeaningOf s meaning) (sym same) is)

@@ -10,8 +10,8 @@ use Rattle.cil_specs.specs.Report.{AreAtoms, Changes, AreChanges, Row, AreRows, 
 use Rattle.cil_specs.specs.Violations.{Violation, AreViolations}
 use Rattle.cil_specs.specs.Kept.{Optionals, AreKept, judged, Compiles}
 use Rattle.cil_store_specs.specs.Store.{Store, empty}
-use Rattle.cil_store_specs.specs.Next.{IsMeaningOf, Edit, HasGoodText, changed, store_refusal}
-use Rattle.cil_store_specs.specs.Run.{an_edit, changed_by, AreRowsOf, AreViolationsOf, Step}
+use Rattle.cil_store_specs.specs.Next.{AreTaken, IsMeaningOf, Edit, is_too_long}
+use Rattle.cil_store_specs.specs.Run.{a_batch, changed_by, AreRowsOf, AreViolationsOf, Step}
 use Rattle.cil_store_specs.proofs.OneStore.{meaning-same}
 use Rattle.cil_bind.specs.declared.joined.NamedModule.{NamedModule}
 use Rattle.cil_resolve.specs.Modules.{AreParsedFrom}
@@ -70,12 +70,12 @@ pub compiled-to : {A : Type 0} (store : Store) (dropped : List Declared) (meanin
     → IsCompiledTo store (Some policy) dropped
 compiled-to store dropped meaning policy means same are_dropped = record { is_meaning = subst (IsMeaningOf store) (sym same) means; are_dropped = are_dropped }
 
--- the step of an edit that was made
-pub accepted-step : {A : Type 0} (store : Store) (edit : Edit) (first : Option (Policy A)) (second : Policy A) (dropped others : List Declared) (changes : Changes) → store_refusal store edit ≡ None → HasGoodText edit
-    → IsCompiledTo store first dropped → IsCompiledTo (changed store edit) (Some second) others
-    → ((meaning : Meaning) → IsMeaningOf store meaning → AreChanges (is_in_table meaning) (is_in_table (policy_meaning second)) changes) → Step store (an_edit edit) (changed_by changes) (changed store edit)
-accepted-step store edit first second dropped others changes taken good_text was made between =
-    made-step store edit (meaning_by first) (policy_meaning second) changes taken good_text was.is_meaning made.is_meaning (between (meaning_by first) was.is_meaning)
+-- the step of a batch that was made
+pub accepted-step : {A : Type 0} (store new : Store) (edits : List Edit) (first : Option (Policy A)) (second : Policy A) (dropped others : List Declared) (changes : Changes) → is_too_long edits ≡ false
+    → AreTaken store edits new → IsCompiledTo store first dropped → IsCompiledTo new (Some second) others
+    → ((meaning : Meaning) → IsMeaningOf store meaning → AreChanges (is_in_table meaning) (is_in_table (policy_meaning second)) changes) → Step store (a_batch edits) (changed_by changes) new
+accepted-step store new edits first second dropped others changes short taken was made between =
+    made-step store new edits (meaning_by first) (policy_meaning second) changes short taken was.is_meaning made.is_meaning (between (meaning_by first) was.is_meaning)
 
 -- what is so of the meaning of what is kept is so of each meaning of the store
 pub of-meaning : {A : Type 0} (store : Store) (policy : Option (Policy A)) (dropped : List Declared) (P : Meaning → Type 0) → IsCompiledTo store policy dropped → P (meaning_by policy)

@@ -1,9 +1,9 @@
 -- The state of an entry by its place.
-use Rattle.std.proofs.Common.{◌≡◌, ◌∙◌, ◌<◌, ap, sym, subst, List, [], ℕ, Bool, codes, length, get_or, bytes_eq, if◌then◌else◌}
+use Rattle.std.proofs.Common.{◌≡◌, ◌∙◌, ◌<◌, ap, sym, subst, List, [], ℕ, Bool, codes, length, get_or, bytes_eq, not, ◌&&◌, if◌then◌else◌}
 use Rattle.std.specs.List.{list_any}
 use Rattle.std.specs.List.Sorted.{IsStrictlySortedBy}
 use Rattle.std.proofs.lemmas.List.{get_or_default}
-use Rattle.cil_store_specs.specs.Store.{Entry, Store, entry_cmp}
+use Rattle.cil_store_specs.specs.Store.{Entry, Store, entry_cmp, is_active}
 use Rattle.cil_store_specs.specs.StoreReport.{is_disabled, state_word}
 use Rattle.cil_store_specs.specs.Store.{entry_at}
 use Rattle.cil_store_specs.proofs.ActiveLemmas.{is_first_at, highest-at}
@@ -18,3 +18,12 @@ module _ (store : Store) (i : ℕ) (read : List Entry) (e : Entry) (name : List 
       let highest = highest-at store.entries sorted i inside ∙ sym (at ∙ ap (λ l. is_first_at l i) as_read) in
       let off = ap (λ x. is_disabled store x.name) here ∙ ap (is_disabled store) (sym named) ∙ sym listed in
       λ k. if off k then codes "disabled" else if highest k then codes "active" else codes "shadowed"
+
+  -- whether it is compiled
+  pub active-is : is_active store (get_or store.entries i (entry_at [] 0)) ≡ (not disabled && first)
+  active-is =
+      let inside = subst (λ l. i < length l) as_read within in
+      let here : get_or store.entries i (entry_at [] 0) ≡ e = get_or_default store.entries i (entry_at [] 0) e inside ∙ sym (is ∙ ap (λ l. get_or l i e) as_read) in
+      let highest = highest-at store.entries sorted i inside ∙ sym (at ∙ ap (λ l. is_first_at l i) as_read) in
+      let off = ap (λ x. is_disabled store x.name) here ∙ ap (is_disabled store) (sym named) ∙ sym listed in
+      λ k. not (off k) && highest k

@@ -9,7 +9,7 @@ use Rattle.cil_check.specs.Image.{policy_kind_of}
 use Rattle.cil_store.specs.declared.edit.Edit.{Edit}
 use Rattle.cil_store.specs.declared.edit.Edit.TheVariants.{Install, Remove, Enable, Disable}
 use Rattle.cil_store.specs.declared.refusal.StoreFault.{StoreFault}
-use Rattle.cil_store.specs.declared.refusal.StoreFault.TheVariants.{BadModuleName, BadPriority, NotInstalled, Full, TextTooLong}
+use Rattle.cil_store.specs.declared.refusal.StoreFault.TheVariants.{BadModuleName, BadPriority, NotInstalled, Full, TextTooLong, BatchTooLong}
 use Rattle.cil_store.specs.declared.refusal.FaultKind.{FaultKind}
 use Rattle.cil_store.specs.declared.refusal.FaultKind.TheVariants.{Text, Policy}
 use Rattle.cil_store.specs.declared.refusal.Refusal.{Refusal}
@@ -41,6 +41,7 @@ store_code BadPriority = 31
 store_code NotInstalled = 32
 store_code Full = 33
 store_code TextTooLong = 34
+store_code BatchTooLong = 35
 
 -- the word of a refusal of the store
 abbrev pub store_word : StoreFault → List ℕ → ℕ → List ℕ
@@ -49,6 +50,7 @@ store_word BadPriority name priority = decimal priority
 store_word NotInstalled name priority = name
 store_word Full name priority = name
 store_word TextTooLong name priority = name
+store_word BatchTooLong name priority = name
 
 -- the refusal of an edit by the store
 abbrev pub store_refusal_of : StoreFault → List ℕ → ℕ → spec.Refusal

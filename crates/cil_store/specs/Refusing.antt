@@ -1,7 +1,7 @@
 -- Refusals by the faults that they tell.
-use Rattle.std.specs.Prelude.{◌≡◌, ◌⊎◌, ◌++◌, ℕ, List}
-use Rattle.cil_store_specs.specs.Next.{Edit, Refusal, at_place, changed, for_memory, refuses, IsNotTaken, IsTextRefusal, IsPolicyRefusal, NextOfAll, Of}
-use Rattle.cil_store_specs.specs.Store.{Entry, Store}
+use Rattle.std.specs.Prelude.{◌≡◌, ◌⊎◌, ◌∷◌, ◌++◌, ℕ, List}
+use Rattle.cil_store_specs.specs.Next.{Edit, Refusal, at_place, for_memory, refuses, AreTaken, IsNotTaken, IsTextRefusal, IsPolicyRefusal, Next, NextOfAll}
+use Rattle.cil_store_specs.specs.Store.{Store}
 use Rattle.cil_specs.specs.TextFault as text_fault
 use Rattle.cil_specs.specs.PolicyFault as policy_fault
 use Rattle.cil_text.specs.Image.{place_of, kind_of, shown}
@@ -27,18 +27,23 @@ IsRefusalOfPolicy (policies.Found kind module_name at word) refusal = IsRefusalO
 abbrev pub IsRefusedText : Edit → Refusal → Type 0
 IsRefusedText edit refusal = (refusal ≡ for_memory) ⊎ IsTextRefusal edit refusal
 
--- the refusal is out of memory, or that of the policy of the store after the edit
-abbrev pub IsRefusedPolicy : Store → Edit → Refusal → Type 0
-IsRefusedPolicy store edit refusal = (refusal ≡ for_memory) ⊎ IsPolicyRefusal (changed store edit) refusal
+-- the refusal is out of memory, or that of the policy of a store
+abbrev pub IsRefusedPolicy : Store → Refusal → Type 0
+IsRefusedPolicy store refusal = (refusal ≡ for_memory) ⊎ IsPolicyRefusal store refusal
 
 -- the refusal is out of memory, or an edit is not taken for it
 abbrev pub IsRefusedEdit : Store → Edit → Refusal → Type 0
 IsRefusedEdit store edit refusal = (refusal ≡ for_memory) ⊎ IsNotTaken store edit refusal
 
--- the refusal is out of memory, or that of edits that are made at once, whatever edits are behind them
+-- the refusal is out of memory, or the first of the edits that isn't taken is not taken for it
 abbrev pub AreStopped : Store → List Edit → Refusal → Type 0
-AreStopped store edits refusal = (refusal ≡ for_memory) ⊎ ((more : List Edit) → NextOfAll store (edits ++ more) (refuses refusal))
+AreStopped store edits refusal = (refusal ≡ for_memory) ⊎ ((before : List Edit) × (edit : Edit) × (after : List Edit) × (mid : Store) × (edits ≡ before ++ edit ∷ after)
+    × AreTaken store before mid × IsNotTaken mid edit refusal)
 
--- the refusal is out of memory, or that of entries that are installed at once on the empty store
-abbrev pub AreRefused : List Entry → Refusal → Type 0
-AreRefused entries refusal = (refusal ≡ for_memory) ⊎ Of entries (refuses refusal)
+-- the refusal is out of memory, or that of edits that are made at once
+abbrev pub AreRefused : Store → List Edit → Refusal → Type 0
+AreRefused store edits refusal = (refusal ≡ for_memory) ⊎ NextOfAll store edits (refuses refusal)
+
+-- the refusal is out of memory, or that of a batch
+abbrev pub IsRefusedBatch : Store → List Edit → Refusal → Type 0
+IsRefusedBatch store edits refusal = (refusal ≡ for_memory) ⊎ Next store edits (refuses refusal)

@@ -1,16 +1,17 @@
 -- The entries of a store, as the code has them.
-use Rattle.std.specs.Prelude.{[], ◌∷◌, ◌≡◌, ℕ, List}
+use Rattle.std.specs.Prelude.{[], ◌∷◌, ◌≡◌, List}
 use Rattle.cil_store_specs.specs.Store as spec
 use Rattle.cil_parse.specs.Parsed.{IsParsed}
 use Rattle.cil_bind.specs.declared.joined.NamedModule.{NamedModule}
 use Rattle.cil_store.specs.declared.entry.Entry.{Entry}
+use Rattle.cil_store.specs.declared.entry.Kept.{Kept}
 
 abbrev pub entry_of : Entry → spec.Entry
 entry_of e = record { name = e.name.now; priority = e.priority; text = e.text.now }
 
--- an entry of a name, a priority and a text
-abbrev pub entry_for : List ℕ → ℕ → List ℕ → spec.Entry
-entry_for name priority text = record { name = name; priority = priority; text = text }
+-- the entry of what one keeps
+abbrev pub kept_entry : {A : Type 0} → Kept A → spec.Entry
+kept_entry k = record { name = k.name; priority = k.priority; text = k.text }
 
 -- parsed modules are those of entries, under the entries' names
 abbrev pub AreParsedOf : {A : Type 0} → List spec.Entry → List (NamedModule A) → Type 0

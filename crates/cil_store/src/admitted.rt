@@ -11,6 +11,7 @@ use crate::entry::Entry;
 use crate::modules::Store;
 use crate::refusal::Refusal;
 use crate::refusing::{refuse_edit, refuse_text};
+use cil_names::Seed;
 use cil_parse::{ParsedModule, parse};
 use std::alloc::{Allocator, Global};
 
@@ -36,13 +37,14 @@ pub enum Admitted<'e, A: Allocator = Global> {
 /// An install with the parsed module of its text, if the text spells one.
 fn admit_install<'e, A: Allocator + Copy>(
     alloc: A,
+    seed: Seed,
     entry: Entry<'e>,
 ) -> Result<Admitted<'e, A>, Refusal<A>>
     requires { length entry.text.now ≤ 16777216 }
     ensures ok { IfOk result (λ admitted. IsAdmitted admitted × (admitted_edit admitted ≡ install entry.entry.name.now entry.entry.priority entry.entry.text.now)) }
     ensures err { IfErr result (λ refusal. IsRefusedText (install entry.entry.name.now entry.entry.priority entry.entry.text.now) (refusal_of refusal)) }
 {
-    match parse(alloc, entry.text) {
+    match parse(alloc, seed, entry.text) {
         Ok(module) => Ok(Admitted::Install { entry, module }),
         Err(fault) => Err(refuse_text(alloc, entry.name, fault)),
     }
@@ -68,6 +70,7 @@ pub fn admit<'e, A: Allocator + Copy>(
             text,
         } => admit_install(
             alloc,
+            store.seed,
             Entry {
                 name,
                 priority,

@@ -5,10 +5,11 @@ use crate::{dropped, edit};
 use cil_resolve::Text;
 use std::alloc::{Allocator, Global};
 
-/// A call of an engine: an edit of its store, or a question.
+/// A call of an engine: an edit of its store, a batch of edits, or a question.
 #[derive(Clone, Copy, Debug)]
 pub enum Call<'a> {
     Edit(edit::Edit<'a>),
+    Batch(&'a [edit::Edit<'a>]),
     /// Which accesses are allowed, by rows.
     Rows,
     /// The lines of these rows.
@@ -22,7 +23,7 @@ pub enum Call<'a> {
 /// What an engine replies to a call.
 #[derive(Drop)]
 pub enum Reply<A: Allocator = Global> {
-    /// The edit was accepted.
+    /// The edit or the batch was accepted.
     Changes(cil_rules::Changes<A>),
     Rows(cil_rules::Rows<A>),
     Listing(Text<A>),

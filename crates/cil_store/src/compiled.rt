@@ -1,6 +1,6 @@
 //! Engines that keep a store compiled.
 
-ghost use Rattle.std.specs.Prelude.{◌≡◌, ◌≤◌, List, IfErr, IfOk, OnErr, IsErrOf, length, flat_map};
+ghost use Rattle.std.specs.Prelude.{◌≡◌, ◌≤◌, List, IfErr, IfOk, OnErr, IsErrOf, length, map, flat_map};
 ghost use Rattle.cil_stream.specs.Device.{HasFailed, Gains, GainsFront};
 ghost use Rattle.cil_specs.specs.Meaning.{Meaning, count_of};
 ghost use Rattle.cil_specs.specs.Members.{is_member};
@@ -8,10 +8,10 @@ ghost use Rattle.cil_specs.specs.Report.{Row, row_line};
 ghost use Rattle.cil_counters.specs.ChangeCounts.{CountsSome};
 ghost use Rattle.cil_rules.specs.Atoms.{atom_of};
 ghost use Rattle.cil_store_specs.specs.Next.{IsMeaningOf};
-ghost use Rattle.cil_store_specs.specs.Run.{an_edit, changed_by, refused, AreRowsOf, AreViolationsOf, AreDroppedOf, Step};
+ghost use Rattle.cil_store_specs.specs.Run.{a_batch, an_edit, changed_by, refused, AreRowsOf, AreViolationsOf, AreDroppedOf, Step};
 ghost use Rattle.cil_store_specs.specs.Store as spec;
 ghost use Rattle.cil_specs.specs.Violations.{Violation, violations_text};
-ghost use Rattle.cil_store.specs.Calls.{edit_reply};
+ghost use Rattle.cil_store.specs.Calls.{batch_reply};
 ghost use Rattle.cil_store.specs.Edits.{edit_of, refusal_of};
 
 use crate::dropped::Dropped;
@@ -54,15 +54,30 @@ pub trait Compiled<A: Allocator + Copy> {
     fn count(&self, access: &Atom<'_>) -> u64
         ensures { (meaning : Meaning) → IsMeaningOf (store self.now) meaning → result ≡ count_of meaning (atom_of access.now) };
 
-    /// Judges an edit, and makes it if nothing is against it. The reply tells the accesses that came and went; after a
-    /// refusal, out of memory too, the store is as before.
-    fn edit(&mut self, edit: Edit<'_>) -> Result<Changes<A>, Refusal<A>>
-        ensures { Step (store self.old) (an_edit (edit_of edit.entry)) (edit_reply result) (store self.new) };
+    /// Judges a batch, edits that are made as one, and makes it if nothing is against it. The reply tells the accesses that came and went
+    /// between its two ends; after a refusal, out of memory too, the store is as before.
+    fn batch(&mut self, edits: &[Edit<'_>]) -> Result<Changes<A>, Refusal<A>>
+        ensures { Step (store self.old) (a_batch (map edit_of edits.now)) (batch_reply result) (store self.new) };
 
-    /// `edit`, whose reply tells how many accesses came and went, and not which.
+    /// `batch`, whose reply tells how many accesses came and went, and not which.
+    fn batch_counted(&mut self, edits: &[Edit<'_>]) -> Result<ChangeCounts, Refusal<A>>
+        ensures ok { IfOk result (CountsSome (λ changes. Step (store self.old) (a_batch (map edit_of edits.now)) (changed_by changes) (store self.new))) }
+        ensures err { IfErr result (λ refusal. Step (store self.old) (a_batch (map edit_of edits.now)) (refused (refusal_of refusal)) (store self.new)) };
+
+    /// `batch` of one edit.
+    fn edit(&mut self, edit: Edit<'_>) -> Result<Changes<A>, Refusal<A>>
+        ensures { Step (store self.old) (an_edit (edit_of edit.entry)) (batch_reply result) (store self.new) }
+    {
+        self.batch(&[edit])
+    }
+
+    /// `batch_counted` of one edit.
     fn edit_counted(&mut self, edit: Edit<'_>) -> Result<ChangeCounts, Refusal<A>>
         ensures ok { IfOk result (CountsSome (λ changes. Step (store self.old) (an_edit (edit_of edit.entry)) (changed_by changes) (store self.new))) }
-        ensures err { IfErr result (λ refusal. Step (store self.old) (an_edit (edit_of edit.entry)) (refused (refusal_of refusal)) (store self.new)) };
+        ensures err { IfErr result (λ refusal. Step (store self.old) (an_edit (edit_of edit.entry)) (refused (refusal_of refusal)) (store self.new)) }
+    {
+        self.batch_counted(&[edit])
+    }
 
     /// The listing, by rows.
     fn rows(&self) -> Result<Rows<A>, AllocError>

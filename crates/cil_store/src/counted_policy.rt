@@ -10,15 +10,13 @@ ghost use Rattle.cil_counters.specs.ChangeCounts.{CountsSome};
 ghost use Rattle.cil_counters.specs.Counted.{IsNow, WasBefore};
 ghost use Rattle.cil_resolve.specs.Resolved.{meaning_in};
 ghost use Rattle.cil_rules.specs.Atoms.{atom_of};
-ghost use Rattle.cil_store_specs.specs.Next.{changed};
 ghost use Rattle.cil_store.specs.Counted.{counted_meaning, AreCountedChanges, IsKept};
-ghost use Rattle.cil_store.specs.Ready.{ready_edit};
 
 use crate::dropped::Dropped;
 use crate::modules::Store;
-use crate::ready::Ready;
 use crate::resolving::resolve_nothing;
 use cil_counters::{ChangeCounts, Counters, counters_tell_accesses, counters_tell_members};
+use cil_names::Seed;
 use cil_resolve::{Meter, Resolved, resolved_sets_are_in_order};
 use cil_rules::{Atom, Changes, Table};
 use cil_violations::Violations;
@@ -44,6 +42,13 @@ impl<A: Allocator + Copy> NextPolicy<A> {
     }
 }
 
+/// A store that nothing is against, with its policy. What memory it needs is taken, but for that of the counters.
+#[derive(Drop)]
+pub struct Prepared<A: Allocator = Global> {
+    pub store: Store<A>,
+    pub next: NextPolicy<A>,
+}
+
 /// A resolved policy, the optionals that drop, and its counters: for each attribute and type how many set statements make the one a
 /// member of the other, and for each access how many rules give it.
 #[derive(Drop)]
@@ -54,14 +59,14 @@ pub struct CountedPolicy<A: Allocator = Global> {
 }
 
 impl<A: Allocator + Copy> CountedPolicy<A> {
-    /// The policy of no statement.
-    pub fn empty(alloc: A) -> Result<Self, AllocError>
+    /// The policy of no statement. The tables of the names to come are hashed by a seed.
+    pub fn empty(alloc: A, seed: Seed) -> Result<Self, AllocError>
         ensures kept { IfOk result IsKept }
         ensures meaning { IfOk result (λ policy. counted_meaning policy ≡ meaning_of [] []) }
     {
         let next = NextPolicy::of(alloc, resolve_nothing(alloc)?)?;
         resolved_sets_are_in_order(&next.resolved);
-        let counters = Counters::none(alloc, &next.resolved)?;
+        let counters = Counters::none(alloc, seed, &next.resolved)?;
         Ok(CountedPolicy {
             resolved: next.resolved,
             dropped: next.dropped,
@@ -69,33 +74,31 @@ impl<A: Allocator + Copy> CountedPolicy<A> {
         })
     }
 
-    /// Brings the counters to those of another policy, makes the edit that leads to it, and puts that policy in place of this one. All
-    /// other memory that this needs is taken before, so that an out of memory comes of the counters alone. It leaves all as it was but
-    /// the meter.
+    /// Brings the counters to those of another policy, and puts it and its store in place of this one and its own. An out of memory leaves
+    /// all as it was but the meter.
     pub fn replace(
         &mut self,
         alloc: A,
         store: &mut Store<A>,
-        edit: Ready<'_, A>,
-        next: NextPolicy<A>,
+        prepared: Prepared<A>,
         meter: &mut Meter,
     ) -> Result<Changes<A>, AllocError>
         requires { IsKept self.old }
         ensures kept { IsKept self.new }
-        ensures changes { IfOk result (AreCountedChanges (counted_meaning self.old) (meaning_in (rc_value next.resolved)) meter.old meter.new) }
-        ensures store { OnOk result (store.new ≡ changed store.old (ready_edit edit.entry)) }
-        ensures meaning { OnOk result (counted_meaning self.new ≡ meaning_in (rc_value next.resolved)) }
+        ensures changes { IfOk result (AreCountedChanges (counted_meaning self.old) (meaning_in (rc_value prepared.next.resolved)) meter.old meter.new) }
+        ensures meaning { OnOk result (counted_meaning self.new ≡ meaning_in (rc_value prepared.next.resolved)) }
+        ensures store { OnOk result (store.new ≡ prepared.store) }
         ensures err_store { OnErr result (store.new ≡ store.old) }
         ensures err_meaning { OnErr result (counted_meaning self.new ≡ counted_meaning self.old) }
     {
         let updated = self
             .counters
-            .update(alloc, &self.resolved, &next.resolved, meter);
+            .update(alloc, &self.resolved, &prepared.next.resolved, meter);
         let Ok(changes) = updated else {
             self.counters.undo();
             return Err(AllocError);
         };
-        self.take_over(store, edit, next)?;
+        self.take_over(store, prepared);
         Ok(changes)
     }
 
@@ -104,54 +107,39 @@ impl<A: Allocator + Copy> CountedPolicy<A> {
         &mut self,
         alloc: A,
         store: &mut Store<A>,
-        edit: Ready<'_, A>,
-        next: NextPolicy<A>,
+        prepared: Prepared<A>,
         meter: &mut Meter,
     ) -> Result<ChangeCounts, AllocError>
         requires { IsKept self.old }
         ensures kept { IsKept self.new }
-        ensures changes { IfOk result (CountsSome (AreCountedChanges (counted_meaning self.old) (meaning_in (rc_value next.resolved)) meter.old meter.new)) }
-        ensures store { OnOk result (store.new ≡ changed store.old (ready_edit edit.entry)) }
-        ensures meaning { OnOk result (counted_meaning self.new ≡ meaning_in (rc_value next.resolved)) }
+        ensures changes { IfOk result (CountsSome (AreCountedChanges (counted_meaning self.old) (meaning_in (rc_value prepared.next.resolved)) meter.old meter.new)) }
+        ensures meaning { OnOk result (counted_meaning self.new ≡ meaning_in (rc_value prepared.next.resolved)) }
+        ensures store { OnOk result (store.new ≡ prepared.store) }
         ensures err_store { OnErr result (store.new ≡ store.old) }
         ensures err_meaning { OnErr result (counted_meaning self.new ≡ counted_meaning self.old) }
     {
         let updated = self
             .counters
-            .update_counted(alloc, &self.resolved, &next.resolved, meter);
+            .update_counted(alloc, &self.resolved, &prepared.next.resolved, meter);
         let Ok(counts) = updated else {
             self.counters.undo();
             return Err(AllocError);
         };
-        self.take_over(store, edit, next)?;
+        self.take_over(store, prepared);
         Ok(counts)
     }
 
-    /// Makes the edit that leads to the policy to which the counters were brought, and puts that policy in place of this one. After an
-    /// out of memory the counters are taken back.
-    fn take_over(
-        &mut self,
-        store: &mut Store<A>,
-        edit: Ready<'_, A>,
-        next: NextPolicy<A>,
-    ) -> Result<(), AllocError>
-        requires now { IsNow (rc_value next.resolved) self.old.counters }
-        requires before { WasBefore (rc_value self.old.resolved) self.old.counters }
-        requires dropped { self.old.dropped ≡ (counted_meaning self.old).dropped }
+    /// Puts the policy to which the counters were brought in place of this one, and its store in place of another.
+    fn take_over(&mut self, store: &mut Store<A>, prepared: Prepared<A>)
+        requires { IsNow (rc_value prepared.next.resolved) self.old.counters }
         ensures kept { IsKept self.new }
-        ensures store { OnOk result (store.new ≡ changed store.old (ready_edit edit.entry)) }
-        ensures meaning { OnOk result (counted_meaning self.new ≡ meaning_in (rc_value next.resolved)) }
-        ensures err_store { OnErr result (store.new ≡ store.old) }
-        ensures err_meaning { OnErr result (counted_meaning self.new ≡ counted_meaning self.old) }
+        ensures store { store.new ≡ prepared.store }
+        ensures meaning { counted_meaning self.new ≡ meaning_in (rc_value prepared.next.resolved) }
     {
-        if store.put(edit).is_err() {
-            self.counters.undo();
-            return Err(AllocError);
-        }
         self.counters.settle();
-        self.resolved = next.resolved;
-        self.dropped = next.dropped;
-        Ok(())
+        *store = prepared.store;
+        self.resolved = prepared.next.resolved;
+        self.dropped = prepared.next.dropped;
     }
 
     /// The accesses that its rules give.

@@ -1,29 +1,28 @@
 //! The engine that changes its counters in place.
 
-ghost use Rattle.std.specs.Prelude.{◌≡◌, ◌⊎◌, None, IfErr, IfOk, OnErr, OnOk};
+ghost use Rattle.std.specs.Prelude.{◌≡◌, ◌⊎◌, false, map, IfErr, IfOk, OnErr, OnOk};
 ghost use Rattle.std.specs.Rc.{rc_value};
 ghost use Rattle.cil_specs.specs.Meaning.{Meaning, is_in_table};
 ghost use Rattle.cil_specs.specs.Report.{AreAtoms};
 ghost use Rattle.cil_counters.specs.ChangeCounts.{CountsSome};
 ghost use Rattle.cil_resolve.specs.Resolved.{meaning_in};
-ghost use Rattle.cil_store_specs.specs.Next.{HasGoodText, IsMeaningOf, changed, for_memory, store_refusal};
-ghost use Rattle.cil_store_specs.specs.Run.{an_edit, changed_by, refused, Step};
+ghost use Rattle.cil_store_specs.specs.Next.{AreTaken, IsMeaningOf, for_memory, is_too_long};
+ghost use Rattle.cil_store_specs.specs.Run.{a_batch, an_edit, changed_by, refused, Step};
 ghost use Rattle.cil_store_specs.specs.Store.{empty};
-ghost use Rattle.cil_store.specs.Calls.{edit_reply};
+ghost use Rattle.cil_store.specs.Calls.{batch_reply};
 ghost use Rattle.cil_store.specs.Counted.{counted_meaning, meaning_kept, AreCountedBetween, CountsStay, IsKept, IsKeptWhere};
 ghost use Rattle.cil_store.specs.Edits.{edit_of, refusal_of};
-ghost use Rattle.cil_store.specs.Ready.{ready_edit};
+ghost use Rattle.cil_store.specs.Refusing.{IsRefusedBatch};
 
-use crate::admitted::admit;
+use crate::batch::judge_batch;
 use crate::compiled::{Compiled, WriteFault};
-use crate::counted_policy::{CountedPolicy, NextPolicy};
+use crate::counted_policy::{CountedPolicy, NextPolicy, Prepared};
 use crate::dropped::Dropped;
 use crate::edit::Edit;
 use crate::modules::Store;
-use crate::ready::Ready;
 use crate::refusal::Refusal;
-use crate::resolving::resolve_after;
 use cil_counters::ChangeCounts;
+use cil_names::Seed;
 use cil_resolve::Meter;
 use cil_rules::{Atom, Changes, Rows, Table};
 use cil_stream::Sink;
@@ -31,12 +30,13 @@ use cil_violations::Violations;
 use std::alloc::{AllocError, Allocator, Global};
 use std::marker::Model;
 
-/// A store with the policy that it compiles to and that policy's counters, which an edit brings to those of the next policy. A new
-/// store has no policy yet. At an edit the text that it brings is parsed, and the modules of the changed store are bound and judged
-/// anew; the counters move where the two policies differ. The listing and the violations are worked out when they are asked.
+/// A store with the policy that it compiles to and that policy's counters, which a batch brings to those of the next policy. A new
+/// store has no policy yet. At a batch the texts that it brings are parsed, and the modules of the store that it leads to are bound and
+/// judged anew; the counters move where the two policies differ. The listing and the violations are worked out when they are asked.
 #[derive(Drop)]
 pub struct Delta<A: Allocator = Global> {
     alloc: A,
+    seed: Seed,
     store: Store<A>,
     policy: Option<CountedPolicy<A>>,
 }
@@ -55,6 +55,7 @@ impl<A: Allocator> Model for Delta<A> {
 /// Takes out the policy that is kept, or makes that of no statement where none is.
 fn take_policy<A: Allocator + Copy>(
     alloc: A,
+    seed: Seed,
     policy: &mut Option<CountedPolicy<A>>,
 ) -> Result<CountedPolicy<A>, AllocError>
     requires { IsKeptWhere policy.old }
@@ -64,43 +65,43 @@ fn take_policy<A: Allocator + Copy>(
 {
     match policy.take() {
         Some(taken) => Ok(taken),
-        None => CountedPolicy::empty(alloc),
+        None => CountedPolicy::empty(alloc, seed),
     }
 }
 
-/// An edit that nothing is against, with the policy that it leads to. What memory it needs is taken, but for that of the counters.
-#[derive(Drop)]
-struct Prepared<'e, A: Allocator> {
-    edit: Ready<'e, A>,
-    next: NextPolicy<A>,
-}
-
 impl<A: Allocator + Copy> Delta<A> {
-    /// An engine of an empty store. It takes no memory.
+    /// An engine of an empty store. It takes no memory. Its tables of names are hashed by the fixed seed.
     pub fn new(alloc: A) -> Self
+        ensures { result ≡ empty }
+    {
+        Delta::with_seed(alloc, Seed::fixed())
+    }
+
+    /// An engine of an empty store, whose tables of names are hashed by a seed. It takes no memory.
+    pub fn with_seed(alloc: A, seed: Seed) -> Self
         ensures { result ≡ empty }
     {
         Delta {
             alloc,
-            store: Store::new(alloc),
+            seed,
+            store: Store::new(alloc, seed),
             policy: None,
         }
     }
 
-    /// Makes an edit whose policy is known.
+    /// Puts a store in place whose policy is known.
     fn replace(
         &mut self,
-        edit: Ready<'_, A>,
-        next: NextPolicy<A>,
+        prepared: Prepared<A>,
         meter: &mut Meter,
     ) -> Result<Changes<A>, AllocError>
-        requires { IsMeaningOf (changed self.old (ready_edit edit)) (meaning_in (rc_value next.resolved)) }
-        ensures ok { OnOk result (self.new ≡ changed self.old (ready_edit edit.entry)) }
+        requires { IsMeaningOf prepared.store (meaning_in (rc_value prepared.next.resolved)) }
+        ensures ok { OnOk result (self.new ≡ prepared.store) }
         ensures changes { IfOk result (AreCountedBetween self.old self.new meter.old meter.new) }
         ensures err { OnErr result (self.new ≡ self.old) }
     {
-        let mut policy = take_policy(self.alloc, &mut self.policy)?;
-        let changes = policy.replace(self.alloc, &mut self.store, edit, next, meter);
+        let mut policy = take_policy(self.alloc, self.seed, &mut self.policy)?;
+        let changes = policy.replace(self.alloc, &mut self.store, prepared, meter);
         self.policy = Some(policy);
         changes
     }
@@ -108,55 +109,82 @@ impl<A: Allocator + Copy> Delta<A> {
     /// `replace`, which answers how many changes there are.
     fn replace_counted(
         &mut self,
-        edit: Ready<'_, A>,
-        next: NextPolicy<A>,
+        prepared: Prepared<A>,
         meter: &mut Meter,
     ) -> Result<ChangeCounts, AllocError>
-        requires { IsMeaningOf (changed self.old (ready_edit edit)) (meaning_in (rc_value next.resolved)) }
-        ensures ok { OnOk result (self.new ≡ changed self.old (ready_edit edit.entry)) }
+        requires { IsMeaningOf prepared.store (meaning_in (rc_value prepared.next.resolved)) }
+        ensures ok { OnOk result (self.new ≡ prepared.store) }
         ensures changes { IfOk result (CountsSome (AreCountedBetween self.old self.new meter.old meter.new)) }
         ensures err { OnErr result (self.new ≡ self.old) }
     {
-        let mut policy = take_policy(self.alloc, &mut self.policy)?;
-        let counts = policy.replace_counted(self.alloc, &mut self.store, edit, next, meter);
+        let mut policy = take_policy(self.alloc, self.seed, &mut self.policy)?;
+        let counts = policy.replace_counted(self.alloc, &mut self.store, prepared, meter);
         self.policy = Some(policy);
         counts
     }
 
-    /// Judges an edit, and takes the memory that it needs but for that of the counters. The store stays.
-    fn prepare<'e>(&mut self, edit: Edit<'e>) -> Result<Prepared<'e, A>, Refusal<A>>
-        ensures kept { self.new ≡ self.old }
-        ensures edit { IfOk result (λ prepared. ready_edit prepared.edit ≡ edit_of edit.entry) }
-        ensures meant { OnOk result ((before : Meaning) × IsMeaningOf self.old before) }
-        ensures taken { OnOk result (store_refusal self.old (edit_of edit.entry) ≡ None) }
-        ensures text { OnOk result (HasGoodText (edit_of edit.entry)) }
-        ensures means { IfOk result (λ prepared. IsMeaningOf (changed self.old (edit_of edit.entry)) (meaning_in (rc_value prepared.next.resolved))) }
-        ensures err { IfErr result (λ refusal. Step self.old (an_edit (edit_of edit.entry)) (refused (refusal_of refusal)) self.old) }
+    /// Judges a batch, and takes the memory that it needs but for that of the counters.
+    fn prepare(&self, edits: &[Edit<'_>]) -> Result<Prepared<A>, Refusal<A>>
+        ensures short { OnOk result (is_too_long (map edit_of edits.now) ≡ false) }
+        ensures meant { OnOk result ((before : Meaning) × IsMeaningOf self.now before) }
+        ensures taken { IfOk result (λ prepared. AreTaken self.now (map edit_of edits.now) prepared.store) }
+        ensures means { IfOk result (λ prepared. IsMeaningOf prepared.store (meaning_in (rc_value prepared.next.resolved))) }
+        ensures err { IfErr result (λ refusal. IsRefusedBatch self.now (map edit_of edits.now) (refusal_of refusal)) }
     {
-        let admitted = admit(self.alloc, &self.store, edit)?;
-        let resolved = resolve_after(self.alloc, &self.store, &admitted)?;
-        let next = NextPolicy::of(self.alloc, resolved)?;
-        let edit = self.store.prepare(self.alloc, admitted)?;
-        Ok(Prepared { edit, next })
+        let judged = judge_batch(self.alloc, &self.store, edits)?;
+        let next = NextPolicy::of(self.alloc, judged.resolved)?;
+        Ok(Prepared {
+            store: judged.store,
+            next,
+        })
     }
 
-    /// `edit`, which counts in a meter how often set statements are evaluated and counters of accesses adjusted. After an out of memory
+    /// `batch`, which counts in a meter how often set statements are evaluated and counters of accesses adjusted. After an out of memory
     /// the meter may have counted some.
+    pub fn batch_metered(
+        &mut self,
+        edits: &[Edit<'_>],
+        meter: &mut Meter,
+    ) -> Result<Changes<A>, Refusal<A>>
+        ensures step { Step self.old (a_batch (map edit_of edits.now)) (batch_reply result) self.new }
+        ensures counted { IfOk result (AreCountedBetween self.old self.new meter.old meter.new) }
+        ensures uncounted { IfErr result (λ refusal. (refusal_of refusal ≡ for_memory) ⊎ CountsStay meter.old meter.new) }
+    {
+        let prepared = self.prepare(edits)?;
+        let changes = self.replace(prepared, meter)?;
+        Ok(changes)
+    }
+
+    /// `batch_counted`, which counts in a meter as `batch_metered` does.
+    pub fn batch_counted_metered(
+        &mut self,
+        edits: &[Edit<'_>],
+        meter: &mut Meter,
+    ) -> Result<ChangeCounts, Refusal<A>>
+        ensures ok { IfOk result (CountsSome (λ changes. Step self.old (a_batch (map edit_of edits.now)) (changed_by changes) self.new)) }
+        ensures err { IfErr result (λ refusal. Step self.old (a_batch (map edit_of edits.now)) (refused (refusal_of refusal)) self.new) }
+        ensures counted { IfOk result (CountsSome (AreCountedBetween self.old self.new meter.old meter.new)) }
+        ensures uncounted { IfErr result (λ refusal. (refusal_of refusal ≡ for_memory) ⊎ CountsStay meter.old meter.new) }
+    {
+        let next = self.prepare(edits)?;
+        let counts = self.replace_counted(next, meter)?;
+        Ok(counts)
+    }
+
+    /// `batch_metered` of one edit.
     pub fn edit_metered(
         &mut self,
         edit: Edit<'_>,
         meter: &mut Meter,
     ) -> Result<Changes<A>, Refusal<A>>
-        ensures step { Step self.old (an_edit (edit_of edit.entry)) (edit_reply result) self.new }
+        ensures step { Step self.old (an_edit (edit_of edit.entry)) (batch_reply result) self.new }
         ensures counted { IfOk result (AreCountedBetween self.old self.new meter.old meter.new) }
         ensures uncounted { IfErr result (λ refusal. (refusal_of refusal ≡ for_memory) ⊎ CountsStay meter.old meter.new) }
     {
-        let prepared = self.prepare(edit)?;
-        let changes = self.replace(prepared.edit, prepared.next, meter)?;
-        Ok(changes)
+        self.batch_metered(&[edit], meter)
     }
 
-    /// `edit_counted`, which counts in a meter as `edit_metered` does.
+    /// `batch_counted_metered` of one edit.
     pub fn edit_counted_metered(
         &mut self,
         edit: Edit<'_>,
@@ -167,9 +195,7 @@ impl<A: Allocator + Copy> Delta<A> {
         ensures counted { IfOk result (CountsSome (AreCountedBetween self.old self.new meter.old meter.new)) }
         ensures uncounted { IfErr result (λ refusal. (refusal_of refusal ≡ for_memory) ⊎ CountsStay meter.old meter.new) }
     {
-        let prepared = self.prepare(edit)?;
-        let counts = self.replace_counted(prepared.edit, prepared.next, meter)?;
-        Ok(counts)
+        self.batch_counted_metered(&[edit], meter)
     }
 
     /// The accesses that the store allows.
@@ -204,12 +230,14 @@ impl<A: Allocator + Copy> Compiled<A> for Delta<A> {
         }
     }
 
-    fn edit(&mut self, edit: Edit<'_>) -> Result<Changes<A>, Refusal<A>> {
-        self.edit_metered(edit, &mut Meter::new())
+    fn batch(&mut self, edits: &[Edit<'_>]) -> Result<Changes<A>, Refusal<A>> {
+        let mut meter = Meter::new();
+        self.batch_metered(edits, &mut meter)
     }
 
-    fn edit_counted(&mut self, edit: Edit<'_>) -> Result<ChangeCounts, Refusal<A>> {
-        self.edit_counted_metered(edit, &mut Meter::new())
+    fn batch_counted(&mut self, edits: &[Edit<'_>]) -> Result<ChangeCounts, Refusal<A>> {
+        let mut meter = Meter::new();
+        self.batch_counted_metered(edits, &mut meter)
     }
 
     fn rows(&self) -> Result<Rows<A>, AllocError> {
@@ -219,7 +247,7 @@ impl<A: Allocator + Copy> Compiled<A> for Delta<A> {
     fn violations(&self) -> Result<Violations<A>, AllocError> {
         match &self.policy {
             Some(policy) => policy.violations(self.alloc),
-            None => CountedPolicy::empty(self.alloc)?.violations(self.alloc),
+            None => CountedPolicy::empty(self.alloc, self.seed)?.violations(self.alloc),
         }
     }
 

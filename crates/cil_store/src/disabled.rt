@@ -1,6 +1,6 @@
 //! The names that are disabled.
 
-ghost use Rattle.std.specs.Prelude.{◌≡◌, [], ◌≤◌, ◌<◌, ◌↔◌, IsTrue, bytes_eq, length, slice_get, option_map, OnOk, OnErr};
+ghost use Rattle.std.specs.Prelude.{◌≡◌, [], ◌≤◌, ◌<◌, ◌↔◌, IsTrue, bytes_eq, length, slice_get, option_map, IfOk, OnOk, OnErr};
 ghost use Rattle.std.specs.List.{list_any, prefix_len};
 ghost use Rattle.std.specs.Ordering.{is_lt};
 ghost use Rattle.cil_specs.specs.Report.{name_cmp};
@@ -96,11 +96,15 @@ impl<A: Allocator> Disabled<A> {
 }
 
 impl<A: Allocator + Copy> Disabled<A> {
-    /// Keeps room for one name more, so that `insert` takes no memory.
-    pub fn reserve(&mut self) -> Result<(), AllocError>
-        ensures { self.new ≡ self.old }
+    /// Copies of the names.
+    pub fn copied(&self, alloc: A) -> Result<Self, AllocError>
+        ensures { IfOk result (λ disabled. disabled ≡ self.now) }
     {
-        self.names.reserve(1)
+        let mut names = Vec::with_capacity(alloc, self.names.len())?;
+        for name in &self.names {
+            names.push(Text::of(alloc, name.as_slice())?)?;
+        }
+        Ok(Disabled { names })
     }
 
     /// Puts in a name, if it isn't there.

@@ -1,12 +1,12 @@
 //! The entries of a store, in order.
 
-ghost use Rattle.std.specs.Prelude.{◌≡◌, ◌+◌, ◌++◌, ◌∷◌, ◌≤◌, ◌<◌, ◌↔◌, ◌^◌, [], ℕ, List, IsTrue, bytes_eq, find, length, option_map, OnOk, OnErr};
+ghost use Rattle.std.specs.Prelude.{◌≡◌, ◌+◌, ◌≤◌, ◌<◌, ◌↔◌, ◌^◌, [], ℕ, List, IsTrue, bytes_eq, find, length, option_map, IfOk, OnOk, OnErr};
 ghost use Rattle.std.specs.List.{prefix_len};
 ghost use Rattle.std.specs.Ordering.{is_lt};
 ghost use Rattle.cil_store_specs.specs.Store.{entry_cmp, has_entry, has_room, is_installed, put, text_bytes, without};
 ghost use Rattle.cil_specs.proofs.SearchLemmas.{IsTiedAt};
 ghost use Rattle.cil_store_specs.specs.Store.{entry_at};
-ghost use Rattle.cil_store.specs.Stored.{entry_for, entry_of};
+ghost use Rattle.cil_store.specs.Stored.{entry_of};
 
 use crate::entry::{Entry, StoredEntry};
 use std::alloc::{AllocError, Allocator, Global};
@@ -63,20 +63,6 @@ impl<A: Allocator> Entries<A> {
         ensures { result.now ≡ self.now }
     {
         &self.entries
-    }
-
-    /// The entries before and after that of a name and a priority, which may be there or not.
-    pub fn split(&self, name: &[u8], priority: u32) -> (&[StoredEntry<A>], &[StoredEntry<A>])
-        ensures put { (text : List ℕ) → put (entry_for name.now priority text) self.now ≡ result.0.now ++ entry_for name.now priority text ∷ result.1.now }
-        ensures without { without name.now priority self.now ≡ result.0.now ++ result.1.now }
-    {
-        let place = self.place(name, priority);
-        let before = &self.entries[..place];
-        if self.has_at(place, name, priority) {
-            (before, &self.entries[place + 1..])
-        } else {
-            (before, &self.entries[place..])
-        }
     }
 
     /// How many entries stand before that of a name and a priority, which may be there or not.
@@ -158,11 +144,15 @@ impl<A: Allocator> Entries<A> {
 }
 
 impl<A: Allocator + Copy> Entries<A> {
-    /// Keeps room for one entry more, so that `put` takes no memory.
-    pub fn reserve(&mut self) -> Result<(), AllocError>
-        ensures { self.new ≡ self.old }
+    /// The same entries in a list of its own, which shares them.
+    pub fn share(&self, alloc: A) -> Result<Self, AllocError>
+        ensures { IfOk result (λ entries. entries ≡ self.now) }
     {
-        self.entries.reserve(1)
+        let mut entries = Vec::with_capacity(alloc, self.entries.len())?;
+        for entry in &self.entries {
+            entries.push(entry.share()?)?;
+        }
+        Ok(Entries { entries })
     }
 
     /// Puts in an entry, in place of one of its name and priority.

@@ -11,6 +11,7 @@ use cil_parse::ParsedModule;
 use cil_resolve::{NamedModule, Text};
 use std::alloc::{AllocError, Allocator, Global};
 use std::marker::Model;
+use std::rc::Rc;
 
 /// A module's text under its name and priority, which it borrows.
 #[derive(Clone, Copy, Debug)]
@@ -37,24 +38,32 @@ impl<'a> Entry<'a> {
     }
 }
 
-/// A module's text under its name and priority, with the parsed module of the text.
+/// What an entry keeps.
 #[derive(Drop)]
-pub struct StoredEntry<A: Allocator = Global> {
+struct Kept<A: Allocator> {
     name: Text<A>,
     priority: u32,
     text: Text<A>,
     module: ParsedModule<A>,
 }
 
+/// A module's text under its name and priority, with the parsed module of the text. Stores share it.
+#[derive(Drop)]
+pub struct StoredEntry<A: Allocator = Global> {
+    kept: Rc<Kept<A>, A>,
+}
+
 impl<A: Allocator> Model for StoredEntry<A> {
+    ghost use Rattle.std.specs.Rc.{rc_value};
     ghost use Rattle.cil_store_specs.specs.Store.{Entry};
     ghost use Rattle.cil_parse.specs.Parsed.{IsParsed};
+    ghost use Rattle.cil_store.specs.Stored.{kept_entry};
 
     ghost Value = { Entry };
 
-    ghost view = { λ e. record { name = e.name; priority = e.priority; text = e.text } };
+    ghost view = { λ e. kept_entry (rc_value e.kept) };
 
-    ghost invariant = { λ e. IsParsed e.text e.«module» };
+    ghost invariant = { λ e. IsParsed (rc_value e.kept).text (rc_value e.kept).«module» };
 }
 
 impl<A: Allocator + Copy> StoredEntry<A> {
@@ -65,11 +74,14 @@ impl<A: Allocator + Copy> StoredEntry<A> {
         requires { IsParsed entry.text.now «module» }
         ensures { IfOk result (λ e. e ≡ entry_of entry.entry) }
     {
-        Ok(StoredEntry {
+        let kept = Kept {
             name: Text::of(alloc, entry.name)?,
             priority: entry.priority,
             text: Text::of(alloc, entry.text)?,
             module,
+        };
+        Ok(StoredEntry {
+            kept: Rc::new(alloc, kept)?,
         })
     }
 }
@@ -77,14 +89,23 @@ impl<A: Allocator + Copy> StoredEntry<A> {
 impl<A: Allocator> StoredEntry<A> {
     ghost use Rattle.cil_store.specs.Stored.{entry_of};
 
+    /// The same entry, which is shared.
+    pub fn share(&self) -> Result<Self, AllocError>
+        ensures { IfOk result (λ e. e ≡ self.now) }
+    {
+        Ok(StoredEntry {
+            kept: self.kept.clone()?,
+        })
+    }
+
     /// The entry, borrowed.
     pub fn as_entry(&self) -> Entry<'_>
         ensures { entry_of result ≡ self.now }
     {
         Entry {
-            name: self.name.as_slice(),
-            priority: self.priority,
-            text: self.text.as_slice(),
+            name: self.kept.name.as_slice(),
+            priority: self.kept.priority,
+            text: self.kept.text.as_slice(),
         }
     }
 
@@ -94,28 +115,28 @@ impl<A: Allocator> StoredEntry<A> {
         ensures parsed { IsParsed self.now.text result.«module».now }
     {
         NamedModule {
-            name: self.name.as_slice(),
-            module: &self.module,
+            name: self.kept.name.as_slice(),
+            module: &self.kept.module,
         }
     }
 
     pub fn name(&self) -> &[u8]
         ensures { result.now ≡ self.now.name }
     {
-        self.name.as_slice()
+        self.kept.name.as_slice()
     }
 
     pub fn priority(&self) -> u32
         ensures { result ≡ self.now.priority }
     {
-        self.priority
+        self.kept.priority
     }
 
     /// How long its text is.
     pub fn len(&self) -> usize
         ensures { result ≡ length self.now.text }
     {
-        self.text.as_slice().len()
+        self.kept.text.as_slice().len()
     }
 
     /// Whether it stands before an entry of a name and a priority: by its name, or by a higher priority of the same name.
@@ -124,7 +145,7 @@ impl<A: Allocator> StoredEntry<A> {
     {
         self.name()
             .cmp(name)
-            .then(priority.cmp(&self.priority))
+            .then(priority.cmp(&self.kept.priority))
             .is_lt()
     }
 
@@ -132,7 +153,7 @@ impl<A: Allocator> StoredEntry<A> {
     pub fn is_at(&self, name: &[u8], priority: u32) -> bool
         ensures { result ≡ is_entry name.now priority self.now }
     {
-        self.is_named(name) && self.priority == priority
+        self.is_named(name) && self.kept.priority == priority
     }
 
     pub fn is_named(&self, name: &[u8]) -> bool

@@ -1,13 +1,13 @@
 //! Laws of the definitions, which make the contracts of engines exact. They have no code.
 
-ghost use Rattle.std.specs.Prelude.{◌≡◌, [], ℕ, List, map, true, IsTrue};
+ghost use Rattle.std.specs.Prelude.{◌≡◌, ◌∷◌, [], ℕ, List, map, true, false, IsTrue};
 ghost use Rattle.std.specs.List.{list_all};
 ghost use Rattle.cil_specs.specs.Joined.{Placed};
 ghost use Rattle.cil_specs.specs.Kept.{AreApart};
 ghost use Rattle.cil_specs.specs.Meaning.{Meaning, meaning_of};
 ghost use Rattle.cil_specs.specs.Report.{Changes};
 ghost use Rattle.cil_store_specs.specs.Limits.{IsWithinLimits, HasGoodTexts};
-ghost use Rattle.cil_store_specs.specs.Next.{Edit, Refusal, Judgement, IsMeaningOf, IsPolicyOf, IsPolicyRefusal, IsTaken, accepts, Next, NextOfAll};
+ghost use Rattle.cil_store_specs.specs.Next.{Edit, Refusal, Judgement, IsMeaningOf, IsPolicyOf, IsPolicyRefusal, IsTaken, accepts, is_too_long, Next, NextOfAll};
 ghost use Rattle.cil_store_specs.specs.Run.{Call, an_edit, Reply, changed_by, Run, is_answered};
 ghost use Rattle.cil_store_specs.specs.Script.{Command, makes, Commands, End, ends, dump_edits, dump_text};
 ghost use Rattle.cil_store_specs.specs.Session.{IsSession, all_accepted};
@@ -63,9 +63,15 @@ pub fn no_meaning_beside_a_refusal()
     ensures { (store : Store) (meaning : Meaning) (refusal : Refusal) → IsMeaningOf store meaning → IsPolicyRefusal store refusal → ⊥ }
 {}
 
-/// An edit of a store in order has at most one judgement.
+/// A batch of a store in order has at most one judgement.
 pub fn one_judgement()
-    ensures { (store : Store) (edit : Edit) (judgement other : Judgement) → IsStore store → Next store edit judgement → Next store edit other → judgement ≡ other }
+    ensures { (store : Store) (edits : List Edit) (judgement other : Judgement) → IsStore store → Next store edits judgement → Next store edits other → judgement ≡ other }
+{}
+
+/// An edit, which is a batch of one, is never too long; and a batch of none is accepted and changes nothing.
+pub fn batches_of_one_and_none()
+    ensures one { (edit : Edit) → is_too_long (edit ∷ []) ≡ false }
+    ensures none { (store : Store) (meaning : Meaning) → IsMeaningOf store meaning → Next store [] (accepts store) }
 {}
 
 /// Edits that are made at once on a store in order have at most one judgement.

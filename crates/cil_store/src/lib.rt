@@ -2,6 +2,7 @@
 #![tactic(auto)]
 
 mod admitted;
+mod batch;
 mod call;
 mod compiled;
 mod counted_policy;
@@ -11,13 +12,11 @@ mod dropped;
 mod edit;
 mod entries;
 mod entry;
-mod install;
 mod join;
 pub mod laws;
 mod modules;
 mod plain;
 mod policy;
-mod ready;
 mod refusal;
 mod refusing;
 mod resolving;
@@ -25,6 +24,7 @@ mod runs;
 
 pub use call::{Call, Reply};
 pub use cil_counters::ChangeCounts;
+pub use cil_names::Seed;
 pub use compiled::{Compiled, WriteFault};
 pub use delta::Delta;
 pub use dropped::Dropped;

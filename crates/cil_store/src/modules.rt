@@ -2,14 +2,14 @@
 
 ghost use Rattle.std.specs.Prelude.{◌≡◌, ◌<◌, ◌==◌, [], Option, Some, None, length, slice_get, slice_index_or, option_map, IfOk, OnOk, OnErr, MatchResult};
 ghost use Rattle.cil_store_specs.specs.Next.{Refusal, changed, install_refusal, remove_refusal, state_refusal, store_refusal, name_refusal, priority_refusal};
-ghost use Rattle.cil_store_specs.specs.Store.{active_text, empty};
+ghost use Rattle.cil_store_specs.specs.Store.{active_text, empty, is_active};
 ghost use Rattle.cil_store_specs.specs.StoreReport.{is_disabled, state_word};
 ghost use Rattle.cil_store.specs.Edits.{edit_of, name_of, priority_of, store_refusal_of};
 ghost use Rattle.cil_store.specs.Admitted.{admitted_edit, IsAdmitted};
-ghost use Rattle.cil_store.specs.Ready.{ready_edit};
 ghost use Rattle.cil_store.specs.States.{word_of};
 ghost use Rattle.cil_store_specs.specs.Store.{entry_at};
 ghost use Rattle.cil_store_specs.proofs.ActiveLemmas.{is_first_at};
+ghost use Rattle.cil_parse.specs.Parsed.{IsParsed};
 ghost use Rattle.cil_store.specs.Stored.{entry_of};
 
 use crate::admitted::Admitted;
@@ -17,9 +17,9 @@ use crate::disabled::Disabled;
 use crate::edit::Edit;
 use crate::entries::Entries;
 use crate::entry::{Entry, StoredEntry};
-use crate::ready::Ready;
 use crate::refusal::{StoreFault, is_module_name};
-use cil_resolve::Text;
+use cil_names::Seed;
+use cil_resolve::{NamedModule, Text};
 use std::alloc::{AllocError, Allocator, Global};
 use std::marker::Model;
 
@@ -61,6 +61,8 @@ impl State {
 pub struct Store<A: Allocator = Global> {
     pub(crate) entries: Entries<A>,
     pub(crate) disabled: Disabled<A>,
+    // What the tables of names are hashed by.
+    pub(crate) seed: Seed,
 }
 
 impl<A: Allocator> Model for Store<A> {
@@ -124,7 +126,7 @@ impl<A: Allocator> Store<A> {
         self.entries.len() == 0
     }
 
-    /// Whether the entry at a place is compiled.
+    /// Whether the entry at a place is active, shadowed or disabled.
     pub fn state(&self, i: usize) -> State
         requires { i < length self.now.entries }
         ensures { word_of result ≡ state_word self.now (slice_index_or self.now.entries i (entry_at [] 0)) }
@@ -137,6 +139,27 @@ impl<A: Allocator> Store<A> {
         } else {
             State::Shadowed
         }
+    }
+
+    /// Whether the entry at a place is compiled.
+    pub(crate) fn is_active(&self, i: usize) -> bool
+        requires { i < length self.now.entries }
+        ensures { result ≡ is_active self.now (slice_index_or self.now.entries i (entry_at [] 0)) }
+    {
+        let list = self.entries.as_slice();
+        if self.disabled.has(list[i].name()) {
+            return false;
+        }
+        is_first_at(list, i)
+    }
+
+    /// The name of the entry at a place, with the parsed module of its text.
+    pub(crate) fn parsed(&self, i: usize) -> NamedModule<'_, A>
+        requires { i < length self.now.entries }
+        ensures name { result.name.now ≡ (slice_index_or self.now.entries i (entry_at [] 0)).name }
+        ensures parsed { IsParsed (slice_index_or self.now.entries i (entry_at [] 0)).text result.«module».now }
+    {
+        self.entries.as_slice()[i].as_module()
     }
 
     /// The text of a name that is compiled, if one is.
@@ -212,63 +235,26 @@ impl<A: Allocator> Store<A> {
 }
 
 impl<A: Allocator + Copy> Store<A> {
-    /// A store without modules, which takes no memory.
-    pub fn new(alloc: A) -> Self
+    /// A store without modules, which takes no memory. The tables of the names of its modules are hashed by a seed.
+    pub fn new(alloc: A, seed: Seed) -> Self
         ensures { result ≡ empty }
     {
         Store {
             entries: Entries::new(alloc),
             disabled: Disabled::new(alloc),
+            seed,
         }
     }
 
-    /// Takes the memory for an edit that was admitted, and for the room that it needs here. Nothing is changed.
-    pub(crate) fn prepare<'e>(
-        &mut self,
-        alloc: A,
-        edit: Admitted<'e, A>,
-    ) -> Result<Ready<'e, A>, AllocError>
-        requires { IsAdmitted edit }
-        ensures kept { self.new ≡ self.old }
-        ensures edit { IfOk result (λ ready. ready_edit ready ≡ admitted_edit edit.entry) }
+    /// The same store with lists of its own, which shares the entries.
+    pub(crate) fn share(&self, alloc: A) -> Result<Self, AllocError>
+        ensures { IfOk result (λ store. store ≡ self.now) }
     {
-        match edit {
-            Admitted::Install { entry, module } => {
-                let entry = StoredEntry::of(alloc, entry, module)?;
-                self.entries.reserve()?;
-                Ok(Ready::Install(entry))
-            }
-            Admitted::Remove { name, priority } => Ok(Ready::Remove { name, priority }),
-            Admitted::Enable { name } => Ok(Ready::Enable { name }),
-            Admitted::Disable { name } => {
-                let name = Text::of(alloc, name)?;
-                self.disabled.reserve()?;
-                Ok(Ready::Disable(name))
-            }
-        }
-    }
-
-    /// Makes an edit whose memory is taken. It takes none where nothing was made since the edit was prepared; else an out of memory
-    /// leaves the store as it was.
-    pub(crate) fn put(&mut self, edit: Ready<'_, A>) -> Result<(), AllocError>
-        ensures ok { OnOk result (self.new ≡ changed self.old (ready_edit edit.entry)) }
-        ensures err { OnErr result (self.new ≡ self.old) }
-    {
-        match edit {
-            Ready::Install(entry) => self.entries.put(entry),
-            Ready::Remove { name, priority } => {
-                self.entries.remove(name, priority);
-                if !self.entries.is_installed(name) {
-                    self.disabled.remove(name);
-                }
-                Ok(())
-            }
-            Ready::Enable { name } => {
-                self.disabled.remove(name);
-                Ok(())
-            }
-            Ready::Disable(name) => self.disabled.insert(name),
-        }
+        Ok(Store {
+            entries: self.entries.share(alloc)?,
+            disabled: self.disabled.copied(alloc)?,
+            seed: self.seed,
+        })
     }
 
     /// Makes an edit that was admitted. An out of memory leaves the store as it was.
@@ -277,8 +263,27 @@ impl<A: Allocator + Copy> Store<A> {
         ensures ok { OnOk result (self.new ≡ changed self.old (admitted_edit edit.entry)) }
         ensures err { OnErr result (self.new ≡ self.old) }
     {
-        let ready = self.prepare(alloc, edit)?;
-        self.put(ready)
+        match edit {
+            Admitted::Install { entry, module } => {
+                let entry = StoredEntry::of(alloc, entry, module)?;
+                self.entries.put(entry)
+            }
+            Admitted::Remove { name, priority } => {
+                self.entries.remove(name, priority);
+                if !self.entries.is_installed(name) {
+                    self.disabled.remove(name);
+                }
+                Ok(())
+            }
+            Admitted::Enable { name } => {
+                self.disabled.remove(name);
+                Ok(())
+            }
+            Admitted::Disable { name } => {
+                let name = Text::of(alloc, name)?;
+                self.disabled.insert(name)
+            }
+        }
     }
 }
 

@@ -2,71 +2,59 @@
 
 ghost use Rattle.std.specs.Prelude.{◌≡◌, Some, IfOk, IfErr, OnOk, OnErr, map};
 ghost use Rattle.std.specs.Rc.{rc_value};
-ghost use Rattle.cil_store_specs.specs.Next.{Of, accepts, changed, IsMeaningOf};
+ghost use Rattle.cil_store_specs.specs.Next.{Of, accepts, install_of, IsMeaningOf};
 ghost use Rattle.cil_store_specs.specs.Store.{empty};
 ghost use Rattle.cil_specs.specs.Meaning.{Meaning, is_in_table};
 ghost use Rattle.cil_specs.specs.Report.{AreAtoms, AreChanges};
 ghost use Rattle.cil_resolve.specs.Resolved.{meaning_in};
-ghost use Rattle.cil_store.specs.Admitted.{admitted_edit, IsAdmitted};
 ghost use Rattle.cil_store.specs.Edits.{refusal_of};
 ghost use Rattle.cil_store.specs.Plain.{IsCompiledTo};
 ghost use Rattle.cil_store.specs.Policy.{policy_meaning};
-ghost use Rattle.cil_store.specs.Refusing.{AreRefused, IsRefusedPolicy};
+ghost use Rattle.cil_store.specs.Refusing.{AreRefused};
 ghost use Rattle.cil_store.specs.Stored.{entry_of};
 
-use crate::admitted::{Admitted, admit};
+use crate::batch::{Judged, installs, judge, judge_batch};
 use crate::compiled::{Compiled, WriteFault};
 use crate::dropped::Dropped;
 use crate::edit::Edit;
 use crate::entry::Entry;
-use crate::install::install_all;
 use crate::modules::Store;
 use crate::policy::Policy;
 use crate::refusal::Refusal;
-use crate::resolving::resolve_after;
 use cil_counters::ChangeCounts;
-use cil_resolve::Resolved;
+use cil_names::Seed;
 use cil_rules::{Atom, Changes, Rows, Table};
 use cil_stream::Sink;
 use cil_violations::Violations;
 use std::alloc::{AllocError, Allocator, Global};
 use std::marker::Model;
 
-/// What a store compiles to.
+/// A store and what it compiles to.
 #[derive(Drop)]
 struct Made<A: Allocator> {
+    store: Store<A>,
     policy: Policy<A>,
     dropped: Dropped<A>,
 }
 
-/// A policy with the optionals that drop.
-fn with_dropped<A: Allocator + Copy>(alloc: A, resolved: Resolved<A>) -> Result<Made<A>, AllocError>
-    ensures policy { IfOk result (λ made. policy_meaning made.policy ≡ meaning_in resolved) }
-    ensures dropped { IfOk result (λ made. made.dropped ≡ (policy_meaning made.policy).dropped) }
+/// What a store that was judged compiles to.
+fn compile<A: Allocator + Copy>(alloc: A, judged: Judged<A>) -> Result<Made<A>, AllocError>
+    requires { IsMeaningOf judged.store (meaning_in judged.resolved) }
+    ensures store { IfOk result (λ made. made.store ≡ judged.store) }
+    ensures compiled { IfOk result (λ made. IsCompiledTo made.store (Some made.policy) made.dropped) }
 {
-    let policy = Policy::of(alloc, resolved)?;
+    let policy = Policy::of(alloc, judged.resolved)?;
     let dropped = policy.dropped(alloc)?;
-    Ok(Made { policy, dropped })
+    Ok(Made {
+        store: judged.store,
+        policy,
+        dropped,
+    })
 }
 
-/// What a store compiles to after an edit.
-fn compile<A: Allocator + Copy>(
-    alloc: A,
-    store: &Store<A>,
-    edit: &Admitted<'_, A>,
-) -> Result<Made<A>, Refusal<A>>
-    requires { IsAdmitted edit.now }
-    ensures ok { IfOk result (λ made. IsCompiledTo (changed store.now (admitted_edit edit.now)) (Some made.policy) made.dropped) }
-    ensures err { IfErr result (λ refusal. IsRefusedPolicy store.now (admitted_edit edit.now) (refusal_of refusal)) }
-{
-    let resolved = resolve_after(alloc, store, edit)?;
-    let made = with_dropped(alloc, resolved)?;
-    Ok(made)
-}
-
-/// A store and what it compiles to: its policy, which a new store has none of, and the optionals that drop. At an edit the text that it
-/// brings is parsed, the changed store is compiled anew from its parsed modules, and what it compiles to put in place of the old where
-/// nothing is against it. The table of the accesses is made when it is asked: for the listing, and before and after an edit.
+/// A store and what it compiles to: its policy, which a new store has none of, and the optionals that drop. At a batch the texts that it
+/// brings are parsed, the store that it leads to is compiled anew from its parsed modules, and it and what it compiles to put in place of
+/// the old where nothing is against them. The table of the accesses is made when it is asked: for the listing, and before and after an edit.
 #[derive(Drop)]
 pub struct Plain<A: Allocator = Global> {
     alloc: A,
@@ -87,49 +75,50 @@ impl<A: Allocator> Model for Plain<A> {
 }
 
 impl<A: Allocator + Copy> Plain<A> {
-    /// An engine of an empty store. It takes no memory.
+    /// An engine of an empty store. It takes no memory. Its tables of names are hashed by the fixed seed.
     pub fn new(alloc: A) -> Self
+        ensures { result ≡ empty }
+    {
+        Plain::with_seed(alloc, Seed::fixed())
+    }
+
+    /// An engine of an empty store, whose tables of names are hashed by a seed. It takes no memory.
+    pub fn with_seed(alloc: A, seed: Seed) -> Self
         ensures { result ≡ empty }
     {
         Plain {
             alloc,
-            store: Store::new(alloc),
+            store: Store::new(alloc, seed),
             policy: None,
             dropped: Dropped::empty(alloc),
         }
     }
 
-    /// Compiles a list of entries at once: each is installed in turn in an empty store, and the policy is judged once, at the end.
-    pub fn of(alloc: A, entries: &[Entry<'_>]) -> Result<Self, Refusal<A>>
+    /// Compiles a list of entries at once: each is installed in turn in an empty store, whose tables of names are hashed by a seed, and
+    /// the policy is judged once, at the end.
+    pub fn of(alloc: A, seed: Seed, entries: &[Entry<'_>]) -> Result<Self, Refusal<A>>
         ensures ok { IfOk result (λ plain. Of (map entry_of entries.now) (accepts plain)) }
-        ensures err { IfErr result (λ refusal. AreRefused (map entry_of entries.now) (refusal_of refusal)) }
+        ensures err { IfErr result (λ refusal. AreRefused empty (map install_of (map entry_of entries.now)) (refusal_of refusal)) }
     {
-        let Some((last, before)) = entries.split_last() else {
-            return Ok(Plain::new(alloc));
-        };
-        let mut store = install_all(alloc, before)?;
-        let admitted = admit(alloc, &store, last.as_install())?;
-        let made = compile(alloc, &store, &admitted)?;
-        store.make(alloc, admitted)?;
+        let edits = installs(alloc, entries)?;
+        let judged = judge(alloc, &Store::new(alloc, seed), &edits)?;
+        let made = compile(alloc, judged)?;
         Ok(Plain {
             alloc,
-            store,
+            store: made.store,
             policy: Some(made.policy),
             dropped: made.dropped,
         })
     }
 
-    /// Makes an edit, and puts what the store compiles to after it in place.
-    fn replace(&mut self, edit: Admitted<'_, A>, made: Made<A>) -> Result<(), AllocError>
-        requires admitted { IsAdmitted edit }
-        requires made { IsCompiledTo (changed self.old (admitted_edit edit)) (Some made.policy) made.dropped }
-        ensures ok { OnOk result (self.new ≡ changed self.old (admitted_edit edit.entry)) }
-        ensures err { OnErr result (self.new ≡ self.old) }
+    /// Puts a store and what it compiles to in place.
+    fn take_over(&mut self, made: Made<A>)
+        requires { IsCompiledTo made.store (Some made.policy) made.dropped }
+        ensures { self.new ≡ made.store }
     {
-        self.store.make(self.alloc, edit)?;
+        self.store = made.store;
         self.policy = Some(made.policy);
         self.dropped = made.dropped;
-        Ok(())
     }
 }
 
@@ -176,16 +165,16 @@ impl<A: Allocator + Copy> Compiled<A> for Plain<A> {
         }
     }
 
-    fn edit(&mut self, edit: Edit<'_>) -> Result<Changes<A>, Refusal<A>> {
-        let admitted = admit(self.alloc, &self.store, edit)?;
-        let made = compile(self.alloc, &self.store, &admitted)?;
+    fn batch(&mut self, edits: &[Edit<'_>]) -> Result<Changes<A>, Refusal<A>> {
+        let judged = judge_batch(self.alloc, &self.store, edits)?;
+        let made = compile(self.alloc, judged)?;
         let changes = self.changes_to(&made.policy)?;
-        self.replace(admitted, made)?;
+        self.take_over(made);
         Ok(changes)
     }
 
-    fn edit_counted(&mut self, edit: Edit<'_>) -> Result<ChangeCounts, Refusal<A>> {
-        match self.edit(edit) {
+    fn batch_counted(&mut self, edits: &[Edit<'_>]) -> Result<ChangeCounts, Refusal<A>> {
+        match self.batch(edits) {
             Ok(changes) => Ok(ChangeCounts {
                 added: changes.added_len(),
                 removed: changes.removed_len(),

@@ -23,6 +23,8 @@ pub enum StoreFault {
     Full = 33,
     /// A text of more than 2^24 bytes.
     TextTooLong = 34,
+    /// A batch of more than 8192 edits, or of texts of which more than 2^26 bytes are counted: of one longer than 2^24 these and one more.
+    BatchTooLong = 35,
 }
 
 impl StoreFault {

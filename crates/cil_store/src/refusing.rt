@@ -47,7 +47,8 @@ pub fn refuse_edit<A: Allocator + Copy>(
         StoreFault::BadModuleName
         | StoreFault::NotInstalled
         | StoreFault::Full
-        | StoreFault::TextTooLong => name,
+        | StoreFault::TextTooLong
+        | StoreFault::BatchTooLong => name,
     };
     match Text::of(alloc, word) {
         Ok(word) => Refusal::Store { fault, word },

@@ -3,41 +3,38 @@
 ghost use Rattle.std.specs.Prelude.{◌≡◌, [], IfErr, IfOk};
 ghost use Rattle.cil_specs.specs.Meaning.{meaning_of};
 ghost use Rattle.cil_resolve.specs.Resolved.{meaning_in};
-ghost use Rattle.cil_store_specs.specs.Next.{changed, IsMeaningOf};
-ghost use Rattle.cil_store.specs.Admitted.{admitted_edit, IsAdmitted};
+ghost use Rattle.cil_store_specs.specs.Next.{IsMeaningOf};
 ghost use Rattle.cil_store.specs.Edits.{refusal_of};
 ghost use Rattle.cil_store.specs.Refusing.{IsRefusedPolicy};
 
-use crate::admitted::Admitted;
 use crate::join::join;
 use crate::modules::Store;
 use crate::refusal::Refusal;
 use crate::refusing::refuse_policy;
+use cil_names::Seed;
 use cil_resolve::{Resolved, resolve};
 use std::alloc::{AllocError, Allocator};
 
-/// The policy of a store as it is after an edit, or its first fault. No text is read, and the store stays.
-pub fn resolve_after<A: Allocator + Copy>(
+/// The policy of a store, or its first fault. No text is read.
+pub fn resolve_store<A: Allocator + Copy>(
     alloc: A,
     store: &Store<A>,
-    edit: &Admitted<'_, A>,
 ) -> Result<Resolved<A>, Refusal<A>>
-    requires { IsAdmitted edit.now }
-    ensures ok { IfOk result (λ resolved. IsMeaningOf (changed store.now (admitted_edit edit.now)) (meaning_in resolved)) }
-    ensures err { IfErr result (λ refusal. IsRefusedPolicy store.now (admitted_edit edit.now) (refusal_of refusal)) }
+    ensures ok { IfOk result (λ resolved. IsMeaningOf store.now (meaning_in resolved)) }
+    ensures err { IfErr result (λ refusal. IsRefusedPolicy store.now (refusal_of refusal)) }
 {
-    let joined = join(alloc, store, edit)?;
+    let joined = join(alloc, store)?;
     match resolve(alloc, &joined) {
         Ok(resolved) => Ok(resolved),
         Err(fault) => Err(refuse_policy(alloc, fault)),
     }
 }
 
-/// The policy of no statement.
+/// The policy of no statement, which has no name to hash.
 pub fn resolve_nothing<A: Allocator + Copy>(alloc: A) -> Result<Resolved<A>, AllocError>
     ensures { IfOk result (λ resolved. meaning_in resolved ≡ meaning_of [] []) }
 {
-    let joined = cil_resolve::join(Vec::new(alloc));
+    let joined = cil_resolve::join(Vec::new(alloc), Seed::fixed());
     match resolve(alloc, &joined) {
         Ok(resolved) => Ok(resolved),
         Err(_) => Err(AllocError),

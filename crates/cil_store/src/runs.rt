@@ -32,6 +32,10 @@ fn answer<A: Allocator + Copy, C: Compiled<A>>(alloc: A, engine: &mut C, call: C
             Ok(changes) => Reply::Changes(changes),
             Err(refusal) => Reply::Refused(refusal),
         },
+        Call::Batch(edits) => match engine.batch(edits) {
+            Ok(changes) => Reply::Changes(changes),
+            Err(refusal) => Reply::Refused(refusal),
+        },
         Call::Rows => match engine.rows() {
             Ok(rows) => Reply::Rows(rows),
             Err(_) => Reply::Refused(Refusal::Memory),

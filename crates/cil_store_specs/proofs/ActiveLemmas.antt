@@ -1,15 +1,14 @@
 -- Which entries of a store are compiled, by their places.
-use Rattle.std.proofs.Common.{◌≡◌, ◌≢◌, ◌⊎◌, inl, inr, ℕ, zero, suc, ◌+◌, ◌-◌, ◌<◌, ◌≤◌, ◌==◌, Bool, true, false, not, ◌&&◌, ◌||◌, nat_le, nat_lt, cond, if◌then◌else◌, List, [], ◌∷◌, filter, find, length, map, get_or, bytes_eq, Option, Some, None, Contains, refl, sym, ap, ◌∙◌, subst, true≢false, arith}
-use Rattle.std.specs.Cmp.{IsTotalOrder}
+use Rattle.std.proofs.Common.{◌≡◌, ◌⊎◌, inl, inr, ℕ, zero, suc, ◌-◌, ◌<◌, ◌≤◌, ◌==◌, Bool, true, false, not, ◌&&◌, ◌||◌, nat_le, nat_lt, cond, List, [], ◌∷◌, filter, find, length, map, get_or, bytes_eq, Some, None, Contains, refl, sym, ap, ◌∙◌, subst, true≢false, arith}
 use Rattle.std.specs.List.{list_all, list_any, AllByRecursion}
 use Rattle.std.specs.List.Sorted.{IsStrictlySortedBy}
 use Rattle.std.specs.Option.{option_map}
-use Rattle.std.specs.Ordering.{nat_cmp, ordering_then, ordering_reverse, is_lt}
+use Rattle.std.specs.Ordering.{nat_cmp, ordering_then}
 use Rattle.std.specs.declared.cmp.Ordering.{Ordering}
 use Rattle.std.specs.declared.cmp.Ordering.TheVariants.{Less, Equal, Greater}
 use Rattle.std.proofs.lemmas.Bool.{eqb-true, leb-true, le-leb, ltb-true, ltb-false}
-use Rattle.std.proofs.lemmas.Cmp.{nat_list_cmp_total, nat_cmp_total, tied_itself}
-use Rattle.std.proofs.lemmas.List.Folds.{list_all_at, list_any-append}
+use Rattle.std.proofs.lemmas.Cmp.{nat_list_cmp_total, tied_itself}
+use Rattle.std.proofs.lemmas.List.Folds.{list_all_at}
 use Rattle.std.proofs.lemmas.List.Kept.{IsStrictlySortedBy-filter}
 use Rattle.std.proofs.lemmas.Map.Lookups.{exact_bytes}
 use Rattle.std.proofs.lemmas.Slice.Eq.{bytes_eq-Decides}
@@ -17,12 +16,10 @@ use Rattle.cil_specs.specs.Report.{name_cmp}
 use Rattle.cil_specs.proofs.NamesLemmas.{all-weaker, contains-first, contains-other, passed}
 use Rattle.cil_specs.proofs.FaultWords.{contains-filtered}
 use Rattle.cil_specs.proofs.SearchLemmas.{ascends-at, less-or-same}
-use Rattle.cil_specs.proofs.Runs.{both_true, first_true, second_true}
-use Rattle.cil_store_specs.specs.Store.{entry_at, Entry, Store, entry_cmp, is_highest, active, active_text, is_installed, put_name, without, without_name}
+use Rattle.cil_specs.proofs.Runs.{both_true, second_true}
+use Rattle.cil_store_specs.specs.Store.{entry_at, Entry, Store, entry_cmp, is_highest, active, active_text}
 use Rattle.cil_store_specs.specs.StoreReport.{is_disabled}
-use Rattle.cil_store_specs.specs.Next.{Edit, install, remove, enable, disable, changed}
 use Rattle.cil_store_specs.proofs.OneFault.{highest-of}
-use Rattle.cil_store_specs.proofs.StoreOrder.{entry_total}
 
 -- whether the entry at a place is the first of its name
 abbrev pub is_first_at : List Entry → ℕ → Bool
@@ -181,121 +178,6 @@ active-ascend store sorted =
   where
     test : Entry → Bool
     test = λ e. not (list_any (bytes_eq e.name) store.disabled) && is_highest store.entries e
-
--- Whether a name is disabled after an edit.
-
--- whether an installed name is disabled after an edit, by whether it is before
-abbrev pub is_disabled_after : Edit → Store → List ℕ → Bool
-is_disabled_after (install other priority text) store name = is_disabled store name
-is_disabled_after (remove other priority) store name = is_disabled store name
-is_disabled_after (enable other) store name = not (bytes_eq name other) && is_disabled store name
-is_disabled_after (disable other) store name = bytes_eq name other || is_disabled store name
-
-any-kept : (p q : List ℕ → Bool) (names : List (List ℕ)) → list_any p (filter q names) ≡ list_any (λ n. p n && q n) names
-any-kept p q [] = refl
-any-kept p q (n ∷ names) = by (q n) refl (any-kept p q names)
-  where
-    and-true : (b : Bool) → (b && true) ≡ b
-    and-true true = refl
-    and-true false = refl
-
-    and-false : (b : Bool) → (b && false) ≡ false
-    and-false true = refl
-    and-false false = refl
-
-    by : (b : Bool) → q n ≡ b → list_any p (filter q names) ≡ list_any (λ m. p m && q m) names → list_any p (filter q (n ∷ names)) ≡ ((p n && q n) || list_any (λ m. p m && q m) names)
-    by true e more = ap (λ b. list_any p (cond b (n ∷ filter q names) (filter q names))) e ∙ (λ i. sym (ap (λ b. p n && b) e ∙ and-true (p n)) i || more i)
-    by false e more = ap (λ b. list_any p (cond b (n ∷ filter q names) (filter q names))) e ∙ more ∙ ap (λ b. b || list_any (λ m. p m && q m) names) (sym (ap (λ b. p n && b) e ∙ and-false (p n)))
-
--- with one name more
-pub any-put : (n m : List ℕ) (names : List (List ℕ)) → list_any (bytes_eq n) (put_name m names) ≡ (bytes_eq n m || list_any (bytes_eq n) names)
-any-put n m names =
-    list_any-append (bytes_eq n) (filter (λ o. is_lt (name_cmp o m)) names) (m ∷ filter (λ o. is_lt (name_cmp m o)) names)
-    ∙ (λ i. any-kept (bytes_eq n) (λ o. is_lt (name_cmp o m)) names i || (bytes_eq n m || any-kept (bytes_eq n) (λ o. is_lt (name_cmp m o)) names i))
-    ∙ by (bytes_eq n m) refl
-  where
-    or-true : (b : Bool) → (b || true) ≡ true
-    or-true true = refl
-    or-true false = refl
-
-    one-side : (o : List ℕ) → bytes_eq n m ≡ false → ((bytes_eq n o && is_lt (name_cmp o m)) || (bytes_eq n o && is_lt (name_cmp m o))) ≡ bytes_eq n o
-    one-side o other = at (bytes_eq n o) refl
-      where
-        at : (b : Bool) → bytes_eq n o ≡ b → ((b && is_lt (name_cmp o m)) || (b && is_lt (name_cmp m o))) ≡ b
-        at false is = refl
-        at true is = sides (name_cmp o m) refl
-          where
-            sides : (c : Ordering) → name_cmp o m ≡ c → (is_lt (name_cmp o m) || is_lt (name_cmp m o)) ≡ true
-            sides Less e = ap (λ c. is_lt c || is_lt (name_cmp m o)) e
-            sides Equal e = absurd (true≢false (sym ((bytes_eq-Decides n m).1 (same-name n o is ∙ exact_bytes o m e)) ∙ other))
-            sides Greater e = (λ i. is_lt (e i) || is_lt ((nat_list_cmp_total.antisymm m o ∙ ap ordering_reverse e) i))
-
-    both-sides : (xs : List (List ℕ)) → bytes_eq n m ≡ false → (list_any (λ o. bytes_eq n o && is_lt (name_cmp o m)) xs || list_any (λ o. bytes_eq n o && is_lt (name_cmp m o)) xs) ≡ list_any (bytes_eq n) xs
-    both-sides [] other = refl
-    both-sides (o ∷ xs) other = swap (bytes_eq n o && is_lt (name_cmp o m)) (list_any (λ o. bytes_eq n o && is_lt (name_cmp o m)) xs) (bytes_eq n o && is_lt (name_cmp m o)) (list_any (λ o. bytes_eq n o && is_lt (name_cmp m o)) xs)
-        ∙ (λ i. one-side o other i || both-sides xs other i)
-      where
-        swap : (a b c d : Bool) → ((a || b) || (c || d)) ≡ ((a || c) || (b || d))
-        swap true b c d = refl
-        swap false true true d = refl
-        swap false true false d = refl
-        swap false false true d = refl
-        swap false false false d = refl
-
-    by : (b : Bool) → bytes_eq n m ≡ b → (list_any (λ o. bytes_eq n o && is_lt (name_cmp o m)) names || (bytes_eq n m || list_any (λ o. bytes_eq n o && is_lt (name_cmp m o)) names)) ≡ (bytes_eq n m || list_any (bytes_eq n) names)
-    by true is = ap (λ b. list_any (λ o. bytes_eq n o && is_lt (name_cmp o m)) names || (b || list_any (λ o. bytes_eq n o && is_lt (name_cmp m o)) names)) is ∙ or-true (list_any (λ o. bytes_eq n o && is_lt (name_cmp o m)) names)
-        ∙ ap (λ b. b || list_any (bytes_eq n) names) (sym is)
-    by false is = ap (λ b. list_any (λ o. bytes_eq n o && is_lt (name_cmp o m)) names || (b || list_any (λ o. bytes_eq n o && is_lt (name_cmp m o)) names)) is ∙ both-sides names is
-        ∙ ap (λ b. b || list_any (bytes_eq n) names) (sym is)
-
--- without one
-pub any-without : (n m : List ℕ) (names : List (List ℕ)) → list_any (bytes_eq n) (without_name m names) ≡ (not (bytes_eq n m) && list_any (bytes_eq n) names)
-any-without n m names = any-kept (bytes_eq n) (λ o. not (bytes_eq o m)) names ∙ each names
-  where
-    one : (o : List ℕ) → (bytes_eq n o && not (bytes_eq o m)) ≡ (not (bytes_eq n m) && bytes_eq n o)
-    one o = at (bytes_eq n o) refl
-      where
-        at : (b : Bool) → bytes_eq n o ≡ b → (b && not (bytes_eq o m)) ≡ (not (bytes_eq n m) && b)
-        at true is = ap (λ p. not (bytes_eq p m)) (sym (same-name n o is)) ∙ sym (and-true (not (bytes_eq n m)))
-          where
-            and-true : (b : Bool) → (b && true) ≡ b
-            and-true true = refl
-            and-true false = refl
-        at false is = sym (and-false (not (bytes_eq n m)))
-          where
-            and-false : (b : Bool) → (b && false) ≡ false
-            and-false true = refl
-            and-false false = refl
-
-    each : (xs : List (List ℕ)) → list_any (λ o. bytes_eq n o && not (bytes_eq o m)) xs ≡ (not (bytes_eq n m) && list_any (bytes_eq n) xs)
-    each [] = sym (none (not (bytes_eq n m)))
-      where
-        none : (b : Bool) → (b && false) ≡ false
-        none true = refl
-        none false = refl
-    each (o ∷ xs) = (λ i. one o i || each xs i) ∙ apart (not (bytes_eq n m)) (bytes_eq n o) (list_any (bytes_eq n) xs)
-      where
-        apart : (a b c : Bool) → ((a && b) || (a && c)) ≡ (a && (b || c))
-        apart true b c = refl
-        apart false b c = refl
-
--- what is still there isn't what is gone
-other-name : (entries : List Entry) (name other : List ℕ) → is_installed name entries ≡ true → is_installed other entries ≡ false → bytes_eq name other ≡ false
-other-name entries name other there gone = by (bytes_eq name other) refl
-  where
-    by : (b : Bool) → bytes_eq name other ≡ b → bytes_eq name other ≡ false
-    by true is = absurd (true≢false (sym there ∙ ap (λ n. is_installed n entries) (same-name name other is) ∙ gone))
-    by false is = is
-
-pub disabled-after : (store : Store) (edit : Edit) (name : List ℕ) → is_installed name (changed store edit).entries ≡ true → is_disabled (changed store edit) name ≡ is_disabled_after edit store name
-disabled-after store (install other priority text) name there = refl
-disabled-after store (remove other priority) name there = by (is_installed other (without other priority store.entries)) refl
-  where
-    by : (b : Bool) → is_installed other (without other priority store.entries) ≡ b → list_any (bytes_eq name) (if b then store.disabled else without_name other store.disabled) ≡ list_any (bytes_eq name) store.disabled
-    by true is = refl
-    by false is = any-without name other store.disabled ∙ ap (λ b. not b && list_any (bytes_eq name) store.disabled) (other-name (without other priority store.entries) name other there is)
-disabled-after store (enable other) name there = any-without name other store.disabled
-disabled-after store (disable other) name there = any-put name other store.disabled
 
 -- The text of a name that is compiled is that of its first entry.
 

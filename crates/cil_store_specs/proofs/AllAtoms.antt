@@ -1,5 +1,5 @@
 -- The accesses of a policy can be listed.
-use Rattle.std.proofs.Common.{◌≡◌, ◌⊎◌, ◌==◌, ◌&&◌, inl, inr, ℕ, cond, Bool, true, false, List, [], ◌∷◌, ◌++◌, filter, map, flat_map, bytes_eq, Contains, refl, sym, ap, ◌∙◌, subst, true≢false, arith}
+use Rattle.std.proofs.Common.{◌≡◌, ◌⊎◌, ◌==◌, inl, inr, ℕ, cond, Bool, true, false, List, [], ◌∷◌, filter, map, flat_map, bytes_eq, Contains, refl, sym, ap, ◌∙◌, subst, true≢false, arith}
 use Rattle.std.specs.Cmp.{IsTotalOrder}
 use Rattle.std.specs.List.{list_any}
 use Rattle.std.specs.List.Sorted.{IsStrictlySortedBy}

@@ -1,15 +1,15 @@
 -- What a dump of a store builds.
-use Rattle.std.proofs.Common.{◌≡◌, ◌∷◌, [], ℕ, List, false, map, fold, refl, ap, sym, ◌∙◌, true≢false}
+use Rattle.std.proofs.Common.{◌≡◌, ◌∷◌, [], ℕ, List, false, map, fold, refl, ap, sym, subst, ◌∙◌, true≢false}
 use Rattle.std.specs.List.{list_any}
 use Rattle.std.proofs.lemmas.Bool.{or_parts}
 use Rattle.std.proofs.lemmas.Cmp.{nat_list_cmp_total}
 use Rattle.std.proofs.lemmas.List.Sums.{fold-append}
 use Rattle.cil_specs.specs.Report.{Changes, name_cmp}
 use Rattle.cil_store_specs.specs.Store.{Entry, Store, IsStore, empty, entry_cmp, put, put_name}
-use Rattle.cil_store_specs.specs.Next.{Edit, disable, install_of, changed}
-use Rattle.cil_store_specs.specs.Run.{Call, an_edit, ask_rows, ask_listing, ask_violations, ask_dropped, Reply, changed_by, accepted, rejected, lists, prints, tells_violations, tells_dropped, out_of_memory, Step, Run}
+use Rattle.cil_store_specs.specs.Next.{Edit, disable, install_of, changed, AreTaken}
+use Rattle.cil_store_specs.specs.Run.{Call, a_batch, an_edit, ask_rows, ask_listing, ask_violations, ask_dropped, Reply, changed_by, accepted, rejected, lists, prints, tells_violations, tells_dropped, out_of_memory, Step, Run}
 use Rattle.cil_store_specs.specs.Script.{makes, is_refusal, Answer, Answers, by_engine, by_modules, by_dump, AnswersAll, dump_edits}
-use Rattle.cil_store_specs.proofs.RunLemmas.{accepted-taken}
+use Rattle.cil_store_specs.proofs.RunLemmas.{accepted-taken, one-taken}
 use Rattle.cil_store_specs.proofs.StoreOrder.{entry_total}
 use Rattle.cil_store_specs.proofs.PutLemmas.{put-all}
 
@@ -33,10 +33,10 @@ dump-builds store is =
 -- Where no edit is refused, a store is changed by each in turn.
 
 step-changed : (old new : Store) (edit : Edit) (call : Call) (reply : Reply) → call ≡ an_edit edit → is_refusal reply ≡ false → Step old call reply new → new ≡ changed old edit
-step-changed old new edit call reply is taken (accepted other changes asked told made) =
-    let same : other ≡ edit = let e : an_edit other ≡ an_edit edit = sym asked ∙ is in cc in
-    (accepted-taken old new other made.next).is ∙ ap (changed old) same
-step-changed old new edit call reply is taken (rejected other refusal asked told next same) = absurd (true≢false (sym (ap is_refusal told) ∙ taken))
+step-changed old new edit call reply is taken (accepted edits changes asked told made) =
+    let same : edits ≡ edit ∷ [] = let e : a_batch edits ≡ a_batch (edit ∷ []) = sym asked ∙ is in cc in
+    (one-taken old new edit (subst (λ es. AreTaken old es new) same (accepted-taken old new edits made.next))).is
+step-changed old new edit call reply is taken (rejected edits refusal asked told next same) = absurd (true≢false (sym (ap is_refusal told) ∙ taken))
 step-changed old new edit call reply is taken (lists rows asked told are same) = absurd (let e : ask_rows ≡ an_edit edit = sym asked ∙ is in cc)
 step-changed old new edit call reply is taken (prints rows asked told are same) = absurd (let e : ask_listing ≡ an_edit edit = sym asked ∙ is in cc)
 step-changed old new edit call reply is taken (tells_violations violations asked told are same) = absurd (let e : ask_violations ≡ an_edit edit = sym asked ∙ is in cc)

@@ -3,6 +3,7 @@ pub mod OneFault
 pub mod OneStore
 pub mod StoreOrder
 pub mod TakenLemmas
+pub mod BatchLemmas
 pub mod RunLemmas
 pub mod LimitLemmas
 pub mod PutLemmas

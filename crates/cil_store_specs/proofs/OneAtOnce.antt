@@ -1,8 +1,8 @@
 -- What is judged of edits that are made at once is one.
-use Rattle.std.proofs.Common.{◌≡◌, ◌⊎◌, inl, inr, List, [], ◌∷◌, ◌++◌, sym, ap, ◌∙◌, subst}
+use Rattle.std.proofs.Common.{◌≡◌, ◌⊎◌, inl, inr, List, [], ◌∷◌, ◌++◌, sym, ap, ◌∙◌, subst, true≢false}
 use Rattle.cil_specs.specs.Meaning.{Meaning}
 use Rattle.cil_store_specs.specs.Store.{Store, IsStore}
-use Rattle.cil_store_specs.specs.Next.{Edit, Refusal, IsMeaningOf, IsNotTaken, IsTaken, AreTaken, IsPolicyRefusal, Judgement, accepts, refuses, NextOfAll, one_not_taken, bad_policy_of_all, all_good}
+use Rattle.cil_store_specs.specs.Next.{Edit, Refusal, IsMeaningOf, IsNotTaken, IsTaken, AreTaken, IsPolicyRefusal, Judgement, accepts, refuses, NextOfAll, one_not_taken, bad_policy_of_all, all_good, Next, too_long, at_once}
 use Rattle.cil_store_specs.proofs.OneStore.{no-meaning, policy-refusal-same, not-taken-same, taken-or-not, taken-same}
 use Rattle.cil_store_specs.proofs.StoreOrder.{taken-ordered}
 
@@ -63,3 +63,10 @@ same store edits j k ordered (by_none new meaning a means is) (by_none other mor
 
 pub at-once-same : (store : Store) (edits : List Edit) (j k : Judgement) → IsStore store → NextOfAll store edits j → NextOfAll store edits k → j ≡ k
 at-once-same store edits j k ordered a b = same store edits j k ordered (judged-by store edits j a) (judged-by store edits k b)
+
+-- So is what is judged of a batch.
+pub next-same : (store : Store) (edits : List Edit) (j k : Judgement) → IsStore store → Next store edits j → Next store edits k → j ≡ k
+next-same store edits j k ordered (too_long long is) (too_long also same) = is ∙ sym same
+next-same store edits j k ordered (too_long long is) (at_once short b) = absurd (true≢false (sym long ∙ short))
+next-same store edits j k ordered (at_once short a) (too_long long is) = absurd (true≢false (sym long ∙ short))
+next-same store edits j k ordered (at_once short a) (at_once also b) = at-once-same store edits j k ordered a b

@@ -10,10 +10,11 @@ use Rattle.cil_specs.specs.Violations.{Violation, AreViolations}
 use Rattle.cil_specs.proofs.ViolationLemmas.{one-violations}
 use Rattle.cil_specs.proofs.OneListing.{one-changes, one-rows}
 use Rattle.cil_store_specs.specs.Store.{Store, IsStore}
-use Rattle.cil_store_specs.specs.Next.{Edit, Refusal, IsMeaningOf, Judgement, accepts, refuses, Next}
-use Rattle.cil_store_specs.specs.Run.{Call, an_edit, ask_rows, ask_listing, ask_violations, ask_dropped, Reply, changed_by, refused, listed, printed, violated, dropped_optionals, is_answered, IsAccepted, AreRowsOf, AreViolationsOf, AreDroppedOf, accepted, rejected, lists, prints, tells_violations, tells_dropped, out_of_memory, Step, Run}
-use Rattle.cil_store_specs.proofs.OneStore.{meaning-same, judgement-same}
-use Rattle.cil_store_specs.proofs.StoreOrder.{taken-ordered, step-ordered}
+use Rattle.cil_store_specs.specs.Next.{Edit, Refusal, IsMeaningOf, accepts, refuses, Next}
+use Rattle.cil_store_specs.specs.Run.{Call, a_batch, ask_rows, ask_listing, ask_violations, ask_dropped, Reply, changed_by, refused, listed, printed, violated, dropped_optionals, is_answered, IsAccepted, AreRowsOf, AreViolationsOf, AreDroppedOf, accepted, rejected, lists, prints, tells_violations, tells_dropped, out_of_memory, Step, Run}
+use Rattle.cil_store_specs.proofs.OneAtOnce.{next-same}
+use Rattle.cil_store_specs.proofs.OneStore.{meaning-same}
+use Rattle.cil_store_specs.proofs.StoreOrder.{step-ordered}
 
 -- What a store tells is one.
 
@@ -28,45 +29,42 @@ violations-same store vs ws are also =
 dropped-same : (store : Store) (dropped others : List Declared) → AreDroppedOf store dropped → AreDroppedOf store others → dropped ≡ others
 dropped-same store dropped others are also = are.2 ∙ ap (λ m. m.dropped) (meaning-same store are.0 also.0 are.1 also.1) ∙ sym also.2
 
--- So is what an edit does.
-
-next-same : (store : Store) (edit : Edit) (judgement other : Judgement) → IsStore store → Next store edit judgement → Next store edit other → judgement ≡ other
-next-same store edit judgement other is = judgement-same store edit judgement other (λ new. taken-ordered store new edit is)
+-- So is what a batch does.
 
 store-of : (new other : Store) → accepts new ≡ accepts other → new ≡ other
 store-of new other same = cc same
 
-accepted-same : (old new other : Store) (edit : Edit) (changes others : Changes) → IsStore old → IsAccepted old edit changes new → IsAccepted old edit others other → (changes ≡ others) × (new ≡ other)
-accepted-same old new other edit changes others is a b =
-    let stores : new ≡ other = store-of new other (next-same old edit (accepts new) (accepts other) is a.next b.next) in
+accepted-same : (old new other : Store) (edits : List Edit) (changes others : Changes) → IsStore old → IsAccepted old edits changes new → IsAccepted old edits others other → (changes ≡ others) × (new ≡ other)
+accepted-same old new other edits changes others is a b =
+    let stores : new ≡ other = store-of new other (next-same old edits (accepts new) (accepts other) is a.next b.next) in
     let before = meaning-same old a.before b.before a.meant b.meant in
     let after = meaning-same other a.after b.after (subst (λ s. IsMeaningOf s a.after) stores a.means) b.means in
     let are = subst (λ n. AreChanges (is_in_table b.before) (is_in_table n) changes) after (subst (λ m. AreChanges (is_in_table m) (is_in_table a.after) changes) before a.are_changes) in
     (one-changes (is_in_table b.before) (is_in_table b.after) changes others are b.are_changes, stores)
 
-data EditStep (old : Store) (edit : Edit) (reply : Reply) (new : Store) : Type 0 where
-  carried_out : (changes : Changes) → reply ≡ changed_by changes → IsAccepted old edit changes new → EditStep old edit reply new
-  turned_down : (refusal : Refusal) → reply ≡ refused refusal → Next old edit (refuses refusal) → new ≡ old → EditStep old edit reply new
+data BatchStep (old : Store) (edits : List Edit) (reply : Reply) (new : Store) : Type 0 where
+  carried_out : (changes : Changes) → reply ≡ changed_by changes → IsAccepted old edits changes new → BatchStep old edits reply new
+  turned_down : (refusal : Refusal) → reply ≡ refused refusal → Next old edits (refuses refusal) → new ≡ old → BatchStep old edits reply new
 
-edits-same : (old new other : Store) (edit : Edit) (reply second : Reply) → IsStore old → EditStep old edit reply new → EditStep old edit second other → (reply ≡ second) × (new ≡ other)
-edits-same old new other edit reply second is (carried_out changes told a) (carried_out others said b) =
-    let (one, stores) = accepted-same old new other edit changes others is a b in (told ∙ ap changed_by one ∙ sym said, stores)
-edits-same old new other edit reply second is (carried_out changes told a) (turned_down refusal said b same) = absurd cc (next-same old edit (accepts new) (refuses refusal) is a.next b)
-edits-same old new other edit reply second is (turned_down refusal told a same) (carried_out others said b) = absurd cc (next-same old edit (refuses refusal) (accepts other) is a b.next)
-edits-same old new other edit reply second is (turned_down refusal told a same) (turned_down another said b kept) =
-    let one : refusal ≡ another = cc (next-same old edit (refuses refusal) (refuses another) is a b) in (told ∙ ap refused one ∙ sym said, same ∙ sym kept)
+batches-same : (old new other : Store) (edits : List Edit) (reply second : Reply) → IsStore old → BatchStep old edits reply new → BatchStep old edits second other → (reply ≡ second) × (new ≡ other)
+batches-same old new other edits reply second is (carried_out changes told a) (carried_out others said b) =
+    let (one, stores) = accepted-same old new other edits changes others is a b in (told ∙ ap changed_by one ∙ sym said, stores)
+batches-same old new other edits reply second is (carried_out changes told a) (turned_down refusal said b same) = absurd cc (next-same old edits (accepts new) (refuses refusal) is a.next b)
+batches-same old new other edits reply second is (turned_down refusal told a same) (carried_out others said b) = absurd cc (next-same old edits (refuses refusal) (accepts other) is a b.next)
+batches-same old new other edits reply second is (turned_down refusal told a same) (turned_down another said b kept) =
+    let one : refusal ≡ another = cc (next-same old edits (refuses refusal) (refuses another) is a b) in (told ∙ ap refused one ∙ sym said, same ∙ sym kept)
 
 -- a step whose call is answered, by the call
 abbrev StepOf : Store → Call → Reply → Store → Type 0
-StepOf old (an_edit edit) reply new = EditStep old edit reply new
+StepOf old (a_batch edits) reply new = BatchStep old edits reply new
 StepOf old ask_rows reply new = (rows : List Row) × (reply ≡ listed rows) × AreRowsOf old rows × (new ≡ old)
 StepOf old ask_listing reply new = (rows : List Row) × (reply ≡ printed (flat_map row_line rows)) × AreRowsOf old rows × (new ≡ old)
 StepOf old ask_violations reply new = (violations : List Violation) × (reply ≡ violated violations) × AreViolationsOf old violations × (new ≡ old)
 StepOf old ask_dropped reply new = (dropped : List Declared) × (reply ≡ dropped_optionals dropped) × AreDroppedOf old dropped × (new ≡ old)
 
 step-of : (old new : Store) (call : Call) (reply : Reply) → IsTrue (is_answered reply) → Step old call reply new → StepOf old call reply new
-step-of old new call reply answered (accepted edit changes asked told made) = subst (λ c. StepOf old c reply new) (sym asked) (carried_out changes told made)
-step-of old new call reply answered (rejected edit refusal asked told next same) = subst (λ c. StepOf old c reply new) (sym asked) (turned_down refusal told next same)
+step-of old new call reply answered (accepted edits changes asked told made) = subst (λ c. StepOf old c reply new) (sym asked) (carried_out changes told made)
+step-of old new call reply answered (rejected edits refusal asked told next same) = subst (λ c. StepOf old c reply new) (sym asked) (turned_down refusal told next same)
 step-of old new call reply answered (lists rows asked told are same) = subst (λ c. StepOf old c reply new) (sym asked) (rows, told, are, same)
 step-of old new call reply answered (prints rows asked told are same) = subst (λ c. StepOf old c reply new) (sym asked) (rows, told, are, same)
 step-of old new call reply answered (tells_violations violations asked told are same) = subst (λ c. StepOf old c reply new) (sym asked) (violations, told, are, same)
@@ -74,7 +72,7 @@ step-of old new call reply answered (tells_dropped dropped asked told are same) 
 step-of old new call reply answered (out_of_memory told same) = absurd (true≢false (sym answered ∙ ap is_answered told))
 
 steps-same : (old new other : Store) (call : Call) (reply second : Reply) → IsStore old → StepOf old call reply new → StepOf old call second other → (reply ≡ second) × (new ≡ other)
-steps-same old new other (an_edit edit) reply second is a b = edits-same old new other edit reply second is a b
+steps-same old new other (a_batch edits) reply second is a b = batches-same old new other edits reply second is a b
 steps-same old new other ask_rows reply second is (rows, told, are, same) (others, said, also, kept) =
     (told ∙ ap listed (rows-same old rows others are also) ∙ sym said, same ∙ sym kept)
 steps-same old new other ask_listing reply second is (rows, told, are, same) (others, said, also, kept) =

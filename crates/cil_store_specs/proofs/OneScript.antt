@@ -4,7 +4,7 @@ use Rattle.std.proofs.lemmas.List.{take_all, take-append-le}
 use Rattle.std.specs.List.{list_all, AllByRecursion}
 use Rattle.cil_specs.proofs.NamesLemmas.{all-first, all-second}
 use Rattle.cil_store_specs.specs.Next.{install, remove, enable, disable}
-use Rattle.cil_store_specs.specs.Script.{Command, makes, asks_rules, asks_violations, asks_dropped, asks_modules, asks_dump, words_of, line_of, behind, command_bytes, HasGoodWords, IsCommand, MayLackItsEnd, End, ends, stops, IsEnd, Commands, whole, without_end}
+use Rattle.cil_store_specs.specs.Script.{Command, makes, asks_rules, asks_violations, asks_dropped, asks_modules, asks_dump, line_of, behind, command_bytes, HasGoodWords, IsCommand, MayLackItsEnd, End, ends, stops, IsEnd, Commands, whole, without_end}
 use Rattle.cil_store_specs.specs.Session.{BeginsWith, whole_ones, all_of_it}
 use Rattle.cil_store_specs.proofs.WordLemmas.{stays, line-stays, lines-same, commands-same, text_of, text-length, kind_of_word, number_of, first_word}
 use Rattle.cil_store_specs.proofs.LineLemmas.{same-lines, has-feed, command-line}

@@ -13,7 +13,7 @@ use Rattle.cil_specs.specs.PolicyFault.{PolicyFaultKind, twice, missing, wrong_k
 use Rattle.cil_specs.specs.Kept.{Optionals, AreKept, is_within, restricted, judged, IsPolicyFault, IsFirst, dropped_of}
 use Rattle.cil_specs.specs.Meaning.{Meaning, meaning_of}
 use Rattle.cil_store_specs.specs.Store.{Entry, Store, IsStore, active}
-use Rattle.cil_store_specs.specs.Next.{AreModules, IsPolicyOf, IsMeaningOf, Edit, install, remove, enable, disable, Refusal, at_place, store_refusal, HasGoodText, IsTextRefusal, IsNotTaken, by_itself, by_its_text, IsTaken, IsPolicyRefusal, Judgement, accepts, refuses, Next, not_taken, bad_policy, good}
+use Rattle.cil_store_specs.specs.Next.{AreModules, IsPolicyOf, IsMeaningOf, Edit, install, remove, enable, disable, Refusal, at_place, store_refusal, HasGoodText, IsTextRefusal, IsNotTaken, by_itself, by_its_text, IsTaken, IsPolicyRefusal}
 use Rattle.cil_specs.proofs.NamesLemmas.{contains-middle}
 use Rattle.cil_specs.proofs.KeptLemmas.{kept-one}
 use Rattle.cil_specs.proofs.FaultWords.{words_in, contains-filtered, faulty-word}
@@ -171,18 +171,3 @@ taken-or-not store new edit r taken (by_its_text none a) = no-good-text edit r t
 
 pub taken-same : (store new other : Store) (edit : Edit) → IsTaken store edit new → IsTaken store edit other → new ≡ other
 taken-same store new other edit a b = a.is ∙ sym b.is
-
--- What is judged of an edit of a store in order is one.
-pub judgement-same : (store : Store) (edit : Edit) (j k : Judgement) → ((new : Store) → IsTaken store edit new → IsStore new) → Next store edit j → Next store edit k → j ≡ k
-judgement-same store edit j k order (not_taken r a is) (not_taken s b same) = is ∙ ap refuses (not-taken-same store edit r s a b) ∙ sym same
-judgement-same store edit j k order (not_taken r a is) (bad_policy new s b refused same) = absurd (taken-or-not store new edit r b a)
-judgement-same store edit j k order (not_taken r a is) (good new meaning b means same) = absurd (taken-or-not store new edit r b a)
-judgement-same store edit j k order (bad_policy new r a refused is) (not_taken s b same) = absurd (taken-or-not store new edit s a b)
-judgement-same store edit j k order (bad_policy new r a refused is) (bad_policy other s b more same) =
-    is ∙ ap refuses (policy-refusal-same other r s (order other b) (subst (λ n. IsPolicyRefusal n r) (taken-same store new other edit a b) refused) more) ∙ sym same
-judgement-same store edit j k order (bad_policy new r a refused is) (good other meaning b means same) =
-    absurd (no-meaning other meaning r means (subst (λ n. IsPolicyRefusal n r) (taken-same store new other edit a b) refused))
-judgement-same store edit j k order (good new meaning a means is) (not_taken s b same) = absurd (taken-or-not store new edit s a b)
-judgement-same store edit j k order (good new meaning a means is) (bad_policy other s b refused same) =
-    absurd (no-meaning other meaning s (subst (λ n. IsMeaningOf n meaning) (taken-same store new other edit a b) means) refused)
-judgement-same store edit j k order (good new meaning a means is) (good other more b others same) = is ∙ ap accepts (taken-same store new other edit a b) ∙ sym same

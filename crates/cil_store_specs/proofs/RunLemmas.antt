@@ -1,7 +1,7 @@
 -- A run goes on by one call, and keeps what each edit keeps.
 use Rattle.std.proofs.Common.{◌≡◌, List, [], ◌∷◌, ◌++◌, refl, sym, subst}
 use Rattle.cil_store_specs.specs.Store.{Store}
-use Rattle.cil_store_specs.specs.Next.{Edit, IsTaken, accepts, Next, not_taken, bad_policy, good}
+use Rattle.cil_store_specs.specs.Next.{Edit, IsTaken, AreTaken, accepts, NextOfAll, one_not_taken, bad_policy_of_all, all_good, Next, too_long, at_once}
 use Rattle.cil_store_specs.specs.Run.{Call, Reply, accepted, rejected, lists, prints, tells_violations, tells_dropped, out_of_memory, Step, Run}
 use Rattle.cil_store_specs.specs.Script.{Command, Answer, Answers, AnswersAll}
 
@@ -18,16 +18,28 @@ answers-more old mid new [] (a ∷ answers) command answer all step = absurd all
 answers-more old mid new (c ∷ commands) [] command answer all step = absurd all
 answers-more old mid new (c ∷ commands) (a ∷ answers) command answer all step = (all.0, all.1, answers-more all.0 mid new commands answers command answer all.2 step)
 
--- an accepted edit is taken
-pub accepted-taken : (old new : Store) (edit : Edit) → Next old edit (accepts new) → IsTaken old edit new
-accepted-taken old new edit (not_taken refusal a same) = absurd cc
-accepted-taken old new edit (bad_policy other refusal a refused same) = absurd cc
-accepted-taken old new edit (good other meaning a means same) = let e : other ≡ new = cc in subst (IsTaken old edit) e a
+-- the edits of an accepted batch are taken
+pub all-taken : (old new : Store) (edits : List Edit) → NextOfAll old edits (accepts new) → AreTaken old edits new
+all-taken old new edits (one_not_taken before edit after mid refusal split are not same) = absurd cc
+all-taken old new edits (bad_policy_of_all other refusal are refused same) = absurd cc
+all-taken old new edits (all_good other meaning are means same) = let e : other ≡ new = cc in subst (AreTaken old edits) e are
+
+pub accepted-taken : (old new : Store) (edits : List Edit) → Next old edits (accepts new) → AreTaken old edits new
+accepted-taken old new edits (too_long long same) = absurd cc
+accepted-taken old new edits (at_once short made) = all-taken old new edits made
+
+-- one that is taken by itself
+pub one-taken : (old new : Store) (edit : Edit) → AreTaken old (edit ∷ []) new → IsTaken old edit new
+one-taken old new edit (mid, taken, same) = subst (IsTaken old edit) (sym same) taken
 
 module _ (P : Store → Type 0) (keeps : (old new : Store) (edit : Edit) → P old → IsTaken old edit new → P new) where
+  taken-keep : (old new : Store) (edits : List Edit) → P old → AreTaken old edits new → P new
+  taken-keep old new [] is same = subst P (sym same) is
+  taken-keep old new (edit ∷ edits) is (mid, taken, are) = taken-keep mid new edits (keeps old mid edit is taken) are
+
   pub step-keeps : (old new : Store) (call : Call) (reply : Reply) → P old → Step old call reply new → P new
-  step-keeps old new call reply is (accepted edit changes asked told made) = keeps old new edit is (accepted-taken old new edit made.next)
-  step-keeps old new call reply is (rejected edit refusal asked told next same) = subst P (sym same) is
+  step-keeps old new call reply is (accepted edits changes asked told made) = taken-keep old new edits is (accepted-taken old new edits made.next)
+  step-keeps old new call reply is (rejected edits refusal asked told next same) = subst P (sym same) is
   step-keeps old new call reply is (lists rows asked told are same) = subst P (sym same) is
   step-keeps old new call reply is (prints rows asked told are same) = subst P (sym same) is
   step-keeps old new call reply is (tells_violations violations asked told are same) = subst P (sym same) is

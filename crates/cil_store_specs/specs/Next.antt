@@ -1,5 +1,5 @@
--- What an edit of the store leads to.
-use Rattle.std.specs.Prelude.{◌≡◌, ℕ, Bool, false, not, ◌&&◌, ◌||◌, ◌==◌, nat_le, nat_lt, List, [], ◌∷◌, ◌++◌, map, length, decimal, Option, Some, None, if◌then◌else◌}
+-- What edits of the store lead to.
+use Rattle.std.specs.Prelude.{◌≡◌, ℕ, Bool, true, false, ◌&&◌, ◌||◌, ◌==◌, nat_le, nat_lt, List, [], ◌∷◌, ◌++◌, map, length, min, codes, decimal, sum_by, Option, Some, None, if◌then◌else◌}
 use Rattle.std.specs.List.{list_all}
 use Rattle.cil_specs.specs.Place.{Place}
 use Rattle.cil_specs.specs.TextFault.{TextFault}
@@ -135,13 +135,6 @@ pub data Judgement : Type 0 where
   accepts : Store → Judgement
   refuses : Refusal → Judgement
 
--- What is judged of an edit: it is not taken; or else the policy of the store that it leads to is refused; or else that store,
--- which has a meaning, is accepted.
-pub data Next (store : Store) (edit : Edit) (judgement : Judgement) : Type 0 where
-  not_taken : (refusal : Refusal) → IsNotTaken store edit refusal → judgement ≡ refuses refusal → Next store edit judgement
-  bad_policy : (new : Store) (refusal : Refusal) → IsTaken store edit new → IsPolicyRefusal new refusal → judgement ≡ refuses refusal → Next store edit judgement
-  good : (new : Store) (meaning : Meaning) → IsTaken store edit new → IsMeaningOf new meaning → judgement ≡ accepts new → Next store edit judgement
-
 -- Edits are taken in turn, each by the store that those before it lead to. Nothing is asked of the policies in between.
 abbrev pub AreTaken : Store → List Edit → Store → Type 0
 AreTaken store [] new = new ≡ store
@@ -154,6 +147,27 @@ pub data NextOfAll (store : Store) (edits : List Edit) (judgement : Judgement) :
       → IsNotTaken mid edit refusal → judgement ≡ refuses refusal → NextOfAll store edits judgement
   bad_policy_of_all : (new : Store) (refusal : Refusal) → AreTaken store edits new → IsPolicyRefusal new refusal → judgement ≡ refuses refusal → NextOfAll store edits judgement
   all_good : (new : Store) (meaning : Meaning) → AreTaken store edits new → IsMeaningOf new meaning → judgement ≡ accepts new → NextOfAll store edits judgement
+
+-- how many bytes of an edit's text a batch counts: of a text that no store takes, one more than the greatest that it takes
+abbrev pub held_bytes : Edit → ℕ
+held_bytes (install name priority text) = min (length text) 16777217
+held_bytes (remove name priority) = 0
+held_bytes (enable name) = 0
+held_bytes (disable name) = 0
+
+-- the word of the refusal of a batch that is too long
+abbrev pub batch_word : List ℕ
+batch_word = codes "batch"
+
+-- a batch has more than 8192 edits, or more than 2 ^ 26 bytes of its texts are counted
+abbrev pub is_too_long : List Edit → Bool
+is_too_long edits = nat_lt 8192 (length edits) || nat_lt 67108864 (sum_by held_bytes edits)
+
+-- What is judged of a batch, edits that are made as one: it is too long; or else what is judged of its edits at once. An edit is a batch
+-- of one.
+pub data Next (store : Store) (edits : List Edit) (judgement : Judgement) : Type 0 where
+  too_long : is_too_long edits ≡ true → judgement ≡ refuses (by_store 35 batch_word) → Next store edits judgement
+  at_once : is_too_long edits ≡ false → NextOfAll store edits judgement → Next store edits judgement
 
 -- an install of an entry
 abbrev pub install_of : Entry → Edit

@@ -7,13 +7,17 @@ use Rattle.cil_specs.specs.Violations.{Violation, AreViolations}
 use Rattle.cil_store_specs.specs.Store.{Store}
 use Rattle.cil_store_specs.specs.Next.{Edit, Refusal, by_store, at_place, for_memory, accepts, refuses, Next, IsMeaningOf}
 
--- an edit, or the question for the rows of the listing, for its bytes, for the violations or for the optionals that drop
+-- a batch of edits, or the question for the rows of the listing, for its bytes, for the violations or for the optionals that drop
 pub data Call : Type 0 where
-  an_edit : Edit → Call
+  a_batch : List Edit → Call
   ask_rows : Call
   ask_listing : Call
   ask_violations : Call
   ask_dropped : Call
+
+-- an edit is a batch of one
+abbrev pub an_edit : Edit → Call
+an_edit edit = a_batch (edit ∷ [])
 
 pub data Reply : Type 0 where
   changed_by : Changes → Reply
@@ -34,9 +38,9 @@ is_answered (printed bytes) = true
 is_answered (violated violations) = true
 is_answered (dropped_optionals dropped) = true
 
--- The accepted edit moves to the next store, and the reply is the difference of the two tables.
-pub record IsAccepted (old : Store) (edit : Edit) (changes : Changes) (new : Store) : Type 0 where
-  pub next : Next old edit (accepts new)
+-- The accepted batch moves to the next store, and the reply is the difference of the two tables.
+pub record IsAccepted (old : Store) (edits : List Edit) (changes : Changes) (new : Store) : Type 0 where
+  pub next : Next old edits (accepts new)
   pub before : Meaning
   pub after : Meaning
   pub meant : IsMeaningOf old before
@@ -55,12 +59,12 @@ AreViolationsOf store violations = (meaning : Meaning) × IsMeaningOf store mean
 abbrev pub AreDroppedOf : Store → List Declared → Type 0
 AreDroppedOf store dropped = (meaning : Meaning) × IsMeaningOf store meaning × (dropped ≡ meaning.dropped)
 
--- The reply to a call, and the store after it: an edit is accepted or refused; the rows of the table are listed, or their lines
--- printed; the violations are told, or the optionals that drop; or memory runs out, at any call. All but an accepted edit keep the
+-- The reply to a call, and the store after it: a batch is accepted or refused; the rows of the table are listed, or their lines
+-- printed; the violations are told, or the optionals that drop; or memory runs out, at any call. All but an accepted batch keep the
 -- store.
 pub data Step (old : Store) (call : Call) (reply : Reply) (new : Store) : Type 0 where
-  accepted : (edit : Edit) (changes : Changes) → call ≡ an_edit edit → reply ≡ changed_by changes → IsAccepted old edit changes new → Step old call reply new
-  rejected : (edit : Edit) (refusal : Refusal) → call ≡ an_edit edit → reply ≡ refused refusal → Next old edit (refuses refusal) → new ≡ old → Step old call reply new
+  accepted : (edits : List Edit) (changes : Changes) → call ≡ a_batch edits → reply ≡ changed_by changes → IsAccepted old edits changes new → Step old call reply new
+  rejected : (edits : List Edit) (refusal : Refusal) → call ≡ a_batch edits → reply ≡ refused refusal → Next old edits (refuses refusal) → new ≡ old → Step old call reply new
   lists : (rows : List Row) → call ≡ ask_rows → reply ≡ listed rows → AreRowsOf old rows → new ≡ old → Step old call reply new
   prints : (rows : List Row) → call ≡ ask_listing → reply ≡ printed (flat_map row_line rows) → AreRowsOf old rows → new ≡ old → Step old call reply new
   tells_violations : (violations : List Violation) → call ≡ ask_violations → reply ≡ violated violations → AreViolationsOf old violations → new ≡ old → Step old call reply new

@@ -1,5 +1,5 @@
 -- The access tables by symbols: for each kind of rule, access by access, how many rules give it, now and before the steps.
-use Rattle.std.specs.Prelude.{◌==◌, ◌+◌, ℕ, Bool}
+use Rattle.std.specs.Prelude.{◌==◌, ◌+◌, ◌≤◌, ℕ, Bool}
 use Rattle.cil_specs.specs.Rule.{kind_index}
 use Rattle.cil_text.specs.Image.{rule_kind_of}
 use Rattle.cil_text.specs.declared.statement.RuleKind.{RuleKind}
@@ -34,3 +34,11 @@ AllCounted tables = (kind : RuleKind) → keyed.AllCounted (lines_of tables kind
 -- how many steps there are that `undo` would take back
 abbrev pub steps_in : {A : Type 0} → SymbolTables A → ℕ
 steps_in tables = keyed.steps_in tables.allow + keyed.steps_in tables.auditallow + keyed.steps_in tables.dontaudit + keyed.steps_in tables.neverallow
+
+-- no counter rises by more than this
+abbrev pub RiseAtMost : {A : Type 0} → SymbolTables A → SymbolTables A → (RuleKind → SymbolKey → ℕ → ℕ) → Type 0
+RiseAtMost old new most = (kind : RuleKind) (key : SymbolKey) (t : ℕ) → count_now new kind key t ≤ count_now old kind key t + most kind key t
+
+-- no counter rises
+abbrev pub NoneRises : {A : Type 0} → SymbolTables A → SymbolTables A → Type 0
+NoneRises old new = (kind : RuleKind) (key : SymbolKey) (t : ℕ) → count_now new kind key t ≤ count_now old kind key t

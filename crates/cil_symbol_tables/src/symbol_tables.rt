@@ -22,7 +22,7 @@ impl<A: Allocator + Copy> SymbolTables<A> {
     ghost use Rattle.cil_rule_shifts.specs.Moves.{moves_where};
     ghost use Rattle.cil_rule_shifts.specs.Reach.{gives, one_if, IsShort};
     ghost use Rattle.cil_sums.specs.Rises.{RisesBy};
-    ghost use Rattle.cil_symbol_tables.specs.Tables.{count_before, count_now, is_kind};
+    ghost use Rattle.cil_symbol_tables.specs.Tables.{count_before, count_now, is_kind, RiseAtMost};
 
     /// The tables of no rule.
     pub fn new(alloc: A) -> Self
@@ -56,8 +56,8 @@ impl<A: Allocator + Copy> SymbolTables<A> {
         ensures now { OnOk result ((other : RuleKind) (key : SymbolKey) (t : ℕ) → count_now self.new other key t + one_if (is_kind kind other && gives was.now class permissions.now key t)
             ≡ count_now self.old other key t + one_if (is_kind kind other && gives is.now class permissions.now key t)) }
         ensures before { (other : RuleKind) (key : SymbolKey) (t : ℕ) → count_before self.new other key t ≡ count_before self.old other key t }
-        ensures bounded { (other : RuleKind) (key : SymbolKey) (t : ℕ) → count_now self.new other key t
-            ≤ count_now self.old other key t + one_if (is_kind kind other && gives is.now class permissions.now key t) }
+        ensures bounded { RiseAtMost self.old self.new
+            (λ other key t. one_if (is_kind kind other && gives is.now class permissions.now key t)) }
         ensures moved { IfOk result (RisesBy (moves_where was.now is.now class permissions.now) 0) }
     {
         match kind {

@@ -15,8 +15,9 @@ use Rattle.cil_parse.specs.Lexicon.{AreNumbersOf}
 use Rattle.cil_bind.proofs.PositionLemmas.{any-position}
 use Rattle.cil_check.proofs.PositionLemmas.{get-append}
 use Rattle.cil_optionals.proofs.ListLemmas.{get-set_same, get-set_other}
+pub use Rattle.cil_optionals.proofs.ListedLemmas.{missing, with-new}
 use Rattle.cil_symbols.specs.InUse.{used_in, AreUsedBelow, IsUsed}
-use Rattle.cil_symbols.proofs.NameLemmas.{has_name-texts, same, texts}
+use Rattle.cil_names.proofs.TextLemmas.{has_name-texts, same, texts}
 
 -- what stands last takes the place of another
 swap-last : {X : Type 0} (xs : List X) (y : X) (i : ℕ) (d : X) → i < length xs → swap_remove (xs ++ y ∷ []) i d ≡ set xs i y
@@ -34,22 +35,22 @@ swap-last {X = X} xs y i d low =
     long = let len = length-append xs (y ∷ []) in omega (arith, len)
 
 -- a new name that is put in, and then takes the place of another
-pub reused : {A : Type 0} (names : List (Vec ℕ A)) (name : Vec ℕ A) (i : ℕ) (more : List (Vec ℕ A)) (gone : Option (Vec ℕ A)) (others : List (Vec ℕ A)) → i < length (texts names) → has_name (texts names) name.items ≡ false
-    → more ≡ insert_key same names name → gone ≡ slice_get more i → IfSome gone (λ k. others ≡ swap_remove more i k) → texts others ≡ set (texts names) i name.items
-reused {A = A} names name i more gone others within new is_more at by_swap = by gone at by_swap
+pub reused : {K : Type 0} (text : K → List ℕ) (names : List K) (name : K) (i : ℕ) (more : List K) (gone : Option K) (others : List K) → i < length (texts text names) → has_name (texts text names) (text name) ≡ false
+    → more ≡ insert_key (same text) names name → gone ≡ slice_get more i → IfSome gone (λ k. others ≡ swap_remove more i k) → texts text others ≡ set (texts text names) i (text name)
+reused {K} text names name i more gone others within new is_more at by_swap = by gone at by_swap
   where
     low : i < length names
-    low = subst (λ n. i < n) (length-map names (λ n. n.items)) within
+    low = subst (λ n. i < n) (length-map names text) within
 
     keys : more ≡ names ++ name ∷ []
-    keys = is_more ∙ ap (λ b. if b then names else names ++ name ∷ []) (has_name-texts names name.items ∙ new)
+    keys = is_more ∙ ap (λ b. if b then names else names ++ name ∷ []) (has_name-texts text names (text name) ∙ new)
 
     there : slice_get more i ≡ Some (get_or names i name)
     there = ap (λ l. slice_get l i) keys ∙ get-append names (name ∷ []) i (get_or names i name) (slice_get-get_or names i name low)
 
-    by : (o : Option (Vec ℕ A)) → o ≡ slice_get more i → IfSome o (λ k. others ≡ swap_remove more i k) → texts others ≡ set (texts names) i name.items
+    by : (o : Option K) → o ≡ slice_get more i → IfSome o (λ k. others ≡ swap_remove more i k) → texts text others ≡ set (texts text names) i (text name)
     by None e swapped = absurd (none-some (get_or names i name) (e ∙ there))
-    by (Some k) e swapped = ap texts (swapped ∙ ap (λ l. swap_remove l i k) keys ∙ swap-last names name i k low) ∙ map-set (λ n. n.items) names i name
+    by (Some k) e swapped = ap (texts text) (swapped ∙ ap (λ l. swap_remove l i k) keys ∙ swap-last names name i k low) ∙ map-set text names i name
 
 -- One more symbol is in use, or was before.
 pub used-more : (marks : List Bool) (i : ℕ) → i < length marks → used_in (set marks i true) ≤ used_in marks + 1
@@ -106,15 +107,6 @@ below-within marks n below = elim (cases_lt (length marks) n) [
 -- where all symbols are in use, one more makes one more in use
 pub used-all : (marks : List Bool) → AreUsedBelow marks (length marks) → used_in (marks ++ true ∷ []) ≡ length marks + 1
 used-all marks all = sum_by-append (λ mark. cond {A = ℕ} mark 1 0) marks (true ∷ []) ∙ ap (λ n. n + 1) (all-used marks all)
-
--- a name that isn't found is none of them
-pub missing : (names : List (List ℕ)) (name : List ℕ) (found : Option ℕ) → found ≡ position (bytes_eq name) names → ((n : ℕ) → found ≡ Some n → ⊥) → has_name names name ≡ false
-missing names name None is none = any-position (bytes_eq name) names ∙ ap is_some (sym is)
-missing names name (Some n) is none = absurd (none n refl)
-
--- with it there is one name more
-pub with-new : (names : List (List ℕ)) (name : List ℕ) → has_name names name ≡ false → with_name names name ≡ names ++ name ∷ []
-with-new names name new = ap (λ b. if b then names else names ++ name ∷ []) new
 
 -- what has a place isn't found nowhere
 pub nowhere : (names : List (List ℕ)) (s : ℕ) (name : List ℕ) → position (bytes_eq name) names ≡ None → slice_get names s ≡ Some name → ⊥

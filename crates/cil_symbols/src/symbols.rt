@@ -4,16 +4,16 @@ ghost use Rattle.std.specs.Prelude.{◌≡◌, ◌<◌, [], bytes_eq, false, len
 ghost use Rattle.std.specs.List.{IsDistinct};
 ghost use Rattle.cil_specs.specs.Lookup.{has_name, with_name};
 
+use cil_names::{Name, OwnedName, Seed};
 use indexmap::IndexSet;
 use std::alloc::{AllocError, Allocator, Global};
-use std::hash::{BuildHasherDefault, FoldHasher};
 use std::marker::Model;
 
 /// Distinct names, which it owns. The number of a name is its place, and stays while other names come. Contracts see it as the list
 /// of its names.
 #[derive(Drop)]
 pub struct Symbols<A: Allocator = Global> {
-    names: IndexSet<Vec<u8, A>, BuildHasherDefault<FoldHasher>, A>,
+    names: IndexSet<OwnedName<A>, Seed, A>,
 }
 
 impl<A: Allocator> Model for Symbols<A> {
@@ -22,18 +22,18 @@ impl<A: Allocator> Model for Symbols<A> {
 
     ghost Value = { List (List ℕ) };
 
-    ghost view = { λ s. map (λ name. name.items) s.names.keys };
+    ghost view = { λ s. map (λ name. name.text.items) s.names.keys };
 
-    ghost invariant = { λ s. IsDistinct bytes_eq (map (λ name. name.items) s.names.keys) };
+    ghost invariant = { λ s. IsDistinct bytes_eq (map (λ name. name.text.items) s.names.keys) };
 }
 
 impl<A: Allocator + Copy> Symbols<A> {
     /// No names. It takes no memory.
-    pub fn new(alloc: A) -> Self
+    pub fn new(alloc: A, seed: Seed) -> Self
         ensures { result ≡ [] }
     {
         Symbols {
-            names: IndexSet::new(alloc),
+            names: IndexSet::with_hasher(alloc, seed),
         }
     }
 
@@ -46,7 +46,8 @@ impl<A: Allocator + Copy> Symbols<A> {
         if let Some(n) = self.find(name) {
             return Ok(n);
         }
-        let (n, _new) = self.names.insert_full(Vec::from_slice(alloc, name)?)?;
+        let text = Vec::from_slice(alloc, name)?;
+        let (n, _new) = self.names.insert_full(OwnedName { text })?;
         Ok(n)
     }
 
@@ -57,13 +58,19 @@ impl<A: Allocator + Copy> Symbols<A> {
         ensures ok { OnOk result (self.new ≡ set self.old number name.now) }
         ensures err { OnErr result (self.new ≡ self.old) }
     {
-        self.names.insert(Vec::from_slice(alloc, name)?)?;
+        let text = Vec::from_slice(alloc, name)?;
+        self.names.insert(OwnedName { text })?;
         let _other = self.names.swap_remove_index(number);
         Ok(())
     }
 }
 
 impl<A: Allocator> Symbols<A> {
+    /// What its table is hashed by.
+    pub fn seed(&self) -> Seed {
+        *self.names.hasher()
+    }
+
     /// How many names there are.
     pub fn len(&self) -> usize
         ensures len { result ≡ length self.now }
@@ -76,14 +83,15 @@ impl<A: Allocator> Symbols<A> {
     pub fn find(&self, name: &[u8]) -> Option<usize>
         ensures { result ≡ position (bytes_eq name.now) self.now }
     {
-        self.names.get_index_of(name)
+        self.names.get_index_of(Name { text: name })
     }
+
     /// The name that has a number.
     pub fn name(&self, number: usize) -> Option<&[u8]>
         ensures { MatchOption result (slice_get self.now number ≡ None) (λ name. slice_get self.now number ≡ Some name.now) }
     {
         match self.names.get_index(number) {
-            Some(name) => Some(name.as_slice()),
+            Some(name) => Some(name.text.as_slice()),
             None => None,
         }
     }

@@ -5,7 +5,7 @@ ghost use Rattle.cil_resolve.specs.Below.{is_rule_below};
 ghost use Rattle.cil_resolve.specs.Meter.{adjustments_in, evaluations_in};
 ghost use Rattle.cil_rule_shifts.specs.Reach.{one_if, IsShort};
 ghost use Rattle.cil_sums.specs.Rises.{RisesBy};
-ghost use Rattle.cil_symbol_tables.specs.Tables.{count_before, count_now, is_kind};
+ghost use Rattle.cil_symbol_tables.specs.Tables.{count_before, count_now, is_kind, NoneRises, RiseAtMost};
 ghost use Rattle.cil_table_updates.specs.Adjusted.{gives_it, replaces, shifts};
 ghost use Rattle.cil_table_updates.specs.Given.{gives_by};
 ghost use Rattle.cil_table_updates.specs.Moves.{gives_as, HaveSameHead, IsKnown};
@@ -37,8 +37,8 @@ fn shift_as<A: Allocator + Copy>(
     ensures now { OnOk result ((kind : RuleKind) (key : SymbolKey) (t : ℕ) → count_now tables.new kind key t + one_if (is_kind rule.now.kind kind && gives_as policy.now.numbering.now.symbols rule.now was.now key t)
         ≡ count_now tables.old kind key t + one_if (is_kind rule.now.kind kind && gives_as policy.now.numbering.now.symbols rule.now is.now key t)) }
     ensures before { (kind : RuleKind) (key : SymbolKey) (t : ℕ) → count_before tables.new kind key t ≡ count_before tables.old kind key t }
-    ensures bounded { (kind : RuleKind) (key : SymbolKey) (t : ℕ) → count_now tables.new kind key t ≤ count_now tables.old kind key t
-        + one_if (is_kind rule.now.kind kind && gives_as policy.now.numbering.now.symbols rule.now is.now key t) }
+    ensures bounded { RiseAtMost tables.old tables.new
+        (λ kind key t. one_if (is_kind rule.now.kind kind && gives_as policy.now.numbering.now.symbols rule.now is.now key t)) }
     ensures adjustments { OnOk result (RisesBy (shifts policy.now.numbering.now.symbols rule.now was.now is.now) (adjustments_in meter.old) (adjustments_in meter.new)) }
     ensures evaluations { evaluations_in meter.new ≡ evaluations_in meter.old }
 {
@@ -62,7 +62,7 @@ pub fn take_rule<A: Allocator + Copy>(
     requires counted { (kind : RuleKind) (key : SymbolKey) (t : ℕ) → one_if (gives_by policy.now kind key t rule.now) ≤ count_now tables.old kind key t }
     ensures now { OnOk result ((kind : RuleKind) (key : SymbolKey) (t : ℕ) → count_now tables.new kind key t + one_if (gives_by policy.now kind key t rule.now) ≡ count_now tables.old kind key t) }
     ensures before { (kind : RuleKind) (key : SymbolKey) (t : ℕ) → count_before tables.new kind key t ≡ count_before tables.old kind key t }
-    ensures bounded { (kind : RuleKind) (key : SymbolKey) (t : ℕ) → count_now tables.new kind key t ≤ count_now tables.old kind key t }
+    ensures bounded { NoneRises tables.old tables.new }
     ensures adjustments { OnOk result (RisesBy (gives_it policy.now rule.now) (adjustments_in meter.old) (adjustments_in meter.new)) }
     ensures evaluations { evaluations_in meter.new ≡ evaluations_in meter.old }
 {
@@ -90,7 +90,7 @@ pub fn put_rule<A: Allocator + Copy>(
     requires below { IsTrue (is_rule_below (length policy.now.numbering.now.symbols) rule.now) }
     ensures now { OnOk result ((kind : RuleKind) (key : SymbolKey) (t : ℕ) → count_now tables.new kind key t ≡ count_now tables.old kind key t + one_if (gives_by policy.now kind key t rule.now)) }
     ensures before { (kind : RuleKind) (key : SymbolKey) (t : ℕ) → count_before tables.new kind key t ≡ count_before tables.old kind key t }
-    ensures bounded { (kind : RuleKind) (key : SymbolKey) (t : ℕ) → count_now tables.new kind key t ≤ count_now tables.old kind key t + one_if (gives_by policy.now kind key t rule.now) }
+    ensures bounded { RiseAtMost tables.old tables.new (λ kind key t. one_if (gives_by policy.now kind key t rule.now)) }
     ensures adjustments { OnOk result (RisesBy (gives_it policy.now rule.now) (adjustments_in meter.old) (adjustments_in meter.new)) }
     ensures evaluations { evaluations_in meter.new ≡ evaluations_in meter.old }
 {
@@ -117,7 +117,7 @@ pub fn replace_rule<A: Allocator + Copy>(
     ensures now { OnOk result ((kind : RuleKind) (key : SymbolKey) (t : ℕ) → count_now tables.new kind key t + one_if (gives_by old.now kind key t old_rule.now)
         ≡ count_now tables.old kind key t + one_if (gives_by new.now kind key t new_rule.now)) }
     ensures before { (kind : RuleKind) (key : SymbolKey) (t : ℕ) → count_before tables.new kind key t ≡ count_before tables.old kind key t }
-    ensures bounded { (kind : RuleKind) (key : SymbolKey) (t : ℕ) → count_now tables.new kind key t ≤ count_now tables.old kind key t + one_if (gives_by new.now kind key t new_rule.now) }
+    ensures bounded { RiseAtMost tables.old tables.new (λ kind key t. one_if (gives_by new.now kind key t new_rule.now)) }
     ensures adjustments { OnOk result (RisesBy (replaces old.now old_rule.now new.now new_rule.now) (adjustments_in meter.old) (adjustments_in meter.new)) }
     ensures evaluations { evaluations_in meter.new ≡ evaluations_in meter.old }
 {

@@ -4,7 +4,7 @@ ghost use Rattle.std.specs.Prelude.{◌≡◌, ◌+◌, ◌≤◌, ◌<◌, ℕ,
 ghost use Rattle.cil_resolve.specs.Meter.{adjustments_in, evaluations_in};
 ghost use Rattle.cil_sums.specs.Rises.{below, RisesBy};
 ghost use Rattle.cil_sums.specs.Sums.{across, alone, sum_below};
-ghost use Rattle.cil_symbol_tables.specs.Tables.{count_before, count_now};
+ghost use Rattle.cil_symbol_tables.specs.Tables.{count_before, count_now, NoneRises, RiseAtMost};
 ghost use Rattle.cil_table_updates.specs.Adjusted.{goes, swaps, turns};
 ghost use Rattle.cil_table_updates.specs.Given.{given};
 ghost use Rattle.cil_table_updates.specs.Moves.{AreReplaced, IsReady, IsReplaced};
@@ -33,7 +33,7 @@ fn take_if_gone<A: Allocator + Copy>(
     requires counted { (kind : RuleKind) (key : SymbolKey) (t : ℕ) → alone (given old.now kind key t) matching.now.ahead i ≤ count_now tables.old kind key t }
     ensures now { OnOk result ((kind : RuleKind) (key : SymbolKey) (t : ℕ) → count_now tables.new kind key t + alone (given old.now kind key t) matching.now.ahead i ≡ count_now tables.old kind key t) }
     ensures before { (kind : RuleKind) (key : SymbolKey) (t : ℕ) → count_before tables.new kind key t ≡ count_before tables.old kind key t }
-    ensures bounded { (kind : RuleKind) (key : SymbolKey) (t : ℕ) → count_now tables.new kind key t ≤ count_now tables.old kind key t }
+    ensures bounded { NoneRises tables.old tables.new }
     ensures adjustments { OnOk result (RisesBy (goes old.now matching.now i) (adjustments_in meter.old) (adjustments_in meter.new)) }
     ensures evaluations { evaluations_in meter.new ≡ evaluations_in meter.old }
 {
@@ -56,7 +56,7 @@ pub fn take_gone<A: Allocator + Copy>(
     ensures now { OnOk result ((kind : RuleKind) (key : SymbolKey) (t : ℕ) → count_now tables.new kind key t + sum_below (alone (given old.now kind key t) matching.now.ahead) (length old.now.resolved.now.rules.items)
         ≡ count_now tables.old kind key t) }
     ensures before { (kind : RuleKind) (key : SymbolKey) (t : ℕ) → count_before tables.new kind key t ≡ count_before tables.old kind key t }
-    ensures bounded { (kind : RuleKind) (key : SymbolKey) (t : ℕ) → count_now tables.new kind key t ≤ count_now tables.old kind key t }
+    ensures bounded { NoneRises tables.old tables.new }
     ensures adjustments { OnOk result (RisesBy (below (goes old.now matching.now) (length old.now.resolved.now.rules.items))
         (adjustments_in meter.old) (adjustments_in meter.new)) }
     ensures evaluations { evaluations_in meter.new ≡ evaluations_in meter.old }
@@ -84,7 +84,7 @@ fn replace_changed<A: Allocator + Copy>(
     requires counted { (kind : RuleKind) (key : SymbolKey) (t : ℕ) → given old.now kind key t i ≤ count_now tables.old kind key t }
     ensures now { OnOk result ((kind : RuleKind) (key : SymbolKey) (t : ℕ) → count_now tables.new kind key t + given old.now kind key t i ≡ count_now tables.old kind key t + given new.now kind key t j) }
     ensures before { (kind : RuleKind) (key : SymbolKey) (t : ℕ) → count_before tables.new kind key t ≡ count_before tables.old kind key t }
-    ensures bounded { (kind : RuleKind) (key : SymbolKey) (t : ℕ) → count_now tables.new kind key t ≤ count_now tables.old kind key t + given new.now kind key t j }
+    ensures bounded { RiseAtMost tables.old tables.new (λ kind key t. given new.now kind key t j) }
     ensures adjustments { OnOk result (RisesBy (swaps old.now i new.now j) (adjustments_in meter.old) (adjustments_in meter.new)) }
     ensures evaluations { evaluations_in meter.new ≡ evaluations_in meter.old }
 {
@@ -121,7 +121,7 @@ fn put_or_replace<A: Allocator + Copy>(
     requires counted { (kind : RuleKind) (key : SymbolKey) (t : ℕ) → across (given old.now kind key t) matching.now.back j ≤ count_now tables.old kind key t }
     ensures now { OnOk result ((kind : RuleKind) (key : SymbolKey) (t : ℕ) → count_now tables.new kind key t + across (given old.now kind key t) matching.now.back j ≡ count_now tables.old kind key t + given new.now kind key t j) }
     ensures before { (kind : RuleKind) (key : SymbolKey) (t : ℕ) → count_before tables.new kind key t ≡ count_before tables.old kind key t }
-    ensures bounded { (kind : RuleKind) (key : SymbolKey) (t : ℕ) → count_now tables.new kind key t ≤ count_now tables.old kind key t + given new.now kind key t j }
+    ensures bounded { RiseAtMost tables.old tables.new (λ kind key t. given new.now kind key t j) }
     ensures adjustments { OnOk result (RisesBy (turns old.now new.now matching.now j) (adjustments_in meter.old) (adjustments_in meter.new)) }
     ensures evaluations { evaluations_in meter.new ≡ evaluations_in meter.old }
 {
@@ -148,7 +148,8 @@ pub fn put_new<A: Allocator + Copy>(
     ensures now { OnOk result ((kind : RuleKind) (key : SymbolKey) (t : ℕ) → count_now tables.new kind key t + sum_below (across (given old.now kind key t) matching.now.back) (length new.now.resolved.now.rules.items)
         ≡ count_now tables.old kind key t + sum_below (given new.now kind key t) (length new.now.resolved.now.rules.items)) }
     ensures before { (kind : RuleKind) (key : SymbolKey) (t : ℕ) → count_before tables.new kind key t ≡ count_before tables.old kind key t }
-    ensures bounded { (kind : RuleKind) (key : SymbolKey) (t : ℕ) → count_now tables.new kind key t ≤ count_now tables.old kind key t + sum_below (given new.now kind key t) (length new.now.resolved.now.rules.items) }
+    ensures bounded { RiseAtMost tables.old tables.new
+        (λ kind key t. sum_below (given new.now kind key t) (length new.now.resolved.now.rules.items)) }
     ensures adjustments { OnOk result (RisesBy (below (turns old.now new.now matching.now) (length new.now.resolved.now.rules.items))
         (adjustments_in meter.old) (adjustments_in meter.new)) }
     ensures evaluations { evaluations_in meter.new ≡ evaluations_in meter.old }

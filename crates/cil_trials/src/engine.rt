@@ -7,7 +7,7 @@ use cil_program::script::memory::answer_script;
 use cil_program::script::reply;
 use cil_program::script::session::{SessionFault, Status, session};
 use cil_rules::Atom;
-use cil_store::{Call, Compiled, Delta, Entry, Plain, run};
+use cil_store::{Call, Compiled, Delta, Entry, Plain, Seed, run};
 use cil_stream::{MemorySink, Sink, SinkFault, Source, write_all};
 use cil_text::RuleKind;
 use cil_trial_cases::{Access, Case, End, Engine, Engines, Fault, Job, Kind, Refusal, Rule};
@@ -86,7 +86,7 @@ impl<'h, C: Compiled<&'h Heap> + Own<'h> + Drop> Tried<'h, C> {
         entries: &[Entry<'_>],
         sink: &mut MemorySink,
     ) -> Result<(), SinkFault> {
-        match Plain::of(self.heap, entries) {
+        match Plain::of(self.heap, Seed::fixed(), entries) {
             Ok(made) => {
                 self.engine.replace(made);
                 write_all(sink, b"compiled\n")

@@ -8,7 +8,7 @@ ghost use Rattle.cil_store.specs.Stored.{entry_of};
 ghost use Rattle.cil_program.specs.CommandLine.{Compiles};
 
 use crate::script::reply;
-use cil_store::{Compiled, Entry, Plain, WriteFault};
+use cil_store::{Compiled, Entry, Plain, Seed, WriteFault};
 use cil_stream::{Sink, SinkFault};
 use std::alloc::Allocator;
 
@@ -19,6 +19,13 @@ pub enum Report {
     Listing,
     /// The violations of its neverallow rules.
     Violations,
+}
+
+/// What is asked of a compilation: what is written, and what the tables of names are hashed by.
+#[derive(Clone, Copy)]
+pub struct Asked {
+    pub report: Report,
+    pub seed: Seed,
 }
 
 /// Writes that memory ran out, and gives the exit status.
@@ -70,28 +77,28 @@ fn write_report<W: Sink, A: Allocator + Copy, C: Compiled<A>>(
 pub fn compile_entries<W: Sink, E: Sink, A: Allocator + Copy>(
     alloc: A,
     entries: &[Entry<'_>],
-    report: Report,
+    asked: Asked,
     out: &mut W,
     err: &mut E,
 ) -> Result<u8, SinkFault>
     ensures ok { IfOk result (λ status. (printed : List ℕ) × (told : List ℕ) × Gains (W.taken out.old) (W.taken out.new) printed
-        × Gains (E.taken err.old) (E.taken err.new) told × Compiles (map entry_of entries.now) report printed told status) }
+        × Gains (E.taken err.old) (E.taken err.new) told × Compiles (map entry_of entries.now) asked.report printed told status) }
     ensures err { OnErr result ((printed : List ℕ) × (told : List ℕ) × (status : ℕ)
         × GainsFront (W.taken out.old) (W.taken out.new) printed
         × GainsFront (E.taken err.old) (E.taken err.new) told
-        × Compiles (map entry_of entries.now) report printed told status) }
+        × Compiles (map entry_of entries.now) asked.report printed told status) }
     ensures failed { OnErr result (HasFailed (W.failures out.old) (W.failures out.new) ⊎ HasFailed (E.failures err.old) (E.failures err.new)) }
     ensures out_counted { W.failures out.old ≤ W.failures out.new }
     ensures err_counted { E.failures err.old ≤ E.failures err.new }
 {
-    let engine = match Plain::of(alloc, entries) {
+    let engine = match Plain::of(alloc, asked.seed, entries) {
         Ok(engine) => engine,
         Err(refusal) => {
             reply::write_refusal(err, &refusal)?;
             return Ok(1);
         }
     };
-    match write_report(&engine, report, out) {
+    match write_report(&engine, asked.report, out) {
         Ok(status) => Ok(status),
         Err(WriteFault::Memory) => refuse_for_memory(err),
         Err(WriteFault::Sink) => Err(SinkFault),

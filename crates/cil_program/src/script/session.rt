@@ -219,7 +219,8 @@ fn write_store_fault<W: Sink>(
         StoreFault::BadModuleName
         | StoreFault::NotInstalled
         | StoreFault::Full
-        | StoreFault::TextTooLong => reply::write_store_refusal(sink, fault.code(), name),
+        | StoreFault::TextTooLong
+        | StoreFault::BatchTooLong => reply::write_store_refusal(sink, fault.code(), name),
     }
 }
 

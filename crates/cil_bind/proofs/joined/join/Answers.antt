@@ -5,7 +5,7 @@ use Rattle.std.proofs.lemmas.Fn.{always_returns_same}
 use Rattle.std.proofs.lemmas.List.MinMax.{ranks_by}
 use Rattle.std.proofs.lemmas.Map.Keys.{IsDistinct-IsPermutation}
 use Rattle.cil_specs.specs.Report.{name_cmp}
-use Rattle.cil_bind.proofs.JoinLemmas.{names_rise-by}
+use Rattle.cil_names.proofs.TextLemmas.{names_rise-by}
 use Rattle.cil_bind.proofs.joined.join.Goals as goal
 
 pub invariant_of-result : goal.invariant_of-result

@@ -31,13 +31,13 @@ pub kept_by_needs-requires : goal.kept_by_needs-requires
 kept_by_needs-requires g c =
     let (all, bound, nested, apart) = c.requires in
     let count = c.len-count.ensures in
-    let few = c.if-count-gt4294967295.false in
+    let few = c.in_ok-counted_in_32_bits.ensures.few in
     record { ready = (all, record { bound = bound; nested = nested; apart = apart; few = omega (arith, count, few) }) }
 
 pub returns-clause-kept : goal.returns-clause-kept
 returns-clause-kept g c =
     let count = c.len-count.ensures in
-    let few = c.if-count-gt4294967295.false in
+    let few = c.in_ok-counted_in_32_bits.ensures.few in
     IfOk-weaker c.kept_by_needs.result _ _
     (λ kept shows all bound nested apart. shows all (record { bound = bound; nested = nested; apart = apart; few = omega (arith, count, few) }))
     c.kept_by_needs.ensures.kept

@@ -16,7 +16,7 @@ loop-i-preserved g c =
     let many = c.len-i-end.ensures in
     let within = c.loop-i-test.true in
     subst (AreNumbersOf (seen new) c.push.new.self.items) (ap (λ l. take i lists ++ l ∷ []) c.get.ensures ∙ sym (take_more lists i [] (omega (arith, many, within))))
-    (number-pushed old.lists.keys c.get.result new old.numbers.items c.push.new.self.items c.in_ok-n.n c.in_ok-number.field-0 c.in_ok-n.ensures.keys c.in_ok-n.ensures.stored c.in_ok-number.ensures c.in_ok-push.ensures.items (take i lists) c.loop-i.invariant)
+    (number-pushed old.lists.keys c.get.result new old.numbers.items c.push.new.self.items c.in_ok-n.n c.in_ok-in_32_bits.field-0 c.in_ok-n.ensures.keys c.in_ok-n.ensures.stored c.in_ok-in_32_bits.ensures.same c.in_ok-push.ensures.items (take i lists) c.loop-i.invariant)
 
 pub returns : goal.returns
 returns g c =

@@ -23,7 +23,7 @@ to-be content rows paths report printed told status files_are is made = (report,
 
 pub returns-in-Some-clause-ok : goal.returns-in-Some-clause-ok
 returns-in-Some-clause-ok g c =
-    let found = found_of c.args.asked.now in
+    let found = found_of c.args.words.now in
     let files_are = ap (λ o. unwrap_or o []) (c.in-Some.ensures ∙ raw_values-rows found (codes "FILE")) in
     let flag = one_text-rows found (codes "violations") in
     let report_is : IsReportAsked (rows_of found) c.if-get_flag.report =
@@ -42,7 +42,7 @@ returns-in-Some-clause-ok g c =
 
 pub returns-in-Some-clause-err : goal.returns-in-Some-clause-err
 returns-in-Some-clause-err g c =
-    let found = found_of c.args.asked.now in
+    let found = found_of c.args.words.now in
     let files_are = ap (λ o. unwrap_or o []) (c.in-Some.ensures ∙ raw_values-rows found (codes "FILE")) in
     let flag = one_text-rows found (codes "violations") in
     let report_is : IsReportAsked (rows_of found) c.if-get_flag.report =
@@ -62,7 +62,7 @@ returns-in-Some-clause-err g c =
 
 pub returns-in-None-clause-ok : goal.returns-in-None-clause-ok
 returns-in-None-clause-ok g c =
-    let found = found_of c.args.asked.now in
+    let found = found_of c.args.words.now in
     let files_are = ap (λ o. unwrap_or o []) (c.in-None.ensures ∙ raw_values-rows found (codes "FILE")) in
     let flag = one_text-rows found (codes "violations") in
     let report_is : IsReportAsked (rows_of found) c.if-get_flag.report =
@@ -81,7 +81,7 @@ returns-in-None-clause-ok g c =
 
 pub returns-in-None-clause-err : goal.returns-in-None-clause-err
 returns-in-None-clause-err g c =
-    let found = found_of c.args.asked.now in
+    let found = found_of c.args.words.now in
     let files_are = ap (λ o. unwrap_or o []) (c.in-None.ensures ∙ raw_values-rows found (codes "FILE")) in
     let flag = one_text-rows found (codes "violations") in
     let report_is : IsReportAsked (rows_of found) c.if-get_flag.report =

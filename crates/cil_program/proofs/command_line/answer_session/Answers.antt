@@ -41,19 +41,19 @@ returns g c = record {
       let store : Store = c.session.new.engine in (
         store,
         subst (λ (first : Store). Leaves (g.S.Source.account c.args.source.now) (g.S.Source.account c.session.new.source) (record { store = first; taken = g.W.Sink.taken c.args.out.now })
-            (record { store = store; taken = g.W.Sink.taken c.session.new.sink }) s) c.new-engine.ensures left,
+            (record { store = store; taken = g.W.Sink.taken c.session.new.sink }) s) c.with_seed-engine.ensures left,
       )) c.session.ensures.ok;
   cut_by_read = λ is.
       let store : Store = c.session.new.engine in (
         store,
         subst (λ (first : Store). LeavesByRead (g.S.Source.account c.args.source.now) (g.S.Source.account c.session.new.source) (record { store = first; taken = g.W.Sink.taken c.args.out.now })
-            (record { store = store; taken = g.W.Sink.taken c.session.new.sink })) c.new-engine.ensures (c.session.ensures.cut_by_read is),
+            (record { store = store; taken = g.W.Sink.taken c.session.new.sink })) c.with_seed-engine.ensures (c.session.ensures.cut_by_read is),
       );
   cut_by_write = λ is.
       let store : Store = c.session.new.engine in (
         store,
         subst (λ (first : Store). LeavesByWrite (g.S.Source.account c.args.source.now) (g.S.Source.account c.session.new.source) (record { store = first; taken = g.W.Sink.taken c.args.out.now })
-            (record { store = store; taken = g.W.Sink.taken c.session.new.sink })) c.new-engine.ensures (c.session.ensures.cut_by_write is),
+            (record { store = store; taken = g.W.Sink.taken c.session.new.sink })) c.with_seed-engine.ensures (c.session.ensures.cut_by_write is),
       );
   flushed = λ other. no-failure c.session.result _ c.session.ensures.flushed (λ e. other (c.exit_status.ensures ∙ e));
   ended = λ is. ending c.session.result _ c.session.ensures.ended (by is);

@@ -1,27 +1,22 @@
 use Rattle.std.proofs.Common.{sym, subst}
 use Rattle.std.specs.List.Sorted.{IsStrictlySortedBy}
 use Rattle.cil_specs.specs.Report.{name_cmp}
-use Rattle.cil_store_specs.specs.Next.{changed}
 use Rattle.cil_store_specs.specs.Store.{IsStore, active}
 use Rattle.cil_store_specs.proofs.ActiveLemmas.{active-ascend}
-use Rattle.cil_store_specs.proofs.StoreOrder.{changed-ordered}
-use Rattle.cil_store.specs.Admitted.{admitted_edit}
 use Rattle.cil_store.specs.Stored.{AreParsedOf}
 use Rattle.cil_store.proofs.JoinLemmas.{parsed-names, distinct-from_sorted, permutation-one}
 use Rattle.cil_store.proofs.join.join.Goals as goal
 
 pub join-requires : goal.join-requires
 join-requires g c =
-    let edit = admitted_edit c.args.edit.now in
-    let after = changed c.args.store.now edit in
+    let store = c.args.store.now in
     let ordered = subst IsStore c.store.view_is c.store.invariant in
-    let rise = subst (IsStrictlySortedBy name_cmp) (sym (parsed-names (active after) c.in_ok-modules.modules.items c.in_ok-modules.ensures)) (active-ascend after (changed-ordered c.args.store.now edit ordered).entries) in
+    let rise = subst (IsStrictlySortedBy name_cmp) (sym (parsed-names (active store) c.in_ok-modules.modules.items c.in_ok-modules.ensures)) (active-ascend store ordered.entries) in
     distinct-from_sorted (λ m. m.name.now) c.in_ok-modules.modules.items rise
 
 pub returns : goal.returns
 returns g c =
-    let edit = admitted_edit c.args.edit.now in
-    let after = changed c.args.store.now edit in
+    let store = c.args.store.now in
     let ordered = subst IsStore c.store.view_is c.store.invariant in
-    let rise = subst (IsStrictlySortedBy name_cmp) (sym (parsed-names (active after) c.in_ok-modules.modules.items c.in_ok-modules.ensures)) (active-ascend after (changed-ordered c.args.store.now edit ordered).entries) in
-    subst (AreParsedOf (active after)) (sym (permutation-one (λ m. m.name.now) c.in_ok-modules.modules.items c.join.result.modules.items rise c.join.result.ordered c.join.ensures)) c.in_ok-modules.ensures
+    let rise = subst (IsStrictlySortedBy name_cmp) (sym (parsed-names (active store) c.in_ok-modules.modules.items c.in_ok-modules.ensures)) (active-ascend store ordered.entries) in
+    subst (AreParsedOf (active store)) (sym (permutation-one (λ m. m.name.now) c.in_ok-modules.modules.items c.join.result.modules.items rise c.join.result.ordered c.join.ensures)) c.in_ok-modules.ensures

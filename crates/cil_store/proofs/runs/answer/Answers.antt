@@ -31,3 +31,11 @@ pub returns-in-Ok-violations : goal.returns-in-Ok-violations
 returns-in-Ok-violations g c =
     let store = g.C.Compiled.store c.args.engine.now in
     subst (λ call. Step store (call_of call) (violated c.in-Ok-violations.violations) store) (sym c.in-Violations.is) (tells_violations c.in-Ok-violations.violations refl refl c.in-Ok-violations.ensures refl)
+
+pub returns-in-Ok-batch : goal.returns-in-Ok-batch
+returns-in-Ok-batch g c =
+    subst (λ call. Step (g.C.Compiled.store c.args.engine.now) (call_of call) (changed_by c.in-Ok-batch.changes) (g.C.Compiled.store c.batch.new.self)) (sym c.in-Batch.is) c.in-Ok-batch.ensures
+
+pub returns-in-Err-batch : goal.returns-in-Err-batch
+returns-in-Err-batch g c =
+    subst (λ call. Step (g.C.Compiled.store c.args.engine.now) (call_of call) (refused (refusal_of c.in-Err-batch.refusal)) (g.C.Compiled.store c.batch.new.self)) (sym c.in-Batch.is) c.in-Err-batch.ensures

@@ -24,7 +24,7 @@ loop-i-preserved g c = record {
 pub returns-clause-stands : goal.returns-clause-stands
 returns-clause-stands g c = λ before name statements spells stands.
     stands-all c.args.«module».now statements name _ _ _ before c.loop-i.i spells (omega arith)
-    (c.loop-i.invariant.stands before name statements spells (sym (rows-length _ _ _ before stands.rows_are) ∙ (let n : length c.args.self.now.rows.items ≡ c.len-start.result = search rules in n)) stands)
+    (c.loop-i.invariant.stands before name statements spells (sym (rows-length _ _ _ before stands.rows_are) ∙ (let n : length c.args.self.now.rows.items ≡ c.in_ok-start.start = search rules in n)) stands)
 
 pub returns-clause-from : goal.returns-clause-from
 returns-clause-from g c = λ parsed before name statements spells have are.
@@ -32,5 +32,5 @@ returns-clause-from g c = λ parsed before name statements spells have are.
 
 pub returns-clause-around : goal.returns-clause-around
 returns-clause-around g c = λ before behind name statements spells long are.
-    let start : length c.args.self.now.rows.items ≡ c.len-start.result = search rules in
+    let start : length c.args.self.now.rows.items ≡ c.in_ok-start.start = search rules in
     around-all c.args.«module».now statements name _ _ before c.loop-i.i spells (omega arith) (c.loop-i.invariant.around before behind name statements spells (long ∙ start) are)

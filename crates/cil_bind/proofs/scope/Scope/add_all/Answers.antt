@@ -2,7 +2,7 @@ use Rattle.std.proofs.Common.{◌<◌, ◌≤◌, length, take, subst, rules, []
 use Rattle.cil_specs.specs.Joined.{joined}
 use Rattle.cil_parse.specs.Parsed.{Spells}
 use Rattle.cil_bind.proofs.PlaceLemmas.{module-next, joined-all, kept-next, spelt-at}
-use Rattle.cil_bind.specs.Scope.{AreFrom, AreAround}
+use Rattle.cil_bind.specs.Scope.{AreFrom, AreAround, HaveModule}
 use Rattle.cil_bind.proofs.AroundLemmas.{around-module, around-joined}
 use Rattle.cil_bind.proofs.FromLemmas.{from-module, from-joined}
 use Rattle.cil_bind.proofs.scope.Scope.add_all.Goals as goal
@@ -37,7 +37,9 @@ loop-i-preserved g c = record {
       let items = c.args.joined.now.modules.items in
       let low : c.loop-i.i < length items = search rules in
       from-module items modules c.loop-i.i c.index.result.now c.loop-i.self.rows.items c.add.new.self.rows.items are low c.index.ensures (c.loop-i.invariant.from modules are)
-      (λ name statements spells have. c.in_ok-add.ensures.from items (joined (take c.loop-i.i modules)) name statements spells have (c.loop-i.invariant.from modules are));
+      (λ name statements spells have.
+      c.in_ok-add.ensures.from items (joined (take c.loop-i.i modules)) name statements spells
+      (subst (λ n. HaveModule items n c.index.result.now.«module».now name) (sym c.in_ok-in_32_bits.ensures.same) have) (c.loop-i.invariant.from modules are));
   around = λ modules are.
       let items = c.args.joined.now.modules.items in
       let low : c.loop-i.i < length items = search rules in

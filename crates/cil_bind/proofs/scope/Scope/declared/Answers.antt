@@ -7,10 +7,10 @@ pub returns : goal.returns
 returns g c = record {
   namespaces = refl;
   rows = refl;
-  kept = kept-more _ _ c.text.result.now c.number.ensures.kept;
+  kept = kept-more _ _ c.text.result.now c.number_word.ensures.kept;
   distinct = λ old. c.in_ok-number.ensures.distinct;
   declares = λ form says.
       let texts = texts_of c.args.«module».now in
       let it = c.in-Some.ensures.some texts says.0 says.1 in
-      declared-is c.number.new.self texts c.in_ok-number.number c.in-Some.word c.in-Some.table says.0.form form it.0 it.1 it.2 says.2 (c.in_ok-number.ensures.named ∙ ap Some c.text.ensures);
+      declared-is c.number_word.new.names texts c.in_ok-number.number c.in-Some.word c.in-Some.table says.0.form form it.0 it.1 it.2 says.2 (c.in_ok-number.ensures.named ∙ ap Some c.text.ensures);
 }

@@ -50,12 +50,12 @@ returns-clause-stands g c = λ before name statements spells long stands.
 pub returns-clause-from : goal.returns-clause-from
 returns-clause-from g c = λ parsed before name statements spells have so_far.
     let row = row-of c.args.number c.in-Some.numbers c.around-namespace.result c.in_ok-inside.inside c.in_ok-declares.declares c.is_optional.result in
-    from-next parsed c.args.«module».now statements name c.args.self.now.rows.items c.push.new.self.items before c.args.i row spells have c.in-Some.ensures.0 c.requires.within so_far
+    from-next parsed c.args.«module».now statements name c.args.self.now.rows.items c.push.new.self.items before c.args.i row spells have c.in-Some.ensures.same.0 c.requires.within so_far
     (c.in_ok-push.ensures.items ∙ ap (λ r. r.items ++ row ∷ []) c.in_ok-declares.ensures.rows)
 
 pub returns-clause-around : goal.returns-clause-around
 returns-clause-around g c = λ before behind name statements spells long so_far.
     let row = row-of c.args.number c.in-Some.numbers c.around-namespace.result c.in_ok-inside.inside c.in_ok-declares.declares c.is_optional.result in
     around-next c.args.«module».now statements c.statement-view.result c.args.i name c.args.self.now.rows.items c.push.new.self.items before behind c.args.start row spells c.requires.within long
-    (λ f at. c.statement-view.ensures statements f spells at) c.in-Some.ensures.1 so_far
+    (λ f at. c.statement-view.ensures statements f spells at) c.in-Some.ensures.same.1 so_far
     (c.in_ok-push.ensures.items ∙ ap (λ r. r.items ++ row ∷ []) c.in_ok-declares.ensures.rows)

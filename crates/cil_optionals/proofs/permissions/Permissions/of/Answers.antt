@@ -9,4 +9,4 @@ invariant_of-result-clause-recent_are g c =
     subst (AreRecent (permissions_in c.args.listed.now)) (sym none) (recent-none (permissions_in c.args.listed.now) 4096)
 
 pub invariant_of-result-clause-known_are : goal.invariant_of-result-clause-known_are
-invariant_of-result-clause-known_are g c = λ number list place is. absurd (true≢false (sym is ∙ c.new-3.ensures number list place))
+invariant_of-result-clause-known_are g c = λ number list place is. absurd (true≢false (sym is ∙ c.new.ensures number list place))

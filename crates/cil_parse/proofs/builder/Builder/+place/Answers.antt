@@ -46,14 +46,14 @@ loop-statement-preserved g t c =
           let block = w.in-Block in
           let inner : Around = record { block = w.in_ok-block-in-Block.block; optional = around.optional } in
           places-block mid between c.match-statement.self around inner s block.at block.id block.body block.is c.in_ok-head.ensures
-          (w.in_ok-block-in-Block.ensures ∙ w.len.ensures ∙ between.rows.ok.0) refl
+          (w.in_ok-block-in-Block.ensures.same ∙ w.len.ensures ∙ between.rows.ok.0) refl
           (subst (λ l. Places between c.match-statement.self inner (statements_of l)) w.deref.ensures.value
           (subst (λ b. Places between b inner (statements_of w.deref.result.now)) (sym w.self-is) w.in_ok-place-in-Block.ensures))
       | in-Optional+in_ok-optional-in-Optional+in_ok-place-in-Optional w ↦
           let opt = w.in-Optional in
           let inner : Around = record { block = around.block; optional = w.in_ok-optional-in-Optional.optional } in
           places-optional mid between c.match-statement.self around inner s opt.at opt.id opt.body opt.is c.in_ok-head.ensures
-          (w.in_ok-optional-in-Optional.ensures ∙ w.len-in-Optional.ensures ∙ between.rows.ok.0) refl
+          (w.in_ok-optional-in-Optional.ensures.same ∙ w.len-in-Optional.ensures ∙ between.rows.ok.0) refl
           (subst (λ l. Places between c.match-statement.self inner (statements_of l)) w.deref-in-Optional.ensures.value
           (subst (λ b. Places between b inner (statements_of w.deref-in-Optional.result.now)) (sym w.self-is) w.in_ok-place-in-Optional.ensures))
       | in_default w ↦

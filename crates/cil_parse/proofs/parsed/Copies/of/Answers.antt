@@ -1,5 +1,4 @@
 use Rattle.std.proofs.Common.{◌∙◌, length, ap, sym, subst}
-use Rattle.cil_parse.specs.Lexicon.{seen}
 use Rattle.cil_parse.specs.PermissionLists.{AreListed}
 use Rattle.cil_parse.proofs.parsed.Copies.of.Goals as goal
 
@@ -8,7 +7,7 @@ of-requires g c = c.requires ∙ ap length (sym c.deref.ensures.value)
 
 pub returns : goal.returns
 returns g c = record {
-  texts = ap (λ l. l.0) c.in_ok-copies.ensures ∙ ap seen c.as_slice.ensures.keys;
-  names = ap (λ l. l.0) c.in_ok-copies-2.ensures ∙ ap seen c.as_slice-2.ensures.keys;
+  texts = ap (λ l. l.0) c.in_ok-copied_names.ensures ∙ c.as_slice.ensures;
+  names = ap (λ l. l.0) c.in_ok-copied_names-2.ensures ∙ c.as_slice-2.ensures;
   listed = subst (λ rows. AreListed c.in_ok-of.field-0 rows c.args.builder.now.words.0) c.deref.ensures.value c.in_ok-of.ensures;
 }

@@ -2,8 +2,8 @@ use Rattle.std.proofs.Common.{Result, Ok, Err, OnErr, ◌≡◌, ◌⊎◌, inl,
 use Rattle.std.proofs.lemmas.Result.{IfOk-weaker}
 use Rattle.cil_stream.specs.Device.{Gains, GainsFront}
 use Rattle.cil_stream.proofs.Gaining.{gains-none, on_err}
-use Rattle.cil_store_specs.specs.Store.{Entry}
-use Rattle.cil_store_specs.specs.Next.{Refusal, for_memory}
+use Rattle.cil_store_specs.specs.Store.{Entry, empty}
+use Rattle.cil_store_specs.specs.Next.{Refusal, for_memory, install_of}
 use Rattle.cil_store_specs.specs.Script.{refusal_line}
 use Rattle.cil_store.specs.Refusing.{AreRefused}
 use Rattle.cil_store.specs.Stored.{entry_of}
@@ -13,7 +13,7 @@ use Rattle.cil_program.specs.declared.command_line.compile.Report.{Report}
 use Rattle.cil_program.proofs.CommandLineLemmas.{front-none, on-err}
 use Rattle.cil_program.proofs.command_line.compile.compile_entries.Goals as goal
 
-refusing : (entries : List Entry) (report : Report) (refusal : Refusal) → AreRefused entries refusal → Compiles entries report [] (refusal_line refusal) 1
+refusing : (entries : List Entry) (report : Report) (refusal : Refusal) → AreRefused empty (map install_of entries) refusal → Compiles entries report [] (refusal_line refusal) 1
 refusing entries report refusal (inl memory) = lacks_memory refl (ap refusal_line memory) refl
 refusing entries report refusal (inr of) = is_refused refusal of refl refl refl
 
@@ -24,7 +24,7 @@ returns-in-Err-clause-ok g c =
       refusal_line refusal,
       gains-none (g.W.Sink.taken c.args.out.now),
       c.in_ok-write_refusal-in-Err.ensures.ok,
-      refusing (map entry_of c.args.entries.now) c.args.report refusal c.in-Err.ensures.err,
+      refusing (map entry_of c.args.entries.now) c.args.asked.report refusal c.in-Err.ensures.err,
     )
 
 pub returns-in-Ok-write_report-clause-ok : goal.returns-in-Ok-write_report-clause-ok
@@ -60,7 +60,7 @@ returns-in_err-write_refusal-in-Err-clause-err g c =
       1,
       front-none (g.W.Sink.taken c.args.out.now),
       c.in_err-write_refusal-in-Err.ensures.err,
-      refusing (map entry_of c.args.entries.now) c.args.report refusal c.in-Err.ensures.err,
+      refusing (map entry_of c.args.entries.now) c.args.asked.report refusal c.in-Err.ensures.err,
     )
 
 pub returns-in-Err-Memory-clause-err : goal.returns-in-Err-Memory-clause-err

@@ -1,6 +1,7 @@
 use Rattle.std.proofs.Common.{◌∙◌, refl, sym, subst}
-use Rattle.cil_store_specs.specs.Next.{install, for_memory, install_refusal, by_itself, not_taken}
-use Rattle.cil_store_specs.specs.Run.{an_edit, refused, rejected, out_of_memory}
+use Rattle.cil_store_specs.specs.Next.{install, for_memory, install_refusal}
+use Rattle.cil_store_specs.specs.Run.{an_edit, refused, out_of_memory}
+use Rattle.cil_store_specs.proofs.BatchLemmas.{store-refused-step}
 use Rattle.cil_store_specs.specs.Script.{answer_of, by_engine}
 use Rattle.cil_store.specs.Edits.{store_refusal_of}
 use Rattle.cil_program.specs.Input.{HasRead}
@@ -20,7 +21,7 @@ returns-in-Err-clause-ok g c =
       whole.1,
       record {
         answer = answer_of reply;
-        answers = by_engine (an_edit edit) reply refl (rejected edit _ refl refl (not_taken _ (by_itself ((λ i. install_refusal (sym c.store.ensures i) c.args.name.now c.args.priority (whole.1 i)) ∙ c.in-Err.ensures)) refl) refl) refl;
+        answers = by_engine (an_edit edit) reply refl (store-refused-step _ edit _ ((λ i. install_refusal (sym c.store.ensures i) c.args.name.now c.args.priority (whole.1 i)) ∙ c.in-Err.ensures)) refl;
         written = c.in_ok-write_store_fault.ensures.ok;
         is = refl;
       },
@@ -56,7 +57,7 @@ returns-in_err-write_store_fault-clause-err g c =
       whole.1,
       record {
         answer = answer_of reply;
-        answers = by_engine (an_edit edit) reply refl (rejected edit _ refl refl (not_taken _ (by_itself ((λ i. install_refusal (sym c.store.ensures i) c.args.name.now c.args.priority (whole.1 i)) ∙ c.in-Err.ensures)) refl) refl) refl;
+        answers = by_engine (an_edit edit) reply refl (store-refused-step _ edit _ ((λ i. install_refusal (sym c.store.ensures i) c.args.name.now c.args.priority (whole.1 i)) ∙ c.in-Err.ensures)) refl;
         written = c.in_err-write_store_fault.ensures.err;
       },
     )

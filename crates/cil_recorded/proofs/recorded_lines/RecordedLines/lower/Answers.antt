@@ -1,6 +1,7 @@
 use Rattle.std.proofs.Common.{◌<◌, ◌∙◌, length, bit_and, refl, sym, ap, rules}
 use Rattle.cil_lines.specs.Line.{IsSingle}
-use Rattle.cil_recorded.proofs.EndLemmas.{falls_down, none_pushed}
+use Rattle.cil_lines.specs.Limit.{CanLower}
+use Rattle.cil_recorded.proofs.EndLemmas.{others_down}
 use Rattle.cil_recorded.proofs.LogLemmas.{before_down, moved_down, sound_down}
 use Rattle.cil_recorded.specs.Log.{falls, has_line}
 use Rattle.cil_recorded.specs.Recorded.{count_in}
@@ -31,5 +32,10 @@ returns-clause-before g c l t =
 
 pub returns-clause-others : goal.returns-clause-others
 returns-clause-others g c l none =
+    let old = c.self.inside.lines.items in
     let log = c.self.inside.log.items in
-    rw (← c.self.view_is) (none_pushed (falls log) _ l (sym (ap (λ ss. has_line ss l) (ap falls c.log_step.ensures.items ∙ falls_down log _ refl)) ∙ none))
+    let above : CanLower (count_in old c.args.line) c.args.word c.args.mask = rw (← c.self.view_is) at c.requires.above in
+    let is : IsSingle (count_in old c.args.line) c.args.word c.single.result = rw (← c.self.view_is) at c.single.ensures in
+    rw (← c.self.view_is)
+    (others_down log c.args.line c.args.word c.args.mask c.single.result (count_in old) (count_in c.lower.new.lines.items) c.ranges.mask.fits above is c.lower.ensures.now _ refl refl refl l
+    (sym (ap (λ ss. has_line (falls ss) l) c.log_step.ensures.items) ∙ none))

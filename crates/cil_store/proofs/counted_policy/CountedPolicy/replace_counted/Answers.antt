@@ -12,14 +12,8 @@ returns-in_default-clause-kept g c =
     kept-back (record { resolved = c.args.self.now.resolved; dropped = c.args.self.now.dropped; counters = c.update_counted-updated.new.self }) c.undo.new.self c.requires.are_dropped
     (subst (λ r. WasBefore r c.update_counted-updated.new.self) c.deref.ensures c.in_default.ensures.before) c.undo.ensures
 
-pub take_over-requires-clause-now : goal.take_over-requires-clause-now
-take_over-requires-clause-now g c = subst (λ r. IsNow r c.update_counted-updated.new.self) c.deref-2.ensures c.in-Ok.ensures.now
-
-pub take_over-requires-clause-before : goal.take_over-requires-clause-before
-take_over-requires-clause-before g c = subst (λ r. WasBefore r c.update_counted-updated.new.self) c.deref.ensures c.in-Ok.ensures.before
-
-pub take_over-requires-clause-dropped : goal.take_over-requires-clause-dropped
-take_over-requires-clause-dropped g c = c.requires.are_dropped
+pub take_over-requires : goal.take_over-requires
+take_over-requires g c = subst (λ r. IsNow r c.update_counted-updated.new.self) c.deref-2.ensures c.in-Ok.ensures.now
 
 pub returns-clause-changes : goal.returns-clause-changes
 returns-clause-changes g c =
@@ -33,5 +27,5 @@ returns-clause-changes g c =
       those = record { are_changes = some.those; evaluations = c.in-Ok.ensures.evaluations; adjustments = c.in-Ok.ensures.adjustments some.changes some.those };
       are_counts = some.are_counts;
     } in
-    subst (λ r. CountsSome (AreCountedChanges (meaning_in r) (meaning_in (rc_value c.args.next.resolved)) before after) c.in-Ok.counts) c.deref.ensures
+    subst (λ r. CountsSome (AreCountedChanges (meaning_in r) (meaning_in (rc_value c.args.prepared.next.resolved)) before after) c.in-Ok.counts) c.deref.ensures
     (subst (λ r. CountsSome (AreCountedChanges (meaning_in old) (meaning_in r) before after) c.in-Ok.counts) c.deref-2.ensures are)

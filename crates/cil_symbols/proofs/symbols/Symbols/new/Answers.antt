@@ -1,5 +1,5 @@
-use Rattle.cil_symbols.proofs.NameLemmas.{distinct-texts}
+use Rattle.cil_names.proofs.TextLemmas.{distinct-texts}
 use Rattle.cil_symbols.proofs.symbols.Symbols.new.Goals as goal
 
 pub invariant_of-result : goal.invariant_of-result
-invariant_of-result g c = distinct-texts c.new.result.keys c.new.ensures.unique
+invariant_of-result g c = distinct-texts (λ key. key.text.items) c.with_hasher.result.keys c.with_hasher.ensures.unique

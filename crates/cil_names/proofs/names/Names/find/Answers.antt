@@ -1,0 +1,7 @@
+use Rattle.std.proofs.Common.{◌∙◌, ap, bytes_eq, position}
+use Rattle.cil_names.proofs.TextLemmas.{position-texts}
+use Rattle.cil_names.proofs.names.Names.find.Goals as goal
+
+pub returns : goal.returns
+returns g c =
+    c.get_index_of.ensures.index ∙ position-texts (λ name. name.text.now) c.self.inside.names.keys c.args.name.now ∙ ap (position (bytes_eq c.args.name.now)) c.self.view_is

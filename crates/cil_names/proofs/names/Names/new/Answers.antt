@@ -1,0 +1,5 @@
+use Rattle.cil_names.proofs.TextLemmas.{distinct-texts}
+use Rattle.cil_names.proofs.names.Names.new.Goals as goal
+
+pub invariant_of-result : goal.invariant_of-result
+invariant_of-result g c = distinct-texts (λ name. name.text.now) c.with_hasher.result.keys c.with_hasher.ensures.unique

@@ -1,0 +1,12 @@
+//! Distinct names by numbers, in tables that are hashed by a seed.
+#![tactic(auto)]
+
+mod name;
+mod names;
+mod numbers;
+mod seed;
+
+pub use name::{Name, OwnedName};
+pub use names::Names;
+pub use numbers::{counted_in_32_bits, in_32_bits};
+pub use seed::Seed;

@@ -1,0 +1,8 @@
+use Rattle.std.proofs.Common.{◌≡◌, map, take}
+use Rattle.cil_store_specs.specs.Next.{install_of}
+use Rattle.cil_store.specs.Edits.{edit_of}
+use Rattle.cil_store.specs.Stored.{entry_of}
+use Rattle.cil_store.proofs.batch.installs.Given as goal
+
+abbrev pub invariant-loop-entry : goal.invariant-loop-entry
+invariant-loop-entry g l = map edit_of l.edits.items ≡ map install_of (map entry_of (take l.entry-index l.entries))
