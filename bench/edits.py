@@ -3,8 +3,9 @@
 usage: edits.py PROGRAM SLICE ORDER SMALL ROUNDS
 
 A line of the order with several modules has some that need each other: of all but the first the declarations stand at priority 1
-while these modules are installed. Each line that is printed has a name, the seconds by the clock from the last byte of a command to
-the end of its answer, those of the processor, and the answer.
+while these modules are installed. Where the order is `-`, all modules but the small one are installed as one text, and where it is
+`=`, all are installed as one batch. Each line that is printed has a name, the seconds by the clock from the last byte of a command,
+or from the first of a batch, to the end of its answer, those of the processor, and the answer.
 """
 import os
 import subprocess
@@ -30,17 +31,23 @@ class Session:
         """The peak of its memory in MiB."""
         return int(self.of_system("status").split("VmHWM:")[1].split()[0]) / 1024
 
-    def edit(self, command):
-        """The seconds of an edit that has to be accepted, and its answer."""
+    def edit(self, command, held=()):
+        """The seconds of an edit that has to be accepted, and its answer; of a batch, behind the answers to its other lines."""
         spent = self.processor()
+        first = time.monotonic()
         self.process.stdin.write(command)
         self.process.stdin.flush()
-        begin = time.monotonic()
-        answer = self.process.stdout.readline().decode().strip()
-        clock = time.monotonic() - begin
-        if not answer.startswith("ok "):
-            sys.exit(f"{command.splitlines()[0].decode()}: {answer}")
+        last = time.monotonic()
+        for wanted in [*held, "ok "]:
+            answer = self.process.stdout.readline().decode().strip()
+            if not answer.startswith(wanted):
+                sys.exit(f"{command.splitlines()[0].decode()}: {answer}")
+        clock = time.monotonic() - (first if held else last)
         return clock, self.processor() - spent, answer
+
+    def batch(self, edits):
+        """The same of edits that are made as one batch."""
+        return self.edit(b"".join([b"begin\n", *edits, b"commit\n"]), ["open"] + ["held"] * len(edits))
 
 
 def install(name, priority, text):
@@ -70,20 +77,32 @@ def one_by_one(folder, order):
             yield from (remove(name, 1) for name in names[1:])
 
 
+def names_in(folder):
+    """The names of all modules."""
+    return sorted(name.removesuffix(".cil") for name in os.listdir(folder))
+
+
 def as_one_text(folder, small):
     """The edits that install all modules but one as one text, and then that one."""
-    names = sorted(name.removesuffix(".cil") for name in os.listdir(folder))
-    yield install("all", 400, b"".join(text_of(folder, name) for name in names if name != small))
+    yield install("all", 400, b"".join(text_of(folder, name) for name in names_in(folder) if name != small))
     yield install(small, 400, text_of(folder, small))
+
+
+def loaded(session, folder, order, small):
+    """Installs the modules. For each edit, or for the batch of all: its seconds, and its answer."""
+    if order == "=":
+        return [session.batch([install(name, 400, text_of(folder, name)) for name in names_in(folder)])]
+    return [session.edit(edit) for edit in (as_one_text(folder, small) if order == "-" else one_by_one(folder, order))]
 
 
 def tell(name, clock, processor, answer):
     print(name, f"{clock:.6f}", f"{processor:.6f}", answer, sep="\t", flush=True)
 
 
-def load(session, edits):
-    done = [session.edit(edit) for edit in edits]
-    answer = f"{len(done)} edits, {session.peak():.1f} MiB at the peak, the last {done[-1][2]}"
+def load(session, folder, order, small):
+    done = loaded(session, folder, order, small)
+    edits = f"a batch of {len(names_in(folder))}" if order == "=" else f"{len(done)} edits"
+    answer = f"{edits}, {session.peak():.1f} MiB at the peak, the last {done[-1][2]}"
     tell("load", sum(edit[0] for edit in done), sum(edit[1] for edit in done), answer)
 
 
@@ -107,7 +126,7 @@ def main():
     program, folder, order, small = sys.argv[1:5]
     rounds = int(sys.argv[5])
     session = Session(program)
-    load(session, as_one_text(folder, small) if order == "-" else one_by_one(folder, order))
+    load(session, folder, order, small)
     for name, text in TEXTS.items():
         timed(session, rounds, name, install("one_more", 400, text), remove("one_more", 400))
     disable, enable = b"disable %s\n" % small.encode(), b"enable %s\n" % small.encode()

@@ -3,8 +3,8 @@
 # NAME.cil), the order in which they can be installed, and the file that `secilc` needs in front of them. The modules are installed one
 # by one in a session; then one more allow rule, one more type, one more type of `domain`, and the disabling and enabling of a small
 # module are timed, the least of ROUNDS, which is 3 where it isn't set. Beside that, in the same run, `secilc` compiles the same files,
-# if it is installed. A fourth word names the small module. Where the order is `-`, all other modules are installed as one text, which
-# is quicker. Build the program first: `make run`; GNU time and python3 are needed.
+# if it is installed. A fourth word names the small module. Where the order is `=`, all modules are installed as one batch, and where it
+# is `-`, all but the small one as one text. Build the program first: `make run`; GNU time and python3 are needed.
 set -eu
 slice=$1
 order=$2

@@ -2,12 +2,12 @@
 
 usage: edits_in_turn.py SLICE ORDER SMALL ROUNDS PROGRAM..
 
-The modules are installed one by one, as edits.py does it, and the edits are those of edits.py. A line has the name of an edit, and for
-each program the least and the middle of its rounds, in milliseconds of the processor.
+The modules are installed as edits.py does it, and the edits are those of edits.py. A line has the name of an edit, and for each
+program the least and the middle of its rounds, in milliseconds of the processor.
 """
 import sys
 
-from edits import TEXTS, Session, install, one_by_one, remove
+from edits import TEXTS, Session, install, loaded, remove
 
 
 def edits(small):
@@ -21,8 +21,7 @@ def main():
     folder, order, small, rounds = sys.argv[1:5]
     sessions = [Session(program) for program in sys.argv[5:]]
     for session in sessions:
-        for edit in one_by_one(folder, order):
-            session.edit(edit)
+        loaded(session, folder, order, small)
     found = {}
     for _ in range(int(rounds)):
         for name, edit, back, other in edits(small.encode()):

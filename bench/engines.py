@@ -310,36 +310,117 @@ def write_refused(rng, store):
     return install_line(name, rng.choice(PRIORITIES), text_of(rng, statements))
 
 
+def write_change(rng, store):
+    """The lines of an edit that is likely to be accepted. The store becomes the one behind it."""
+    roll = rng.random()
+    if roll < 0.45 or not store.entries:
+        return write_install(rng, store)
+    if roll < 0.6:
+        return write_type(rng, store)
+    if roll < 0.78:
+        return write_removal(rng, store)
+    return write_state(rng, store)
+
+
 def write_edit(rng, store):
     """The lines of an edit, and the store behind it."""
     after = copy.deepcopy(store)
-    roll = rng.random()
-    if roll < 0.1:
+    if rng.random() < 0.1:
         return write_refused(rng, after), store
-    if roll < 0.5 or not store.entries:
-        lines = write_install(rng, after)
-    elif roll < 0.65:
-        lines = write_type(rng, after)
-    elif roll < 0.8:
-        lines = write_removal(rng, after)
-    else:
-        lines = write_state(rng, after)
+    lines = write_change(rng, after)
     return lines, after if after.stands() else store
 
 
+def write_again(rng, store):
+    """Edits that remove all that is installed of a name, and install one of its texts again, which is enabled then."""
+    name = rng.choice(sorted(store.entries))
+    entries = store.entries[name]
+    priority = rng.choice(sorted(entries))
+    store.entries[name] = {priority: entries[priority]}
+    store.disabled.discard(name)
+    text = text_of(rng, entries[priority])
+    return [f"remove {name} {it}\n" for it in rng.sample(sorted(entries), len(entries))] + [install_line(name, priority, text)]
+
+
+def mixed(rng, edits):
+    """The edits in another order, in which those of each name stay in theirs."""
+    names = [edit.split(None, 2)[1] for edit in edits]
+    of_name = {name: iter([edit for edit, other in zip(edits, names) if other == name]) for name in names}
+    return [next(of_name[name]) for name in rng.sample(names, len(names))]
+
+
+def write_changes(rng, store, count):
+    """Edits of a batch, and the store behind them. In between it may be one that isn't accepted."""
+    after = copy.deepcopy(store)
+    edits = []
+    for _ in range(count):
+        again = after.entries and rng.random() < 0.15
+        edits.extend(write_again(rng, after) if again else [write_change(rng, after)])
+    return edits, after
+
+
+def write_batch_edits(rng, store):
+    """The edits of a batch that is likely to be accepted, or has faults, and the store behind it."""
+    count = rng.choice((0, 1, 2, 2, 3, 3, 5, 8, 12))
+    for _ in range(rng.randrange(1, 6)):
+        edits, after = write_changes(rng, store, count)
+        if after.stands():
+            break
+    accepted = after.stands()
+    if rng.random() < 0.4:
+        edits = mixed(rng, edits)
+    if rng.random() < 0.1:
+        edits.insert(rng.randrange(len(edits) + 1), write_refused(rng, copy.deepcopy(after)))
+        accepted = False
+    if edits and rng.random() < 0.005:
+        # As many as a batch may have, or one more.
+        more = rng.choice((0, 0, 1))
+        edits[-1:-1] = [f"enable {rng.choice(sorted(after.entries) or ['m'])}\n"] * (8192 + more - len(edits))
+        accepted = accepted and not more
+    return edits, after if accepted else store
+
+
+def write_open_batch(rng, store):
+    """The lines of a batch but for its end, and the store behind it if it is committed."""
+    edits, after = write_batch_edits(rng, store)
+    lines = ["begin\n"]
+    for edit in edits:
+        lines.append(edit)
+        if rng.random() < 0.15 and len(edits) < 100:
+            lines.append(rng.choice(QUERIES + ["begin"]) + "\n")
+    return lines, after
+
+
+def write_batch(rng, store):
+    """The lines of a batch, and the store behind it."""
+    lines, after = write_open_batch(rng, store)
+    if rng.random() < 0.1:
+        return lines + ["abort\n"], store
+    return lines + ["commit\n"], after
+
+
 def write_script(seed, number):
-    """The script of a number: edits with questions between them."""
+    """The script of a number: edits and batches with questions between them."""
     rng = random.Random(f"{seed} {number}")
     store = Store()
     script = []
     for _ in range(rng.choice((5, 10, 20, 30, 40))):
-        lines, store = write_edit(rng, store)
-        script.append(lines)
+        if rng.random() < 0.3:
+            lines, store = write_batch(rng, store)
+            script.extend(lines)
+        else:
+            lines, store = write_edit(rng, store)
+            script.append(lines)
         if rng.random() < 0.5:
             script.extend(query + "\n" for query in rng.sample(QUERIES, rng.randrange(1, 6)))
+        if rng.random() < 0.02:
+            script.append(rng.choice(["commit\n", "abort\n"]))
     script.extend(query + "\n" for query in QUERIES)
-    if rng.random() < 0.02:
-        script.append(rng.choice(["frob\n", "install m 400 99\n(type t0)\n", "rules \n", "\n", "dump"]))
+    left_open = rng.random() < 0.04
+    if left_open:
+        script.extend(write_open_batch(rng, store)[0])
+    if rng.random() < (0.3 if left_open else 0.03):
+        script.append(rng.choice(["frob\n", "install m 400 99\n(type t0)\n", "rules \n", "\n", "dump", "begin", "commit", "abort"]))
     return "".join(script).encode()
 
 
@@ -365,9 +446,11 @@ def count_edits(counts, answers):
         "changed" if any(line.startswith(b"ok ") and line != b"ok 0 0" for line in lines) else None,
         "refused" if any(line.startswith(b"refused ") for line in lines) else None) if kind]
     counts.update(seen + (["both"] if len(seen) == 2 else []))
-    counts["edits that changed accesses"] += sum(line.startswith(b"ok ") and line != b"ok 0 0" for line in lines)
-    counts["edits that changed none"] += lines.count(b"ok 0 0")
-    counts["edits refused"] += sum(line.startswith(b"refused ") for line in lines)
+    counts["batches"] += lines.count(b"open")
+    counts["edits held"] += lines.count(b"held")
+    counts["edits and batches that changed accesses"] += sum(line.startswith(b"ok ") and line != b"ok 0 0" for line in lines)
+    counts["edits and batches that changed none"] += lines.count(b"ok 0 0")
+    counts["commands refused"] += sum(line.startswith(b"refused ") for line in lines)
 
 
 def main():
@@ -383,7 +466,7 @@ def main():
             differ = number, script, first, other
     print(f"{counts['agree']} of {count} scripts of seed {seed} are answered alike")
     print(f"{counts['changed']} had accepted edits with changes, {counts['refused']} had refused edits, {counts['both']} had both")
-    for kind in ("edits that changed accesses", "edits that changed none", "edits refused"):
+    for kind in ("edits and batches that changed accesses", "edits and batches that changed none", "commands refused", "batches", "edits held"):
         print(f"{counts[kind]} {kind}")
     if differ is not None:
         show_difference(*differ)

@@ -13,10 +13,10 @@ line that begins with the word of a command begins the next command; an install 
     sink fails N        it fails after N bytes; or `each`
     sink flushes N      its flushes fail after N of them
     memory refuses N    the Nth growth is refused; `N on`: those after it too; `each`: each in turn, alone and then with those after it
-    run                 the script's commands are the calls of one `run` (`rows` is a call too)
+    run                 the script's commands are the calls of one `run` (`rows` is a call too); no batch is
     at once             the script's installs are entries that are compiled at once, and the commands of `then` are part of what is tried
-    work                the script's edits are made one by one, and each tells how often set statements were evaluated and counters of
-                        accesses adjusted, and how many optionals drop behind it; by the engine delta
+    work                the script's edits and batches are made one by one, and each tells how often set statements were evaluated and
+                        counters of accesses adjusted, and how many optionals drop behind it; by the engine delta
     one by one          each command of the script is tried by itself, after those before it
     engine NAME         plain or delta alone
     attributes A ..     members are asked of these attributes
@@ -29,7 +29,7 @@ import re
 
 from cases import Fault, spelled
 
-COMMANDS = {"install", "remove", "enable", "disable", "rules", "violations", "dropped", "modules", "dump", "rows"}
+COMMANDS = {"install", "remove", "enable", "disable", "begin", "commit", "abort", "rules", "violations", "dropped", "modules", "dump", "rows"}
 
 # The word of the program for what is said of a device.
 LIMITS = {

@@ -1,5 +1,5 @@
 -- The words of the lines that are no command's.
-use Rattle.std.proofs.Common.{◌≡◌, ◌≢◌, ℕ, ◌<◌, true, List, [], ◌∷◌, ◌++◌, length, get_or, codes, decimal, refl, ap, sym, ◌∙◌, subst, arith}
+use Rattle.std.proofs.Common.{◌≡◌, ℕ, true, List, [], ◌∷◌, ◌++◌, length, get_or, codes, decimal, refl, ap, sym, ◌∙◌, subst, arith}
 use Rattle.std.specs.List.{list_all, join_with_byte}
 use Rattle.cil_store_specs.specs.Next.{install, remove, enable, disable}
 use Rattle.cil_store_specs.specs.Script.{Command, makes, words_of, line_of, IsGoodName, IsShortNumber, HasGoodWords}

@@ -1,5 +1,5 @@
 -- Where the text of an install is short.
-use Rattle.std.proofs.Common.{◌≡◌, ℕ, Bool, true, List, [], ◌∷◌, ◌++◌, length, drop, get_or, replicate, codes, decimal, inl, inr, IsTrue, refl, ap, sym, ◌∙◌, append_assoc, length-append, arith}
+use Rattle.std.proofs.Common.{◌≡◌, ℕ, Bool, true, List, [], ◌∷◌, ◌++◌, length, drop, get_or, replicate, inl, inr, IsTrue, ap, sym, ◌∙◌, append_assoc, length-append, arith}
 use Rattle.std.proofs.lemmas.List.{length-replicate}
 use Rattle.std.specs.List.{list_all}
 use Rattle.cil_store_specs.specs.Next.{install}

@@ -1,10 +1,11 @@
 -- Bytes that are read one piece after another.
-use Rattle.std.proofs.Common.{IsTrue, Result, Ok, Err, IfOk, inl, inr, false, true, Bool, ◌≡◌, ◌≢◌, ℕ, ◌+◌, ◌-◌, ◌<◌, ◌≤◌, ◌^◌, not, List, [], ◌∷◌, ◌++◌, length, take, drop, OnErr, append-nil, length-take, length-drop, count_by, refl, ap, sym, ◌∙◌, subst, append_assoc, length-append, arith}
+use Rattle.std.proofs.Common.{IsTrue, Result, Ok, Err, IfOk, inl, inr, false, true, Bool, ◌≡◌, ◌≢◌, ℕ, ◌+◌, ◌-◌, ◌<◌, ◌≤◌, ◌^◌, min, nat_le, not, true≢false, List, [], ◌∷◌, ◌++◌, length, take, drop, OnErr, append-nil, length-take, length-drop, count_by, refl, ap, sym, ◌∙◌, subst, append_assoc, length-append, arith}
 use Rattle.std.specs.List.{list_all}
-use Rattle.std.proofs.lemmas.List.{take-append-drop, length-take-le}
+use Rattle.std.proofs.lemmas.List.{take_all, take-append-le, take-append-drop, length-take-le}
 use Rattle.std.proofs.lemmas.List.Sums.{sum_by-append, count_by-le-length}
 use Rattle.std.proofs.lemmas.List.Folds.{list_all-append}
-use Rattle.std.proofs.lemmas.Bool.{eqb-true, le-leb}
+use Rattle.std.proofs.lemmas.Bool.{eqb-true, le-leb, leb-true}
+use Rattle.std.proofs.lemmas.Bool.Decides.{nat_tests}
 use lib.Seq.{take-nil, drop-nil}
 use Rattle.cil_specs.specs.Place.{is_line_feed}
 use Rattle.cil_stream.specs.declared.source.SourceFault.{SourceFault}
@@ -162,3 +163,52 @@ ended-within was old new is before (inr greatest) after = inr (omega (arith, gre
 pub ended-now : (old new : Account) → HasEnded old new → IsTrue (has_ended new)
 ended-now old new (inl rose) = le-leb 1 new.ends (omega (arith, rose))
 ended-now old new (inr greatest) = le-leb 1 new.ends (omega (arith, greatest))
+
+no-bytes : (bytes : List ℕ) → length bytes ≡ 0 → bytes ≡ []
+no-bytes [] e = refl
+no-bytes (b ∷ bytes) e = absurd (omega (arith, e))
+
+-- the first bytes of a text, of which the others come behind them
+take-front : (len most : ℕ) (first others : List ℕ) → length first ≡ min len most → length others ≡ len - min len most → take most (first ++ others) ≡ first
+take-front len most first others size more = by (nat_le len most) refl
+  where
+    by : (b : Bool) → nat_le len most ≡ b → take most (first ++ others) ≡ first
+    by true e =
+        let short = leb-true len most e in
+        take_all most (first ++ others) (omega (arith, short, size, more, length-append first others)) ∙ ap (λ l. first ++ l) (no-bytes others (omega (arith, short, more))) ∙ append-nil first
+    by false e =
+        let all : length first ≡ most = grind (arith, e, size, nat_tests) in
+        take-append-le most first others (omega (arith, all)) ∙ take_all most first (omega (arith, all))
+
+-- the first bytes of a text came to a vector, and then the others were left aside
+pub front-then : (r : Result Bool SourceFault) (was mid now : Account) (old between new : Held) (len most : ℕ) (first before after : List ℕ) (ended : Bool) → HasRead was mid old between first → length first ≡ min len most → after ≡ before ++ first
+    → IfOk r (λ whole. (read : List ℕ) × (part : List ℕ) × HasRead mid now between new read × IsWholeText whole (len - min len most) part read ended new.bytes)
+    → IfOk r (λ whole. (read : List ℕ) × (part : List ℕ) × HasRead was now old new read × IsWholeText whole len part read ended new.bytes × (whole ≡ true → after ≡ before ++ take most part))
+front-then (Err _) was mid now old between new len most first before after ended a size is then = tt
+front-then (Ok true) was mid now old between new len most first before after ended a size is (read, part, b, whole) = (
+  first ++ read,
+  first ++ part,
+  reads-both was mid now old between new first read a b,
+  (ap (λ l. first ++ l) whole.0 ∙ sym (append_assoc first part (10 ∷ [])), omega (arith, size, whole.1, length-append first part)),
+  λ e. is ∙ ap (λ l. before ++ l) (sym (take-front len most first part size whole.1)),
+)
+front-then (Ok false) was mid now old between new len most first before after ended a size is (read, part, b, inl short) = (
+  first ++ read,
+  part,
+  reads-both was mid now old between new first read a b,
+  inl (omega (arith, size, short.0, length-append first read), short.1, short.2),
+  λ e. absurd (true≢false (sym e)),
+)
+front-then (Ok false) was mid now old between new len most first before after ended a size is (read, part, b, inr other) = (
+  first ++ read,
+  part,
+  reads-both was mid now old between new first read a b,
+  inr (first ++ other.0, other.1, ap (λ l. first ++ l) other.2 ∙ sym (append_assoc first other.0 (other.1 ∷ [])), omega (arith, size, other.3, length-append first other.0), other.4),
+  λ e. absurd (true≢false (sym e)),
+)
+
+-- the source failed behind the first bytes of a text
+pub stops-behind_front : {E : Type 0} (r : Result Bool E) (was mid is : Account) (old between new : Held) (len most : ℕ) (first : List ℕ) → HasRead was mid old between first → length first ≡ min len most
+    → OnErr r ((read : List ℕ) × HasStopped mid is between new read × (length read ≤ len - min len most)) → OnErr r ((read : List ℕ) × HasStopped was is old new read × (length read ≤ len))
+stops-behind_front (Ok _) was mid is old between new len most first a size b = tt
+stops-behind_front (Err _) was mid is old between new len most first a size (read, stops, within) = (first ++ read, stops-later was mid is old between new first read a stops, omega (arith, size, within, length-append first read))

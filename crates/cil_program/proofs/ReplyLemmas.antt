@@ -1,5 +1,5 @@
 -- The lines of reports, one after another.
-use Rattle.std.proofs.Common.{◌≡◌, ℕ, zero, suc, ◌+◌, ◌<◌, List, [], ◌∷◌, ◌++◌, length, map, flat_map, take, Option, Some, None, Result, Ok, Err, IsErr, ◌≤◌, sym, ap, ◌∙◌, subst, length-append, arith}
+use Rattle.std.proofs.Common.{◌≡◌, ℕ, zero, suc, ◌+◌, ◌<◌, List, [], ◌∷◌, ◌++◌, length, map, flat_map, codes, take, Option, Some, None, Result, Ok, Err, IsErr, ◌≤◌, sym, ap, ◌∙◌, subst, length-append, arith}
 use Rattle.std.specs.List.{slice_get}
 use Rattle.std.proofs.lemmas.List.{length-map}
 use Rattle.std.proofs.lemmas.List.Folds.{flat_map-map}
@@ -8,11 +8,11 @@ use Rattle.std.proofs.lemmas.Option.{slice_get_within, get_or_from_slice_get}
 use Rattle.cil_stream.specs.declared.sink.SinkFault.{SinkFault}
 use Rattle.cil_stream.specs.Device.{HasFailed, Gains, GainsFront}
 use Rattle.cil_store_specs.specs.Store.{Store}
-use Rattle.cil_store_specs.specs.Next.{Edit, install_of, disable}
-use Rattle.cil_store_specs.specs.Script.{makes, command_bytes, end_line, dump_edits, dump_text}
-use Rattle.cil_stream.proofs.Gaining.{gains-both, gains-then_front, gains-pieces_more, gains-pieces_front, failed-later}
+use Rattle.cil_store_specs.specs.Next.{install_of, disable}
+use Rattle.cil_store_specs.specs.Script.{makes, commits, command_bytes, end_line, dump_edits, dump_commands, dump_text}
+use Rattle.cil_stream.proofs.Gaining.{gains-both, gains-then_front, front-longer, gains-pieces_more, gains-pieces_front, failed-later}
 use Rattle.cil_program.specs.Reply.{Writes}
-use Rattle.cil_program.specs.Dump.{install_command, disable_command}
+use Rattle.cil_program.specs.Dump.{edit_command, install_command, disable_command}
 
 -- the line of the next one
 pub line-more : {X : Type 0} (f : X → List ℕ) (old mid new : Option (List ℕ)) (xs : List X) (i : ℕ) (x : X) → Some x ≡ slice_get xs i → Gains old mid (flat_map f (take i xs)) → Gains mid new (f x) → Gains old new (flat_map f (take (i + 1) xs))
@@ -67,13 +67,34 @@ pub writes-cut : {W : Type 0} (taken : W → Option (List ℕ)) (failures : W �
 writes-cut taken failures old mid new text (Ok _) is before failed counted front = absurd (cc)
 writes-cut taken failures old mid new text (Err _) is before failed counted front = record { ok = tt; err = front; failed = failed-later (failures old) (failures mid) (failures new) before failed; counted = omega (arith, before, counted) }
 
--- a dump is the installs of the entries, and then the disables of the disabled names
-pub dump-is : (store : Store) → flat_map install_command store.entries ++ flat_map disable_command store.disabled ≡ dump_text store
-dump-is store =
-    sym (flat_map-append bytes_of (map install_of store.entries) (map disable store.disabled) ∙ (λ i. flat_map-map bytes_of install_of store.entries i ++ flat_map-map bytes_of disable store.disabled i))
-  where
-    bytes_of : Edit → List ℕ
-    bytes_of edit = command_bytes (makes edit)
+-- two texts were written, one after another
+pub writes-both : {W : Type 0} (taken : W → Option (List ℕ)) (failures : W → ℕ) (old mid new : W) (first second : List ℕ) (done : Unit {0}) (result : Result (Unit {0}) SinkFault) → Writes taken failures old mid first (Ok done) → Writes taken failures mid new second result
+    → Writes taken failures old new (first ++ second) result
+writes-both taken failures old mid new first second done (Ok _) a b = record { ok = gains-both (taken old) (taken mid) (taken new) first second a.ok b.ok; err = tt; failed = tt; counted = omega (arith, a.counted, b.counted) }
+writes-both taken failures old mid new first second done (Err _) a b = record {
+  ok = tt;
+  err = gains-then_front (taken old) (taken mid) (taken new) first second a.ok b.err;
+  failed = failed-later (failures old) (failures mid) (failures new) a.counted b.failed;
+  counted = omega (arith, a.counted, b.counted);
+}
 
-pub dump-size : (store : Store) → length store.entries + length store.disabled ≡ length (dump_edits store)
-dump-size store = omega (arith, length-append (map install_of store.entries) (map disable store.disabled), length-map store.entries install_of, length-map store.disabled disable)
+-- or the sink failed in the first
+pub writes-first : {W : Type 0} (taken : W → Option (List ℕ)) (failures : W → ℕ) (old new : W) (first second : List ℕ) (fault : SinkFault) (result : Result (Unit {0}) SinkFault) → IsErr result → Writes taken failures old new first (Err fault)
+    → Writes taken failures old new (first ++ second) result
+writes-first taken failures old new first second fault (Ok _) is writes = absurd (cc)
+writes-first taken failures old new first second fault (Err _) is writes = record { ok = tt; err = front-longer (taken old) (taken new) first second writes.err; failed = writes.failed; counted = writes.counted }
+
+-- the edits of a dump are the installs of the entries, and then the disables of the disabled names
+pub edits-are : (store : Store) → flat_map install_command store.entries ++ flat_map disable_command store.disabled ≡ flat_map edit_command (dump_edits store)
+edits-are store =
+    sym (flat_map-append edit_command (map install_of store.entries) (map disable store.disabled) ∙ (λ i. flat_map-map edit_command install_of store.entries i ++ flat_map-map edit_command disable store.disabled i))
+
+-- a dump is these between a begin and a commit
+pub dump-is : (store : Store) → codes "begin\n" ++ (flat_map edit_command (dump_edits store) ++ codes "commit\n") ≡ dump_text store
+dump-is store =
+    ap (λ l. codes "begin\n" ++ l)
+    ((λ i. sym (flat_map-map command_bytes makes (dump_edits store)) i ++ codes "commit\n") ∙ sym (flat_map-append command_bytes (map makes (dump_edits store)) (commits ∷ [])))
+
+pub dump-size : (store : Store) (installs disables : ℕ) → installs ≡ length store.entries → disables ≡ length store.disabled → installs + disables + 2 ≡ length (dump_commands store)
+dump-size store installs disables a b =
+    omega (arith, a, b, length-append (map install_of store.entries) (map disable store.disabled), length-map store.entries install_of, length-map store.disabled disable, length-append (map makes (dump_edits store)) (commits ∷ []), length-map (dump_edits store) makes)

@@ -7,13 +7,14 @@ use Rattle.std.proofs.lemmas.List.{append_cancel_left, take-append-drop}
 use Rattle.std.specs.Option.{option_map}
 use Rattle.cil_stream.specs.Device.{Account, Gains, GainsFront, Gives, IsSound, IsLeft, has_ended}
 use Rattle.cil_store_specs.specs.Store.{Store}
-use Rattle.cil_store_specs.specs.Script.{Command, line_of, behind, command_bytes, IsCommand, MayLackItsEnd, Commands, End, ends, stops, whole, without_end, Answer, AnswersAll, last_line}
+use Rattle.cil_store_specs.specs.Answers.{Answer, state_of, Answers, lines_of, AnswersAll}
+use Rattle.cil_store_specs.specs.Script.{Command, line_of, behind, command_bytes, IsCommand, Commands, End, ends, stops, whole, without_end, last_line}
 use Rattle.cil_store_specs.specs.Session as spec
-use Rattle.cil_store_specs.specs.Session.{IsSession, all_accepted, some_refused, state_of, BeginsWith, whole_ones, all_of_it, all_whole, but_for_the_last, IsCutByWrite}
+use Rattle.cil_store_specs.specs.Session.{IsSession, last_end, all_accepted, some_refused, BeginsWith, whole_ones, all_of_it, all_whole, but_for_the_last, IsCutByWrite}
 use Rattle.cil_stream.proofs.Gaining.{gains-both, gains-none}
-use Rattle.cil_store_specs.proofs.RunLemmas.{answers-more}
+use Rattle.cil_store_specs.proofs.RunLemmas.{line_behind, answers-more}
 use Rattle.cil_program.specs.Input.{Fits}
-use Rattle.cil_program.specs.Session.{Moment, Standing, Leaves, LeavesByRead, LeavesByWrite, status_of, Advances, outcome_of, after_answer, HasAnswered, HasBegun, IsReadOf, IsTurn, IsTurnCut}
+use Rattle.cil_program.specs.Session.{Moment, Progress, Standing, Leaves, LeavesByRead, LeavesByWrite, status_of, Advances, outcome_of, after_answer, HasAnswered, HasBegun, IsReadOf, IsTurn, IsTurnCut}
 use Rattle.cil_program.specs.declared.script.session.SessionFault.TheVariants.{Read, Write}
 use Rattle.cil_program.specs.declared.script.session.Turn.TheVariants as turns
 use Rattle.cil_program.specs.declared.script.session.Status.{Status}
@@ -22,19 +23,20 @@ use Rattle.cil_program.proofs.InputLemmas.{ended-now}
 use Rattle.cil_program.proofs.SessionLemmas.{stands, advances-both}
 
 -- What a session did so far: it read whole commands, answered them, and wrote the answers.
-pub record SoFar (first now : Moment) (before after : Standing) (status : Status) : Type 0 where
+pub record SoFar (first now : Moment) (before after : Progress) (status : Status) : Type 0 where
   pub read : List ℕ
   pub reads : Advances first now read
   pub commands : List Command
   pub answers : List Answer
   pub good : AllByRecursion IsCommand commands
   pub is : read ≡ flat_map command_bytes commands
-  pub answered : AnswersAll before.store commands answers after.store
+  pub line_is : line_behind 1 commands ≡ 1 + now.held.line_feeds
+  pub answered : AnswersAll 1 before.state commands answers after.state
   pub written : Gains before.taken after.taken (flat_map (λ a. a.bytes) answers)
   pub status_is : status_of status ≡ spec.status_of answers ends
 
 -- before the first line
-pub at-start : (first : Moment) (before : Standing) → first.held.bytes ≡ [] → first.held.line_feeds ≡ 0 → SoFar first first before before statuses.Clean
+pub at-start : (first : Moment) (before : Progress) → first.held.bytes ≡ [] → first.held.line_feeds ≡ 0 → SoFar first first before before statuses.Clean
 at-start first before none feeds = record {
   read = [];
   reads = stands first (record { within = omega (arith, feeds, ap length none); small = λ some. absurd (some none) });
@@ -42,6 +44,7 @@ at-start first before none feeds = record {
   answers = [];
   good = tt;
   is = refl;
+  line_is = omega (arith, feeds);
   answered = refl;
   written = gains-none before.taken;
   status_is = refl;
@@ -79,11 +82,21 @@ refused-more answers answer refused status is so_far =
     by true = ap (λ b. if b then some_refused else all_accepted) (sym (with (list_any (λ a. a.refuses) answers)))
 
 -- with one more command
-answers-on : (old mid new : Standing) (commands : List Command) (answers : List Answer) (command : Command) (refused : Bool) → AnswersAll old.store commands answers mid.store → (answered : HasAnswered command (outcome_of refused) mid new) → AnswersAll old.store (commands ++ command ∷ []) (answers ++ answered.answer ∷ []) new.store
-answers-on old mid new commands answers command refused all answered = answers-more old.store mid.store new.store commands answers command answered.answer all answered.answers
+answers-on : (number : ℕ) (old mid new : Progress) (commands : List Command) (answers : List Answer) (command : Command) (refused : Bool) → line_behind 1 commands ≡ number → AnswersAll 1 old.state commands answers mid.state → (answered : HasAnswered number command (outcome_of refused) mid new)
+    → AnswersAll 1 old.state (commands ++ command ∷ []) (answers ++ answered.answer ∷ []) new.state
+answers-on number old mid new commands answers command refused line all answered =
+    answers-more 1 old.state mid.state new.state commands answers command answered.answer all (subst (λ n. Answers n mid.state command answered.answer new.state) (sym line) answered.answers)
 
-written-on : (old mid new : Standing) (answers : List Answer) (command : Command) (refused : Bool) → Gains old.taken mid.taken (flat_map (λ a. a.bytes) answers) → (answered : HasAnswered command (outcome_of refused) mid new) → Gains old.taken new.taken (flat_map (λ a. a.bytes) (answers ++ answered.answer ∷ []))
-written-on old mid new answers command refused written answered =
+-- the line behind one more command
+line-more : (line : ℕ) (commands : List Command) (command : Command) → line_behind line (commands ++ command ∷ []) ≡ line_behind line commands + lines_of command
+line-more line [] command = refl
+line-more line (c ∷ commands) command = line-more (line + lines_of c) commands command
+
+line-on : (old now : Moment) (read : List ℕ) (commands : List Command) (command : Command) → line_behind 1 commands ≡ 1 + old.held.line_feeds → Advances old now read → read ≡ command_bytes command → line_behind 1 (commands ++ command ∷ []) ≡ 1 + now.held.line_feeds
+line-on old now read commands command line reads is = omega (arith, line-more 1 commands command, line, reads.line_feeds, ap (count_by (λ b. b == 10)) is)
+
+written-on : (number : ℕ) (old mid new : Progress) (answers : List Answer) (command : Command) (refused : Bool) → Gains old.taken mid.taken (flat_map (λ a. a.bytes) answers) → (answered : HasAnswered number command (outcome_of refused) mid new) → Gains old.taken new.taken (flat_map (λ a. a.bytes) (answers ++ answered.answer ∷ []))
+written-on number old mid new answers command refused written answered =
     subst (Gains old.taken new.taken) (sym (map-more (λ a. a.bytes) answers answered.answer)) (gains-both old.taken mid.taken new.taken (flat_map (λ a. a.bytes) answers) answered.answer.bytes written answered.written)
 
 -- what is left of a text begins with what is given of it, and is that where it is given as a whole
@@ -118,7 +131,7 @@ bytes-more : (read more : List ℕ) (commands : List Command) (command : Command
 bytes-more read more commands command is more_is = (λ i. is i ++ more_is i) ∙ sym (map-more command_bytes commands command)
 
 -- a turn had a command that has its line feed
-pub turn-more : (first old now : Moment) (before between after : Standing) (status : Status) (refused : Bool) → SoFar first old before between status → IsTurn (turns.Answered refused false) old now between after → SoFar first now before after (after_answer refused status)
+pub turn-more : (first old now : Moment) (before between after : Progress) (status : Status) (refused : Bool) → SoFar first old before between status → IsTurn (turns.Answered refused false) old now between after → SoFar first now before after (after_answer refused status)
 turn-more first old now before between after status refused so_far (command, read, reads, is_read, answered) = record {
   read = so_far.read ++ read;
   reads = advances-both first old now so_far.read read so_far.reads reads;
@@ -126,24 +139,25 @@ turn-more first old now before between after status refused so_far (command, rea
   answers = so_far.answers ++ answered.answer ∷ [];
   good = all-more so_far.commands command so_far.good is_read.0;
   is = bytes-more so_far.read read so_far.commands command so_far.is is_read.1;
-  answered = answers-on before between after so_far.commands so_far.answers command refused so_far.answered answered;
-  written = written-on before between after so_far.answers command refused so_far.written answered;
+  line_is = line-on old now read so_far.commands command so_far.line_is reads is_read.1;
+  answered = answers-on (1 + old.held.line_feeds) before between after so_far.commands so_far.answers command refused so_far.line_is so_far.answered answered;
+  written = written-on (1 + old.held.line_feeds) before between after so_far.answers command refused so_far.written answered;
   status_is = refused-more so_far.answers answered.answer refused status answered.is so_far.status_is;
 }
 
 -- What a session did when all commands of its script are answered.
-pub record AllDone (first now : Moment) (before after : Standing) (status : Status) (end : End) : Type 0 where
+pub record AllDone (first now : Moment) (before after : Progress) (status : Status) (end : End) : Type 0 where
   pub bytes : List ℕ
   pub gives : Gives first.account now.account bytes
   pub commands : List Command
   pub answers : List Answer
   pub are_commands : (more : List ℕ) → (IsTrue (has_ended now.account) → more ≡ []) → Commands (bytes ++ more) commands end
-  pub answered : AnswersAll before.store commands answers after.store
+  pub answered : AnswersAll 1 before.state commands answers after.state
   pub written : Gains before.taken after.taken (flat_map (λ a. a.bytes) answers)
   pub status_is : status_of status ≡ spec.status_of answers end
 
 -- the script ended behind its last command
-pub done-at-end : (first old now : Moment) (before between after : Standing) (status : Status) → first.held.bytes ≡ [] → SoFar first old before between status → IsTurn turns.End old now between after → AllDone first now before after status ends
+pub done-at-end : (first old now : Moment) (before between after : Progress) (status : Status) → first.held.bytes ≡ [] → SoFar first old before between status → IsTurn turns.End old now between after → AllDone first now before after status ends
 done-at-end first old now before between after status none so_far (reads, ended, empty, same) =
     let all = advances-both first old now so_far.read [] so_far.reads reads in
     let read_is : so_far.read ++ [] ≡ flat_map command_bytes so_far.commands = append-nil so_far.read ∙ so_far.is in
@@ -167,7 +181,7 @@ without-feed first old now read before more commands command none all is good (i
     (last-bytes now all.takes.fresh (before ++ read) more (fresh-is first now (before ++ read) none all) (ended-now old.account now.account ended) empty no_more ∙ (λ i. is i ++ read_is i)) refl
 
 -- the script ended with a command that lacks its line feed
-pub done-without-end : (first old now : Moment) (before between after : Standing) (status : Status) (refused : Bool) → first.held.bytes ≡ [] → SoFar first old before between status → IsTurn (turns.Answered refused true) old now between after
+pub done-without-end : (first old now : Moment) (before between after : Progress) (status : Status) (refused : Bool) → first.held.bytes ≡ [] → SoFar first old before between status → IsTurn (turns.Answered refused true) old now between after
     → AllDone first now before after (after_answer refused status) ends
 done-without-end first old now before between after status refused none so_far (command, read, reads, is_read, answered) =
     let all = advances-both first old now so_far.read read so_far.reads reads in
@@ -177,8 +191,8 @@ done-without-end first old now before between after status refused none so_far (
       commands = so_far.commands ++ command ∷ [];
       answers = so_far.answers ++ answered.answer ∷ [];
       are_commands = λ more no_more. without-feed first old now read so_far.read more so_far.commands command none all so_far.is so_far.good is_read no_more;
-      answered = answers-on before between after so_far.commands so_far.answers command refused so_far.answered answered;
-      written = written-on before between after so_far.answers command refused so_far.written answered;
+      answered = answers-on (1 + old.held.line_feeds) before between after so_far.commands so_far.answers command refused so_far.line_is so_far.answered answered;
+      written = written-on (1 + old.held.line_feeds) before between after so_far.answers command refused so_far.written answered;
       status_is = refused-more so_far.answers answered.answer refused status answered.is so_far.status_is;
     }
 
@@ -192,7 +206,7 @@ given-is first now before read more commands none all is =
     regroup a b c d = simp append_assoc
 
 -- the script stops at a line that is no command
-pub done-at-line : (first old now : Moment) (before between after : Standing) (status : Status) → first.held.bytes ≡ [] → first.held.line_feeds ≡ 0 → SoFar first old before between status → IsTurn turns.NoCommand old now between after
+pub done-at-line : (first old now : Moment) (before between after : Progress) (status : Status) → first.held.bytes ≡ [] → first.held.line_feeds ≡ 0 → SoFar first old before between status → IsTurn turns.NoCommand old now between after
     → AllDone first now before after statuses.Script (stops (1 + old.held.line_feeds))
 done-at-line first old now before between after status none feeds so_far (read, reads, is_none, same) =
     let all = advances-both first old now so_far.read read so_far.reads reads in
@@ -216,7 +230,9 @@ session-whole given more rest ended old new written status no_more is session = 
   answers = session.answers;
   end = session.end;
   are_commands = λ after none. subst (λ script. Commands script session.commands session.end) (is ∙ sym (append-nil rest) ∙ ap (λ l. rest ++ l) (sym (none refl))) (session.are_commands more no_more);
+  last = session.last;
   answered = session.answered;
+  store_is = session.store_is;
   are_written = session.are_written;
   status_is = session.status_is;
 }
@@ -255,50 +271,59 @@ by-write first now before after given written gives gains sound cut = record {
       cut-whole given more.0 rest (has_ended now) before.store after.store written more.1 more.2 cut;
 }
 
+-- a session begins on the store of its engine, with no batch open
+abbrev pub begun : Standing → Progress
+begun start = record { state = state_of start.store; taken = start.taken }
+
 -- all was done, and then the last line was written
-pub leaves : (first now : Moment) (before between after : Standing) (status : Status) (end : End) → AllDone first now before between status end → after.store ≡ between.store → Gains between.taken after.taken (last_line end) → IsSound now.account
-    → Leaves first.account now.account before after status
-leaves first now before between after status end done same gains sound =
-    let text = flat_map (λ a. a.bytes) done.answers ++ last_line end in
-    let session : IsSession done.bytes (has_ended now.account) before.store after.store text (status_of status) =
+pub leaves : (first now : Moment) (start finish : Standing) (between : Progress) (status last : Status) (end : End) → (done : AllDone first now (begun start) between status end) → finish.store ≡ between.state.store
+    → Gains between.taken finish.taken (last_line (last_end end between.state.batch)) → status_of last ≡ spec.status_of done.answers (last_end end between.state.batch) → IsSound now.account → Leaves first.account now.account start finish last
+leaves first now start finish between status last end done same gains status_is sound =
+    let line = last_line (last_end end between.state.batch) in
+    let text = flat_map (λ a. a.bytes) done.answers ++ line in
+    let session : IsSession done.bytes (has_ended now.account) start.store finish.store text (status_of last) =
     record {
       commands = done.commands;
       answers = done.answers;
       end = end;
+      last = between.state;
       are_commands = done.are_commands;
-      answered = subst (AnswersAll before.store done.commands done.answers) (sym same) done.answered;
+      answered = done.answered;
+      store_is = same;
       are_written = refl;
-      status_is = done.status_is;
+      status_is = status_is;
     }
     in
     record {
       given = done.bytes;
       written = text;
       gives = done.gives;
-      gains = gains-both before.taken between.taken after.taken (flat_map (λ a. a.bytes) done.answers) (last_line end) done.written gains;
+      gains = gains-both start.taken between.taken finish.taken (flat_map (λ a. a.bytes) done.answers) line done.written gains;
       session = session;
       whole = λ rest left.
           let more = left-given first.account now.account done.bytes rest sound done.gives left in
-          session-whole done.bytes more.0 rest (has_ended now.account) before.store after.store text (status_of status) more.1 more.2 session;
+          session-whole done.bytes more.0 rest (has_ended now.account) start.store finish.store text (status_of last) more.1 more.2 session;
     }
 
 -- or a beginning of it
-pub cut-in_last_line : (first now : Moment) (before between after : Standing) (status : Status) (end : End) → AllDone first now before between status end → after.store ≡ between.store → GainsFront between.taken after.taken (last_line end) → IsSound now.account
-    → LeavesByWrite first.account now.account before after
-cut-in_last_line first now before between after status end done same (n, within, gains) sound =
-    let line = last_line end in
+pub cut-in_last_line : (first now : Moment) (start finish : Standing) (between : Progress) (status : Status) (end : End) → AllDone first now (begun start) between status end → finish.store ≡ between.state.store
+    → GainsFront between.taken finish.taken (last_line (last_end end between.state.batch)) → IsSound now.account → LeavesByWrite first.account now.account start finish
+cut-in_last_line first now start finish between status end done same (n, within, gains) sound =
+    let line = last_line (last_end end between.state.batch) in
     let bytes = flat_map (λ a. a.bytes) done.answers in
-    by-write first.account now.account before after done.bytes (bytes ++ take n line) done.gives (gains-both before.taken between.taken after.taken bytes (take n line) done.written gains) sound (inr (record {
-      status = status_of status;
+    by-write first.account now.account start finish done.bytes (bytes ++ take n line) done.gives (gains-both start.taken between.taken finish.taken bytes (take n line) done.written gains) sound (inr (record {
+      status = spec.status_of done.answers (last_end end between.state.batch);
       text = bytes ++ line;
       session = record {
         commands = done.commands;
         answers = done.answers;
         end = end;
+        last = between.state;
         are_commands = done.are_commands;
-        answered = subst (AnswersAll before.store done.commands done.answers) (sym same) done.answered;
+        answered = done.answered;
+        store_is = same;
         are_written = refl;
-        status_is = done.status_is;
+        status_is = refl;
       };
       front = take n line;
       rest = drop n line;
@@ -312,9 +337,9 @@ cut-behind given ended old new written status session = inr (record {
   status = status;
   text = written;
   session = session;
-  front = last_line session.end;
+  front = last_line (last_end session.end session.last.batch);
   rest = [];
-  line_is = sym (append-nil (last_line session.end));
+  line_is = sym (append-nil (last_line (last_end session.end session.last.batch)));
   are_written = session.are_written;
 })
 
@@ -329,11 +354,12 @@ cut-at-last first now before after status left = record {
 }
 
 -- the source failed in a turn
-pub cut-at-read : (first old now : Moment) (before between after : Standing) (status : Status) → first.held.bytes ≡ [] → SoFar first old before between status → IsTurnCut Read old now between after → IsSound now.account → LeavesByRead first.account now.account before after
-cut-at-read first old now before between after status none so_far (read, stopped, no_more, same) sound =
+pub cut-at-read : (first old now : Moment) (start finish : Standing) (between after : Progress) (status : Status) → first.held.bytes ≡ [] → SoFar first old (begun start) between status → finish ≡ record { store = after.state.store; taken = after.taken } → IsTurnCut Read old now between after → IsSound now.account
+    → LeavesByRead first.account now.account start finish
+cut-at-read first old now start finish between after status none so_far at_end (read, stopped, no_more, same) sound =
     let all = advances-both first old now so_far.read read so_far.reads stopped.reads in
     let given : all.takes.fresh ≡ flat_map command_bytes so_far.commands ++ read = fresh-is first now (so_far.read ++ read) none all ∙ (λ i. (so_far.is i ++ read) ++ stopped.none i) ∙ append-nil (flat_map command_bytes so_far.commands ++ read) in
-    subst (LeavesByRead first.account now.account before) (sym same) (record {
+    subst (LeavesByRead first.account now.account start) (sym (at_end ∙ ap (λ p. record { store = p.state.store; taken = p.taken }) same)) (record {
       given = all.takes.fresh;
       written = flat_map (λ a. a.bytes) so_far.answers;
       gives = all.takes.gives;
@@ -342,7 +368,7 @@ cut-at-read first old now before between after status none so_far (read, stopped
         commands = so_far.commands;
         answers = so_far.answers;
         rest = read;
-        last = state_of between.store;
+        last = between.state;
         are_commands = so_far.good;
         no_more = no_more;
         are_given = given;
@@ -356,15 +382,16 @@ cut-at-read first old now before between after status none so_far (read, stopped
     })
 
 -- the sink failed in a turn, before anything was done
-cut-before-answer : (first old now : Moment) (before between after : Standing) (status : Status) (read : List ℕ) → first.held.bytes ≡ [] → SoFar first old before between status → Advances old now read → after ≡ between → IsSound now.account → LeavesByWrite first.account now.account before after
-cut-before-answer first old now before between after status read none so_far reads same sound =
+cut-before-answer : (first old now : Moment) (start finish : Standing) (between : Progress) (status : Status) (read : List ℕ) → first.held.bytes ≡ [] → SoFar first old (begun start) between status → Advances old now read
+    → finish ≡ record { store = between.state.store; taken = between.taken } → IsSound now.account → LeavesByWrite first.account now.account start finish
+cut-before-answer first old now start finish between status read none so_far reads same sound =
     let all = advances-both first old now so_far.read read so_far.reads reads in
     let bytes = flat_map (λ a. a.bytes) so_far.answers in
-    subst (LeavesByWrite first.account now.account before) (sym same)
-    (by-write first.account now.account before between all.takes.fresh bytes all.takes.gives so_far.written sound (inl (record {
+    subst (LeavesByWrite first.account now.account start) (sym same)
+    (by-write first.account now.account start (record { store = between.state.store; taken = between.taken }) all.takes.fresh bytes all.takes.gives so_far.written sound (inl (record {
       commands = so_far.commands;
       answers = so_far.answers;
-      last = state_of between.store;
+      last = between.state;
       are_first = λ more no_more. whole_ones so_far.good (read ++ (now.held.bytes ++ more)) (given-is first now so_far.read read more so_far.commands none all so_far.is);
       answered = so_far.answered;
       store_is = refl;
@@ -372,22 +399,24 @@ cut-before-answer first old now before between after status read none so_far rea
     })))
 
 -- or in an answer
-cut-in_answer : (first old now : Moment) (before between after : Standing) (status : Status) (last : Bool) (command : Command) (read : List ℕ) → first.held.bytes ≡ [] → SoFar first old before between status → Advances old now read
-    → IsReadOf last command read old now → HasBegun command between after → IsSound now.account → LeavesByWrite first.account now.account before after
-cut-in_answer first old now before between after status last command read none so_far reads is_read begun sound =
+cut-in_answer : (first old now : Moment) (start finish : Standing) (between after : Progress) (status : Status) (last : Bool) (command : Command) (read : List ℕ) → first.held.bytes ≡ [] → SoFar first old (begun start) between status → Advances old now read
+    → finish ≡ record { store = after.state.store; taken = after.taken } → IsReadOf last command read old now → HasBegun (1 + old.held.line_feeds) command between after → IsSound now.account → LeavesByWrite first.account now.account start finish
+cut-in_answer first old now start finish between after status last command read none so_far reads at_end is_read answering sound =
     let all = advances-both first old now so_far.read read so_far.reads reads in
     let bytes = flat_map (λ a. a.bytes) so_far.answers in
-    let n = begun.written.0 in
-    let front = take n begun.answer.bytes in
-    by-write first.account now.account before after all.takes.fresh (bytes ++ front) all.takes.gives (gains-both before.taken between.taken after.taken bytes front so_far.written begun.written.2) sound (inl (record {
+    let n = answering.written.0 in
+    let front = take n answering.answer.bytes in
+    subst (LeavesByWrite first.account now.account start) (sym at_end)
+    (by-write first.account now.account start (record { store = after.state.store; taken = after.taken }) all.takes.fresh (bytes ++ front) all.takes.gives (gains-both start.taken between.taken after.taken bytes front so_far.written answering.written.2) sound (inl (record {
       commands = so_far.commands ++ command ∷ [];
-      answers = so_far.answers ++ begun.answer ∷ [];
-      last = state_of after.store;
+      answers = so_far.answers ++ answering.answer ∷ [];
+      last = after.state;
       are_first = λ more no_more. begins last is_read more no_more all;
-      answered = answers-more before.store between.store after.store so_far.commands so_far.answers command begun.answer so_far.answered begun.answers;
+      answered = answers-more 1 (state_of start.store) between.state after.state so_far.commands so_far.answers command answering.answer so_far.answered
+          (subst (λ n. Answers n between.state command answering.answer after.state) (sym so_far.line_is) answering.answers);
       store_is = refl;
-      are_written = but_for_the_last so_far.answers begun.answer front (drop n begun.answer.bytes) refl (sym (take-append-drop n begun.answer.bytes)) refl;
-    }))
+      are_written = but_for_the_last so_far.answers answering.answer front (drop n answering.answer.bytes) refl (sym (take-append-drop n answering.answer.bytes)) refl;
+    })))
   where
     begins : (l : Bool) → IsReadOf l command read old now → (more : List ℕ) → (IsTrue (has_ended now.account) → more ≡ []) → (all : Advances first now (so_far.read ++ read)) → BeginsWith (all.takes.fresh ++ more) (so_far.commands ++ command ∷ [])
     begins false is more no_more all = whole_ones (all-more so_far.commands command so_far.good is.0) (now.held.bytes ++ more)
@@ -395,12 +424,15 @@ cut-in_answer first old now before between after status last command read none s
         ∙ ap (λ l. l ++ (now.held.bytes ++ more)) (sym (ap (λ l. l ++ read) so_far.is) ∙ bytes-more so_far.read read so_far.commands command so_far.is is.1))
     begins true is more no_more all = all_of_it (without-feed first old now read so_far.read more so_far.commands command none all so_far.is so_far.good is no_more)
 
-pub cut-at-write : (first old now : Moment) (before between after : Standing) (status : Status) → first.held.bytes ≡ [] → SoFar first old before between status → IsTurnCut Write old now between after → IsSound now.account → LeavesByWrite first.account now.account before after
-cut-at-write first old now before between after status none so_far (inl (read, reads, same)) sound = cut-before-answer first old now before between after status read none so_far reads same sound
-cut-at-write first old now before between after status none so_far (inr (last, command, read, reads, is_read, begun)) sound = cut-in_answer first old now before between after status last command read none so_far reads is_read begun sound
+pub cut-at-write : (first old now : Moment) (start finish : Standing) (between after : Progress) (status : Status) → first.held.bytes ≡ [] → SoFar first old (begun start) between status → finish ≡ record { store = after.state.store; taken = after.taken }
+    → IsTurnCut Write old now between after → IsSound now.account → LeavesByWrite first.account now.account start finish
+cut-at-write first old now start finish between after status none so_far at_end (inl (read, reads, same)) sound =
+    cut-before-answer first old now start finish between status read none so_far reads (at_end ∙ ap (λ p. record { store = p.state.store; taken = p.taken }) same) sound
+cut-at-write first old now start finish between after status none so_far at_end (inr (last, command, read, reads, is_read, answering)) sound =
+    cut-in_answer first old now start finish between after status last command read none so_far reads at_end is_read answering sound
 
 -- with each command fewer bytes are left of those that a source can count
-pub fewer-left : (old now : Moment) (refused : Bool) (before after : Standing) → Fits old.account.count old.held → IsTurn (turns.Answered refused false) old now before after
+pub fewer-left : (old now : Moment) (refused : Bool) (before after : Progress) → Fits old.account.count old.held → IsTurn (turns.Answered refused false) old now before after
     → 2 ^ 64 - (now.account.count - length now.held.bytes) < 2 ^ 64 - (old.account.count - length old.held.bytes)
 fewer-left old now refused before after fits (command, read, reads, is_read, answered) =
     let some : 0 < length read = omega (arith, ap length is_read.1, length-append (line_of command) (10 ∷ behind command)) in

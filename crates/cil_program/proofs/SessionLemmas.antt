@@ -1,17 +1,18 @@
 -- A line of a script, and a turn of a session.
-use Rattle.std.proofs.Common.{◌≡◌, ◌≢◌, ℕ, ◌≤◌, Bool, true, false, List, [], ◌∷◌, ◌++◌, length, IsTrue, IfErr, IsErr, IsErrAnd, Option, Result, Ok, Err, inl, inr, refl, ap, sym, ◌∙◌, subst, append_assoc, append-nil, length-append, true≢false, arith}
+use Rattle.std.proofs.Common.{◌≡◌, ◌≢◌, ℕ, ◌+◌, ◌≤◌, Bool, true, false, List, [], ◌∷◌, ◌++◌, length, IsTrue, IfErr, IsErr, IsErrAnd, Option, Result, Ok, Err, inl, inr, refl, ap, sym, ◌∙◌, subst, append_assoc, append-nil, length-append, true≢false, arith}
 use Rattle.std.specs.List.{list_all}
 use Rattle.std.proofs.lemmas.List.Folds.{list_all-append}
 use Rattle.cil_stream.specs.declared.sink.SinkFault.{SinkFault}
 use Rattle.cil_stream.specs.Device.{HasEnded, has_ended}
-use Rattle.cil_store_specs.specs.Store.{Store}
-use Rattle.cil_store_specs.specs.Script.{Command, Answer, Answers, line_of, behind, command_bytes, HasGoodWords, IsCommand, MayLackItsEnd, IsNoCommand}
+use Rattle.cil_store_specs.specs.Next.{install, remove, enable, disable}
+use Rattle.cil_store_specs.specs.Answers.{Answer, Answers}
+use Rattle.cil_store_specs.specs.Script.{Command, makes, begins, commits, aborts, asks_rules, asks_violations, asks_dropped, asks_modules, asks_dump, line_of, behind, HasGoodWords, IsCommand, MayLackItsEnd, IsNoCommand}
 use Rattle.cil_store_specs.specs.Session.{BeginsNoCommand}
 use Rattle.cil_store_specs.proofs.LineLemmas.{has-feed, command-line, no-line-command, no-last-command, no-long-command}
 use Rattle.cil_specs.proofs.Runs.{both_true}
 use Rattle.cil_program.specs.Input.{Fits, EndsLine, stays}
 use Rattle.cil_program.specs.Reply.{Writes}
-use Rattle.cil_program.specs.Session.{Moment, Standing, Advances, Stops, outcome_of, HasAnswered, HasBegun, Tries, IsWhole, IsBad, IsOutcome, IsLineCut, IsReadOf, IsTurn, IsTurnCut}
+use Rattle.cil_program.specs.Session.{Moment, Progress, Advances, Stops, outcome_of, HasAnswered, HasBegun, Tries, HasTold, HasToldSome, Does, AreGoodWords, install_line, IsInstallOutcome, IsInstallCut, IsWhole, IsBad, IsOutcome, IsLineCut, IsReadOf, IsTurn, IsTurnCut}
 use Rattle.cil_program.specs.declared.script.input.LineEnd.{LineEnd}
 use Rattle.cil_program.specs.declared.script.input.LineEnd.TheVariants.{LineFeed, LastByte, TooLong}
 use Rattle.cil_program.specs.declared.script.session.Outcome.{Outcome}
@@ -43,28 +44,29 @@ whole-line command LastByte line now good may alone short last is = (good, may, 
 whole-line command TooLong line now good may alone short last is = absurd (short refl)
 
 -- was answered
-pub line-outcome : (command : Command) (outcome : Outcome) (end : LineEnd) (line : List ℕ) (now : Moment) (before after : Standing) → Fits now.account.count now.held → IsWhole end line [] now command → HasAnswered command outcome before after
-    → IsOutcome outcome end line now now before after
-line-outcome command NoCommand end line now before after fits whole answered = absurd (some-outcome answered.answer.refuses answered.is)
-line-outcome command Accepted end line now before after fits whole answered = (command, [], stands now fits, whole, answered)
-line-outcome command Refused end line now before after fits whole answered = (command, [], stands now fits, whole, answered)
+pub line-outcome : (command : Command) (outcome : Outcome) (number : ℕ) (end : LineEnd) (line : List ℕ) (now : Moment) (before after : Progress) → Fits now.account.count now.held → IsWhole end line [] now command → HasAnswered number command outcome before after
+    → IsOutcome outcome number end line now now before after
+line-outcome command NoCommand number end line now before after fits whole answered = absurd (some-outcome answered.answer.refuses answered.is)
+line-outcome command Accepted number end line now before after fits whole answered = (command, [], stands now fits, whole, answered)
+line-outcome command Refused number end line now before after fits whole answered = (command, [], stands now fits, whole, answered)
 
 -- or the sink failed in its answer
-pub line-cut : (command : Command) (end : LineEnd) (line : List ℕ) (now : Moment) (before after : Standing) → Fits now.account.count now.held → IsWhole end line [] now command → HasBegun command before after → IsLineCut Write end line now now before after
-line-cut command end line now before after fits whole begun = inr (command, [], stands now fits, whole, begun)
+pub line-cut : (command : Command) (number : ℕ) (end : LineEnd) (line : List ℕ) (now : Moment) (before after : Progress) → Fits now.account.count now.held → IsWhole end line [] now command → HasBegun number command before after
+    → IsLineCut Write number end line now now before after
+line-cut command number end line now before after fits whole begun = inr (command, [], stands now fits, whole, begun)
 
 -- what is left of an outcome where there was a command
-pub record HasCommand (outcome : Outcome) (end : LineEnd) (line : List ℕ) (old new : Moment) (before after : Standing) : Type 0 where
+pub record HasCommand (outcome : Outcome) (number : ℕ) (end : LineEnd) (line : List ℕ) (old new : Moment) (before after : Progress) : Type 0 where
   pub command : Command
   pub read : List ℕ
   pub reads : Advances old new read
   pub is_whole : IsWhole end line read new command
-  pub answered : HasAnswered command outcome before after
+  pub answered : HasAnswered number command outcome before after
 
-pub some-command : (outcome : Outcome) (end : LineEnd) (line : List ℕ) (old new : Moment) (before after : Standing) → outcome ≢ NoCommand → IsOutcome outcome end line old new before after → HasCommand outcome end line old new before after
-some-command Accepted end line old new before after some is = record { command = is.0; read = is.1; reads = is.2; is_whole = is.3; answered = is.4 }
-some-command Refused end line old new before after some is = record { command = is.0; read = is.1; reads = is.2; is_whole = is.3; answered = is.4 }
-some-command NoCommand end line old new before after some is = absurd (some refl)
+pub some-command : (outcome : Outcome) (number : ℕ) (end : LineEnd) (line : List ℕ) (old new : Moment) (before after : Progress) → outcome ≢ NoCommand → IsOutcome outcome number end line old new before after → HasCommand outcome number end line old new before after
+some-command Accepted number end line old new before after some is = record { command = is.0; read = is.1; reads = is.2; is_whole = is.3; answered = is.4 }
+some-command Refused number end line old new before after some is = record { command = is.0; read = is.1; reads = is.2; is_whole = is.3; answered = is.4 }
+some-command NoCommand number end line old new before after some is = absurd (some refl)
 
 pub advances-both : (old mid new : Moment) (first second : List ℕ) → Advances old mid first → Advances mid new second → Advances old new (first ++ second)
 advances-both old mid new first second a b = reads-both old.account mid.account new.account old.held mid.held new.held first second a b
@@ -75,10 +77,10 @@ good-words LastByte line read now command is short = (is.0, omega (arith, short,
 good-words TooLong line read now command is short = absurd is
 
 -- no end is forgotten at a line
-pub outcome-ends : (outcome : Outcome) (end : LineEnd) (line : List ℕ) (old now : Moment) (before after : Standing) → IsOutcome outcome end line old now before after → old.account.ends ≤ now.account.ends
-outcome-ends NoCommand end line old now before after is = is.1.takes.gives.ends
-outcome-ends Accepted end line old now before after is = is.2.takes.gives.ends
-outcome-ends Refused end line old now before after is = is.2.takes.gives.ends
+pub outcome-ends : (outcome : Outcome) (number : ℕ) (end : LineEnd) (line : List ℕ) (old now : Moment) (before after : Progress) → IsOutcome outcome number end line old now before after → old.account.ends ≤ now.account.ends
+outcome-ends NoCommand number end line old now before after is = is.1.takes.gives.ends
+outcome-ends Accepted number end line old now before after is = is.2.takes.gives.ends
+outcome-ends Refused number end line old now before after is = is.2.takes.gives.ends
 
 -- the bytes of a line are some
 some-bytes : (end : LineEnd) (line bytes more : List ℕ) (ended : Bool) (held : List ℕ) → (end ≡ LastByte → line ≢ []) → EndsLine end line bytes ended held → bytes ++ more ≢ []
@@ -121,16 +123,93 @@ read-of true LastByte line bytes read old mid now command is_last is_end ends_li
 )
 read-of last TooLong line bytes read old mid now command is_last is_end ends_line short ended is = absurd is
 
--- a command was answered
-pub tries-ok : {W : Type 0} (taken : W → Option (List ℕ)) (failures : W → ℕ) (old new : W) (before after : Store) (command : Command) (answer : Answer) (done : Unit {0}) → Answers before command answer after → Writes taken failures old new answer.bytes (Ok done)
-    → Tries taken failures old new before after command (Ok (outcome_of answer.refuses))
-tries-ok taken failures old new before after command answer done answers writes = record { ok = record { answer = answer; answers = answers; written = writes.ok; is = refl }; err = tt; failed = tt; counted = writes.counted }
+-- an answer of a kind was written
+pub tries-ok : {W : Type 0} (taken : W → Option (List ℕ)) (failures : W → ℕ) (old new : W) (IsOf : Answer → Type 0) (answer : Answer) (done : Unit {0}) → IsOf answer → Writes taken failures old new answer.bytes (Ok done)
+    → Tries taken failures old new IsOf (Ok (outcome_of answer.refuses))
+tries-ok taken failures old new IsOf answer done is writes = record { ok = record { answer = answer; is_of = is; written = writes.ok; is = refl }; err = tt; failed = tt; counted = writes.counted }
+
+-- or the sink failed in it
+pub tries-err : {W : Type 0} (taken : W → Option (List ℕ)) (failures : W → ℕ) (old new : W) (IsOf : Answer → Type 0) (answer : Answer) (fault : SinkFault) (result : Result Outcome SinkFault) → IsErr result → IsOf answer
+    → Writes taken failures old new answer.bytes (Err fault) → Tries taken failures old new IsOf result
+tries-err taken failures old new IsOf answer fault (Ok _) is of writes = absurd (cc)
+tries-err taken failures old new IsOf answer fault (Err _) is of writes = record { ok = tt; err = record { answer = answer; is_of = of; written = writes.err }; failed = writes.failed; counted = writes.counted }
+
+-- an answer of one kind is of another
+pub tries-weaker : {W : Type 0} (taken : W → Option (List ℕ)) (failures : W → ℕ) (old new : W) (IsOf Others : Answer → Type 0) (result : Result Outcome SinkFault) → ((answer : Answer) → IsOf answer → Others answer) → Tries taken failures old new IsOf result
+    → Tries taken failures old new Others result
+tries-weaker taken failures old new IsOf Others (Ok outcome) weaker tries = record {
+  ok = record { answer = tries.ok.answer; is_of = weaker tries.ok.answer tries.ok.is_of; written = tries.ok.written; is = tries.ok.is };
+  err = tt;
+  failed = tt;
+  counted = tries.counted;
+}
+tries-weaker taken failures old new IsOf Others (Err fault) weaker tries = record {
+  ok = tt;
+  err = record { answer = tries.err.answer; is_of = weaker tries.err.answer tries.err.is_of; written = tries.err.written };
+  failed = tries.failed;
+  counted = tries.counted;
+}
+
+pub told-weaker : (IsOf Others : Answer → Type 0) (outcome : Outcome) (old new : Option (List ℕ)) → ((answer : Answer) → IsOf answer → Others answer) → HasTold IsOf outcome old new → HasTold Others outcome old new
+told-weaker IsOf Others outcome old new weaker told = record { answer = told.answer; is_of = weaker told.answer told.is_of; written = told.written; is = told.is }
+
+pub told-some_weaker : (IsOf Others : Answer → Type 0) (old new : Option (List ℕ)) → ((answer : Answer) → IsOf answer → Others answer) → HasToldSome IsOf old new → HasToldSome Others old new
+told-some_weaker IsOf Others old new weaker told = record { answer = told.answer; is_of = weaker told.answer told.is_of; written = told.written }
+
+-- what was told answers a command, on its line
+pub told-answered : (number : ℕ) (command : Command) (outcome : Outcome) (before after : Progress) → HasTold (λ answer. Answers number before.state command answer after.state) outcome before.taken after.taken → HasAnswered number command outcome before after
+told-answered number command outcome before after told = record { answer = told.answer; answers = told.is_of; written = told.written; is = told.is }
+
+pub told-begun : (number : ℕ) (command : Command) (before after : Progress) → HasToldSome (λ answer. Answers number before.state command answer after.state) before.taken after.taken → HasBegun number command before after
+told-begun number command before after told = record { answer = told.answer; answers = told.is_of; written = told.written }
+
+-- the text of an install was read, and the install answered
+pub install-outcome : (outcome : Outcome) (name : List ℕ) (priority size : ℕ) (text : List ℕ) (old new : Moment) (before after : Progress) → Advances old new (text ++ 10 ∷ []) → length text ≡ size
+    → HasTold (Does before.state (makes (install name priority text)) after.state) outcome before.taken after.taken → IsInstallOutcome outcome name priority size old new before after
+install-outcome NoCommand name priority size text old new before after reads is told = absurd (some-outcome told.answer.refuses told.is)
+install-outcome Accepted name priority size text old new before after reads is told = (text, reads, is, λ number. record { answer = told.answer; answers = told.is_of number; written = told.written; is = told.is })
+install-outcome Refused name priority size text old new before after reads is told = (text, reads, is, λ number. record { answer = told.answer; answers = told.is_of number; written = told.written; is = told.is })
 
 -- or the sink failed in its answer
-pub tries-err : {W : Type 0} (taken : W → Option (List ℕ)) (failures : W → ℕ) (old new : W) (before after : Store) (command : Command) (answer : Answer) (fault : SinkFault) (result : Result Outcome SinkFault) → IsErr result → Answers before command answer after
-    → Writes taken failures old new answer.bytes (Err fault) → Tries taken failures old new before after command result
-tries-err taken failures old new before after command answer fault (Ok _) is answers writes = absurd (cc)
-tries-err taken failures old new before after command answer fault (Err _) is answers writes = record { ok = tt; err = record { answer = answer; answers = answers; written = writes.err }; failed = writes.failed; counted = writes.counted }
+pub install-begun : (name : List ℕ) (priority size : ℕ) (text : List ℕ) (old new : Moment) (before after : Progress) → Advances old new (text ++ 10 ∷ []) → length text ≡ size
+    → HasToldSome (Does before.state (makes (install name priority text)) after.state) before.taken after.taken → IsInstallCut Write name priority size old new before after
+install-begun name priority size text old new before after reads is told = (text, reads, is, λ number. record { answer = told.answer; answers = told.is_of number; written = told.written })
+
+-- a line that is neither too long nor the last ended with its line feed
+pub feed-ends : (end : LineEnd) → end ≢ TooLong → end ≢ LastByte → end ≡ LineFeed
+feed-ends LineFeed short more = refl
+feed-ends LastByte short more = absurd (more refl)
+feed-ends TooLong short more = absurd (short refl)
+
+-- what came of the text of an install came of its line
+whole-install : (name : List ℕ) (priority size : ℕ) (line text : List ℕ) (now : Moment) → AreGoodWords name priority size → line ≡ install_line name priority size → length text ≡ size → IsWhole LineFeed line (text ++ 10 ∷ []) now (makes (install name priority text))
+whole-install name priority size line text now good is same = ((good.good_name, good.short_priority, omega (arith, same, good.short_size)), is ∙ ap (install_line name priority) (sym same), refl)
+
+pub install-line : (outcome : Outcome) (number : ℕ) (name : List ℕ) (priority size : ℕ) (line : List ℕ) (old new : Moment) (before after : Progress) → AreGoodWords name priority size → line ≡ install_line name priority size → IsInstallOutcome outcome name priority size old new before after
+    → IsOutcome outcome number LineFeed line old new before after
+install-line NoCommand number name priority size line old new before after good is (read, reads, short, same) = (read, reads, inr (name, priority, size, good, is, short), same)
+install-line Accepted number name priority size line old new before after good is (text, reads, same, answered) = (makes (install name priority text), text ++ 10 ∷ [], reads, whole-install name priority size line text new good is same, answered number)
+install-line Refused number name priority size line old new before after good is (text, reads, same, answered) = (makes (install name priority text), text ++ 10 ∷ [], reads, whole-install name priority size line text new good is same, answered number)
+
+pub install-line_cut : (fault : SessionFault) (number : ℕ) (name : List ℕ) (priority size : ℕ) (line : List ℕ) (old new : Moment) (before after : Progress) → AreGoodWords name priority size → line ≡ install_line name priority size → IsInstallCut fault name priority size old new before after
+    → IsLineCut fault number LineFeed line old new before after
+install-line_cut Read number name priority size line old new before after good is (read, stops, within, same) = (refl, name, priority, size, good, is, read, stops, within, same)
+install-line_cut Write number name priority size line old new before after good is (text, reads, same, begun) = inr (makes (install name priority text), text ++ 10 ∷ [], reads, whole-install name priority size line text new good is same, begun number)
+
+-- a command that may lack its line feed has nothing behind its line
+pub none-behind : (command : Command) → MayLackItsEnd command → behind command ≡ []
+none-behind (makes (install name priority text)) may = absurd may
+none-behind (makes (remove name priority)) may = refl
+none-behind (makes (enable name)) may = refl
+none-behind (makes (disable name)) may = refl
+none-behind begins may = refl
+none-behind commits may = refl
+none-behind aborts may = refl
+none-behind asks_rules may = refl
+none-behind asks_violations may = refl
+none-behind asks_dropped may = refl
+none-behind asks_modules may = refl
+none-behind asks_dump may = refl
 
 -- a fault that became that of a session
 pub by-fault : {T : Type 0} (r : Result T SessionFault) (fault : SessionFault) (P : SessionFault → Type 0) → IsErrAnd r (λ e. e ≡ fault) → P fault → IfErr r P
@@ -143,22 +222,22 @@ fault-is (Ok x) fault this is e = absurd (cc)
 fault-is (Err x) fault this is e = cc
 
 -- a line was a command, and answered
-pub turn-answered : (outcome : Outcome) (refused last : Bool) (end : LineEnd) (line bytes : List ℕ) (old mid now : Moment) (before after : Standing) → outcome ≡ outcome_of refused → (last ≡ true → end ≡ LastByte) → (end ≡ LastByte → last ≡ true)
-    → Advances old mid bytes → EndsLine end line bytes (has_ended mid.account) mid.held.bytes → length line ≤ 4096 → (end ≡ LastByte → HasEnded old.account mid.account) → IsOutcome outcome end line mid now before after
+pub turn-answered : (outcome : Outcome) (refused last : Bool) (number : ℕ) (end : LineEnd) (line bytes : List ℕ) (old mid now : Moment) (before after : Progress) → outcome ≡ outcome_of refused → number ≡ 1 + old.held.line_feeds → (last ≡ true → end ≡ LastByte) → (end ≡ LastByte → last ≡ true)
+    → Advances old mid bytes → EndsLine end line bytes (has_ended mid.account) mid.held.bytes → length line ≤ 4096 → (end ≡ LastByte → HasEnded old.account mid.account) → IsOutcome outcome number end line mid now before after
     → IsTurn (turns.Answered refused last) old now before after
-turn-answered outcome refused last end line bytes old mid now before after is is_last is_end reads ends_line short ended came =
-    let had = some-command outcome end line mid now before after (λ e. some-outcome refused (sym e ∙ is)) came in (
+turn-answered outcome refused last number end line bytes old mid now before after is at is_last is_end reads ends_line short ended came =
+    let had = some-command outcome number end line mid now before after (λ e. some-outcome refused (sym e ∙ is)) came in (
       had.command,
       bytes ++ had.read,
       advances-both old mid now bytes had.read reads had.reads,
       read-of last end line bytes had.read old mid now had.command is_last is_end ends_line short (λ e. ended-within old.account old.account mid.account now.account (omega arith) (ended e) had.reads.takes.gives.ends) had.is_whole,
-      subst (λ o. HasAnswered had.command o before after) is had.answered,
+      subst (λ o. HasAnswered (1 + old.held.line_feeds) had.command o before after) is (subst (λ n. HasAnswered n had.command outcome before after) at had.answered),
     )
 
 -- there was no command
-pub turn-none : (end : LineEnd) (line bytes : List ℕ) (old mid now : Moment) (before after : Standing) → Advances old mid bytes → EndsLine end line bytes (has_ended mid.account) mid.held.bytes → list_all stays line ≡ true → (end ≡ LastByte → line ≢ [])
-    → IsOutcome NoCommand end line mid now before after → IsTurn turns.NoCommand old now before after
-turn-none end line bytes old mid now before after reads ends_line stay some (read, more_reads, bad, same) = (
+pub turn-none : (number : ℕ) (end : LineEnd) (line bytes : List ℕ) (old mid now : Moment) (before after : Progress) → Advances old mid bytes → EndsLine end line bytes (has_ended mid.account) mid.held.bytes → list_all stays line ≡ true → (end ≡ LastByte → line ≢ [])
+    → IsOutcome NoCommand number end line mid now before after → IsTurn turns.NoCommand old now before after
+turn-none number end line bytes old mid now before after reads ends_line stay some (read, more_reads, bad, same) = (
   bytes ++ read,
   advances-both old mid now bytes read reads more_reads,
   λ more no_more. (
@@ -169,11 +248,11 @@ turn-none end line bytes old mid now before after reads ends_line stay some (rea
 )
 
 -- the script ended
-pub turn-end : (line bytes : List ℕ) (old now : Moment) (before after : Standing) → Advances old now bytes → EndsLine LastByte line bytes (has_ended now.account) now.held.bytes → line ≡ [] → HasEnded old.account now.account → after ≡ before → IsTurn turns.End old now before after
+pub turn-end : (line bytes : List ℕ) (old now : Moment) (before after : Progress) → Advances old now bytes → EndsLine LastByte line bytes (has_ended now.account) now.held.bytes → line ≡ [] → HasEnded old.account now.account → after ≡ before → IsTurn turns.End old now before after
 turn-end line bytes old now before after reads ends_line empty ended same = (subst (Advances old now) (ends_line.0 ∙ empty) reads, ended, ends_line.2, same)
 
 -- the source failed in a line
-pub cut-in_line : (line : List ℕ) (old now : Moment) (before after : Standing) → Stops old now line → list_all stays line ≡ true → after ≡ before → IsTurnCut Read old now before after
+pub cut-in_line : (line : List ℕ) (old now : Moment) (before after : Progress) → Stops old now line → list_all stays line ≡ true → after ≡ before → IsTurnCut Read old now before after
 cut-in_line line old now before after stops all same = (
   line,
   stops,
@@ -182,9 +261,9 @@ cut-in_line line old now before after stops all same = (
 )
 
 -- the source or the sink failed behind a line
-pub cut-behind_line : (fault : SessionFault) (last : Bool) (end : LineEnd) (line bytes : List ℕ) (old mid now : Moment) (before after : Standing) → (last ≡ true → end ≡ LastByte) → (end ≡ LastByte → last ≡ true) → Advances old mid bytes
-    → EndsLine end line bytes (has_ended mid.account) mid.held.bytes → length line ≤ 4096 → list_all stays line ≡ true → (end ≡ LastByte → HasEnded old.account mid.account) → IsLineCut fault end line mid now before after → IsTurnCut fault old now before after
-cut-behind_line Read last end line bytes old mid now before after is_last is_end reads ends_line short stay ended (is, name, priority, size, good, spells, read, stops, within, same) =
+pub cut-behind_line : (fault : SessionFault) (last : Bool) (number : ℕ) (end : LineEnd) (line bytes : List ℕ) (old mid now : Moment) (before after : Progress) → number ≡ 1 + old.held.line_feeds → (last ≡ true → end ≡ LastByte) → (end ≡ LastByte → last ≡ true) → Advances old mid bytes
+    → EndsLine end line bytes (has_ended mid.account) mid.held.bytes → length line ≤ 4096 → list_all stays line ≡ true → (end ≡ LastByte → HasEnded old.account mid.account) → IsLineCut fault number end line mid now before after → IsTurnCut fault old now before after
+cut-behind_line Read last number end line bytes old mid now before after at is_last is_end reads ends_line short stay ended (is, name, priority, size, good, spells, read, stops, within, same) =
     let feed : bytes ≡ line ++ 10 ∷ [] = subst (λ e. EndsLine e line bytes (has_ended mid.account) mid.held.bytes) is ends_line in
     let none : IsNoCommand (line ++ 10 ∷ (read ++ [])) = no-text-command name priority size line read [] true [] good spells stay (inl (within, refl, refl)) (λ e f. refl) in (
       bytes ++ read,
@@ -192,12 +271,12 @@ cut-behind_line Read last end line bytes old mid now before after is_last is_end
       subst BeginsNoCommand (ap (λ l. line ++ 10 ∷ l) (append-nil read) ∙ sym (append_assoc line (10 ∷ []) read) ∙ ap (λ l. l ++ read) (sym feed)) none.0,
       same,
     )
-cut-behind_line Write last end line bytes old mid now before after is_last is_end reads ends_line short stay ended (inl (more, same)) = inl (bytes ++ [], advances-both old mid now bytes [] reads more, same)
-cut-behind_line Write last end line bytes old mid now before after is_last is_end reads ends_line short stay ended (inr (command, read, more, is, begun)) = inr (
+cut-behind_line Write last number end line bytes old mid now before after at is_last is_end reads ends_line short stay ended (inl (more, same)) = inl (bytes ++ [], advances-both old mid now bytes [] reads more, same)
+cut-behind_line Write last number end line bytes old mid now before after at is_last is_end reads ends_line short stay ended (inr (command, read, more, is, begun)) = inr (
   last,
   command,
   bytes ++ read,
   advances-both old mid now bytes read reads more,
   read-of last end line bytes read old mid now command is_last is_end ends_line short (λ e. ended-within old.account old.account mid.account now.account (omega arith) (ended e) more.takes.gives.ends) is,
-  begun,
+  subst (λ n. HasBegun n command before after) at begun,
 )

@@ -1,5 +1,7 @@
 pub mod Input
 pub mod Command
+pub mod HeldEdit
+pub mod Batch
 pub mod Dump
 pub mod Reply
 pub mod Session

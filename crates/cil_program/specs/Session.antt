@@ -1,13 +1,20 @@
 -- One line of a script, and what came of it.
-use Rattle.std.specs.Prelude.{◌≡◌, ◌≢◌, ℕ, ◌≤◌, Bool, true, false, List, [], ◌∷◌, ◌++◌, length, codes, decimal, Option, Result, IfOk, OnErr, IsTrue, ◌⊎◌}
+use Rattle.std.specs.Prelude.{◌≡◌, ◌≢◌, ℕ, ◌+◌, ◌≤◌, Bool, true, false, List, [], ◌∷◌, ◌++◌, length, codes, decimal, Option, None, Result, Ok, Err, IfOk, OnErr, IsTrue, ◌⊎◌}
 use Rattle.std.specs.List.{join_with_byte}
 use Rattle.cil_stream.specs.Device.{Account, Gains, GainsFront, Gives, HasEnded, HasFailed, IsLeft, has_ended}
 use Rattle.cil_stream.specs.declared.sink.SinkFault.{SinkFault}
 use Rattle.cil_store_specs.specs.Store.{Store}
-use Rattle.cil_store_specs.specs.Next.{install}
-use Rattle.cil_store_specs.specs.Script.{Command, makes, Answer, Answers, HasGoodWords, IsGoodName, IsShortNumber, line_of, behind, command_bytes, IsCommand, MayLackItsEnd, IsNoCommand}
-use Rattle.cil_store_specs.specs.Session.{IsSession, BeginsNoCommand, IsCutByRead, IsCutByWrite, all_accepted, some_refused, no_script}
+use Rattle.cil_store_specs.specs.Next.{Edit, install}
+use Rattle.cil_store_specs.specs.Answers.{Answer, answer_of, a_line, Batch, State, Answers}
+use Rattle.cil_store_specs.specs.Run.{a_batch, changed_by, refused, Step}
+use Rattle.cil_store_specs.specs.Script.{Command, makes, last_line, ends, HasGoodWords, IsGoodName, IsShortNumber, line_of, behind, command_bytes, IsCommand, MayLackItsEnd, IsNoCommand}
+use Rattle.cil_store_specs.specs.Session.{IsSession, last_end, BeginsNoCommand, IsCutByRead, IsCutByWrite, all_accepted, some_refused, no_script}
 use Rattle.cil_store_specs.specs.Session as spec
+use Rattle.cil_counters.specs.ChangeCounts.{CountsSome}
+use Rattle.cil_symbol_changes.specs.declared.counted_changes.ChangeCounts.{ChangeCounts}
+use Rattle.cil_store.specs.Edits.{refusal_of}
+use Rattle.cil_store.specs.declared.refusal.Refusal.{Refusal}
+use Rattle.cil_program.specs.Reply.{counts_line}
 use Rattle.cil_program.specs.Input.{Held, HasRead, HasStopped, IsShort}
 use Rattle.cil_program.specs.declared.script.input.LineEnd.{LineEnd}
 use Rattle.cil_program.specs.declared.script.input.LineEnd.TheVariants.{LineFeed, LastByte, TooLong}
@@ -25,10 +32,19 @@ pub record Moment : Type 0 where
   pub account : Account
   pub held : Held
 
--- an engine and a sink by what they tell
-pub record Standing : Type 0 where
-  pub store : Store
+abbrev pub moment : Account → Held → Moment
+moment account held = record { account = account; held = held }
+
+-- a session by its state, and its sink by what that tells
+pub record Progress : Type 0 where
+  pub state : State
   pub taken : Option (List ℕ)
+
+abbrev pub state_with : Store → Option Batch → State
+state_with store batch = record { store = store; batch = batch }
+
+abbrev pub progress : Store → Option Batch → Option (List ℕ) → Progress
+progress store batch taken = record { state = record { store = store; batch = batch }; taken = taken }
 
 abbrev pub status_of : Status → spec.Status
 status_of statuses.Clean = all_accepted
@@ -51,25 +67,56 @@ abbrev pub after_answer : Bool → Status → Status
 after_answer true status = statuses.Refused
 after_answer false status = status
 
--- a command was answered and its answer written
-pub record HasAnswered (command : Command) (outcome : Outcome) (old new : Standing) : Type 0 where
+-- a command on a line was answered and its answer written
+pub record HasAnswered (number : ℕ) (command : Command) (outcome : Outcome) (old new : Progress) : Type 0 where
   pub answer : Answer
-  pub answers : Answers old.store command answer new.store
+  pub answers : Answers number old.state command answer new.state
   pub written : Gains old.taken new.taken answer.bytes
   pub is : outcome ≡ outcome_of answer.refuses
 
--- a command was answered, and a beginning of its answer written
-pub record HasBegun (command : Command) (old new : Standing) : Type 0 where
+-- a command on a line was answered, and a beginning of its answer written
+pub record HasBegun (number : ℕ) (command : Command) (old new : Progress) : Type 0 where
   pub answer : Answer
-  pub answers : Answers old.store command answer new.store
+  pub answers : Answers number old.state command answer new.state
   pub written : GainsFront old.taken new.taken answer.bytes
 
--- A command was answered and its answer written; or the sink failed in it, which was counted.
-pub record Tries {W : Type 0} (taken : W → Option (List ℕ)) (failures : W → ℕ) (old new : W) (before after : Store) (command : Command) (result : Result Outcome SinkFault) : Type 0 where
-  pub ok : IfOk result (λ outcome. HasAnswered command outcome (record { store = before; taken = taken old }) (record { store = after; taken = taken new }))
-  pub err : OnErr result (HasBegun command (record { store = before; taken = taken old }) (record { store = after; taken = taken new }))
+-- an answer that is of a kind was written
+pub record HasTold (IsOf : Answer → Type 0) (outcome : Outcome) (old new : Option (List ℕ)) : Type 0 where
+  pub answer : Answer
+  pub is_of : IsOf answer
+  pub written : Gains old new answer.bytes
+  pub is : outcome ≡ outcome_of answer.refuses
+
+-- a beginning of it was
+pub record HasToldSome (IsOf : Answer → Type 0) (old new : Option (List ℕ)) : Type 0 where
+  pub answer : Answer
+  pub is_of : IsOf answer
+  pub written : GainsFront old new answer.bytes
+
+-- An answer that is of a kind was written; or the sink failed in it, which was counted.
+pub record Tries {W : Type 0} (taken : W → Option (List ℕ)) (failures : W → ℕ) (old new : W) (IsOf : Answer → Type 0) (result : Result Outcome SinkFault) : Type 0 where
+  pub ok : IfOk result (λ outcome. HasTold IsOf outcome (taken old) (taken new))
+  pub err : OnErr result (HasToldSome IsOf (taken old) (taken new))
   pub failed : OnErr result (HasFailed (failures old) (failures new))
   pub counted : failures old ≤ failures new
+
+-- an answer to a command that leads from one state to another, on whatever line
+abbrev pub Does : State → Command → State → Answer → Type 0
+Does old command new answer = (number : ℕ) → Answers number old command answer new
+
+-- an answer to a question, whether or not a batch is open
+abbrev pub IsAnswerFor : Store → Command → Answer → Type 0
+IsAnswerFor store command answer = (batch : Option Batch) → Does (record { store = store; batch = batch }) command (record { store = store; batch = batch }) answer
+
+-- What came of a batch is answered: how many accesses came and went, or why it was refused.
+abbrev pub AnswersBatch : {A : Type 0} → Result ChangeCounts (Refusal A) → Answer → Type 0
+AnswersBatch (Ok counts) answer = answer ≡ a_line (counts_line counts)
+AnswersBatch (Err refusal) answer = answer ≡ answer_of (refused (refusal_of refusal))
+
+-- A batch was made on a store, or refused.
+abbrev pub Makes : {A : Type 0} → Store → List Edit → Store → Result ChangeCounts (Refusal A) → Type 0
+Makes old edits new (Ok counts) = CountsSome (λ changes. Step old (a_batch edits) (changed_by changes) new) counts
+Makes old edits new (Err refusal) = Step old (a_batch edits) (refused (refusal_of refusal)) new
 
 -- the line that ended so and the bytes read behind it are a command
 abbrev pub IsWhole : LineEnd → List ℕ → List ℕ → Moment → Command → Type 0
@@ -94,27 +141,27 @@ IsBad LineFeed line read now = ((read ≡ []) × ((command : Command) → HasGoo
 IsBad LastByte line read now = (read ≡ []) × IsTrue (has_ended now.account) × (now.held.bytes ≡ []) × ((command : Command) → HasGoodWords command → MayLackItsEnd command → line ≡ line_of command → ⊥)
 IsBad TooLong line read now = read ≡ []
 
--- what came of a line: a command that was answered; or none, and nothing was done
-abbrev pub IsOutcome : Outcome → LineEnd → List ℕ → Moment → Moment → Standing → Standing → Type 0
-IsOutcome NoCommand end line old new before after = (read : List ℕ) × Advances old new read × IsBad end line read new × (after ≡ before)
-IsOutcome outcome end line old new before after = (command : Command) × (read : List ℕ) × Advances old new read × IsWhole end line read new command × HasAnswered command outcome before after
+-- what came of a line of a number: a command that was answered; or none, and nothing was done
+abbrev pub IsOutcome : Outcome → ℕ → LineEnd → List ℕ → Moment → Moment → Progress → Progress → Type 0
+IsOutcome NoCommand number end line old new before after = (read : List ℕ) × Advances old new read × IsBad end line read new × (after ≡ before)
+IsOutcome outcome number end line old new before after = (command : Command) × (read : List ℕ) × Advances old new read × IsWhole end line read new command × HasAnswered number command outcome before after
 
--- what came of the text of an install
-abbrev pub IsInstallOutcome : Outcome → List ℕ → ℕ → ℕ → Moment → Moment → Standing → Standing → Type 0
+-- what came of the text of an install, on whatever line
+abbrev pub IsInstallOutcome : Outcome → List ℕ → ℕ → ℕ → Moment → Moment → Progress → Progress → Type 0
 IsInstallOutcome NoCommand name priority size old new before after = (read : List ℕ) × Advances old new read × IsShort size read (has_ended new.account) new.held.bytes × (after ≡ before)
-IsInstallOutcome outcome name priority size old new before after = (text : List ℕ) × Advances old new (text ++ 10 ∷ []) × (length text ≡ size) × HasAnswered (makes (install name priority text)) outcome before after
+IsInstallOutcome outcome name priority size old new before after = (text : List ℕ) × Advances old new (text ++ 10 ∷ []) × (length text ≡ size) × ((number : ℕ) → HasAnswered number (makes (install name priority text)) outcome before after)
 
 -- the source failed in the text of an install; or the sink failed, in its answer
-abbrev pub IsInstallCut : SessionFault → List ℕ → ℕ → ℕ → Moment → Moment → Standing → Standing → Type 0
+abbrev pub IsInstallCut : SessionFault → List ℕ → ℕ → ℕ → Moment → Moment → Progress → Progress → Type 0
 IsInstallCut Read name priority size old new before after = (read : List ℕ) × Stops old new read × (length read ≤ size) × (after ≡ before)
-IsInstallCut Write name priority size old new before after = (text : List ℕ) × Advances old new (text ++ 10 ∷ []) × (length text ≡ size) × HasBegun (makes (install name priority text)) before after
+IsInstallCut Write name priority size old new before after = (text : List ℕ) × Advances old new (text ++ 10 ∷ []) × (length text ≡ size) × ((number : ℕ) → HasBegun number (makes (install name priority text)) before after)
 
 -- the source failed in the text of the install on a line; or the sink failed, before anything was done or in the answer
-abbrev pub IsLineCut : SessionFault → LineEnd → List ℕ → Moment → Moment → Standing → Standing → Type 0
-IsLineCut Read end line old new before after = (end ≡ LineFeed) × (name : List ℕ) × (priority : ℕ) × (size : ℕ) × AreGoodWords name priority size × (line ≡ install_line name priority size)
+abbrev pub IsLineCut : SessionFault → ℕ → LineEnd → List ℕ → Moment → Moment → Progress → Progress → Type 0
+IsLineCut Read number end line old new before after = (end ≡ LineFeed) × (name : List ℕ) × (priority : ℕ) × (size : ℕ) × AreGoodWords name priority size × (line ≡ install_line name priority size)
     × (read : List ℕ) × Stops old new read × (length read ≤ size) × (after ≡ before)
-IsLineCut Write end line old new before after = (Advances old new [] × (after ≡ before))
-    ⊎ ((command : Command) × (read : List ℕ) × Advances old new read × IsWhole end line read new command × HasBegun command before after)
+IsLineCut Write number end line old new before after = (Advances old new [] × (after ≡ before))
+    ⊎ ((command : Command) × (read : List ℕ) × Advances old new read × IsWhole end line read new command × HasBegun number command before after)
 
 -- the bytes of a command, as a whole; or, of the last one, but for its line feed
 abbrev pub IsReadOf : Bool → Command → List ℕ → Moment → Moment → Type 0
@@ -126,16 +173,30 @@ abbrev pub IsNone : List ℕ → Moment → Type 0
 IsNone read now = (more : List ℕ) → (IsTrue (has_ended now.account) → more ≡ []) → (read ++ (now.held.bytes ++ more) ≢ []) × IsNoCommand (read ++ (now.held.bytes ++ more))
 
 -- what came of a turn: the script ended; or a command was read and answered; or none was there, and nothing was done
-abbrev pub IsTurn : Turn → Moment → Moment → Standing → Standing → Type 0
+abbrev pub IsTurn : Turn → Moment → Moment → Progress → Progress → Type 0
 IsTurn turns.End old new before after = Advances old new [] × HasEnded old.account new.account × (new.held.bytes ≡ []) × (after ≡ before)
-IsTurn (turns.Answered refused last) old new before after = (command : Command) × (read : List ℕ) × Advances old new read × IsReadOf last command read old new × HasAnswered command (outcome_of refused) before after
+IsTurn (turns.Answered is_refused last) old new before after = (command : Command) × (read : List ℕ) × Advances old new read × IsReadOf last command read old new × HasAnswered (1 + old.held.line_feeds) command (outcome_of is_refused) before after
 IsTurn turns.NoCommand old new before after = (read : List ℕ) × Advances old new read × IsNone read new × (after ≡ before)
 
 -- a turn in which the source failed, before a command was read; or the sink, before anything was done or in an answer
-abbrev pub IsTurnCut : SessionFault → Moment → Moment → Standing → Standing → Type 0
+abbrev pub IsTurnCut : SessionFault → Moment → Moment → Progress → Progress → Type 0
 IsTurnCut Read old new before after = (read : List ℕ) × Stops old new read × BeginsNoCommand read × (after ≡ before)
 IsTurnCut Write old new before after = ((read : List ℕ) × Advances old new read × (after ≡ before))
-    ⊎ ((last : Bool) × (command : Command) × (read : List ℕ) × Advances old new read × IsReadOf last command read old new × HasBegun command before after)
+    ⊎ ((last : Bool) × (command : Command) × (read : List ℕ) × Advances old new read × IsReadOf last command read old new × HasBegun (1 + old.held.line_feeds) command before after)
+
+-- Behind its last command a session ends with a status, and where a batch is still open with the line of its begin.
+pub record EndsSo (batch : Option Batch) (status last : Status) (old new : Option (List ℕ)) : Type 0 where
+  pub written : Gains old new (last_line (last_end ends batch))
+  pub is : (answers : List Answer) → status_of status ≡ spec.status_of answers ends → status_of last ≡ spec.status_of answers (last_end ends batch)
+  pub is_none : last ≢ statuses.Script → batch ≡ None
+
+-- an engine and a sink by what they tell
+pub record Standing : Type 0 where
+  pub store : Store
+  pub taken : Option (List ℕ)
+
+abbrev pub standing : Store → Option (List ℕ) → Standing
+standing store taken = record { store = store; taken = taken }
 
 -- What a session leaves behind: its source gave bytes, and its sink took the answers. Where the source tells its whole text, the
 -- script is all that was left of it.

@@ -1,6 +1,9 @@
 //! Scripts: their lines, the commands on them, and the session that answers them.
 
+pub mod batch;
 pub mod command;
+pub mod edit_list;
+pub mod held_edit;
 pub mod input;
 pub mod laws;
 pub mod line;

@@ -1,8 +1,8 @@
 //! Batches: edits that are made as one.
 
-ghost use Rattle.std.specs.Prelude.{◌≡◌, ◌≤◌, false, map, IfErr, IfOk, OnOk};
+ghost use Rattle.std.specs.Prelude.{◌≡◌, false, map, IfErr, IfOk, OnOk};
 ghost use Rattle.cil_resolve.specs.Resolved.{meaning_in};
-ghost use Rattle.cil_store_specs.specs.Next.{AreTaken, IsMeaningOf, IsTaken, held_bytes as held_in, install_of, is_too_long as is_too_long_for};
+ghost use Rattle.cil_store_specs.specs.Next.{AreTaken, IsMeaningOf, IsTaken, install_of, is_too_long as is_too_long_for};
 ghost use Rattle.cil_store.specs.Edits.{edit_of, refusal_of};
 ghost use Rattle.cil_store.specs.Refusing.{AreRefused, AreStopped, IsRefusedBatch, IsRefusedEdit};
 ghost use Rattle.cil_store.specs.Stored.{entry_of};
@@ -26,20 +26,6 @@ const GREATEST_EDITS: usize = 8192;
 /// The greatest number of bytes of all texts of a batch.
 const GREATEST_BYTES: u64 = 67_108_864;
 
-/// How many bytes are counted of a text that no store takes.
-const GREATEST_COUNTED: usize = 16_777_217;
-
-/// How many bytes of an edit's text a batch counts.
-fn held_bytes(edit: &Edit<'_>) -> u64
-    ensures bytes { result ≡ held_in (edit_of edit.now) }
-    ensures most { result ≤ 16777217 }
-{
-    match edit {
-        Edit::Install { text, .. } => text.len().min(GREATEST_COUNTED) as u64,
-        Edit::Remove { .. } | Edit::Enable { .. } | Edit::Disable { .. } => 0,
-    }
-}
-
 /// Whether a batch has more than 8192 edits, or texts of which more than 67108864 bytes are counted.
 fn is_too_long(edits: &[Edit<'_>]) -> bool
     ensures { result ≡ is_too_long_for (map edit_of edits.now) }
@@ -49,7 +35,7 @@ fn is_too_long(edits: &[Edit<'_>]) -> bool
     }
     let mut bytes: u64 = 0;
     for edit in edits {
-        bytes += held_bytes(edit);
+        bytes += edit.held_bytes() as u64;
     }
     bytes > GREATEST_BYTES
 }

@@ -1,7 +1,11 @@
 //! Edits of the store.
 
-ghost use Rattle.std.specs.Prelude.{◌≡◌};
-ghost use Rattle.cil_store.specs.Edits.{name_of, priority_of};
+ghost use Rattle.std.specs.Prelude.{◌≡◌, ◌≤◌};
+ghost use Rattle.cil_store_specs.specs.Next.{held_bytes as held_in};
+ghost use Rattle.cil_store.specs.Edits.{edit_of, name_of, priority_of};
+
+/// The most bytes that a batch counts of a text: one more than a store takes of one.
+const GREATEST_HELD: usize = 16_777_217;
 
 /// An edit of the store, over borrowed bytes (`semodule(8)`).
 #[derive(Clone, Copy, Debug)]
@@ -46,6 +50,16 @@ impl<'a> Edit<'a> {
         match self {
             Edit::Install { priority, .. } | Edit::Remove { priority, .. } => priority,
             Edit::Enable { .. } | Edit::Disable { .. } => 0,
+        }
+    }
+    /// How many bytes of its text a batch counts.
+    pub fn held_bytes(self) -> usize
+        ensures bytes { result ≡ held_in (edit_of self.entry) }
+        ensures most { result ≤ 16777217 }
+    {
+        match self {
+            Edit::Install { text, .. } => text.len().min(GREATEST_HELD),
+            Edit::Remove { .. } | Edit::Enable { .. } | Edit::Disable { .. } => 0,
         }
     }
 }

@@ -1,16 +1,16 @@
 //! Laws of the definitions, which make the contracts of engines exact. They have no code.
 
-ghost use Rattle.std.specs.Prelude.{◌≡◌, ◌∷◌, [], ℕ, List, map, true, false, IsTrue};
-ghost use Rattle.std.specs.List.{list_all};
+ghost use Rattle.std.specs.Prelude.{◌≡◌, ◌⊎◌, ◌∷◌, [], ℕ, List, map, true, false, IsTrue};
+ghost use Rattle.std.specs.List.{list_all, AllByRecursion};
 ghost use Rattle.cil_specs.specs.Joined.{Placed};
 ghost use Rattle.cil_specs.specs.Kept.{AreApart};
 ghost use Rattle.cil_specs.specs.Meaning.{Meaning, meaning_of};
 ghost use Rattle.cil_specs.specs.Report.{Changes};
 ghost use Rattle.cil_store_specs.specs.Limits.{IsWithinLimits, HasGoodTexts};
-ghost use Rattle.cil_store_specs.specs.Next.{Edit, Refusal, Judgement, IsMeaningOf, IsPolicyOf, IsPolicyRefusal, IsTaken, accepts, is_too_long, Next, NextOfAll};
-ghost use Rattle.cil_store_specs.specs.Run.{Call, an_edit, Reply, changed_by, Run, is_answered};
-ghost use Rattle.cil_store_specs.specs.Script.{Command, makes, Commands, End, ends, dump_edits, dump_text};
-ghost use Rattle.cil_store_specs.specs.Session.{IsSession, all_accepted};
+ghost use Rattle.cil_store_specs.specs.Next.{Edit, Refusal, for_memory, Judgement, IsMeaningOf, IsPolicyOf, IsPolicyRefusal, IsTaken, accepts, is_too_long, Next, NextOfAll};
+ghost use Rattle.cil_store_specs.specs.Run.{Call, a_batch, an_edit, Reply, changed_by, refused, Step, Run, is_answered};
+ghost use Rattle.cil_store_specs.specs.Script.{Command, Commands, End, ends, refusal_line, dump_edits, dump_commands, dump_text};
+ghost use Rattle.cil_store_specs.specs.Session.{IsSession, Status, all_accepted, some_refused};
 ghost use Rattle.cil_store_specs.specs.Store.{Store, IsStore, empty};
 
 /// A store in which no module stands is in order, and edits and runs of calls lead from one in order to another.
@@ -87,19 +87,31 @@ pub fn one_run()
 {}
 
 /// The edits of a dump lead from a store in which no module stands to the one that was dumped: where all of them are accepted one
-/// after another, in a run or in a session over the dump; and where they are made at once, which a store that means something
-/// accepts.
+/// after another, in a run; where no command of the dump is refused, in a session; and where they are made as one batch, which a
+/// store that means something accepts.
 pub fn dumps_are_faithful()
     ensures run { (store new : Store) (changes : List Changes) → IsStore store → Run empty (map an_edit (dump_edits store)) (map changed_by changes) new → new ≡ store }
     ensures session { (store new : Store) (written : List ℕ) → IsStore store → IsWithinLimits store → IsSession (dump_text store) true empty new written all_accepted
         → new ≡ store }
     ensures at_once { (store : Store) (meaning : Meaning) → IsStore store → IsWithinLimits store → HasGoodTexts store → IsMeaningOf store meaning
-        → NextOfAll empty (dump_edits store) (accepts store) }
+        → Next empty (dump_edits store) (accepts store) }
 {}
 
-/// The dump of a store within the limits is a script of the edits of the dump, and of nothing else.
+/// The dump of a store that means something is refused for memory alone. Its batch and a session over it lead from a store in which
+/// no module stands to the one that was dumped; or else memory runs out, each refusal says so, and no module stands there still.
+pub fn dumps_are_taken_back()
+    ensures step { (store new : Store) (meaning : Meaning) (reply : Reply) → IsStore store → IsWithinLimits store → HasGoodTexts store → IsMeaningOf store meaning
+        → Step empty (a_batch (dump_edits store)) reply new
+        → ((changes : Changes) × (reply ≡ changed_by changes) × (new ≡ store)) ⊎ ((reply ≡ refused for_memory) × (new ≡ empty)) }
+    ensures session { (store new : Store) (meaning : Meaning) (written : List ℕ) (status : Status) → IsStore store → IsWithinLimits store → HasGoodTexts store
+        → IsMeaningOf store meaning → (session : IsSession (dump_text store) true empty new written status)
+        → ((status ≡ all_accepted) × (new ≡ store))
+        ⊎ ((status ≡ some_refused) × (new ≡ empty) × AllByRecursion (λ a. a.refuses ≡ true → a.bytes ≡ refusal_line for_memory) session.answers) }
+{}
+
+/// The dump of a store within the limits is a script of one batch, the edits of the dump, and of nothing else.
 pub fn dumps_are_scripts()
-    ensures commands { (store : Store) → IsWithinLimits store → Commands (dump_text store) (map makes (dump_edits store)) ends }
+    ensures commands { (store : Store) → IsWithinLimits store → Commands (dump_text store) (dump_commands store) ends }
     ensures alone { (store : Store) (commands : List Command) (end : End) → IsWithinLimits store → Commands (dump_text store) commands end
-        → (commands ≡ map makes (dump_edits store)) × (end ≡ ends) }
+        → (commands ≡ dump_commands store) × (end ≡ ends) }
 {}

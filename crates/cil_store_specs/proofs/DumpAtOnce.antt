@@ -1,22 +1,29 @@
 -- The edits of a dump, made at once.
-use Rattle.std.proofs.Common.{◌≡◌, ◌∷◌, ◌++◌, [], ℕ, ◌+◌, ◌≤◌, List, true, not, map, length, nat_le, Some, None, if◌then◌else◌, refl, ap, sym, subst, append_assoc, length-append, arith}
-use Rattle.std.specs.List.{sum_by, AllByRecursion}
+use Rattle.std.proofs.Common.{◌≡◌, ◌⊎◌, inl, inr, ◌∷◌, ◌++◌, [], ℕ, ◌+◌, ◌≤◌, List, Bool, true, false, not, ◌||◌, cond, filter, map, length, nat_le, nat_lt, bytes_eq, Some, None, if◌then◌else◌, refl, ap, sym, ◌∙◌, subst, append_assoc, length-append, true≢false, arith}
+use Rattle.std.specs.List.{sum_by, list_any, AllByRecursion}
 use Rattle.std.specs.List.Sorted.{IsStrictlySortedBy}
+use Rattle.std.specs.declared.cmp.Ordering.TheVariants.{Less, Equal}
+use Rattle.std.proofs.Math.Nat.{min-le_left}
 use Rattle.std.proofs.lemmas.Bool.{le-leb, le-ltb}
-use Rattle.std.proofs.lemmas.Cmp.{nat_list_cmp_total}
-use Rattle.std.proofs.lemmas.List.{append-nil}
+use Rattle.std.proofs.lemmas.Cmp.{nat_list_cmp_total, tied_itself}
+use Rattle.std.proofs.lemmas.List.{append-nil, length-map}
+use Rattle.std.proofs.lemmas.List.Filters.{length-filter_both}
 use Rattle.std.proofs.lemmas.List.Sums.{sum_by-append, sum_by-cons}
-use Rattle.cil_specs.specs.Report.{name_cmp}
+use Rattle.std.proofs.lemmas.Map.Views.{any-filter_same}
+use Rattle.std.proofs.lemmas.Slice.Eq.{bytes_eq-Decides}
+use Rattle.cil_specs.specs.Report.{Changes, name_cmp}
 use Rattle.cil_specs.specs.Meaning.{Meaning}
 use Rattle.cil_specs.proofs.NamesLemmas.{all-weaker}
 use Rattle.cil_specs.proofs.Runs.{both_true}
 use Rattle.cil_store_specs.specs.Store.{Entry, Store, IsStore, empty, entry_cmp, is_entry, is_installed, text_bytes, without}
 use Rattle.cil_store_specs.specs.Limits.{IsEntryWithinLimits, IsWithinLimits, HasGoodTexts}
-use Rattle.cil_store_specs.specs.Next.{Edit, by_store, disable, install_of, HasGoodText, AreTaken, IsMeaningOf, accepts, NextOfAll, all_good, is_module_name}
+use Rattle.cil_store_specs.specs.Next.{Edit, by_store, disable, install_of, HasGoodText, AreTaken, IsMeaningOf, for_memory, accepts, refuses, NextOfAll, all_good, Next, at_once, held_bytes, is_too_long, is_module_name}
+use Rattle.cil_store_specs.specs.Run.{a_batch, Reply, changed_by, refused, accepted, rejected, lists, prints, tells_violations, tells_dropped, out_of_memory, Step}
 use Rattle.cil_store_specs.specs.Script.{dump_edits}
-use Rattle.cil_store_specs.proofs.StoreOrder.{entry_total}
+use Rattle.cil_store_specs.proofs.StoreOrder.{entry_total, empty-ordered}
 use Rattle.cil_store_specs.proofs.PutLemmas.{put-last, all-before}
 use Rattle.cil_store_specs.proofs.LimitLemmas.{Fits, not-refused, length-by, less-filtered}
+use Rattle.cil_store_specs.proofs.OneAtOnce.{next-same}
 use Rattle.cil_store_specs.proofs.DumpScript.{installed-name}
 
 -- an entry for which entries have room in their limits
@@ -78,6 +85,86 @@ taken-of-dump store is within good =
     (taken-installs [] store.entries is.entries within.each good within.count within.bytes)
     (taken-disables store.entries [] store.disabled is.disabled (all-weaker (λ name. is_installed name store.entries ≡ true) (MayBeDisabled store.entries) (λ name there. (installed-name store.entries name within.each there, there)) store.disabled within.disabled))
 
+-- A dump is never too long.
+
+-- a list with some that pass a test has fewer that don't
+fewer-others : {X : Type 0} (p : X → Bool) (xs : List X) → list_any p xs ≡ true → length (filter (λ x. not (p x)) xs) + 1 ≤ length xs
+fewer-others p [] some = absurd (true≢false (sym some))
+fewer-others p (x ∷ xs) some = by (p x) some (fewer-others p xs)
+  where
+    by : (b : Bool) → (b || list_any p xs) ≡ true → (list_any p xs ≡ true → length (filter (λ y. not (p y)) xs) + 1 ≤ length xs)
+        → length (cond (not b) (x ∷ filter (λ y. not (p y)) xs) (filter (λ y. not (p y)) xs)) + 1 ≤ length (x ∷ xs)
+    by true is more = omega (arith, length-filter_both p (λ y. not (p y)) (λ y. refl) xs)
+    by false is more = omega (arith, more is)
+
+-- names that ascend, each of them of an entry, are no more than the entries
+names-few : (names : List (List ℕ)) (entries : List Entry) → IsStrictlySortedBy name_cmp names → AllByRecursion (λ name. is_installed name entries ≡ true) names → length names ≤ length entries
+unfolding IsStrictlySortedBy
+names-few [] entries sorted there = omega arith
+names-few (name ∷ names) entries sorted there =
+    omega (arith, names-few names (filter (λ e. not (bytes_eq e.name name)) entries) sorted.1 (others names sorted.0 there.1), fewer-others (λ e. bytes_eq e.name name) entries there.0)
+  where
+    others : (more : List (List ℕ)) → AllByRecursion (λ other. name_cmp name other ≡ Less) more → AllByRecursion (λ other. is_installed other entries ≡ true) more
+        → AllByRecursion (λ other. is_installed other (filter (λ e. not (bytes_eq e.name name)) entries) ≡ true) more
+    others [] behind are = tt
+    others (other ∷ more) behind are = (
+      any-filter_same (λ e. bytes_eq e.name other) (λ e. not (bytes_eq e.name name)) true (λ e same. ap (λ n. not (bytes_eq n name)) ((bytes_eq-Decides e.name other).0 same) ∙ ap not (apart (bytes_eq other name) refl)) entries ∙ are.0,
+      others more behind.1 are.1,
+    )
+      where
+        apart : (b : Bool) → bytes_eq other name ≡ b → bytes_eq other name ≡ false
+        apart true same =
+            let tied : Less ≡ Equal = sym behind.0 ∙ ap (name_cmp name) ((bytes_eq-Decides other name).0 same) ∙ tied_itself nat_list_cmp_total name in
+            absurd cc
+        apart false is = is
+
+-- what the texts of its edits count
+installs-held : (entries : List Entry) → sum_by held_bytes (map install_of entries) ≤ text_bytes entries
+installs-held [] = omega arith
+installs-held (e ∷ entries) =
+    omega (arith, installs-held entries, min-le_left (length e.text) 16777217, sum_by-cons held_bytes (install_of e) (map install_of entries), sum_by-cons (λ o. length o.text) e entries)
+
+disables-held : (names : List (List ℕ)) → sum_by held_bytes (map disable names) ≡ 0
+disables-held [] = refl
+disables-held (name ∷ names) = omega (arith, disables-held names, sum_by-cons held_bytes (disable name) (map disable names))
+
+pub dump-is-short : (store : Store) → IsStore store → IsWithinLimits store → is_too_long (dump_edits store) ≡ false
+dump-is-short store is within = λ i. few i || small i
+  where
+    few : nat_lt 8192 (length (dump_edits store)) ≡ false
+    few = le-ltb 8192 (length (dump_edits store)) (omega (
+      arith,
+      length-append (map install_of store.entries) (map disable store.disabled),
+      length-map store.entries install_of,
+      length-map store.disabled disable,
+      names-few store.disabled store.entries is.disabled within.disabled,
+      within.count,
+    ))
+
+    small : nat_lt 67108864 (sum_by held_bytes (dump_edits store)) ≡ false
+    small = le-ltb 67108864 (sum_by held_bytes (dump_edits store)) (omega (arith, sum_by-append held_bytes (map install_of store.entries) (map disable store.disabled), installs-held store.entries, disables-held store.disabled, within.bytes))
+
 -- So made at once they are accepted, where that store means something.
-pub dump-at-once : (store : Store) (meaning : Meaning) → IsStore store → IsWithinLimits store → HasGoodTexts store → IsMeaningOf store meaning → NextOfAll empty (dump_edits store) (accepts store)
+dump-at-once : (store : Store) (meaning : Meaning) → IsStore store → IsWithinLimits store → HasGoodTexts store → IsMeaningOf store meaning → NextOfAll empty (dump_edits store) (accepts store)
 dump-at-once store meaning is within good means = all_good store meaning (taken-of-dump store is within good) means refl
+
+-- And so is the batch of them.
+pub dump-accepted : (store : Store) (meaning : Meaning) → IsStore store → IsWithinLimits store → HasGoodTexts store → IsMeaningOf store meaning → Next empty (dump_edits store) (accepts store)
+dump-accepted store meaning is within good means = at_once (dump-is-short store is within) (dump-at-once store meaning is within good means)
+
+-- A call of an engine with that batch leads from the empty store to the one that was dumped, or else memory runs out.
+pub dump-step : (store new : Store) (meaning : Meaning) (reply : Reply) → IsStore store → IsWithinLimits store → HasGoodTexts store → IsMeaningOf store meaning → Step empty (a_batch (dump_edits store)) reply new
+    → ((changes : Changes) × (reply ≡ changed_by changes) × (new ≡ store)) ⊎ ((reply ≡ refused for_memory) × (new ≡ empty))
+dump-step store new meaning reply is within good means (accepted edits changes asked told made) =
+    let same : edits ≡ dump_edits store = cc in
+    let one : accepts new ≡ accepts store = next-same empty (dump_edits store) (accepts new) (accepts store) empty-ordered (subst (λ es. Next empty es (accepts new)) same made.next) (dump-accepted store meaning is within good means) in
+    inl (changes, told, cc one)
+dump-step store new meaning reply is within good means (rejected edits refusal asked told next kept) =
+    let same : edits ≡ dump_edits store = cc in
+    let one : refuses refusal ≡ accepts store = next-same empty (dump_edits store) (refuses refusal) (accepts store) empty-ordered (subst (λ es. Next empty es (refuses refusal)) same next) (dump-accepted store meaning is within good means) in
+    absurd cc one
+dump-step store new meaning reply is within good means (lists rows asked told are same) = absurd cc
+dump-step store new meaning reply is within good means (prints rows asked told are same) = absurd cc
+dump-step store new meaning reply is within good means (tells_violations violations asked told are same) = absurd cc
+dump-step store new meaning reply is within good means (tells_dropped dropped asked told are same) = absurd cc
+dump-step store new meaning reply is within good means (out_of_memory told same) = inr (told, same)

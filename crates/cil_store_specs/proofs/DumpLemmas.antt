@@ -1,17 +1,18 @@
 -- What a dump of a store builds.
-use Rattle.std.proofs.Common.{◌≡◌, ◌∷◌, [], ℕ, List, false, map, fold, refl, ap, sym, subst, ◌∙◌, true≢false}
-use Rattle.std.specs.List.{list_any}
-use Rattle.std.proofs.lemmas.Bool.{or_parts}
+use Rattle.std.proofs.Common.{◌≡◌, ◌∷◌, ◌++◌, [], ℕ, ◌+◌, List, false, map, fold, None, codes, refl, ap, sym, subst, ◌∙◌, true≢false}
+use Rattle.std.specs.List.{list_any, AllByRecursion}
 use Rattle.std.proofs.lemmas.Cmp.{nat_list_cmp_total}
 use Rattle.std.proofs.lemmas.List.Sums.{fold-append}
 use Rattle.cil_specs.specs.Report.{Changes, name_cmp}
 use Rattle.cil_store_specs.specs.Store.{Entry, Store, IsStore, empty, entry_cmp, put, put_name}
 use Rattle.cil_store_specs.specs.Next.{Edit, disable, install_of, changed, AreTaken}
 use Rattle.cil_store_specs.specs.Run.{Call, a_batch, an_edit, ask_rows, ask_listing, ask_violations, ask_dropped, Reply, changed_by, accepted, rejected, lists, prints, tells_violations, tells_dropped, out_of_memory, Step, Run}
-use Rattle.cil_store_specs.specs.Script.{makes, is_refusal, Answer, Answers, by_engine, by_modules, by_dump, AnswersAll, dump_edits}
-use Rattle.cil_store_specs.proofs.RunLemmas.{accepted-taken, one-taken}
+use Rattle.cil_store_specs.specs.Script.{makes, begins, commits, dump_edits, dump_commands}
+use Rattle.cil_store_specs.specs.Answers.{is_refusal, Answer, State, state_of, held_as, lines_of, AnswersAll}
+use Rattle.cil_store_specs.proofs.RunLemmas.{accepted-taken}
 use Rattle.cil_store_specs.proofs.StoreOrder.{entry_total}
 use Rattle.cil_store_specs.proofs.PutLemmas.{put-all}
+use Rattle.cil_store_specs.proofs.HeldLemmas.{begin-given, Outcome, was_made, was_long, lacked_memory, with-line, batch-answered}
 
 -- The edits of a dump, made in turn.
 
@@ -30,41 +31,51 @@ dump-builds store is =
     ∙ all-disabled store.entries [] store.disabled
     ∙ ap (λ ns. record { entries = store.entries; disabled = ns }) (put-all name_cmp nat_list_cmp_total [] store.disabled is.disabled)
 
--- Where no edit is refused, a store is changed by each in turn.
+-- Where edits are accepted, a store is changed by each in turn.
 
-step-changed : (old new : Store) (edit : Edit) (call : Call) (reply : Reply) → call ≡ an_edit edit → is_refusal reply ≡ false → Step old call reply new → new ≡ changed old edit
-step-changed old new edit call reply is taken (accepted edits changes asked told made) =
-    let same : edits ≡ edit ∷ [] = let e : a_batch edits ≡ a_batch (edit ∷ []) = sym asked ∙ is in cc in
-    (one-taken old new edit (subst (λ es. AreTaken old es new) same (accepted-taken old new edits made.next))).is
-step-changed old new edit call reply is taken (rejected edits refusal asked told next same) = absurd (true≢false (sym (ap is_refusal told) ∙ taken))
-step-changed old new edit call reply is taken (lists rows asked told are same) = absurd (let e : ask_rows ≡ an_edit edit = sym asked ∙ is in cc)
-step-changed old new edit call reply is taken (prints rows asked told are same) = absurd (let e : ask_listing ≡ an_edit edit = sym asked ∙ is in cc)
-step-changed old new edit call reply is taken (tells_violations violations asked told are same) = absurd (let e : ask_violations ≡ an_edit edit = sym asked ∙ is in cc)
-step-changed old new edit call reply is taken (tells_dropped dropped asked told are same) = absurd (let e : ask_dropped ≡ an_edit edit = sym asked ∙ is in cc)
-step-changed old new edit call reply is taken (out_of_memory told same) = absurd (true≢false (sym (ap is_refusal told) ∙ taken))
+taken-changed : (old new : Store) (edits : List Edit) → AreTaken old edits new → new ≡ fold changed old edits
+taken-changed old new [] same = same
+taken-changed old new (e ∷ edits) (mid, taken, are) = taken-changed mid new edits are ∙ ap (λ s. fold changed s edits) taken.is
+
+step-changed : (old new : Store) (edits : List Edit) (call : Call) (reply : Reply) → call ≡ a_batch edits → is_refusal reply ≡ false → Step old call reply new → new ≡ fold changed old edits
+step-changed old new edits call reply is taken (accepted others changes asked told made) =
+    let same : others ≡ edits = let e : a_batch others ≡ a_batch edits = sym asked ∙ is in cc in
+    taken-changed old new edits (subst (λ es. AreTaken old es new) same (accepted-taken old new others made.next))
+step-changed old new edits call reply is taken (rejected others refusal asked told next same) = absurd (true≢false (sym (ap is_refusal told) ∙ taken))
+step-changed old new edits call reply is taken (lists rows asked told are same) = absurd (let e : ask_rows ≡ a_batch edits = sym asked ∙ is in cc)
+step-changed old new edits call reply is taken (prints rows asked told are same) = absurd (let e : ask_listing ≡ a_batch edits = sym asked ∙ is in cc)
+step-changed old new edits call reply is taken (tells_violations violations asked told are same) = absurd (let e : ask_violations ≡ a_batch edits = sym asked ∙ is in cc)
+step-changed old new edits call reply is taken (tells_dropped dropped asked told are same) = absurd (let e : ask_dropped ≡ a_batch edits = sym asked ∙ is in cc)
+step-changed old new edits call reply is taken (out_of_memory told same) = absurd (true≢false (sym (ap is_refusal told) ∙ taken))
 
 run-changed : (old new : Store) (edits : List Edit) (changes : List Changes) → Run old (map an_edit edits) (map changed_by changes) new → new ≡ fold changed old edits
 run-changed old new [] [] run = run
 run-changed old new [] (c ∷ changes) run = absurd run
 run-changed old new (e ∷ edits) [] run = absurd run
 run-changed old new (e ∷ edits) (c ∷ changes) (mid, step, run) =
-    run-changed mid new edits changes run ∙ ap (λ s. fold changed s edits) (step-changed old mid e (an_edit e) (changed_by c) refl refl step)
-
-pub answers-changed : (old new : Store) (edits : List Edit) (answers : List Answer) → AnswersAll old (map makes edits) answers new → list_any (λ a. a.refuses) answers ≡ false → new ≡ fold changed old edits
-answers-changed old new [] [] all none = all
-answers-changed old new [] (a ∷ answers) all none = absurd all
-answers-changed old new (e ∷ edits) [] all none = absurd all
-answers-changed old new (e ∷ edits) (a ∷ answers) (mid, step, all) none =
-    let both = or_parts a.refuses (list_any (λ a. a.refuses) answers) none in
-    answers-changed mid new edits answers all both.1 ∙ ap (λ s. fold changed s edits) (by step both.0)
-  where
-    by : Answers old (makes e) a mid → a.refuses ≡ false → mid ≡ changed old e
-    by (by_engine call reply asked made told) taken =
-        let is : call ≡ an_edit e = cc in
-        step-changed old mid e call reply is (sym (ap (λ b. b.refuses) told) ∙ taken) made
-    by (by_modules asked told same) taken = absurd cc
-    by (by_dump asked told same) taken = absurd cc
+    run-changed mid new edits changes run ∙ ap (λ s. fold changed s edits) (step-changed old mid (e ∷ []) (an_edit e) (changed_by c) refl refl step)
 
 -- A run of the edits of a dump that are all accepted leads to the store that was dumped.
 pub run-of-dump : (store new : Store) (changes : List Changes) → IsStore store → Run empty (map an_edit (dump_edits store)) (map changed_by changes) new → new ≡ store
 run-of-dump store new changes is run = run-changed empty new (dump_edits store) changes run ∙ dump-builds store is
+
+-- What the commands of a dump do to a store, as the batch that they are.
+pub dump-answered : (line : ℕ) (old : Store) (store : Store) (answers : List Answer) (last : State) → AllByRecursion (λ e. held_as e ≡ e) (dump_edits store)
+    → AnswersAll line (state_of old) (dump_commands store) answers last → Outcome old (dump_edits store) answers last
+dump-answered line old store [] last kept all = absurd all
+dump-answered line old store (a ∷ answers) last kept (mid, step, all) =
+    let (told, same) = begin-given line old a mid step in
+    let rest = batch-answered (line + lines_of begins) line old [] (dump_edits store) answers last kept
+    (subst (λ s. AnswersAll (line + lines_of begins) s (map makes (dump_edits store) ++ commits ∷ []) answers last) same all) in
+    subst (λ b. Outcome old (dump_edits store) (b ∷ answers) last) (sym told) (with-line old (dump_edits store) (codes "open\n") answers last rest)
+
+-- Where none of them is refused, they lead from the empty store to the one that was dumped, and no batch is open behind them.
+pub answers-changed : (store : Store) (answers : List Answer) (last : State) → IsStore store → AllByRecursion (λ e. held_as e ≡ e) (dump_edits store)
+    → AnswersAll 1 (state_of empty) (dump_commands store) answers last → list_any (λ a. a.refuses) answers ≡ false → (last.store ≡ store) × (last.batch ≡ None)
+answers-changed store answers last is kept all none = by (dump-answered 1 empty store answers last kept all)
+  where
+    by : Outcome empty (dump_edits store) answers last → (last.store ≡ store) × (last.batch ≡ None)
+    by (was_made reply step closed any refusals) =
+        (step-changed empty last.store (dump_edits store) (a_batch (dump_edits store)) reply refl (sym any ∙ none) step ∙ dump-builds store is, closed)
+    by (was_long long any same) = absurd (true≢false (sym any ∙ none))
+    by (lacked_memory refusals any same) = absurd (true≢false (sym any ∙ none))

@@ -1,22 +1,22 @@
 -- A dump as a script.
-use Rattle.std.proofs.Common.{◌≡◌, inl, inr, ◌∷◌, ◌++◌, [], ℕ, ◌≤◌, List, Bool, true, false, ◌||◌, ◌==◌, nat_le, length, map, codes, decimal, bytes_eq, if◌then◌else◌, refl, ap, sym, ◌∙◌, subst, true≢false, length-append, arith}
+use Rattle.std.proofs.Common.{◌≡◌, inl, inr, ◌∷◌, ◌++◌, [], ℕ, ◌≤◌, List, Bool, true, false, ◌||◌, ◌==◌, nat_le, length, map, codes, decimal, bytes_eq, Option, Some, None, if◌then◌else◌, refl, ap, sym, ◌∙◌, subst, true≢false, length-append, arith}
 use Rattle.std.specs.List.{list_all, list_any, AllByRecursion}
 use Rattle.std.proofs.lemmas.Bool.{and_parts, leb-true, or_cases}
 use Rattle.std.proofs.lemmas.Bool.Decides.{nat_tests}
 use Rattle.std.proofs.lemmas.Fmt.{length-decimal-le}
-use Rattle.std.proofs.lemmas.List.{append-nil}
-use Rattle.std.proofs.lemmas.List.Folds.{flat_map-map}
+use Rattle.std.proofs.lemmas.List.{append-nil, take_all}
 use Rattle.std.proofs.lemmas.Slice.Eq.{bytes_eq-Decides}
 use Rattle.cil_specs.proofs.GrowsLemmas.{all-grows}
 use Rattle.cil_specs.proofs.NamesLemmas.{all-weaker, all-append}
 use Rattle.cil_specs.proofs.Runs.{both_true}
 use Rattle.cil_store_specs.specs.Store.{Entry, Store, IsStore, empty, is_installed}
 use Rattle.cil_store_specs.specs.Limits.{IsEntryWithinLimits, IsWithinLimits}
-use Rattle.cil_store_specs.specs.Next.{disable, install_of, begins_module_name, is_module_name}
-use Rattle.cil_store_specs.specs.Script.{Command, makes, is_shown, command_bytes, IsGoodName, IsCommand, End, ends, Commands, whole, AnswersAll, dump_edits, dump_text}
-use Rattle.cil_store_specs.specs.Session.{IsSession, all_accepted, some_refused, status_of}
+use Rattle.cil_store_specs.specs.Next.{install, disable, install_of, begins_module_name, is_module_name}
+use Rattle.cil_store_specs.specs.Script.{Command, makes, commits, is_shown, IsGoodName, IsCommand, End, ends, Commands, whole, dump_edits, dump_commands, dump_text}
+use Rattle.cil_store_specs.specs.Answers.{Batch, state_of, held_as, AnswersAll}
+use Rattle.cil_store_specs.specs.Session.{IsSession, Status, all_accepted, some_refused, status_of, last_end}
 use Rattle.cil_store_specs.proofs.OneScript.{one-script}
-use Rattle.cil_store_specs.proofs.DumpLemmas.{answers-changed, dump-builds}
+use Rattle.cil_store_specs.proofs.DumpLemmas.{answers-changed}
 
 shown-byte : (b : ℕ) → (begins_module_name b || (b == 45 || b == 46)) ≡ true → is_shown b ≡ true
 shown-byte b is = grind (arith, nat_tests)
@@ -66,29 +66,49 @@ all-mapped : {X Y : Type 0} (P : Y → Type 0) (f : X → Y) (xs : List X) → A
 all-mapped P f [] all = tt
 all-mapped P f (x ∷ xs) all = (all.0, all-mapped P f xs all.1)
 
-all-commands : (store : Store) → IsWithinLimits store → AllByRecursion IsCommand (map makes (dump_edits store))
-all-commands store is =
+edit-commands : (store : Store) → IsWithinLimits store → AllByRecursion IsCommand (map makes (dump_edits store))
+edit-commands store is =
     all-mapped IsCommand makes (dump_edits store) (all-append (λ edit. IsCommand (makes edit)) (map install_of store.entries) (map disable store.disabled)
     (all-mapped (λ edit. IsCommand (makes edit)) install_of store.entries (all-weaker IsEntryWithinLimits (λ e. IsCommand (makes (install_of e))) install-command store.entries is.each))
     (all-mapped (λ edit. IsCommand (makes edit)) disable store.disabled (all-weaker (λ name. is_installed name store.entries ≡ true) (λ name. IsCommand (makes (disable name))) (λ name there. disable-command name (installed-name store.entries name is.each there)) store.disabled is.disabled)))
 
--- The commands of a dump are its edits.
-pub commands-of-dump : (store : Store) → IsWithinLimits store → Commands (dump_text store) (map makes (dump_edits store)) ends
-commands-of-dump store is = whole (all-commands store is) [] (sym (append-nil _ ∙ flat_map-map command_bytes makes (dump_edits store))) refl
+-- and so are its begin and its commit
+all-commands : (store : Store) → IsWithinLimits store → AllByRecursion IsCommand (dump_commands store)
+all-commands store is = ((tt, omega arith), all-append IsCommand (map makes (dump_edits store)) (commits ∷ []) (edit-commands store is) ((tt, omega arith), tt))
 
--- And nothing else.
-pub dump-alone : (store : Store) (commands : List Command) (end : End) → IsWithinLimits store → Commands (dump_text store) commands end → (commands ≡ map makes (dump_edits store)) × (end ≡ ends)
-dump-alone store commands end is read = one-script (dump_text store) commands (map makes (dump_edits store)) end ends read (commands-of-dump store is)
+-- Each of its edits is held as it is.
+pub edits-kept : (store : Store) → IsWithinLimits store → AllByRecursion (λ edit. held_as edit ≡ edit) (dump_edits store)
+edits-kept store is =
+    all-append (λ edit. held_as edit ≡ edit) (map install_of store.entries) (map disable store.disabled)
+    (all-mapped (λ edit. held_as edit ≡ edit) install_of store.entries
+    (all-weaker IsEntryWithinLimits (λ e. held_as (install_of e) ≡ install_of e) (λ e within. ap (install e.name e.priority) (take_all 16777217 e.text (omega (arith, within.text)))) store.entries is.each))
+    (all-mapped (λ edit. held_as edit ≡ edit) disable store.disabled
+    (all-weaker (λ name. is_installed name store.entries ≡ true) (λ name. held_as (disable name) ≡ disable name) (λ name there. refl) store.disabled is.disabled))
 
--- A session over a dump, all of whose commands are accepted, leaves the store that was dumped.
-pub session-of-dump : (store new : Store) (written : List ℕ) → IsStore store → IsWithinLimits store → IsSession (dump_text store) true empty new written all_accepted → new ≡ store
-session-of-dump store new written is within made =
+-- A dump is a script of the batch of its edits.
+pub commands-of-dump : (store : Store) → IsWithinLimits store → Commands (dump_text store) (dump_commands store) ends
+commands-of-dump store is = whole (all-commands store is) [] (sym (append-nil (dump_text store))) refl
+
+-- And of nothing else.
+pub dump-alone : (store : Store) (commands : List Command) (end : End) → IsWithinLimits store → Commands (dump_text store) commands end → (commands ≡ dump_commands store) × (end ≡ ends)
+dump-alone store commands end is read = one-script (dump_text store) commands (dump_commands store) end ends read (commands-of-dump store is)
+
+-- A session over a dump answers its commands, and its script ends with them.
+pub session-answers : (store new : Store) (written : List ℕ) (status : Status) → IsWithinLimits store → (made : IsSession (dump_text store) true empty new written status)
+    → AnswersAll 1 (state_of empty) (dump_commands store) made.answers made.last × (made.end ≡ ends)
+session-answers store new written status within made =
     let dump = subst (λ text. Commands text made.commands made.end) (append-nil (dump_text store)) (made.are_commands [] (λ over. refl)) in
     let same = dump-alone store made.commands made.end within dump in
-    answers-changed empty new (dump_edits store) made.answers (subst (λ commands. AnswersAll empty commands made.answers new) same.0 made.answered)
-    (by (list_any (λ a. a.refuses) made.answers) refl (made.status_is ∙ ap (status_of made.answers) same.1))
-    ∙ dump-builds store is
+    (subst (λ commands. AnswersAll 1 (state_of empty) commands made.answers made.last) same.0 made.answered, same.1)
+
+-- Where no command is refused, it leaves the store that was dumped.
+pub session-of-dump : (store new : Store) (written : List ℕ) → IsStore store → IsWithinLimits store → IsSession (dump_text store) true empty new written all_accepted → new ≡ store
+session-of-dump store new written is within made =
+    let (answered, end) = session-answers store new written all_accepted within made in
+    made.store_is ∙ (answers-changed store made.answers made.last is (edits-kept store within) answered
+    (by (list_any (λ a. a.refuses) made.answers) made.last.batch refl (made.status_is ∙ ap (λ e. status_of made.answers (last_end e made.last.batch)) end))).0
   where
-    by : (b : Bool) → list_any (λ a. a.refuses) made.answers ≡ b → all_accepted ≡ status_of made.answers ends → list_any (λ a. a.refuses) made.answers ≡ false
-    by true refused status = absurd (let e : all_accepted ≡ some_refused = status ∙ ap (λ b. if b then some_refused else all_accepted) refused in cc)
-    by false accepted status = accepted
+    by : (b : Bool) (batch : Option Batch) → list_any (λ a. a.refuses) made.answers ≡ b → all_accepted ≡ status_of made.answers (last_end ends batch) → list_any (λ a. a.refuses) made.answers ≡ false
+    by b (Some batch) refused status = absurd cc
+    by true None refused status = absurd (let e : all_accepted ≡ some_refused = status ∙ ap (λ b. if b then some_refused else all_accepted) refused in cc)
+    by false None accepted status = accepted

@@ -13,7 +13,9 @@ pub mod WordLemmas
 pub mod LineLemmas
 pub mod OneScript
 pub mod OneRun
+pub mod HeldLemmas
 pub mod DumpLemmas
 pub mod DumpScript
 pub mod OneAtOnce
 pub mod DumpAtOnce
+pub mod DumpSession

@@ -4,7 +4,7 @@ use Rattle.std.proofs.lemmas.List.{take_all, take-append-le}
 use Rattle.std.specs.List.{list_all, AllByRecursion}
 use Rattle.cil_specs.proofs.NamesLemmas.{all-first, all-second}
 use Rattle.cil_store_specs.specs.Next.{install, remove, enable, disable}
-use Rattle.cil_store_specs.specs.Script.{Command, makes, asks_rules, asks_violations, asks_dropped, asks_modules, asks_dump, line_of, behind, command_bytes, HasGoodWords, IsCommand, MayLackItsEnd, End, ends, stops, IsEnd, Commands, whole, without_end}
+use Rattle.cil_store_specs.specs.Script.{Command, makes, begins, commits, aborts, asks_rules, asks_violations, asks_dropped, asks_modules, asks_dump, line_of, behind, command_bytes, HasGoodWords, IsCommand, MayLackItsEnd, End, ends, stops, IsEnd, Commands, whole, without_end}
 use Rattle.cil_store_specs.specs.Session.{BeginsWith, whole_ones, all_of_it}
 use Rattle.cil_store_specs.proofs.WordLemmas.{stays, line-stays, lines-same, commands-same, text_of, text-length, kind_of_word, number_of, first_word}
 use Rattle.cil_store_specs.proofs.LineLemmas.{same-lines, has-feed, command-line}
@@ -29,6 +29,9 @@ length-behind (makes (install name priority text)) = length-append text (10 ∷ 
 length-behind (makes (remove name priority)) = refl
 length-behind (makes (enable name)) = refl
 length-behind (makes (disable name)) = refl
+length-behind begins = refl
+length-behind commits = refl
+length-behind aborts = refl
 length-behind asks_rules = refl
 length-behind asks_violations = refl
 length-behind asks_dropped = refl
@@ -41,6 +44,9 @@ text-behind (makes (install name priority text)) = sym (take_all (length text) t
 text-behind (makes (remove name priority)) = refl
 text-behind (makes (enable name)) = refl
 text-behind (makes (disable name)) = refl
+text-behind begins = refl
+text-behind commits = refl
+text-behind aborts = refl
 text-behind asks_rules = refl
 text-behind asks_violations = refl
 text-behind asks_dropped = refl
@@ -69,6 +75,9 @@ no-text (makes (install name priority text)) may = absurd may
 no-text (makes (remove name priority)) may = refl
 no-text (makes (enable name)) may = refl
 no-text (makes (disable name)) may = refl
+no-text begins may = refl
+no-text commits may = refl
+no-text aborts may = refl
 no-text asks_rules may = refl
 no-text asks_violations may = refl
 no-text asks_dropped may = refl
@@ -85,6 +94,9 @@ some-line (makes (install name priority text)) = omega arith
 some-line (makes (remove name priority)) = omega arith
 some-line (makes (enable name)) = omega arith
 some-line (makes (disable name)) = omega arith
+some-line begins = omega arith
+some-line commits = omega arith
+some-line aborts = omega arith
 some-line asks_rules = omega arith
 some-line asks_violations = omega arith
 some-line asks_dropped = omega arith

@@ -1,9 +1,11 @@
 -- A run goes on by one call, and keeps what each edit keeps.
-use Rattle.std.proofs.Common.{◌≡◌, List, [], ◌∷◌, ◌++◌, refl, sym, subst}
+use Rattle.std.proofs.Common.{◌≡◌, ℕ, ◌+◌, ◌==◌, List, [], ◌∷◌, ◌++◌, flat_map, count_by, if◌then◌else◌, refl, sym, ◌∙◌, subst, arith}
+use Rattle.std.proofs.lemmas.List.Sums.{sum_by-append}
 use Rattle.cil_store_specs.specs.Store.{Store}
 use Rattle.cil_store_specs.specs.Next.{Edit, IsTaken, AreTaken, accepts, NextOfAll, one_not_taken, bad_policy_of_all, all_good, Next, too_long, at_once}
 use Rattle.cil_store_specs.specs.Run.{Call, Reply, accepted, rejected, lists, prints, tells_violations, tells_dropped, out_of_memory, Step, Run}
-use Rattle.cil_store_specs.specs.Script.{Command, Answer, Answers, AnswersAll}
+use Rattle.cil_store_specs.specs.Script.{Command, command_bytes}
+use Rattle.cil_store_specs.specs.Answers.{Answer, State, Answers, lines_of, AnswersAll}
 
 pub run-more : (old mid new : Store) (calls : List Call) (replies : List Reply) (call : Call) (reply : Reply) → Run old calls replies mid → Step mid call reply new → Run old (calls ++ call ∷ []) (replies ++ reply ∷ []) new
 run-more old mid new [] [] call reply run step = (new, subst (λ s. Step s call reply new) run step, refl)
@@ -11,12 +13,23 @@ run-more old mid new [] (r ∷ replies) call reply run step = absurd run
 run-more old mid new (c ∷ calls) [] call reply run step = absurd run
 run-more old mid new (c ∷ calls) (r ∷ replies) call reply run step = (run.0, run.1, run-more run.0 mid new calls replies call reply run.2 step)
 
+-- the line behind commands of which the first is on a line
+abbrev pub line_behind : ℕ → List Command → ℕ
+line_behind line [] = line
+line_behind line (command ∷ commands) = line_behind (line + lines_of command) commands
+
 -- and so do the answers to commands
-pub answers-more : (old mid new : Store) (commands : List Command) (answers : List Answer) (command : Command) (answer : Answer) → AnswersAll old commands answers mid → Answers mid command answer new → AnswersAll old (commands ++ command ∷ []) (answers ++ answer ∷ []) new
-answers-more old mid new [] [] command answer all step = (new, subst (λ s. Answers s command answer new) all step, refl)
-answers-more old mid new [] (a ∷ answers) command answer all step = absurd all
-answers-more old mid new (c ∷ commands) [] command answer all step = absurd all
-answers-more old mid new (c ∷ commands) (a ∷ answers) command answer all step = (all.0, all.1, answers-more all.0 mid new commands answers command answer all.2 step)
+pub answers-more : (line : ℕ) (old mid new : State) (commands : List Command) (answers : List Answer) (command : Command) (answer : Answer) → AnswersAll line old commands answers mid → Answers (line_behind line commands) mid command answer new
+    → AnswersAll line old (commands ++ command ∷ []) (answers ++ answer ∷ []) new
+answers-more line old mid new [] [] command answer all step = (new, subst (λ s. Answers line s command answer new) all step, refl)
+answers-more line old mid new [] (a ∷ answers) command answer all step = absurd all
+answers-more line old mid new (c ∷ commands) [] command answer all step = absurd all
+answers-more line old mid new (c ∷ commands) (a ∷ answers) command answer all step = (all.0, all.1, answers-more (line + lines_of c) all.0 mid new commands answers command answer all.2 step)
+
+-- it is told by the line feeds of the commands
+pub line-behind : (line : ℕ) (commands : List Command) → line_behind line commands ≡ line + count_by (λ b. b == 10) (flat_map command_bytes commands)
+line-behind line [] = omega arith
+line-behind line (c ∷ commands) = line-behind (line + lines_of c) commands ∙ omega (arith, sum_by-append (λ b. if b == 10 then 1 else 0) (command_bytes c) (flat_map command_bytes commands))
 
 -- the edits of an accepted batch are taken
 pub all-taken : (old new : Store) (edits : List Edit) → NextOfAll old edits (accepts new) → AreTaken old edits new
@@ -27,10 +40,6 @@ all-taken old new edits (all_good other meaning are means same) = let e : other 
 pub accepted-taken : (old new : Store) (edits : List Edit) → Next old edits (accepts new) → AreTaken old edits new
 accepted-taken old new edits (too_long long same) = absurd cc
 accepted-taken old new edits (at_once short made) = all-taken old new edits made
-
--- one that is taken by itself
-pub one-taken : (old new : Store) (edit : Edit) → AreTaken old (edit ∷ []) new → IsTaken old edit new
-one-taken old new edit (mid, taken, same) = subst (IsTaken old edit) (sym same) taken
 
 module _ (P : Store → Type 0) (keeps : (old new : Store) (edit : Edit) → P old → IsTaken old edit new → P new) where
   taken-keep : (old new : Store) (edits : List Edit) → P old → AreTaken old edits new → P new

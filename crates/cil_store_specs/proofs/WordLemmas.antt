@@ -6,7 +6,7 @@ use Rattle.std.proofs.lemmas.Fmt.{decimal_by_steps}
 use Rattle.std.proofs.lemmas.List.Folds.{list_all-append}
 use Rattle.cil_specs.proofs.Runs.{both_true, first_true, second_true, same_run}
 use Rattle.cil_store_specs.specs.Next.{install, remove, enable, disable}
-use Rattle.cil_store_specs.specs.Script.{Command, makes, asks_rules, asks_violations, asks_dropped, asks_modules, asks_dump, words_of, line_of, is_shown, HasGoodWords}
+use Rattle.cil_store_specs.specs.Script.{Command, makes, begins, commits, aborts, asks_rules, asks_violations, asks_dropped, asks_modules, asks_dump, words_of, line_of, is_shown, HasGoodWords}
 
 -- a byte that is neither a space nor a line feed
 abbrev pub is_plain : ℕ → Bool
@@ -56,6 +56,9 @@ words-plain (makes (install name priority text)) good = (refl, (shown-plain name
 words-plain (makes (remove name priority)) good = (refl, (shown-plain name good.0.shown, (digits-plain priority (omega (arith, good.1)), tt)))
 words-plain (makes (enable name)) good = (refl, (shown-plain name good.shown, tt))
 words-plain (makes (disable name)) good = (refl, (shown-plain name good.shown, tt))
+words-plain begins good = (refl, tt)
+words-plain commits good = (refl, tt)
+words-plain aborts good = (refl, tt)
 words-plain asks_rules good = (refl, tt)
 words-plain asks_violations good = (refl, tt)
 words-plain asks_dropped good = (refl, tt)
@@ -115,6 +118,9 @@ words-split (makes (install name priority text)) = refl
 words-split (makes (remove name priority)) = refl
 words-split (makes (enable name)) = refl
 words-split (makes (disable name)) = refl
+words-split begins = refl
+words-split commits = refl
+words-split aborts = refl
 words-split asks_rules = refl
 words-split asks_violations = refl
 words-split asks_dropped = refl
@@ -134,12 +140,14 @@ lines-same c d a b e =
 abbrev pub kind_of_word : List ℕ → ℕ
 kind_of_word w =
     if bytes_eq w (codes "install") then 0 else if bytes_eq w (codes "remove") then 1 else if bytes_eq w (codes "enable") then 2 else if bytes_eq w (codes "disable") then 3
-    else if bytes_eq w (codes "rules") then 4 else if bytes_eq w (codes "violations") then 5 else if bytes_eq w (codes "dropped") then 6 else if bytes_eq w (codes "modules") then 7 else 8
+    else if bytes_eq w (codes "rules") then 4 else if bytes_eq w (codes "violations") then 5 else if bytes_eq w (codes "dropped") then 6 else if bytes_eq w (codes "modules") then 7
+    else if bytes_eq w (codes "begin") then 9 else if bytes_eq w (codes "commit") then 10 else if bytes_eq w (codes "abort") then 11 else 8
 
 abbrev pub command_by : ℕ → List ℕ → ℕ → List ℕ → Command
 command_by kind name priority text =
     if kind == 0 then makes (install name priority text) else if kind == 1 then makes (remove name priority) else if kind == 2 then makes (enable name) else if kind == 3 then makes (disable name)
-    else if kind == 4 then asks_rules else if kind == 5 then asks_violations else if kind == 6 then asks_dropped else if kind == 7 then asks_modules else asks_dump
+    else if kind == 4 then asks_rules else if kind == 5 then asks_violations else if kind == 6 then asks_dropped else if kind == 7 then asks_modules
+    else if kind == 9 then begins else if kind == 10 then commits else if kind == 11 then aborts else asks_dump
 
 -- the number that digits denote
 abbrev number_from : ℕ → List ℕ → ℕ
@@ -167,6 +175,9 @@ command-is (makes (install name priority text)) good = ap (λ p. makes (install 
 command-is (makes (remove name priority)) good = ap (λ p. makes (remove name p)) (sym (number-decimal priority (omega (arith, good.1))))
 command-is (makes (enable name)) good = refl
 command-is (makes (disable name)) good = refl
+command-is begins good = refl
+command-is commits good = refl
+command-is aborts good = refl
 command-is asks_rules good = refl
 command-is asks_violations good = refl
 command-is asks_dropped good = refl
@@ -186,6 +197,9 @@ text-length (makes (install name priority text)) good = sym (number-decimal (len
 text-length (makes (remove name priority)) good = refl
 text-length (makes (enable name)) good = refl
 text-length (makes (disable name)) good = refl
+text-length begins good = refl
+text-length commits good = refl
+text-length aborts good = refl
 text-length asks_rules good = refl
 text-length asks_violations good = refl
 text-length asks_dropped good = refl
@@ -217,6 +231,9 @@ known-first (makes (install name priority text)) some a b c d = a refl
 known-first (makes (remove name priority)) some a b c d = b refl
 known-first (makes (enable name)) some a b c d = c refl
 known-first (makes (disable name)) some a b c d = d refl
+known-first begins some a b c d = some refl
+known-first commits some a b c d = some refl
+known-first aborts some a b c d = some refl
 known-first asks_rules some a b c d = some refl
 known-first asks_violations some a b c d = some refl
 known-first asks_dropped some a b c d = some refl
@@ -225,13 +242,17 @@ known-first asks_dump some a b c d = some refl
 
 -- a line of one word is one of these
 pub known-word : (word : List ℕ) (command : Command) → list_all is_no_space word ≡ true → word ≡ line_of command
+    → word ≢ codes "begin" → word ≢ codes "commit" → word ≢ codes "abort"
     → word ≢ codes "rules" → word ≢ codes "violations" → word ≢ codes "dropped" → word ≢ codes "modules" → word ≢ codes "dump" → ⊥
-known-word word (makes (install name priority text)) all is a b c d f = has-space (codes "install") (join_with_byte 32 (name ∷ decimal priority ∷ decimal (length text) ∷ [])) (sym (ap (list_all is_no_space) is) ∙ all)
-known-word word (makes (remove name priority)) all is a b c d f = has-space (codes "remove") (join_with_byte 32 (name ∷ decimal priority ∷ [])) (sym (ap (list_all is_no_space) is) ∙ all)
-known-word word (makes (enable name)) all is a b c d f = has-space (codes "enable") name (sym (ap (list_all is_no_space) is) ∙ all)
-known-word word (makes (disable name)) all is a b c d f = has-space (codes "disable") name (sym (ap (list_all is_no_space) is) ∙ all)
-known-word word asks_rules all is a b c d f = a is
-known-word word asks_violations all is a b c d f = b is
-known-word word asks_dropped all is a b c d f = c is
-known-word word asks_modules all is a b c d f = d is
-known-word word asks_dump all is a b c d f = f is
+known-word word (makes (install name priority text)) all is g h j a b c d f = has-space (codes "install") (join_with_byte 32 (name ∷ decimal priority ∷ decimal (length text) ∷ [])) (sym (ap (list_all is_no_space) is) ∙ all)
+known-word word (makes (remove name priority)) all is g h j a b c d f = has-space (codes "remove") (join_with_byte 32 (name ∷ decimal priority ∷ [])) (sym (ap (list_all is_no_space) is) ∙ all)
+known-word word (makes (enable name)) all is g h j a b c d f = has-space (codes "enable") name (sym (ap (list_all is_no_space) is) ∙ all)
+known-word word (makes (disable name)) all is g h j a b c d f = has-space (codes "disable") name (sym (ap (list_all is_no_space) is) ∙ all)
+known-word word begins all is g h j a b c d f = g is
+known-word word commits all is g h j a b c d f = h is
+known-word word aborts all is g h j a b c d f = j is
+known-word word asks_rules all is g h j a b c d f = a is
+known-word word asks_violations all is g h j a b c d f = b is
+known-word word asks_dropped all is g h j a b c d f = c is
+known-word word asks_modules all is g h j a b c d f = d is
+known-word word asks_dump all is g h j a b c d f = f is

@@ -4,4 +4,5 @@ pub mod Limits
 pub mod Run
 pub mod StoreReport
 pub mod Script
+pub mod Answers
 pub mod Session

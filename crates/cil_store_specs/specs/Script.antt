@@ -1,16 +1,19 @@
--- Scripts: their commands, and the answers.
-use Rattle.std.specs.Prelude.{◌≡◌, ◌≢◌, ℕ, ◌+◌, ◌<◌, ◌≤◌, Bool, true, false, ◌&&◌, ◌==◌, nat_le, List, [], ◌∷◌, ◌++◌, map, flat_map, length, codes, decimal, count_by, IsTrue, Option, Some, None}
+-- Scripts: their commands, and the lines of replies.
+use Rattle.std.specs.Prelude.{◌≡◌, ◌≢◌, ℕ, ◌+◌, ◌<◌, ◌≤◌, Bool, ◌&&◌, ◌==◌, nat_le, List, [], ◌∷◌, ◌++◌, map, flat_map, length, codes, decimal, count_by, IsTrue}
 use Rattle.std.specs.List.{list_all, join_with_byte, AllByRecursion}
 use Rattle.cil_specs.specs.Report.{row_line, dropped_line}
 use Rattle.cil_specs.specs.Violations.{violation_line}
 use Rattle.cil_store_specs.specs.Store.{Store}
-use Rattle.cil_store_specs.specs.StoreReport.{modules_text}
 use Rattle.cil_store_specs.specs.Next.{Edit, install, remove, enable, disable, install_of, Refusal, by_store, at_place, for_memory}
-use Rattle.cil_store_specs.specs.Run.{Call, an_edit, ask_rows, ask_violations, ask_dropped, Reply, changed_by, refused, listed, printed, violated, dropped_optionals, Step}
+use Rattle.cil_store_specs.specs.Run.{Reply, changed_by, refused, listed, printed, violated, dropped_optionals}
 
--- a command: an edit, or a question for the listing, the violations, the optionals that drop, the modules, or a script for the store
+-- a command: an edit; the begin of a batch, its commit or its abort; or a question for the listing, the violations, the optionals that
+-- drop, the modules, or a script for the store
 pub data Command : Type 0 where
   makes : Edit → Command
+  begins : Command
+  commits : Command
+  aborts : Command
   asks_rules : Command
   asks_violations : Command
   asks_dropped : Command
@@ -23,6 +26,9 @@ words_of (makes (install name priority text)) = codes "install" ∷ name ∷ dec
 words_of (makes (remove name priority)) = codes "remove" ∷ name ∷ decimal priority ∷ []
 words_of (makes (enable name)) = codes "enable" ∷ name ∷ []
 words_of (makes (disable name)) = codes "disable" ∷ name ∷ []
+words_of begins = codes "begin" ∷ []
+words_of commits = codes "commit" ∷ []
+words_of aborts = codes "abort" ∷ []
 words_of asks_rules = codes "rules" ∷ []
 words_of asks_violations = codes "violations" ∷ []
 words_of asks_dropped = codes "dropped" ∷ []
@@ -112,55 +118,18 @@ reply_text (printed text) = text
 reply_text (violated violations) = flat_map violation_line violations ++ end_line (length violations)
 reply_text (dropped_optionals dropped) = flat_map dropped_line dropped ++ end_line (length dropped)
 
--- whether a reply is a refusal
-abbrev pub is_refusal : Reply → Bool
-is_refusal (refused refusal) = true
-is_refusal _ = false
-
--- the bytes that answer a command, and whether they are a refusal
-pub record Answer : Type 0 where
-  pub bytes : List ℕ
-  pub refuses : Bool
-
-abbrev pub answer_of : Reply → Answer
-answer_of reply = record { bytes = reply_text reply; refuses = is_refusal reply }
-
--- the call of an engine that a command makes, if it makes one
-abbrev pub call_of : Command → Option Call
-call_of (makes edit) = Some (an_edit edit)
-call_of asks_rules = Some ask_rows
-call_of asks_violations = Some ask_violations
-call_of asks_dropped = Some ask_dropped
-call_of asks_modules = None
-call_of asks_dump = None
-
 -- the edits that build a store (dump): an install of each entry, in the order of the store, and then a disable of each disabled name
 abbrev pub dump_edits : Store → List Edit
 dump_edits store = map install_of store.entries ++ map disable store.disabled
 
--- and the script of them
+-- and the script of them, which makes them as one batch
+abbrev pub dump_commands : Store → List Command
+dump_commands store = begins ∷ (map makes (dump_edits store) ++ commits ∷ [])
+
 abbrev pub dump_text : Store → List ℕ
-dump_text store = flat_map (λ edit. command_bytes (makes edit)) (dump_edits store)
-
--- What a command does to a store, and what answers it: the reply to its call of an engine; or, of a command that makes none, a
--- report of the store, which stays.
-pub data Answers (old : Store) (command : Command) (answer : Answer) (new : Store) : Type 0 where
-  by_engine : (call : Call) (reply : Reply) → call_of command ≡ Some call → Step old call reply new → answer ≡ answer_of reply → Answers old command answer new
-  by_modules : command ≡ asks_modules → answer ≡ record { bytes = modules_text old ++ end_line (length old.entries); refuses = false } → new ≡ old → Answers old command answer new
-  by_dump : command ≡ asks_dump → answer ≡ record { bytes = dump_text old ++ end_line (length (dump_edits old)); refuses = false } → new ≡ old → Answers old command answer new
-
--- the answers to commands, one after another
-abbrev pub AnswersAll : Store → List Command → List Answer → Store → Type 0
-AnswersAll old [] [] new = new ≡ old
-AnswersAll old (command ∷ commands) (answer ∷ answers) new = (mid : Store) × Answers old command answer mid × AnswersAll mid commands answers new
-AnswersAll old [] (answer ∷ answers) new = ⊥
-AnswersAll old (command ∷ commands) [] new = ⊥
+dump_text store = flat_map command_bytes (dump_commands store)
 
 -- what is written behind the answers
 abbrev pub last_line : End → List ℕ
 last_line ends = []
 last_line (stops line) = codes "script " ++ decimal line ++ codes "\n"
-
--- the bytes of all answers, and of the end
-abbrev pub answers_text : List Answer → End → List ℕ
-answers_text answers end = flat_map (λ a. a.bytes) answers ++ last_line end

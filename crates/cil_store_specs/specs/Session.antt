@@ -1,8 +1,9 @@
 -- What a session over a script leaves behind.
-use Rattle.std.specs.Prelude.{◌≡◌, ◌⊎◌, ℕ, Bool, List, [], ◌∷◌, ◌++◌, flat_map, IsTrue, if◌then◌else◌}
+use Rattle.std.specs.Prelude.{◌≡◌, ◌⊎◌, ℕ, Bool, List, [], ◌∷◌, ◌++◌, flat_map, Option, Some, None, IsTrue, if◌then◌else◌}
 use Rattle.std.specs.List.{list_any, AllByRecursion}
 use Rattle.cil_store_specs.specs.Store.{Store}
-use Rattle.cil_store_specs.specs.Script.{Command, command_bytes, IsCommand, End, ends, stops, Commands, Answer, AnswersAll, last_line, answers_text}
+use Rattle.cil_store_specs.specs.Script.{Command, command_bytes, IsCommand, End, ends, stops, Commands, last_line}
+use Rattle.cil_store_specs.specs.Answers.{Answer, Batch, State, state_of, AnswersAll, answers_text}
 
 -- how a session ends
 pub data Status : Type 0 where
@@ -15,28 +16,28 @@ abbrev pub status_of : List Answer → End → Status
 status_of answers (stops line) = no_script
 status_of answers ends = if list_any (λ a. a.refuses) answers then some_refused else all_accepted
 
+-- the commands of a script were answered one after another, from one state to another
+abbrev pub AreAnswered : State → List Command → List Answer → State → Type 0
+AreAnswered old commands answers new = AnswersAll 1 old commands answers new
+
+-- A script whose commands end while a batch is open ends at the line of its begin.
+abbrev pub last_end : End → Option Batch → End
+last_end ends None = ends
+last_end ends (Some batch) = stops batch.line
+last_end (stops line) batch = stops line
+
 -- The script is the bytes that a source gave, if it told its end; or else all that begins with these bytes. Its commands were
--- answered one after another, the answers were written, and nothing else.
+-- answered one after another, the answers were written, and nothing else. Nothing was done of a batch that is still open.
 pub record IsSession (given : List ℕ) (ended : Bool) (old new : Store) (written : List ℕ) (status : Status) : Type 0 where
   pub commands : List Command
   pub answers : List Answer
   pub end : End
+  pub last : State
   pub are_commands : (more : List ℕ) → (IsTrue ended → more ≡ []) → Commands (given ++ more) commands end
-  pub answered : AnswersAll old commands answers new
-  pub are_written : written ≡ answers_text answers end
-  pub status_is : status ≡ status_of answers end
-
--- what a session keeps from one command to the next
-pub record State : Type 0 where
-  pub store : Store
-
--- the state of a session that starts on a store
-abbrev pub state_of : Store → State
-state_of store = record { store = store }
-
--- commands were answered one after another, from one state to another
-abbrev pub AreAnswered : State → List Command → List Answer → State → Type 0
-AreAnswered old commands answers new = AnswersAll old.store commands answers new.store
+  pub answered : AreAnswered (state_of old) commands answers last
+  pub store_is : new ≡ last.store
+  pub are_written : written ≡ answers_text answers (last_end end last.batch)
+  pub status_is : status ≡ status_of answers (last_end end last.batch)
 
 -- these bytes begin with no command that has its last line feed
 abbrev pub BeginsNoCommand : List ℕ → Type 0
@@ -85,7 +86,7 @@ pub record IsCutInTheLastLine (given : List ℕ) (ended : Bool) (old new : Store
   pub session : IsSession given ended old new text status
   pub front : List ℕ
   pub rest : List ℕ
-  pub line_is : last_line session.end ≡ front ++ rest
+  pub line_is : last_line (last_end session.end session.last.batch) ≡ front ++ rest
   pub are_written : written ≡ flat_map (λ a. a.bytes) session.answers ++ front
 
 -- the sink failed, in an answer or in the last line

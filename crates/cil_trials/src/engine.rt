@@ -1,50 +1,24 @@
 //! The engines of the trials.
 
-use crate::calls::{push_calls, push_entries};
-use crate::replies::write_replies;
-use crate::work::make_edits;
-use cil_program::script::memory::answer_script;
+use crate::calls::push_calls;
+use crate::delta::TriedDelta;
+use crate::plain::TriedPlain;
+use crate::replies::{or_memory, write_replies};
 use cil_program::script::reply;
-use cil_program::script::session::{SessionFault, Status, session};
+use cil_program::script::session::{SessionFault, Status};
 use cil_rules::Atom;
-use cil_store::{Call, Compiled, Delta, Entry, Plain, Seed, run};
-use cil_stream::{MemorySink, Sink, SinkFault, Source, write_all};
+use cil_store::{Call, Compiled, run};
+use cil_stream::{MemorySink, SinkFault};
 use cil_text::RuleKind;
-use cil_trial_cases::{Access, Case, End, Engine, Engines, Fault, Job, Kind, Refusal, Rule};
+use cil_trial_cases::{Access, Case, End, Engines, Fault, Job, Kind, Refusal, Rule};
 use refusing::Refusing;
 use std::alloc::Global;
 
 /// An allocator of which growths may be refused.
 pub type Heap = Refusing<Global>;
 
-/// What only one of the engines does.
-trait Own<'h> {
-    /// Has what was compiled at once in place of itself.
-    fn replace(&mut self, made: Plain<&'h Heap>);
-
-    /// The engine that counts its work.
-    fn counting(&mut self) -> Option<&mut Delta<&'h Heap>>;
-}
-
-impl<'h> Own<'h> for Plain<&'h Heap> {
-    fn replace(&mut self, made: Plain<&'h Heap>) {
-        *self = made;
-    }
-
-    fn counting(&mut self) -> Option<&mut Delta<&'h Heap>> {
-        None
-    }
-}
-
-impl<'h> Own<'h> for Delta<&'h Heap> {
-    fn replace(&mut self, _made: Plain<&'h Heap>) {}
-
-    fn counting(&mut self) -> Option<&mut Delta<&'h Heap>> {
-        Some(self)
-    }
-}
-
-fn end_of(end: Result<Status, SessionFault>) -> End {
+/// How a session ended.
+pub fn end_of(end: Result<Status, SessionFault>) -> End {
     match end {
         Ok(Status::Clean) => End::Clean,
         Ok(Status::Refused) => End::Refused,
@@ -63,98 +37,55 @@ fn kind_of(rule: Rule) -> RuleKind {
     }
 }
 
-/// An engine over a heap, and memory that is never refused.
-#[derive(Drop)]
-struct Tried<'h, C: Drop> {
+/// Refuses growths of a heap from now on.
+pub fn refuse(heap: &Heap, refusal: Refusal) {
+    match refusal {
+        Refusal::None => heap.refuse(0),
+        Refusal::Alone(nth) => heap.refuse(nth),
+        Refusal::From(nth) => heap.refuse_from(nth),
+    }
+}
+
+/// Has `run` make calls, and writes its replies.
+fn run_calls<'h, C: Compiled<&'h Heap>>(
+    heap: &'h Heap,
+    engine: &mut C,
+    calls: &[Call<'_>],
+    sink: &mut MemorySink,
+) -> Result<(), SinkFault> {
+    match run(heap, engine, calls) {
+        Ok(replies) => write_replies(sink, replies.as_slice()),
+        Err(_) => reply::write_no_memory(sink),
+    }
+}
+
+/// Has `run` make the calls that the commands of a script ask for, and writes its replies.
+pub fn run_script<'h, C: Compiled<&'h Heap>>(
     alloc: Global,
     heap: &'h Heap,
-    engine: C,
+    engine: &mut C,
+    script: &[u8],
+    sink: &mut MemorySink,
+) -> Result<(), Fault> {
+    let mut calls = Vec::new(alloc);
+    push_calls(&mut calls, script)?;
+    or_memory(run_calls(heap, engine, calls.as_slice(), sink))
 }
 
-impl<'h, C: Compiled<&'h Heap> + Own<'h> + Drop> Tried<'h, C> {
-    /// Has `run` make calls, and writes its replies.
-    fn run_calls(&mut self, calls: &[Call<'_>], sink: &mut MemorySink) -> Result<(), SinkFault> {
-        match run(self.heap, &mut self.engine, calls) {
-            Ok(replies) => write_replies(sink, replies.as_slice()),
-            Err(_) => reply::write_no_memory(sink),
-        }
-    }
-
-    /// Compiles entries at once, in place of what the engine has.
-    fn compile_entries(
-        &mut self,
-        entries: &[Entry<'_>],
-        sink: &mut MemorySink,
-    ) -> Result<(), SinkFault> {
-        match Plain::of(self.heap, Seed::fixed(), entries) {
-            Ok(made) => {
-                self.engine.replace(made);
-                write_all(sink, b"compiled\n")
-            }
-            Err(refusal) => reply::write_refusal(sink, &refusal),
-        }
-    }
+/// Whether a type is a member of an attribute.
+pub fn has_member<'h, C: Compiled<&'h Heap>>(engine: &C, attribute: &str, ty: &str) -> bool {
+    engine.has(attribute.as_bytes(), ty.as_bytes())
 }
 
-impl<'h, C: Compiled<&'h Heap> + Own<'h> + Drop> Engine for Tried<'h, C> {
-    fn refuse(&self, refusal: Refusal) {
-        match refusal {
-            Refusal::None => self.heap.refuse(0),
-            Refusal::Alone(nth) => self.heap.refuse(nth),
-            Refusal::From(nth) => self.heap.refuse_from(nth),
-        }
-    }
-
-    fn refused(&self) -> u64 {
-        self.heap.refused()
-    }
-
-    fn session<S: Source, W: Sink>(&mut self, source: &mut S, sink: &mut W) -> End {
-        end_of(session(self.heap, source, sink, &mut self.engine))
-    }
-
-    fn answer(&mut self, script: &[u8], sink: &mut MemorySink) -> End {
-        end_of(answer_script(self.heap, script, sink, &mut self.engine))
-    }
-
-    fn run(&mut self, script: &[u8], sink: &mut MemorySink) -> Result<(), Fault> {
-        let mut calls = Vec::new(self.alloc);
-        push_calls(&mut calls, script)?;
-        match self.run_calls(calls.as_slice(), sink) {
-            Ok(()) => Ok(()),
-            Err(_) => Err(Fault::Memory),
-        }
-    }
-
-    fn compile(&mut self, script: &[u8], sink: &mut MemorySink) -> Result<(), Fault> {
-        let mut entries = Vec::new(self.alloc);
-        push_entries(&mut entries, script)?;
-        match self.compile_entries(entries.as_slice(), sink) {
-            Ok(()) => Ok(()),
-            Err(_) => Err(Fault::Memory),
-        }
-    }
-
-    fn work(&mut self, script: &[u8], sink: &mut MemorySink) -> Result<(), Fault> {
-        match self.engine.counting() {
-            Some(delta) => make_edits(sink, delta, script),
-            None => Err(Fault::Case),
-        }
-    }
-
-    fn has(&self, attribute: &str, ty: &str) -> bool {
-        self.engine.has(attribute.as_bytes(), ty.as_bytes())
-    }
-
-    fn count(&self, access: Access<'_>) -> u64 {
-        self.engine.count(&Atom {
-            kind: kind_of(access.rule),
-            source: access.source.as_bytes(),
-            target: access.target.as_bytes(),
-            class: access.class.as_bytes(),
-            permission: access.permission.as_bytes(),
-        })
-    }
+/// How many rules give an access.
+pub fn count_rules<'h, C: Compiled<&'h Heap>>(engine: &C, access: Access<'_>) -> u64 {
+    engine.count(&Atom {
+        kind: kind_of(access.rule),
+        source: access.source.as_bytes(),
+        target: access.target.as_bytes(),
+        class: access.class.as_bytes(),
+        permission: access.permission.as_bytes(),
+    })
 }
 
 /// Makes the engines of the trials.
@@ -171,11 +102,7 @@ impl Makers {
         report: &mut MemorySink,
     ) -> Result<bool, Fault> {
         let heap = Refusing::new(self.alloc);
-        let mut tried = Tried {
-            alloc: self.alloc,
-            heap: &heap,
-            engine: Plain::new(&heap),
-        };
+        let mut tried = TriedPlain::new(self.alloc, &heap);
         job.make(self.alloc, &mut tried, case, report)
     }
 
@@ -186,11 +113,7 @@ impl Makers {
         report: &mut MemorySink,
     ) -> Result<bool, Fault> {
         let heap = Refusing::new(self.alloc);
-        let mut tried = Tried {
-            alloc: self.alloc,
-            heap: &heap,
-            engine: Delta::new(&heap),
-        };
+        let mut tried = TriedDelta::new(self.alloc, &heap);
         job.make(self.alloc, &mut tried, case, report)
     }
 }

@@ -2,7 +2,9 @@
 #![tactic(auto)]
 
 mod calls;
+mod delta;
 mod engine;
+mod plain;
 mod replies;
 mod work;
 

@@ -4,6 +4,15 @@ use crate::engine::Heap;
 use cil_program::script::reply;
 use cil_store::{ChangeCounts, Reply};
 use cil_stream::{MemorySink, SinkFault, write_all};
+use cil_trial_cases::Fault;
+
+/// What was written to memory, which fails only where memory lacks.
+pub fn or_memory(written: Result<(), SinkFault>) -> Result<(), Fault> {
+    match written {
+        Ok(()) => Ok(()),
+        Err(_) => Err(Fault::Memory),
+    }
+}
 
 fn write_reply(sink: &mut MemorySink, reply: &Reply<&Heap>) -> Result<(), SinkFault> {
     match reply {

@@ -2,39 +2,53 @@
 
 ghost use Rattle.std.specs.Prelude.{◌≡◌, ◌<◌, ◌↔◌, ◌∷◌, ◌++◌, ℕ, decimal, codes, IsTrue, Some, IfSome, IfNone};
 ghost use Rattle.std.specs.List.{list_all};
-ghost use Rattle.cil_store_specs.specs.Script.{is_shown as shown_byte, Command, HasGoodWords, IsGoodName, line_of};
+ghost use Rattle.cil_store_specs.specs.Script as spec;
+ghost use Rattle.cil_store_specs.specs.Script.{is_shown as shown_byte, HasGoodWords, IsGoodName, line_of};
 ghost use Rattle.cil_store_specs.proofs.WordLemmas.{is_no_space};
-ghost use Rattle.cil_program.specs.Command.{IsLine};
+ghost use Rattle.cil_program.specs.Command.{IsLine, IsNoQuestion, question_asked};
+ghost use Rattle.cil_program.specs.declared.script.command.ScriptLine.TheVariants.{Whole};
 
+use cil_store::Edit;
 use itoa::Buffer;
 use std::str;
 
 /// The numbers of a script have at most nine digits.
 const NUMBER_LIMIT: u32 = 1_000_000_000;
 
-/// What a line of a script asks for. The text of an install follows its line.
-#[derive(Clone, Copy, Debug)]
-pub enum ScriptLine<'a> {
-    Install {
-        name: &'a [u8],
-        priority: u32,
-        len: u32,
-    },
-    Remove {
-        name: &'a [u8],
-        priority: u32,
-    },
-    Enable {
-        name: &'a [u8],
-    },
-    Disable {
-        name: &'a [u8],
-    },
+/// A question for the store.
+#[derive(Clone, Copy, Debug, PartialEq, Eq)]
+pub enum Question {
     Rules,
     Violations,
     Dropped,
     Modules,
     Dump,
+}
+
+/// A command that is whole with its line: an edit but an install, the begin or the end of a batch, or a question.
+#[derive(Clone, Copy, Debug)]
+pub enum Command<'a> {
+    Edit(Edit<'a>),
+    Begin,
+    Commit,
+    Abort,
+    Ask(Question),
+}
+
+/// The line of an install, behind which its text follows.
+#[derive(Clone, Copy, Debug)]
+pub struct InstallLine<'a> {
+    pub name: &'a [u8],
+    pub priority: u32,
+    /// How many bytes its text has.
+    pub len: u32,
+}
+
+/// What a line of a script asks for.
+#[derive(Clone, Copy, Debug)]
+pub enum ScriptLine<'a> {
+    Install(InstallLine<'a>),
+    Whole(Command<'a>),
 }
 
 /// What std reads as a number, leading zeros and a plus too.
@@ -109,7 +123,7 @@ fn is_name(word: &[u8]) -> bool
 /// What the line of an install asks for, by what stands behind its first word.
 fn install<'a>(rest: &'a [u8]) -> Option<ScriptLine<'a>>
     ensures some { IfSome result (λ asked. IsLine asked (codes "install" ++ 32 ∷ rest.now)) }
-    ensures none { IfNone result ((command : Command) → HasGoodWords command → codes "install" ++ 32 ∷ rest.now ≡ line_of command → ⊥) }
+    ensures none { IfNone result ((command : spec.Command) → HasGoodWords command → codes "install" ++ 32 ∷ rest.now ≡ line_of command → ⊥) }
 {
     let Some((name, numbers)) = split_word(rest) else {
         return None;
@@ -126,17 +140,17 @@ fn install<'a>(rest: &'a [u8]) -> Option<ScriptLine<'a>>
     let Some(len) = number(second) else {
         return None;
     };
-    Some(ScriptLine::Install {
+    Some(ScriptLine::Install(InstallLine {
         name,
         priority,
         len,
-    })
+    }))
 }
 
 /// The same for a removal.
 fn remove<'a>(rest: &'a [u8]) -> Option<ScriptLine<'a>>
     ensures some { IfSome result (λ asked. IsLine asked (codes "remove" ++ 32 ∷ rest.now)) }
-    ensures none { IfNone result ((command : Command) → HasGoodWords command → codes "remove" ++ 32 ∷ rest.now ≡ line_of command → ⊥) }
+    ensures none { IfNone result ((command : spec.Command) → HasGoodWords command → codes "remove" ++ 32 ∷ rest.now ≡ line_of command → ⊥) }
 {
     let Some((name, second)) = split_word(rest) else {
         return None;
@@ -147,36 +161,36 @@ fn remove<'a>(rest: &'a [u8]) -> Option<ScriptLine<'a>>
     let Some(priority) = number(second) else {
         return None;
     };
-    Some(ScriptLine::Remove { name, priority })
+    Some(ScriptLine::Whole(Command::Edit(Edit::Remove { name, priority })))
 }
 
 /// The same for the enabling of a name.
 fn enable<'a>(rest: &'a [u8]) -> Option<ScriptLine<'a>>
     ensures some { IfSome result (λ asked. IsLine asked (codes "enable" ++ 32 ∷ rest.now)) }
-    ensures none { IfNone result ((command : Command) → HasGoodWords command → codes "enable" ++ 32 ∷ rest.now ≡ line_of command → ⊥) }
+    ensures none { IfNone result ((command : spec.Command) → HasGoodWords command → codes "enable" ++ 32 ∷ rest.now ≡ line_of command → ⊥) }
 {
     if !is_name(rest) {
         return None;
     }
-    Some(ScriptLine::Enable { name: rest })
+    Some(ScriptLine::Whole(Command::Edit(Edit::Enable { name: rest })))
 }
 
 /// And for its disabling.
 fn disable<'a>(rest: &'a [u8]) -> Option<ScriptLine<'a>>
     ensures some { IfSome result (λ asked. IsLine asked (codes "disable" ++ 32 ∷ rest.now)) }
-    ensures none { IfNone result ((command : Command) → HasGoodWords command → codes "disable" ++ 32 ∷ rest.now ≡ line_of command → ⊥) }
+    ensures none { IfNone result ((command : spec.Command) → HasGoodWords command → codes "disable" ++ 32 ∷ rest.now ≡ line_of command → ⊥) }
 {
     if !is_name(rest) {
         return None;
     }
-    Some(ScriptLine::Disable { name: rest })
+    Some(ScriptLine::Whole(Command::Edit(Edit::Disable { name: rest })))
 }
 
 /// What a line of several words asks for.
 fn edit<'a>(first: &'a [u8], rest: &'a [u8]) -> Option<ScriptLine<'a>>
     requires { IsTrue (list_all is_no_space first.now) }
     ensures some { IfSome result (λ asked. IsLine asked (first.now ++ 32 ∷ rest.now)) }
-    ensures none { IfNone result ((command : Command) → HasGoodWords command → first.now ++ 32 ∷ rest.now ≡ line_of command → ⊥) }
+    ensures none { IfNone result ((command : spec.Command) → HasGoodWords command → first.now ++ 32 ∷ rest.now ≡ line_of command → ⊥) }
 {
     if is_word(first, b"install") {
         return install(rest);
@@ -193,37 +207,54 @@ fn edit<'a>(first: &'a [u8], rest: &'a [u8]) -> Option<ScriptLine<'a>>
     None
 }
 
-/// What a line of one word asks for.
-fn question<'a>(word: &'a [u8]) -> Option<ScriptLine<'a>>
-    requires { IsTrue (list_all is_no_space word.now) }
-    ensures some { IfSome result (λ asked. IsLine asked word.now) }
-    ensures none { IfNone result ((command : Command) → HasGoodWords command → word.now ≡ line_of command → ⊥) }
+/// The question that a word asks.
+fn word_question(word: &[u8]) -> Option<Question>
+    ensures some { IfSome result (λ asked. word.now ≡ line_of (question_asked asked)) }
+    ensures none { IfNone result (IsNoQuestion word.now) }
 {
     if is_word(word, b"rules") {
-        return Some(ScriptLine::Rules);
+        return Some(Question::Rules);
     }
     if is_word(word, b"violations") {
-        return Some(ScriptLine::Violations);
+        return Some(Question::Violations);
     }
     if is_word(word, b"dropped") {
-        return Some(ScriptLine::Dropped);
+        return Some(Question::Dropped);
     }
     if is_word(word, b"modules") {
-        return Some(ScriptLine::Modules);
+        return Some(Question::Modules);
     }
     if is_word(word, b"dump") {
-        return Some(ScriptLine::Dump);
+        return Some(Question::Dump);
     }
     None
+}
+
+/// What a line of one word asks for.
+fn word_command(word: &[u8]) -> Option<Command<'_>>
+    requires { IsTrue (list_all is_no_space word.now) }
+    ensures some { IfSome result (λ asked. IsLine (Whole asked) word.now) }
+    ensures none { IfNone result ((command : spec.Command) → HasGoodWords command → word.now ≡ line_of command → ⊥) }
+{
+    if is_word(word, b"begin") {
+        return Some(Command::Begin);
+    }
+    if is_word(word, b"commit") {
+        return Some(Command::Commit);
+    }
+    if is_word(word, b"abort") {
+        return Some(Command::Abort);
+    }
+    Some(Command::Ask(word_question(word)?))
 }
 
 /// What a line asks for; none where it is no command.
 pub fn script_line<'a>(line: &'a [u8]) -> Option<ScriptLine<'a>>
     ensures some { IfSome result (λ asked. IsLine asked line.now) }
-    ensures none { IfNone result ((command : Command) → HasGoodWords command → line.now ≡ line_of command → ⊥) }
+    ensures none { IfNone result ((command : spec.Command) → HasGoodWords command → line.now ≡ line_of command → ⊥) }
 {
     match split_word(line) {
         Some((first, rest)) => edit(first, rest),
-        None => question(line),
+        None => Some(ScriptLine::Whole(word_command(line)?)),
     }
 }

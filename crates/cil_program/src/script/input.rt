@@ -126,7 +126,7 @@ impl Input {
 }
 
 impl Input {
-    ghost use Rattle.std.specs.Prelude.{◌≡◌, ◌≢◌, ◌↔◌, ◌+◌, ◌<◌, ◌≤◌, ◌∷◌, ◌++◌, [], false, ℕ, List, length, take, drop, count_by, IsTrue, IfOk, IfSome, IfNone, OnErr, vec_len, vec_capacity};
+    ghost use Rattle.std.specs.Prelude.{◌≡◌, ◌≢◌, ◌↔◌, ◌+◌, ◌<◌, ◌≤◌, ◌∷◌, ◌++◌, [], true, false, ℕ, List, length, min, take, drop, count_by, IsTrue, IfOk, IfSome, IfNone, OnErr, vec_len, vec_capacity};
     ghost use Rattle.std.specs.List.{list_all, list_any};
     ghost use Rattle.cil_stream.specs.Device.{HasFailed, HasEnded, has_ended};
     ghost use Rattle.cil_specs.specs.Place.{is_line_feed};
@@ -325,6 +325,33 @@ impl Input {
             return Ok(false);
         }
         self.take_line_feed(source)
+    }
+
+    /// Reads the text of an install and its line feed, and no more than so many of its first bytes come to the end of a vector that has
+    /// room for them. Says whether all were there.
+    pub fn read_front<S: Source, A: Allocator>(
+        &mut self,
+        source: &mut S,
+        len: usize,
+        most: usize,
+        text: &mut Vec<u8, A>,
+    ) -> Result<bool, SourceFault>
+        requires counted { Fits (S.account source.old).count self.old }
+        requires room { vec_len text.old + min len most ≤ vec_capacity text.old }
+        ensures read { IfOk result (λ whole. (read part : List ℕ) × HasRead (S.account source.old) (S.account source.new) self.old self.new read
+            × IsWholeText whole len part read (has_ended (S.account source.new)) self.new.bytes
+            × (whole ≡ true → text.new.items ≡ text.old.items ++ take most part)) }
+        ensures err { OnErr result ((read : List ℕ) ×
+            HasStopped (S.account source.old) (S.account source.new) self.old self.new read
+            × (length read ≤ len)) }
+        ensures failed { OnErr result (HasFailed (S.account source.old).failures (S.account source.new).failures) }
+        ensures failures { (S.account source.old).failures ≤ (S.account source.new).failures }
+    {
+        let front = len.min(most);
+        if !self.take_bytes(source, front, text)? {
+            return Ok(false);
+        }
+        self.skip_text(source, len - front)
     }
 
     /// Reads the text of an install and its line feed, and leaves them aside. Says whether all were there.

@@ -2,17 +2,16 @@
 
 ghost use Rattle.std.specs.Prelude.{◌+◌, ◌++◌, flat_map, length};
 ghost use Rattle.cil_store_specs.specs.Next.{by_store, at_place, for_memory};
-ghost use Rattle.cil_specs.specs.Report.{dropped_line, Changes};
-ghost use Rattle.cil_counters.specs.ChangeCounts.{AreCountsOf};
-ghost use Rattle.cil_store_specs.specs.Script.{refusal_line, reply_text, end_line, last_line, stops, dump_edits, dump_text};
-ghost use Rattle.cil_store_specs.specs.Run.{changed_by, dropped_optionals};
+ghost use Rattle.cil_specs.specs.Report.{dropped_line};
+ghost use Rattle.cil_store_specs.specs.Script.{refusal_line, reply_text, end_line, last_line, stops, dump_edits, dump_commands, dump_text};
+ghost use Rattle.cil_store_specs.specs.Run.{dropped_optionals};
 ghost use Rattle.cil_text.specs.Image.{place_of};
 ghost use Rattle.cil_resolve.specs.Views.{declared_seen};
 ghost use Rattle.cil_store_specs.specs.StoreReport.{entry_text, modules_text};
 ghost use Rattle.cil_store.specs.Edits.{refusal_of};
 ghost use Rattle.cil_store.specs.Stored.{entry_of};
-ghost use Rattle.cil_program.specs.Reply.{Writes};
-ghost use Rattle.cil_program.specs.Dump.{install_command, disable_command};
+ghost use Rattle.cil_program.specs.Reply.{Writes, counts_line};
+ghost use Rattle.cil_program.specs.Dump.{edit_command, install_command, disable_command};
 
 use cil_resolve::NameView;
 use cil_store::{ChangeCounts, Dropped, Entry, Refusal, Store};
@@ -21,11 +20,9 @@ use cil_text::Place;
 use itoa::Buffer;
 use std::alloc::Allocator;
 
-/// Writes how many accesses came and went with an accepted edit.
+/// Writes how many accesses came and went with an accepted batch.
 pub fn write_changes<W: Sink>(sink: &mut W, counts: ChangeCounts) -> Result<(), SinkFault>
-    ensures { (changes : Changes) → AreCountsOf changes counts →
-        Writes W.taken W.failures sink.old sink.new
-        (reply_text (changed_by changes)) result }
+    ensures { Writes W.taken W.failures sink.old sink.new (counts_line counts) result }
 {
     let mut added = Buffer::new();
     let mut removed = Buffer::new();
@@ -194,14 +191,31 @@ fn write_disables<W: Sink, A: Allocator>(sink: &mut W, store: &Store<A>) -> Resu
     Ok(())
 }
 
+/// Writes the edits that build a store.
+fn write_edits<W: Sink, A: Allocator>(sink: &mut W, store: &Store<A>) -> Result<(), SinkFault>
+    ensures { Writes W.taken W.failures sink.old sink.new
+        (flat_map edit_command (dump_edits store.now)) result }
+{
+    write_installs(sink, store)?;
+    write_disables(sink, store)
+}
+
+/// Writes a script that builds a store, which is one batch.
+fn write_batch<W: Sink, A: Allocator>(sink: &mut W, store: &Store<A>) -> Result<(), SinkFault>
+    ensures { Writes W.taken W.failures sink.old sink.new (dump_text store.now) result }
+{
+    write_all(sink, b"begin\n")?;
+    write_edits(sink, store)?;
+    write_all(sink, b"commit\n")
+}
+
 /// Writes a script that builds a store, and the number of its commands. It takes no memory.
 pub fn write_dump<W: Sink, A: Allocator>(sink: &mut W, store: &Store<A>) -> Result<(), SinkFault>
     ensures { Writes W.taken W.failures sink.old sink.new
-        (dump_text store.now ++ end_line (length (dump_edits store.now))) result }
+        (dump_text store.now ++ end_line (length (dump_commands store.now))) result }
 {
-    write_installs(sink, store)?;
-    write_disables(sink, store)?;
-    write_end(sink, store.len() as u128 + store.disabled_len() as u128)
+    write_batch(sink, store)?;
+    write_end(sink, store.len() as u128 + store.disabled_len() as u128 + 2)
 }
 
 /// Writes that a script is none from the line behind so many line feeds.

@@ -1,24 +1,43 @@
 //! A session: it answers a script, command by command.
 
-ghost use Rattle.std.specs.Prelude.{◌≡◌, ◌≢◌, ◌≤◌, [], List, ℕ, IfOk, IfErr, OnOk, OnErr, IsErrOf, IsTrue};
-ghost use Rattle.cil_stream.specs.Device.{HasFailed, HasEnded, has_ended};
-ghost use Rattle.cil_store_specs.specs.Script.{makes, asks_rules, asks_violations, asks_dropped, asks_modules, asks_dump, refusal_line};
+ghost use Rattle.std.specs.Prelude.{◌≡◌, ◌≢◌, ◌≤◌, ◌+◌, [], List, ℕ, IfOk, IfErr, OnOk, OnErr, IsErrOf, IsTrue, Some, None};
+ghost use Rattle.cil_stream.specs.Device.{HasFailed, HasEnded, GainsFront, has_ended};
+ghost use Rattle.cil_store_specs.specs.Answers.{answer_of, a_line, a_refusal, state_of, Answers};
+ghost use Rattle.cil_store_specs.specs.Next.{for_memory};
+ghost use Rattle.cil_store_specs.specs.Run.{refused};
+ghost use Rattle.cil_store_specs.specs.Script.{makes, begins, commits, aborts, asks_rules, asks_violations, asks_dropped, asks_modules, asks_dump, refusal_line, last_line, ends};
+ghost use Rattle.cil_store_specs.specs.Session.{last_end};
+ghost use Rattle.cil_store_specs.specs.Store.{Store};
 ghost use Rattle.cil_store.specs.Edits.{edit_of, store_refusal_of};
+ghost use Rattle.cil_program.specs.Batch.{held_answer, IsOpen};
+ghost use Rattle.cil_program.specs.Command.{command_of, question_asked};
 ghost use Rattle.cil_program.specs.Input.{Fits};
 ghost use Rattle.cil_program.specs.Reply.{Writes};
-ghost use Rattle.cil_program.specs.Session.{Moment, Standing, Tries, IsOutcome, IsInstallOutcome, IsInstallCut, IsLineCut, IsTurn, IsTurnCut, Leaves, LeavesByRead, LeavesByWrite};
+ghost use Rattle.cil_program.specs.Session.{moment, progress, standing, state_with, Tries, Does, IsAnswerFor, AnswersBatch, Makes, EndsSo, IsOutcome, IsInstallOutcome, IsInstallCut, IsLineCut, IsTurn, IsTurnCut, Leaves, LeavesByRead, LeavesByWrite};
 ghost use Rattle.cil_program.specs.declared.script.input.LineEnd.TheVariants.{LastByte};
 ghost use Rattle.cil_program.specs.declared.script.session.Status.TheVariants.{Script};
 
-use crate::script::command::{ScriptLine, script_line};
+use crate::script::batch::{Batch, NotHeld};
+use crate::script::command::{Command, InstallLine, Question, ScriptLine, script_line};
+use crate::script::edit_list::EditList;
+use crate::script::held_edit::GREATEST_HELD;
 use crate::script::input::{Input, LineEnd};
 use crate::script::line::Line;
 use crate::script::reply;
-use cil_store::{Compiled, Edit, StoreFault, WriteFault};
-use cil_stream::{Sink, SinkFault, Source, SourceFault};
+use cil_store::{ChangeCounts, Compiled, Edit, Refusal, StoreFault, WriteFault};
+use cil_stream::{Sink, SinkFault, Source, SourceFault, write_all};
 use itoa::Buffer;
 use std::alloc::Allocator;
 use thiserror::Error;
+
+/// The batch would be, or was, too long.
+const TOO_LONG: u8 = 35;
+
+/// A batch is open already.
+const BATCH_OPEN: u8 = 36;
+
+/// No batch is open.
+const NO_BATCH: u8 = 37;
 
 /// How a session ended.
 #[derive(Clone, Copy, Debug, PartialEq, Eq)]
@@ -27,7 +46,7 @@ pub enum Status {
     Clean,
     /// At the end of the script, with a refusal among the answers.
     Refused,
-    /// At a line that is no command.
+    /// At a line that is no command, or with a batch that is still open.
     Script,
 }
 
@@ -99,8 +118,7 @@ fn answer_rows<W: Sink, A: Allocator + Copy, C: Compiled<A>>(
     sink: &mut W,
     engine: &C,
 ) -> Result<Outcome, SinkFault>
-    ensures { Tries W.taken W.failures sink.old sink.new (C.store engine.now) (C.store engine.now)
-        asks_rules result }
+    ensures { Tries W.taken W.failures sink.old sink.new (IsAnswerFor (C.store engine.now) asks_rules) result }
 {
     match engine.write_listing(sink) {
         Ok(rows) => {
@@ -120,8 +138,7 @@ fn answer_violations<W: Sink, A: Allocator + Copy, C: Compiled<A>>(
     sink: &mut W,
     engine: &C,
 ) -> Result<Outcome, SinkFault>
-    ensures { Tries W.taken W.failures sink.old sink.new (C.store engine.now) (C.store engine.now)
-        asks_violations result }
+    ensures { Tries W.taken W.failures sink.old sink.new (IsAnswerFor (C.store engine.now) asks_violations) result }
 {
     match engine.write_violations(sink) {
         Ok(violations) => {
@@ -141,8 +158,7 @@ fn answer_dropped<W: Sink, A: Allocator + Copy, C: Compiled<A>>(
     sink: &mut W,
     engine: &C,
 ) -> Result<Outcome, SinkFault>
-    ensures { Tries W.taken W.failures sink.old sink.new (C.store engine.now) (C.store engine.now)
-        asks_dropped result }
+    ensures { Tries W.taken W.failures sink.old sink.new (IsAnswerFor (C.store engine.now) asks_dropped) result }
 {
     match engine.dropped() {
         Ok(dropped) => {
@@ -161,8 +177,7 @@ fn answer_modules<W: Sink, A: Allocator + Copy, C: Compiled<A>>(
     sink: &mut W,
     engine: &C,
 ) -> Result<Outcome, SinkFault>
-    ensures { Tries W.taken W.failures sink.old sink.new (C.store engine.now) (C.store engine.now)
-        asks_modules result }
+    ensures { Tries W.taken W.failures sink.old sink.new (IsAnswerFor (C.store engine.now) asks_modules) result }
 {
     reply::write_modules(sink, engine.store())?;
     Ok(Outcome::Accepted)
@@ -173,23 +188,64 @@ fn answer_dump<W: Sink, A: Allocator + Copy, C: Compiled<A>>(
     sink: &mut W,
     engine: &C,
 ) -> Result<Outcome, SinkFault>
-    ensures { Tries W.taken W.failures sink.old sink.new (C.store engine.now) (C.store engine.now)
-        asks_dump result }
+    ensures { Tries W.taken W.failures sink.old sink.new (IsAnswerFor (C.store engine.now) asks_dump) result }
 {
     reply::write_dump(sink, engine.store())?;
     Ok(Outcome::Accepted)
 }
 
-/// Makes an edit and answers it.
-fn answer_edit<W: Sink, A: Allocator + Copy, C: Compiled<A>>(
+/// Answers a question.
+fn answer_question<W: Sink, A: Allocator + Copy, C: Compiled<A>>(
     sink: &mut W,
-    engine: &mut C,
-    edit: Edit<'_>,
+    engine: &C,
+    question: Question,
 ) -> Result<Outcome, SinkFault>
-    ensures { Tries W.taken W.failures sink.old sink.new (C.store engine.old) (C.store engine.new)
-        (makes (edit_of edit.entry)) result }
+    ensures { Tries W.taken W.failures sink.old sink.new
+        (IsAnswerFor (C.store engine.now) (question_asked question)) result }
 {
-    match engine.edit_counted(edit) {
+    match question {
+        Question::Rules => answer_rows(sink, engine),
+        Question::Violations => answer_violations(sink, engine),
+        Question::Dropped => answer_dropped(sink, engine),
+        Question::Modules => answer_modules(sink, engine),
+        Question::Dump => answer_dump(sink, engine),
+    }
+}
+
+/// Writes a line that refuses nothing.
+fn tell<W: Sink>(sink: &mut W, line: &[u8]) -> Result<Outcome, SinkFault>
+    ensures { Tries W.taken W.failures sink.old sink.new (λ answer. answer ≡ a_line line.now) result }
+{
+    write_all(sink, line)?;
+    Ok(Outcome::Accepted)
+}
+
+/// Writes a refusal by its code and its word.
+fn refuse<W: Sink>(sink: &mut W, code: u8, word: &[u8]) -> Result<Outcome, SinkFault>
+    ensures { Tries W.taken W.failures sink.old sink.new
+        (λ answer. answer ≡ a_refusal code word.now) result }
+{
+    reply::write_store_refusal(sink, code, word)?;
+    Ok(Outcome::Refused)
+}
+
+/// Writes that memory ran out.
+fn refuse_for_memory<W: Sink>(sink: &mut W) -> Result<Outcome, SinkFault>
+    ensures { Tries W.taken W.failures sink.old sink.new
+        (λ answer. answer ≡ answer_of (refused for_memory)) result }
+{
+    reply::write_no_memory(sink)?;
+    Ok(Outcome::Refused)
+}
+
+/// Writes what came of a batch.
+fn answer_batch<W: Sink, A: Allocator>(
+    sink: &mut W,
+    made: Result<ChangeCounts, Refusal<A>>,
+) -> Result<Outcome, SinkFault>
+    ensures { Tries W.taken W.failures sink.old sink.new (AnswersBatch made) result }
+{
+    match made {
         Ok(counts) => {
             reply::write_changes(sink, counts)?;
             Ok(Outcome::Accepted)
@@ -198,6 +254,163 @@ fn answer_edit<W: Sink, A: Allocator + Copy, C: Compiled<A>>(
             reply::write_refusal(sink, &refusal)?;
             Ok(Outcome::Refused)
         }
+    }
+}
+
+/// Makes an edit where no batch is open, and answers it.
+fn make_edit<W: Sink, A: Allocator + Copy, C: Compiled<A>>(
+    sink: &mut W,
+    engine: &mut C,
+    edit: Edit<'_>,
+) -> Result<Outcome, SinkFault>
+    ensures { Tries W.taken W.failures sink.old sink.new
+        (Does (state_of (C.store engine.old)) (makes (edit_of edit.entry)) (state_of (C.store engine.new))) result }
+{
+    let made = engine.edit_counted(edit);
+    answer_batch(sink, made)
+}
+
+/// Writes what came of an edit that was given to the open batch.
+fn answer_held<W: Sink>(
+    sink: &mut W,
+    held: Result<(), NotHeld>,
+    name: &[u8],
+) -> Result<Outcome, SinkFault>
+    ensures { Tries W.taken W.failures sink.old sink.new
+        (λ answer. answer ≡ held_answer held name.now) result }
+{
+    match held {
+        Ok(()) => tell(sink, b"held\n"),
+        Err(NotHeld::TooLong) => refuse(sink, TOO_LONG, name),
+        Err(NotHeld::Memory) => refuse_for_memory(sink),
+    }
+}
+
+/// Makes an edit; or has the open batch hold it.
+fn answer_edit<W: Sink, A: Allocator + Copy, C: Compiled<A>>(
+    sink: &mut W,
+    engine: &mut C,
+    batch: &mut Batch<A>,
+    edit: Edit<'_>,
+) -> Result<Outcome, SinkFault>
+    ensures { Tries W.taken W.failures sink.old sink.new
+        (Does (state_with (C.store engine.old) batch.old) (makes (edit_of edit.entry))
+        (state_with (C.store engine.new) batch.new)) result }
+{
+    if !batch.is_open() {
+        return make_edit(sink, engine, edit);
+    }
+    let held = batch.hold(edit);
+    answer_held(sink, held, edit.name())
+}
+
+/// Opens a batch, on a line behind so many line feeds.
+fn answer_begin<W: Sink, A: Allocator + Copy>(
+    sink: &mut W,
+    batch: &mut Batch<A>,
+    line_feeds: u64,
+) -> Result<Outcome, SinkFault>
+    ensures { (store : Store) → Tries W.taken W.failures sink.old sink.new
+        (λ answer. Answers (1 + line_feeds) (state_with store batch.old) begins
+        answer (state_with store batch.new)) result }
+{
+    if batch.is_open() {
+        return refuse(sink, BATCH_OPEN, b"begin");
+    }
+    batch.open(line_feeds);
+    tell(sink, b"open\n")
+}
+
+/// Makes the edits of a batch as one.
+fn make_edits<A: Allocator + Copy, C: Compiled<A>>(
+    alloc: A,
+    engine: &mut C,
+    edits: &EditList<A>,
+) -> Result<ChangeCounts, Refusal<A>>
+    ensures { Makes (C.store engine.old) edits.now (C.store engine.new) result }
+{
+    let edits = edits.as_edits(alloc)?;
+    engine.batch_counted(&edits)
+}
+
+/// Makes the open batch and closes it.
+fn commit<W: Sink, A: Allocator + Copy, C: Compiled<A>>(
+    sink: &mut W,
+    engine: &mut C,
+    batch: &mut Batch<A>,
+) -> Result<Outcome, SinkFault>
+    requires { IsOpen batch.old }
+    ensures { Tries W.taken W.failures sink.old sink.new
+        (Does (state_with (C.store engine.old) batch.old) commits
+        (state_with (C.store engine.new) batch.new)) result }
+{
+    match batch.fault() {
+        Some(NotHeld::TooLong) => {
+            batch.close();
+            refuse(sink, TOO_LONG, b"batch")
+        }
+        Some(NotHeld::Memory) => {
+            batch.close();
+            refuse_for_memory(sink)
+        }
+        None => {
+            let made = make_edits(batch.alloc(), engine, batch.edits());
+            batch.close();
+            answer_batch(sink, made)
+        }
+    }
+}
+
+/// Makes the batch that is open, if one is, and closes it.
+fn answer_commit<W: Sink, A: Allocator + Copy, C: Compiled<A>>(
+    sink: &mut W,
+    engine: &mut C,
+    batch: &mut Batch<A>,
+) -> Result<Outcome, SinkFault>
+    ensures { Tries W.taken W.failures sink.old sink.new
+        (Does (state_with (C.store engine.old) batch.old) commits
+        (state_with (C.store engine.new) batch.new)) result }
+{
+    if !batch.is_open() {
+        return refuse(sink, NO_BATCH, b"commit");
+    }
+    commit(sink, engine, batch)
+}
+
+/// Closes the batch that is open, if one is. Nothing is done of it.
+fn answer_abort<W: Sink, A: Allocator + Copy>(
+    sink: &mut W,
+    batch: &mut Batch<A>,
+) -> Result<Outcome, SinkFault>
+    ensures { (store : Store) → Tries W.taken W.failures sink.old sink.new
+        (Does (state_with store batch.old) aborts
+        (state_with store batch.new)) result }
+{
+    if !batch.is_open() {
+        return refuse(sink, NO_BATCH, b"abort");
+    }
+    batch.close();
+    tell(sink, b"closed\n")
+}
+
+/// Does what a command asks for that is whole with its line, behind so many line feeds, and answers it.
+fn answer_command<W: Sink, A: Allocator + Copy, C: Compiled<A>>(
+    sink: &mut W,
+    engine: &mut C,
+    batch: &mut Batch<A>,
+    line_feeds: u64,
+    command: Command<'_>,
+) -> Result<Outcome, SinkFault>
+    ensures { Tries W.taken W.failures sink.old sink.new
+        (λ answer. Answers (1 + line_feeds) (state_with (C.store engine.old) batch.old)
+        (command_of command.entry) answer (state_with (C.store engine.new) batch.new)) result }
+{
+    match command {
+        Command::Edit(edit) => answer_edit(sink, engine, batch, edit),
+        Command::Begin => answer_begin(sink, batch, line_feeds),
+        Command::Commit => answer_commit(sink, engine, batch),
+        Command::Abort => answer_abort(sink, batch),
+        Command::Ask(question) => answer_question(sink, engine, question),
     }
 }
 
@@ -237,29 +450,27 @@ fn flush_unless<W: Sink>(sink: &mut W, held: bool) -> Result<(), SinkFault>
     sink.flush()
 }
 
-/// Reads the text of an install and makes the install. An install that the store refuses whatever its text spells, or for whose
-/// text there is no memory, has its text left aside.
-fn answer_install<S: Source, W: Sink, A: Allocator + Copy, C: Compiled<A>>(
+/// Reads the text of an install and makes the install, where no batch is open. An install that the store refuses whatever its text
+/// spells, or for whose text there is no memory, has its text left aside.
+fn make_install<S: Source, W: Sink, A: Allocator + Copy, C: Compiled<A>>(
     alloc: A,
     input: &mut Input,
     source: &mut S,
     sink: &mut W,
     engine: &mut C,
-    name: &[u8],
-    priority: u32,
-    len: usize,
+    install: InstallLine<'_>,
 ) -> Result<Outcome, SessionFault>
     requires { Fits (S.account source.old).count input.old }
-    ensures ok { IfOk result (λ outcome. IsInstallOutcome outcome name.now priority len
-        (record { account = S.account source.old; held = input.old })
-        (record { account = S.account source.new; held = input.new })
-        (record { store = C.store engine.old; taken = W.taken sink.old })
-        (record { store = C.store engine.new; taken = W.taken sink.new })) }
-    ensures err { IfErr result (λ fault. IsInstallCut fault name.now priority len
-        (record { account = S.account source.old; held = input.old })
-        (record { account = S.account source.new; held = input.new })
-        (record { store = C.store engine.old; taken = W.taken sink.old })
-        (record { store = C.store engine.new; taken = W.taken sink.new })) }
+    ensures ok { IfOk result (λ outcome. IsInstallOutcome outcome install.entry.name.now
+        install.entry.priority install.entry.len
+        (moment (S.account source.old) input.old) (moment (S.account source.new) input.new)
+        (progress (C.store engine.old) None (W.taken sink.old))
+        (progress (C.store engine.new) None (W.taken sink.new))) }
+    ensures err { IfErr result (λ fault. IsInstallCut fault install.entry.name.now
+        install.entry.priority install.entry.len
+        (moment (S.account source.old) input.old) (moment (S.account source.new) input.new)
+        (progress (C.store engine.old) None (W.taken sink.old))
+        (progress (C.store engine.new) None (W.taken sink.new))) }
     ensures read { IsErrOf result SessionFault.Read →
         HasFailed (S.account source.old).failures (S.account source.new).failures }
     ensures write { IsErrOf result SessionFault.Write →
@@ -267,6 +478,9 @@ fn answer_install<S: Source, W: Sink, A: Allocator + Copy, C: Compiled<A>>(
     ensures read_failures { (S.account source.old).failures ≤ (S.account source.new).failures }
     ensures write_failures { W.failures sink.old ≤ W.failures sink.new }
 {
+    let len = install.len as usize;
+    let name = install.name;
+    let priority = install.priority;
     if let Err(fault) = engine.store().check_install(name, priority, len) {
         if !input.skip_text(source, len)? {
             return Ok(Outcome::NoCommand);
@@ -289,31 +503,29 @@ fn answer_install<S: Source, W: Sink, A: Allocator + Copy, C: Compiled<A>>(
         priority,
         text: text.as_slice(),
     };
-    Ok(answer_edit(sink, engine, edit)?)
+    Ok(make_edit(sink, engine, edit)?)
 }
 
-/// Does what a line asks for and answers it. A line without its line feed is the last.
-fn answer_line<S: Source, W: Sink, A: Allocator + Copy, C: Compiled<A>>(
-    alloc: A,
+/// Reads the text of an install and has the open batch hold the install. Where it doesn't, the text is left aside.
+fn hold_install<S: Source, W: Sink, A: Allocator + Copy>(
     input: &mut Input,
     source: &mut S,
     sink: &mut W,
-    engine: &mut C,
-    line: &[u8],
-    end: LineEnd,
+    batch: &mut Batch<A>,
+    install: InstallLine<'_>,
 ) -> Result<Outcome, SessionFault>
     requires fits { Fits (S.account source.old).count input.old }
-    requires last { end ≡ LastByte → IsTrue (has_ended (S.account source.old)) × (input.old.bytes ≡ []) }
-    ensures ok { IfOk result (λ outcome. IsOutcome outcome end line.now
-        (record { account = S.account source.old; held = input.old })
-        (record { account = S.account source.new; held = input.new })
-        (record { store = C.store engine.old; taken = W.taken sink.old })
-        (record { store = C.store engine.new; taken = W.taken sink.new })) }
-    ensures err { IfErr result (λ fault. IsLineCut fault end line.now
-        (record { account = S.account source.old; held = input.old })
-        (record { account = S.account source.new; held = input.new })
-        (record { store = C.store engine.old; taken = W.taken sink.old })
-        (record { store = C.store engine.new; taken = W.taken sink.new })) }
+    requires open { IsOpen batch.old }
+    ensures ok { IfOk result (λ outcome. (store : Store) → IsInstallOutcome outcome install.entry.name.now
+        install.entry.priority install.entry.len
+        (moment (S.account source.old) input.old) (moment (S.account source.new) input.new)
+        (progress store batch.old (W.taken sink.old))
+        (progress store batch.new (W.taken sink.new))) }
+    ensures err { IfErr result (λ fault. (store : Store) → IsInstallCut fault install.entry.name.now
+        install.entry.priority install.entry.len
+        (moment (S.account source.old) input.old) (moment (S.account source.new) input.new)
+        (progress store batch.old (W.taken sink.old))
+        (progress store batch.new (W.taken sink.new))) }
     ensures read { IsErrOf result SessionFault.Read →
         HasFailed (S.account source.old).failures (S.account source.new).failures }
     ensures write { IsErrOf result SessionFault.Write →
@@ -321,58 +533,130 @@ fn answer_line<S: Source, W: Sink, A: Allocator + Copy, C: Compiled<A>>(
     ensures read_failures { (S.account source.old).failures ≤ (S.account source.new).failures }
     ensures write_failures { W.failures sink.old ≤ W.failures sink.new }
 {
-    if end.is_too_long() {
+    let len = install.len as usize;
+    let mut text = match batch.text_room(len) {
+        Ok(text) => text,
+        Err(fault) => {
+            if !input.skip_text(source, len)? {
+                return Ok(Outcome::NoCommand);
+            }
+            batch.give_up(fault);
+            return Ok(answer_held(sink, Err(fault), install.name)?);
+        }
+    };
+    if !input.read_front(source, len, GREATEST_HELD, &mut text)? {
         return Ok(Outcome::NoCommand);
     }
-    let Some(asked) = script_line(line) else {
+    let held = batch.hold_install(install.name, install.priority, text);
+    Ok(answer_held(sink, held, install.name)?)
+}
+
+/// Reads the text of an install, and makes the install or has the open batch hold it.
+fn answer_install<S: Source, W: Sink, A: Allocator + Copy, C: Compiled<A>>(
+    input: &mut Input,
+    source: &mut S,
+    sink: &mut W,
+    engine: &mut C,
+    batch: &mut Batch<A>,
+    install: InstallLine<'_>,
+) -> Result<Outcome, SessionFault>
+    requires { Fits (S.account source.old).count input.old }
+    ensures ok { IfOk result (λ outcome. IsInstallOutcome outcome install.entry.name.now
+        install.entry.priority install.entry.len
+        (moment (S.account source.old) input.old) (moment (S.account source.new) input.new)
+        (progress (C.store engine.old) batch.old (W.taken sink.old))
+        (progress (C.store engine.new) batch.new (W.taken sink.new))) }
+    ensures err { IfErr result (λ fault. IsInstallCut fault install.entry.name.now
+        install.entry.priority install.entry.len
+        (moment (S.account source.old) input.old) (moment (S.account source.new) input.new)
+        (progress (C.store engine.old) batch.old (W.taken sink.old))
+        (progress (C.store engine.new) batch.new (W.taken sink.new))) }
+    ensures read { IsErrOf result SessionFault.Read →
+        HasFailed (S.account source.old).failures (S.account source.new).failures }
+    ensures write { IsErrOf result SessionFault.Write →
+        HasFailed (W.failures sink.old) (W.failures sink.new) }
+    ensures read_failures { (S.account source.old).failures ≤ (S.account source.new).failures }
+    ensures write_failures { W.failures sink.old ≤ W.failures sink.new }
+{
+    if batch.is_open() {
+        return hold_install(input, source, sink, batch, install);
+    }
+    make_install(batch.alloc(), input, source, sink, engine, install)
+}
+
+/// A line that was read, and how it ended. A line without its line feed is the last.
+#[derive(Clone, Copy)]
+struct ReadLine<'a> {
+    bytes: &'a [u8],
+    end: LineEnd,
+    /// How many line feeds stand before it.
+    line_feeds: u64,
+}
+
+/// Does what a line asks for and answers it.
+fn answer_line<S: Source, W: Sink, A: Allocator + Copy, C: Compiled<A>>(
+    input: &mut Input,
+    source: &mut S,
+    sink: &mut W,
+    engine: &mut C,
+    batch: &mut Batch<A>,
+    line: ReadLine<'_>,
+) -> Result<Outcome, SessionFault>
+    requires fits { Fits (S.account source.old).count input.old }
+    requires last { line.end ≡ LastByte → IsTrue (has_ended (S.account source.old)) × (input.old.bytes ≡ []) }
+    ensures ok { IfOk result (λ outcome. IsOutcome outcome (1 + line.entry.line_feeds) line.entry.end line.entry.bytes.now
+        (moment (S.account source.old) input.old) (moment (S.account source.new) input.new)
+        (progress (C.store engine.old) batch.old (W.taken sink.old))
+        (progress (C.store engine.new) batch.new (W.taken sink.new))) }
+    ensures err { IfErr result (λ fault. IsLineCut fault (1 + line.entry.line_feeds) line.entry.end line.entry.bytes.now
+        (moment (S.account source.old) input.old) (moment (S.account source.new) input.new)
+        (progress (C.store engine.old) batch.old (W.taken sink.old))
+        (progress (C.store engine.new) batch.new (W.taken sink.new))) }
+    ensures read { IsErrOf result SessionFault.Read →
+        HasFailed (S.account source.old).failures (S.account source.new).failures }
+    ensures write { IsErrOf result SessionFault.Write →
+        HasFailed (W.failures sink.old) (W.failures sink.new) }
+    ensures read_failures { (S.account source.old).failures ≤ (S.account source.new).failures }
+    ensures write_failures { W.failures sink.old ≤ W.failures sink.new }
+{
+    if line.end.is_too_long() {
+        return Ok(Outcome::NoCommand);
+    }
+    let Some(asked) = script_line(line.bytes) else {
         return Ok(Outcome::NoCommand);
     };
     match asked {
-        ScriptLine::Rules => Ok(answer_rows(sink, engine)?),
-        ScriptLine::Violations => Ok(answer_violations(sink, engine)?),
-        ScriptLine::Dropped => Ok(answer_dropped(sink, engine)?),
-        ScriptLine::Modules => Ok(answer_modules(sink, engine)?),
-        ScriptLine::Dump => Ok(answer_dump(sink, engine)?),
-        ScriptLine::Remove { name, priority } => {
-            Ok(answer_edit(sink, engine, Edit::Remove { name, priority })?)
+        ScriptLine::Whole(command) => {
+            Ok(answer_command(sink, engine, batch, line.line_feeds, command)?)
         }
-        ScriptLine::Enable { name } => Ok(answer_edit(sink, engine, Edit::Enable { name })?),
-        ScriptLine::Disable { name } => Ok(answer_edit(sink, engine, Edit::Disable { name })?),
-        ScriptLine::Install {
-            name,
-            priority,
-            len,
-        } => {
-            if end.is_last() {
+        ScriptLine::Install(install) => {
+            if line.end.is_last() {
                 return Ok(Outcome::NoCommand);
             }
-            let len = len as usize;
-            flush_unless(sink, input.holds_text(len))?;
-            answer_install(alloc, input, source, sink, engine, name, priority, len)
+            flush_unless(sink, input.holds_text(install.len as usize))?;
+            answer_install(input, source, sink, engine, batch, install)
         }
     }
 }
 
 /// Reads a line of a script and answers the command there.
 fn answer_next<S: Source, W: Sink, A: Allocator + Copy, C: Compiled<A>>(
-    alloc: A,
     input: &mut Input,
     source: &mut S,
     sink: &mut W,
     engine: &mut C,
+    batch: &mut Batch<A>,
     line: &mut Line,
 ) -> Result<Turn, SessionFault>
     requires { Fits (S.account source.old).count input.old }
     ensures ok { IfOk result (λ turn. IsTurn turn
-        (record { account = S.account source.old; held = input.old })
-        (record { account = S.account source.new; held = input.new })
-        (record { store = C.store engine.old; taken = W.taken sink.old })
-        (record { store = C.store engine.new; taken = W.taken sink.new })) }
+        (moment (S.account source.old) input.old) (moment (S.account source.new) input.new)
+        (progress (C.store engine.old) batch.old (W.taken sink.old))
+        (progress (C.store engine.new) batch.new (W.taken sink.new))) }
     ensures err { IfErr result (λ fault. IsTurnCut fault
-        (record { account = S.account source.old; held = input.old })
-        (record { account = S.account source.new; held = input.new })
-        (record { store = C.store engine.old; taken = W.taken sink.old })
-        (record { store = C.store engine.new; taken = W.taken sink.new })) }
+        (moment (S.account source.old) input.old) (moment (S.account source.new) input.new)
+        (progress (C.store engine.old) batch.old (W.taken sink.old))
+        (progress (C.store engine.new) batch.new (W.taken sink.new))) }
     ensures read { IsErrOf result SessionFault.Read →
         HasFailed (S.account source.old).failures (S.account source.new).failures }
     ensures write { IsErrOf result SessionFault.Write →
@@ -381,13 +665,19 @@ fn answer_next<S: Source, W: Sink, A: Allocator + Copy, C: Compiled<A>>(
     ensures write_failures { W.failures sink.old ≤ W.failures sink.new }
 {
     flush_unless(sink, input.holds_line())?;
+    let line_feeds = input.line_feeds();
     let end = input.read_line(source, line)?;
     let bytes = line.as_slice();
     let last = end.is_last();
     if last && bytes.is_empty() {
         return Ok(Turn::End);
     }
-    match answer_line(alloc, input, source, sink, engine, bytes, end)? {
+    let read = ReadLine {
+        bytes,
+        end,
+        line_feeds,
+    };
+    match answer_line(input, source, sink, engine, batch, read)? {
         Outcome::Accepted => Ok(Turn::Answered {
             refused: false,
             last,
@@ -400,6 +690,24 @@ fn answer_next<S: Source, W: Sink, A: Allocator + Copy, C: Compiled<A>>(
     }
 }
 
+/// Ends a session behind its last command: a script with a batch that is still open ends at the line of its begin.
+fn end_session<W: Sink, A: Allocator + Copy>(
+    sink: &mut W,
+    batch: &Batch<A>,
+    status: Status,
+) -> Result<Status, SinkFault>
+    ensures ok { IfOk result (λ last. EndsSo batch.now status last (W.taken sink.old) (W.taken sink.new)) }
+    ensures err { OnErr result (GainsFront (W.taken sink.old) (W.taken sink.new) (last_line (last_end ends batch.now))) }
+    ensures failed { OnErr result (HasFailed (W.failures sink.old) (W.failures sink.new)) }
+    ensures counted { W.failures sink.old ≤ W.failures sink.new }
+{
+    let Some(line_feeds) = batch.begin() else {
+        return Ok(status);
+    };
+    reply::write_script_line(sink, line_feeds)?;
+    Ok(Status::Script)
+}
+
 /// Answers the commands of a script, up to its end or to a line that is no command.
 fn answer_commands<S: Source, W: Sink, A: Allocator + Copy, C: Compiled<A>>(
     alloc: A,
@@ -408,16 +716,17 @@ fn answer_commands<S: Source, W: Sink, A: Allocator + Copy, C: Compiled<A>>(
     engine: &mut C,
 ) -> Result<Status, SessionFault>
     ensures ok { IfOk result (λ status. Leaves (S.account source.old) (S.account source.new)
-        (record { store = C.store engine.old; taken = W.taken sink.old }) (record { store = C.store engine.new; taken = W.taken sink.new }) status) }
+        (standing (C.store engine.old) (W.taken sink.old))
+        (standing (C.store engine.new) (W.taken sink.new)) status) }
     ensures ended { IfOk result (λ status. status ≢ Script → HasEnded (S.account source.old) (S.account source.new)) }
     ensures cut_by_read { IsErrOf result SessionFault.Read →
         LeavesByRead (S.account source.old) (S.account source.new)
-        (record { store = C.store engine.old; taken = W.taken sink.old })
-        (record { store = C.store engine.new; taken = W.taken sink.new }) }
+        (standing (C.store engine.old) (W.taken sink.old))
+        (standing (C.store engine.new) (W.taken sink.new)) }
     ensures cut_by_write { IsErrOf result SessionFault.Write →
         LeavesByWrite (S.account source.old) (S.account source.new)
-        (record { store = C.store engine.old; taken = W.taken sink.old })
-        (record { store = C.store engine.new; taken = W.taken sink.new }) }
+        (standing (C.store engine.old) (W.taken sink.old))
+        (standing (C.store engine.new) (W.taken sink.new)) }
     ensures read { IsErrOf result SessionFault.Read →
         HasFailed (S.account source.old).failures (S.account source.new).failures }
     ensures write { IsErrOf result SessionFault.Write →
@@ -426,15 +735,16 @@ fn answer_commands<S: Source, W: Sink, A: Allocator + Copy, C: Compiled<A>>(
 {
     let mut input = Input::new();
     let mut line = Line::new();
+    let mut batch = Batch::new(alloc);
     let mut status = Status::Clean;
     'turns: loop {
         let before = input.line_feeds();
-        match answer_next(alloc, &mut input, source, sink, engine, &mut line)? {
-            Turn::End => return Ok(status),
+        match answer_next(&mut input, source, sink, engine, &mut batch, &mut line)? {
+            Turn::End => return Ok(end_session(sink, &batch, status)?),
             Turn::Answered { refused, last } => {
                 status = status.after(refused);
                 if last {
-                    return Ok(status);
+                    return Ok(end_session(sink, &batch, status)?);
                 }
             }
             Turn::NoCommand => {
@@ -446,7 +756,8 @@ fn answer_commands<S: Source, W: Sink, A: Allocator + Copy, C: Compiled<A>>(
 }
 
 /// Answers a script from its source to a sink, with an engine. As tests show, each answer is flushed before the source is asked
-/// for more than it gave, and nothing is read behind a line that is no command.
+/// for more than it gave, and nothing is read behind a line that is no command. Of a batch that is open at the end nothing is done;
+/// where the source told its end, the line of its begin is told as one that is no command.
 ///
 /// # Errors
 ///
@@ -459,16 +770,17 @@ pub fn session<S: Source, W: Sink, A: Allocator + Copy, C: Compiled<A>>(
     engine: &mut C,
 ) -> Result<Status, SessionFault>
     ensures ok { IfOk result (λ status. Leaves (S.account source.old) (S.account source.new)
-        (record { store = C.store engine.old; taken = W.taken sink.old }) (record { store = C.store engine.new; taken = W.taken sink.new }) status) }
+        (standing (C.store engine.old) (W.taken sink.old))
+        (standing (C.store engine.new) (W.taken sink.new)) status) }
     ensures ended { IfOk result (λ status. status ≢ Script → HasEnded (S.account source.old) (S.account source.new)) }
     ensures cut_by_read { IsErrOf result SessionFault.Read →
         LeavesByRead (S.account source.old) (S.account source.new)
-        (record { store = C.store engine.old; taken = W.taken sink.old })
-        (record { store = C.store engine.new; taken = W.taken sink.new }) }
+        (standing (C.store engine.old) (W.taken sink.old))
+        (standing (C.store engine.new) (W.taken sink.new)) }
     ensures cut_by_write { IsErrOf result SessionFault.Write →
         LeavesByWrite (S.account source.old) (S.account source.new)
-        (record { store = C.store engine.old; taken = W.taken sink.old })
-        (record { store = C.store engine.new; taken = W.taken sink.new }) }
+        (standing (C.store engine.old) (W.taken sink.old))
+        (standing (C.store engine.new) (W.taken sink.new)) }
     ensures read { IsErrOf result SessionFault.Read →
         HasFailed (S.account source.old).failures (S.account source.new).failures }
     ensures write { IsErrOf result SessionFault.Write →

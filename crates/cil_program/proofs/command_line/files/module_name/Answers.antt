@@ -1,4 +1,4 @@
-use Rattle.std.proofs.Common.{◌≡◌, ◌∙◌, ◌++◌, inl, ap, ap₂, sym, length, drop, take, ◌-◌, codes}
+use Rattle.std.proofs.Common.{◌∙◌, ◌++◌, inl, ap₂, sym, length, ◌-◌}
 use Rattle.std.proofs.lemmas.List.{take-append-drop}
 use Rattle.std.specs.Cmp.Lexicographic.{same_text}
 use Rattle.cil_program.proofs.command_line.files.module_name.Goals as goal

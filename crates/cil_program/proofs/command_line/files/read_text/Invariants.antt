@@ -1,4 +1,4 @@
-use Rattle.std.proofs.Common.{◌≡◌, ◌≤◌, ◌-◌, vec_len}
+use Rattle.std.proofs.Common.{◌≤◌, ◌-◌, vec_len}
 use Rattle.cil_stream.specs.Device.{Gives}
 use Rattle.cil_program.proofs.command_line.files.read_text.Given as goal
 

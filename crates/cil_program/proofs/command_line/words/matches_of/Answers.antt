@@ -1,4 +1,4 @@
-use Rattle.std.proofs.Common.{◌≡◌, ◌∙◌, ℕ, List, [], ◌∷◌, codes, drop, length, map, Option, Some, None, option_map, true, ap, ap₂, sym, refl, arith}
+use Rattle.std.proofs.Common.{◌≡◌, ◌∙◌, List, [], ◌∷◌, codes, drop, length, map, Option, Some, None, option_map, true, ap, ap₂, sym, refl, arith}
 use Rattle.std.proofs.lemmas.Result.{IfErr-weaker, IfOk-weaker}
 use Rattle.clap.specs.Walk.{Text}
 use Rattle.clap.specs.Simple.{is_simple, subcommand_of}

@@ -1,4 +1,4 @@
-use Rattle.std.proofs.Common.{◌≡◌, ◌∙◌, ◌++◌, ℕ, List, decimal, codes, length, ap, sym, subst, append_assoc}
+use Rattle.std.proofs.Common.{◌≡◌, ◌∙◌, ◌++◌, ℕ, List, decimal, codes, sym, subst, append_assoc}
 use Rattle.cil_program.specs.Reply.{Writes}
 use Rattle.cil_program.proofs.script.reply.write_changes.Goals as goal
 
@@ -9,8 +9,7 @@ line first second a b e f = (λ i. codes "ok " ++ (e i ++ (codes " " ++ (f i ++ 
     regroup x y = simp append_assoc
 
 pub returns : goal.returns
-returns g c changes are =
+returns g c =
     subst (λ (l : List ℕ). Writes g.W.Sink.taken g.W.Sink.failures c.args.sink.now c.write_pieces.new.sink l c.write_pieces.result)
-    (line c.as_bytes.result.now c.as_bytes-2.result.now (length changes.added) (length changes.removed) (c.as_bytes.ensures.value ∙ c.format.ensures.text ∙ ap decimal are.added)
-    (c.as_bytes-2.ensures.value ∙ c.format-2.ensures.text ∙ ap decimal are.removed))
+    (line c.as_bytes.result.now c.as_bytes-2.result.now c.args.counts.added c.args.counts.removed (c.as_bytes.ensures.value ∙ c.format.ensures.text) (c.as_bytes-2.ensures.value ∙ c.format-2.ensures.text))
     (record { ok = c.write_pieces.ensures.ok; err = c.write_pieces.ensures.err; failed = c.write_pieces.ensures.failed; counted = c.write_pieces.ensures.counted })

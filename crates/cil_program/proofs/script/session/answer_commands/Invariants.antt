@@ -1,5 +1,5 @@
 use Rattle.std.proofs.Common.{◌≤◌, ◌-◌, ◌^◌, [], length}
-use Rattle.cil_program.proofs.ScriptLemmas.{SoFar}
+use Rattle.cil_program.proofs.ScriptLemmas.{SoFar, begun}
 use Rattle.cil_program.proofs.script.session.answer_commands.Given as goal
 
 abbrev pub invariant-turns : goal.invariant-turns
@@ -9,8 +9,8 @@ invariant-turns g l =
     let C = g.C.Compiled in
     record {
       so_far : SoFar (record { account = S.account l.fn.source; held = record { bytes = []; line_feeds = 0 } })
-          (record { account = S.account l.source; held = l.input }) (record { store = C.store l.fn.engine; taken = W.taken l.fn.sink })
-          (record { store = C.store l.engine; taken = W.taken l.sink }) l.status;
+          (record { account = S.account l.source; held = l.input }) (begun (record { store = C.store l.fn.engine; taken = W.taken l.fn.sink }))
+          (record { state = record { store = C.store l.engine; batch = l.batch }; taken = W.taken l.sink }) l.status;
       read_failures : (S.account l.fn.source).failures ≤ (S.account l.source).failures;
       write_failures : W.failures l.fn.sink ≤ W.failures l.sink;
     }

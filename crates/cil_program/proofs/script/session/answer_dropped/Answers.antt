@@ -1,7 +1,9 @@
 use Rattle.std.proofs.Common.{refl}
 use Rattle.cil_store_specs.specs.Next.{for_memory}
 use Rattle.cil_store_specs.specs.Run.{ask_dropped, refused, dropped_optionals, tells_dropped, out_of_memory}
-use Rattle.cil_store_specs.specs.Script.{asks_dropped, answer_of, by_engine}
+use Rattle.cil_store_specs.specs.Answers.{answer_of, by_engine}
+use Rattle.cil_store_specs.specs.Script.{asks_dropped}
+use Rattle.cil_program.specs.Session.{IsAnswerFor}
 use Rattle.cil_program.proofs.SessionLemmas.{tries-ok, tries-err}
 use Rattle.cil_program.proofs.script.session.answer_dropped.Goals as goal
 
@@ -9,22 +11,22 @@ pub returns-in_ok-write_dropped-in-Ok : goal.returns-in_ok-write_dropped-in-Ok
 returns-in_ok-write_dropped-in-Ok g c =
     let W = g.W.Sink in
     let store = g.C.Compiled.store c.args.engine.now in
-    tries-ok W.taken W.failures c.args.sink.now c.write_dropped.new.sink store store asks_dropped (answer_of (dropped_optionals c.in-Ok.dropped)) _ (by_engine ask_dropped (dropped_optionals c.in-Ok.dropped) refl (tells_dropped c.in-Ok.dropped refl refl c.in-Ok.ensures refl) refl) c.in_ok-write_dropped-in-Ok.ensures
+    tries-ok W.taken W.failures c.args.sink.now c.write_dropped.new.sink (IsAnswerFor store asks_dropped) (answer_of (dropped_optionals c.in-Ok.dropped)) _ (λ batch number. by_engine ask_dropped (dropped_optionals c.in-Ok.dropped) refl (tells_dropped c.in-Ok.dropped refl refl c.in-Ok.ensures refl) refl refl) c.in_ok-write_dropped-in-Ok.ensures
 
 pub returns-in_ok-write_no_memory-in-Err : goal.returns-in_ok-write_no_memory-in-Err
 returns-in_ok-write_no_memory-in-Err g c =
     let W = g.W.Sink in
     let store = g.C.Compiled.store c.args.engine.now in
-    tries-ok W.taken W.failures c.args.sink.now c.write_no_memory.new.sink store store asks_dropped (answer_of (refused for_memory)) _ (by_engine ask_dropped (refused for_memory) refl (out_of_memory refl refl) refl) c.in_ok-write_no_memory-in-Err.ensures
+    tries-ok W.taken W.failures c.args.sink.now c.write_no_memory.new.sink (IsAnswerFor store asks_dropped) (answer_of (refused for_memory)) _ (λ batch number. by_engine ask_dropped (refused for_memory) refl (out_of_memory refl refl) refl refl) c.in_ok-write_no_memory-in-Err.ensures
 
 pub returns-in_err-write_dropped-in-Ok : goal.returns-in_err-write_dropped-in-Ok
 returns-in_err-write_dropped-in-Ok g c =
     let W = g.W.Sink in
     let store = g.C.Compiled.store c.args.engine.now in
-    tries-err W.taken W.failures c.args.sink.now c.write_dropped.new.sink store store asks_dropped (answer_of (dropped_optionals c.in-Ok.dropped)) _ c.from_residual.result c.from_residual.ensures.0 (by_engine ask_dropped (dropped_optionals c.in-Ok.dropped) refl (tells_dropped c.in-Ok.dropped refl refl c.in-Ok.ensures refl) refl) c.in_err-write_dropped-in-Ok.ensures
+    tries-err W.taken W.failures c.args.sink.now c.write_dropped.new.sink (IsAnswerFor store asks_dropped) (answer_of (dropped_optionals c.in-Ok.dropped)) _ c.from_residual.result c.from_residual.ensures.0 (λ batch number. by_engine ask_dropped (dropped_optionals c.in-Ok.dropped) refl (tells_dropped c.in-Ok.dropped refl refl c.in-Ok.ensures refl) refl refl) c.in_err-write_dropped-in-Ok.ensures
 
 pub returns-in_err-write_no_memory-in-Err : goal.returns-in_err-write_no_memory-in-Err
 returns-in_err-write_no_memory-in-Err g c =
     let W = g.W.Sink in
     let store = g.C.Compiled.store c.args.engine.now in
-    tries-err W.taken W.failures c.args.sink.now c.write_no_memory.new.sink store store asks_dropped (answer_of (refused for_memory)) _ c.from_residual-in_err-write_no_memory-in-Err.result c.from_residual-in_err-write_no_memory-in-Err.ensures.0 (by_engine ask_dropped (refused for_memory) refl (out_of_memory refl refl) refl) c.in_err-write_no_memory-in-Err.ensures
+    tries-err W.taken W.failures c.args.sink.now c.write_no_memory.new.sink (IsAnswerFor store asks_dropped) (answer_of (refused for_memory)) _ c.from_residual-in_err-write_no_memory-in-Err.result c.from_residual-in_err-write_no_memory-in-Err.ensures.0 (λ batch number. by_engine ask_dropped (refused for_memory) refl (out_of_memory refl refl) refl refl) c.in_err-write_no_memory-in-Err.ensures

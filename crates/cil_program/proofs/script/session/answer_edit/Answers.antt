@@ -1,41 +1,20 @@
-use Rattle.std.proofs.Common.{refl}
-use Rattle.cil_store_specs.specs.Run.{an_edit, changed_by, refused}
-use Rattle.cil_store_specs.specs.Script.{makes, answer_of, by_engine}
-use Rattle.cil_store.specs.Edits.{edit_of, refusal_of}
-use Rattle.cil_program.proofs.SessionLemmas.{tries-ok, tries-err}
+use Rattle.std.proofs.Common.{◌≡◌, ◌∙◌, refl, ap, sym, subst}
+use Rattle.cil_store_specs.specs.Answers.{IsHeld, by_holding}
+use Rattle.cil_store_specs.specs.Answers as answers
+use Rattle.cil_store.specs.Edits.{edit_of}
+use Rattle.cil_program.specs.Batch.{held_answer}
+use Rattle.cil_program.proofs.AnswerLemmas.{same-name}
+use Rattle.cil_program.proofs.SessionLemmas.{tries-weaker}
 use Rattle.cil_program.proofs.script.session.answer_edit.Goals as goal
 
-pub returns-in_ok-write_changes-in-Ok : goal.returns-in_ok-write_changes-in-Ok
-returns-in_ok-write_changes-in-Ok g c =
+pub returns : goal.returns
+returns g c =
     let W = g.W.Sink in
-    let store = g.C.Compiled.store in
+    let store = g.C.Compiled.store c.args.engine.now in
     let edit = edit_of c.args.edit in
-    let some = c.in-Ok.ensures.ok in
-    tries-ok W.taken W.failures c.args.sink.now c.write_changes.new.sink (store c.args.engine.now) (store c.edit_counted.new.self) (makes edit) (answer_of (changed_by some.changes)) _
-    (by_engine (an_edit edit) (changed_by some.changes) refl some.those refl) (c.in_ok-write_changes-in-Ok.ensures some.changes some.are_counts)
-
-pub returns-in_ok-write_refusal-in-Err : goal.returns-in_ok-write_refusal-in-Err
-returns-in_ok-write_refusal-in-Err g c =
-    let W = g.W.Sink in
-    let store = g.C.Compiled.store in
-    let edit = edit_of c.args.edit in
-    tries-ok W.taken W.failures c.args.sink.now c.write_refusal.new.sink (store c.args.engine.now) (store c.edit_counted.new.self) (makes edit) (answer_of (refused (refusal_of c.in-Err.refusal))) _
-    (by_engine (an_edit edit) (refused (refusal_of c.in-Err.refusal)) refl c.in-Err.ensures.err refl) c.in_ok-write_refusal-in-Err.ensures
-
-pub returns-in_err-write_changes-in-Ok : goal.returns-in_err-write_changes-in-Ok
-returns-in_err-write_changes-in-Ok g c =
-    let W = g.W.Sink in
-    let store = g.C.Compiled.store in
-    let edit = edit_of c.args.edit in
-    let some = c.in-Ok.ensures.ok in
-    tries-err W.taken W.failures c.args.sink.now c.write_changes.new.sink (store c.args.engine.now) (store c.edit_counted.new.self) (makes edit) (answer_of (changed_by some.changes)) _ c.from_residual.result
-    c.from_residual.ensures.0 (by_engine (an_edit edit) (changed_by some.changes) refl some.those refl) (c.in_err-write_changes-in-Ok.ensures some.changes some.are_counts)
-
-pub returns-in_err-write_refusal-in-Err : goal.returns-in_err-write_refusal-in-Err
-returns-in_err-write_refusal-in-Err g c =
-    let W = g.W.Sink in
-    let store = g.C.Compiled.store in
-    let edit = edit_of c.args.edit in
-    tries-err W.taken W.failures c.args.sink.now c.write_refusal.new.sink (store c.args.engine.now) (store c.edit_counted.new.self) (makes edit) (answer_of (refused (refusal_of c.in-Err.refusal))) _
-    c.from_residual-in_err-write_refusal-in-Err.result c.from_residual-in_err-write_refusal-in-Err.ensures.0 (by_engine (an_edit edit) (refused (refusal_of c.in-Err.refusal)) refl c.in-Err.ensures.err refl)
-    c.in_err-write_refusal-in-Err.ensures
+    let b = c.is_open.ensures.yes c.if-not-is_open.false in
+    let held = c.hold-held.ensures b.0 b.1 in
+    let name : c.name.result.now ≡ answers.name_of edit = c.name.ensures ∙ same-name c.args.edit in
+    tries-weaker W.taken W.failures c.args.sink.now c.answer_held.new.sink _ _ c.answer_held.result
+    (λ answer is number. by_holding edit b.0 held.0 refl b.1 (subst (λ a. IsHeld b.0.held edit a held.0) (sym (is ∙ ap (held_answer c.hold-held.result) name)) held.2) (ap (λ o. record { store = store; batch = o }) held.1))
+    c.answer_held.ensures

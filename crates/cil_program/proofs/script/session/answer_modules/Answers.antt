@@ -1,8 +1,10 @@
 use Rattle.std.proofs.Common.{◌++◌, false, List, ℕ, Ok, Err, length, refl, subst}
 use Rattle.cil_store_specs.specs.Store.{Store}
 use Rattle.cil_store_specs.specs.StoreReport.{modules_text}
-use Rattle.cil_store_specs.specs.Script.{asks_modules, by_modules, end_line}
+use Rattle.cil_store_specs.specs.Script.{asks_modules, end_line}
+use Rattle.cil_store_specs.specs.Answers.{by_modules}
 use Rattle.cil_program.specs.Reply.{Writes}
+use Rattle.cil_program.specs.Session.{IsAnswerFor}
 use Rattle.cil_program.proofs.SessionLemmas.{tries-ok, tries-err}
 use Rattle.cil_program.proofs.script.session.answer_modules.Goals as goal
 
@@ -14,12 +16,12 @@ pub returns : goal.returns
 returns g c =
     let W = g.W.Sink in
     let store = g.C.Compiled.store c.args.engine.now in
-    tries-ok W.taken W.failures c.args.sink.now c.write_modules.new.sink store store asks_modules (record { bytes = report store; refuses = false }) _ (by_modules refl refl refl)
+    tries-ok W.taken W.failures c.args.sink.now c.write_modules.new.sink (IsAnswerFor store asks_modules) (record { bytes = report store; refuses = false }) _ (λ batch number. by_modules refl refl refl)
     (subst (λ s. Writes W.taken W.failures c.args.sink.now c.write_modules.new.sink (report s) (Ok _)) c.store.ensures c.in_ok-write_modules.ensures)
 
 pub returns-in_err-write_modules : goal.returns-in_err-write_modules
 returns-in_err-write_modules g c =
     let W = g.W.Sink in
     let store = g.C.Compiled.store c.args.engine.now in
-    tries-err W.taken W.failures c.args.sink.now c.write_modules.new.sink store store asks_modules (record { bytes = report store; refuses = false }) _ c.from_residual.result c.from_residual.ensures.0 (by_modules refl refl refl)
+    tries-err W.taken W.failures c.args.sink.now c.write_modules.new.sink (IsAnswerFor store asks_modules) (record { bytes = report store; refuses = false }) _ c.from_residual.result c.from_residual.ensures.0 (λ batch number. by_modules refl refl refl)
     (subst (λ s. Writes W.taken W.failures c.args.sink.now c.write_modules.new.sink (report s) (Err _)) c.store.ensures c.in_err-write_modules.ensures)

@@ -4,24 +4,26 @@ use Rattle.cil_specs.specs.Violations.{Violation, violations_text}
 use Rattle.cil_store_specs.specs.Store.{Store}
 use Rattle.cil_store_specs.specs.Next.{for_memory}
 use Rattle.cil_store_specs.specs.Run.{AreViolationsOf, ask_violations, refused, violated, tells_violations, out_of_memory}
-use Rattle.cil_store_specs.specs.Script.{Answers, asks_violations, answer_of, by_engine, end_line, refusal_line}
+use Rattle.cil_store_specs.specs.Answers.{answer_of, by_engine}
+use Rattle.cil_store_specs.specs.Script.{asks_violations, end_line, refusal_line}
 use Rattle.cil_program.specs.Reply.{Writes}
+use Rattle.cil_program.specs.Session.{IsAnswerFor}
 use Rattle.cil_program.proofs.ReplyLemmas.{writes-report, writes-later}
 use Rattle.cil_program.proofs.SessionLemmas.{tries-ok, tries-err}
 use Rattle.cil_program.proofs.script.session.answer_violations.Goals as goal
 
-answers : (store : Store) (violations : List Violation) → AreViolationsOf store violations → Answers store asks_violations (answer_of (violated violations)) store
-answers store violations are = by_engine ask_violations (violated violations) refl (tells_violations violations refl refl are refl) refl
+answers : (store : Store) (violations : List Violation) → AreViolationsOf store violations → IsAnswerFor store asks_violations (answer_of (violated violations))
+answers store violations are batch number = by_engine ask_violations (violated violations) refl (tells_violations violations refl refl are refl) refl refl
 
-no-memory : (store : Store) → Answers store asks_violations (answer_of (refused for_memory)) store
-no-memory store = by_engine ask_violations (refused for_memory) refl (out_of_memory refl refl) refl
+no-memory : (store : Store) → IsAnswerFor store asks_violations (answer_of (refused for_memory))
+no-memory store batch number = by_engine ask_violations (refused for_memory) refl (out_of_memory refl refl) refl refl
 
 pub returns-in_ok-write_end-in-Ok : goal.returns-in_ok-write_end-in-Ok
 returns-in_ok-write_end-in-Ok g c =
     let W = g.W.Sink in
     let store = g.C.Compiled.store c.args.engine.now in
     let some = c.in-Ok.ensures.ok in
-    tries-ok W.taken W.failures c.args.sink.now c.write_end.new.sink store store asks_violations (answer_of (violated some.0)) _ (answers store some.0 some.1)
+    tries-ok W.taken W.failures c.args.sink.now c.write_end.new.sink (IsAnswerFor store asks_violations) (answer_of (violated some.0)) _ (answers store some.0 some.1)
     (writes-report W.taken W.failures c.args.sink.now c.write_violations.new.sink c.write_end.new.sink (violations_text some.0) c.in-Ok.violations (length some.0) _ some.2 some.3 c.in-Ok.ensures.counted c.in_ok-write_end-in-Ok.ensures)
 
 pub returns-in_err-write_end-in-Ok : goal.returns-in_err-write_end-in-Ok
@@ -29,7 +31,7 @@ returns-in_err-write_end-in-Ok g c =
     let W = g.W.Sink in
     let store = g.C.Compiled.store c.args.engine.now in
     let some = c.in-Ok.ensures.ok in
-    tries-err W.taken W.failures c.args.sink.now c.write_end.new.sink store store asks_violations (answer_of (violated some.0)) _ c.from_residual.result c.from_residual.ensures.0 (answers store some.0 some.1)
+    tries-err W.taken W.failures c.args.sink.now c.write_end.new.sink (IsAnswerFor store asks_violations) (answer_of (violated some.0)) _ c.from_residual.result c.from_residual.ensures.0 (answers store some.0 some.1)
     (writes-report W.taken W.failures c.args.sink.now c.write_violations.new.sink c.write_end.new.sink (violations_text some.0) c.in-Ok.violations (length some.0) _ some.2 some.3 c.in-Ok.ensures.counted c.in_err-write_end-in-Ok.ensures)
 
 pub returns-in_ok-write_no_memory-in-Err-Memory : goal.returns-in_ok-write_no_memory-in-Err-Memory
@@ -37,7 +39,7 @@ returns-in_ok-write_no_memory-in-Err-Memory g c =
     let W = g.W.Sink in
     let store = g.C.Compiled.store c.args.engine.now in
     let same : W.taken c.write_violations.new.sink ≡ W.taken c.args.sink.now = c.in-Err-Memory.ensures.memory (ap Err c.in-Err-Memory.field-0-is) in
-    tries-ok W.taken W.failures c.args.sink.now c.write_no_memory.new.sink store store asks_violations (answer_of (refused for_memory)) _ (no-memory store)
+    tries-ok W.taken W.failures c.args.sink.now c.write_no_memory.new.sink (IsAnswerFor store asks_violations) (answer_of (refused for_memory)) _ (no-memory store)
     (writes-later W.taken W.failures c.args.sink.now c.write_violations.new.sink c.write_no_memory.new.sink (refusal_line for_memory) _ same c.in-Err-Memory.ensures.counted c.in_ok-write_no_memory-in-Err-Memory.ensures)
 
 pub returns-in_err-write_no_memory-in-Err-Memory : goal.returns-in_err-write_no_memory-in-Err-Memory
@@ -46,7 +48,7 @@ returns-in_err-write_no_memory-in-Err-Memory g c =
     let store = g.C.Compiled.store c.args.engine.now in
     let same : W.taken c.write_violations.new.sink ≡ W.taken c.args.sink.now = c.in-Err-Memory.ensures.memory (ap Err c.in-Err-Memory.field-0-is) in
     let r = c.from_residual-in_err-write_no_memory-in-Err-Memory in
-    tries-err W.taken W.failures c.args.sink.now c.write_no_memory.new.sink store store asks_violations (answer_of (refused for_memory)) _ r.result r.ensures.0 (no-memory store)
+    tries-err W.taken W.failures c.args.sink.now c.write_no_memory.new.sink (IsAnswerFor store asks_violations) (answer_of (refused for_memory)) _ r.result r.ensures.0 (no-memory store)
     (writes-later W.taken W.failures c.args.sink.now c.write_violations.new.sink c.write_no_memory.new.sink (refusal_line for_memory) _ same c.in-Err-Memory.ensures.counted c.in_err-write_no_memory-in-Err-Memory.ensures)
 
 pub returns-in-Err-Sink : goal.returns-in-Err-Sink
@@ -63,4 +65,4 @@ returns-in-Err-Sink g c =
       counted = c.in-Err-Sink.ensures.counted;
     }
     in
-    tries-err W.taken W.failures c.args.sink.now c.write_violations.new.sink store store asks_violations (answer_of (violated some.0)) _ (Err _) refl (answers store some.0 some.1) writes
+    tries-err W.taken W.failures c.args.sink.now c.write_violations.new.sink (IsAnswerFor store asks_violations) (answer_of (violated some.0)) _ (Err _) refl (answers store some.0 some.1) writes

@@ -1,0 +1,38 @@
+use Rattle.std.proofs.Common.{refl, sym, subst}
+use Rattle.std.proofs.lemmas.Result.{err_from_is_err_and}
+use Rattle.cil_store.specs.Edits.{edit_of}
+use Rattle.cil_program.specs.Batch.{CanHold, IsOpen}
+use Rattle.cil_program.specs.HeldEdit.{held_edit}
+use Rattle.cil_program.specs.declared.script.batch.NotHeld.TheVariants.{Memory}
+use Rattle.cil_program.proofs.BatchLemmas.{kept-size, not-added, no-memory, list-after, has-room, added}
+use Rattle.cil_program.proofs.script.batch.Batch.add.Goals as goal
+
+pub returns-in_err-check : goal.returns-in_err-check
+returns-in_err-check g c =
+    let made = err_from_is_err_and c.from_residual.result c.from_residual.ensures.1 in
+    rw (made.1, made.2) (not-added c.args.self.now c.args.self.now (edit_of c.args.edit) _ refl (λ b found. c.in_err-check.ensures.err b (edit_of c.args.edit) found (sym c.held_bytes.ensures.bytes)))
+
+pub returns-in_err-held : goal.returns-in_err-held
+returns-in_err-held g c =
+    let made = err_from_is_err_and c.from_residual-in_err-held.result c.from_residual-in_err-held.ensures.1 in
+    rw (made.1, made.2)
+    (not-added c.args.self.now c.args.self.now (edit_of c.args.edit) Memory refl (no-memory c.args.self.now (edit_of c.args.edit) c.held_bytes.result (sym c.held_bytes.ensures.bytes) c.in_ok-check.ensures.ok))
+
+pub push-requires : goal.push-requires
+push-requires g c =
+    has-room c.self.inside.begin c.self.inside.fault c.self.inside.edits (held_edit c.in_ok-held.held) c.held_bytes.result (subst IsOpen (sym c.self.view_is) c.requires)
+    (kept-size (edit_of c.args.edit) (held_edit c.in_ok-held.held) c.held_bytes.result (sym c.in_ok-held.ensures) (sym c.held_bytes.ensures.bytes)) (subst (λ o. CanHold o c.held_bytes.result) (sym c.self.view_is) c.in_ok-check.ensures.ok)
+
+pub returns-in_err-push : goal.returns-in_err-push
+returns-in_err-push g c =
+    let made = err_from_is_err_and c.from_residual-in_err-push.result c.from_residual-in_err-push.ensures.1 in
+    let can = subst (λ o. CanHold o c.held_bytes.result) (sym c.self.view_is) c.in_ok-check.ensures.ok in
+    rw (made.1, made.2, ← c.self.view_is)
+    (list-after c.self.inside.begin c.self.inside.fault c.self.inside.edits c.push.new.self (edit_of c.args.edit) Memory (no-memory _ (edit_of c.args.edit) c.held_bytes.result (sym c.held_bytes.ensures.bytes) can))
+
+pub returns : goal.returns
+returns g c =
+    rw (← c.self.view_is)
+    (added c.self.inside.begin c.self.inside.fault c.self.inside.edits c.push.new.self (edit_of c.args.edit) (held_edit c.in_ok-held.held) c.held_bytes.result _ (sym c.in_ok-held.ensures)
+    (kept-size (edit_of c.args.edit) (held_edit c.in_ok-held.held) c.held_bytes.result (sym c.in_ok-held.ensures) (sym c.held_bytes.ensures.bytes)) (subst (λ o. CanHold o c.held_bytes.result) (sym c.self.view_is) c.in_ok-check.ensures.ok)
+    c.in_ok-push.ensures)

@@ -1,0 +1,7 @@
+use Rattle.std.proofs.Common.{◌≡◌, map, take}
+use Rattle.cil_store.specs.Edits.{edit_of}
+use Rattle.cil_program.specs.HeldEdit.{held_edit}
+use Rattle.cil_program.proofs.script.edit_list.EditList.as_edits.Given as goal
+
+abbrev pub invariant-loop-edit : goal.invariant-loop-edit
+invariant-loop-edit g l = map edit_of l.edits.items ≡ map held_edit (take l.edit-index l.edit-items)
