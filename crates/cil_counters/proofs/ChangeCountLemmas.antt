@@ -1,5 +1,5 @@
 -- How many accesses came to a table, told by the counters.
-use Rattle.std.proofs.Common.{◌≡◌, ◌≢◌, ◌⊎◌, ℕ, ◌<◌, ◌&&◌, Bool, true, not, List, [], ◌∷◌, length, map, get_or, nat_lt, slice_get, Some, Contains, Less, Equal, Greater, refl, sym, ap, subst, ◌∙◌, inl, inr, arith}
+use Rattle.std.proofs.Common.{◌≡◌, ◌≢◌, ◌⊎◌, ℕ, ◌<◌, ◌&&◌, Bool, true, not, List, [], ◌∷◌, length, map, get_or, nat_lt, Some, Contains, Less, Equal, Greater, true≢false, refl, sym, ap, subst, ◌∙◌, inl, inr, arith}
 use Rattle.std.specs.Bool.{IsTrue}
 use Rattle.std.specs.List.{AllByRecursion, AllPairs}
 use Rattle.std.specs.List.Sorted.{IsStrictlySortedBy}
@@ -12,7 +12,7 @@ use Rattle.std.proofs.lemmas.Map.Keys.{Less-from_sorted}
 use Rattle.std.proofs.lemmas.Option.{slice_get-get_or}
 use Rattle.cil_sums.proofs.PairLemmas.{at-most-all, from-mapped, mapped, pairs-map}
 use Rattle.cil_specs.specs.Meaning.{count_of, is_in_table}
-use Rattle.cil_specs.specs.Report.{atom_cmp, AreAtoms, AreChanges, Changes}
+use Rattle.cil_specs.specs.Report.{atom_cmp, AreAtoms, AreChanges}
 use Rattle.cil_specs.specs.Rule.{Atom}
 use Rattle.cil_specs.specs.Statements as spec
 use Rattle.cil_specs.specs.Statements.{allow, auditallow, dontaudit, neverallow}
@@ -223,6 +223,15 @@ module _ {A : Type 0} (symbols : List (List ℕ)) (apart : AreApart symbols) (ol
       let less = at-most-all atoms put.ordered once from in
       let more = at-most-all put.ordered atoms (atoms-apart put.ordered put.ascends) to in
       (put.ordered, record { ordered = put.ascends; exact = λ a. ((λ at. to-come a (to a at)), λ come. from a (from-come a come)) }, omega (arith, many.all, length-map many.those (by_names symbols apart), less, more))
+
+-- none goes to where there was none
+pub none-went : (was : RuleKind → SymbolKey → ℕ → ℕ) → AreSoMany (has_come was (λ kind key t. 0)) 0
+none-went was = record {
+  those = [];
+  exact = λ a. ((λ at. absurd (omega (arith, at.1))), λ come. absurd (true≢false (sym come)));
+  once = λ i j d less within. absurd (omega (arith, within));
+  all = refl;
+}
 
 -- the changes between two policies, by what came and what went
 pub changes-counted : {A : Type 0} (symbols : List (List ℕ)) (apart : AreApart symbols) (old new : Resolved A) (old_members new_members : ℕ → ℕ → ℕ) (was now : RuleKind → SymbolKey → ℕ → ℕ) → IsCounted symbols old old_members was

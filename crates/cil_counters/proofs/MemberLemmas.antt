@@ -1,16 +1,15 @@
 -- The members of a policy's attributes, told by the counters of symbols.
-use Rattle.std.proofs.Common.{◌≡◌, ◌+◌, ◌<◌, ◌≤◌, ◌&&◌, ◌==◌, ℕ, Bool, true, false, true≢false, List, [], length, cond, count_by, nat_lt, get_or, slice_get, slice_index, Some, if◌then◌else◌, refl, sym, ap, ◌∙◌, inl, inr, arith, eq-eqb, eqb-true}
+use Rattle.std.proofs.Common.{◌≡◌, ◌+◌, ◌<◌, ◌≤◌, ◌&&◌, ◌==◌, ℕ, Bool, true, false, true≢false, List, [], length, cond, count_by, nat_lt, slice_get, slice_index, Some, if◌then◌else◌, refl, sym, ap, ◌∙◌, inl, inr, arith, eq-eqb, eqb-true}
 use Rattle.std.proofs.lemmas.Bool.{cases_lt, le-ltb, lt-ltb}
 use Rattle.std.proofs.lemmas.Option.{get_or_from_slice_get, slice_get_within}
 use Rattle.cil_specs.specs.Dependence.{AreTheSame}
 use Rattle.cil_specs.specs.Members.{HasSoundSets}
-use Rattle.cil_lines.specs.Line.{NonePresent}
 use Rattle.cil_parse.specs.Lexicon.{AreNumbersOf}
 use Rattle.cil_resolve.specs.Resolved.{meaning_in}
 use Rattle.cil_resolve.specs.Sets.{name_in, sets_in}
 use Rattle.cil_resolve.specs.declared.resolved.Resolved.{Resolved}
 use Rattle.cil_sets.specs.Counts.{gives_count}
-use Rattle.cil_sets.specs.Members.{count_in, has_in, AreMembers}
+use Rattle.cil_sets.specs.Members.{count_in, AreMembers}
 use Rattle.cil_sets.specs.declared.members.Members.{Members}
 use Rattle.cil_sets.proofs.CountLemmas.{counted-member}
 use Rattle.cil_member_updates.specs.Policy.{AreCounts}

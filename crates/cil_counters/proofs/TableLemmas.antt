@@ -1,11 +1,11 @@
 -- The access table of a policy by full names, told by its counters.
-use Rattle.std.proofs.Common.{◌≡◌, ◌↔◌, ℕ, ◌<◌, List, [], length, map, nat_lt, slice_get, Some, Contains, refl, sym, ap, subst, ◌∙◌}
+use Rattle.std.proofs.Common.{◌≡◌, ◌↔◌, ℕ, ◌<◌, List, [], length, map, Some, Contains, refl, sym, ap, subst, ◌∙◌}
 use Rattle.std.specs.Bool.{IsTrue}
 use Rattle.std.specs.List.Sorted.{IsStrictlySortedBy}
 use Rattle.std.proofs.lemmas.Bool.{lt-ltb, ltb-true}
 use Rattle.std.proofs.lemmas.Option.{slice_get-get_or}
 use Rattle.cil_specs.specs.Meaning.{count_of, is_in_table}
-use Rattle.cil_specs.specs.Report.{AreAtoms, names_rise}
+use Rattle.cil_specs.specs.Report.{AreAtoms}
 use Rattle.cil_specs.specs.Rule as spec
 use Rattle.cil_specs.proofs.ReportLemmasMembers.{all_from_contains, any-map, any_from, any_from_map, any_to, contains_from, contains_to}
 use Rattle.cil_text.specs.declared.statement.RuleKind.{RuleKind}

@@ -28,6 +28,10 @@ IsNow r c = IsCounted c.names r (member_rows.count_now c.rows) (access_tables.co
 abbrev pub WasBefore : {A B : Type 0} → Resolved A → Counters B → Type 0
 WasBefore r c = IsCounted c.names r (member_rows.count_before c.rows) (access_tables.count_before c.tables)
 
+-- the names of a policy have symbols
+abbrev pub HasNames : {A B : Type 0} → Resolved A → Counters B → Type 0
+HasNames r c = (symbols : List ℕ) × AreNumbersOf c.names symbols r.names.items
+
 -- There are no more names with symbols than there were, or than two policies have.
 abbrev pub HasFewNames : {A B C : Type 0} → (one other : Resolved A) (before : Counters B) (after : Counters C) → Type 0
 HasFewNames one other before after = length after.names ≤ max (length before.names) (length one.names.items + length other.names.items)

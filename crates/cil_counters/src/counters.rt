@@ -16,8 +16,9 @@ ghost use Rattle.cil_resolve.specs.Sets.{sets_in};
 ghost use Rattle.cil_sets.specs.Members.{AreMembers};
 ghost use Rattle.cil_counters.specs.ChangeCounts.{CountsSome};
 ghost use Rattle.cil_counters.specs.ChangedMembers.{pairs_of, AreChangedMembers};
-ghost use Rattle.cil_counters.specs.Counted.{count_with, had_named, has_named, steps_in, AreBounded, AreSettled, AreTakenBack, HasFewNames, IsNow, WasBefore};
+ghost use Rattle.cil_counters.specs.Counted.{count_with, had_named, has_named, steps_in, AreBounded, AreSettled, AreTakenBack, HasFewNames, HasNames, IsNow, WasBefore};
 ghost use Rattle.cil_symbol_tables.specs.Tables as access_tables;
+ghost use Rattle.cil_table_updates.specs.declared.steps.Steps.TheVariants.{Logged};
 
 use crate::changed_members::{ChangedMember, changed_members_of};
 use crate::member_counts::members_of;
@@ -34,10 +35,10 @@ use cil_resolve::{
 };
 use cil_rules::{Changes, Table, names_of, rank};
 use cil_sets::Members;
-use cil_symbol_changes::ChangeCounts;
+use cil_symbol_changes::{ChangeCounts, count_accesses};
 use cil_symbol_tables::SymbolTables;
 use cil_symbols::{Numbering, Symbols};
-use cil_table_updates::Named;
+use cil_table_updates::{Named, Steps};
 use cil_text::RuleKind;
 use std::alloc::{AllocError, Allocator, Global};
 
@@ -147,18 +148,20 @@ impl<A: Allocator + Copy> Counters<A> {
         )
     }
 
-    /// Brings the counters from an old policy to a new one, in steps.
+    /// Brings the counters from an old policy to a new one, in steps. Where those of accesses are logged, they can be taken back.
     fn take_steps(
         &mut self,
         alloc: A,
         old: &Resolved<A>,
         new: &Resolved<A>,
+        steps: Steps,
         meter: &mut Meter,
     ) -> Result<(), AllocError>
         requires now { IsNow old.now self.old }
         requires before { WasBefore old.now self.old }
         ensures now { OnOk result (IsNow new.now self.new) }
-        ensures before { WasBefore old.now self.new }
+        ensures before { steps ≡ Logged → WasBefore old.now self.new }
+        ensures named { OnOk result (HasNames old.now self.new) }
         ensures evaluations { OnOk result (EvaluatesFew (meaning_in old.now) (meaning_in new.now) (evaluations_in meter.old) (evaluations_in meter.new)) }
         ensures adjustments { OnOk result ((changes : report.Changes) → AreChanges (is_in_table (meaning_in old.now)) (is_in_table (meaning_in new.now)) changes
             → AdjustsFew (meaning_in old.now) (meaning_in new.now) changes (adjustments_in meter.old) (adjustments_in meter.new)) }
@@ -191,6 +194,7 @@ impl<A: Allocator + Copy> Counters<A> {
             &self.rows,
             old,
             new,
+            steps,
             meter,
         )
     }
@@ -226,6 +230,20 @@ impl<A: Allocator + Copy> Counters<A> {
         ensures { IfOk result (CountsSome (AreChanges (is_in_table (meaning_in old.now)) (is_in_table (meaning_in new.now)))) }
     {
         cil_symbol_changes::count_changes(alloc, &self.tables)
+    }
+
+    /// How many changes there are from a policy without set statements and rules to one whose counters stand now: each of its accesses is
+    /// new.
+    fn count_all(&self, old: &Resolved<A>, new: &Resolved<A>) -> Result<ChangeCounts, AllocError>
+        requires sets { length (sets_in old.now) ≡ 0 }
+        requires rules { length (meaning_in old.now).rules ≡ 0 }
+        requires named { HasNames old.now self.now }
+        requires now { IsNow new.now self.now }
+        requires distinct { IsDistinct bytes_eq self.now.names }
+        ensures { IfOk result (CountsSome (AreChanges (is_in_table (meaning_in old.now)) (is_in_table (meaning_in new.now)))) }
+    {
+        let added = count_accesses(&self.tables)?;
+        Ok(ChangeCounts { added, removed: 0 })
     }
 
     /// The access table of the policy whose counters stand now. No rule is gone over.
@@ -277,7 +295,7 @@ impl<A: Allocator + Copy> Counters<A> {
         ensures names { HasFewNames old.now new.now self.old self.new }
         ensures bounded { AreBounded old.now new.now self.new }
     {
-        self.take_steps(alloc, old, new, meter)?;
+        self.take_steps(alloc, old, new, Steps::Logged, meter)?;
         self.changes(alloc, old, new)
     }
 
@@ -300,9 +318,36 @@ impl<A: Allocator + Copy> Counters<A> {
         ensures names { HasFewNames old.now new.now self.old self.new }
         ensures bounded { AreBounded old.now new.now self.new }
     {
-        self.take_steps(alloc, old, new, meter)?;
+        self.take_steps(alloc, old, new, Steps::Logged, meter)?;
         self.names.len();
         self.count_changes(alloc, old, new)
+    }
+
+    /// Brings the counters from those of a policy without set statements and rules, as that of an empty store is, to those of another one,
+    /// and answers how many changes there are. The steps of a rule's accesses are settled once it is put in, so their log never holds those
+    /// of more than one. After an out of memory the counters are of no use, since `undo` doesn't lead back to the old policy.
+    pub fn load_counted(
+        &mut self,
+        alloc: A,
+        old: &Resolved<A>,
+        new: &Resolved<A>,
+        meter: &mut Meter,
+    ) -> Result<ChangeCounts, AllocError>
+        requires now { IsNow old.now self.old }
+        requires before { WasBefore old.now self.old }
+        requires sets { length (sets_in old.now) ≡ 0 }
+        requires rules { length (meaning_in old.now).rules ≡ 0 }
+        ensures now { OnOk result (IsNow new.now self.new) }
+        ensures changes { IfOk result (CountsSome (AreChanges (is_in_table (meaning_in old.now)) (is_in_table (meaning_in new.now)))) }
+        ensures evaluations { OnOk result (EvaluatesFew (meaning_in old.now) (meaning_in new.now) (evaluations_in meter.old) (evaluations_in meter.new)) }
+        ensures adjustments { OnOk result ((changes : report.Changes) → AreChanges (is_in_table (meaning_in old.now)) (is_in_table (meaning_in new.now)) changes
+            → AdjustsFew (meaning_in old.now) (meaning_in new.now) changes (adjustments_in meter.old) (adjustments_in meter.new)) }
+        ensures names { HasFewNames old.now new.now self.old self.new }
+        ensures bounded { AreBounded old.now new.now self.new }
+    {
+        self.take_steps(alloc, old, new, Steps::Settled, meter)?;
+        self.names.len();
+        self.count_all(old, new)
     }
 }
 

@@ -1,5 +1,5 @@
 -- Keys that are taken out with their lines, and the counters of the others.
-use Rattle.std.proofs.Common.{◌≡◌, ◌≢◌, ◌⊎◌, ℕ, ◌+◌, ◌-◌, ◌*◌, ◌%◌, ◌<◌, ◌≤◌, ◌==◌, Bool, true, false, cond, not, if◌then◌else◌, List, [], ◌∷◌, ◌++◌, length, get_or, set, take, position, slice_get, Option, None, Some, IfSome, bit_and, w64, refl, sym, ap, ◌∙◌, true≢false, inl, inr, arith, ◌^◌, eq-eqb, ◌||◌, ◌&&◌}
+use Rattle.std.proofs.Common.{◌≡◌, ◌≢◌, ◌⊎◌, ℕ, ◌+◌, ◌-◌, ◌*◌, ◌%◌, ◌<◌, ◌≤◌, ◌==◌, Bool, true, false, cond, if◌then◌else◌, List, [], ◌∷◌, ◌++◌, length, get_or, set, take, position, slice_get, Option, None, Some, IfSome, bit_and, w64, refl, sym, ap, ◌∙◌, true≢false, inl, inr, arith, ◌^◌, eq-eqb, ◌||◌}
 use Rattle.std.specs.Int.{bit_not, bit_at}
 use Rattle.std.specs.List.{list_any, IsDistinct, swap_remove}
 use Rattle.std.proofs.lemmas.Bool.{cases_eq, cases_lt, ne_eqb}
@@ -176,7 +176,7 @@ moves was is was_fits is_fits gone come =
       bit_at-lt is b,
     ))
 
--- the lines of other keys are as they were, and the line of a place has a counter or a step that let targets go
+-- the lines of other keys are as they were, and the line of a place has a counter or a step that took the last ones from a word
 pub counted_shifted : (old mid new : State) (n m place word was is : ℕ) → was < 2 ^ 64 → is < 2 ^ 64 → was ≢ is → mid.log ≡ old.log → AreCounted (falls old.log) n old
     → ((l : ℕ) → l < m → l ≢ place → l < n)
     → ((l t : ℕ) → recorded.count_now mid l t ≡ recorded.count_now old l t)
@@ -257,14 +257,14 @@ module _ (keys news : List SymbolKey) (old mid new : State) (key : SymbolKey) (p
 pub before_quiet : (s : State) (l t : ℕ) → has_line s.log l ≡ false → recorded.count_now s l t ≡ recorded.count_before s l t
 before_quiet s l t none =
     untouched s.log (recorded.count_now s) l t (λ k _ within line _.
-    true≢false (sym (list_any_at (λ (x : Step). x.line == l) s.log k (record { line = 0; word = 0; mask = 0; turned = 0; up = false }) within (eq-eqb _ l line)) ∙ none))
+    true≢false (sym (list_any_at (λ (x : Step). x.line == l) s.log k (record { line = 0; word = 0; mask = 0; turned = 0; up = false; clears = false }) within (eq-eqb _ l line)) ∙ none))
 
--- a line without a step has none that let targets go
+-- a line without a step has none that took the last counters from a word
 pub quiet-falls : (ss : List Step) (l : ℕ) → has_line ss l ≡ false → has_line (falls ss) l ≡ false
 quiet-falls [] l none = refl
 quiet-falls (s ∷ ss) l none =
     let (here, rest) = both_false (s.line == l) (has_line ss l) none in
-    by (not s.up && not (s.turned == 0)) here (quiet-falls ss l rest)
+    by s.clears here (quiet-falls ss l rest)
   where
     by : (b : Bool) → (s.line == l) ≡ false → has_line (falls ss) l ≡ false → has_line (cond b (s ∷ falls ss) (falls ss)) l ≡ false
     by true here rest = ap (λ c. c || has_line (falls ss) l) here ∙ rest

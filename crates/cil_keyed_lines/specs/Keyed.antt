@@ -75,7 +75,7 @@ NoneCounted k key = (t : ℕ) → (count_now k key t ≡ 0) × (count_before k k
 abbrev pub AreCounted : List Step → ℕ → State → Type 0
 AreCounted steps n lines = (i : ℕ) → i < n → has_line steps i ≡ false → HasCount lines i
 
--- the lines of keys, of which each has a counter above 0 or a step that let targets go
+-- the lines of keys, of which each has a counter above 0 or a step that took the last ones from a word
 pub record AreHeld (keys : List SymbolKey) (lines : State) : Type 0 where
   pub keyed : AreKeyed keys lines
   pub counted : AreCounted (falls lines.log) (length keys) lines

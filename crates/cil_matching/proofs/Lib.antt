@@ -1,6 +1,8 @@
 pub mod SpotLemmas
 pub mod InverseLemmas
 pub mod MatchedLemmas
+pub mod FilledLemmas
+pub mod PassedLemmas
 pub mod ApartLemmas
 pub mod MergedLemmas
 pub mod NumberLemmas

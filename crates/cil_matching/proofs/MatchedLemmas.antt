@@ -5,7 +5,7 @@ use Rattle.std.proofs.lemmas.List.{length-append}
 use Rattle.std.proofs.lemmas.Option.{none-some, same_Some, slice_get_within, slice_get-map}
 use Rattle.cil_check.proofs.PositionLemmas.{get-append, get-last}
 use Rattle.cil_optionals.proofs.DependentLemmas.{got-push}
-use Rattle.cil_matching.specs.Matching.{AreSameAt, AreMatched, ArePlaces}
+use Rattle.cil_matching.specs.Matching.{AreSameAt, AreMatched, ArePlaces, AreRight}
 use Rattle.cil_matching.specs.Spot.{Spot, same_spot, AreApart}
 use Rattle.cil_matching.proofs.SpotLemmas.{found-spot, stands-found}
 
@@ -57,12 +57,38 @@ module _ {S : Type 0} (IsSame : S → S → Type 0) (old new : List S) where
       stands : slice_get (ahead ++ place ∷ []) count ≡ Some place
       stands = ap (slice_get (ahead ++ place ∷ [])) (sym are.long) ∙ get-last ahead place
 
+  pub right-none : (places : List (Option ℕ)) → places ≡ [] → AreRight IsSame old new 0 places
+  right-none places none = record { long = ap length none; right = λ i j at. absurd (none-some (Some j) (ap (λ l. slice_get l i) (sym none) ∙ at)) }
+
+  pub right-next : (count : ℕ) (places next : List (Option ℕ)) (place : Option ℕ) → ((j : ℕ) → place ≡ Some j → AreSameAt IsSame old new count j) → next ≡ places ++ place ∷ []
+      → AreRight IsSame old new count places → AreRight IsSame old new (count + 1) next
+  right-next count places next place is pushed are = subst (AreRight IsSame old new (count + 1)) (sym pushed) (record {
+    long = let all = length-append places (place ∷ []) in let long = are.long in omega (arith, all, long);
+    right = λ i j at. elim (got-push places place i (Some j) at) [
+      | inl has ↦ are.right i j has
+      | inr end ↦ subst (λ k. AreSameAt IsSame old new k j) (sym (end.0 ∙ are.long)) (is j end.1)
+    ];
+  })
+
+  -- what a test at two places tells
+  pub tested-same : (i k : ℕ) (test : Bool) → i < length old → ((s t : S) → slice_get old i ≡ Some s → slice_get new k ≡ Some t → IsTrue test ↔ IsSame s t)
+      → (slice_get new k ≡ None → test ≡ false) → test ≡ true → AreSameAt IsSame old new i k
+  tested-same i k test low tells none passes = by (slice_get old i) (slice_get new k) refl refl
+    where
+      by : (o p : Option S) → slice_get old i ≡ o → slice_get new k ≡ p → AreSameAt IsSame old new i k
+      by None p here there = let (s, at) = mapped-there (λ x. x) old i low in absurd (none-some s (ap (option_map (λ x. x)) (sym here) ∙ sym (slice_get-map (λ x. x) old i) ∙ at))
+      by (Some s) None here there = absurd (true≢false (sym passes ∙ none there))
+      by (Some s) (Some t) here there = record { statement = s; other = t; here = here; there = there; same = (tells s t here there).0 passes }
+
   -- of all places
   pub places-all : (count : ℕ) (ahead : List (Option ℕ)) → length old ≤ count → ArePlaces IsSame old new count ahead → (i j : ℕ) → (slice_get ahead i ≡ Some (Some j)) ↔ AreSameAt IsSame old new i j
   places-all count ahead all are i j = (
     λ at. let within = slice_get_within ahead i (Some j) at in let long = are.long in (are.exact i j (omega (arith, within, long))).0 at,
     λ same. let within = slice_get_within old i same.statement same.here in (are.exact i j (omega (arith, within, all))).1 same,
   )
+
+  pub right-below : (count : ℕ) (places : List (Option ℕ)) → AreRight IsSame old new count places → (i j : ℕ) → slice_get places i ≡ Some (Some j) → j < length new
+  right-below count places are i j at = let same = are.right i j at in slice_get_within new j same.other same.there
 
   pub places-below : (count : ℕ) (ahead : List (Option ℕ)) → length old ≤ count → ArePlaces IsSame old new count ahead → (i j : ℕ) → slice_get ahead i ≡ Some (Some j) → j < length new
   places-below count ahead all are i j at = let same = (places-all count ahead all are i j).0 at in slice_get_within new j same.other same.there
@@ -80,10 +106,24 @@ module _ {S : Type 0} (IsSame : S → S → Type 0) (old new : List S) where
   -- where statements that are the same stand at one spot
   module _ (spot : S → Spot) (agree : (s t : S) → IsSame s t → spot s ≡ spot t) where
     -- the spots of a statement and of the same one
-    spot-there : (i j : ℕ) (p : Spot) → slice_get (map spot old) i ≡ Some p → AreSameAt IsSame old new i j → slice_get (map spot new) j ≡ Some p
+    pub spot-there : (i j : ℕ) (p : Spot) → slice_get (map spot old) i ≡ Some p → AreSameAt IsSame old new i j → slice_get (map spot new) j ≡ Some p
     spot-there i j p at same =
         let is = same_Some (spot same.statement) p (sym (to-mapped spot old i same.statement same.here) ∙ at) in
         to-mapped spot new j same.other same.there ∙ ap Some (sym (agree same.statement same.other same.same) ∙ is)
+
+    -- and back
+    pub spot-here : (i j : ℕ) (p : Spot) → slice_get (map spot new) j ≡ Some p → AreSameAt IsSame old new i j → slice_get (map spot old) i ≡ Some p
+    spot-here i j p at same =
+        let is = same_Some (spot same.other) p (sym (to-mapped spot new j same.other same.there) ∙ at) in
+        to-mapped spot old i same.statement same.here ∙ ap Some (agree same.statement same.other same.same ∙ is)
+
+    pub right-apart : (count : ℕ) (places : List (Option ℕ)) → AreApart (map spot old) → AreRight IsSame old new count places
+        → (i k j : ℕ) → slice_get places i ≡ Some (Some j) → slice_get places k ≡ Some (Some j) → i ≡ k
+    right-apart count places apart are i k j first second =
+        let one = are.right i j first in
+        let two = are.right k j second in
+        let at = to-mapped spot new j one.other one.there in
+        apart i k (spot one.other) (spot-here i j (spot one.other) at one) (spot-here k j (spot one.other) at two)
 
     -- one statement is the same as one at most
     pub places-apart : (count : ℕ) (ahead : List (Option ℕ)) → AreApart (map spot old) → length old ≤ count → ArePlaces IsSame old new count ahead

@@ -1,17 +1,13 @@
 -- The places of one policy's rules in another one.
 use Rattle.std.proofs.Common.{◌≡◌, ◌∙◌, ◌↔◌, ℕ, ◌<◌, Bool, true, false, true≢false, List, [], ◌∷◌, length, map, get_or, slice_get, Option, None, Some, IsTrue, sym, ap, subst, arith}
 use Rattle.std.specs.List.Sorted.{IsStrictlySortedBy}
-use Rattle.std.specs.Ordering.{nat_cmp}
 use Rattle.std.specs.declared.cmp.Ordering.{Ordering}
 use Rattle.std.specs.declared.cmp.Ordering.TheVariants.{Equal}
 use Rattle.std.proofs.lemmas.Cmp.{tied_itself}
 use Rattle.std.proofs.lemmas.List.{length-map}
-use Rattle.std.proofs.lemmas.Map.Lookups.{exact_bytes, exact_unsigned}
 use Rattle.std.proofs.lemmas.Option.{none-some, same_Some, slice_get-get_or}
-use Rattle.cil_specs.specs.Report.{name_cmp}
 use Rattle.cil_specs.specs.Rule.{Rule, IsSameRule, content_of}
 use Rattle.cil_specs.specs.Violations.{rule_cmp}
-use Rattle.cil_specs.proofs.ReportLemmas.{then_equal}
 use Rattle.cil_specs.proofs.ViolationLemmas.{rule_total}
 use Rattle.cil_optionals.proofs.GreatestLemmas.{all-got}
 use Rattle.cil_resolve.specs.Below.{is_rule_below}
@@ -27,6 +23,7 @@ use Rattle.cil_matching.proofs.ApartLemmas.{rules-agree}
 use Rattle.cil_matching.proofs.ContentLemmas.{content-tells, is-below}
 use Rattle.cil_matching.proofs.MatchedLemmas.{to-mapped}
 use Rattle.cil_matching.proofs.MergedLemmas.{found-place}
+use Rattle.cil_matching.proofs.SpotLemmas.{tied-spots}
 
 -- rules that are the same stand at one spot
 same-alike : (r s : Rule) → IsSameRule r s → rule_cmp s r ≡ Equal
@@ -49,8 +46,8 @@ rule-missed olds news i j missed k = (
 -- alike rules are the same where they say the same
 alike-same : (r s : Rule) → rule_cmp s r ≡ Equal → content_of r ≡ content_of s → IsSameRule r s
 alike-same r s alike content =
-    let (name, offset) = then_equal (name_cmp s.module_name r.module_name) (nat_cmp s.at.offset r.at.offset) alike in
-    (sym (exact_bytes s.module_name r.module_name name), sym (exact_unsigned s.at.offset r.at.offset offset), content)
+    let same = tied-spots (rule_spot s) (rule_spot r) alike in
+    (sym (ap (λ (p : Spot). p.module_name) same), sym (ap (λ (p : Spot). p.offset) same), content)
 
 module _ (olds news : List Rule) (i j : ℕ) (low : i < length olds) (sorted : IsStrictlySortedBy rule_cmp news) (found : IsFoundAt rule_cmp olds news i j) where
   only-there : (k : ℕ) (same : AreSameAt IsSameRule olds news i k) → k ≡ j

@@ -1,17 +1,21 @@
 -- Spots, each found among others.
-use Rattle.std.proofs.Common.{◌≡◌, ◌∙◌, ℕ, ◌==◌, ◌||◌, true, false, true≢false, List, [], ◌∷◌, ◌++◌, map, take, drop, cond, position, get_or, slice_get, Option, None, Some, is_some, option_map, bytes_eq, suc, refl, sym, ap, arith, if◌then◌else◌}
+use Rattle.std.proofs.Common.{◌≡◌, ◌∙◌, ℕ, ◌==◌, ◌||◌, true, false, true≢false, List, [], ◌∷◌, ◌++◌, map, cond, position, get_or, slice_get, Option, None, Some, is_some, option_map, bytes_eq, suc, refl, sym, ap, if◌then◌else◌}
 use Rattle.std.specs.List.{list_any}
 use Rattle.std.proofs.lemmas.Bool.{eqb-true, eq-eqb}
-use Rattle.std.proofs.lemmas.List.{map-append, take-append-drop}
+use Rattle.std.proofs.lemmas.List.{map-append}
 use Rattle.std.proofs.lemmas.List.Folds.{list_any_at}
 use Rattle.std.proofs.lemmas.List.Quantifiers.{position-Some}
 use Rattle.std.proofs.lemmas.Option.{slice_get_within, slice_get-get_or, get_or_from_slice_get}
 use Rattle.std.proofs.lemmas.Slice.Eq.{bytes_eq-Decides}
+use Rattle.std.specs.Ordering.{nat_cmp}
+use Rattle.std.specs.declared.cmp.Ordering.TheVariants.{Equal}
+use Rattle.std.proofs.lemmas.Map.Lookups.{exact_bytes, exact_unsigned}
+use Rattle.cil_specs.specs.Report.{name_cmp}
+use Rattle.cil_specs.proofs.ReportLemmas.{then_equal}
 use Rattle.indexmap.specs.IndexSet.{insert_key}
 use Rattle.cil_specs.proofs.Runs.{first_true, second_true, both_true}
-use Rattle.cil_bind.proofs.PositionLemmas.{any-position, position-cons, take-length}
-use Rattle.cil_check.proofs.PositionLemmas.{get-append}
-use Rattle.cil_matching.specs.Spot.{Spot, spot_of, same_spot, AreApart}
+use Rattle.cil_bind.proofs.PositionLemmas.{any-position, position-cons}
+use Rattle.cil_matching.specs.Spot.{Spot, spot_of, same_spot, spot_cmp, AreApart}
 use Rattle.cil_matching.specs.declared.positions.Position.{Position}
 use Rattle.cil_matching.specs.contracts.positions.PositionPartialEq.TheImpl as position_eq
 
@@ -20,6 +24,12 @@ same-spot p q is =
     let name = (bytes_eq-Decides p.module_name q.module_name).0 (first_true (bytes_eq p.module_name q.module_name) (p.offset == q.offset) is) in
     let offset = eqb-true p.offset q.offset (second_true (bytes_eq p.module_name q.module_name) (p.offset == q.offset) is) in
     λ i. record { module_name = name i; offset = offset i }
+
+-- spots neither of which stands before the other are the same
+pub tied-spots : (p q : Spot) → spot_cmp p q ≡ Equal → p ≡ q
+tied-spots p q tied =
+    let (name, offset) = then_equal (name_cmp p.module_name q.module_name) (nat_cmp p.offset q.offset) tied in
+    λ i. record { module_name = exact_bytes p.module_name q.module_name name i; offset = exact_unsigned p.offset q.offset offset i }
 
 spot-itself : (p : Spot) → same_spot p p ≡ true
 spot-itself p = both_true (bytes_eq p.module_name p.module_name) (p.offset == p.offset) ((bytes_eq-Decides p.module_name p.module_name).1 refl) (eq-eqb p.offset p.offset refl)
@@ -52,27 +62,14 @@ found-spot spots p j is =
     let (within, equal, first) = position-Some (same_spot p) spots j p is in
     slice_get-get_or spots j p within ∙ ap Some (sym (same-spot p (get_or spots j p) equal))
 
+-- a spot that stands there is one of them
+pub any-stands : (spots : List Spot) (p : Spot) (j : ℕ) → slice_get spots j ≡ Some p → list_any (same_spot p) spots ≡ true
+any-stands spots p j at = list_any_at (same_spot p) spots j p (slice_get_within spots j p at) (ap (same_spot p) (get_or_from_slice_get spots j p p at) ∙ spot-itself p)
+
 -- and a spot is found where it stands
 pub stands-found : (spots : List Spot) (p : Spot) (j : ℕ) → AreApart spots → slice_get spots j ≡ Some p → position (same_spot p) spots ≡ Some j
 stands-found spots p j apart at = by (position (same_spot p) spots) refl
   where
-    has : list_any (same_spot p) spots ≡ true
-    has = list_any_at (same_spot p) spots j p (slice_get_within spots j p at) (ap (same_spot p) (get_or_from_slice_get spots j p p at) ∙ spot-itself p)
-
     by : (o : Option ℕ) → position (same_spot p) spots ≡ o → position (same_spot p) spots ≡ Some j
-    by None is = absurd (true≢false (sym has ∙ any-position (same_spot p) spots ∙ ap is_some is))
+    by None is = absurd (true≢false (sym (any-stands spots p j at) ∙ any-position (same_spot p) spots ∙ ap is_some is))
     by (Some k) is = is ∙ ap Some (apart k j p (found-spot spots p k is) at)
-
--- a spot is new behind those in front of it
-pub new-spot : (spots : List Spot) (i : ℕ) (p : Spot) → AreApart spots → slice_get spots i ≡ Some p → list_any (same_spot p) (take i spots) ≡ false
-new-spot spots i p apart at = by (position (same_spot p) (take i spots)) refl
-  where
-    by : (o : Option ℕ) → position (same_spot p) (take i spots) ≡ o → list_any (same_spot p) (take i spots) ≡ false
-    by None is = any-position (same_spot p) (take i spots) ∙ ap is_some is
-    by (Some k) is =
-        let here = found-spot (take i spots) p k is in
-        let there : slice_get spots k ≡ Some p = ap (λ l. slice_get l k) (sym (take-append-drop i spots)) ∙ get-append (take i spots) (drop i spots) k p here in
-        let same = apart k i p there at in
-        let low = slice_get_within (take i spots) k p here in
-        let long = take-length spots i p at in
-        absurd (omega (arith, same, low, long))

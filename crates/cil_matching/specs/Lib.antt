@@ -3,3 +3,4 @@ pub mod Spot
 pub mod Inverse
 pub mod Merged
 pub mod Content
+pub mod Passed

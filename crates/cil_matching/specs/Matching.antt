@@ -24,6 +24,11 @@ pub record ArePlaces {S : Type 0} (IsSame : S → S → Type 0) (old new : List 
   pub long : length ahead ≡ count
   pub exact : (i j : ℕ) → i < count → (slice_get ahead i ≡ Some (Some j)) ↔ AreSameAt IsSame old new i j
 
+-- So many places, of which each that is told is that of the same statement. None may be told where there is one.
+pub record AreRight {S : Type 0} (IsSame : S → S → Type 0) (old new : List S) (count : ℕ) (places : List (Option ℕ)) : Type 0 where
+  pub long : length places ≡ count
+  pub right : (i j : ℕ) → slice_get places i ≡ Some (Some j) → AreSameAt IsSame old new i j
+
 -- For each name of an old policy its number in a new one, if that has the name.
 abbrev pub AreNumbers : List (List ℕ) → List (List ℕ) → List (Option ℕ) → Type 0
 AreNumbers old new numbers = ArePlaces (λ (x y : List ℕ). x ≡ y) old new (length old) numbers

@@ -3,11 +3,13 @@
 
 mod inverse;
 mod name_numbers;
+mod passed_over;
 mod positions;
 mod rule_matching;
 mod rule_places;
 mod same_content;
 mod set_matching;
+mod set_walk;
 
 pub use rule_matching::RuleMatching;
 pub use set_matching::SetMatching;

@@ -1,6 +1,6 @@
 //! Positions of statements.
 
-ghost use Rattle.std.specs.Prelude.{◌≡◌, ◌++◌, ◌∷◌, [], false, position, IfOk, OnOk};
+ghost use Rattle.std.specs.Prelude.{◌≡◌, ◌++◌, ◌∷◌, [], false, position, OnOk};
 ghost use Rattle.std.specs.Cmp.Rules.{hashing};
 ghost use Rattle.std.specs.Hash as fed;
 ghost use Rattle.std.specs.List.{list_any};
@@ -59,12 +59,13 @@ impl<'r, A: Allocator> Model for Positions<'r, A> {
 }
 
 impl<'r, A: Allocator + Copy> Positions<'r, A> {
-    /// No positions, with room for so many, in a table that is hashed by a seed.
-    pub fn with_capacity(alloc: A, seed: Seed, count: usize) -> Result<Self, AllocError>
-        ensures { IfOk result (λ made. made ≡ []) }
+    /// No positions, in a table that is hashed by a seed. It takes no memory.
+    pub fn new(alloc: A, seed: Seed) -> Self
+        ensures { result ≡ [] }
     {
-        let positions = IndexSet::with_capacity_and_hasher(alloc, count, seed)?;
-        Ok(Positions { positions })
+        Positions {
+            positions: IndexSet::with_hasher(alloc, seed),
+        }
     }
 
     /// Puts a new position last.

@@ -1,11 +1,13 @@
 -- Counters of set statements by attribute and type, now and before the steps.
-use Rattle.std.specs.Prelude.{◌≡◌, ℕ, ◌+◌, ◌-◌, ◌*◌, ◌/◌, ◌<◌, ◌≤◌, Bool, true, false, min, List, length}
+use Rattle.std.specs.Prelude.{◌≡◌, ℕ, ◌+◌, ◌-◌, ◌*◌, ◌/◌, ◌<◌, ◌≤◌, min, List, length}
 use Rattle.std.specs.Int.{bit_at}
 use Rattle.cil_lines.specs.Line.{IsPresence}
 use Rattle.cil_recorded.specs.Recorded.{State}
 use Rattle.cil_recorded.specs.Recorded as recorded
 use Rattle.cil_member_rows.specs.Held.{bits_at, words_of}
 use Rattle.cil_member_rows.specs.Marks.{mark_at}
+use Rattle.cil_member_rows.specs.Words.{AreSome, IsOutside}
+use Rattle.cil_member_rows.specs.declared.words.Words.{Words}
 
 abbrev pub rows_in : State → ℕ
 rows_in s = recorded.lines_in s
@@ -33,8 +35,8 @@ pub record IsHeld (held : List (List ℕ)) (s : State) : Type 0 where
   pub was : (r w : ℕ) → IsPresence (count_before s r) w (bits_at held r w)
   pub room : (r t : ℕ) → words_of held r ≤ t / 64 → count_now s r t ≡ 0
 
--- the counters of a row without a mark are those before the steps, and there are steps where a row is marked
-pub record AreMarked (marks : List Bool) (s : State) : Type 0 where
+-- the counters of words without a mark are those before the steps, and there are steps where a row has marked words
+pub record AreMarked (marks : List Words) (s : State) : Type 0 where
   pub rows : rows_in s ≤ length marks
-  pub same : (r t : ℕ) → mark_at marks r ≡ false → count_before s r t ≡ count_now s r t
-  pub steps : (r : ℕ) → mark_at marks r ≡ true → 0 < steps_in s
+  pub same : (r t : ℕ) → IsOutside (mark_at marks r) (t / 64) → count_before s r t ≡ count_now s r t
+  pub steps : (r : ℕ) → AreSome (mark_at marks r) → 0 < steps_in s

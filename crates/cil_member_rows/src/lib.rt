@@ -6,6 +6,8 @@ mod bit_row;
 mod held;
 mod marks;
 mod member_rows;
+mod words;
 
 pub use cil_recorded::Change;
 pub use member_rows::MemberRows;
+pub use words::Words;

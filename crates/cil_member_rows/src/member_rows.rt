@@ -1,16 +1,18 @@
 //! Rows of counters by type, with the bits of who was a member before the steps.
 
-ghost use Rattle.std.specs.Prelude.{◌≡◌, ◌↔◌, ℕ, ◌+◌, ◌-◌, ◌<◌, ◌≤◌, ◌^◌, true, false, min, IfOk, IsTrue, MatchOption, OnErr, OnOk};
+ghost use Rattle.std.specs.Prelude.{◌≡◌, ◌↔◌, ℕ, ◌+◌, ◌-◌, ◌/◌, ◌<◌, ◌≤◌, ◌^◌, true, false, min, IfOk, IsTrue, MatchOption, OnErr, OnOk};
 ghost use Rattle.cil_lines.specs.Line.{hit, IsNextPresent, IsPresence, NonePresent};
 ghost use Rattle.cil_recorded.specs.Differences.{appeared_at, change_key, gone_at, Ascends};
 ghost use Rattle.cil_recorded.specs.Log.{hit_at};
 ghost use Rattle.cil_member_rows.specs.Rows.{count_before, count_now, rows_in, steps_in, IsChange};
+ghost use Rattle.cil_member_rows.specs.Words.{AreSome, IsOutside};
 
 mod ended;
 mod settling;
 mod shifting;
 
 use crate::bit_row::BitRow;
+use crate::words::Words;
 use crate::{held, marks};
 use cil_recorded::{Change, RecordedLines, Step};
 use std::alloc::{AllocError, Allocator, Global};
@@ -21,12 +23,12 @@ const WORD: usize = 64;
 
 /// For each attribute a row of counters by type: how many set statements of the attribute hold the type. A type whose
 /// counter is above 0 is a member. The rows are changed in steps; the steps since the last `settle` are logged, so that
-/// `undo` takes them back, and who was a member before them can still be asked. A row with a step since then is marked.
+/// `undo` takes them back, and who was a member before them can still be asked. The words of a row that had a step since then are marked.
 #[derive(Drop)]
 pub struct MemberRows<A: Allocator = Global> {
     rows: RecordedLines<A>,
     held: Vec<BitRow<A>, A>,
-    turned: Vec<bool, A>,
+    turned: Vec<Words, A>,
     /// The room of the log while words are given up, and nothing otherwise.
     ended: Vec<Step, A>,
 }
@@ -97,7 +99,7 @@ impl<A: Allocator + Copy> MemberRows<A> {
         shifting::make_room(&mut self.rows, &mut self.held, alloc, row, word, come)?;
         shifting::lower(&mut self.rows, row, word, gone);
         shifting::raise(&mut self.rows, row, word, come);
-        marks::mark(&mut self.turned, row, shifting::is_step(gone, come));
+        marks::mark(&mut self.turned, row, word, shifting::is_step(gone, come));
         Ok(())
     }
 
@@ -190,7 +192,16 @@ impl<A: Allocator> MemberRows<A> {
         ensures same { result ≡ false → (t : ℕ) → count_before self.now row t ≡ count_now self.now row t }
         ensures steps { result ≡ true → 0 < steps_in self.now }
     {
-        marks::is_marked(&self.turned, row)
+        self.turned_words(row).are_some()
+    }
+
+    /// Words of a row outside which nothing has changed since the last settling: those that had steps, and what stands between them. This
+    /// reads none of its counters.
+    pub fn turned_words(&self, row: usize) -> Words
+        ensures same { (t : ℕ) → IsOutside result (t / 64) → count_before self.now row t ≡ count_now self.now row t }
+        ensures steps { AreSome result → 0 < steps_in self.now }
+    {
+        marks::marked(&self.turned, row)
     }
 
     /// Takes the steps back, and gives up the words that they leave without counters. It takes no memory.

@@ -1,24 +1,30 @@
 -- A set statement of two policies that holds the same in both.
-use Rattle.std.proofs.Common.{◌≡◌, ◌+◌, ◌*◌, ◌/◌, ◌%◌, ◌&&◌, ℕ, Bool, true, false, List, Some, bytes_eq, slice_get, refl, sym, ap, ◌∙◌, arith}
+use Rattle.std.proofs.Common.{◌≡◌, ◌+◌, ◌*◌, ◌/◌, ◌<◌, ◌≤◌, ◌%◌, ◌&&◌, ℕ, Bool, true, false, List, Some, bytes_eq, slice_get, refl, sym, ap, ◌∙◌, arith, inl, inr}
 use Rattle.std.specs.List.{IsDistinct}
-use Rattle.std.specs.Int.{bit_at}
 use Rattle.std.proofs.lemmas.Bool.{true≢false}
 use Rattle.std.proofs.lemmas.Nat.Bits.{bit_at-zero}
 use Rattle.cil_specs.specs.Meaning.{Meaning}
 use Rattle.cil_specs.specs.Rule.{an_attribute, SetStatement}
 use Rattle.cil_specs.specs.Sets.{differ}
 use Rattle.cil_sets.specs.Counts.{one_if}
+use Rattle.cil_member_rows.specs.Words.{IsOutside}
+use Rattle.cil_member_rows.specs.declared.words.Words.{Words}
 use Rattle.cil_member_updates.specs.Bits.{Cover}
 use Rattle.cil_member_updates.specs.Evaluated.{IsMovedAt}
 use Rattle.cil_member_updates.specs.Given.{gives, holds, is_of, of_name, IsUnchanged}
 use Rattle.cil_member_updates.specs.Moved.{IsMoved}
 use Rattle.cil_member_updates.proofs.NameLemmas.{unchanged-row}
 
--- the attribute of a row whose counters are the same before and now
-pub unchanged-all : (symbols : List (List ℕ)) (before now : ℕ → ℕ → ℕ) → IsDistinct bytes_eq symbols → (row : ℕ) (attribute : List ℕ) → slice_get symbols row ≡ Some attribute → ((t : ℕ) → before row t ≡ now row t)
-    → (w : ℕ) → IsUnchanged symbols before now (an_attribute attribute) w 0
-unchanged-all symbols before now distinct row attribute at same w =
-    unchanged-row symbols before now distinct row w 0 attribute at (λ b within. let here = same (64 * w + b) in omega (arith, bit_at-zero b, here))
+-- the attribute of a row whose counters of a word are the same before and now
+pub unchanged-word : (symbols : List (List ℕ)) (before now : ℕ → ℕ → ℕ) → IsDistinct bytes_eq symbols → (row : ℕ) (attribute : List ℕ) → slice_get symbols row ≡ Some attribute
+    → (w : ℕ) → ((t : ℕ) → t / 64 ≡ w → before row t ≡ now row t) → IsUnchanged symbols before now (an_attribute attribute) w 0
+unchanged-word symbols before now distinct row attribute at w same =
+    unchanged-row symbols before now distinct row w 0 attribute at (λ b within. let here = same (64 * w + b) (omega (arith, within)) in omega (arith, bit_at-zero b, here))
+
+-- words that are the same before the first one of some, and behind the last one
+pub alike-outside : (words : Words) (f g : ℕ → ℕ) → ((w : ℕ) → w < words.first → f w ≡ g w) → ((w : ℕ) → words.end ≤ w → f w ≡ g w) → (w : ℕ) → IsOutside words w → f w ≡ g w
+alike-outside words f g first end w (inl before) = first w before
+alike-outside words f g first end w (inr behind) = end w behind
 
 module _ (symbols : List (List ℕ)) (old new : Meaning) (s r : SetStatement) (word : ℕ) (covers : Cover (λ t. differ (holds symbols old s t) (holds symbols new r t)) word 0) where
   none-differ : (t : ℕ) → t / 64 ≡ word → differ (holds symbols old s t) (holds symbols new r t) ≡ false

@@ -1,10 +1,11 @@
 //! The kept types of a policy by symbols.
 
-ghost use Rattle.std.specs.Prelude.{◌≡◌, ◌<◌, ◌≤◌, ℕ, IsTrue, length, slice_get, slice_index, slice_index_or, IfOk, Some};
+ghost use Rattle.std.specs.Prelude.{◌≡◌, ◌<◌, ◌≤◌, ℕ, length, slice_get, slice_index, slice_index_or, IfOk, Some};
 ghost use Rattle.cil_resolve.specs.Resolved.{meaning_in};
 ghost use Rattle.cil_sets.specs.Places.{no_declared};
 ghost use Rattle.cil_member_updates.specs.Policy.{AreKept, IsNumbering};
 
+use cil_member_rows::Words;
 use cil_resolve::Resolved;
 use cil_symbols::{Numbering, Symbols};
 use std::alloc::{AllocError, Allocator, Global};
@@ -75,13 +76,6 @@ impl<A: Allocator> KeptTypes<A> {
     }
 }
 
-/// The words from the first one to behind the last one in which two policies keep different types.
-#[derive(Clone, Copy)]
-pub struct UnlikeWords {
-    pub first: usize,
-    pub end: usize,
-}
-
 /// The first word from which on two policies may keep different types, of so many.
 fn first_unlike<A: Allocator>(one: &KeptTypes<A>, other: &KeptTypes<A>, words: usize) -> usize
     ensures { (w : ℕ) → w < result → slice_index one.now w ≡ slice_index other.now w }
@@ -109,33 +103,14 @@ fn last_unlike<A: Allocator>(one: &KeptTypes<A>, other: &KeptTypes<A>, words: us
     end
 }
 
-/// Where two policies keep different types.
-pub fn unlike_words<A: Allocator>(one: &KeptTypes<A>, other: &KeptTypes<A>) -> UnlikeWords
+/// The words from the first one to behind the last one in which two policies keep different types.
+pub fn unlike_words<A: Allocator>(one: &KeptTypes<A>, other: &KeptTypes<A>) -> Words
     ensures before { (w : ℕ) → w < result.first → slice_index one.now w ≡ slice_index other.now w }
     ensures behind { (w : ℕ) → result.end ≤ w → slice_index one.now w ≡ slice_index other.now w }
 {
     let words = one.words.len().max(other.words.len());
-    UnlikeWords {
+    Words {
         first: first_unlike(one, other, words),
         end: last_unlike(one, other, words),
-    }
-}
-
-/// The words to go over of so many: those in which two policies keep different types where only these matter, and else all.
-pub fn span(unlike: UnlikeWords, only: bool, words: usize) -> UnlikeWords
-    ensures first { (w : ℕ) → w < result.first → IsTrue only × (w < unlike.first) }
-    ensures end { (w : ℕ) → result.end ≤ w → w < words → IsTrue only × (unlike.end ≤ w) }
-    ensures within { result.end ≤ words }
-{
-    if only {
-        UnlikeWords {
-            first: unlike.first,
-            end: unlike.end.min(words),
-        }
-    } else {
-        UnlikeWords {
-            first: 0,
-            end: words,
-        }
     }
 }

@@ -15,11 +15,11 @@ ghost use Rattle.cil_member_updates.specs.Given.{Tell};
 ghost use Rattle.cil_member_updates.specs.Passes.{gone, given_by, stayed};
 ghost use Rattle.cil_member_updates.specs.Policy.{given, AreCounts, IsSide};
 
-use crate::kept::{UnlikeWords, unlike_words};
+use crate::kept::unlike_words;
 use crate::sets::{lower_set, move_set, raise_set};
 use crate::side::Side;
 use cil_matching::SetMatching;
-use cil_member_rows::MemberRows;
+use cil_member_rows::{MemberRows, Words};
 use cil_resolve::{
     Meter, resolved_is_sound, resolved_names_are_kept, resolved_sets_are_apart,
     resolved_sets_are_in_order,
@@ -92,7 +92,7 @@ fn renew_set<A: Allocator + Copy>(
     new: &Side<'_, A>,
     matching: &SetMatching<A>,
     j: usize,
-    unlike: UnlikeWords,
+    unlike: Words,
     meter: &mut Meter,
 ) -> Result<(), AllocError>
     requires old { IsSide symbols.now old.now }

@@ -7,16 +7,16 @@ ghost use Rattle.cil_resolve.specs.Sets.{sets_in};
 ghost use Rattle.cil_sets.specs.Places.{set_at};
 ghost use Rattle.cil_specs.specs.Rule.{IsSameSet};
 ghost use Rattle.cil_member_rows.specs.Rows.{count_before, count_now, rows_in};
+ghost use Rattle.cil_member_rows.specs.Words.{IsOutside};
 ghost use Rattle.cil_member_updates.specs.Evaluated.{EvaluatesSet, MovesSet};
 ghost use Rattle.cil_member_updates.specs.Given.{Tell};
 ghost use Rattle.cil_member_updates.specs.Moved.{AreMoved, nothing};
 ghost use Rattle.cil_member_updates.specs.Policy.{given, IsSide};
 
-use crate::kept::{UnlikeWords, span};
 use crate::side::Side;
-use crate::visits::stays;
-use crate::words::{lower_word, move_word_unless_alike, raise_word};
-use cil_member_rows::MemberRows;
+use crate::visits::turned_words;
+use crate::words::{lower_word, move_word, raise_word};
+use cil_member_rows::{MemberRows, Words};
 use cil_resolve::{Meter, resolved_sets_are_in_order};
 use cil_symbols::Symbols;
 use std::alloc::{AllocError, Allocator};
@@ -76,8 +76,21 @@ pub fn raise_set<A: Allocator + Copy>(
     Ok(())
 }
 
-/// Moves the counters from what a set statement gave in the old policy to what it gives in the new one. Where no attribute that it
-/// mentions had a step, only the words are gone over in which the two policies keep different types.
+/// The words to go over of so many: those of two, and what stands between them.
+fn span(unlike: Words, turned: Words, words: usize) -> Words
+    ensures first { (w : ℕ) → w < result.first → IsOutside unlike w × IsOutside turned w }
+    ensures end { (w : ℕ) → result.end ≤ w → w < words → IsOutside unlike w × IsOutside turned w }
+    ensures within { result.end ≤ words }
+{
+    let both = unlike.joined(turned);
+    Words {
+        first: both.first,
+        end: both.end.min(words),
+    }
+}
+
+/// Moves the counters from what a set statement gave in the old policy to what it gives in the new one. Only the words are gone over in
+/// which the two policies keep different types, or an attribute that the statement mentions had a step, and those between them.
 pub fn move_set<A: Allocator + Copy>(
     rows: &mut MemberRows<A>,
     alloc: A,
@@ -86,7 +99,7 @@ pub fn move_set<A: Allocator + Copy>(
     new: &Side<'_, A>,
     i: usize,
     j: usize,
-    unlike: UnlikeWords,
+    unlike: Words,
     meter: &mut Meter,
 ) -> Result<(), AllocError>
     requires old { IsSide symbols.now old.now }
@@ -107,10 +120,10 @@ pub fn move_set<A: Allocator + Copy>(
     ensures adjustments { adjustments_in meter.new ≡ adjustments_in meter.old }
 {
     resolved_sets_are_in_order(new.resolved);
-    let stays = stays(symbols, old, new, rows, i, j);
-    let span = span(unlike, stays, symbols.len() / WORD + 1);
+    let turned = turned_words(symbols, old, new, rows, i, j);
+    let span = span(unlike, turned, symbols.len() / WORD + 1);
     for word in span.first..span.end {
-        move_word_unless_alike(rows, alloc, symbols, old, new, i, j, word, stays, meter)?;
+        move_word(rows, alloc, symbols, old, new, i, j, word, meter)?;
     }
     Ok(())
 }

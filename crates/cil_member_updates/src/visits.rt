@@ -1,6 +1,6 @@
 //! Where a set statement may hold a type, word by word.
 
-ghost use Rattle.std.specs.Prelude.{◌≡◌, ◌<◌, ◌==◌, ℕ, Contains, IsTrue, false, length, slice_index};
+ghost use Rattle.std.specs.Prelude.{◌≡◌, ◌<◌, ◌==◌, ℕ, Contains, IsTrue, length, slice_index};
 ghost use Rattle.cil_resolve.specs.Below.{is_element_below};
 ghost use Rattle.cil_resolve.specs.Numbers.{element_of};
 ghost use Rattle.cil_resolve.specs.Resolved.{meaning_in};
@@ -10,6 +10,7 @@ ghost use Rattle.cil_specs.specs.Expr.{leaves};
 ghost use Rattle.cil_specs.specs.Rule.{IsSameSet};
 ghost use Rattle.cil_specs.specs.Sets.{differ};
 ghost use Rattle.cil_member_rows.specs.Rows.{count_before, count_now};
+ghost use Rattle.cil_member_rows.specs.Words.{IsOutside};
 ghost use Rattle.cil_member_updates.specs.Evaluated.{AreTurnedAt, AreUnsettledAt, IsTurnedAt};
 ghost use Rattle.cil_member_updates.specs.Given.{element_holds, holds, IsUnchanged, Tell};
 ghost use Rattle.cil_member_updates.specs.Policy.{counts_at, AreUnchanged, CoverNames, IsSide};
@@ -17,7 +18,7 @@ ghost use Rattle.cil_member_updates.specs.Bits.{Cover};
 
 use crate::side::Side;
 use crate::when::{When, members};
-use cil_member_rows::MemberRows;
+use cil_member_rows::{MemberRows, Words};
 use cil_resolve::{
     Element, expressions_agree, reach_is_a_bound, resolved_is_sound, resolved_names_are_kept,
     resolved_sets_are_in_order,
@@ -212,55 +213,57 @@ pub fn unsettled<A: Allocator>(
     bits & (was | is)
 }
 
-/// Whether the attribute of a name of an expression may have changed its members.
-fn has_turned<A: Allocator>(
+/// Words outside which the attribute of a name of an expression has the members that it had.
+fn words_of_name<A: Allocator>(
     symbols: &Symbols<A>,
     side: &Side<'_, A>,
     rows: &MemberRows<A>,
     element: Element,
-) -> bool
+) -> Words
     requires side { IsSide symbols.now side.now }
     requires below { IsTrue (is_element_below (length side.now.resolved.now.names.items) element) }
-    ensures { result ≡ false → (w : ℕ) → IsUnchanged symbols.now (count_before rows.now) (count_now rows.now) (element_of side.now.resolved.now.names.items element) w 0 }
+    ensures { (w : ℕ) → IsOutside result w
+        → IsUnchanged symbols.now (count_before rows.now) (count_now rows.now)
+        (element_of side.now.resolved.now.names.items element) w 0 }
 {
     match element {
-        Element::Type(_) => false,
+        Element::Type(_) => Words::none(),
         Element::Attribute(attribute) => {
-            rows.has_turned(side.numbering.symbol(attribute).unwrap())
+            rows.turned_words(side.numbering.symbol(attribute).unwrap())
         }
     }
 }
 
-/// Whether an attribute that the set statement at a place mentions may have changed its members.
-fn any_has_turned<A: Allocator>(
+/// Words outside which each attribute that the set statement at a place mentions has the members that it had.
+fn words_of_names<A: Allocator>(
     symbols: &Symbols<A>,
     side: &Side<'_, A>,
     rows: &MemberRows<A>,
     i: usize,
-) -> bool
+) -> Words
     requires side { IsSide symbols.now side.now }
     requires within { i < length (sets_in side.now.resolved.now) }
-    ensures { result ≡ false → (w : ℕ) → AreUnchanged symbols.now (count_before rows.now) (count_now rows.now) side.now.resolved.now i w 0 }
+    ensures { (w : ℕ) → IsOutside result w
+        → AreUnchanged symbols.now (count_before rows.now) (count_now rows.now) side.now.resolved.now i w 0 }
 {
     let names = side.resolved.set_names(i);
+    let mut words = Words::none();
     for k in 0..names.len() {
-        if has_turned(symbols, side, rows, names[k]) {
-            return true;
-        }
+        words = words.joined(words_of_name(symbols, side, rows, names[k]));
     }
-    false
+    words
 }
 
-/// Whether no attribute that a set statement of both policies mentions had a step. Then it holds in one of them alone only types that one of
-/// them keeps alone.
-pub fn stays<A: Allocator>(
+/// Words outside which a set statement of both policies holds in one of them alone only types that one of them keeps alone: none but those
+/// in which an attribute that it mentions had a step, and what stands between them.
+pub fn turned_words<A: Allocator>(
     symbols: &Symbols<A>,
     old: &Side<'_, A>,
     new: &Side<'_, A>,
     rows: &MemberRows<A>,
     i: usize,
     j: usize,
-) -> bool
+) -> Words
     requires old { IsSide symbols.now old.now }
     requires new { IsSide symbols.now new.now }
     requires i_within { i < length (sets_in old.now.resolved.now) }
@@ -268,7 +271,7 @@ pub fn stays<A: Allocator>(
     requires same { IsSameSet (set_at old.now.resolved.now i) (set_at new.now.resolved.now j) }
     requires was { Tell symbols.now (meaning_in old.now.resolved.now) (set_at old.now.resolved.now i) (count_before rows.now) }
     requires is { Tell symbols.now (meaning_in new.now.resolved.now) (set_at new.now.resolved.now j) (count_now rows.now) }
-    ensures { IsTrue result → (w : ℕ) → slice_index old.now.kept.now w ≡ slice_index new.now.kept.now w
+    ensures { (w : ℕ) → IsOutside result w → slice_index old.now.kept.now w ≡ slice_index new.now.kept.now w
         → Cover (λ t. differ (holds symbols.now (meaning_in old.now.resolved.now) (set_at old.now.resolved.now i) t)
         (holds symbols.now (meaning_in new.now.resolved.now) (set_at new.now.resolved.now j) t)) w 0 }
 {
@@ -276,5 +279,5 @@ pub fn stays<A: Allocator>(
     resolved_is_sound(new.resolved);
     resolved_names_are_kept(new.resolved);
     resolved_sets_are_in_order(new.resolved);
-    !any_has_turned(symbols, new, rows, j)
+    words_of_names(symbols, new, rows, j)
 }

@@ -1,16 +1,14 @@
 //! One set statement at the types of a word.
 
-ghost use Rattle.std.specs.Prelude.{◌≡◌, ◌+◌, ◌/◌, ◌<◌, ◌≤◌, ◌^◌, ℕ, IsTrue, length, slice_index, OnOk};
+ghost use Rattle.std.specs.Prelude.{◌≡◌, ◌+◌, ◌/◌, ◌<◌, ◌≤◌, ◌^◌, ℕ, length, OnOk};
 ghost use Rattle.cil_resolve.specs.Meter.{adjustments_in, evaluations_in};
 ghost use Rattle.cil_resolve.specs.Resolved.{meaning_in};
 ghost use Rattle.cil_resolve.specs.Sets.{sets_in};
 ghost use Rattle.cil_sets.specs.Places.{set_at};
 ghost use Rattle.cil_specs.specs.Rule.{IsSameSet};
-ghost use Rattle.cil_specs.specs.Sets.{differ};
 ghost use Rattle.cil_member_rows.specs.Rows.{count_before, count_now, rows_in};
-ghost use Rattle.cil_member_updates.specs.Bits.{Cover};
 ghost use Rattle.cil_member_updates.specs.Evaluated.{EvaluatesWord, MovesWord};
-ghost use Rattle.cil_member_updates.specs.Given.{holds, Tell};
+ghost use Rattle.cil_member_updates.specs.Given.{Tell};
 ghost use Rattle.cil_member_updates.specs.Moved.{IsMoved, nothing};
 ghost use Rattle.cil_member_updates.specs.Policy.{given, IsSide};
 
@@ -85,7 +83,7 @@ pub fn raise_word<A: Allocator + Copy>(
 }
 
 /// Moves the counters of a word from what a set statement gave in the old policy to what it gives in the new one.
-fn move_word<A: Allocator + Copy>(
+pub fn move_word<A: Allocator + Copy>(
     rows: &mut MemberRows<A>,
     alloc: A,
     symbols: &Symbols<A>,
@@ -120,44 +118,4 @@ fn move_word<A: Allocator + Copy>(
     let was = masked(symbols, old, rows, &When::Before, i, word, visits, meter);
     let is = masked(symbols, new, rows, &When::Now, j, word, visits, meter);
     rows.shift(alloc, row, word, was, is)
-}
-
-/// Moves the counters of a word from what a set statement gave to what it gives, unless it stays and the two policies keep the same types of
-/// the word.
-pub fn move_word_unless_alike<A: Allocator + Copy>(
-    rows: &mut MemberRows<A>,
-    alloc: A,
-    symbols: &Symbols<A>,
-    old: &Side<'_, A>,
-    new: &Side<'_, A>,
-    i: usize,
-    j: usize,
-    word: usize,
-    stays: bool,
-    meter: &mut Meter,
-) -> Result<(), AllocError>
-    requires old { IsSide symbols.now old.now }
-    requires new { IsSide symbols.now new.now }
-    requires i_within { i < length (sets_in old.now.resolved.now) }
-    requires j_within { j < length (sets_in new.now.resolved.now) }
-    requires same { IsSameSet (set_at old.now.resolved.now i) (set_at new.now.resolved.now j) }
-    requires was { Tell symbols.now (meaning_in old.now.resolved.now) (set_at old.now.resolved.now i) (count_before rows.old) }
-    requires is { Tell symbols.now (meaning_in new.now.resolved.now) (set_at new.now.resolved.now j) (count_now rows.old) }
-    requires word { word < 2 ^ 58 }
-    requires room { length symbols.now ≤ rows_in rows.old }
-    requires above { (a t : ℕ) → t / 64 ≡ word → given symbols.now old.now.resolved.now i a t ≤ count_now rows.old a t }
-    requires stays { IsTrue stays → (w : ℕ) → slice_index old.now.kept.now w ≡ slice_index new.now.kept.now w
-        → Cover (λ t. differ (holds symbols.now (meaning_in old.now.resolved.now) (set_at old.now.resolved.now i) t)
-        (holds symbols.now (meaning_in new.now.resolved.now) (set_at new.now.resolved.now j) t)) w 0 }
-    ensures now { OnOk result (IsMoved word (given symbols.now old.now.resolved.now i) (given symbols.now new.now.resolved.now j) (count_now rows.old) (count_now rows.new)) }
-    ensures before { (a t : ℕ) → count_before rows.new a t ≡ count_before rows.old a t }
-    ensures rows { rows_in rows.new ≡ rows_in rows.old }
-    ensures evaluations { MovesWord symbols.now old.now.resolved.now i new.now.resolved.now j word (evaluations_in meter.old) (evaluations_in meter.new) }
-    ensures adjustments { adjustments_in meter.new ≡ adjustments_in meter.old }
-{
-    let kept = old.kept.word(word);
-    if stays && kept == new.kept.word(word) {
-        return Ok(());
-    }
-    move_word(rows, alloc, symbols, old, new, i, j, word, meter)
 }

@@ -258,10 +258,38 @@ fn is_stepped(rt: &impl Abort, alloc: Global, stepped: &Stepped) -> bool {
     are_told & (rows.len() == *len) & (rows.is_empty() == (*len == 0))
 }
 
+// The first steps of some, a row, and its words that had steps: the first and the end of the last.
+type Marked = (&'static [Step], usize, usize, (usize, usize));
+
+const MARKED: &[Marked] = &[
+    (EDGES, 1, 0, (0, 0)),
+    (EDGES, 3, 0, (0, 3)),
+    (EDGES, 4, 0, (0, 0)),
+    (EDGES, 5, 0, (1, 2)),
+    (COUNTED, 5, 0, (0, 0)),
+    (COUNTED, 5, 1, (1, 4)),
+    (LATER, 4, 0, (4, 5)),
+    (LATER, 4, 1, (4, 5)),
+    (LATER, 5, 0, (0, 0)),
+    (TURNED, 6, 1, (0, 0)),
+    (TURNED, 7, 1, (1, 2)),
+    (TURNED, 7, 9, (0, 0)),
+];
+
+fn is_marked(rt: &impl Abort, alloc: Global, asked: &Marked) -> bool {
+    let (steps, n, row, want) = asked;
+    let rows = rows_of(rt, alloc, steps, *n);
+    let words = rows.turned_words(*row);
+    (words.first, words.end) == *want
+}
+
 #[test]
 fn steps_of_member_rows(rt: HostRuntime) {
     for stepped in STEPS {
         assert!(&rt; is_stepped(&rt, rt.alloc(), stepped));
+    }
+    for asked in MARKED {
+        assert!(&rt; is_marked(&rt, rt.alloc(), asked));
     }
 }
 

@@ -3,7 +3,7 @@ use Rattle.std.specs.Prelude.{◌≡◌, ◌≢◌, ℕ, List, [], ◌∷◌, co
 use Rattle.std.specs.List.{join_with_byte}
 use Rattle.cil_store.specs.Edits.{edit_of}
 use Rattle.cil_store_specs.specs.Script as spec
-use Rattle.cil_store_specs.specs.Script.{makes, begins, commits, aborts, asks_rules, asks_violations, asks_dropped, asks_modules, asks_dump, words_of, HasGoodWords, IsGoodName, IsShortNumber, MayLackItsEnd}
+use Rattle.cil_store_specs.specs.Script.{makes, begins, commits, aborts, asks_rules, asks_violations, asks_dropped, asks_modules, asks_dump, words_of, line_of, HasGoodWords, IsGoodName, IsShortNumber, MayLackItsEnd}
 use Rattle.cil_program.specs.declared.script.command.Command.{Command}
 use Rattle.cil_program.specs.declared.script.command.Command.TheVariants as commands
 use Rattle.cil_program.specs.declared.script.command.Question.{Question}
@@ -40,6 +40,10 @@ HasGoodParts (Whole command) = HasGoodWords (command_of command) × MayLackItsEn
 pub record IsLine (asked : ScriptLine) (line : List ℕ) : Type 0 where
   pub good : HasGoodParts asked
   pub is : line ≡ join_with_byte 32 (words_asked asked)
+
+-- no command of a good name and short numbers has this line
+abbrev pub IsNoCommandLine : List ℕ → Type 0
+IsNoCommandLine line = (command : spec.Command) → HasGoodWords command → line ≡ line_of command → ⊥
 
 -- a word that asks nothing
 pub record IsNoQuestion (word : List ℕ) : Type 0 where

@@ -5,5 +5,6 @@ pub mod Batch
 pub mod Dump
 pub mod Reply
 pub mod Session
+pub mod Laws
 pub mod CommandLine
 pub mod Program

@@ -66,12 +66,14 @@ fn tell<W: Sink, E: Sink>(
     err: &mut E,
 ) -> Result<u8, SinkFault>
     ensures status { IfOk result (λ status. status ≤ 3) }
-    ensures memory { kind_of error.now ≡ OutOfMemory → IfOk result (λ status. (status ≡ 1) × (W.taken out.new ≡ W.taken out.old)
+    ensures memory { kind_of error.now ≡ OutOfMemory → IfOk result (λ status.
+        (status ≡ 1) × (W.taken out.new ≡ W.taken out.old)
         × Gains (E.taken err.old) (E.taken err.new) (refusal_line for_memory)) }
     ensures memory_cut { kind_of error.now ≡ OutOfMemory → OnErr result (
         (W.taken out.new ≡ W.taken out.old)
         × GainsFront (E.taken err.old) (E.taken err.new) (refusal_line for_memory)) }
-    ensures failed { OnErr result (HasFailed (W.failures out.old) (W.failures out.new) ⊎ HasFailed (E.failures err.old) (E.failures err.new)) }
+    ensures failed { OnErr result (HasFailed (W.failures out.old) (W.failures out.new)
+        ⊎ HasFailed (E.failures err.old) (E.failures err.new)) }
     ensures out_counted { W.failures out.old ≤ W.failures out.new }
     ensures err_counted { E.failures err.old ≤ E.failures err.new }
 {
@@ -91,7 +93,8 @@ fn tell<W: Sink, E: Sink>(
 
 /// Writes which file can't be read, and gives the exit status.
 fn tell_unreadable<E: Sink>(err: &mut E, path: &str) -> Result<u8, SinkFault>
-    ensures ok { IfOk result (λ status. (status ≡ 3) × Gains (E.taken err.old) (E.taken err.new) (unreadable_line path.now)) }
+    ensures ok { IfOk result (λ status. (status ≡ 3)
+        × Gains (E.taken err.old) (E.taken err.new) (unreadable_line path.now)) }
     ensures err { OnErr result
         (GainsFront (E.taken err.old) (E.taken err.new) (unreadable_line path.now)) }
     ensures failed { OnErr result (HasFailed (E.failures err.old) (E.failures err.new)) }
@@ -121,7 +124,8 @@ fn compile_files<'a, F: TextFiles, W: Sink, E: Sink>(
         × GainsFront (E.taken err.old) (E.taken err.new) told
         × CompilesFiles (F.content from.now) (map (λ path. path.now) paths.now) asked.report
         printed told status) }
-    ensures failed { OnErr result (HasFailed (W.failures out.old) (W.failures out.new) ⊎ HasFailed (E.failures err.old) (E.failures err.new)) }
+    ensures failed { OnErr result (HasFailed (W.failures out.old) (W.failures out.new)
+        ⊎ HasFailed (E.failures err.old) (E.failures err.new)) }
     ensures out_counted { W.failures out.old ≤ W.failures out.new }
     ensures err_counted { E.failures err.old ≤ E.failures err.new }
 {
@@ -154,7 +158,8 @@ fn answer_compile<F: TextFiles, W: Sink, E: Sink>(
         × GainsFront (W.taken out.old) (W.taken out.new) printed
         × GainsFront (E.taken err.old) (E.taken err.new) told
         × IsToBeWritten (F.content from.now) (rows_of (found_of words.now)) printed told status) }
-    ensures failed { OnErr result (HasFailed (W.failures out.old) (W.failures out.new) ⊎ HasFailed (E.failures err.old) (E.failures err.new)) }
+    ensures failed { OnErr result (HasFailed (W.failures out.old) (W.failures out.new)
+        ⊎ HasFailed (E.failures err.old) (E.failures err.new)) }
     ensures out_counted { W.failures out.old ≤ W.failures out.new }
     ensures err_counted { E.failures err.old ≤ E.failures err.new }
 {
@@ -174,7 +179,8 @@ fn flush_both<W: Sink, E: Sink>(out: &mut W, err: &mut E) -> Result<(), SinkFaul
     ensures same_out { W.taken out.new ≡ W.taken out.old }
     ensures same_err { E.taken err.new ≡ E.taken err.old }
     ensures ok { OnOk result ((W.flushed out.new ≡ W.taken out.new) × (E.flushed err.new ≡ E.taken err.new)) }
-    ensures failed { OnErr result (HasFailed (W.failures out.old) (W.failures out.new) ⊎ HasFailed (E.failures err.old) (E.failures err.new)) }
+    ensures failed { OnErr result (HasFailed (W.failures out.old) (W.failures out.new)
+        ⊎ HasFailed (E.failures err.old) (E.failures err.new)) }
     ensures out_counted { W.failures out.old ≤ W.failures out.new }
     ensures err_counted { E.failures err.old ≤ E.failures err.new }
 {
@@ -188,7 +194,8 @@ fn finish<W: Sink, E: Sink>(answered: Result<u8, SinkFault>, out: &mut W, err: &
     ensures same_out { W.taken out.new ≡ W.taken out.old }
     ensures same_err { E.taken err.new ≡ E.taken err.old }
     ensures ok { IfOk answered (λ status. (result ≡ status)
-        ⊎ ((result ≡ 3) × (HasFailed (W.failures out.old) (W.failures out.new) ⊎ HasFailed (E.failures err.old) (E.failures err.new)))) }
+        ⊎ ((result ≡ 3) × (HasFailed (W.failures out.old) (W.failures out.new)
+        ⊎ HasFailed (E.failures err.old) (E.failures err.new)))) }
     ensures err { OnErr answered (result ≡ 3) }
     ensures flushed { result ≢ 3 → (W.flushed out.new ≡ W.taken out.new) × (E.flushed err.new ≡ E.taken err.new) }
     ensures out_counted { W.failures out.old ≤ W.failures out.new }

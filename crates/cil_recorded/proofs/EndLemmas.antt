@@ -1,11 +1,11 @@
 -- Steps that have ended, and the lines that stay.
-use Rattle.std.proofs.Common.{◌≡◌, ◌≢◌, ◌⊎◌, ℕ, zero, suc, ◌+◌, ◌*◌, ◌/◌, ◌%◌, ◌<◌, ◌^◌, arith, bit_and, ◌==◌, ◌&&◌, List, [], ◌∷◌, ◌++◌, Bool, true, false, ◌||◌, cond, not, get_or, set, refl, sym, ap, ◌∙◌, true≢false, eq-eqb, eqb-true, inl, inr}
+use Rattle.std.proofs.Common.{◌≡◌, ◌≢◌, ◌⊎◌, ℕ, zero, suc, ◌+◌, ◌*◌, ◌/◌, ◌%◌, ◌<◌, ◌^◌, arith, bit_and, w64, ◌==◌, List, [], ◌∷◌, ◌++◌, Bool, true, false, ◌||◌, cond, get_or, set, refl, sym, ap, ◌∙◌, true≢false, eq-eqb, eqb-true, inl, inr}
 use Rattle.std.proofs.lemmas.Bool.{cases_eq, ne_eqb}
-use Rattle.std.specs.Int.{bit_at}
-use Rattle.std.proofs.lemmas.Nat.Bits.{bit_at_and, bit_at-zero}
+use Rattle.std.specs.Int.{bit_at, bit_not}
+use Rattle.std.proofs.lemmas.Nat.{and_le_l}
+use Rattle.std.proofs.lemmas.Nat.Bits.{bit_at_and, bit_at_not, bit_at-lt}
 use Rattle.std.proofs.lemmas.List.Folds.{list_any-append}
-use Rattle.cil_lines.specs.Line.{IsSingle}
-use Rattle.cil_lines.specs.Limit.{CanLower}
+use Rattle.cil_lines.specs.Line.{IsPresence, IsSingle}
 use Rattle.cil_lines.proofs.LineLemmas.{some_bit}
 use Rattle.cil_recorded.proofs.LogLemmas.{hit_on}
 use Rattle.std.proofs.lemmas.List.{append-nil}
@@ -24,49 +24,57 @@ none_pushed ss s l none =
     let (old, here) = or_none (has_line ss l) _ (sym (list_any-append (λ (x : Step). x.line == l) ss (s ∷ [])) ∙ none) in
     (old, λ e. true≢false (sym (eq-eqb s.line l (sym e)) ∙ here))
 
--- whether a step let targets go
-abbrev pub lets_go : Step → Bool
-lets_go s = not s.up && not (s.turned == 0)
+-- a step that left a word some counters is not one of those
+falls_kept : (ss : List Step) (s : Step) → s.clears ≡ false → falls (ss ++ s ∷ []) ≡ falls ss
+falls_kept ss s none = filter-append (λ (x : Step). x.clears) ss (s ∷ []) ∙ ap (λ b. falls ss ++ (cond b (s ∷ []) [])) none ∙ append-nil (falls ss)
 
--- a step that let none go is not one of those
-falls_kept : (ss : List Step) (s : Step) → lets_go s ≡ false → falls (ss ++ s ∷ []) ≡ falls ss
-falls_kept ss s none = filter-append lets_go ss (s ∷ []) ∙ ap (λ b. falls ss ++ (cond b (s ∷ []) [])) none ∙ append-nil (falls ss)
+falls_more : (ss : List Step) (s : Step) → s.clears ≡ true → falls (ss ++ s ∷ []) ≡ falls ss ++ s ∷ []
+falls_more ss s some = filter-append (λ (x : Step). x.clears) ss (s ∷ []) ∙ ap (λ b. falls ss ++ (cond b (s ∷ []) [])) some
 
-falls_more : (ss : List Step) (s : Step) → lets_go s ≡ true → falls (ss ++ s ∷ []) ≡ falls ss ++ s ∷ []
-falls_more ss s some = filter-append lets_go ss (s ∷ []) ∙ ap (λ b. falls ss ++ (cond b (s ∷ []) [])) some
+pub falls_up : (ss : List Step) (s : Step) → s.clears ≡ false → falls (ss ++ s ∷ []) ≡ falls ss
+falls_up = falls_kept
 
-pub falls_up : (ss : List Step) (s : Step) → s.up ≡ true → falls (ss ++ s ∷ []) ≡ falls ss
-falls_up ss s up = falls_kept ss s (ap (λ b. not b && not (s.turned == 0)) up)
-
--- where a step down lets no target go, those of its mask have counters still
-left_counted : (line word mask single : ℕ) (old new : ℕ → ℕ → ℕ) → mask < 2 ^ 64 → CanLower (old line) word mask → IsSingle (old line) word single
-    → ((l t : ℕ) → new l t + hit_at line word mask l t ≡ old l t) → bit_and mask single ≡ 0 → (mask ≡ 0) ⊎ ((t : ℕ) × (0 < new line t))
-left_counted line word mask single old new fits above is lowered nothing =
-    elim (cases_eq mask 0) [
-      | inl none ↦ inl none
-      | inr some ↦
-          let (b, low, set) = some_bit 64 mask fits some in
-          let t = 64 * word + b in
-          let word_is : t / 64 ≡ word = omega (arith, low) in
-          let bit_is : t % 64 ≡ b = omega (arith, low) in
-          let hit : hit_at line word mask line t ≡ 1 = hit_on line word mask line t refl word_is ∙ ap (bit_at mask) bit_is ∙ set in
-          inr (t, omega (arith, lowered line t, hit, set, is b low, bit_at_and mask single b, ap (λ n. bit_at n b) nothing, bit_at-zero b))
-    ]
+-- where a target is present that a step down doesn't let go, the line has a counter still
+left_counted : (line word mask single present : ℕ) (old new : ℕ → ℕ → ℕ) → mask < 2 ^ 64 → present < 2 ^ 64 → IsPresence (old line) word present → IsSingle (old line) word single
+    → ((l t : ℕ) → new l t + hit_at line word mask l t ≡ old l t) → bit_and present (bit_not w64 (bit_and mask single)) ≢ 0 → (t : ℕ) × (0 < new line t)
+left_counted line word mask single present old new short fits here alone lowered some =
+    let left = bit_and present (bit_not w64 (bit_and mask single)) in
+    let (b, low, set) = some_bit 64 left (omega (arith, fits, and_le_l present (bit_not w64 (bit_and mask single)))) some in
+    let t = 64 * word + b in
+    let word_is : t / 64 ≡ word = omega (arith, low) in
+    let bit_is : t % 64 ≡ b = omega (arith, low) in
+    let hit : hit_at line word mask line t ≡ bit_at mask b = hit_on line word mask line t refl word_is ∙ ap (bit_at mask) bit_is in
+    let went = bit_and mask single in (
+      t,
+      omega (
+        arith,
+        lowered line t,
+        hit,
+        set,
+        here b low,
+        alone b low,
+        bit_at_and present (bit_not w64 went) b,
+        bit_at_not w64 went b (omega (arith, short, and_le_l mask single)) low,
+        bit_at_and mask single b,
+        bit_at-lt mask b,
+        bit_at-lt present b,
+      ),
+    )
 
 -- a line without such a step after one down had none before, and counters if it is the line of the step
-pub others_down : (ss : List Step) (line word mask single : ℕ) (old new : ℕ → ℕ → ℕ) → mask < 2 ^ 64 → CanLower (old line) word mask → IsSingle (old line) word single
-    → ((l t : ℕ) → new l t + hit_at line word mask l t ≡ old l t) → (s : Step) → s.line ≡ line → s.up ≡ false → s.turned ≡ bit_and mask single → (l : ℕ) → has_line (falls (ss ++ s ∷ [])) l ≡ false
+pub others_down : (ss : List Step) (line word mask single present : ℕ) (old new : ℕ → ℕ → ℕ) → mask < 2 ^ 64 → present < 2 ^ 64 → IsPresence (old line) word present → IsSingle (old line) word single
+    → ((l t : ℕ) → new l t + hit_at line word mask l t ≡ old l t) → (s : Step) → s.line ≡ line → s.clears ≡ (bit_and present (bit_not w64 (bit_and mask single)) == 0) → (l : ℕ) → has_line (falls (ss ++ s ∷ [])) l ≡ false
     → (has_line (falls ss) l ≡ false) × (l ≡ line → (mask ≡ 0) ⊎ ((t : ℕ) × (0 < new line t)))
-others_down ss line word mask single old new fits above is lowered s at down turned l none =
-    elim (cases_eq s.turned 0) [
-      | inl nothing ↦ (
-        ap (λ fs. has_line fs l) (sym (falls_kept ss s (ap (λ b. not b && not (s.turned == 0)) down ∙ ap not (eq-eqb s.turned 0 nothing)))) ∙ none,
-        λ e. left_counted line word mask single old new fits above is lowered (sym turned ∙ nothing),
-      )
-      | inr some ↦
-          let more = falls_more ss s (ap (λ b. not b && not (s.turned == 0)) down ∙ ap not (ne_eqb s.turned 0 some)) in
+others_down ss line word mask single present old new short fits here alone lowered s at clears l none =
+    elim (cases_eq (bit_and present (bit_not w64 (bit_and mask single))) 0) [
+      | inl nothing ↦
+          let more = falls_more ss s (clears ∙ eq-eqb (bit_and present (bit_not w64 (bit_and mask single))) 0 nothing) in
           let (before, apart) = none_pushed (falls ss) s l (ap (λ fs. has_line fs l) (sym more) ∙ none) in
           (before, λ e. absurd (apart (e ∙ sym at)))
+      | inr some ↦ (
+        ap (λ fs. has_line fs l) (sym (falls_kept ss s (clears ∙ ne_eqb (bit_and present (bit_not w64 (bit_and mask single))) 0 some))) ∙ none,
+        λ e. inr (left_counted line word mask single present old new short fits here alone lowered some),
+      )
     ]
 
 or_both : (a b : Bool) → (a || b) ≡ false → (a ≡ false) × (b ≡ false)

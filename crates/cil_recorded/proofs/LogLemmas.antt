@@ -146,7 +146,7 @@ module _ (lines lines' : List Counters) (log : List Step) (sound : IsSound lines
   module _ (len : length lines' ≡ length lines) (line word mask : ℕ) (within : line < length lines) where
     module _ (rose : (l t : ℕ) → count_in lines' l t ≡ count_in lines l t + hit_at line word mask l t) where
       abbrev up : ℕ → Step
-      up turned = record { line = line; word = word; mask = mask; turned = turned; up = true }
+      up turned = record { line = line; word = word; mask = mask; turned = turned; up = true; clears = false }
 
       back_up : (turned : ℕ) → taken_back (up turned) (count_in lines') ≡ count_in lines
       back_up turned = same_counts (taken_back (up turned) (count_in lines')) (count_in lines) (λ l t. omega (arith, rose l t))
@@ -178,35 +178,36 @@ module _ (lines lines' : List Counters) (log : List Step) (sound : IsSound lines
           }
 
     module _ (fell : (l t : ℕ) → count_in lines' l t + hit_at line word mask l t ≡ count_in lines l t) where
-      abbrev down : ℕ → Step
-      down turned = record { line = line; word = word; mask = mask; turned = turned; up = false }
+      abbrev down : ℕ → Bool → Step
+      down turned clears = record { line = line; word = word; mask = mask; turned = turned; up = false; clears = clears }
 
-      back_down : (turned : ℕ) → taken_back (down turned) (count_in lines') ≡ count_in lines
-      back_down turned = same_counts (taken_back (down turned) (count_in lines')) (count_in lines) fell
+      back_down : (turned : ℕ) (clears : Bool) → taken_back (down turned clears) (count_in lines') ≡ count_in lines
+      back_down turned clears = same_counts (taken_back (down turned clears) (count_in lines')) (count_in lines) fell
 
-      pub before_down : (turned l t : ℕ) → undone (reverse (log ++ down turned ∷ [])) (count_in lines') l t ≡ undone (reverse log) (count_in lines) l t
-      before_down turned l t = rw newest (ap (λ h. undone (reverse log) h l t) (back_down turned))
+      pub before_down : (turned : ℕ) (clears : Bool) (l t : ℕ) → undone (reverse (log ++ down turned clears ∷ [])) (count_in lines') l t ≡ undone (reverse log) (count_in lines) l t
+      before_down turned clears l t = rw newest (ap (λ h. undone (reverse log) h l t) (back_down turned clears))
 
-      can_down : (turned : ℕ) → CanRaise (count_in lines' line) (limit_in lines' line) word mask → CanUndo (length lines') (down turned ∷ reverse log) (count_in lines') (limit_in lines')
-      can_down turned room = (
+      can_down : (turned : ℕ) (clears : Bool) → CanRaise (count_in lines' line) (limit_in lines' line) word mask
+          → CanUndo (length lines') (down turned clears ∷ reverse log) (count_in lines') (limit_in lines')
+      can_down turned clears room = (
         (omega (arith, len, within), room),
-        subst (λ h. CanUndo (length lines') (reverse log) h (limit_in lines')) (sym (back_down turned))
+        subst (λ h. CanUndo (length lines') (reverse log) h (limit_in lines')) (sym (back_down turned clears))
             (can_more (length lines) (length lines') (reverse log) (count_in lines) (limit_in lines) (limit_in lines') (le_of_eq (sym len)) more sound.can),
       )
 
-      pub sound_down : (single : ℕ) → IsSingle (count_in lines line) word single → CanRaise (count_in lines' line) (limit_in lines' line) word mask
-          → IsSound lines' (log ++ down (bit_and mask single) ∷ [])
-      sound_down single is room =
+      pub sound_down : (single : ℕ) (clears : Bool) → IsSingle (count_in lines line) word single → CanRaise (count_in lines' line) (limit_in lines' line) word mask
+          → IsSound lines' (log ++ down (bit_and mask single) clears ∷ [])
+      sound_down single clears is room =
           let turned = bit_and mask single in
           record {
-            can = rw newest (can_down turned room);
+            can = rw newest (can_down turned clears room);
             turned = λ l t.
                 omega (
                   arith,
                   sound.turned l t,
-                  before_down turned l t,
-                  sum_by_push (λ s. came_by s l t) log (down turned),
-                  sum_by_push (λ s. went_by s l t) log (down turned),
+                  before_down turned clears l t,
+                  sum_by_push (λ s. came_by s l t) log (down turned clears),
+                  sum_by_push (λ s. went_by s l t) log (down turned clears),
                   turns_down line word mask (count_in lines) (count_in lines') single is fell l t,
                 );
           }

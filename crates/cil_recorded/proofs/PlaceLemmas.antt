@@ -7,7 +7,7 @@ use Rattle.cil_recorded.specs.Log.{hit_at, taken_back, undone}
 use Rattle.cil_recorded.proofs.LogLemmas.{hit_off, hit_out}
 
 abbrev no_step : Step
-no_step = record { line = 0; word = 0; mask = 0; turned = 0; up = false }
+no_step = record { line = 0; word = 0; mask = 0; turned = 0; up = false; clears = false }
 
 -- no step of a list is of the word of a line
 abbrev None : List Step → ℕ → ℕ → Type 0

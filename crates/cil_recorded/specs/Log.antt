@@ -1,5 +1,5 @@
 -- What a log of steps says of the counters before them, by line and target.
-use Rattle.std.specs.Prelude.{◌≡◌, Bool, ℕ, ◌+◌, ◌-◌, ◌*◌, ◌<◌, ◌==◌, ◌&&◌, List, [], ◌∷◌, if◌then◌else◌, min, not, sum_by, MatchBool}
+use Rattle.std.specs.Prelude.{◌≡◌, Bool, ℕ, ◌+◌, ◌-◌, ◌*◌, ◌<◌, ◌==◌, List, [], ◌∷◌, if◌then◌else◌, min, sum_by, MatchBool}
 use Rattle.std.specs.List.{filter, list_any}
 use Rattle.cil_lines.specs.Line.{hit}
 use Rattle.cil_lines.specs.Limit.{CanRaise, CanLower}
@@ -54,9 +54,9 @@ went_in ss l t = sum_by (λ s. went_by s l t) ss
 abbrev pub IsTurned : List Step → (ℕ → ℕ → ℕ) → (ℕ → ℕ → ℕ) → Type 0
 IsTurned ss now before = (l t : ℕ) → came_in ss l t + min 1 (before l t) ≡ went_in ss l t + min 1 (now l t)
 
--- the steps that let targets go
+-- the steps down behind which no counter of their word is above 0
 abbrev pub falls : List Step → List Step
-falls ss = filter (λ s. not s.up && not (s.turned == 0)) ss
+falls ss = filter (λ s. s.clears) ss
 
 -- whether a step of a list is of a line
 abbrev pub has_line : List Step → ℕ → Bool

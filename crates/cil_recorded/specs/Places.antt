@@ -5,7 +5,7 @@ use Rattle.cil_recorded.specs.Recorded.{State, steps_in}
 
 -- a step from the oldest on; any where there is none
 abbrev pub step_at : State → ℕ → Step
-step_at s k = slice_index_or s.log k (record { line = 0; word = 0; mask = 0; turned = 0; up = false })
+step_at s k = slice_index_or s.log k (record { line = 0; word = 0; mask = 0; turned = 0; up = false; clears = false })
 
 -- no step from one on is of the word of a line
 abbrev pub IsUntouched : State → ℕ → ℕ → ℕ → Type 0

@@ -62,6 +62,7 @@ moved old new word = sum_below 64 (λ b. (old (64 * word + b) - new (64 * word +
 abbrev pub HasCount : State → ℕ → Type 0
 HasCount s l = (t : ℕ) × (0 < count_now s l t)
 
--- A line without a step that let targets go had none before; and the line of a step down that took from a mask has a counter left.
+-- A line without a step that took the last counters from a word had none before; and the line of a step down that took from a mask has a
+-- counter left.
 abbrev pub AreLeft : State → State → ℕ → ℕ → Type 0
 AreLeft old new line mask = (l : ℕ) → has_line (falls new.log) l ≡ false → (has_line (falls old.log) l ≡ false) × (l ≡ line → (mask ≡ 0) ⊎ HasCount new line)

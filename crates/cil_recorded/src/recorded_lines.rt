@@ -200,6 +200,7 @@ impl<A: Allocator> RecordedLines<A> {
             mask,
             turned: mask & !self.present(line, word),
             up: true,
+            clears: false,
         };
         log_step(&mut self.log, step);
         word_steps::raise(&mut self.lines, line, word, mask);
@@ -221,12 +222,14 @@ impl<A: Allocator> RecordedLines<A> {
         ensures before { (l t : ℕ) → count_before self.new l t ≡ count_before self.old l t }
         ensures limits { (l w : ℕ) → limit_now self.old l w ≤ limit_now self.new l w }
     {
+        let turned = mask & self.single(line, word);
         let step = Step {
             line,
             word,
             mask,
-            turned: mask & self.single(line, word),
+            turned,
             up: false,
+            clears: self.present(line, word) & !turned == 0,
         };
         log_step(&mut self.log, step);
         word_steps::lower(&mut self.lines, line, word, mask);

@@ -13,6 +13,8 @@ pub struct Step {
     /// The targets of the mask that the step let appear, or go.
     pub turned: u64,
     pub up: bool,
+    /// Whether it is a step down behind which no counter of its word is above 0.
+    pub clears: bool,
 }
 
 /// Puts a step at the end of a log that has room for it.

@@ -1,5 +1,5 @@
 -- What the engine keeps that changes its counters in place.
-use Rattle.std.specs.Prelude.{◌≡◌, [], Option, Some, None}
+use Rattle.std.specs.Prelude.{◌≡◌, ◌⊎◌, [], Option, Some, None}
 use Rattle.std.specs.Rc.{rc_value}
 use Rattle.cil_specs.specs.Meaning.{Meaning, is_in_table, meaning_of}
 use Rattle.cil_specs.specs.Report.{AreChanges, Changes}
@@ -8,9 +8,11 @@ use Rattle.cil_resolve.specs.Meter.{adjustments_in, evaluations_in}
 use Rattle.cil_resolve.specs.declared.meter.Meter.{Meter}
 use Rattle.cil_resolve.specs.Resolved.{meaning_in}
 use Rattle.cil_counters.specs.Counted.{IsNow, WasBefore}
-use Rattle.cil_store_specs.specs.Next.{IsMeaningOf}
+use Rattle.cil_store_specs.specs.Next.{IsMeaningOf, for_memory}
 use Rattle.cil_store_specs.specs.Store.{Store}
+use Rattle.cil_store.specs.Edits.{refusal_of}
 use Rattle.cil_store.specs.declared.counted_policy.CountedPolicy.{CountedPolicy}
+use Rattle.cil_store.specs.declared.refusal.Refusal.{Refusal}
 
 -- what a counted policy means
 abbrev pub counted_meaning : {A : Type 0} → CountedPolicy A → Meaning
@@ -51,3 +53,7 @@ AreCountedBetween old new before after changes = (m n : Meaning) → IsMeaningOf
 pub record CountsStay (before after : Meter) : Type 0 where
   pub evaluations : evaluations_in after ≡ evaluations_in before
   pub adjustments : adjustments_in after ≡ adjustments_in before
+
+-- a refusal by which a meter counted nothing more, unless it is that memory ran out
+abbrev pub IsUncounted : {A : Type 0} → Meter → Meter → Refusal A → Type 0
+IsUncounted before after = λ refusal. (refusal_of refusal ≡ for_memory) ⊎ CountsStay before after

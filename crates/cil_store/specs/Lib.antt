@@ -7,3 +7,4 @@ pub mod Refusing
 pub mod Policy
 pub mod Plain
 pub mod Counted
+pub mod Laws

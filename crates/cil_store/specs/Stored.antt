@@ -1,5 +1,7 @@
 -- The entries of a store, as the code has them.
-use Rattle.std.specs.Prelude.{[], ◌∷◌, ◌≡◌, List}
+use Rattle.std.specs.Prelude.{[], ◌∷◌, ◌≡◌, ◌<◌, ◌^◌, ℕ, List, length}
+use Rattle.std.specs.List.{AllByRecursion}
+use Rattle.std.specs.List.Sorted.{IsStrictlySortedBy}
 use Rattle.cil_store_specs.specs.Store as spec
 use Rattle.cil_parse.specs.Parsed.{IsParsed}
 use Rattle.cil_bind.specs.declared.joined.NamedModule.{NamedModule}
@@ -12,6 +14,12 @@ entry_of e = record { name = e.name.now; priority = e.priority; text = e.text.no
 -- the entry of what one keeps
 abbrev pub kept_entry : {A : Type 0} → Kept A → spec.Entry
 kept_entry k = record { name = k.name; priority = k.priority; text = k.text }
+
+-- Entries as a store keeps them: they stand in order, the length of each text fits 64 bits, and all texts together have so many bytes.
+pub record AreSized (entries : List spec.Entry) (bytes : ℕ) : Type 0 where
+  pub in_order : IsStrictlySortedBy spec.entry_cmp entries
+  pub held : AllByRecursion (λ e. length e.text < 2 ^ 64) entries
+  pub sized : bytes ≡ spec.text_bytes entries
 
 -- parsed modules are those of entries, under the entries' names
 abbrev pub AreParsedOf : {A : Type 0} → List spec.Entry → List (NamedModule A) → Type 0

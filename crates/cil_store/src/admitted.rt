@@ -41,8 +41,11 @@ fn admit_install<'e, A: Allocator + Copy>(
     entry: Entry<'e>,
 ) -> Result<Admitted<'e, A>, Refusal<A>>
     requires { length entry.text.now ≤ 16777216 }
-    ensures ok { IfOk result (λ admitted. IsAdmitted admitted × (admitted_edit admitted ≡ install entry.entry.name.now entry.entry.priority entry.entry.text.now)) }
-    ensures err { IfErr result (λ refusal. IsRefusedText (install entry.entry.name.now entry.entry.priority entry.entry.text.now) (refusal_of refusal)) }
+    ensures ok { IfOk result (λ admitted. IsAdmitted admitted × (admitted_edit admitted
+        ≡ install entry.entry.name.now entry.entry.priority entry.entry.text.now)) }
+    ensures err { IfErr result (λ refusal. IsRefusedText
+        (install entry.entry.name.now entry.entry.priority entry.entry.text.now)
+        (refusal_of refusal)) }
 {
     match parse(alloc, seed, entry.text) {
         Ok(module) => Ok(Admitted::Install { entry, module }),

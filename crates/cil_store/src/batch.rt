@@ -23,7 +23,7 @@ const WORD: &[u8] = b"batch";
 /// The greatest number of edits of a batch.
 const GREATEST_EDITS: usize = 8192;
 
-/// The greatest number of bytes of all texts of a batch.
+/// The greatest number of bytes that are counted of all texts of a batch.
 const GREATEST_BYTES: u64 = 67_108_864;
 
 /// Whether a batch has more than 8192 edits, or texts of which more than 67108864 bytes are counted.

@@ -5,14 +5,13 @@ ghost use Rattle.cil_stream.specs.Device.{HasFailed, Gains, GainsFront};
 ghost use Rattle.cil_specs.specs.Meaning.{Meaning, count_of};
 ghost use Rattle.cil_specs.specs.Members.{is_member};
 ghost use Rattle.cil_specs.specs.Report.{Row, row_line};
-ghost use Rattle.cil_counters.specs.ChangeCounts.{CountsSome};
 ghost use Rattle.cil_rules.specs.Atoms.{atom_of};
 ghost use Rattle.cil_store_specs.specs.Next.{IsMeaningOf};
-ghost use Rattle.cil_store_specs.specs.Run.{a_batch, an_edit, changed_by, refused, AreRowsOf, AreViolationsOf, AreDroppedOf, Step};
+ghost use Rattle.cil_store_specs.specs.Run.{a_batch, an_edit, AreRowsOf, AreViolationsOf, AreDroppedOf, Step};
 ghost use Rattle.cil_store_specs.specs.Store as spec;
 ghost use Rattle.cil_specs.specs.Violations.{Violation, violations_text};
-ghost use Rattle.cil_store.specs.Calls.{batch_reply};
-ghost use Rattle.cil_store.specs.Edits.{edit_of, refusal_of};
+ghost use Rattle.cil_store.specs.Calls.{batch_reply, IsCountedStep, IsRefusedStep};
+ghost use Rattle.cil_store.specs.Edits.{edit_of};
 
 use crate::dropped::Dropped;
 use crate::edit::Edit;
@@ -48,21 +47,26 @@ pub trait Compiled<A: Allocator + Copy> {
     /// Whether a type is a member of an attribute, by full names; false where the policy has no such type or no such attribute. It
     /// takes no memory.
     fn has(&self, attribute: &[u8], ty: &[u8]) -> bool
-        ensures { (meaning : Meaning) → IsMeaningOf (store self.now) meaning → result ≡ is_member meaning attribute.now ty.now };
+        ensures { (meaning : Meaning) → IsMeaningOf (store self.now) meaning
+            → result ≡ is_member meaning attribute.now ty.now };
 
     /// How many rules give an access. It takes no memory.
     fn count(&self, access: &Atom<'_>) -> u64
-        ensures { (meaning : Meaning) → IsMeaningOf (store self.now) meaning → result ≡ count_of meaning (atom_of access.now) };
+        ensures { (meaning : Meaning) → IsMeaningOf (store self.now) meaning
+            → result ≡ count_of meaning (atom_of access.now) };
 
     /// Judges a batch, edits that are made as one, and makes it if nothing is against it. The reply tells the accesses that came and went
     /// between its two ends; after a refusal, out of memory too, the store is as before.
     fn batch(&mut self, edits: &[Edit<'_>]) -> Result<Changes<A>, Refusal<A>>
-        ensures { Step (store self.old) (a_batch (map edit_of edits.now)) (batch_reply result) (store self.new) };
+        ensures { Step (store self.old) (a_batch (map edit_of edits.now)) (batch_reply result)
+            (store self.new) };
 
     /// `batch`, whose reply tells how many accesses came and went, and not which.
     fn batch_counted(&mut self, edits: &[Edit<'_>]) -> Result<ChangeCounts, Refusal<A>>
-        ensures ok { IfOk result (CountsSome (λ changes. Step (store self.old) (a_batch (map edit_of edits.now)) (changed_by changes) (store self.new))) }
-        ensures err { IfErr result (λ refusal. Step (store self.old) (a_batch (map edit_of edits.now)) (refused (refusal_of refusal)) (store self.new)) };
+        ensures ok { IfOk result
+            (IsCountedStep (store self.old) (a_batch (map edit_of edits.now)) (store self.new)) }
+        ensures err { IfErr result
+            (IsRefusedStep (store self.old) (a_batch (map edit_of edits.now)) (store self.new)) };
 
     /// `batch` of one edit.
     fn edit(&mut self, edit: Edit<'_>) -> Result<Changes<A>, Refusal<A>>
@@ -73,8 +77,10 @@ pub trait Compiled<A: Allocator + Copy> {
 
     /// `batch_counted` of one edit.
     fn edit_counted(&mut self, edit: Edit<'_>) -> Result<ChangeCounts, Refusal<A>>
-        ensures ok { IfOk result (CountsSome (λ changes. Step (store self.old) (an_edit (edit_of edit.entry)) (changed_by changes) (store self.new))) }
-        ensures err { IfErr result (λ refusal. Step (store self.old) (an_edit (edit_of edit.entry)) (refused (refusal_of refusal)) (store self.new)) }
+        ensures ok { IfOk result
+            (IsCountedStep (store self.old) (an_edit (edit_of edit.entry)) (store self.new)) }
+        ensures err { IfErr result
+            (IsRefusedStep (store self.old) (an_edit (edit_of edit.entry)) (store self.new)) }
     {
         self.batch_counted(&[edit])
     }
@@ -93,16 +99,24 @@ pub trait Compiled<A: Allocator + Copy> {
 
     /// Writes the listing, a line for each row, and tells how many there are.
     fn write_listing<W: Sink>(&self, sink: &mut W) -> Result<u128, WriteFault>
-        ensures ok { IfOk result (λ n. (rows : List Row) × AreRowsOf (store self.now) rows × (n ≡ length rows) × Gains (W.taken sink.old) (W.taken sink.new) (flat_map row_line rows)) }
-        ensures err { OnErr result ((rows : List Row) × AreRowsOf (store self.now) rows × GainsFront (W.taken sink.old) (W.taken sink.new) (flat_map row_line rows)) }
+        ensures ok { IfOk result (λ n. (rows : List Row) × AreRowsOf (store self.now) rows
+            × (n ≡ length rows)
+            × Gains (W.taken sink.old) (W.taken sink.new) (flat_map row_line rows)) }
+        ensures err { OnErr result ((rows : List Row) × AreRowsOf (store self.now) rows
+            × GainsFront (W.taken sink.old) (W.taken sink.new) (flat_map row_line rows)) }
         ensures memory { IsErrOf result WriteFault.Memory → W.taken sink.new ≡ W.taken sink.old }
         ensures failed { IsErrOf result WriteFault.Sink → HasFailed (W.failures sink.old) (W.failures sink.new) }
         ensures counted { W.failures sink.old ≤ W.failures sink.new };
 
     /// Writes the violations of neverallow rules, a line for each, and tells how many there are.
     fn write_violations<W: Sink>(&self, sink: &mut W) -> Result<usize, WriteFault>
-        ensures ok { IfOk result (λ n. (violations : List Violation) × AreViolationsOf (store self.now) violations × (n ≡ length violations) × Gains (W.taken sink.old) (W.taken sink.new) (violations_text violations)) }
-        ensures err { IsErrOf result WriteFault.Sink → (violations : List Violation) × AreViolationsOf (store self.now) violations × GainsFront (W.taken sink.old) (W.taken sink.new) (violations_text violations) }
+        ensures ok { IfOk result (λ n.
+            (violations : List Violation) × AreViolationsOf (store self.now) violations
+            × (n ≡ length violations)
+            × Gains (W.taken sink.old) (W.taken sink.new) (violations_text violations)) }
+        ensures err { IsErrOf result WriteFault.Sink →
+            (violations : List Violation) × AreViolationsOf (store self.now) violations
+            × GainsFront (W.taken sink.old) (W.taken sink.new) (violations_text violations) }
         ensures memory { IsErrOf result WriteFault.Memory → W.taken sink.new ≡ W.taken sink.old }
         ensures failed { IsErrOf result WriteFault.Sink → HasFailed (W.failures sink.old) (W.failures sink.new) }
         ensures counted { W.failures sink.old ≤ W.failures sink.new };

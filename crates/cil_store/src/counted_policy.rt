@@ -49,6 +49,13 @@ pub struct Prepared<A: Allocator = Global> {
     pub next: NextPolicy<A>,
 }
 
+/// A policy that was loaded with its counters, and how many accesses it has more than that of no statement.
+#[derive(Drop)]
+pub struct Loaded<A: Allocator = Global> {
+    pub policy: CountedPolicy<A>,
+    pub counts: ChangeCounts,
+}
+
 /// A resolved policy, the optionals that drop, and its counters: for each attribute and type how many set statements make the one a
 /// member of the other, and for each access how many rules give it.
 #[derive(Drop)]
@@ -74,6 +81,47 @@ impl<A: Allocator + Copy> CountedPolicy<A> {
         })
     }
 
+    /// Brings the counters of the policy of no statement to those of another one, and answers how many changes there are. After an out of
+    /// memory they are of no use.
+    fn load(
+        &mut self,
+        alloc: A,
+        next: &Resolved<A>,
+        meter: &mut Meter,
+    ) -> Result<ChangeCounts, AllocError>
+        requires kept { IsKept self.old }
+        requires none { counted_meaning self.old ≡ meaning_of [] [] }
+        ensures now { OnOk result (IsNow next.now self.new.counters) }
+        ensures changes { IfOk result (CountsSome (AreCountedChanges (meaning_of [] []) (meaning_in next.now) meter.old meter.new)) }
+    {
+        resolved_sets_are_in_order(&self.resolved);
+        self.counters
+            .load_counted(alloc, &self.resolved, next, meter)
+    }
+
+    /// Counts a policy where none was counted yet, and puts its store in place of the one before. The counters can't be led back, so their
+    /// log stays short: an out of memory leaves the store as it was, and gives them up.
+    pub fn load_counted(
+        alloc: A,
+        seed: Seed,
+        store: &mut Store<A>,
+        prepared: Prepared<A>,
+        meter: &mut Meter,
+    ) -> Result<Loaded<A>, AllocError>
+        ensures kept { IfOk result (λ loaded. IsKept loaded.policy) }
+        ensures changes { IfOk result (λ loaded. CountsSome (AreCountedChanges (meaning_of [] [])
+            (meaning_in (rc_value prepared.next.resolved)) meter.old meter.new) loaded.counts) }
+        ensures meaning { IfOk result (λ loaded.
+            counted_meaning loaded.policy ≡ meaning_in (rc_value prepared.next.resolved)) }
+        ensures store { OnOk result (store.new ≡ prepared.store) }
+        ensures err { OnErr result (store.new ≡ store.old) }
+    {
+        let mut policy = CountedPolicy::empty(alloc, seed)?;
+        let counts = policy.load(alloc, &prepared.next.resolved, meter)?;
+        policy.take_over(store, prepared);
+        Ok(Loaded { policy, counts })
+    }
+
     /// Brings the counters to those of another policy, and puts it and its store in place of this one and its own. An out of memory leaves
     /// all as it was but the meter.
     pub fn replace(
@@ -85,7 +133,8 @@ impl<A: Allocator + Copy> CountedPolicy<A> {
     ) -> Result<Changes<A>, AllocError>
         requires { IsKept self.old }
         ensures kept { IsKept self.new }
-        ensures changes { IfOk result (AreCountedChanges (counted_meaning self.old) (meaning_in (rc_value prepared.next.resolved)) meter.old meter.new) }
+        ensures changes { IfOk result (AreCountedChanges (counted_meaning self.old)
+            (meaning_in (rc_value prepared.next.resolved)) meter.old meter.new) }
         ensures meaning { OnOk result (counted_meaning self.new ≡ meaning_in (rc_value prepared.next.resolved)) }
         ensures store { OnOk result (store.new ≡ prepared.store) }
         ensures err_store { OnErr result (store.new ≡ store.old) }
@@ -112,7 +161,8 @@ impl<A: Allocator + Copy> CountedPolicy<A> {
     ) -> Result<ChangeCounts, AllocError>
         requires { IsKept self.old }
         ensures kept { IsKept self.new }
-        ensures changes { IfOk result (CountsSome (AreCountedChanges (counted_meaning self.old) (meaning_in (rc_value prepared.next.resolved)) meter.old meter.new)) }
+        ensures changes { IfOk result (CountsSome (AreCountedChanges (counted_meaning self.old)
+            (meaning_in (rc_value prepared.next.resolved)) meter.old meter.new)) }
         ensures meaning { OnOk result (counted_meaning self.new ≡ meaning_in (rc_value prepared.next.resolved)) }
         ensures store { OnOk result (store.new ≡ prepared.store) }
         ensures err_store { OnErr result (store.new ≡ store.old) }

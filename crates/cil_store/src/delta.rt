@@ -1,16 +1,16 @@
 //! The engine that changes its counters in place.
 
-ghost use Rattle.std.specs.Prelude.{◌≡◌, ◌⊎◌, false, map, IfErr, IfOk, OnErr, OnOk};
+ghost use Rattle.std.specs.Prelude.{◌≡◌, false, map, IfErr, IfOk, OnErr, OnOk};
 ghost use Rattle.std.specs.Rc.{rc_value};
 ghost use Rattle.cil_specs.specs.Meaning.{Meaning, is_in_table};
 ghost use Rattle.cil_specs.specs.Report.{AreAtoms};
 ghost use Rattle.cil_counters.specs.ChangeCounts.{CountsSome};
 ghost use Rattle.cil_resolve.specs.Resolved.{meaning_in};
-ghost use Rattle.cil_store_specs.specs.Next.{AreTaken, IsMeaningOf, for_memory, is_too_long};
-ghost use Rattle.cil_store_specs.specs.Run.{a_batch, an_edit, changed_by, refused, Step};
+ghost use Rattle.cil_store_specs.specs.Next.{AreTaken, IsMeaningOf, is_too_long};
+ghost use Rattle.cil_store_specs.specs.Run.{a_batch, an_edit, Step};
 ghost use Rattle.cil_store_specs.specs.Store.{empty};
-ghost use Rattle.cil_store.specs.Calls.{batch_reply};
-ghost use Rattle.cil_store.specs.Counted.{counted_meaning, meaning_kept, AreCountedBetween, CountsStay, IsKept, IsKeptWhere};
+ghost use Rattle.cil_store.specs.Calls.{batch_reply, IsCountedStep, IsRefusedStep};
+ghost use Rattle.cil_store.specs.Counted.{counted_meaning, meaning_kept, AreCountedBetween, IsKept, IsKeptWhere, IsUncounted};
 ghost use Rattle.cil_store.specs.Edits.{edit_of, refusal_of};
 ghost use Rattle.cil_store.specs.Refusing.{IsRefusedBatch};
 
@@ -106,7 +106,8 @@ impl<A: Allocator + Copy> Delta<A> {
         changes
     }
 
-    /// `replace`, which answers how many changes there are.
+    /// `replace`, which answers how many changes there are. A first policy is loaded: where that fails there is no
+    /// policy still, and no counters to lead back.
     fn replace_counted(
         &mut self,
         prepared: Prepared<A>,
@@ -117,10 +118,24 @@ impl<A: Allocator + Copy> Delta<A> {
         ensures changes { IfOk result (CountsSome (AreCountedBetween self.old self.new meter.old meter.new)) }
         ensures err { OnErr result (self.new ≡ self.old) }
     {
-        let mut policy = take_policy(self.alloc, self.seed, &mut self.policy)?;
-        let counts = policy.replace_counted(self.alloc, &mut self.store, prepared, meter);
-        self.policy = Some(policy);
-        counts
+        match self.policy.take() {
+            Some(mut policy) => {
+                let counts = policy.replace_counted(self.alloc, &mut self.store, prepared, meter);
+                self.policy = Some(policy);
+                counts
+            }
+            None => {
+                let loaded = CountedPolicy::load_counted(
+                    self.alloc,
+                    self.seed,
+                    &mut self.store,
+                    prepared,
+                    meter,
+                )?;
+                self.policy = Some(loaded.policy);
+                Ok(loaded.counts)
+            }
+        }
     }
 
     /// Judges a batch, and takes the memory that it needs but for that of the counters.
@@ -128,7 +143,8 @@ impl<A: Allocator + Copy> Delta<A> {
         ensures short { OnOk result (is_too_long (map edit_of edits.now) ≡ false) }
         ensures meant { OnOk result ((before : Meaning) × IsMeaningOf self.now before) }
         ensures taken { IfOk result (λ prepared. AreTaken self.now (map edit_of edits.now) prepared.store) }
-        ensures means { IfOk result (λ prepared. IsMeaningOf prepared.store (meaning_in (rc_value prepared.next.resolved))) }
+        ensures means { IfOk result (λ prepared. IsMeaningOf prepared.store
+            (meaning_in (rc_value prepared.next.resolved))) }
         ensures err { IfErr result (λ refusal. IsRefusedBatch self.now (map edit_of edits.now) (refusal_of refusal)) }
     {
         let judged = judge_batch(self.alloc, &self.store, edits)?;
@@ -139,8 +155,8 @@ impl<A: Allocator + Copy> Delta<A> {
         })
     }
 
-    /// `batch`, which counts in a meter how often set statements are evaluated and counters of accesses adjusted. After an out of memory
-    /// the meter may have counted some.
+    /// `batch`, which counts in a meter how often set statements are evaluated and counters of accesses adjusted. After a refusal the
+    /// meter counted nothing more; but after an out of memory it may have counted some.
     pub fn batch_metered(
         &mut self,
         edits: &[Edit<'_>],
@@ -148,7 +164,7 @@ impl<A: Allocator + Copy> Delta<A> {
     ) -> Result<Changes<A>, Refusal<A>>
         ensures step { Step self.old (a_batch (map edit_of edits.now)) (batch_reply result) self.new }
         ensures counted { IfOk result (AreCountedBetween self.old self.new meter.old meter.new) }
-        ensures uncounted { IfErr result (λ refusal. (refusal_of refusal ≡ for_memory) ⊎ CountsStay meter.old meter.new) }
+        ensures uncounted { IfErr result (IsUncounted meter.old meter.new) }
     {
         let prepared = self.prepare(edits)?;
         let changes = self.replace(prepared, meter)?;
@@ -161,10 +177,12 @@ impl<A: Allocator + Copy> Delta<A> {
         edits: &[Edit<'_>],
         meter: &mut Meter,
     ) -> Result<ChangeCounts, Refusal<A>>
-        ensures ok { IfOk result (CountsSome (λ changes. Step self.old (a_batch (map edit_of edits.now)) (changed_by changes) self.new)) }
-        ensures err { IfErr result (λ refusal. Step self.old (a_batch (map edit_of edits.now)) (refused (refusal_of refusal)) self.new) }
+        ensures ok { IfOk result
+            (IsCountedStep self.old (a_batch (map edit_of edits.now)) self.new) }
+        ensures err { IfErr result
+            (IsRefusedStep self.old (a_batch (map edit_of edits.now)) self.new) }
         ensures counted { IfOk result (CountsSome (AreCountedBetween self.old self.new meter.old meter.new)) }
-        ensures uncounted { IfErr result (λ refusal. (refusal_of refusal ≡ for_memory) ⊎ CountsStay meter.old meter.new) }
+        ensures uncounted { IfErr result (IsUncounted meter.old meter.new) }
     {
         let next = self.prepare(edits)?;
         let counts = self.replace_counted(next, meter)?;
@@ -179,7 +197,7 @@ impl<A: Allocator + Copy> Delta<A> {
     ) -> Result<Changes<A>, Refusal<A>>
         ensures step { Step self.old (an_edit (edit_of edit.entry)) (batch_reply result) self.new }
         ensures counted { IfOk result (AreCountedBetween self.old self.new meter.old meter.new) }
-        ensures uncounted { IfErr result (λ refusal. (refusal_of refusal ≡ for_memory) ⊎ CountsStay meter.old meter.new) }
+        ensures uncounted { IfErr result (IsUncounted meter.old meter.new) }
     {
         self.batch_metered(&[edit], meter)
     }
@@ -190,17 +208,20 @@ impl<A: Allocator + Copy> Delta<A> {
         edit: Edit<'_>,
         meter: &mut Meter,
     ) -> Result<ChangeCounts, Refusal<A>>
-        ensures ok { IfOk result (CountsSome (λ changes. Step self.old (an_edit (edit_of edit.entry)) (changed_by changes) self.new)) }
-        ensures err { IfErr result (λ refusal. Step self.old (an_edit (edit_of edit.entry)) (refused (refusal_of refusal)) self.new) }
+        ensures ok { IfOk result
+            (IsCountedStep self.old (an_edit (edit_of edit.entry)) self.new) }
+        ensures err { IfErr result
+            (IsRefusedStep self.old (an_edit (edit_of edit.entry)) self.new) }
         ensures counted { IfOk result (CountsSome (AreCountedBetween self.old self.new meter.old meter.new)) }
-        ensures uncounted { IfErr result (λ refusal. (refusal_of refusal ≡ for_memory) ⊎ CountsStay meter.old meter.new) }
+        ensures uncounted { IfErr result (IsUncounted meter.old meter.new) }
     {
         self.batch_counted_metered(&[edit], meter)
     }
 
     /// The accesses that the store allows.
     fn table(&self) -> Result<Table<A>, AllocError>
-        ensures { IfOk result (λ table. (meaning : Meaning) → IsMeaningOf self.now meaning → AreAtoms (is_in_table meaning) table) }
+        ensures { IfOk result (λ table. (meaning : Meaning) → IsMeaningOf self.now meaning
+            → AreAtoms (is_in_table meaning) table) }
     {
         match &self.policy {
             Some(policy) => policy.table(self.alloc),

@@ -3,6 +3,7 @@
 ghost use Rattle.std.specs.Prelude.{◌≡◌, ◌+◌, ◌≤◌, ◌<◌, ◌↔◌, ◌^◌, [], ℕ, List, IsTrue, bytes_eq, find, length, option_map, IfOk, OnOk, OnErr};
 ghost use Rattle.std.specs.List.{prefix_len};
 ghost use Rattle.std.specs.Ordering.{is_lt};
+ghost use Rattle.cil_specs.specs.Report.{name_cmp};
 ghost use Rattle.cil_store_specs.specs.Store.{entry_cmp, has_entry, has_room, is_installed, put, text_bytes, without};
 ghost use Rattle.cil_specs.proofs.SearchLemmas.{IsTiedAt};
 ghost use Rattle.cil_store_specs.specs.Store.{entry_at};
@@ -17,22 +18,25 @@ const GREATEST_ENTRIES: usize = 4096;
 
 const GREATEST_BYTES: u128 = 67_108_864;
 
-/// Entries by name and then by falling priority. Contracts see them as their list.
+/// Entries by name and then by falling priority. What is asked of one name takes a time that goes with the logarithm of their number.
+/// Contracts see them as their list.
 #[derive(Drop)]
 pub struct Entries<A: Allocator = Global> {
     entries: Vec<StoredEntry<A>, A>,
+    /// How many bytes all their texts have.
+    bytes: u128,
 }
 
 impl<A: Allocator> Model for Entries<A> {
     ghost use Rattle.std.specs.Prelude.{List};
-    ghost use Rattle.std.specs.List.Sorted.{IsStrictlySortedBy};
-    ghost use Rattle.cil_store_specs.specs.Store.{Entry, entry_cmp};
+    ghost use Rattle.cil_store_specs.specs.Store.{Entry};
+    ghost use Rattle.cil_store.specs.Stored.{AreSized};
 
     ghost Value = { List Entry };
 
     ghost view = { λ e. e.entries.items };
 
-    ghost invariant = { λ e. IsStrictlySortedBy entry_cmp e.entries.items };
+    ghost invariant = { λ e. AreSized e.entries.items e.bytes };
 }
 
 /// How many entries there are without one, and how many bytes their texts have.
@@ -49,6 +53,7 @@ impl<A: Allocator> Entries<A> {
     {
         Entries {
             entries: Vec::new(alloc),
+            bytes: 0,
         }
     }
 
@@ -88,30 +93,45 @@ impl<A: Allocator> Entries<A> {
         e.is_at(name, priority)
     }
 
+    /// How many entries have a lesser name: where the first entry of a name stands, if there is one of it.
+    fn name_place(&self, name: &[u8]) -> usize
+        ensures { result ≡ prefix_len (λ e. is_lt (name_cmp e.name name.now)) self.now }
+    {
+        self.entries.as_slice().partition_point(
+            |e: &StoredEntry<A>| -> bool
+                ensures { result ≡ is_lt (name_cmp e.now.name name.entry.now) }
+            { e.name().cmp(name).is_lt() },
+        )
+    }
+
     /// Whether there is an entry of a name and a priority.
     pub fn has(&self, name: &[u8], priority: u32) -> bool
         ensures { result ≡ has_entry name.now priority self.now }
     {
-        self.entries.iter().any(|e| e.is_at(name, priority))
+        let _ = &self.entries;
+        let place = self.place(name, priority);
+        self.has_at(place, name, priority)
     }
 
     /// Whether there is an entry of a name.
     pub fn is_installed(&self, name: &[u8]) -> bool
         ensures { result ≡ is_installed name.now self.now }
     {
-        self.entries.iter().any(|e| e.is_named(name))
+        self.first_of(name).is_some()
     }
 
     /// The first entry of a name, which has its highest priority.
     pub fn first_of(&self, name: &[u8]) -> Option<Entry<'_>>
         ensures { option_map entry_of result ≡ find (λ e. bytes_eq e.name name.now) self.now }
     {
-        for e in &self.entries {
-            if e.is_named(name) {
-                return Some(e.as_entry());
-            }
+        let place = self.name_place(name);
+        let Some(e) = self.entries.get(place) else {
+            return None;
+        };
+        if !e.is_named(name) {
+            return None;
         }
-        None
+        Some(e.as_entry())
     }
 
     /// The size of the entries without that of a name and a priority.
@@ -120,18 +140,18 @@ impl<A: Allocator> Entries<A> {
         ensures bytes { result.bytes ≡ text_bytes (without name.now priority self.now) }
         ensures fits { result.bytes + 2 ^ 64 < 2 ^ 128 }
     {
-        let mut size = Size {
-            entries: 0,
-            bytes: 0,
-        };
-        for e in &self.entries {
-            if e.is_at(name, priority) {
-                continue;
+        let place = self.place(name, priority);
+        if self.has_at(place, name, priority) {
+            Size {
+                entries: self.entries.len() - 1,
+                bytes: self.bytes - self.entries[place].len() as u128,
             }
-            size.entries += 1;
-            size.bytes += e.len() as u128;
+        } else {
+            Size {
+                entries: self.entries.len(),
+                bytes: self.bytes,
+            }
         }
-        size
     }
 
     /// Whether there is room for an entry with a text of some length, in place of one of its name and priority.
@@ -152,7 +172,10 @@ impl<A: Allocator + Copy> Entries<A> {
         for entry in &self.entries {
             entries.push(entry.share()?)?;
         }
-        Ok(Entries { entries })
+        Ok(Entries {
+            entries,
+            bytes: self.bytes,
+        })
     }
 
     /// Puts in an entry, in place of one of its name and priority.
@@ -162,12 +185,14 @@ impl<A: Allocator + Copy> Entries<A> {
     {
         let name = entry.name();
         let priority = entry.priority();
+        let bytes = self.size_without(name, priority).bytes + entry.len() as u128;
         let place = self.place(name, priority);
         if self.has_at(place, name, priority) {
             self.entries[place] = entry;
         } else {
             self.entries.insert(place, entry)?;
         }
+        self.bytes = bytes;
         Ok(())
     }
 
@@ -177,6 +202,7 @@ impl<A: Allocator + Copy> Entries<A> {
     {
         let place = self.place(name, priority);
         if self.has_at(place, name, priority) {
+            self.bytes -= self.entries[place].len() as u128;
             self.entries.remove(place);
         }
     }

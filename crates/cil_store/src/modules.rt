@@ -55,7 +55,7 @@ impl State {
     }
 }
 
-/// The modules by their names and priorities, each with its text and kept parsed, and the names that are disabled
+/// Modules by their names and priorities, each with its text, which is kept parsed too, and the names that are disabled
 /// (`semodule(8)`).
 #[derive(Drop)]
 pub struct Store<A: Allocator = Global> {
@@ -105,7 +105,8 @@ impl<A: Allocator> Store<A> {
         self.disabled.len()
     }
 
-    /// Whether a name is disabled. There may be such a name only where something of it is installed.
+    /// Whether a name is disabled. In a store that a run from an empty one reaches something of such a name is installed
+    /// (`laws::stores_are_within_limits`).
     pub fn is_disabled(&self, name: &[u8]) -> bool
         ensures { result ≡ is_disabled self.now name.now }
     {
@@ -179,7 +180,8 @@ impl<A: Allocator> Store<A> {
     /// text too long, a store that is full.
     pub fn check_install(&self, name: &[u8], priority: u32, len: usize) -> Result<(), StoreFault>
         ensures { MatchResult result (λ _. install_refusal self.now name.now priority len ≡ None)
-            (λ fault. install_refusal self.now name.now priority len ≡ Some (store_refusal_of fault name.now priority)) }
+            (λ fault. install_refusal self.now name.now priority len
+            ≡ Some (store_refusal_of fault name.now priority)) }
     {
         check_words(name, priority)?;
         if len > GREATEST_TEXT {
@@ -220,7 +222,8 @@ impl<A: Allocator> Store<A> {
     /// Whether the store takes an edit, or its first refusal. Nothing is asked of a text, nor of the policy.
     pub fn check(&self, edit: Edit<'_>) -> Result<(), StoreFault>
         ensures { MatchResult result (λ _. store_refusal self.now (edit_of edit.entry) ≡ None)
-            (λ fault. store_refusal self.now (edit_of edit.entry) ≡ Some (store_refusal_of fault (name_of edit.entry) (priority_of edit.entry))) }
+            (λ fault. store_refusal self.now (edit_of edit.entry)
+            ≡ Some (store_refusal_of fault (name_of edit.entry) (priority_of edit.entry))) }
     {
         match edit {
             Edit::Install {
@@ -289,8 +292,10 @@ impl<A: Allocator + Copy> Store<A> {
 
 /// Whether a name and a priority are those of an entry.
 fn check_words(name: &[u8], priority: u32) -> Result<(), StoreFault>
-    ensures { (rest : Option Refusal) → MatchResult result (λ _. name_refusal name.now (priority_refusal priority rest) ≡ rest)
-        (λ fault. name_refusal name.now (priority_refusal priority rest) ≡ Some (store_refusal_of fault name.now priority)) }
+    ensures { (rest : Option Refusal) → MatchResult result
+        (λ _. name_refusal name.now (priority_refusal priority rest) ≡ rest)
+        (λ fault. name_refusal name.now (priority_refusal priority rest)
+        ≡ Some (store_refusal_of fault name.now priority)) }
 {
     if !is_module_name(name) {
         return Err(StoreFault::BadModuleName);

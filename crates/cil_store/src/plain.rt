@@ -98,7 +98,8 @@ impl<A: Allocator + Copy> Plain<A> {
     /// the policy is judged once, at the end.
     pub fn of(alloc: A, seed: Seed, entries: &[Entry<'_>]) -> Result<Self, Refusal<A>>
         ensures ok { IfOk result (λ plain. Of (map entry_of entries.now) (accepts plain)) }
-        ensures err { IfErr result (λ refusal. AreRefused empty (map install_of (map entry_of entries.now)) (refusal_of refusal)) }
+        ensures err { IfErr result (λ refusal.
+            AreRefused empty (map install_of (map entry_of entries.now)) (refusal_of refusal)) }
     {
         let edits = installs(alloc, entries)?;
         let judged = judge(alloc, &Store::new(alloc, seed), &edits)?;
@@ -125,7 +126,8 @@ impl<A: Allocator + Copy> Plain<A> {
 impl<A: Allocator + Copy> Plain<A> {
     /// The accesses that the store allows.
     fn table(&self) -> Result<Table<A>, AllocError>
-        ensures { IfOk result (λ table. (meaning : Meaning) → IsMeaningOf self.now meaning → AreAtoms (is_in_table meaning) table) }
+        ensures { IfOk result (λ table. (meaning : Meaning) → IsMeaningOf self.now meaning
+            → AreAtoms (is_in_table meaning) table) }
     {
         match &self.policy {
             Some(policy) => policy.table(self.alloc),

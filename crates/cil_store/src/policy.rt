@@ -80,9 +80,12 @@ impl<A: Allocator + Copy> Policy<A> {
 
     /// Writes its violations, a line for each, and tells how many there are.
     pub fn write_violations<W: Sink>(&self, alloc: A, sink: &mut W) -> Result<usize, WriteFault>
-        ensures ok { IfOk result (λ n. (violations : List Violation) × AreViolations (meaning_in (rc_value self.now.resolved)) violations
-            × (n ≡ length violations) × Gains (W.taken sink.old) (W.taken sink.new) (violations_text violations)) }
-        ensures err { IsErrOf result WriteFault.Sink → (violations : List Violation) × AreViolations (meaning_in (rc_value self.now.resolved)) violations
+        ensures ok { IfOk result (λ n. (violations : List Violation)
+            × AreViolations (meaning_in (rc_value self.now.resolved)) violations
+            × (n ≡ length violations)
+            × Gains (W.taken sink.old) (W.taken sink.new) (violations_text violations)) }
+        ensures err { IsErrOf result WriteFault.Sink → (violations : List Violation)
+            × AreViolations (meaning_in (rc_value self.now.resolved)) violations
             × GainsFront (W.taken sink.old) (W.taken sink.new) (violations_text violations) }
         ensures memory { IsErrOf result WriteFault.Memory → W.taken sink.new ≡ W.taken sink.old }
         ensures failed { IsErrOf result WriteFault.Sink → HasFailed (W.failures sink.old) (W.failures sink.new) }

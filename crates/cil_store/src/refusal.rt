@@ -12,8 +12,8 @@ use std::alloc::{AllocError, Allocator, Global};
 /// `semodule(8)`.
 #[derive(Clone, Copy, Debug, PartialEq, Eq)]
 pub enum StoreFault {
-    /// A module's name has other bytes than letters, digits, `_`, `-` and dots, begins with `-` or a dot, or is longer than
-    /// 255 bytes.
+    /// A module's name is empty, has other bytes than letters, digits, `_`, `-` and dots, begins with `-` or a dot, or is longer
+    /// than 255 bytes.
     BadModuleName = 30,
     /// A priority that isn't 1 to 999.
     BadPriority = 31,
@@ -23,7 +23,8 @@ pub enum StoreFault {
     Full = 33,
     /// A text of more than 2^24 bytes.
     TextTooLong = 34,
-    /// A batch of more than 8192 edits, or of texts of which more than 2^26 bytes are counted: of one longer than 2^24 these and one more.
+    /// A batch of more than 8192 edits, or one of whose texts more than 2^26 bytes are counted. Of a text of more than 2^24 bytes
+    /// 2^24 + 1 are counted, of another all.
     BatchTooLong = 35,
 }
 
@@ -39,7 +40,7 @@ impl StoreFault {
     }
 }
 
-/// What is wrong with a text, or else with the policy that it would lead to.
+/// What is wrong with the text of an edit, or else with the policy that edits would lead to.
 #[derive(Clone, Copy, Debug, PartialEq, Eq)]
 pub enum FaultKind {
     Text(TextFaultKind),
@@ -61,8 +62,8 @@ impl FaultKind {
     }
 }
 
-/// Why an edit is refused: by the store; by the fault of its text, or the first of the policy that it would lead to, at a place of a
-/// module; or out of memory. It owns its words.
+/// Why an edit or a batch is refused: by the store; for the fault of a text, or for the first fault of the policy that it would lead
+/// to, at a place of a module; or since memory ran out. It owns its words.
 #[derive(Debug, Drop)]
 pub enum Refusal<A: Allocator = Global> {
     Store {

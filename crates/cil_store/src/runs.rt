@@ -14,7 +14,8 @@ use std::alloc::{AllocError, Allocator};
 
 /// The lines of the listing.
 fn listing<A: Allocator + Copy, C: Compiled<A>>(alloc: A, engine: &C) -> Result<Text<A>, AllocError>
-    ensures { IfOk result (λ text. (rows : List Row) × (text ≡ flat_map row_line rows) × AreRowsOf (C.store engine.now) rows) }
+    ensures { IfOk result (λ text. (rows : List Row) × (text ≡ flat_map row_line rows)
+        × AreRowsOf (C.store engine.now) rows) }
 {
     let mut sink = MemorySink::new(alloc);
     match engine.write_listing(&mut sink) {
@@ -62,7 +63,8 @@ pub fn run<A: Allocator + Copy, C: Compiled<A>>(
     engine: &mut C,
     calls: &[Call<'_>],
 ) -> Result<Vec<Reply<A>, A>, AllocError>
-    ensures run { IfOk result (λ replies. Run (C.store engine.old) (map call_of calls.now) (map reply_of replies.items) (C.store engine.new)) }
+    ensures run { IfOk result (λ replies. Run (C.store engine.old) (map call_of calls.now)
+        (map reply_of replies.items) (C.store engine.new)) }
     ensures err { OnErr result (C.store engine.new ≡ C.store engine.old) }
 {
     let mut replies = Vec::with_capacity(alloc, calls.len())?;

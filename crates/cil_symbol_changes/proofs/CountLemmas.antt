@@ -1,11 +1,11 @@
 -- How many accesses came: word by word, change by change, key by key and kind by kind.
-use Rattle.std.proofs.Common.{◌≡◌, ◌≢◌, ◌⊎◌, if◌then◌else◌, ℕ, zero, suc, ◌+◌, ◌-◌, ◌*◌, ◌/◌, ◌%◌, ◌^◌, ◌<◌, ◌≤◌, ◌==◌, ◌&&◌, Bool, true, false, not, cond, List, [], ◌∷◌, Option, None, Some, MatchOption, map, length, get_or, take, min, nat_lt, count_ones, position, slice_get, refl, sym, ap, subst, ◌∙◌, inl, inr, arith, true≢false, zero-add, eqb-true}
+use Rattle.std.proofs.Common.{◌≡◌, ◌≢◌, ◌⊎◌, if◌then◌else◌, ℕ, zero, suc, ◌+◌, ◌-◌, ◌*◌, ◌/◌, ◌%◌, ◌^◌, ◌<◌, ◌≤◌, ◌==◌, ◌&&◌, Bool, true, false, not, cond, List, [], ◌∷◌, Option, None, Some, MatchOption, map, length, get_or, min, nat_lt, count_ones, position, slice_get, refl, sym, ap, subst, ◌∙◌, inl, inr, arith, true≢false, zero-add, eqb-true}
 use Rattle.std.specs.Int.{bit_at}
 use Rattle.std.specs.List.{All, Contains, sum_by}
 use Rattle.std.proofs.lemmas.Bool.{cases_eq, cases_lt, eq-eqb, le-ltb, lt-ltb, ltb-true}
 use Rattle.std.proofs.lemmas.List.{length-map}
 use Rattle.std.proofs.lemmas.List.Elements.{All-contains}
-use Rattle.std.proofs.lemmas.List.Sums.{sum_by-cons, sum_by_more}
+use Rattle.std.proofs.lemmas.List.Sums.{sum_by-cons}
 use Rattle.std.proofs.lemmas.Nat.{zero_from_ones}
 use Rattle.std.proofs.lemmas.Nat.Bits.{bit_at_above, bit_at-lt}
 use Rattle.std.proofs.lemmas.Option.{get_or_from_slice_get, same_Some, slice_get-get_or}
@@ -20,7 +20,7 @@ use Rattle.cil_recorded.specs.declared.step.Step.{Step}
 use Rattle.cil_recorded.proofs.LogLemmas.{hit_nothing, hit_off, hit_on, hit_out}
 use Rattle.cil_sums.specs.Rises.{below, RisesBy}
 use Rattle.cil_sums.proofs.PairLemmas.{from-mapped, mapped, pairs-map}
-use Rattle.cil_sums.proofs.RiseLemmas.{rises-added, rises-bits, rises-both, rises-first, rises-map, rises-next, rises-none, rises-same}
+use Rattle.cil_sums.proofs.RiseLemmas.{rises-added, rises-bits, rises-both, rises-first, rises-map, rises-next, rises-none}
 use Rattle.cil_symbol_tables.specs.Tables.{count_before, count_now, lines_of}
 use Rattle.cil_symbol_tables.specs.declared.symbol_tables.SymbolTables.{SymbolTables}
 use Rattle.cil_text.specs.declared.statement.RuleKind.{RuleKind}
@@ -215,11 +215,11 @@ module _ (lines : Keyed) (stands f g : ℕ → ℕ → ℕ) (was is : SymbolKey 
       let targets = ap (λ r. r.1) same in
       λ i. (lines_same i, targets i)
 
-  pub key-count : (count : ℕ) → RisesBy in_lines 0 count → RisesBy (has_come_to was is) 0 count
-  key-count count = rises-stand by_key in_lines (has_come_to was is) one-line of-lines to-lines 0 count
+  pub key-count : (before after : ℕ) → RisesBy in_lines before after → RisesBy (has_come_to was is) before after
+  key-count = rises-stand by_key in_lines (has_come_to was is) one-line of-lines to-lines
 
 -- a key with a counter above 0 has a line
-place-now : (lines : Keyed) (key : SymbolKey) (t : ℕ) → 0 < keyed.count_now lines key t → (l : ℕ) × (position (is_key key) lines.keys ≡ Some l)
+pub place-now : (lines : Keyed) (key : SymbolKey) (t : ℕ) → 0 < keyed.count_now lines key t → (l : ℕ) × (position (is_key key) lines.keys ≡ Some l)
 place-now lines key t some = by (position (is_key key) lines.keys) refl (line_of_key lines key (position (is_key key) lines.keys) refl)
   where
     by : (o : Option ℕ) → position (is_key key) lines.keys ≡ o → MatchOption o (NoneCounted lines key) (λ l. IsLineOf lines l key) → (l : ℕ) × (position (is_key key) lines.keys ≡ Some l)
@@ -233,11 +233,9 @@ place-before lines key t some = by (position (is_key key) lines.keys) refl (line
     by None at none = let zero = (none t).1 in absurd (omega (arith, some, zero))
     by (Some l) at line = (l, at)
 
--- ---- the numbers of a kind
-
-module _ {A : Type 0} (tables : SymbolTables A) (kind : RuleKind) (lines : Keyed) (at : lines ≡ lines_of tables kind) (held : AreKeyed lines.keys lines.lines) (stands : ℕ → ℕ → ℕ) (count : ℕ)
-    (many : RisesBy (λ (p : ℕ × ℕ). nat_lt 0 (stands p.0 p.1)) 0 count) where
-  here-now : (l t : ℕ) → 0 < now_at lines l t → IsFound lines l
+-- a line with a counter above 0 is found
+module _ (lines : Keyed) (held : AreKeyed lines.keys lines.lines) where
+  pub here-now : (l t : ℕ) → 0 < now_at lines l t → IsFound lines l
   here-now l t some =
       found-line lines l held (elim (cases_lt l (length lines.keys)) [
         | inl within ↦ within
@@ -251,19 +249,23 @@ module _ {A : Type 0} (tables : SymbolTables A) (kind : RuleKind) (lines : Keyed
         | inr behind ↦ let none = held.before l t behind in absurd (omega (arith, some, none))
       ])
 
+-- ---- the numbers of a kind
+
+module _ {A : Type 0} (tables : SymbolTables A) (kind : RuleKind) (lines : Keyed) (at : lines ≡ lines_of tables kind) (held : AreKeyed lines.keys lines.lines) (stands : ℕ → ℕ → ℕ) (count : ℕ)
+    (many : RisesBy (λ (p : ℕ × ℕ). nat_lt 0 (stands p.0 p.1)) 0 count) where
   -- the number of what appeared in the lines of a kind
   pub kind-come : ((l t : ℕ) → stands l t ≡ min 1 (now_at lines l t) - min 1 (before_at lines l t)) → RisesBy (has_come_to (count_before tables kind) (count_now tables kind)) 0 count
   unfolding count_now count_before
   kind-come turned =
       subst (λ (k : Keyed). RisesBy (has_come_to (keyed.count_before k) (keyed.count_now k)) 0 count) at
-      (key-count lines stands (before_at lines) (now_at lines) (keyed.count_before lines) (keyed.count_now lines) turned here-now (λ l key line t. (line.before t, line.now t)) (place-now lines) count many)
+      (key-count lines stands (before_at lines) (now_at lines) (keyed.count_before lines) (keyed.count_now lines) turned (here-now lines held) (λ l key line t. (line.before t, line.now t)) (place-now lines) 0 count many)
 
   -- and of what went
   pub kind-gone : ((l t : ℕ) → stands l t ≡ min 1 (before_at lines l t) - min 1 (now_at lines l t)) → RisesBy (has_come_to (count_now tables kind) (count_before tables kind)) 0 count
   unfolding count_now count_before
   kind-gone turned =
       subst (λ (k : Keyed). RisesBy (has_come_to (keyed.count_now k) (keyed.count_before k)) 0 count) at
-      (key-count lines stands (now_at lines) (before_at lines) (keyed.count_now lines) (keyed.count_before lines) turned here-before (λ l key line t. (line.now t, line.before t)) (place-before lines) count many)
+      (key-count lines stands (now_at lines) (before_at lines) (keyed.count_now lines) (keyed.count_before lines) turned (here-before lines held) (λ l key line t. (line.now t, line.before t)) (place-before lines) 0 count many)
 
 -- ---- steps that turned targets one way
 
@@ -429,17 +431,25 @@ module _ (was is : RuleKind → SymbolKey → ℕ → ℕ) where
         λ i. record { kind = kind i; key = a.key; target = a.target },
       )
 
+  -- a count that rises by what came of each kind in turn
+  pub kinds-in-turn : (allow auditallow dontaudit neverallow : ℕ) → RisesBy (has_come_to (was Allow) (is Allow)) 0 allow → RisesBy (has_come_to (was AuditAllow) (is AuditAllow)) allow auditallow
+      → RisesBy (has_come_to (was DontAudit) (is DontAudit)) auditallow dontaudit → RisesBy (has_come_to (was NeverAllow) (is NeverAllow)) dontaudit neverallow → neverallow < 2 ^ 128 - 1
+      → AreSoMany (has_come was is) neverallow
+  unfolding kind_at
+  kinds-in-turn allow auditallow dontaudit neverallow first second third fourth small =
+      let one : RisesBy (below of_number 1) 0 allow = rises-next of_number 0 0 0 allow (rises-first of_number 0) first in
+      let two : RisesBy (below of_number 2) 0 auditallow = rises-next of_number 1 0 allow auditallow one second in
+      let three : RisesBy (below of_number 3) 0 dontaudit = rises-next of_number 2 0 auditallow dontaudit two third in
+      let four : RisesBy (below of_number 4) 0 neverallow = rises-next of_number 3 0 dontaudit neverallow three fourth in
+      so-many (has_come was is) neverallow small (rises-stand access (below of_number 4) (has_come was is) one-number to-access from-access 0 neverallow four)
+
+  -- the same where each kind is counted from 0
   pub kinds-count : (allow auditallow dontaudit neverallow : ℕ) → RisesBy (has_come_to (was Allow) (is Allow)) 0 allow → RisesBy (has_come_to (was AuditAllow) (is AuditAllow)) 0 auditallow
       → RisesBy (has_come_to (was DontAudit) (is DontAudit)) 0 dontaudit → RisesBy (has_come_to (was NeverAllow) (is NeverAllow)) 0 neverallow
       → allow + auditallow + dontaudit + neverallow < 2 ^ 128 - 1 → AreSoMany (has_come was is) (allow + auditallow + dontaudit + neverallow)
-  unfolding kind_at
-  kinds-count allow auditallow dontaudit neverallow first second third fourth small =
-      let one : RisesBy (below of_number 1) 0 allow = rises-next of_number 0 0 0 allow (rises-first of_number 0) first in
-      let two : RisesBy (below of_number 2) 0 (allow + auditallow) = rises-next of_number 1 0 allow (allow + auditallow) one (rises-added (of_number 1) allow auditallow (allow + auditallow) second (omega arith) (omega arith)) in
-      let three : RisesBy (below of_number 3) 0 (allow + auditallow + dontaudit) =
-      rises-next of_number 2 0 (allow + auditallow) (allow + auditallow + dontaudit) two (rises-added (of_number 2) (allow + auditallow) dontaudit (allow + auditallow + dontaudit) third (omega arith) (omega arith)) in
-      let four : RisesBy (below of_number 4) 0 (allow + auditallow + dontaudit + neverallow) =
-      rises-next of_number 3 0 (allow + auditallow + dontaudit) (allow + auditallow + dontaudit + neverallow) three
-      (rises-added (of_number 3) (allow + auditallow + dontaudit) neverallow (allow + auditallow + dontaudit + neverallow) fourth (omega arith) (omega arith)) in
-      so-many (has_come was is) (allow + auditallow + dontaudit + neverallow) small
-      (rises-stand access (below of_number 4) (has_come was is) one-number to-access from-access 0 (allow + auditallow + dontaudit + neverallow) four)
+  kinds-count allow auditallow dontaudit neverallow first second third fourth =
+      kinds-in-turn allow (allow + auditallow) (allow + auditallow + dontaudit) (allow + auditallow + dontaudit + neverallow) first
+      (added AuditAllow allow auditallow second) (added DontAudit (allow + auditallow) dontaudit third) (added NeverAllow (allow + auditallow + dontaudit) neverallow fourth)
+    where
+      added : (kind : RuleKind) (before some : ℕ) → RisesBy (has_come_to (was kind) (is kind)) 0 some → RisesBy (has_come_to (was kind) (is kind)) before (before + some)
+      added kind before some rises = rises-added (has_come_to (was kind) (is kind)) before some (before + some) rises (omega arith) (omega arith)

@@ -3,3 +3,4 @@ pub mod OrderLemmas
 pub mod ChangeLemmas
 pub mod PresentLemmas
 pub mod CountLemmas
+pub mod PresentCountLemmas

@@ -3,6 +3,7 @@
 
 mod access_changes;
 mod changed_chunks;
+mod counted_accesses;
 mod counted_changes;
 mod present_accesses;
 mod present_chunks;
@@ -10,5 +11,6 @@ mod source_order;
 mod targets;
 
 pub use access_changes::{AccessChanges, changes};
+pub use counted_accesses::count_accesses;
 pub use counted_changes::{ChangeCounts, count_changes};
 pub use present_accesses::accesses;

@@ -1,5 +1,5 @@
 -- The access tables by symbols: for each kind of rule, access by access, how many rules give it, now and before the steps.
-use Rattle.std.specs.Prelude.{◌==◌, ◌+◌, ◌≤◌, ℕ, Bool}
+use Rattle.std.specs.Prelude.{◌≡◌, ◌==◌, ◌+◌, ◌≤◌, ℕ, Bool}
 use Rattle.cil_specs.specs.Rule.{kind_index}
 use Rattle.cil_text.specs.Image.{rule_kind_of}
 use Rattle.cil_text.specs.declared.statement.RuleKind.{RuleKind}
@@ -42,3 +42,11 @@ RiseAtMost old new most = (kind : RuleKind) (key : SymbolKey) (t : ℕ) → coun
 -- no counter rises
 abbrev pub NoneRises : {A : Type 0} → SymbolTables A → SymbolTables A → Type 0
 NoneRises old new = (kind : RuleKind) (key : SymbolKey) (t : ℕ) → count_now new kind key t ≤ count_now old kind key t
+
+-- each counter of an access is what it was
+abbrev pub StaysNow : {A B : Type 0} → SymbolTables A → SymbolTables B → Type 0
+StaysNow old new = (kind : RuleKind) (key : SymbolKey) (t : ℕ) → count_now new kind key t ≡ count_now old kind key t
+
+-- so is each as it was before the steps
+abbrev pub StaysBefore : {A B : Type 0} → SymbolTables A → SymbolTables B → Type 0
+StaysBefore old new = (kind : RuleKind) (key : SymbolKey) (t : ℕ) → count_before new kind key t ≡ count_before old kind key t

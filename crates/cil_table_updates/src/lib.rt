@@ -5,7 +5,9 @@ mod changed_rows;
 mod moves;
 mod passes;
 mod policy;
+mod steps;
 mod updating;
 
 pub use policy::Named;
+pub use steps::Steps;
 pub use updating::update;

@@ -30,7 +30,8 @@ pub struct Asked {
 
 /// Writes that memory ran out, and gives the exit status.
 pub fn refuse_for_memory<E: Sink>(err: &mut E) -> Result<u8, SinkFault>
-    ensures ok { IfOk result (λ status. (status ≡ 1) × Gains (E.taken err.old) (E.taken err.new) (refusal_line for_memory)) }
+    ensures ok { IfOk result (λ status. (status ≡ 1)
+        × Gains (E.taken err.old) (E.taken err.new) (refusal_line for_memory)) }
     ensures err { OnErr result
         (GainsFront (E.taken err.old) (E.taken err.new) (refusal_line for_memory)) }
     ensures failed { OnErr result (HasFailed (E.failures err.old) (E.failures err.new)) }
@@ -81,13 +82,16 @@ pub fn compile_entries<W: Sink, E: Sink, A: Allocator + Copy>(
     out: &mut W,
     err: &mut E,
 ) -> Result<u8, SinkFault>
-    ensures ok { IfOk result (λ status. (printed : List ℕ) × (told : List ℕ) × Gains (W.taken out.old) (W.taken out.new) printed
-        × Gains (E.taken err.old) (E.taken err.new) told × Compiles (map entry_of entries.now) asked.report printed told status) }
+    ensures ok { IfOk result (λ status. (printed : List ℕ) × (told : List ℕ)
+        × Gains (W.taken out.old) (W.taken out.new) printed
+        × Gains (E.taken err.old) (E.taken err.new) told
+        × Compiles (map entry_of entries.now) asked.report printed told status) }
     ensures err { OnErr result ((printed : List ℕ) × (told : List ℕ) × (status : ℕ)
         × GainsFront (W.taken out.old) (W.taken out.new) printed
         × GainsFront (E.taken err.old) (E.taken err.new) told
         × Compiles (map entry_of entries.now) asked.report printed told status) }
-    ensures failed { OnErr result (HasFailed (W.failures out.old) (W.failures out.new) ⊎ HasFailed (E.failures err.old) (E.failures err.new)) }
+    ensures failed { OnErr result (HasFailed (W.failures out.old) (W.failures out.new)
+        ⊎ HasFailed (E.failures err.old) (E.failures err.new)) }
     ensures out_counted { W.failures out.old ≤ W.failures out.new }
     ensures err_counted { E.failures err.old ≤ E.failures err.new }
 {

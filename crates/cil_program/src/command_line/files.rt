@@ -71,8 +71,10 @@ const GREATEST_TEXT: usize = 16_777_216;
 /// Reads a text to the end of its source, or until it is longer than a store takes.
 fn read_text<S: Source, A: Allocator>(alloc: A, source: &mut S) -> Result<Vec<u8, A>, TextFault>
     ensures read { IfOk result (λ text. Gives (S.account source.old) (S.account source.new) text.items) }
-    ensures whole { IfOk result (λ text. HasEnded (S.account source.old) (S.account source.new) ⊎ (16777216 < length text.items)) }
-    ensures failed { IsErrOf result TextFault.Source → HasFailed (S.account source.old).failures (S.account source.new).failures }
+    ensures whole { IfOk result (λ text. HasEnded (S.account source.old) (S.account source.new)
+        ⊎ (16777216 < length text.items)) }
+    ensures failed { IsErrOf result TextFault.Source →
+        HasFailed (S.account source.old).failures (S.account source.new).failures }
 {
     let mut piece = [0; PIECE];
     let mut text = Vec::new(alloc);
@@ -97,7 +99,7 @@ pub trait TextFiles {
         ensures err { IsErrOf result TextFault.Source → IsUnreadable (content self.now path.now) };
 }
 
-/// Those of the system. It tells nothing of them.
+/// The files of the system. Of what stands in them nothing is told.
 impl<R: Files> TextFiles for R {
     ghost content = { λ _ _. untold };
 

@@ -65,10 +65,14 @@ fn program<'a>(alloc: Global) -> Result<Command<'a>, AllocError>
 
 /// What `clap` finds in the words, of which the first is the program's name.
 pub fn matches_of<'a, T: AsStr>(alloc: Global, words: &'a [T]) -> Result<ArgMatches<'a>, Error>
-    ensures session { AsksSession (map T.text words.entry.now) → IfOk result (λ m. subcommand_name_of m ≡ Some (codes "session")) }
-    ensures memory { AsksSession (map T.text words.entry.now) → IfErr result (λ e. kind_of e ≡ OutOfMemory) }
-    ensures found { IfOk result (λ m. subcommand_rows_of m ≡ subcommand_of program_app (map T.text words.entry.now)) }
-    ensures taken { takes program_app (map T.text words.entry.now) ≡ true → IfErr result (λ e. kind_of e ≡ OutOfMemory) }
+    ensures session { AsksSession (map T.text words.entry.now)
+        → IfOk result (λ m. subcommand_name_of m ≡ Some (codes "session")) }
+    ensures memory { AsksSession (map T.text words.entry.now)
+        → IfErr result (λ e. kind_of e ≡ OutOfMemory) }
+    ensures found { IfOk result (λ m.
+        subcommand_rows_of m ≡ subcommand_of program_app (map T.text words.entry.now)) }
+    ensures taken { takes program_app (map T.text words.entry.now) ≡ true
+        → IfErr result (λ e. kind_of e ≡ OutOfMemory) }
 {
     program(alloc)?.try_get_matches_from(words)
 }

@@ -2,10 +2,9 @@
 
 ghost use Rattle.std.specs.Prelude.{◌≡◌, ◌<◌, ◌↔◌, ◌∷◌, ◌++◌, ℕ, decimal, codes, IsTrue, Some, IfSome, IfNone};
 ghost use Rattle.std.specs.List.{list_all};
-ghost use Rattle.cil_store_specs.specs.Script as spec;
-ghost use Rattle.cil_store_specs.specs.Script.{is_shown as shown_byte, HasGoodWords, IsGoodName, line_of};
+ghost use Rattle.cil_store_specs.specs.Script.{is_shown as shown_byte, IsGoodName, line_of};
 ghost use Rattle.cil_store_specs.proofs.WordLemmas.{is_no_space};
-ghost use Rattle.cil_program.specs.Command.{IsLine, IsNoQuestion, question_asked};
+ghost use Rattle.cil_program.specs.Command.{IsLine, IsNoCommandLine, IsNoQuestion, question_asked};
 ghost use Rattle.cil_program.specs.declared.script.command.ScriptLine.TheVariants.{Whole};
 
 use cil_store::Edit;
@@ -123,7 +122,7 @@ fn is_name(word: &[u8]) -> bool
 /// What the line of an install asks for, by what stands behind its first word.
 fn install<'a>(rest: &'a [u8]) -> Option<ScriptLine<'a>>
     ensures some { IfSome result (λ asked. IsLine asked (codes "install" ++ 32 ∷ rest.now)) }
-    ensures none { IfNone result ((command : spec.Command) → HasGoodWords command → codes "install" ++ 32 ∷ rest.now ≡ line_of command → ⊥) }
+    ensures none { IfNone result (IsNoCommandLine (codes "install" ++ 32 ∷ rest.now)) }
 {
     let Some((name, numbers)) = split_word(rest) else {
         return None;
@@ -150,7 +149,7 @@ fn install<'a>(rest: &'a [u8]) -> Option<ScriptLine<'a>>
 /// The same for a removal.
 fn remove<'a>(rest: &'a [u8]) -> Option<ScriptLine<'a>>
     ensures some { IfSome result (λ asked. IsLine asked (codes "remove" ++ 32 ∷ rest.now)) }
-    ensures none { IfNone result ((command : spec.Command) → HasGoodWords command → codes "remove" ++ 32 ∷ rest.now ≡ line_of command → ⊥) }
+    ensures none { IfNone result (IsNoCommandLine (codes "remove" ++ 32 ∷ rest.now)) }
 {
     let Some((name, second)) = split_word(rest) else {
         return None;
@@ -167,7 +166,7 @@ fn remove<'a>(rest: &'a [u8]) -> Option<ScriptLine<'a>>
 /// The same for the enabling of a name.
 fn enable<'a>(rest: &'a [u8]) -> Option<ScriptLine<'a>>
     ensures some { IfSome result (λ asked. IsLine asked (codes "enable" ++ 32 ∷ rest.now)) }
-    ensures none { IfNone result ((command : spec.Command) → HasGoodWords command → codes "enable" ++ 32 ∷ rest.now ≡ line_of command → ⊥) }
+    ensures none { IfNone result (IsNoCommandLine (codes "enable" ++ 32 ∷ rest.now)) }
 {
     if !is_name(rest) {
         return None;
@@ -178,7 +177,7 @@ fn enable<'a>(rest: &'a [u8]) -> Option<ScriptLine<'a>>
 /// And for its disabling.
 fn disable<'a>(rest: &'a [u8]) -> Option<ScriptLine<'a>>
     ensures some { IfSome result (λ asked. IsLine asked (codes "disable" ++ 32 ∷ rest.now)) }
-    ensures none { IfNone result ((command : spec.Command) → HasGoodWords command → codes "disable" ++ 32 ∷ rest.now ≡ line_of command → ⊥) }
+    ensures none { IfNone result (IsNoCommandLine (codes "disable" ++ 32 ∷ rest.now)) }
 {
     if !is_name(rest) {
         return None;
@@ -190,7 +189,7 @@ fn disable<'a>(rest: &'a [u8]) -> Option<ScriptLine<'a>>
 fn edit<'a>(first: &'a [u8], rest: &'a [u8]) -> Option<ScriptLine<'a>>
     requires { IsTrue (list_all is_no_space first.now) }
     ensures some { IfSome result (λ asked. IsLine asked (first.now ++ 32 ∷ rest.now)) }
-    ensures none { IfNone result ((command : spec.Command) → HasGoodWords command → first.now ++ 32 ∷ rest.now ≡ line_of command → ⊥) }
+    ensures none { IfNone result (IsNoCommandLine (first.now ++ 32 ∷ rest.now)) }
 {
     if is_word(first, b"install") {
         return install(rest);
@@ -234,7 +233,7 @@ fn word_question(word: &[u8]) -> Option<Question>
 fn word_command(word: &[u8]) -> Option<Command<'_>>
     requires { IsTrue (list_all is_no_space word.now) }
     ensures some { IfSome result (λ asked. IsLine (Whole asked) word.now) }
-    ensures none { IfNone result ((command : spec.Command) → HasGoodWords command → word.now ≡ line_of command → ⊥) }
+    ensures none { IfNone result (IsNoCommandLine word.now) }
 {
     if is_word(word, b"begin") {
         return Some(Command::Begin);
@@ -251,7 +250,7 @@ fn word_command(word: &[u8]) -> Option<Command<'_>>
 /// What a line asks for; none where it is no command.
 pub fn script_line<'a>(line: &'a [u8]) -> Option<ScriptLine<'a>>
     ensures some { IfSome result (λ asked. IsLine asked line.now) }
-    ensures none { IfNone result ((command : spec.Command) → HasGoodWords command → line.now ≡ line_of command → ⊥) }
+    ensures none { IfNone result (IsNoCommandLine line.now) }
 {
     match split_word(line) {
         Some((first, rest)) => edit(first, rest),

@@ -13,7 +13,7 @@ use std::marker::Model;
 /// The greatest number of edits of a batch.
 const GREATEST_EDITS: usize = 8192;
 
-/// The greatest number of bytes of all texts of a batch.
+/// The greatest number of bytes that are counted of all texts of a batch.
 const GREATEST_BYTES: u64 = 67_108_864;
 
 /// Edits within the limits of a batch.
@@ -34,7 +34,8 @@ impl<A: Allocator> Model for EditList<A> {
 
     ghost view = { λ l. map held_edit l.edits.items };
 
-    ghost invariant = { λ l. (length l.edits.items ≤ 8192) × (l.bytes ≤ 67108864) × (l.bytes ≡ sum_by held_bytes (map held_edit l.edits.items)) };
+    ghost invariant = { λ l. (length l.edits.items ≤ 8192) × (l.bytes ≤ 67108864)
+        × (l.bytes ≡ sum_by held_bytes (map held_edit l.edits.items)) };
 }
 
 impl<A: Allocator> EditList<A> {

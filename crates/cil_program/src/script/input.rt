@@ -83,6 +83,7 @@ impl Input {
         self.line_feeds
     }
 
+    /// Whether nothing is held back.
     pub fn is_empty(&self) -> bool
         ensures { IsTrue result ↔ (self.now.bytes ≡ []) }
     {
@@ -108,7 +109,8 @@ impl Input {
         requires empty { self.old.bytes ≡ [] }
         requires counted { self.old.line_feeds ≤ (S.account source.old).count }
         ensures more { IfOk result (λ more. IsTrue more → self.new.bytes ≢ []) }
-        ensures none { IfOk result (λ more. more ≡ false → (self.new.bytes ≡ []) × HasEnded (S.account source.old) (S.account source.new)) }
+        ensures none { IfOk result (λ more. more ≡ false → (self.new.bytes ≡ [])
+            × HasEnded (S.account source.old) (S.account source.new)) }
         ensures gives { IfOk result (λ _. Gives (S.account source.old) (S.account source.new) self.new.bytes) }
         ensures small { IfOk result (λ _. (S.account source.new).count < 2 ^ 64) }
         ensures line_feeds { self.new.line_feeds ≡ self.old.line_feeds }
@@ -136,8 +138,10 @@ impl Input {
     /// The next byte; none where the source told its end.
     fn next<S: Source>(&mut self, source: &mut S) -> Result<Option<u8>, SourceFault>
         requires { Fits (S.account source.old).count self.old }
-        ensures byte { IfOk result (λ r. IfSome r (λ b. HasRead (S.account source.old) (S.account source.new) self.old self.new (b ∷ []))) }
-        ensures end { IfOk result (λ r. IfNone r (HasRead (S.account source.old) (S.account source.new) self.old self.new []
+        ensures byte { IfOk result (λ r. IfSome r (λ b.
+            HasRead (S.account source.old) (S.account source.new) self.old self.new (b ∷ []))) }
+        ensures end { IfOk result (λ r. IfNone r (
+            HasRead (S.account source.old) (S.account source.new) self.old self.new []
             × HasEnded (S.account source.old) (S.account source.new) × (self.new.bytes ≡ []))) }
         ensures err { OnErr result (HasStopped (S.account source.old) (S.account source.new)
             self.old self.new []) }
@@ -150,14 +154,15 @@ impl Input {
         Ok(Some(self.pop()))
     }
 
-    /// Reads a line, up to its line feed.
+    /// Reads a line: up to its line feed, to the end of the source, or until it is longer than a line may be. Says which.
     pub fn read_line<S: Source>(
         &mut self,
         source: &mut S,
         line: &mut Line,
     ) -> Result<LineEnd, SourceFault>
         requires counted { Fits (S.account source.old).count self.old }
-        ensures read { IfOk result (λ end. (read : List ℕ) × HasRead (S.account source.old) (S.account source.new) self.old self.new read
+        ensures read { IfOk result (λ end. (read : List ℕ)
+            × HasRead (S.account source.old) (S.account source.new) self.old self.new read
             × EndsLine end line.new read (has_ended (S.account source.new)) self.new.bytes) }
         ensures stays { IsTrue (list_all stays line.new) }
         ensures ended { IfOk result (λ end. end ≡ LastByte → HasEnded (S.account source.old) (S.account source.new)) }
@@ -186,7 +191,8 @@ impl Input {
         requires { Fits (S.account source.old).count self.old }
         ensures read { IfOk result (λ _. HasRead (S.account source.old) (S.account source.new) self.old self.new []) }
         ensures more { IfOk result (λ more. IsTrue more → self.new.bytes ≢ []) }
-        ensures none { IfOk result (λ more. more ≡ false → IsTrue (has_ended (S.account source.new)) × (self.new.bytes ≡ [])) }
+        ensures none { IfOk result (λ more. more ≡ false →
+            IsTrue (has_ended (S.account source.new)) × (self.new.bytes ≡ [])) }
         ensures err { OnErr result (HasStopped (S.account source.old) (S.account source.new)
             self.old self.new []) }
         ensures failed { OnErr result (HasFailed (S.account source.old).failures (S.account source.new).failures) }
@@ -223,7 +229,8 @@ impl Input {
     fn advance(&mut self, len: usize)
         requires { len ≤ length self.old.bytes }
         ensures bytes { self.new.bytes ≡ drop len self.old.bytes }
-        ensures line_feeds { self.new.line_feeds ≡ self.old.line_feeds + count_by is_line_feed (take len self.old.bytes) }
+        ensures line_feeds { self.new.line_feeds ≡
+            self.old.line_feeds + count_by is_line_feed (take len self.old.bytes) }
     {
         let from = self.start;
         let passed = &self.bytes[from..from + len];
@@ -241,8 +248,10 @@ impl Input {
     ) -> Result<bool, SourceFault>
         requires counted { Fits (S.account source.old).count self.old }
         requires room { vec_len text.old + len ≤ vec_capacity text.old }
-        ensures read { IfOk result (λ whole. (read : List ℕ) × HasRead (S.account source.old) (S.account source.new) self.old self.new read
-            × (text.new.items ≡ text.old.items ++ read) × IsText whole len read (has_ended (S.account source.new)) self.new.bytes) }
+        ensures read { IfOk result (λ whole. (read : List ℕ)
+            × HasRead (S.account source.old) (S.account source.new) self.old self.new read
+            × (text.new.items ≡ text.old.items ++ read)
+            × IsText whole len read (has_ended (S.account source.new)) self.new.bytes) }
         ensures err { OnErr result ((read : List ℕ) ×
             HasStopped (S.account source.old) (S.account source.new) self.old self.new read
             × (text.new.items ≡ text.old.items ++ read) × (length read < len)) }
@@ -266,7 +275,8 @@ impl Input {
     /// Reads so many bytes and leaves them aside. Says whether all were there.
     fn skip_bytes<S: Source>(&mut self, source: &mut S, len: usize) -> Result<bool, SourceFault>
         requires { Fits (S.account source.old).count self.old }
-        ensures read { IfOk result (λ whole. (read : List ℕ) × HasRead (S.account source.old) (S.account source.new) self.old self.new read
+        ensures read { IfOk result (λ whole. (read : List ℕ)
+            × HasRead (S.account source.old) (S.account source.new) self.old self.new read
             × IsText whole len read (has_ended (S.account source.new)) self.new.bytes) }
         ensures err { OnErr result ((read : List ℕ) ×
             HasStopped (S.account source.old) (S.account source.new) self.old self.new read
@@ -289,8 +299,10 @@ impl Input {
     /// Reads a byte, and says whether it was a line feed.
     fn take_line_feed<S: Source>(&mut self, source: &mut S) -> Result<bool, SourceFault>
         requires { Fits (S.account source.old).count self.old }
-        ensures yes { IfOk result (λ is. IsTrue is → HasRead (S.account source.old) (S.account source.new) self.old self.new (10 ∷ [])) }
-        ensures no { IfOk result (λ is. is ≡ false → (read : List ℕ) × HasRead (S.account source.old) (S.account source.new) self.old self.new read
+        ensures yes { IfOk result (λ is. IsTrue is →
+            HasRead (S.account source.old) (S.account source.new) self.old self.new (10 ∷ [])) }
+        ensures no { IfOk result (λ is. is ≡ false → (read : List ℕ)
+            × HasRead (S.account source.old) (S.account source.new) self.old self.new read
             × IsOther read (has_ended (S.account source.new)) self.new.bytes) }
         ensures err { OnErr result (HasStopped (S.account source.old) (S.account source.new)
             self.old self.new []) }
@@ -313,8 +325,10 @@ impl Input {
     ) -> Result<bool, SourceFault>
         requires counted { Fits (S.account source.old).count self.old }
         requires room { vec_len text.old + len ≤ vec_capacity text.old }
-        ensures read { IfOk result (λ whole. (read part : List ℕ) × HasRead (S.account source.old) (S.account source.new) self.old self.new read
-            × (text.new.items ≡ text.old.items ++ part) × IsWholeText whole len part read (has_ended (S.account source.new)) self.new.bytes) }
+        ensures read { IfOk result (λ whole. (read part : List ℕ)
+            × HasRead (S.account source.old) (S.account source.new) self.old self.new read
+            × (text.new.items ≡ text.old.items ++ part)
+            × IsWholeText whole len part read (has_ended (S.account source.new)) self.new.bytes) }
         ensures err { OnErr result ((read : List ℕ) ×
             HasStopped (S.account source.old) (S.account source.new) self.old self.new read
             × (length read ≤ len)) }
@@ -338,7 +352,8 @@ impl Input {
     ) -> Result<bool, SourceFault>
         requires counted { Fits (S.account source.old).count self.old }
         requires room { vec_len text.old + min len most ≤ vec_capacity text.old }
-        ensures read { IfOk result (λ whole. (read part : List ℕ) × HasRead (S.account source.old) (S.account source.new) self.old self.new read
+        ensures read { IfOk result (λ whole. (read part : List ℕ)
+            × HasRead (S.account source.old) (S.account source.new) self.old self.new read
             × IsWholeText whole len part read (has_ended (S.account source.new)) self.new.bytes
             × (whole ≡ true → text.new.items ≡ text.old.items ++ take most part)) }
         ensures err { OnErr result ((read : List ℕ) ×
@@ -357,7 +372,8 @@ impl Input {
     /// Reads the text of an install and its line feed, and leaves them aside. Says whether all were there.
     pub fn skip_text<S: Source>(&mut self, source: &mut S, len: usize) -> Result<bool, SourceFault>
         requires { Fits (S.account source.old).count self.old }
-        ensures read { IfOk result (λ whole. (read part : List ℕ) × HasRead (S.account source.old) (S.account source.new) self.old self.new read
+        ensures read { IfOk result (λ whole. (read part : List ℕ)
+            × HasRead (S.account source.old) (S.account source.new) self.old self.new read
             × IsWholeText whole len part read (has_ended (S.account source.new)) self.new.bytes) }
         ensures err { OnErr result ((read : List ℕ) ×
             HasStopped (S.account source.old) (S.account source.new) self.old self.new read

@@ -1,17 +1,20 @@
 //! Laws of the definitions, which make the contract of a session exact. They have no code.
 
-ghost use Rattle.std.specs.Prelude.{◌≡◌, ◌⊎◌, ◌++◌, ℕ, Bool, true, List};
-ghost use Rattle.std.specs.List.{AllByRecursion};
+ghost use Rattle.std.specs.Prelude.{◌≡◌, ◌++◌, ℕ, Bool, true, List};
 ghost use Rattle.cil_specs.specs.Meaning.{Meaning};
 ghost use Rattle.cil_store_specs.specs.Limits.{IsWithinLimits, HasGoodTexts};
-ghost use Rattle.cil_store_specs.specs.Next.{for_memory, IsMeaningOf};
-ghost use Rattle.cil_store_specs.specs.Script.{Command, End, Commands, refusal_line, dump_text};
-ghost use Rattle.cil_store_specs.specs.Session.{BeginsWith, IsSession, Status, all_accepted, some_refused};
+ghost use Rattle.cil_store_specs.specs.Next.{IsMeaningOf};
+ghost use Rattle.cil_store_specs.specs.Script.{Command, End, Commands, dump_text};
+ghost use Rattle.cil_store_specs.specs.Session.{BeginsWith, IsSession, Status};
 ghost use Rattle.cil_store_specs.specs.Store.{Store, IsStore, empty};
+ghost use Rattle.cil_store.specs.Laws.{IsTakenBack};
+ghost use Rattle.cil_program.specs.Laws.{NeverForMemory, SessionsKeep};
 
 /// A script has at most one list of commands, and at most one end.
 pub fn one_script()
-    ensures { (script : List ℕ) (commands others : List Command) (end last : End) → Commands script commands end → Commands script others last → (commands ≡ others) × (end ≡ last) }
+    ensures { (script : List ℕ) (commands others : List Command) (end last : End) →
+        Commands script commands end → Commands script others last
+        → (commands ≡ others) × (end ≡ last) }
 {}
 
 /// The commands with which a script begins are the first of its commands.
@@ -24,30 +27,30 @@ pub fn begins_with_its_first()
 /// What a store has before a session it has after it: it is in order, it is within the limits, its texts spell modules, and it means
 /// something.
 pub fn sessions_keep_stores()
-    ensures ordered { (given : List ℕ) (ended : Bool) (old new : Store) (written : List ℕ) (status : Status) → IsStore old → IsSession given ended old new written status
-        → IsStore new }
-    ensures within_limits { (given : List ℕ) (ended : Bool) (old new : Store) (written : List ℕ) (status : Status) → IsWithinLimits old
-        → IsSession given ended old new written status → IsWithinLimits new }
-    ensures good_texts { (given : List ℕ) (ended : Bool) (old new : Store) (written : List ℕ) (status : Status) → HasGoodTexts old
-        → IsSession given ended old new written status → HasGoodTexts new }
-    ensures meaning { (given : List ℕ) (ended : Bool) (old new : Store) (written : List ℕ) (status : Status) (meaning : Meaning) → IsMeaningOf old meaning
+    ensures ordered { SessionsKeep IsStore }
+    ensures within_limits { SessionsKeep IsWithinLimits }
+    ensures good_texts { SessionsKeep HasGoodTexts }
+    ensures meaning { (given : List ℕ) (ended : Bool) (old new : Store) (written : List ℕ) →
+        (status : Status) (meaning : Meaning) → IsMeaningOf old meaning
         → IsSession given ended old new written status → (other : Meaning) × IsMeaningOf new other }
 {}
 
 /// The dump of what a session leaves that starts where no module stands is taken back: a session over it, which starts so too, leaves
 /// the same store; or else memory runs out, each refusal says so, and no module stands there still.
 pub fn sessions_are_taken_back()
-    ensures { (given written text : List ℕ) (ended : Bool) (store new : Store) (status last : Status) → IsSession given ended empty store written status
+    ensures { (given written text : List ℕ) (ended : Bool) (store new : Store) →
+        (status last : Status) → IsSession given ended empty store written status
         → (session : IsSession (dump_text store) true empty new text last)
-        → ((last ≡ all_accepted) × (new ≡ store))
-        ⊎ ((last ≡ some_refused) × (new ≡ empty) × AllByRecursion (λ a. a.refuses ≡ true → a.bytes ≡ refusal_line for_memory) session.answers) }
+        → IsTakenBack store new last session.answers }
 {}
 
 /// Two sessions over the same bytes, from a store in order, in which no answer is that memory ran out, agree in what is written, in the
 /// store and in the status.
 pub fn one_session()
-    ensures { (given : List ℕ) (ended also : Bool) (old new other : Store) (written text : List ℕ) (status last : Status) → IsStore old
-        → (session : IsSession given ended old new written status) → (second : IsSession given also old other text last)
-        → AllByRecursion (λ a. a.bytes ≡ refusal_line for_memory → ⊥) session.answers → AllByRecursion (λ a. a.bytes ≡ refusal_line for_memory → ⊥) second.answers
+    ensures { (given : List ℕ) (ended also : Bool) (old new other : Store) →
+        (written text : List ℕ) (status last : Status) → IsStore old
+        → (session : IsSession given ended old new written status)
+        → (second : IsSession given also old other text last)
+        → NeverForMemory session.answers → NeverForMemory second.answers
         → (written ≡ text) × (new ≡ other) × (status ≡ last) }
 {}

@@ -14,7 +14,7 @@ use std::alloc::Allocator;
 ///
 /// # Errors
 ///
-/// Those of a session. `Read` would take a script of 2^64 bytes.
+/// Those of a session. No clause rules `Read` out, but memory fails as a source only behind 2^64 - 1 bytes.
 pub fn answer_script<W: Sink, A: Allocator + Copy, C: Compiled<A>>(
     alloc: A,
     script: &[u8],

@@ -218,7 +218,7 @@ pub fn write_dump<W: Sink, A: Allocator>(sink: &mut W, store: &Store<A>) -> Resu
     write_end(sink, store.len() as u128 + store.disabled_len() as u128 + 2)
 }
 
-/// Writes that a script is none from the line behind so many line feeds.
+/// Writes that a script stops at the line behind so many line feeds.
 pub fn write_script_line<W: Sink>(sink: &mut W, line_feeds: u64) -> Result<(), SinkFault>
     ensures { Writes W.taken W.failures sink.old sink.new
         (last_line (stops (1 + line_feeds))) result }

@@ -604,11 +604,13 @@ fn answer_line<S: Source, W: Sink, A: Allocator + Copy, C: Compiled<A>>(
 ) -> Result<Outcome, SessionFault>
     requires fits { Fits (S.account source.old).count input.old }
     requires last { line.end ≡ LastByte → IsTrue (has_ended (S.account source.old)) × (input.old.bytes ≡ []) }
-    ensures ok { IfOk result (λ outcome. IsOutcome outcome (1 + line.entry.line_feeds) line.entry.end line.entry.bytes.now
+    ensures ok { IfOk result (λ outcome. IsOutcome outcome
+        (1 + line.entry.line_feeds) line.entry.end line.entry.bytes.now
         (moment (S.account source.old) input.old) (moment (S.account source.new) input.new)
         (progress (C.store engine.old) batch.old (W.taken sink.old))
         (progress (C.store engine.new) batch.new (W.taken sink.new))) }
-    ensures err { IfErr result (λ fault. IsLineCut fault (1 + line.entry.line_feeds) line.entry.end line.entry.bytes.now
+    ensures err { IfErr result (λ fault. IsLineCut fault
+        (1 + line.entry.line_feeds) line.entry.end line.entry.bytes.now
         (moment (S.account source.old) input.old) (moment (S.account source.new) input.new)
         (progress (C.store engine.old) batch.old (W.taken sink.old))
         (progress (C.store engine.new) batch.new (W.taken sink.new))) }
@@ -697,7 +699,8 @@ fn end_session<W: Sink, A: Allocator + Copy>(
     status: Status,
 ) -> Result<Status, SinkFault>
     ensures ok { IfOk result (λ last. EndsSo batch.now status last (W.taken sink.old) (W.taken sink.new)) }
-    ensures err { OnErr result (GainsFront (W.taken sink.old) (W.taken sink.new) (last_line (last_end ends batch.now))) }
+    ensures err { OnErr result (GainsFront (W.taken sink.old) (W.taken sink.new)
+        (last_line (last_end ends batch.now))) }
     ensures failed { OnErr result (HasFailed (W.failures sink.old) (W.failures sink.new)) }
     ensures counted { W.failures sink.old ≤ W.failures sink.new }
 {

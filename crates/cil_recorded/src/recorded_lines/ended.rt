@@ -21,8 +21,9 @@ fn mark_counted<A: Allocator>(steps: &mut Vec<Step, A>, i: usize, line: usize)
 }
 
 impl<A: Allocator> RecordedLines<A> {
-    /// Keeps the steps, so that they can't be taken back any more, and exchanges their list for another, which is emptied. Those that let
-    /// targets go stay in the list that is handed out: only their lines may be left without counters. It takes no memory.
+    /// Keeps the steps, so that they can't be taken back any more, and exchanges their list for another, which is emptied. Those that took
+    /// the last counters from a word stay in the list that is handed out: only their lines may be left without counters. It takes no memory,
+    /// and looks at no line.
     pub fn settle_into(&mut self, steps: &mut Vec<Step, A>)
         ensures falls { steps.new.items ≡ falls self.old.log }
         ensures lines { lines_in self.new ≡ lines_in self.old }
@@ -32,7 +33,7 @@ impl<A: Allocator> RecordedLines<A> {
     {
         mem::swap(&mut self.log, steps);
         self.log.clear();
-        steps.retain(|step| !step.up && step.turned != 0);
+        steps.retain(|step| step.clears);
     }
 
     /// Takes the steps back, from the last to the first, and exchanges their list for another, which is emptied. It takes no memory.

@@ -1,32 +1,72 @@
-use Rattle.std.proofs.Common.{◌≡◌, ◌∙◌, map, position, sym, ap, subst, arith}
-use Rattle.std.proofs.lemmas.Option.{same_Some}
+use Rattle.std.proofs.Common.{◌≡◌, ◌∙◌, true, false, true≢false, Option, is_some, refl, ℕ, ◌+◌, length, map, position, slice_get, None, Some, sym, ap, subst, arith}
+use Rattle.std.proofs.lemmas.List.{length-map}
+use Rattle.std.proofs.lemmas.Option.{same_Some, slice_get-get_or}
 use Rattle.cil_specs.specs.Rule.{IsSameSet}
 use Rattle.cil_resolve.specs.Sets.{sets_in}
-use Rattle.cil_matching.specs.Matching.{ArePlaces}
+use Rattle.cil_matching.specs.Passed.{ArePassed}
 use Rattle.cil_matching.specs.Spot.{Spot, set_spot, same_spot, spot_of}
-use Rattle.cil_matching.proofs.MatchedLemmas.{places-none, places-next}
+use Rattle.cil_matching.proofs.ApartLemmas.{sets-agree, apart-sets}
+use Rattle.cil_matching.proofs.FilledLemmas.{AreFilled, filled-set, filled-kept, filled-all, open-apart}
+use Rattle.cil_matching.proofs.MatchedLemmas.{right-below, right-apart}
+use Rattle.cil_matching.proofs.PassedLemmas.{passed-place}
+use Rattle.cil_matching.proofs.set_matching.set_places.Goals.{then-is_none, else-is_none}
 use Rattle.cil_matching.proofs.set_matching.set_places.Goals as goal
 
-pub loop-i-init : goal.loop-i-init
-loop-i-init g c = record {
-  places_are = places-none IsSameSet (sets_in c.args.old.now) (sets_in c.args.new.now) c.in_ok-places.places.items c.in_ok-places.ensures.items;
-  known = tt;
-}
+pub passed_over-requires-clause-below : goal.passed_over-requires-clause-below
+passed_over-requires-clause-below g c i j at =
+    right-below IsSameSet (sets_in c.args.old.now) (sets_in c.args.new.now) (length (sets_in c.args.old.now)) c.in_ok-places.places.items c.in_ok-places.ensures i j
+    (ap (λ l. slice_get l i) (sym c.deref.ensures.value) ∙ at)
 
-pub same-requires-clause-found : goal.same-requires-clause-found
-same-requires-clause-found g c spot at =
-    let same : spot_of c.position.result ≡ spot = same_Some (spot_of c.position.result) spot (sym c.position.ensures ∙ at) in
-    c.in_ok-found.ensures.found ∙ ap (λ (p : Spot). position (same_spot p) (map set_spot (sets_in c.args.new.now))) same
+pub passed_over-requires-clause-apart : goal.passed_over-requires-clause-apart
+passed_over-requires-clause-apart g c i k j first second =
+    let olds = sets_in c.args.old.now in
+    let news = sets_in c.args.new.now in
+    right-apart IsSameSet olds news set_spot sets-agree (length olds) c.in_ok-places.places.items (apart-sets olds c.resolved_sets_are_apart.ensures.apart) c.in_ok-places.ensures i k j
+    (ap (λ l. slice_get l i) (sym c.deref.ensures.value) ∙ first) (ap (λ l. slice_get l k) (sym c.deref.ensures.value) ∙ second)
+
+none-from : (o : Option ℕ) → is_some o ≡ false → o ≡ None
+none-from None is = refl
+none-from (Some k) is = absurd (true≢false is)
+
+some-from : (o : Option ℕ) → is_some o ≡ true → (k : ℕ) × (o ≡ Some k)
+some-from None is = absurd (true≢false (sym is))
+some-from (Some k) is = (k, refl)
 
 pub loop-i-preserved : goal.loop-i-preserved
-loop-i-preserved g c = record {
-  places_are = places-next IsSameSet (sets_in c.args.old.now) (sets_in c.args.new.now) c.loop-i.i c.loop-i.places.items c.push.new.self.items c.same.result c.same.ensures c.in_ok-push.ensures.items c.loop-i.invariant.places_are;
-  known = c.find.ensures.known;
-}
+loop-i-preserved g c =
+    let olds = sets_in c.args.old.now in
+    let news = sets_in c.args.new.now in
+    let first = c.in_ok-places.places.items in
+    let places = c.loop-i.places.items in
+    let i = c.loop-i.i in
+    let x = c.index.result.now in
+    let old_apart = apart-sets olds c.resolved_sets_are_apart.ensures.apart in
+    let new_apart = apart-sets news c.resolved_sets_are_apart-2.ensures.apart in
+    let many = c.sets_len-i-end.ensures in
+    let test = c.loop-i-test.true in
+    let long = c.loop-i.invariant.are.long in
+    let at : slice_get places i ≡ Some x = slice_get-get_or places i x (omega (arith, many, test, long)) ∙ ap Some (sym c.index.ensures) in
+    elim c.if-is_none.branch [
+      | then-is_none w ↦
+          let p = spot_of w.position.result in
+          let lacks : slice_get places i ≡ Some None = at ∙ ap Some (none-from x w.if-is_none.ensures) in
+          let passed = subst (λ l. ArePassed (map set_spot news) l (length news) c.in_ok-passed.passed.places.items c.in_ok-passed.passed.positions) c.deref.ensures.value c.in_ok-passed.ensures in
+          let never = open-apart IsSameSet olds news set_spot sets-agree i first places (length olds) p old_apart c.in_ok-places.ensures lacks c.loop-i.invariant.kept w.position.ensures in
+          let place =
+          w.find.ensures
+          ∙ passed-place (map set_spot news) first new_apart (length news) c.in_ok-passed.passed.places.items c.in_ok-passed.passed.positions passed p (length-map news set_spot) never in
+          let told = λ (spot : Spot) (there : slice_get (map set_spot olds) i ≡ Some spot).
+          subst (λ q. w.find.result ≡ position (same_spot q) (map set_spot news)) (same_Some p spot (sym w.position.ensures ∙ there)) place in
+          subst (AreFilled IsSameSet olds news (i + 1) first) (λ k. (sym w.places-is k).items)
+          (filled-set IsSameSet olds news i first places w.same.result lacks w.same.ensures.right (λ j same. w.same.ensures.certain j same told) c.loop-i.invariant)
+      | else-is_none w ↦
+          let (k, is) = some-from x w.if-is_none.ensures in
+          subst (AreFilled IsSameSet olds news (i + 1) first) (λ m. (sym w.places-is m).items)
+          (filled-kept IsSameSet olds news set_spot sets-agree i k first places new_apart (at ∙ ap Some is) c.loop-i.invariant)
+    ]
 
 pub returns : goal.returns
 returns g c =
     let many = c.sets_len-i-end.ensures in
     let past = c.loop-i-test.false in
-    let end = c.loop-i.auto.i-end in
-    subst (λ n. ArePlaces IsSameSet (sets_in c.args.old.now) (sets_in c.args.new.now) n c.loop-i.places.items) (omega (arith, many, past, end)) c.loop-i.invariant.places_are
+    filled-all IsSameSet (sets_in c.args.old.now) (sets_in c.args.new.now) c.loop-i.i c.in_ok-places.places.items c.loop-i.places.items (omega (arith, many, past)) c.loop-i.invariant

@@ -5,4 +5,4 @@ pub loop-mark-preserved : goal.loop-mark-preserved
 loop-mark-preserved c =
     below_more _ _
     (λ k h. let ne : k ≢ c.loop-mark.mark-index = omega arith in rw get_or-set_other (c.loop-mark.invariant k h))
-    (let lt : c.loop-mark.mark-index < length c.loop-mark.marks = omega arith in rw get_or-set_same)
+    (let lt : c.loop-mark.mark-index < length c.loop-mark.marks = omega arith in rw get_or-set_same c.none.ensures.is)

@@ -1,4 +1,4 @@
-use Rattle.std.proofs.Common.{◌∙◌, ◌+◌, ◌/◌, ◌<◌, ◌≤◌, ℕ, length, refl, sym, inl, inr, arith}
+use Rattle.std.proofs.Common.{◌∙◌, ◌+◌, ◌/◌, ◌<◌, ◌≤◌, ℕ, length, slice_index, refl, sym, inl, inr, arith}
 use Rattle.std.proofs.lemmas.Bool.{cases_lt}
 use Rattle.cil_member_rows.specs.Rows.{count_before, count_now}
 use Rattle.cil_resolve.specs.Meter.{evaluations_in}
@@ -11,16 +11,16 @@ use Rattle.cil_member_updates.proofs.GivenLemmas.{tell-same}
 use Rattle.cil_member_updates.proofs.MovedLemmas.{moved-from, moved-more, moved-all, moved-other}
 use Rattle.cil_member_updates.proofs.SideLemmas.{gave-mentioned, given-mentioned, given-past}
 use Rattle.cil_member_updates.proofs.RenewLemmas.{same-attribute}
-use Rattle.cil_member_updates.proofs.StayLemmas.{stay-gives, stay-unmoved}
+use Rattle.cil_member_updates.proofs.StayLemmas.{alike-outside, stay-gives, stay-unmoved}
 use Rattle.cil_member_updates.proofs.sets.move_set.Goals as goal
 
-pub move_word_unless_alike-requires-clause-was : goal.move_word_unless_alike-requires-clause-was
-move_word_unless_alike-requires-clause-was g c =
+pub move_word-requires-clause-was : goal.move_word-requires-clause-was
+move_word-requires-clause-was g c =
     let r = c.args.old.now.resolved.now in
     tell-same c.args.symbols.now (meaning_in r) (set_at r c.args.i) (count_before c.args.rows.now) (count_before c.loop-word.rows) c.requires.was (λ a t attribute at mentioned. c.loop-word.invariant.before a t)
 
-pub move_word_unless_alike-requires-clause-is : goal.move_word_unless_alike-requires-clause-is
-move_word_unless_alike-requires-clause-is g c =
+pub move_word-requires-clause-is : goal.move_word-requires-clause-is
+move_word-requires-clause-is g c =
     let p = c.args.old.now.resolved.now in
     let r = c.args.new.now.resolved.now in
     let order = c.resolved_sets_are_in_order.ensures.in_order in
@@ -30,8 +30,8 @@ move_word_unless_alike-requires-clause-is g c =
     (gave-mentioned c.args.symbols.now p r order c.args.i c.args.j c.requires.same c.requires.j_within a t attribute at mentioned
     ∙ sym (given-mentioned c.args.symbols.now r order c.args.j c.requires.j_within a t attribute at mentioned)))
 
-pub move_word_unless_alike-requires-clause-above : goal.move_word_unless_alike-requires-clause-above
-move_word_unless_alike-requires-clause-above g c a t here =
+pub move_word-requires-clause-above : goal.move_word-requires-clause-above
+move_word-requires-clause-above g c a t here =
     let same = c.loop-word.invariant.moved.behind a t (omega (arith, here)) in
     let above = c.requires.above a t in
     omega (arith, same, above)
@@ -46,7 +46,7 @@ loop-word-init g c =
     let r = set_at q c.args.j in
     let may = IsUnsettled symbols (meaning_in p) (meaning_in q) r in
     let must = IsMovedAt symbols (meaning_in p) s (meaning_in q) r in
-    let covers = λ (w : ℕ) (low : w < c.span-span.result.first). (let is = c.span-span.ensures.first w low in c.stays-stays.ensures is.0 w (c.requires.first w is.1)) in
+    let covers = λ (w : ℕ) (low : w < c.span-span.result.first). (let is = c.span-span.ensures.first w low in c.turned_words-turned.ensures w is.1 (alike-outside c.args.unlike (slice_index c.args.old.now.kept.now) (slice_index c.args.new.now.kept.now) c.requires.first c.requires.end w is.0)) in
     record {
       moved =
           moved-from (given symbols p c.args.i) (given symbols q c.args.j) c.span-span.result.first (count_now c.args.rows.now)
@@ -63,14 +63,14 @@ loop-word-preserved g c =
     let q = c.args.new.now.resolved.now in
     let may = IsUnsettled c.args.symbols.now (meaning_in p) (meaning_in q) (set_at q c.args.j) in
     let must = IsMovedAt c.args.symbols.now (meaning_in p) (set_at p c.args.i) (meaning_in q) (set_at q c.args.j) in
-    let step = c.in_ok-move_word_unless_alike.ensures in
+    let step = c.in_ok-move_word.ensures in
     record {
       moved =
-          moved-more (given c.args.symbols.now c.args.old.now.resolved.now c.args.i) (given c.args.symbols.now c.args.new.now.resolved.now c.args.j) c.loop-word.word (count_now c.args.rows.now) (count_now c.loop-word.rows) (count_now c.move_word_unless_alike.new.rows)
+          moved-more (given c.args.symbols.now c.args.old.now.resolved.now c.args.i) (given c.args.symbols.now c.args.new.now.resolved.now c.args.j) c.loop-word.word (count_now c.args.rows.now) (count_now c.loop-word.rows) (count_now c.move_word.new.rows)
           c.loop-word.invariant.moved step.now;
       before = λ a t. step.before a t ∙ c.loop-word.invariant.before a t;
       rows = step.rows ∙ c.loop-word.invariant.rows;
-      evaluations = words-next may must c.loop-word.word (evaluations_in c.args.meter.now) (evaluations_in c.loop-word.meter) (evaluations_in c.move_word_unless_alike.new.meter) c.loop-word.invariant.evaluations step.evaluations;
+      evaluations = words-next may must c.loop-word.word (evaluations_in c.args.meter.now) (evaluations_in c.loop-word.meter) (evaluations_in c.move_word.new.meter) c.loop-word.invariant.evaluations step.evaluations;
       adjustments = step.adjustments ∙ c.loop-word.invariant.adjustments;
     }
 
@@ -88,7 +88,7 @@ returns-clause-now g c =
     (λ a t past. elim (cases_lt (t / 64) (c.len.result / 64 + 1)) [
       | inl low ↦
           let is = c.span-span.ensures.end (t / 64) (omega (arith, past, end)) low in
-          stay-gives symbols (meaning_in p) (meaning_in q) s r (t / 64) (c.stays-stays.ensures is.0 (t / 64) (c.requires.end (t / 64) is.1)) (same-attribute s r c.requires.same) a t refl
+          stay-gives symbols (meaning_in p) (meaning_in q) s r (t / 64) (c.turned_words-turned.ensures (t / 64) is.1 (alike-outside c.args.unlike (slice_index c.args.old.now.kept.now) (slice_index c.args.new.now.kept.now) c.requires.first c.requires.end (t / 64) is.0)) (same-attribute s r c.requires.same) a t refl
       | inr high ↦
           let behind : length symbols ≤ t = omega (arith, high, len) in
           given-past symbols p c.args.i a t behind ∙ sym (given-past symbols q c.args.j a t behind)
@@ -111,6 +111,6 @@ returns-clause-evaluations g c =
       | inr past ↦
           let within = moved-within symbols (meaning_in p) (meaning_in q) s r t held in
           let is = c.span-span.ensures.end (t / 64) (omega (arith, past, end)) (omega (arith, within, len)) in
-          absurd (stay-unmoved symbols (meaning_in p) (meaning_in q) s r (t / 64) (c.stays-stays.ensures is.0 (t / 64) (c.requires.end (t / 64) is.1)) t refl held)
+          absurd (stay-unmoved symbols (meaning_in p) (meaning_in q) s r (t / 64) (c.turned_words-turned.ensures (t / 64) is.1 (alike-outside c.args.unlike (slice_index c.args.old.now.kept.now) (slice_index c.args.new.now.kept.now) c.requires.first c.requires.end (t / 64) is.0)) t refl held)
     ])
     c.loop-word.invariant.evaluations

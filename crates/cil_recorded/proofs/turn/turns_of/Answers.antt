@@ -8,7 +8,7 @@ use Rattle.cil_recorded.proofs.turn.turns_of.Goals as goal
 use Rattle.cil_recorded.proofs.turn.turns_of.Goals.{then-step-ne0+in_ok-turn_of+in_ok-push, else-step-ne0}
 
 abbrev none : Step
-none = record { line = 0; word = 0; mask = 0; turned = 0; up = false }
+none = record { line = 0; word = 0; mask = 0; turned = 0; up = false; clears = false }
 
 -- a step that turned nothing counts as nothing
 turned-nothing : (s : Step) (l t : ℕ) → s.turned ≡ 0 → turned_by s l t ≡ 0

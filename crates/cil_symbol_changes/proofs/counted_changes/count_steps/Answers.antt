@@ -10,7 +10,7 @@ pub loop-step-preserved : goal.loop-step-preserved
 loop-step-preserved c =
     let log = c.args.log.now in
     let i = c.loop-step.step-index in
-    let none : Step = record { line = 0; word = 0; mask = 0; turned = 0; up = false } in
+    let none : Step = record { line = 0; word = 0; mask = 0; turned = 0; up = false; clears = false } in
     let s = get_or log i none in
     let was = c.loop-step.invariant in
     elim c.if-step.branch [

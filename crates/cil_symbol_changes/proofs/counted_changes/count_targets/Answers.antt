@@ -1,4 +1,4 @@
-use Rattle.std.proofs.Common.{◌<◌, ◌^◌, ◌∙◌, ap, arith, count_ones}
+use Rattle.std.proofs.Common.{◌<◌, ◌^◌, arith, count_ones}
 use Rattle.std.proofs.lemmas.List.Elements.{All-more}
 use Rattle.std.proofs.lemmas.List.Sums.{sum_by_more}
 use Rattle.cil_recorded.specs.declared.recorded_lines.changes.Change.{Change}

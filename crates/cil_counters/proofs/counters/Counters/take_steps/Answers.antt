@@ -22,7 +22,7 @@ pub known-requires : goal.known-requires
 known-requires g c = (c.requires.now.symbols, c.requires.now.numbers)
 
 pub returns-in_err-update_members-clause-before : goal.returns-in_err-update_members-clause-before
-returns-in_err-update_members-clause-before g c =
+returns-in_err-update_members-clause-before g c logged =
     counted-alike c.args.old.now c.number.new.self.names c.update_members.new.self.names (member_rows.count_before c.number.new.self.rows) (member_rows.count_before c.update_members.new.self.rows)
     (access_tables.count_before c.number.new.self.tables) (access_tables.count_before c.update_members.new.self.tables) c.number.ensures.before c.update_members.ensures.names c.update_members.ensures.before
     (λ kind key t. ap (λ tables. access_tables.count_before tables kind key t) c.update_members.ensures.tables)
@@ -60,13 +60,19 @@ returns-clause-now g c =
     })
     c.update.ensures.now
 
+pub returns-clause-named : goal.returns-clause-named
+returns-clause-named g c =
+    on_ok_weaker c.update.result
+    (λ moved. (c.in_ok-old_numbering.old_numbering.symbols, subst (λ l. AreNumbersOf l c.in_ok-old_numbering.old_numbering.symbols c.args.old.now.names.items) (sym c.update_members.ensures.names) c.number.ensures.kept))
+    c.update.ensures.now
+
 pub returns-clause-before : goal.returns-clause-before
-returns-clause-before g c =
+returns-clause-before g c logged =
     let was = counted-alike c.args.old.now c.number.new.self.names c.update_members.new.self.names (member_rows.count_before c.number.new.self.rows) (member_rows.count_before c.update_members.new.self.rows)
     (access_tables.count_before c.number.new.self.tables) (access_tables.count_before c.update_members.new.self.tables) c.number.ensures.before c.update_members.ensures.names c.update_members.ensures.before
     (λ kind key t. ap (λ tables. access_tables.count_before tables kind key t) c.update_members.ensures.tables) in
     counted-alike c.args.old.now c.update_members.new.self.names c.update_members.new.self.names (member_rows.count_before c.update_members.new.self.rows) (member_rows.count_before c.update_members.new.self.rows)
-    (access_tables.count_before c.update_members.new.self.tables) (access_tables.count_before c.update.new.tables) was refl (λ a t. refl) c.update.ensures.before
+    (access_tables.count_before c.update_members.new.self.tables) (access_tables.count_before c.update.new.tables) was refl (λ a t. refl) (c.update.ensures.before logged)
 
 pub returns-clause-evaluations : goal.returns-clause-evaluations
 returns-clause-evaluations g c =

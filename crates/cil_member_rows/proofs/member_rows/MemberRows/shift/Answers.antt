@@ -26,7 +26,7 @@ invariant_of-self-2 g c =
           (search rules) room.words room.bits room.reach fell c.raise.ensures.now before,
       marked_shifted c.self.inside.turned.items c.mark.new.marks.items old c.raise.new.rows c.self.invariant.1 (search rules) before c.args.row c.args.word
           gone come (count_now c.lower.new.rows) c.is_step.result c.is_step.ensures
-          c.mark.ensures.here c.mark.ensures.others fell c.raise.ensures.now
+          c.mark.ensures.kept c.mark.ensures.here c.mark.ensures.some c.mark.ensures.others fell c.raise.ensures.now
           (omega (arith, room.steps, c.lower.ensures.steps, c.raise.ensures.steps))
           (λ some. omega (arith, some, c.lower.ensures.steps, c.raise.ensures.steps)),
     )

@@ -1,6 +1,5 @@
 use Rattle.std.proofs.Common.{◌<◌, ◌∙◌, length, bit_and, refl, sym, ap, rules}
-use Rattle.cil_lines.specs.Line.{IsSingle}
-use Rattle.cil_lines.specs.Limit.{CanLower}
+use Rattle.cil_lines.specs.Line.{IsPresence, IsSingle}
 use Rattle.cil_recorded.proofs.EndLemmas.{others_down}
 use Rattle.cil_recorded.proofs.LogLemmas.{before_down, moved_down, sound_down}
 use Rattle.cil_recorded.specs.Log.{falls, has_line}
@@ -15,7 +14,7 @@ invariant_of-self g c =
     let within : c.args.line < length old = rw (← c.self.view_is) at c.requires.line in
     let is : IsSingle (count_in old c.args.line) c.args.word c.single.result = rw (← c.self.view_is) at c.single.ensures in
     rw c.log_step.ensures.items
-    (sound_down old c.lower.new.lines.items log c.self.invariant step.limits step.len c.args.line c.args.word c.args.mask within step.now c.single.result is step.room)
+    (sound_down old c.lower.new.lines.items log c.self.invariant step.limits step.len c.args.line c.args.word c.args.mask within step.now c.single.result _ is step.room)
 
 pub returns-clause-moved : goal.returns-clause-moved
 returns-clause-moved g c =
@@ -28,14 +27,14 @@ returns-clause-before g c l t =
     let step = c.lower.ensures in
     let within : c.args.line < length old = rw (← c.self.view_is) at c.requires.line in
     rw (c.log_step.ensures.items, ← c.self.view_is)
-    (before_down old c.lower.new.lines.items log c.self.invariant step.limits step.len c.args.line c.args.word c.args.mask within step.now (bit_and c.args.mask c.single.result) l t)
+    (before_down old c.lower.new.lines.items log c.self.invariant step.limits step.len c.args.line c.args.word c.args.mask within step.now (bit_and c.args.mask c.single.result) _ l t)
 
 pub returns-clause-others : goal.returns-clause-others
 returns-clause-others g c l none =
     let old = c.self.inside.lines.items in
     let log = c.self.inside.log.items in
-    let above : CanLower (count_in old c.args.line) c.args.word c.args.mask = rw (← c.self.view_is) at c.requires.above in
+    let here : IsPresence (count_in old c.args.line) c.args.word c.present.result = rw (← c.self.view_is) at c.present.ensures in
     let is : IsSingle (count_in old c.args.line) c.args.word c.single.result = rw (← c.self.view_is) at c.single.ensures in
     rw (← c.self.view_is)
-    (others_down log c.args.line c.args.word c.args.mask c.single.result (count_in old) (count_in c.lower.new.lines.items) c.ranges.mask.fits above is c.lower.ensures.now _ refl refl refl l
+    (others_down log c.args.line c.args.word c.args.mask c.single.result c.present.result (count_in old) (count_in c.lower.new.lines.items) c.ranges.mask.fits (search rules) here is c.lower.ensures.now _ refl refl l
     (sym (ap (λ ss. has_line (falls ss) l) c.log_step.ensures.items) ∙ none))

@@ -1,10 +1,10 @@
 use Rattle.std.proofs.Common.{◌∙◌, ap, rules}
 use Rattle.std.proofs.lemmas.Fn.{filter_same}
+use Rattle.cil_recorded.specs.declared.step.Step.{Step}
 use Rattle.cil_recorded.specs.Log.{falls}
-use Rattle.cil_recorded.proofs.EndLemmas.{lets_go}
 use Rattle.cil_recorded.proofs.recorded_lines.RecordedLines.settle_into.Goals as goal
 
 pub returns-clause-falls : goal.returns-clause-falls
 returns-clause-falls g c =
-    let kept = filter_same _ lets_go _ (λ x b f k. search rules) _ _ c.retain.ensures.filtered in
+    let kept = filter_same _ (λ (s : Step). s.clears) _ (λ x b f k. search rules) _ _ c.retain.ensures.filtered in
     rw (← c.self.view_is) (kept ∙ ap (λ v. falls v.items) c.swap.ensures.y_after)

@@ -1,35 +1,52 @@
-use Rattle.std.proofs.Common.{sym, subst, IfOk}
+use Rattle.std.proofs.Common.{◌≡◌, ◌∙◌, [], sym, subst, IfOk, None, Ok, Some}
 use Rattle.std.specs.Rc.{rc_value}
 use Rattle.cil_counters.specs.ChangeCounts.{CountsSome}
 use Rattle.cil_resolve.specs.Resolved.{meaning_in}
+use Rattle.cil_specs.specs.Meaning.{meaning_of}
 use Rattle.cil_store_specs.specs.Next.{IsMeaningOf}
 use Rattle.cil_store_specs.specs.Store.{Store}
-use Rattle.cil_store.specs.Counted.{counted_meaning, AreCountedBetween, AreCountedChanges}
+use Rattle.cil_store.specs.Counted.{counted_meaning, meaning_kept, AreCountedBetween, AreCountedChanges}
 use Rattle.cil_store.proofs.CountedPolicyLemmas.{means-after, told-counted}
 use Rattle.cil_store.proofs.delta.Delta.replace_counted.Goals as goal
 
-pub invariant_of-self-2 : goal.invariant_of-self-2
-invariant_of-self-2 g c =
+pub invariant_of-self : goal.invariant_of-self
+invariant_of-self g c =
     let inside : Store = c.self.inside.store in
     let to : Store = c.args.prepared.store in
     let next = meaning_in (rc_value c.args.prepared.next.resolved) in
-    let before = counted_meaning c.in_ok-policy.policy in
+    let before = counted_meaning c.in-Some.policy in
+    let kept : c.self.inside.policy ≡ Some c.in-Some.policy = sym c.take.ensures.value ∙ c.in-Some.is in
     record {
       is_meaning =
           means-after inside c.replace_counted-counts.new.store to before (counted_meaning c.replace_counted-counts.new.self) next
-          (subst (IsMeaningOf inside) (sym c.in_ok-policy.ensures.meaning) c.self.invariant.is_meaning) c.requires
+          (subst (λ p. IsMeaningOf inside (meaning_kept p)) kept c.self.invariant.is_meaning) c.requires
           c.replace_counted-counts.result c.replace_counted-counts.ensures.store c.replace_counted-counts.ensures.meaning c.replace_counted-counts.ensures.err_store c.replace_counted-counts.ensures.err_meaning;
       is_kept = c.replace_counted-counts.ensures.kept;
     }
 
-pub returns-clause-changes : goal.returns-clause-changes
-returns-clause-changes g c =
+pub returns-in-Some-clause-changes : goal.returns-in-Some-clause-changes
+returns-in-Some-clause-changes g c =
     let inside : Store = c.self.inside.store in
     let new : Store = c.replace_counted-counts.new.store in
     let to : Store = c.args.prepared.store in
     let next = meaning_in (rc_value c.args.prepared.next.resolved) in
-    let before = counted_meaning c.in_ok-policy.policy in
+    let before = counted_meaning c.in-Some.policy in
     let meter = c.args.meter.now in
+    let kept : c.self.inside.policy ≡ Some c.in-Some.policy = sym c.take.ensures.value ∙ c.in-Some.is in
     subst (λ s. IfOk c.replace_counted-counts.result (CountsSome (AreCountedBetween s new meter c.replace_counted-counts.new.meter))) c.self.view_is
-    (told-counted inside new to before next (subst (IsMeaningOf inside) (sym c.in_ok-policy.ensures.meaning) c.self.invariant.is_meaning) c.requires
+    (told-counted inside new to before next (subst (λ p. IsMeaningOf inside (meaning_kept p)) kept c.self.invariant.is_meaning) c.requires
     (λ m n changes. AreCountedChanges m n meter c.replace_counted-counts.new.meter changes) c.replace_counted-counts.result c.replace_counted-counts.ensures.store c.replace_counted-counts.ensures.changes)
+
+pub returns-in_ok-loaded-in-None-clause-changes : goal.returns-in_ok-loaded-in-None-clause-changes
+returns-in_ok-loaded-in-None-clause-changes g c =
+    let inside : Store = c.self.inside.store in
+    let new : Store = c.load_counted.new.store in
+    let to : Store = c.args.prepared.store in
+    let next = meaning_in (rc_value c.args.prepared.next.resolved) in
+    let meter = c.args.meter.now in
+    let after = c.load_counted.new.meter in
+    let counts = c.in_ok-loaded-in-None.loaded.counts in
+    let none : c.self.inside.policy ≡ None = sym c.take.ensures.value ∙ c.in-None.is in
+    subst (λ s. CountsSome (AreCountedBetween s new meter after) counts) c.self.view_is
+    (told-counted {E = Unit {0}} inside new to (meaning_of [] []) next (subst (λ p. IsMeaningOf inside (meaning_kept p)) none c.self.invariant.is_meaning) c.requires
+    (λ m n changes. AreCountedChanges m n meter after changes) (Ok counts) c.in_ok-loaded-in-None.ensures.store c.in_ok-loaded-in-None.ensures.changes)

@@ -1,8 +1,8 @@
-use Rattle.std.proofs.Common.{sym, subst}
+use Rattle.std.proofs.Common.{sym, subst, refl}
 use Rattle.std.specs.List.Sorted.{IsStrictlySortedBy}
-use Rattle.cil_store_specs.specs.Store.{entry_cmp}
+use Rattle.cil_store.specs.Stored.{AreSized}
 use Rattle.cil_store.proofs.entries.Entries.new.Goals as goal
 
 pub invariant_of-result : goal.invariant_of-result
 unfolding IsStrictlySortedBy
-invariant_of-result g c = subst (IsStrictlySortedBy entry_cmp) (sym c.new.ensures.items) tt
+invariant_of-result g c = subst (λ items. AreSized items 0) (sym c.new.ensures.items) (record { in_order = tt; held = tt; sized = refl })

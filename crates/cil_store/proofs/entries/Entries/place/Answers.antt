@@ -14,6 +14,6 @@ returns-clause-value g c =
     let list = c.as_slice.result.now in
     let x = entry_at c.args.name.now c.args.priority in
     let same : list ≡ c.args.self.now = c.as_slice.ensures.value ∙ c.self.view_is in
-    let sorted : IsStrictlySortedBy entry_cmp list = subst (IsStrictlySortedBy entry_cmp) (sym c.as_slice.ensures.value) c.self.invariant in
+    let sorted : IsStrictlySortedBy entry_cmp list = subst (IsStrictlySortedBy entry_cmp) (sym c.as_slice.ensures.value) c.self.invariant.in_order in
     let point = c.partition_point.ensures.partitioned (λ e. is_lt (entry_cmp e x)) (always_returns_same _ _ _ (λ a r f k. search (rules, of_calls))) in
     place-is entry_cmp entry_total x list c.partition_point.result sorted c.partition_point.ensures.bound point ∙ ap (prefix_len (λ e. is_lt (entry_cmp e x))) same

@@ -1,13 +1,14 @@
-use Rattle.std.proofs.Common.{◌≡◌, ◌<◌, ◌≤◌, ◌∙◌, ap, sym, subst, ℕ, List, insert, slice_set, length, arith}
+use Rattle.std.proofs.Common.{◌≡◌, ◌<◌, ◌≤◌, ◌+◌, ◌^◌, ◌∙◌, ap, sym, subst, ℕ, List, insert, slice_set, length, arith}
 use Rattle.std.specs.List.{prefix_len}
-use Rattle.std.specs.List.Sorted.{IsStrictlySortedBy}
 use Rattle.std.specs.Ordering.{is_lt}
 use Rattle.cil_specs.proofs.SearchLemmas.{IsTiedAt}
-use Rattle.cil_store_specs.specs.Store.{Entry, entry_at, entry_cmp, put}
-use Rattle.cil_store_specs.proofs.PutLemmas.{put-ordered}
+use Rattle.cil_store_specs.specs.Store.{Entry, entry_at, entry_cmp, put, text_bytes, without}
 use Rattle.cil_store_specs.proofs.StoreOrder.{entry_total}
+use Rattle.cil_store.specs.Stored.{AreSized}
 use Rattle.cil_store.proofs.EntryLemmas.{set-put, insert-put, is-not}
+use Rattle.cil_store.proofs.SizeLemmas.{put-sized}
 use Rattle.cil_store.proofs.entries.Entries.put.Goals as goal
+use Rattle.cil_store.proofs.entries.Entries.put.Goals.{then-has_at, else-has_at+in_ok-insert}
 
 -- where an entry stands, and whether one stands there, by its name and priority
 module _ (entries : List Entry) (e : Entry) (name : List ℕ) (priority place : ℕ) (same : name ≡ e.name) (also : priority ≡ e.priority) where
@@ -21,53 +22,43 @@ module _ (entries : List Entry) (e : Entry) (name : List ℕ) (priority place : 
   untied-at is = subst (λ n. IsTiedAt entry_cmp entries place (entry_at n priority)) (sym same) (subst (λ p. IsTiedAt entry_cmp entries place (entry_at e.name p)) (sym also) is)
 
 -- the entries as they are after a put of either kind
-module _ (items entries : List Entry) (e : Entry) (name : List ℕ) (priority place : ℕ) (same : name ≡ e.name) (also : priority ≡ e.priority) (view : items ≡ entries) (sorted : IsStrictlySortedBy entry_cmp items)
+module _ (items entries : List Entry) (bytes : ℕ) (e : Entry) (name : List ℕ) (priority place : ℕ) (same : name ≡ e.name) (also : priority ≡ e.priority) (view : items ≡ entries) (are : AreSized items bytes)
     (at : place ≡ prefix_len (λ o. is_lt (entry_cmp o (entry_at name priority))) entries) where
-  in-order : IsStrictlySortedBy entry_cmp entries
-  in-order = subst (IsStrictlySortedBy entry_cmp) view sorted
+  sized : AreSized entries bytes
+  sized = subst (λ l. AreSized l bytes) view are
 
   set-is : place < length entries → IsTiedAt entry_cmp entries place (entry_at name priority) → slice_set items place e ≡ put e entries
-  set-is within tied = ap (λ xs. slice_set xs place e) view ∙ set-put entry_cmp entry_total e entries place in-order within (at-place entries e name priority place same also at) (tied-at entries e name priority place same also tied)
+  set-is within tied =
+      ap (λ xs. slice_set xs place e) view
+      ∙ set-put entry_cmp entry_total e entries place sized.in_order within (at-place entries e name priority place same also at) (tied-at entries e name priority place same also tied)
 
   insert-is : place ≤ length entries → (IsTiedAt entry_cmp entries place (entry_at name priority) → ⊥) → insert items place e ≡ put e entries
   insert-is within untied =
       ap (λ xs. insert xs place e) view
-      ∙ insert-put entry_cmp entry_total e entries place in-order within (at-place entries e name priority place same also at) (λ tied. untied (untied-at entries e name priority place same also tied))
+      ∙ insert-put entry_cmp entry_total e entries place sized.in_order within (at-place entries e name priority place same also at) (λ tied. untied (untied-at entries e name priority place same also tied))
 
-  put-in-order : IsStrictlySortedBy entry_cmp (put e entries)
-  put-in-order = put-ordered entry_cmp entry_total e entries in-order
+  put-is-sized : (new : List Entry) (size len : ℕ) → new ≡ put e entries → length e.text < 2 ^ 64 → size ≡ text_bytes (without name priority entries) → len ≡ length e.text → AreSized new (size + len)
+  put-is-sized new size len is short others one =
+      subst (λ l. AreSized l (size + len)) (sym is)
+      (put-sized e entries bytes (size + len) sized short ((λ i. others i + one i) ∙ (λ i. text_bytes (without (same i) (also i) entries) + length e.text)))
 
-pub index_mut-requires : goal.index_mut-requires
-index_mut-requires g c = let within = c.has_at.ensures.within c.if-has_at.true in let long = ap length c.self.view_is in omega (arith, within, long)
-
-pub invariant_of-self : goal.invariant_of-self
-invariant_of-self g c =
+pub returns-clause-ok : goal.returns-clause-ok
+returns-clause-ok g c =
     let e : Entry = c.args.entry in
-    subst (IsStrictlySortedBy entry_cmp)
-    (sym (set-is c.self.inside.entries.items c.args.self.now e c.name-name.result.now c.priority-priority.result c.place-place.result c.name-name.ensures c.priority-priority.ensures c.self.view_is c.self.invariant
-    c.place-place.ensures.value (c.has_at.ensures.within c.if-has_at.true) (c.has_at.ensures.value.0 c.if-has_at.true)))
-    (put-in-order c.self.inside.entries.items c.args.self.now e c.name-name.result.now c.priority-priority.result c.place-place.result c.name-name.ensures c.priority-priority.ensures c.self.view_is c.self.invariant
-    c.place-place.ensures.value)
+    elim c.if-has_at.branch [
+      | then-has_at w ↦
+          ap (λ s. s.entries.items) w.self-inside-is
+          ∙ set-is c.self.inside.entries.items c.args.self.now c.self.inside.bytes e c.name-name.result.now c.priority-priority.result c.place-place.result c.name-name.ensures c.priority-priority.ensures c.self.view_is c.self.invariant
+          c.place-place.ensures.value (c.has_at.ensures.within w.if-has_at.true) (c.has_at.ensures.value.0 w.if-has_at.true)
+      | else-has_at+in_ok-insert w ↦
+          ap (λ s. s.entries.items) w.self-inside-is ∙ w.in_ok-insert.ensures.items
+          ∙ insert-is c.self.inside.entries.items c.args.self.now c.self.inside.bytes e c.name-name.result.now c.priority-priority.result c.place-place.result c.name-name.ensures c.priority-priority.ensures c.self.view_is c.self.invariant
+          c.place-place.ensures.value c.place-place.ensures.within (is-not c.has_at.result c.has_at.ensures.value.1 w.if-has_at.false)
+    ]
 
-pub invariant_of-self-in-Continue-1 : goal.invariant_of-self-in-Continue-1
-invariant_of-self-in-Continue-1 g c =
+pub invariant_of-self-2 : goal.invariant_of-self-2
+invariant_of-self-2 g c =
     let e : Entry = c.args.entry in
-    subst (IsStrictlySortedBy entry_cmp)
-    (sym (c.in_ok-insert.ensures.items
-    ∙ insert-is c.self.inside.entries.items c.args.self.now e c.name-name.result.now c.priority-priority.result c.place-place.result c.name-name.ensures c.priority-priority.ensures c.self.view_is c.self.invariant
-    c.place-place.ensures.value c.place-place.ensures.within (is-not c.has_at.result c.has_at.ensures.value.1 c.if-has_at.false)))
-    (put-in-order c.self.inside.entries.items c.args.self.now e c.name-name.result.now c.priority-priority.result c.place-place.result c.name-name.ensures c.priority-priority.ensures c.self.view_is c.self.invariant
-    c.place-place.ensures.value)
-
-pub returns-then-has_at-clause-ok : goal.returns-then-has_at-clause-ok
-returns-then-has_at-clause-ok g c =
-    let e : Entry = c.args.entry in
-    set-is c.self.inside.entries.items c.args.self.now e c.name-name.result.now c.priority-priority.result c.place-place.result c.name-name.ensures c.priority-priority.ensures c.self.view_is c.self.invariant
-    c.place-place.ensures.value (c.has_at.ensures.within c.if-has_at.true) (c.has_at.ensures.value.0 c.if-has_at.true)
-
-pub returns-in_ok-insert-clause-ok : goal.returns-in_ok-insert-clause-ok
-returns-in_ok-insert-clause-ok g c =
-    let e : Entry = c.args.entry in
-    c.in_ok-insert.ensures.items
-    ∙ insert-is c.self.inside.entries.items c.args.self.now e c.name-name.result.now c.priority-priority.result c.place-place.result c.name-name.ensures c.priority-priority.ensures c.self.view_is c.self.invariant
-    c.place-place.ensures.value c.place-place.ensures.within (is-not c.has_at.result c.has_at.ensures.value.1 c.if-has_at.false)
+    let s : length e.text < 2 ^ 64 = omega (arith, c.len.ensures, c.len.type_inv) in
+    put-is-sized c.self.inside.entries.items c.args.self.now c.self.inside.bytes e c.name-name.result.now c.priority-priority.result c.place-place.result c.name-name.ensures c.priority-priority.ensures c.self.view_is c.self.invariant
+    c.place-place.ensures.value c.if-has_at.self-inside.entries.items c.size_without.result.bytes c.len.result (returns-clause-ok g c) s c.size_without.ensures.bytes c.len.ensures

@@ -1,36 +1,30 @@
-use Rattle.std.proofs.Common.{◌∙◌, ap, sym, subst, remove, not}
-use Rattle.std.specs.List.Sorted.{IsStrictlySortedBy}
-use Rattle.std.proofs.lemmas.List.Kept.{IsStrictlySortedBy-filter}
-use Rattle.cil_store_specs.specs.Store.{entry_cmp, is_entry}
-use Rattle.cil_store_specs.specs.Store.{entry_at}
-use Rattle.cil_store_specs.proofs.StoreOrder.{entry_total}
-use Rattle.cil_store.proofs.EntryLemmas.{entry-tied, tied-entry, without-tied, without-absent, is-not}
+use Rattle.std.proofs.Common.{◌-◌, ◌∙◌, ap, sym, subst}
+use Rattle.cil_store.specs.Stored.{AreSized}
+use Rattle.cil_store.proofs.EntryLemmas.{is-not}
+use Rattle.cil_store.proofs.SizeLemmas.{absent, removed, removed-bytes, removed-sized}
 use Rattle.cil_store.proofs.entries.Entries.remove.Goals as goal
 
 pub returns-then-has_at : goal.returns-then-has_at
 returns-then-has_at g c =
-    let name = c.args.name.now in
-    let priority = c.args.priority in
-    let sorted = subst (IsStrictlySortedBy entry_cmp) c.self.view_is c.self.invariant in
-    c.remove.ensures.items ∙ ap (λ l. remove l c.place-place.result) c.self.view_is
-    ∙ without-tied entry_cmp entry_total (is_entry name priority) (entry_at name priority) (λ e. entry-tied e name priority) (λ e. tied-entry e name priority) c.args.self.now c.place-place.result sorted c.place-place.ensures.value
+    c.remove.ensures.items
+    ∙ removed c.self.inside.entries.items c.args.self.now c.self.inside.bytes c.args.name.now c.args.priority c.place-place.result c.self.view_is c.self.invariant c.place-place.ensures.value
     (c.has_at.ensures.value.0 c.if-has_at.true)
 
 pub invariant_of-self : goal.invariant_of-self
 invariant_of-self g c =
-    let name = c.args.name.now in
-    let priority = c.args.priority in
-    let sorted = subst (IsStrictlySortedBy entry_cmp) c.self.view_is c.self.invariant in
-    subst (IsStrictlySortedBy entry_cmp)
-    (sym (c.remove.ensures.items ∙ ap (λ l. remove l c.place-place.result) c.self.view_is
-    ∙ without-tied entry_cmp entry_total (is_entry name priority) (entry_at name priority) (λ e. entry-tied e name priority) (λ e. tied-entry e name priority) c.args.self.now c.place-place.result sorted c.place-place.ensures.value
-    (c.has_at.ensures.value.0 c.if-has_at.true)))
-    (IsStrictlySortedBy-filter entry_cmp (λ e. not (is_entry name priority e)) c.args.self.now sorted)
+    let items = c.self.inside.entries.items in
+    let bytes = c.self.inside.bytes in
+    let tied = c.has_at.ensures.value.0 c.if-has_at.true in
+    let left = c.remove.ensures.items
+    ∙ removed items c.args.self.now bytes c.args.name.now c.args.priority c.place-place.result c.self.view_is c.self.invariant c.place-place.ensures.value tied
+    in
+    subst (λ l. AreSized l (bytes - c.len.result)) (sym left)
+    (removed-sized items c.args.self.now bytes c.args.name.now c.args.priority c.place-place.result c.self.view_is c.self.invariant c.place-place.ensures.value (bytes - c.len.result)
+    (ap (λ n. bytes - n) c.len.ensures
+    ∙ removed-bytes items c.args.self.now bytes c.args.name.now c.args.priority c.place-place.result c.self.view_is c.self.invariant c.place-place.ensures.value tied c.index.result.now
+    (c.has_at.ensures.within c.if-has_at.true) c.index.ensures))
 
 pub returns-else-has_at : goal.returns-else-has_at
 returns-else-has_at g c =
-    let name = c.args.name.now in
-    let priority = c.args.priority in
-    let sorted = subst (IsStrictlySortedBy entry_cmp) c.self.view_is c.self.invariant in
-    without-absent entry_cmp entry_total (is_entry name priority) (entry_at name priority) (λ e. entry-tied e name priority) (λ e. tied-entry e name priority) c.args.self.now c.place-place.result sorted c.place-place.ensures.value
+    absent c.self.inside.entries.items c.args.self.now c.self.inside.bytes c.args.name.now c.args.priority c.place-place.result c.self.view_is c.self.invariant c.place-place.ensures.value
     (is-not c.has_at.result c.has_at.ensures.value.1 c.if-has_at.false)

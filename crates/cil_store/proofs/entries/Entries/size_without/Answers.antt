@@ -1,32 +1,42 @@
-use Rattle.std.proofs.Common.{◌≡◌, ◌+◌, ◌<◌, ◌∙◌, ap, sym, subst, length, get_or, arith}
+use Rattle.std.proofs.Common.{◌-◌, ◌<◌, ◌^◌, ◌∙◌, ap, length, arith}
 use Rattle.cil_store_specs.specs.Store.{text_bytes}
-use Rattle.cil_store.proofs.SizeLemmas.{left-out, one-entry, one-text}
+use Rattle.cil_store.proofs.EntryLemmas.{is-not}
+use Rattle.cil_store.proofs.SizeLemmas.{absent, bytes-fit, removed-bytes, removed-count}
 use Rattle.cil_store.proofs.entries.Entries.size_without.Goals as goal
 
-pub loop-e-preserved-then-is_at : goal.loop-e-preserved-then-is_at
-loop-e-preserved-then-is_at g c =
-    let was = c.loop-e.invariant in
-    let list = c.deref-e-items.ensures.value ∙ c.self.view_is in
-    let same = left-out c.args.name.now c.args.priority c.args.self.now c.loop-e.e-index c.e-item.result c.e-item.result (subst (λ l. c.loop-e.e-index < length l) list c.loop-e-test.true) (subst (λ l. c.e-item.result ≡ get_or l c.loop-e.e-index c.e-item.result) list c.e-item.is) (sym c.is_at.ensures ∙ c.if-is_at.true) in
-    record {
-      entries = was.entries ∙ ap length (sym same);
-      bytes = was.bytes ∙ ap text_bytes (sym same);
-      few = omega (arith, was.few);
-      short = omega (arith, was.short);
-    }
+pub returns-then-has_at-clause-entries : goal.returns-then-has_at-clause-entries
+returns-then-has_at-clause-entries g c =
+    let left =
+    removed-count c.self.inside.entries.items c.args.self.now c.self.inside.bytes c.args.name.now c.args.priority c.place-place.result c.self.view_is c.self.invariant c.place-place.ensures.value
+    (c.has_at.ensures.value.0 c.if-has_at.true) (c.has_at.ensures.within c.if-has_at.true)
+    in
+    omega (arith, left, c.len.ensures)
 
-pub loop-e-preserved : goal.loop-e-preserved
-loop-e-preserved g c =
-    let was = c.loop-e.invariant in
-    let i = c.loop-e.e-index in
-    let e = c.e-item.result in
-    let list = c.deref-e-items.ensures.value ∙ c.self.view_is in
-    let within = subst (λ l. i < length l) list c.loop-e-test.true in
-    let is = subst (λ l. e ≡ get_or l i e) list c.e-item.is in
-    let other = sym c.is_at.ensures ∙ c.if-is_at.false in
-    record {
-      entries = ap (λ n. n + 1) was.entries ∙ sym (one-entry c.args.name.now c.args.priority c.args.self.now i e e within is other);
-      bytes = (λ j. was.bytes j + c.len.ensures j) ∙ sym (one-text c.args.name.now c.args.priority c.args.self.now i e e within is other);
-      few = omega (arith, was.few);
-      short = omega (arith, was.short, c.len.type_inv);
-    }
+pub returns-then-has_at-clause-bytes : goal.returns-then-has_at-clause-bytes
+returns-then-has_at-clause-bytes g c =
+    ap (λ n. c.self.inside.bytes - n) c.len-then-has_at.ensures
+    ∙ removed-bytes c.self.inside.entries.items c.args.self.now c.self.inside.bytes c.args.name.now c.args.priority c.place-place.result c.self.view_is c.self.invariant c.place-place.ensures.value
+    (c.has_at.ensures.value.0 c.if-has_at.true) c.index.result.now (c.has_at.ensures.within c.if-has_at.true) c.index.ensures
+
+pub returns-then-has_at-clause-fits : goal.returns-then-has_at-clause-fits
+returns-then-has_at-clause-fits g c =
+    let few : length c.self.inside.entries.items < 2 ^ 64 = omega (arith, c.len.ensures, c.len.type_inv) in
+    omega (arith, bytes-fit c.self.inside.entries.items c.self.inside.bytes c.self.invariant few)
+
+pub returns-else-has_at-clause-entries : goal.returns-else-has_at-clause-entries
+returns-else-has_at-clause-entries g c =
+    let all = absent c.self.inside.entries.items c.args.self.now c.self.inside.bytes c.args.name.now c.args.priority c.place-place.result c.self.view_is c.self.invariant c.place-place.ensures.value
+    (is-not c.has_at.result c.has_at.ensures.value.1 c.if-has_at.false)
+    in
+    omega (arith, ap length c.self.view_is, ap length all, c.len-else-has_at.ensures)
+
+pub returns-else-has_at-clause-bytes : goal.returns-else-has_at-clause-bytes
+returns-else-has_at-clause-bytes g c =
+    c.self.invariant.sized ∙ ap text_bytes c.self.view_is
+    ∙ ap text_bytes (absent c.self.inside.entries.items c.args.self.now c.self.inside.bytes c.args.name.now c.args.priority c.place-place.result c.self.view_is c.self.invariant c.place-place.ensures.value
+    (is-not c.has_at.result c.has_at.ensures.value.1 c.if-has_at.false))
+
+pub returns-else-has_at-clause-fits : goal.returns-else-has_at-clause-fits
+returns-else-has_at-clause-fits g c =
+    let few : length c.self.inside.entries.items < 2 ^ 64 = omega (arith, c.len-else-has_at.ensures, c.len-else-has_at.type_inv) in
+    bytes-fit c.self.inside.entries.items c.self.inside.bytes c.self.invariant few

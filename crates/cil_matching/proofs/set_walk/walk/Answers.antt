@@ -1,0 +1,20 @@
+use Rattle.std.proofs.Common.{subst, arith}
+use Rattle.cil_specs.specs.Rule.{IsSameSet}
+use Rattle.cil_resolve.specs.Sets.{sets_in}
+use Rattle.cil_matching.specs.Matching.{AreRight}
+use Rattle.cil_matching.proofs.MatchedLemmas.{right-none, right-next}
+use Rattle.cil_matching.proofs.set_walk.walk.Goals as goal
+
+pub loop-i-init : goal.loop-i-init
+loop-i-init g c = right-none IsSameSet (sets_in c.args.old.now) (sets_in c.args.new.now) c.in_ok-places.places.items c.in_ok-places.ensures.items
+
+pub loop-i-preserved : goal.loop-i-preserved
+loop-i-preserved g c =
+    right-next IsSameSet (sets_in c.args.old.now) (sets_in c.args.new.now) c.loop-i.i c.loop-i.places.items c.push.new.self.items c.same.result c.same.ensures.right c.in_ok-push.ensures.items c.loop-i.invariant
+
+pub returns : goal.returns
+returns g c =
+    let many = c.sets_len-i-end.ensures in
+    let past = c.loop-i-test.false in
+    let end = c.loop-i.auto.i-end in
+    subst (λ n. AreRight IsSameSet (sets_in c.args.old.now) (sets_in c.args.new.now) n c.loop-i.places.items) (omega (arith, many, past, end)) c.loop-i.invariant

@@ -1,0 +1,23 @@
+use Rattle.std.proofs.Common.{ℕ, get_or, subst, arith, below_more}
+use Rattle.cil_expression.specs.declared.expression.Element.TheVariants.{«Type»}
+use Rattle.cil_member_rows.specs.Rows.{count_before, count_now}
+use Rattle.cil_member_rows.specs.Words.{IsOutside}
+use Rattle.cil_resolve.specs.Numbers.{element_of}
+use Rattle.cil_sets.specs.Places.{set_at}
+use Rattle.cil_sets.proofs.LookLemmas.{set-there}
+use Rattle.cil_specs.specs.Expr.{leaves}
+use Rattle.cil_member_updates.specs.Given.{IsUnchanged}
+use Rattle.cil_member_updates.proofs.SymbolLemmas.{place-of}
+use Rattle.cil_member_updates.proofs.visits.words_of_names.Goals as goal
+
+pub loop-k-preserved : goal.loop-k-preserved
+loop-k-preserved g c =
+    below_more (λ m. (w : ℕ) → IsOutside c.joined-words.result w → IsUnchanged c.args.symbols.now (count_before c.args.rows.now) (count_now c.args.rows.now) (element_of c.args.side.now.resolved.now.names.items (get_or c.set_names-names.result.now m («Type» 0))) w 0)
+    c.loop-k.k (λ m within w outside. c.loop-k.invariant m within w (c.joined-words.ensures.outside w outside).0) (λ w outside. c.words_of_name.ensures w (c.joined-words.ensures.outside w outside).1)
+
+pub returns : goal.returns
+returns g c w outside element there =
+    let r = c.args.side.now.resolved.now in
+    let names = c.set_names-names.result.now in
+    let (m, within, same) = place-of (element_of r.names.items) names («Type» 0) (leaves (set_at r c.args.i).expr) element (c.set_names-names.ensures.names (set_at r c.args.i) (set-there r c.args.i c.requires.within)) there in
+    subst (λ e. IsUnchanged c.args.symbols.now (count_before c.args.rows.now) (count_now c.args.rows.now) e w 0) same (c.loop-k.invariant m (let end = c.loop-k-test.false in omega (arith, within, end)) w outside)

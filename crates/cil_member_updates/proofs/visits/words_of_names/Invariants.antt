@@ -1,0 +1,12 @@
+use Rattle.std.proofs.Common.{◌<◌, ℕ, get_or}
+use Rattle.cil_expression.specs.declared.expression.Element.TheVariants.{«Type»}
+use Rattle.cil_member_rows.specs.Rows.{count_before, count_now}
+use Rattle.cil_member_rows.specs.Words.{IsOutside}
+use Rattle.cil_resolve.specs.Numbers.{element_of}
+use Rattle.cil_member_updates.specs.Given.{IsUnchanged}
+use Rattle.cil_member_updates.proofs.visits.words_of_names.Given as goal
+
+-- outside the words nothing changed of the names so far
+abbrev pub invariant-loop-k : goal.invariant-loop-k
+invariant-loop-k g l =
+    (m : ℕ) → m < l.k → (w : ℕ) → IsOutside l.words w → IsUnchanged l.symbols (count_before l.rows) (count_now l.rows) (element_of l.side.resolved.now.names.items (get_or l.names m («Type» 0))) w 0

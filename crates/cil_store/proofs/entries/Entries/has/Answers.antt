@@ -1,0 +1,14 @@
+use Rattle.std.proofs.Common.{subst}
+use Rattle.std.specs.List.Sorted.{IsStrictlySortedBy}
+use Rattle.cil_store_specs.specs.Store.{entry_at, entry_cmp, is_entry}
+use Rattle.cil_store_specs.proofs.StoreOrder.{entry_total}
+use Rattle.cil_store.proofs.EntryLemmas.{entry-tied, tied-entry, any-is}
+use Rattle.cil_store.proofs.entries.Entries.has.Goals as goal
+
+pub returns : goal.returns
+returns g c =
+    let name = c.args.name.now in
+    let priority = c.args.priority in
+    let sorted = subst (IsStrictlySortedBy entry_cmp) c.self.view_is c.self.invariant.in_order in
+    any-is entry_cmp entry_total (is_entry name priority) (entry_at name priority) (λ e. entry-tied e name priority) (λ e. tied-entry e name priority) c.args.self.now c.place-place.result c.has_at.result sorted
+    c.place-place.ensures.value c.has_at.ensures.value.0 c.has_at.ensures.value.1

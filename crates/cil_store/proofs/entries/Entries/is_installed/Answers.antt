@@ -1,0 +1,8 @@
+use Rattle.std.proofs.Common.{◌∙◌, bytes_eq}
+use Rattle.cil_store_specs.specs.Store.{Entry}
+use Rattle.cil_store.specs.Stored.{entry_of}
+use Rattle.cil_store.proofs.FindLemmas.{found-some}
+use Rattle.cil_store.proofs.entries.Entries.is_installed.Goals as goal
+
+pub returns : goal.returns
+returns g c = c.is_some.ensures ∙ found-some entry_of (λ (e : Entry). bytes_eq e.name c.args.name.now) c.args.self.now c.first_of.result c.first_of.ensures

@@ -1,0 +1,18 @@
+use Rattle.std.proofs.Common.{ap, rules, of_calls, ◌≡◌, ◌∙◌, sym, subst}
+use Rattle.std.specs.List.{prefix_len}
+use Rattle.std.specs.List.Sorted.{IsStrictlySortedBy}
+use Rattle.std.specs.Ordering.{is_lt}
+use Rattle.std.proofs.lemmas.Fn.{always_returns_same}
+use Rattle.cil_specs.specs.Report.{name_cmp}
+use Rattle.cil_store_specs.specs.Store.{Entry, entry_cmp}
+use Rattle.cil_store.proofs.FindLemmas.{name-place}
+use Rattle.cil_store.proofs.entries.Entries.name_place.Goals as goal
+
+pub returns : goal.returns
+returns g c =
+    let list = c.as_slice.result.now in
+    let name = c.args.name.now in
+    let same : list ≡ c.args.self.now = c.as_slice.ensures.value ∙ c.self.view_is in
+    let sorted : IsStrictlySortedBy entry_cmp list = subst (IsStrictlySortedBy entry_cmp) (sym c.as_slice.ensures.value) c.self.invariant.in_order in
+    let point = c.partition_point.ensures.partitioned (λ (e : Entry). is_lt (name_cmp e.name name)) (always_returns_same _ _ _ (λ a r f k. search (rules, of_calls))) in
+    name-place name list c.partition_point.result sorted c.partition_point.ensures.bound point ∙ ap (prefix_len (λ (e : Entry). is_lt (name_cmp e.name name))) same
