@@ -1,6 +1,6 @@
 #!/usr/bin/env python3
 """Has the built programs answer the scripts of scripts/*.cases, make the trials of trials/*.trials and do the commands of
-commands/*.commands, and compares what they print; and has PROGRAM make the long sessions of long_session.py, whose memory must not grow.
+commands/*.commands, and compares what they print; and has PROGRAM make the sessions of long_session.py, whose memory must stay small.
 
 usage: check.py [FILE..]     (all files, where none is named; scripts/long_session.py for the long sessions)
 

@@ -1,5 +1,5 @@
 """Random edits in one session over a fixed set of names: a session that holds its policy and not its history has the same peak of memory
-early and late.
+early and late. And the load of a policy: a log of all its steps would take much more memory than its counters.
 
 A module has types, attributes and classes. Others, each with types, set statements and rules of its own over these, are installed, each in
 four texts in turn; then they are installed in one of these, removed, disabled and enabled at random.
@@ -105,4 +105,41 @@ class LongSession:
         return f"the peak of memory rose from {early} KiB after {self.edits // 10} edits to {late} KiB after {self.edits}\n"
 
 
-SESSIONS = (LongSession(12, 2000, 1),)
+class Load:
+    """What check.py asks: rules that all give the same accesses of the many types of an attribute, loaded into an empty store. Each rule
+    moves a counter for each type and permission, and each of these is a step of 40 bytes, while the counters kept are as many as one rule
+    moves."""
+
+    place = "scripts/long_session.py"
+
+    def __init__(self, types, permissions, rules, bound):
+        self.types, self.permissions, self.rules, self.bound = types, permissions, rules, bound
+        self.title = f"{rules} rules of {types} types and {permissions} permissions"
+
+    def text(self):
+        types = [f"t{n}" for n in range(self.types)]
+        permissions = " ".join(f"p{n}" for n in range(self.permissions))
+        lines = [f"(class c ({permissions}))(typeattribute a)", *(f"(type {it})" for it in types)]
+        lines.append(f"(typeattributeset a ({' '.join(types)}))")
+        return "".join(lines) + f"(allow a t0 (c ({permissions})))" * self.rules
+
+    def wanted(self, found):
+        return ""
+
+    def told(self, program):
+        """Nothing, or what is wrong: the answer, or the peak of memory."""
+        body = self.text()
+        session = subprocess.Popen([program, "session"], stdin=subprocess.PIPE, stdout=subprocess.PIPE)
+        session.stdin.write(f"install m 400 {len(body)}\n{body}\n".encode())
+        session.stdin.flush()
+        answer = session.stdout.readline().decode()
+        told = dict(line.split(":", 1) for line in open(f"/proc/{session.pid}/status") if ":" in line)
+        session.stdin.close()
+        session.wait()
+        peak = int(told["VmHWM"].split()[0])
+        if answer != f"ok {self.types * self.permissions} 0\n":
+            return f"the answer is {answer}"
+        return "" if peak <= self.bound * 1024 else f"the peak of memory is {peak} KiB\n"
+
+
+SESSIONS = (LongSession(12, 2000, 1), Load(1000, 8, 200, 32))
