@@ -1,11 +1,13 @@
 """Takes the checks of `rt try` out of a module of LLVM, for bench/unproved.sh: from standard input to standard output.
 
-Each check is a call of a function `rattle-llvm-checks::NAME`, which here does nothing; and what isn't written yet isn't filled.
+Each check is a call of a function `rattle-llvm-checks::NAME`, which does nothing here, or a branch to a trap, which is taken to be
+unreachable here. What isn't written yet isn't filled. A proved program has none of these.
 """
 import sys
 
 CHECK = 'define internal void @"rattle-llvm-checks::'
 FILLED = ", i8 -86, i64"
+TRAP = "call void @llvm.trap()"
 
 
 def unchecked(lines):
@@ -21,7 +23,7 @@ def unchecked(lines):
                 yield line
         elif line.startswith("attributes"):
             yield line.replace("sanitize_address ", "").replace(" sanitize_address", "")
-        elif not ("call void @llvm.memset" in line and FILLED in line):
+        elif TRAP not in line and not ("call void @llvm.memset" in line and FILLED in line):
             yield line
 
 

@@ -9,8 +9,6 @@ pub mod Made
 pub mod Renumbering
 pub mod Shifts
 pub mod Counts
-pub mod Beyond
-pub mod Walk
 pub mod Places
 pub mod RowPlaces
 pub mod Moves

@@ -16,7 +16,7 @@ use Rattle.cil_accesses.specs.declared.access.AccessNumbers.{AccessNumbers}
 use Rattle.cil_accesses.specs.declared.chunk.Chunk.{Chunk}
 use Rattle.cil_accesses.specs.contracts.chunk.ChunkOrd.TheImpl as chunk_ord
 use Rattle.cil_accesses.specs.Chunks.{chunk_cmp, IsAccessOf, IsGiven}
-use Rattle.cil_accesses.specs.Difference.{with_bits, nowhere}
+use Rattle.cil_accesses.specs.Chunks.{with_bits, nowhere}
 use Rattle.cil_accesses.specs.Merged.{of_one_key, taking_up, merged_from, merged}
 use Rattle.cil_accesses.proofs.Order.{derived-chunk, chunk_total, chunk_exact}
 

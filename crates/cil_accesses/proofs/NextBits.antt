@@ -10,7 +10,7 @@ use Rattle.std.proofs.lemmas.Nat.Bits.{bit_at-zero, bit_at_above, bit_at-trailin
 use Rattle.cil_accesses.specs.declared.access.AccessNumbers.{AccessNumbers}
 use Rattle.cil_accesses.specs.declared.chunk.Chunk.{Chunk}
 use Rattle.cil_accesses.specs.Chunks.{chunk_cmp, IsAccessOf, IsGiven}
-use Rattle.cil_accesses.specs.Difference.{with_bits}
+use Rattle.cil_accesses.specs.Chunks.{with_bits}
 use Rattle.cil_accesses.specs.Renumbered.{IsRenumbered, IsRenumberedAt, MovesUp, renumbered}
 use Rattle.cil_accesses.specs.View.{access_at, has_bit, IsNextBit, NoBitFrom}
 use Rattle.cil_accesses.proofs.Merging.{both-first, both-second, one-of-both}

@@ -21,7 +21,7 @@ use Rattle.cil_text.specs.Image.{rule_kind_of}
 use Rattle.cil_accesses.specs.declared.access.AccessNumbers.{AccessNumbers}
 use Rattle.cil_accesses.specs.declared.chunk.Chunk.{Chunk}
 use Rattle.cil_accesses.specs.Chunks.{numbers_cmp, chunk_cmp, IsAccessOf, IsGiven}
-use Rattle.cil_accesses.specs.Difference.{with_bits}
+use Rattle.cil_accesses.specs.Chunks.{with_bits}
 use Rattle.cil_accesses.specs.Merged.{of_one_key, taking_up}
 use Rattle.cil_accesses.specs.Renumbered.{IsWithin, IsRenumbered, IsRenumberedAt, renumbered}
 use Rattle.cil_accesses.specs.View.{has_bit, access_at, accesses_of, AreChunks}

@@ -5,6 +5,7 @@ use Rattle.std.specs.Ordering.{nat_cmp, on, then_cmp}
 use Rattle.std.specs.declared.cmp.Ordering.{Ordering}
 use Rattle.cil_specs.specs.Rule.{kind_index}
 use Rattle.cil_text.specs.Image.{rule_kind_of}
+use Rattle.cil_text.specs.declared.statement.RuleKind.TheVariants.{Allow}
 use Rattle.cil_accesses.specs.declared.access.AccessNumbers.{AccessNumbers}
 use Rattle.cil_accesses.specs.declared.chunk.Chunk.{Chunk}
 
@@ -42,3 +43,11 @@ set_from (suc n) b bits = bit_at bits b + set_from n (b + 1) bits
 -- how many accesses a chunk has
 unfoldable pub ones_of : Chunk → ℕ
 ones_of c = set_from 64 0 c.bits
+
+-- a chunk with other bits
+abbrev pub with_bits : Chunk → ℕ → Chunk
+with_bits c bits = record { kind = c.kind; source = c.source; word = c.word; class = c.class; permission = c.permission; bits = bits }
+
+-- the chunk that a place past the end of a list is read as
+abbrev pub nowhere : Chunk
+nowhere = record { kind = Allow; source = 0; word = 0; class = 0; permission = 0; bits = 0 }

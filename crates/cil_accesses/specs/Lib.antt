@@ -1,5 +1,4 @@
 pub mod Chunks
-pub mod Difference
 pub mod Groups
 pub mod Merged
 pub mod Renumbered

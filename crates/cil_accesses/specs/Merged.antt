@@ -3,7 +3,7 @@ use Rattle.std.specs.Prelude.{List, Bool, [], ◌∷◌, bit_or, if◌then◌els
 use Rattle.std.specs.Ordering.{eq_by_cmp}
 use Rattle.cil_accesses.specs.declared.chunk.Chunk.{Chunk}
 use Rattle.cil_accesses.specs.Chunks.{chunk_cmp}
-use Rattle.cil_accesses.specs.Difference.{with_bits}
+use Rattle.cil_accesses.specs.Chunks.{with_bits}
 
 -- whether two chunks are of one kind, source, word, class and permission
 abbrev pub of_one_key : Chunk → Chunk → Bool

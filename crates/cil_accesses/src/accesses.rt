@@ -1,18 +1,16 @@
 //! Accesses in order.
 
-ghost use Rattle.std.specs.Prelude.{◌≡◌, ◌<◌, ◌^◌, ◌↔◌, [], Contains, IfOk, length, map, slice_get};
+ghost use Rattle.std.specs.Prelude.{◌≡◌, ◌<◌, ◌^◌, ◌↔◌, [], Contains, length, slice_get};
 ghost use Rattle.std.specs.List.{All};
-ghost use Rattle.std.specs.List.Sorted.{IsStrictlyIncreasing, IsStrictlySortedBy};
+ghost use Rattle.std.specs.List.Sorted.{IsStrictlySortedBy};
 ghost use Rattle.cil_accesses.specs.Chunks.{numbers_cmp, IsGiven};
-ghost use Rattle.cil_accesses.specs.Renumbered.{renumbered, IsWithin};
 
 use crate::access::AccessNumbers;
 use crate::chunk::Chunk;
 use crate::merge::merge;
 use crate::place::access_in;
-use crate::renumber::renumbered_chunks;
 use crate::rows::Rows;
-use std::alloc::{AllocError, Allocator, Global};
+use std::alloc::{Allocator, Global};
 use std::marker::Model;
 
 /// Accesses, each once, by kind, source, target, class and permission. Contracts see them as their list.
@@ -80,17 +78,5 @@ impl<A: Allocator> Accesses<A> {
         ensures { result ≡ self.now }
     {
         Rows::of(&self.chunks)
-    }
-}
-
-impl<A: Allocator + Copy> Accesses<A> {
-    /// The accesses with the numbers at the places of their own in a list that rises.
-    pub fn renumbered(&self, alloc: A, numbers: &[u32]) -> Result<Accesses<A>, AllocError>
-        requires within { All (IsWithin (length numbers.now)) self.now }
-        requires rising { IsStrictlyIncreasing numbers.now }
-        ensures { IfOk result (λ r. r ≡ map (renumbered numbers.now) self.now) }
-    {
-        let made = renumbered_chunks(alloc, &self.chunks, numbers)?;
-        Ok(Accesses::of(made))
     }
 }

@@ -2,7 +2,6 @@
 
 ghost use Rattle.std.specs.Prelude.{◌≡◌, ◌<◌, ◌+◌, ◌*◌, ◌^◌, ◌↔◌, true, length, slice_index, IfSome};
 ghost use Rattle.std.specs.Int.{bit_at};
-ghost use Rattle.std.specs.List.Sorted.{IsStrictlyIncreasing};
 ghost use Rattle.cil_accesses.specs.Chunks.{IsAccessOf};
 ghost use Rattle.cil_accesses.specs.Renumbered.{IsMoved, IsWithin, MovesUp};
 ghost use Rattle.cil_accesses.specs.View.{has_bit};
@@ -49,26 +48,6 @@ pub fn common_move(chunk: &Chunk, numbers: &[u32]) -> Option<u32>
             return None;
         }
         from = bit + 1;
-    }
-    Some(up)
-}
-
-/// By how much the targets of a chunk move up, where it's as much for all: numbers rise, so for all if for the first and the last.
-pub fn rising_move(chunk: &Chunk, numbers: &[u32]) -> Option<u32>
-    requires within { (a : _) → IsAccessOf chunk.now a → IsWithin (length numbers.now) a }
-    requires word { chunk.now.word < 2 ^ 26 }
-    requires rising { IsStrictlyIncreasing numbers.now }
-    ensures { IfSome result (λ up. MovesUp numbers.now chunk.now up) }
-{
-    let bits = chunk.bits;
-    if bits == 0 {
-        return Some(0);
-    }
-    let first = 64 * chunk.word + bits.trailing_zeros();
-    let last = 64 * chunk.word + (63 - bits.leading_zeros());
-    let up = numbers[first as usize] - first;
-    if numbers[last as usize] - last != up {
-        return None;
     }
     Some(up)
 }

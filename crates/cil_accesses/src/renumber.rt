@@ -1,15 +1,14 @@
 //! Makes chunks anew where numbers change.
 
-ghost use Rattle.std.specs.Prelude.{◌≡◌, ◌<◌, ◌+◌, ◌*◌, ◌^◌, ◌↔◌, ◌⊎◌, length, Any, IfOk, IfSome, MatchBool, OnOk};
+ghost use Rattle.std.specs.Prelude.{◌≡◌, ◌<◌, ◌+◌, ◌*◌, ◌^◌, ◌↔◌, ◌⊎◌, length, IfSome, MatchBool, OnOk};
 ghost use Rattle.std.specs.Int.{bit_at};
 ghost use Rattle.std.specs.List.{All};
-ghost use Rattle.std.specs.List.Sorted.{IsStrictlyIncreasing};
 ghost use Rattle.cil_accesses.specs.Chunks.{IsAccessOf, IsGiven};
 ghost use Rattle.cil_accesses.specs.Renumbered.{IsTarget, IsWithin, IsRenumbered, IsRenumberedIn, MovesUp};
 
 use crate::chunk::Chunk;
 use crate::chunk_places::ChunkPlaces;
-use crate::moving::{common_move, moved_up, rising_move};
+use crate::moving::{common_move, moved_up};
 use std::alloc::{AllocError, Allocator};
 
 /// Adds the accesses of a chunk to that of a place, where both are of one kind, source, word, class and permission, and says whether it
@@ -168,42 +167,4 @@ pub fn push_renumbered<A: Allocator>(
     ensures same { OnOk result ((a : _) → IsGiven made.new.items a ↔ (IsGiven made.old.items a ⊎ IsRenumbered numbers.now chunk.now 64 a)) }
 {
     push_by(made, places, chunk, numbers, common_move(chunk, numbers))
-}
-
-/// Adds the accesses of a chunk, with the numbers at the places of their own in a list that rises.
-fn push_rising<A: Allocator>(
-    made: &mut Vec<Chunk, A>,
-    places: &mut ChunkPlaces<A>,
-    chunk: &Chunk,
-    numbers: &[u32],
-) -> Result<(), AllocError>
-    requires within { (a : _) → IsAccessOf chunk.now a → IsWithin (length numbers.now) a }
-    requires word { chunk.now.word < 2 ^ 26 }
-    requires rising { IsStrictlyIncreasing numbers.now }
-    requires words { All (λ c. c.word < 2 ^ 26) made.old.items }
-    ensures words { OnOk result (All (λ c. c.word < 2 ^ 26) made.new.items) }
-    ensures same { OnOk result ((a : _) → IsGiven made.new.items a ↔ (IsGiven made.old.items a ⊎ IsRenumbered numbers.now chunk.now 64 a)) }
-{
-    push_by(made, places, chunk, numbers, rising_move(chunk, numbers))
-}
-
-/// Chunks that have the accesses of these, with the numbers at the places of their own. Those of one kind, source, word, class and
-/// permission may be more than one.
-pub fn renumbered_chunks<A: Allocator + Copy>(
-    alloc: A,
-    chunks: &[Chunk],
-    numbers: &[u32],
-) -> Result<Vec<Chunk, A>, AllocError>
-    requires within { (a : _) → IsGiven chunks.now a → IsWithin (length numbers.now) a }
-    requires words { All (λ c. c.word < 2 ^ 26) chunks.now }
-    requires rising { IsStrictlyIncreasing numbers.now }
-    ensures words { IfOk result (λ made. All (λ c. c.word < 2 ^ 26) made.items) }
-    ensures same { IfOk result (λ made. (a : _) → IsGiven made.items a ↔ Any (λ c. IsRenumbered numbers.now c 64 a) chunks.now) }
-{
-    let mut made = Vec::with_capacity(alloc, chunks.len())?;
-    let mut places = ChunkPlaces::new(alloc);
-    for chunk in chunks {
-        push_rising(&mut made, &mut places, chunk, numbers)?;
-    }
-    Ok(made)
 }

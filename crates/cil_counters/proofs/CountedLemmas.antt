@@ -23,6 +23,7 @@ use Rattle.cil_member_updates.specs.Given.{gives, holds, is_of, of_name}
 use Rattle.cil_member_updates.specs.Policy.{AreCounts}
 use Rattle.cil_member_updates.proofs.GrowthLemmas.{count-more, numbers-more}
 use Rattle.cil_rule_reach.specs.Named.{atom_of, is_named, name_at, AreMembersOf}
+use Rattle.cil_table_updates.specs.Policies.{count_named}
 use Rattle.cil_table_updates.proofs.GivenLemmas.{counted-named}
 use Rattle.cil_table_updates.proofs.PlaceLemmas.{names-apart}
 use Rattle.cil_member_rows.specs.Rows as member_rows
@@ -92,6 +93,14 @@ module _ {A : Type 0} (names : List (List ℕ)) (r : Resolved A) (sound : HasSou
           no_type = λ a t past. all a t ∙ none-counted (gives (names ++ more) (meaning_in r) a t) (sets_in r) (no-type (names ++ more) (meaning_in r) a t past);
         }
 
+-- no rule gives an access where there is none
+pub count-none : (names : List (List ℕ)) (meaning : Meaning) (kind : RuleKind) (key : SymbolKey) (t : ℕ) → meaning.rules ≡ [] → count_named names meaning kind key t ≡ 0
+count-none names meaning kind key t no_rules = ap (λ rules. cond (is_named names key t) (count_by (λ rule. rule_gives meaning rule (atom_of names kind key t)) rules) 0) no_rules ∙ either (is_named names key t)
+  where
+    either : (b : Bool) → ◌≡◌ {A = ℕ} (cond b 0 0) 0
+    either true = refl
+    either false = refl
+
 -- nothing is counted of a policy without set statements and rules
 pub counted-none : {A : Type 0} (r : Resolved A) (names : List (List ℕ)) (symbols : List ℕ) (members : ℕ → ℕ → ℕ) (counts : RuleKind → SymbolKey → ℕ → ℕ) → AreNumbersOf names symbols r.names.items → sets_in r ≡ [] → (meaning_in r).rules ≡ []
     → ((a t : ℕ) → members a t ≡ 0) → ((kind : RuleKind) (key : SymbolKey) (t : ℕ) → counts kind key t ≡ 0) → IsCounted names r members counts
@@ -99,14 +108,8 @@ counted-none r names symbols members counts numbers no_sets no_rules no_members 
   symbols = symbols;
   numbers = numbers;
   are_members = λ a t. no_members a t ∙ sym (ap (count_by (gives names (meaning_in r) a t)) no_sets);
-  are_counts = λ kind key t.
-      no_accesses kind key t
-      ∙ sym (ap (λ rules. cond (is_named names key t) (count_by (λ rule. rule_gives (meaning_in r) rule (atom_of names kind key t)) rules) 0) no_rules ∙ either (is_named names key t));
+  are_counts = λ kind key t. no_accesses kind key t ∙ sym (count-none names (meaning_in r) kind key t no_rules);
 }
-  where
-    either : (b : Bool) → ◌≡◌ {A = ℕ} (cond b 0 0) 0
-    either true = refl
-    either false = refl
 
 pub none-of : {X : Type 0} (xs : List X) → length xs ≡ 0 → xs ≡ []
 none-of [] none = refl

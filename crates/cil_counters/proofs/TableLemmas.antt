@@ -1,14 +1,16 @@
 -- The access table of a policy by full names, told by its counters.
-use Rattle.std.proofs.Common.{◌≡◌, ◌↔◌, ℕ, ◌<◌, List, [], length, map, Some, Contains, refl, sym, ap, subst, ◌∙◌}
+use Rattle.std.proofs.Common.{◌≡◌, ◌↔◌, ℕ, ◌<◌, Bool, false, List, [], length, map, Some, Contains, refl, sym, ap, subst, ◌∙◌, true≢false, arith}
 use Rattle.std.specs.Bool.{IsTrue}
 use Rattle.std.specs.List.Sorted.{IsStrictlySortedBy}
-use Rattle.std.proofs.lemmas.Bool.{lt-ltb, ltb-true}
+use Rattle.std.proofs.lemmas.Bool.{and_from, and_parts, lt-ltb, ltb-true}
 use Rattle.std.proofs.lemmas.Option.{slice_get-get_or}
 use Rattle.cil_specs.specs.Meaning.{count_of, is_in_table}
-use Rattle.cil_specs.specs.Report.{AreAtoms}
+use Rattle.cil_specs.specs.Report.{is_listed, AreAtoms}
 use Rattle.cil_specs.specs.Rule as spec
 use Rattle.cil_specs.proofs.ReportLemmasMembers.{all_from_contains, any-map, any_from, any_from_map, any_to, contains_from, contains_to}
+use Rattle.cil_text.specs.Image.{rule_kind_of}
 use Rattle.cil_text.specs.declared.statement.RuleKind.{RuleKind}
+use Rattle.cil_text.specs.declared.statement.RuleKind.TheVariants.{Allow, AuditAllow, DontAudit, NeverAllow}
 use Rattle.cil_accesses.specs.declared.access.AccessNumbers.{AccessNumbers}
 use Rattle.cil_accesses.specs.Chunks.{numbers_cmp}
 use Rattle.cil_accesses.specs.Renumbered.{IsWithin}
@@ -17,8 +19,9 @@ use Rattle.cil_resolve.specs.Resolved.{meaning_in}
 use Rattle.cil_resolve.specs.declared.resolved.Resolved.{Resolved}
 use Rattle.cil_rule_reach.specs.Named.{atom_of}
 use Rattle.cil_rules.specs.Atoms.{atom_at, AreNumbered}
+use Rattle.cil_rules.specs.Rows as rows
 use Rattle.cil_rules.proofs.AtomLemmas.{atoms-ordered}
-use Rattle.cil_symbol_changes.specs.Numbered.{access_by, ArePresentNumbered, IsPresent}
+use Rattle.cil_symbol_changes.specs.Numbered.{access_by, listed, ArePresentNumbered, IsPresent}
 use Rattle.cil_counters.specs.Counted.{IsCounted}
 use Rattle.cil_counters.specs.SymbolRanks.{AreRanks}
 use Rattle.cil_counters.proofs.ChangedLemmas.{counted-atom, counted-known, counted-listed, table-key, Holds, IsKnown}
@@ -27,44 +30,64 @@ use Rattle.cil_counters.proofs.ChangedLemmas.{counted-atom, counted-known, count
 own-names : (names : List (List ℕ)) → Holds names names
 own-names names name (i, within, is) = (i, slice_get-get_or names i [] within ∙ ap Some is)
 
-module _ {A : Type 0} (symbols : List (List ℕ)) (numbers : List ℕ) (r : Resolved A) (ranks : AreRanks r.names.items symbols (length r.names.items) numbers) (members : ℕ → ℕ → ℕ) (counts : RuleKind → SymbolKey → ℕ → ℕ) (is : IsCounted symbols r members counts) where
+-- what a listing has is counted, and is of a kind that it has
+some-counted : (counts : RuleKind → SymbolKey → ℕ → ℕ) (kind : RuleKind) (key : SymbolKey) (t : ℕ) → 0 < listed counts kind key t → (0 < counts kind key t) × IsTrue (is_listed (rule_kind_of kind))
+some-counted counts Allow key t some = (some, refl)
+some-counted counts AuditAllow key t some = (some, refl)
+some-counted counts DontAudit key t some = (some, refl)
+some-counted counts NeverAllow key t some = absurd (omega (arith, some))
+
+-- and the other way round
+some-listed : (counts : RuleKind → SymbolKey → ℕ → ℕ) (kind : RuleKind) (key : SymbolKey) (t : ℕ) → IsTrue (is_listed (rule_kind_of kind)) → 0 < counts kind key t → 0 < listed counts kind key t
+some-listed counts Allow key t is some = some
+some-listed counts AuditAllow key t is some = some
+some-listed counts DontAudit key t is some = some
+some-listed counts NeverAllow key t is some = absurd (true≢false (sym is))
+
+module _ {A : Type 0} (symbols : List (List ℕ)) (numbers : List ℕ) (r : Resolved A) (ranks : AreRanks r.names.items symbols (length r.names.items) numbers) (members : ℕ → ℕ → ℕ) (counts : RuleKind → SymbolKey → ℕ → ℕ) (is_counted : IsCounted symbols r members counts) where
   known : (kind : RuleKind) (key : SymbolKey) (t : ℕ) → 0 < counts kind key t → IsKnown symbols r.names.items numbers ranks r (own-names r.names.items) kind key t
-  known = counted-known symbols r.names.items numbers ranks r (own-names r.names.items) members counts is
+  known = counted-known symbols r.names.items numbers ranks r (own-names r.names.items) members counts is_counted
 
   -- what is counted has numbers
   pub present-numbered : ArePresentNumbered numbers counts
   present-numbered kind key t some = (known kind key t some).numbered
 
-  module _ (found : List AccessNumbers) (ordered : IsStrictlySortedBy numbers_cmp found) (exact : (n : AccessNumbers) → Contains found n ↔ IsPresent numbers counts n) where
+  module _ (found : List AccessNumbers) (ordered : IsStrictlySortedBy numbers_cmp found) (exact : (n : AccessNumbers) → Contains found n ↔ IsPresent numbers (listed counts) n) where
     pub found-numbered : AreNumbered r.names.items found
     found-numbered = record {
       names_ordered = r.ordered;
       ordered = ordered;
-      within = all_from_contains (IsWithin (length r.names.items)) found (λ n h. let one = (exact n).0 h in subst (IsWithin (length r.names.items)) (sym one.1.same) (known one.0 one.1.key one.1.target one.1.present).within);
+      within = all_from_contains (IsWithin (length r.names.items)) found (λ n h.
+          let one = (exact n).0 h in
+          subst (IsWithin (length r.names.items)) (sym one.1.same) (known one.0 one.1.key one.1.target (some-counted counts one.0 one.1.key one.1.target one.1.present).0).within);
     }
 
-    to-table : (a : spec.Atom) → Contains (map (atom_at r.names.items) found) a → IsTrue (is_in_table (meaning_in r) a)
+    to-table : (a : spec.Atom) → Contains (map (atom_at r.names.items) found) a → IsTrue (rows.listed (is_in_table (meaning_in r)) a)
     to-table a h =
         let (k, n, low, at, same) = any_from (λ n. atom_at r.names.items n ≡ a) found (any_from_map (atom_at r.names.items) (λ b. b ≡ a) found (contains_to (map (atom_at r.names.items) found) a h)) in
         let one = (exact n).0 (k, low, at) in
         let key : SymbolKey = one.1.key in
         let t : ℕ = one.1.target in
-        let atom : atom_of symbols one.0 key t ≡ a = sym (known one.0 key t one.1.present).named ∙ ap (atom_at r.names.items) (sym one.1.same) ∙ same in
-        let listed = counted-listed symbols r members counts is one.0 key t one.1.present in
-        let count : counts one.0 key t ≡ count_of (meaning_in r) a = counted-atom symbols r members counts is one.0 key t listed ∙ ap (count_of (meaning_in r)) atom in
-        lt-ltb 0 (count_of (meaning_in r) a) (subst (λ c. 0 < c) count one.1.present)
+        let (some, is) = some-counted counts one.0 key t one.1.present in
+        let atom : atom_of symbols one.0 key t ≡ a = sym (known one.0 key t some).named ∙ ap (atom_at r.names.items) (sym one.1.same) ∙ same in
+        let known_symbols = counted-listed symbols r members counts is_counted one.0 key t some in
+        let count : counts one.0 key t ≡ count_of (meaning_in r) a = counted-atom symbols r members counts is_counted one.0 key t known_symbols ∙ ap (count_of (meaning_in r)) atom in
+        and_from (is_listed a.kind) (is_in_table (meaning_in r) a) (subst (λ x. IsTrue (is_listed x.kind)) atom is)
+        (lt-ltb 0 (count_of (meaning_in r) a) (subst (λ c. 0 < c) count some))
 
-    from-table : (a : spec.Atom) → IsTrue (is_in_table (meaning_in r) a) → Contains (map (atom_at r.names.items) found) a
+    from-table : (a : spec.Atom) → IsTrue (rows.listed (is_in_table (meaning_in r)) a) → Contains (map (atom_at r.names.items) found) a
     from-table a there =
-        let by = table-key symbols r members counts is a there in
-        let count : counts by.kind by.key by.target ≡ count_of (meaning_in r) a = counted-atom symbols r members counts is by.kind by.key by.target by.listed ∙ ap (count_of (meaning_in r)) by.same in
-        let some : 0 < counts by.kind by.key by.target = subst (λ c. 0 < c) (sym count) (ltb-true 0 (count_of (meaning_in r) a) there) in
+        let (kind_is, in_table) = and_parts (is_listed a.kind) (is_in_table (meaning_in r) a) there in
+        let by = table-key symbols r members counts is_counted a in_table in
+        let count : counts by.kind by.key by.target ≡ count_of (meaning_in r) a = counted-atom symbols r members counts is_counted by.kind by.key by.target by.listed ∙ ap (count_of (meaning_in r)) by.same in
+        let some : 0 < counts by.kind by.key by.target = subst (λ c. 0 < c) (sym count) (ltb-true 0 (count_of (meaning_in r) a) in_table) in
+        let shown : 0 < listed counts by.kind by.key by.target = some-listed counts by.kind by.key by.target (subst (λ x. IsTrue (is_listed x.kind)) (sym by.same) kind_is) some in
         let n : AccessNumbers = access_by numbers by.kind by.key by.target in
-        let one : IsPresent numbers counts n = (by.kind, record { key = by.key; target = by.target; absent = refl; present = some; same = refl }) in
+        let one : IsPresent numbers (listed counts) n = (by.kind, record { key = by.key; target = by.target; absent = refl; present = shown; same = refl }) in
         let stands = (exact n).1 one in
         let same : atom_at r.names.items n ≡ a = (known by.kind by.key by.target some).named ∙ by.same in
         contains_from (map (atom_at r.names.items) found) a (any-map (atom_at r.names.items) (λ b. b ≡ a) found (any_to (λ m. atom_at r.names.items m ≡ a) found (stands.0, n, stands.1, stands.2, same)))
 
-    -- what is found by the counters is what is in the table
-    pub found-atoms : AreAtoms (is_in_table (meaning_in r)) (map (atom_at r.names.items) found)
+    -- what is found by the counters is what a listing has of the table
+    pub found-atoms : AreAtoms (rows.listed (is_in_table (meaning_in r))) (map (atom_at r.names.items) found)
     found-atoms = record { ordered = atoms-ordered r.names.items found found-numbered; exact = λ a. (to-table a, from-table a) }

@@ -13,12 +13,13 @@ ghost use Rattle.cil_parse.specs.Lexicon.{AreNumbersOf};
 ghost use Rattle.cil_resolve.specs.Meter.{adjustments_in, evaluations_in};
 ghost use Rattle.cil_resolve.specs.Resolved.{meaning_in};
 ghost use Rattle.cil_resolve.specs.Sets.{sets_in};
+ghost use Rattle.cil_rules.specs.Rows.{listed};
 ghost use Rattle.cil_sets.specs.Members.{AreMembers};
 ghost use Rattle.cil_counters.specs.ChangeCounts.{CountsSome};
 ghost use Rattle.cil_counters.specs.ChangedMembers.{pairs_of, AreChangedMembers};
 ghost use Rattle.cil_counters.specs.Counted.{count_with, had_named, has_named, steps_in, AreBounded, AreSettled, AreTakenBack, HasFewNames, HasNames, IsNow, WasBefore};
 ghost use Rattle.cil_symbol_tables.specs.Tables as access_tables;
-ghost use Rattle.cil_table_updates.specs.declared.steps.Steps.TheVariants.{Logged};
+ghost use Rattle.cil_table_updates.specs.Policies.{count_named};
 
 use crate::changed_members::{ChangedMember, changed_members_of};
 use crate::member_counts::members_of;
@@ -38,7 +39,7 @@ use cil_sets::Members;
 use cil_symbol_changes::{ChangeCounts, count_accesses};
 use cil_symbol_tables::SymbolTables;
 use cil_symbols::{Numbering, Symbols};
-use cil_table_updates::{Named, Steps};
+use cil_table_updates::Named;
 use cil_text::RuleKind;
 use std::alloc::{AllocError, Allocator, Global};
 
@@ -60,6 +61,7 @@ impl<A: Allocator + Copy> Counters<A> {
         requires rules { length (meaning_in policy.now).rules ≡ 0 }
         ensures now { IfOk result (IsNow policy.now) }
         ensures before { IfOk result (WasBefore policy.now) }
+        ensures settled { IfOk result (λ c. steps_in c ≡ 0) }
     {
         let mut names = Symbols::new(alloc, seed);
         Numbering::of(alloc, &mut names, policy)?;
@@ -84,6 +86,7 @@ impl<A: Allocator + Copy> Counters<A> {
         requires old_count { old.numbering.now.count ≡ length self.old.names }
         ensures now { IsNow old.entry.resolved.now self.new }
         ensures before { WasBefore old.entry.resolved.now self.new }
+        ensures tables { self.new.tables ≡ self.old.tables }
         ensures kept { AreNumbersOf self.new.names old.entry.numbering.now.symbols old.entry.resolved.now.names.items }
         ensures grown { length self.old.names ≤ length self.new.names }
         ensures numbers { IfOk result (λ n. AreNumbersOf self.new.names n.symbols new.now.names.items) }
@@ -148,35 +151,31 @@ impl<A: Allocator + Copy> Counters<A> {
         )
     }
 
-    /// Brings the counters from an old policy to a new one, in steps. Where those of accesses are logged, they can be taken back.
-    fn take_steps(
+    /// Brings the members from an old policy to a new one, in steps, and answers the symbols of the names of both. What is counted of
+    /// accesses stays.
+    fn bring_members(
         &mut self,
         alloc: A,
         old: &Resolved<A>,
         new: &Resolved<A>,
-        steps: Steps,
         meter: &mut Meter,
-    ) -> Result<(), AllocError>
+    ) -> Result<(Numbering<A>, Numbering<A>), AllocError>
         requires now { IsNow old.now self.old }
         requires before { WasBefore old.now self.old }
-        ensures now { OnOk result (IsNow new.now self.new) }
-        ensures before { steps ≡ Logged → WasBefore old.now self.new }
-        ensures named { OnOk result (HasNames old.now self.new) }
+        ensures before { WasBefore old.now self.new }
+        ensures members { OnOk result (AreCounts self.new.names new.now (member_rows.count_now self.new.rows)) }
+        ensures accesses { (kind : RuleKind) (key : SymbolKey) (t : ℕ)
+            → access_tables.count_now self.new.tables kind key t ≡ count_named self.new.names (meaning_in old.now) kind key t }
+        ensures steps { access_tables.steps_in self.new.tables ≡ access_tables.steps_in self.old.tables }
+        ensures old_numbers { IfOk result (λ n. AreNumbersOf self.new.names n.0.symbols old.now.names.items) }
+        ensures new_numbers { IfOk result (λ n. AreNumbersOf self.new.names n.1.symbols new.now.names.items) }
+        ensures old_count { IfOk result (λ n. n.0.count ≤ length self.new.names) }
+        ensures new_count { IfOk result (λ n. n.1.count ≤ length self.new.names) }
         ensures evaluations { OnOk result (EvaluatesFew (meaning_in old.now) (meaning_in new.now) (evaluations_in meter.old) (evaluations_in meter.new)) }
-        ensures adjustments { OnOk result ((changes : report.Changes) → AreChanges (is_in_table (meaning_in old.now)) (is_in_table (meaning_in new.now)) changes
-            → AdjustsFew (meaning_in old.now) (meaning_in new.now) changes (adjustments_in meter.old) (adjustments_in meter.new)) }
+        ensures adjustments { adjustments_in meter.new ≡ adjustments_in meter.old }
         ensures names { HasFewNames old.now new.now self.old self.new }
-        ensures bounded { AreBounded old.now new.now self.new }
     {
         let old_numbering = Numbering::known(alloc, &self.names, old)?;
-        resolved_names_are_kept(old);
-        resolved_names_are_kept(new);
-        old.rules();
-        new.rules();
-        resolved_is_sound(old);
-        resolved_is_sound(new);
-        resolved_sets_are_in_order(old);
-        resolved_sets_are_in_order(new);
         let old = Named {
             resolved: old,
             numbering: &old_numbering,
@@ -187,6 +186,44 @@ impl<A: Allocator + Copy> Counters<A> {
             numbering: &new_numbering,
         };
         self.update_members(alloc, old, new, meter)?;
+        Ok((old_numbering, new_numbering))
+    }
+
+    /// Brings the counters from an old policy to a new one, in steps.
+    fn take_steps(
+        &mut self,
+        alloc: A,
+        old: &Resolved<A>,
+        new: &Resolved<A>,
+        meter: &mut Meter,
+    ) -> Result<(), AllocError>
+        requires now { IsNow old.now self.old }
+        requires before { WasBefore old.now self.old }
+        ensures now { OnOk result (IsNow new.now self.new) }
+        ensures before { WasBefore old.now self.new }
+        ensures evaluations { OnOk result (EvaluatesFew (meaning_in old.now) (meaning_in new.now) (evaluations_in meter.old) (evaluations_in meter.new)) }
+        ensures adjustments { OnOk result ((changes : report.Changes) → AreChanges (is_in_table (meaning_in old.now)) (is_in_table (meaning_in new.now)) changes
+            → AdjustsFew (meaning_in old.now) (meaning_in new.now) changes (adjustments_in meter.old) (adjustments_in meter.new)) }
+        ensures names { HasFewNames old.now new.now self.old self.new }
+        ensures bounded { AreBounded old.now new.now self.new }
+    {
+        resolved_names_are_kept(old);
+        resolved_names_are_kept(new);
+        old.rules();
+        new.rules();
+        resolved_is_sound(old);
+        resolved_is_sound(new);
+        resolved_sets_are_in_order(old);
+        resolved_sets_are_in_order(new);
+        let (old_numbering, new_numbering) = self.bring_members(alloc, old, new, meter)?;
+        let old = Named {
+            resolved: old,
+            numbering: &old_numbering,
+        };
+        let new = Named {
+            resolved: new,
+            numbering: &new_numbering,
+        };
         cil_table_updates::update(
             &mut self.tables,
             alloc,
@@ -194,9 +231,60 @@ impl<A: Allocator + Copy> Counters<A> {
             &self.rows,
             old,
             new,
-            steps,
             meter,
         )
+    }
+
+    /// Brings the counters from those of a policy without set statements and rules, as that of an empty store is, to those of another one.
+    /// There is no way back: no step of a counter of accesses is logged. After an out of memory the counters are of no use, since `undo`
+    /// doesn't lead back to the old policy.
+    pub fn load(
+        &mut self,
+        alloc: A,
+        old: &Resolved<A>,
+        new: &Resolved<A>,
+        meter: &mut Meter,
+    ) -> Result<(), AllocError>
+        requires now { IsNow old.now self.old }
+        requires before { WasBefore old.now self.old }
+        requires rules { length (meaning_in old.now).rules ≡ 0 }
+        requires settled { steps_in self.old ≡ 0 }
+        ensures now { OnOk result (IsNow new.now self.new) }
+        ensures named { OnOk result (HasNames old.now self.new) }
+        ensures evaluations { OnOk result (EvaluatesFew (meaning_in old.now) (meaning_in new.now) (evaluations_in meter.old) (evaluations_in meter.new)) }
+        ensures adjustments { OnOk result ((changes : report.Changes) → AreChanges (is_in_table (meaning_in old.now)) (is_in_table (meaning_in new.now)) changes
+            → AdjustsFew (meaning_in old.now) (meaning_in new.now) changes (adjustments_in meter.old) (adjustments_in meter.new)) }
+        ensures names { HasFewNames old.now new.now self.old self.new }
+        ensures bounded { AreBounded old.now new.now self.new }
+    {
+        resolved_names_are_kept(old);
+        resolved_names_are_kept(new);
+        old.rules();
+        new.rules();
+        resolved_is_sound(new);
+        resolved_sets_are_in_order(new);
+        let (_, new_numbering) = self.bring_members(alloc, old, new, meter)?;
+        let new = Named {
+            resolved: new,
+            numbering: &new_numbering,
+        };
+        cil_table_updates::load(&mut self.tables, alloc, &self.names, &self.rows, new, meter)
+    }
+
+    /// Brings the members from an old policy to a new one, and puts them together. What is counted of accesses stays that of the old
+    /// policy, so the counters are of no use from then on.
+    pub(crate) fn members_after(
+        &mut self,
+        alloc: A,
+        old: &Resolved<A>,
+        new: &Resolved<A>,
+    ) -> Result<Members<A>, AllocError>
+        requires now { IsNow old.now self.old }
+        requires before { WasBefore old.now self.old }
+        ensures { IfOk result (AreMembers new.now) }
+    {
+        self.bring_members(alloc, old, new, &mut Meter::new())?;
+        members_of(alloc, &self.names, &self.rows, new)
     }
 
     /// The changes from an old policy, whose counters stand before the steps, to a new one, whose counters stand now.
@@ -246,10 +334,11 @@ impl<A: Allocator + Copy> Counters<A> {
         Ok(ChangeCounts { added, removed: 0 })
     }
 
-    /// The access table of the policy whose counters stand now. No rule is gone over.
+    /// The accesses of the policy whose counters stand now that a listing has: those of neverallow aren't part of it. No rule is gone
+    /// over.
     pub fn table(&self, alloc: A, policy: &Resolved<A>) -> Result<Table<A>, AllocError>
         requires { IsNow policy.now self.now }
-        ensures { IfOk result (λ table. AreAtoms (is_in_table (meaning_in policy.now)) table) }
+        ensures { IfOk result (λ table. AreAtoms (listed (is_in_table (meaning_in policy.now))) table) }
     {
         let names = names_of(alloc, policy)?;
         let numbers = symbol_ranks(alloc, &self.names, names.as_slice())?;
@@ -295,7 +384,7 @@ impl<A: Allocator + Copy> Counters<A> {
         ensures names { HasFewNames old.now new.now self.old self.new }
         ensures bounded { AreBounded old.now new.now self.new }
     {
-        self.take_steps(alloc, old, new, Steps::Logged, meter)?;
+        self.take_steps(alloc, old, new, meter)?;
         self.changes(alloc, old, new)
     }
 
@@ -318,14 +407,12 @@ impl<A: Allocator + Copy> Counters<A> {
         ensures names { HasFewNames old.now new.now self.old self.new }
         ensures bounded { AreBounded old.now new.now self.new }
     {
-        self.take_steps(alloc, old, new, Steps::Logged, meter)?;
+        self.take_steps(alloc, old, new, meter)?;
         self.names.len();
         self.count_changes(alloc, old, new)
     }
 
-    /// Brings the counters from those of a policy without set statements and rules, as that of an empty store is, to those of another one,
-    /// and answers how many changes there are. The steps of a rule's accesses are settled once it is put in, so their log never holds those
-    /// of more than one. After an out of memory the counters are of no use, since `undo` doesn't lead back to the old policy.
+    /// `load`, which answers how many changes there are.
     pub fn load_counted(
         &mut self,
         alloc: A,
@@ -337,6 +424,7 @@ impl<A: Allocator + Copy> Counters<A> {
         requires before { WasBefore old.now self.old }
         requires sets { length (sets_in old.now) ≡ 0 }
         requires rules { length (meaning_in old.now).rules ≡ 0 }
+        requires settled { steps_in self.old ≡ 0 }
         ensures now { OnOk result (IsNow new.now self.new) }
         ensures changes { IfOk result (CountsSome (AreChanges (is_in_table (meaning_in old.now)) (is_in_table (meaning_in new.now)))) }
         ensures evaluations { OnOk result (EvaluatesFew (meaning_in old.now) (meaning_in new.now) (evaluations_in meter.old) (evaluations_in meter.new)) }
@@ -345,7 +433,7 @@ impl<A: Allocator + Copy> Counters<A> {
         ensures names { HasFewNames old.now new.now self.old self.new }
         ensures bounded { AreBounded old.now new.now self.new }
     {
-        self.take_steps(alloc, old, new, Steps::Settled, meter)?;
+        self.load(alloc, old, new, meter)?;
         self.names.len();
         self.count_all(old, new)
     }

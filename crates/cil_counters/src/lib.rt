@@ -1,6 +1,7 @@
 //! The members and the accesses of a policy, counted, and brought to another policy in place.
 #![tactic(auto)]
 
+mod at_once;
 mod changed_members;
 mod counters;
 mod laws;
@@ -8,6 +9,7 @@ mod member_counts;
 mod more_rows;
 mod symbol_ranks;
 
+pub use at_once::members_at_once;
 pub use changed_members::ChangedMember;
 pub use cil_symbol_changes::ChangeCounts;
 pub use counters::Counters;

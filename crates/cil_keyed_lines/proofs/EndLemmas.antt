@@ -18,7 +18,7 @@ use Rattle.cil_recorded.proofs.LogLemmas.{count_past, hit_nothing, hit_off, hit_
 use Rattle.cil_recorded.proofs.PlaceLemmas.{untouched}
 use Rattle.cil_keyed_lines.specs.declared.symbol_key.SymbolKey.{SymbolKey}
 use Rattle.cil_keyed_lines.specs.Keyed.{count_by, hit_of, is_key, with_key, AreAmong, AreCounted, AreHeld, AreKeyed, ArePaired}
-use Rattle.cil_keyed_lines.proofs.KeyedLemmas.{count_absent, count_placed, count_reached, count_same, count_shifted, key_placed, past_shifted, placed_at, placed_within, listed_at, swap_of}
+use Rattle.cil_keyed_lines.proofs.KeyedLemmas.{count_absent, count_placed, count_raised, count_reached, count_same, count_shifted, key_placed, past_raised, past_shifted, placed_at, placed_within, listed_at, swap_of}
 
 -- ---- counters by key
 
@@ -251,8 +251,6 @@ module _ (keys news : List SymbolKey) (old mid new : State) (key : SymbolKey) (p
         count_same (recorded.count_before mid) (recorded.count_before new) news before k t
         ∙ count_reached (recorded.count_before old) (recorded.count_before mid) keys news key grown same_before held.keyed.before k t
 
--- ---- the end of the steps
-
 -- a line without a step is as it was
 pub before_quiet : (s : State) (l t : ℕ) → has_line s.log l ≡ false → recorded.count_now s l t ≡ recorded.count_before s l t
 before_quiet s l t none =
@@ -269,6 +267,51 @@ quiet-falls (s ∷ ss) l none =
     by : (b : Bool) → (s.line == l) ≡ false → has_line (falls ss) l ≡ false → has_line (cond b (s ∷ falls ss) (falls ss)) l ≡ false
     by true here rest = ap (λ c. c || has_line (falls ss) l) here ∙ rest
     by false here rest = rest
+
+-- ---- counters rise where there is no step
+
+-- a key gets a line where it had none, and its counters rise
+module _ (keys news : List SymbolKey) (old mid new : State) (key : SymbolKey) (place word mask : ℕ)
+    (held : AreHeld keys old) (reached : AreKeyed news mid) (grown : news ≡ with_key keys key) (at : position (is_key key) news ≡ Some place)
+    (same : (l t : ℕ) → recorded.count_now mid l t ≡ recorded.count_now old l t)
+    (raised : (l t : ℕ) → recorded.count_now new l t ≡ recorded.count_now mid l t + hit_at place word mask l t) where
+  pub now_added : (k : SymbolKey) (t : ℕ) → count_by (recorded.count_now new) news k t ≡ count_by (recorded.count_now old) keys k t + hit_of key word mask k t
+  now_added k t =
+      omega (
+        arith,
+        count_raised (recorded.count_now mid) (recorded.count_now new) news key place word mask at reached.now raised k t,
+        count_reached (recorded.count_now old) (recorded.count_now mid) keys news key grown same held.keyed.now k t,
+      )
+
+  pub held_added : ((l t : ℕ) → recorded.count_before new l t ≡ recorded.count_now new l t) → mask < 2 ^ 64 → mask ≢ 0 → lines_in new ≡ lines_in mid
+      → recorded.steps_in old ≡ 0 → ((l : ℕ) → l < length news → l ≢ place → l < length keys) → AreHeld news new
+  held_added before fits some len settled within =
+      let past : (l t : ℕ) → length news ≤ l → recorded.count_now new l t ≡ 0
+      = past_raised (recorded.count_now mid) (recorded.count_now new) news key place word mask at reached.now raised in
+      record {
+        keyed = record {
+          distinct = reached.distinct;
+          within = omega (arith, len, reached.within);
+          now = past;
+          before = λ l t behind. before l t ∙ past l t behind;
+        };
+        counted = counted;
+      }
+    where
+      counted : AreCounted (falls new.log) (length news) new
+      counted i less _ =
+          elim (cases_eq i place) [
+            | inl here ↦
+                let (b, low, set) = some_bit 64 mask fits some in
+                let t = 64 * word + b in
+                let hit : hit_at place word mask i t ≡ 1 = hit_on place word mask i t here (omega (arith, low)) ∙ ap (bit_at mask) (let e : t % 64 ≡ b = omega (arith, low) in e) ∙ set in
+                (t, omega (arith, raised i t, hit))
+            | inr apart ↦
+                let (t, above) = held.counted i (within i less apart) (quiet-falls old.log i (no_line old.log i settled)) in
+                (t, omega (arith, above, same i t, raised i t))
+          ]
+
+-- ---- the end of the steps
 
 -- after the steps are taken back, each line of a key has a counter above 0 or a step
 pub counted_back : (steps : List Step) (old cut : State) (n : ℕ) → steps ≡ old.log → AreCounted (falls old.log) n old

@@ -18,7 +18,7 @@ use Rattle.cil_lines.specs.Line.{hit}
 use Rattle.cil_recorded.specs.Log.{hit_at}
 use Rattle.cil_recorded.specs.Recorded as recorded
 use Rattle.cil_recorded.specs.Recorded.{State, lines_in}
-use Rattle.cil_recorded.proofs.LogLemmas.{hit_in, hit_off, same_counts}
+use Rattle.cil_recorded.proofs.LogLemmas.{hit_in, hit_nothing, hit_off, same_counts}
 use Rattle.cil_keyed_lines.specs.declared.symbol_key.SymbolKey.{SymbolKey}
 use Rattle.cil_keyed_lines.specs.Keyed.{Keyed, AreKeyed, IsLineOf, IsNoLine, NoneCounted, before_at, count_by, hit_of, is_key, now_at, with_key}
 
@@ -186,6 +186,25 @@ module _ (f g : ℕ → ℕ → ℕ) (keys : List SymbolKey) (key : SymbolKey) (
         hit_key keys key place word gone at k t,
         hit_key keys key place word come at k t,
       )
+
+-- an empty mask has no target
+pub hit_of_nothing : (key : SymbolKey) (word : ℕ) (k : SymbolKey) (t : ℕ) → hit_of key word 0 k t ≡ 0
+unfolding hit_of
+hit_of_nothing key word k t = by (is_key key k)
+  where
+    by : (b : Bool) → (if b then hit word 0 t else 0) ≡ 0
+    by true = sym (hit_in 0 word 0 0 t refl) ∙ hit_nothing 0 word 0 t
+    by false = refl
+
+-- counters that rise
+module _ (f g : ℕ → ℕ → ℕ) (keys : List SymbolKey) (key : SymbolKey) (place word mask : ℕ) (at : position (is_key key) keys ≡ Some place)
+    (past : (l t : ℕ) → length keys ≤ l → f l t ≡ 0) (raised : (l t : ℕ) → g l t ≡ f l t + hit_at place word mask l t) where
+  pub past_raised : (l t : ℕ) → length keys ≤ l → g l t ≡ 0
+  past_raised = past_shifted f g keys key place word 0 mask at past (λ l t. omega (arith, raised l t, hit_nothing place word l t))
+
+  pub count_raised : (k : SymbolKey) (t : ℕ) → count_by g keys k t ≡ count_by f keys k t + hit_of key word mask k t
+  count_raised k t =
+      omega (arith, by_index g keys past_raised k t, by_index f keys past k t, raised (index keys k) t, hit_key keys key place word mask at k t)
 
 -- the memory that a shift took or lacks
 module _ {E : Type 0} (keys : List SymbolKey) (old new : State) (key : SymbolKey) (place word gone come : ℕ) (at : position (is_key key) keys ≡ Some place) (keyed : AreKeyed keys old)

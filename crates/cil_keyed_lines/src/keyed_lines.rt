@@ -141,6 +141,40 @@ impl<A: Allocator + Copy> KeyedLines<A> {
         Ok((was ^ is).count_ones())
     }
 
+    /// Adds 1 to the counters of the targets of a word in the line of a key that a mask has, where there is no step to take back, and logs
+    /// none. After an out of memory no counter has changed.
+    pub fn add(
+        &mut self,
+        alloc: A,
+        key: SymbolKey,
+        word: usize,
+        mask: u64,
+    ) -> Result<(), AllocError>
+        requires word { word < 2 ^ 58 }
+        requires settled { steps_in self.old ≡ 0 }
+        ensures settled { steps_in self.new ≡ 0 }
+        ensures now { OnOk result ((k : SymbolKey) (t : ℕ) → count_now self.new k t ≡ count_now self.old k t + hit_of key word mask k t) }
+        ensures kept { OnErr result ((k : SymbolKey) (t : ℕ) → count_now self.new k t ≡ count_now self.old k t) }
+        ensures before { (k : SymbolKey) (t : ℕ) → count_before self.new k t ≡ count_now self.new k t }
+    {
+        if mask == 0 {
+            return Ok(());
+        }
+        let found = self.place_of(key);
+        let place = reach(
+            &mut self.keys,
+            &mut self.lines,
+            alloc,
+            key,
+            found,
+            word,
+            mask,
+        )?;
+        self.hint = place;
+        self.lines.add(place, word, mask);
+        Ok(())
+    }
+
     /// Which targets appeared and which went since the last settling, by the place of the line and by word. A word where none
     /// did is left out.
     pub fn changes(&self, alloc: A) -> Result<Vec<Change, A>, AllocError>

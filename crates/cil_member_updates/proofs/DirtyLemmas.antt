@@ -17,7 +17,7 @@ use Rattle.cil_resolve.specs.declared.resolved.Resolved.{Resolved}
 use Rattle.cil_sets.specs.Counts.{one_if}
 use Rattle.cil_sets.specs.Places.{no_set, set_at}
 use Rattle.cil_sets.proofs.CountLemmas.{counted-member}
-use Rattle.cil_sets.proofs.NamedLemmas.{member-kept}
+use Rattle.cil_sets.proofs.KeptLemmas.{member-kept}
 use Rattle.cil_specs.specs.Dependence.{AreTheSame}
 use Rattle.cil_specs.specs.Lookup.{has_name}
 use Rattle.cil_specs.specs.Meaning.{keeps_type, Meaning}

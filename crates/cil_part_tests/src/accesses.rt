@@ -1,14 +1,13 @@
 //! Chunks against accesses that are listed one by one.
 
 ghost use Rattle.std.specs.List.{All};
-ghost use Rattle.std.specs.List.Sorted.{IsStrictlyIncreasing};
 ghost use Rattle.std.specs.Prelude.{◌<◌, ◌^◌};
 ghost use Rattle.cil_accesses.specs.Chunks.{IsAccessOf};
 ghost use Rattle.cil_accesses.specs.Renumbered.{IsWithin};
 ghost use Rattle.cil_accesses.specs.declared.access.AccessNumbers.{AccessNumbers};
 
 use cil_accesses::{
-    AccessNumbers, AccessRow, Accesses, Chunk, ChunkPlaces, Difference, push_renumbered, sort_from,
+    AccessNumbers, AccessRow, Accesses, Chunk, ChunkPlaces, push_renumbered, sort_from,
 };
 use cil_text::RuleKind;
 use std::alloc::Global;
@@ -200,40 +199,6 @@ fn accesses_of_chunks(rt: HostRuntime) {
     assert!(&rt; are_of(&rt, alloc, &[full], &listed));
 }
 
-// Chunks, chunks in their place, and the accesses that go and come.
-type Changed = (
-    &'static [Given],
-    &'static [Given],
-    &'static [Listed],
-    &'static [Listed],
-);
-
-const CHANGED: &[Changed] = &[
-    (
-        &[
-            (ALLOW, 1, 0, 1, 1, 0b0111),
-            (ALLOW, 1, 0, 1, 2, 1),
-            (ALLOW, 3, 0, 1, 1, 1),
-        ],
-        &[
-            (ALLOW, 1, 0, 1, 1, 0b1110),
-            (ALLOW, 2, 0, 1, 1, 1),
-            (ALLOW, 3, 0, 1, 1, 1),
-        ],
-        &[(ALLOW, 1, 0, 1, 1), (ALLOW, 1, 0, 1, 2)],
-        &[(ALLOW, 1, 3, 1, 1), (ALLOW, 2, 0, 1, 1)],
-    ),
-    (SOME, SOME, &[], &[]),
-];
-
-// Whether those accesses go and come.
-fn have_changed(rt: &impl Abort, alloc: Global, changed: &Changed) -> bool {
-    let old = accesses(rt, alloc, changed.0);
-    let new = accesses(rt, alloc, changed.1);
-    let found = Difference::between(alloc, &old, &new).expect(rt, "memory");
-    are_listed(&found.removed, changed.2) && are_listed(&found.added, changed.3)
-}
-
 // Three chunks of the sources 3, 2 and 1 are put in order from a place on; and their sources then.
 const SORTED: &[(usize, &[u32])] = &[(0, &[1, 2, 3]), (1, &[3, 1, 2]), (3, &[3, 2, 1])];
 
@@ -255,10 +220,7 @@ fn are_sorted(rt: &impl Abort, alloc: Global, start: usize, want: &[u32]) -> boo
 }
 
 #[test]
-fn differences_and_orders(rt: HostRuntime) {
-    for changed in CHANGED {
-        assert!(&rt; have_changed(&rt, rt.alloc(), changed));
-    }
+fn orders(rt: HostRuntime) {
     for (start, want) in SORTED {
         assert!(&rt; are_sorted(&rt, rt.alloc(), *start, want));
     }
@@ -279,58 +241,39 @@ fn numbers(rt: &impl Abort, alloc: Global, runs: &[Run]) -> Vec<u32> {
     all
 }
 
-// Asserts that the numbers rise.
-fn assert_rising(rt: &impl Abort, numbers: &[u32])
-    ensures { IsStrictlyIncreasing numbers.now }
+// Asserts that the numbers of all accesses that a chunk may have are low enough.
+fn assert_low_chunk(rt: &impl Abort, chunk: &Chunk, len: usize)
+    ensures { (a : AccessNumbers) → IsAccessOf chunk.now a → IsWithin len a }
 {
-    for i in 1..numbers.len() {
-        assert!(rt; numbers[i - 1] < numbers[i]);
+    assert!(rt; (chunk.source as usize) < len);
+    assert!(rt; 64 * (chunk.word as usize) + 63 < len);
+    assert!(rt; (chunk.class as usize) < len);
+    assert!(rt; (chunk.permission as usize) < len);
+}
+
+// The chunks with the numbers at the places of their own, which come in any order.
+fn pushed(rt: &impl Abort, alloc: Global, chunks: &[Given], numbers: &[u32]) -> Vec<Chunk>
+    ensures { All (λ c. c.word < 2 ^ 26) result.items }
+{
+    let mut all = Vec::new(alloc);
+    let mut places = ChunkPlaces::new(alloc);
+    for given in chunks {
+        let chunk = chunk_of(given);
+        assert!(rt; chunk.word < 1 << 26);
+        assert_low_chunk(rt, &chunk, numbers.len());
+        push_renumbered(&mut all, &mut places, &chunk, numbers).expect(rt, "memory");
     }
+    all
 }
 
-// Asserts that the numbers of an access are low enough.
-fn assert_low(rt: &impl Abort, access: AccessNumbers, len: usize)
-    ensures { IsWithin len access }
-{
-    assert!(rt; (access.source as usize) < len);
-    assert!(rt; (access.target as usize) < len);
-    assert!(rt; (access.class as usize) < len);
-    assert!(rt; (access.permission as usize) < len);
-}
+const OVER: &[Given] = &[
+    (ALLOW, 1, 0, 1, 1, 1 << 63 | 0b0111),
+    (ALLOW, 1, 1, 1, 1, 1 << 63 | 1),
+];
 
-// Asserts that all accesses have numbers that are low enough.
-fn assert_within(rt: &impl Abort, accesses: &Accesses, len: usize)
-    ensures { All (IsWithin len) accesses.now }
-{
-    let count = usize::try_from(accesses.len()).expect(rt, "few accesses");
-    for i in 0..count {
-        let access = accesses.get(i).expect(rt, "an access");
-        assert_low(rt, access, len);
-    }
-}
-
-// The accesses of chunks with the numbers at the places of their own, which rise.
-fn renumbered(rt: &impl Abort, alloc: Global, chunks: &[Given], numbers: &[u32]) -> Accesses {
-    let old = accesses(rt, alloc, chunks);
-    assert_rising(rt, numbers);
-    assert_within(rt, &old, numbers.len());
-    old.renumbered(alloc, numbers).expect(rt, "memory")
-}
-
-// Whether these are those accesses.
-fn are_renumbered(
-    rt: &impl Abort,
-    alloc: Global,
-    chunks: &[Given],
-    runs: &[Run],
-    listed: &[Listed],
-) -> bool {
-    let numbers = numbers(rt, alloc, runs);
-    are_listed(&renumbered(rt, alloc, chunks, &numbers), listed)
-}
-
-// Chunks, rising numbers, and their accesses by these.
-const RENUMBERED: &[(&[Given], &[Run], &[Listed])] = &[
+// Chunks, numbers, and their accesses by these.
+const PUSHED: &[(&[Given], &[Run], &[Listed])] = &[
+    // Numbers that rise.
     (
         SOME,
         &[(128, 1, 2)],
@@ -353,7 +296,7 @@ const RENUMBERED: &[(&[Given], &[Run], &[Listed])] = &[
             (ALLOW, 1, 0, 2, 1, 1 << 60),
             (ALLOW, 1, 1, 1, 1, 1),
         ],
-        &[(65, 10, 1)],
+        &[(128, 10, 1)],
         &[
             (ALLOW, 11, 10, 11, 11),
             (ALLOW, 11, 70, 11, 11),
@@ -389,7 +332,7 @@ const RENUMBERED: &[(&[Given], &[Run], &[Listed])] = &[
     // Targets that move apart.
     (
         &[(ALLOW, 1, 0, 1, 1, 0b0111), (ALLOW, 1, 0, 1, 2, 0b11100)],
-        &[(2, 62, 1), (3, 65, 1)],
+        &[(2, 62, 1), (62, 65, 1)],
         &[
             (ALLOW, 63, 62, 63, 63),
             (ALLOW, 63, 63, 63, 63),
@@ -399,52 +342,16 @@ const RENUMBERED: &[(&[Given], &[Run], &[Listed])] = &[
             (ALLOW, 63, 67, 63, 65),
         ],
     ),
-];
-
-const OVER: &[Given] = &[
-    (ALLOW, 1, 0, 1, 1, 1 << 63 | 0b0111),
-    (ALLOW, 1, 1, 1, 1, 1 << 63 | 1),
-];
-
-#[test]
-fn accesses_by_numbers_that_rise(rt: HostRuntime) {
-    let alloc = rt.alloc();
-    for (chunks, runs, listed) in RENUMBERED {
-        assert!(&rt; are_renumbered(&rt, alloc, chunks, runs, listed));
-    }
     // Targets that stay in their word.
-    let full = [(ALLOW, 1, 0, 1, 1, ALL), (ALLOW, 1, 0, 2, 1, 0)];
-    let listed = word_of(&rt, alloc, 1, 0);
-    assert!(&rt; are_renumbered(&rt, alloc, &full, &[(64, 0, 1)], &listed));
-}
-
-// Asserts that the numbers of all accesses that a chunk may have are low enough.
-fn assert_low_chunk(rt: &impl Abort, chunk: &Chunk, len: usize)
-    ensures { (a : AccessNumbers) → IsAccessOf chunk.now a → IsWithin len a }
-{
-    assert!(rt; (chunk.source as usize) < len);
-    assert!(rt; 64 * (chunk.word as usize) + 63 < len);
-    assert!(rt; (chunk.class as usize) < len);
-    assert!(rt; (chunk.permission as usize) < len);
-}
-
-// The chunks with the numbers at the places of their own, which come in any order.
-fn pushed(rt: &impl Abort, alloc: Global, chunks: &[Given], numbers: &[u32]) -> Vec<Chunk>
-    ensures { All (λ c. c.word < 2 ^ 26) result.items }
-{
-    let mut all = Vec::new(alloc);
-    let mut places = ChunkPlaces::new(alloc);
-    for given in chunks {
-        let chunk = chunk_of(given);
-        assert!(rt; chunk.word < 1 << 26);
-        assert_low_chunk(rt, &chunk, numbers.len());
-        push_renumbered(&mut all, &mut places, &chunk, numbers).expect(rt, "memory");
-    }
-    all
-}
-
-// Chunks, numbers, and their accesses by these.
-const PUSHED: &[(&[Given], &[Run], &[Listed])] = &[
+    (
+        &[(ALLOW, 1, 0, 1, 1, 0b1011), (ALLOW, 1, 0, 2, 1, 0)],
+        &[(64, 0, 1)],
+        &[
+            (ALLOW, 1, 0, 1, 1),
+            (ALLOW, 1, 1, 1, 1),
+            (ALLOW, 1, 3, 1, 1),
+        ],
+    ),
     // The other way round.
     (
         &[
@@ -508,7 +415,7 @@ fn pushed_by_turns(rt: &impl Abort, alloc: Global) -> (usize, u128) {
 }
 
 #[test]
-fn accesses_by_numbers_in_any_order(rt: HostRuntime) {
+fn accesses_by_other_numbers(rt: HostRuntime) {
     let alloc = rt.alloc();
     for (chunks, runs, listed) in PUSHED {
         assert!(&rt; are_pushed(&rt, alloc, chunks, runs, listed));

@@ -1,20 +1,25 @@
 //! The changes and the tables that the counters of small policies tell. trials/counted.trials has what they count.
 
-ghost use Rattle.cil_counters.specs.Counted.{IsNow, WasBefore};
+ghost use Rattle.std.specs.Prelude.{◌≡◌, length};
+ghost use Rattle.cil_resolve.specs.Resolved.{meaning_in};
+ghost use Rattle.cil_resolve.specs.Sets.{sets_in};
+ghost use Rattle.cil_counters.specs.Counted.{steps_in, IsNow, WasBefore};
+ghost use Rattle.cil_sets.specs.Members.{AreMembers};
 
 use crate::policies::policy;
 use cil_counters::Counters;
 use cil_names::Seed;
 use cil_resolve::{Meter, Resolved};
 use cil_rules::{Atom, Changes, Table};
+use cil_sets::Members;
 use cil_text::RuleKind;
 use std::alloc::Global;
 use std::process::Abort;
 
 const START: &[u8] = b"(class p (use))(type a)(type b)(typeattribute s)";
 
-// Brings counters from one policy to another, and answers the changes.
-fn bring(
+/// Brings counters from one policy to another, and answers the changes.
+pub fn bring(
     rt: &impl Abort,
     alloc: Global,
     counters: &mut Counters,
@@ -52,16 +57,19 @@ fn take_back(counters: &mut Counters, policy: &Resolved)
 
 // The counters of a policy without set statements and rules.
 fn none(rt: &impl Abort, alloc: Global, empty: &Resolved) -> Counters
+    ensures sets { length (sets_in empty.now) ≡ 0 }
+    ensures rules { length (meaning_in empty.now).rules ≡ 0 }
     ensures now { IsNow empty.now result }
     ensures before { WasBefore empty.now result }
+    ensures settled { steps_in result ≡ 0 }
 {
     assert!(rt; empty.sets_len() == 0);
     assert!(rt; empty.rules_len() == 0);
     Counters::none(alloc, Seed::fixed(), empty).expect(rt, "memory")
 }
 
-// The counters of a policy, kept.
-fn counted(rt: &impl Abort, alloc: Global, resolved: &Resolved) -> Counters
+/// The counters of a policy, kept.
+pub fn counted(rt: &impl Abort, alloc: Global, resolved: &Resolved) -> Counters
     ensures now { IsNow resolved.now result }
     ensures before { WasBefore resolved.now result }
 {
@@ -70,6 +78,34 @@ fn counted(rt: &impl Abort, alloc: Global, resolved: &Resolved) -> Counters
     bring(rt, alloc, &mut counters, &empty, resolved);
     keep(&mut counters, resolved);
     counters
+}
+
+/// The counters of a policy, loaded from nothing.
+pub fn loaded(rt: &impl Abort, alloc: Global, resolved: &Resolved) -> Counters
+    ensures { IsNow resolved.now result }
+{
+    let mut meter = Meter::new();
+    load(rt, alloc, resolved, &mut meter)
+}
+
+/// The same, where a meter counts what is done for it.
+pub fn load(rt: &impl Abort, alloc: Global, resolved: &Resolved, meter: &mut Meter) -> Counters
+    ensures { IsNow resolved.now result }
+{
+    let empty = policy(rt, alloc, &[]);
+    let mut counters = none(rt, alloc, &empty);
+    counters
+        .load_counted(alloc, &empty, resolved, meter)
+        .expect(rt, "memory");
+    counters
+}
+
+/// The members of the attributes of a policy.
+pub fn members_of(rt: &impl Abort, alloc: Global, resolved: &Resolved) -> Members
+    ensures { AreMembers resolved.now result }
+{
+    let counters = counted(rt, alloc, resolved);
+    counters.members(alloc, resolved).expect(rt, "memory")
 }
 
 // A rule of an attribute that holds a, and a rule of a to itself.

@@ -16,6 +16,8 @@ mod keyed_lines;
 #[cfg(test)]
 mod lines;
 #[cfg(test)]
+mod listings;
+#[cfg(test)]
 mod matching;
 #[cfg(test)]
 mod member_rows;

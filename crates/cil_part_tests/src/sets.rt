@@ -1,5 +1,6 @@
 //! The members of small policies.
 
+use crate::counters::{load, members_of};
 use crate::policies::{number, policy};
 use cil_resolve::{Meter, Resolved};
 use cil_sets::{Members, TypeSet};
@@ -139,7 +140,7 @@ const ALIAS: &[u8] = b"(typealias k)(typealiasactual k b)(typeattributeset s (c 
 fn are_stated(rt: &impl Abort, alloc: Global, stated: &Stated) -> bool {
     let (statements, s, n) = *stated;
     let resolved = policy(rt, alloc, &[START, statements]);
-    let members = Members::plain(alloc, &resolved).expect(rt, "memory");
+    let members = members_of(rt, alloc, &resolved);
     let attributes: [(&[u8], &[u8]); 5] = [
         (b"s", s),
         (b"n", n),
@@ -158,7 +159,7 @@ fn are_stated(rt: &impl Abort, alloc: Global, stated: &Stated) -> bool {
 // Whether the source of the only rule stands for these types.
 fn are_sources(rt: &impl Abort, alloc: Global, rule: &[u8], want: &[u8]) -> bool {
     let resolved = policy(rt, alloc, &[START, ALIAS, rule]);
-    let members = Members::plain(alloc, &resolved).expect(rt, "memory");
+    let members = members_of(rt, alloc, &resolved);
     let rules = resolved.rules();
     rules.len() == 1 && are_types(&resolved, members.types_of(rules[0].source), want)
 }
@@ -214,11 +215,11 @@ fn declared(rt: &impl Abort, alloc: Global, statements: &[u8]) -> Resolved {
 fn evaluations(rt: &impl Abort, alloc: Global, statements: &[u8]) -> u128 {
     let resolved = declared(rt, alloc, statements);
     let mut meter = Meter::new();
-    Members::metered(alloc, &resolved, &mut meter).expect(rt, "memory");
+    load(rt, alloc, &resolved, &mut meter);
     meter.evaluations()
 }
 
-// A statement is looked at where its type is, and not at all 40; a complement is looked at once at each type.
+// A statement is evaluated where its type is, and not at all 40; a complement is evaluated once at each type.
 #[test]
 fn few_evaluations(rt: HostRuntime) {
     let made = evaluations(&rt, rt.alloc(), &named(&rt, rt.alloc()));

@@ -233,7 +233,7 @@ const CASES: &[Case<'static>] = &[
     (&[63], &[63], &[128], &[128], &[], &[], 1, 2),
 ];
 
-// Whether just the accesses of a kind to targets stand in the tables.
+// Whether a listing of the tables has just the accesses of a kind to targets, or none of neverallow.
 fn stand(
     rt: &impl Abort,
     alloc: Global,
@@ -245,7 +245,12 @@ fn stand(
     requires { AreNumbered numbers.now tables.now }
 {
     let found = accesses(alloc, tables, numbers).expect(rt, "memory");
-    are_listed(&found, kind, targets)
+    let listed = if kind == RuleKind::NeverAllow {
+        &[]
+    } else {
+        targets
+    };
+    are_listed(&found, kind, listed)
 }
 
 // Whether just the accesses of a kind to targets appeared, and went.
@@ -365,23 +370,23 @@ fn add_each(rt: &impl Abort, alloc: Global, numbers: &[u32], tables: &mut Symbol
     add(rt, alloc, numbers, tables, RuleKind::Allow, &rule);
 }
 
-// Whether an access of each kind stands in a list, in the order of the kinds.
-fn are_each(found: &Accesses) -> bool {
-    for i in 0..KINDS.len() {
+// Whether an access of each of the first kinds stands in a list, in the order of the kinds.
+fn are_each(found: &Accesses, kinds: usize) -> bool {
+    for i in 0..kinds.min(KINDS.len()) {
         if found.get(i) != Some(access(KINDS[i], 127)) {
             return false;
         }
     }
-    found.len() == 4
+    found.len() == kinds as u128
 }
 
-// Whether those appeared, none went, and those stand in the tables.
+// Whether those of all four kinds appeared, none went, and a listing has those of the first three.
 fn are_in_order(rt: &impl Abort, alloc: Global, numbers: &[u32], tables: &SymbolTables) -> bool
     requires { AreNumbered numbers.now tables.now }
 {
     let found = changes(alloc, tables, numbers).expect(rt, "memory");
     let present = accesses(alloc, tables, numbers).expect(rt, "memory");
-    are_each(&found.added) && found.removed.len() == 0 && are_each(&present)
+    are_each(&found.added, 4) && found.removed.len() == 0 && are_each(&present, 3)
 }
 
 #[test]

@@ -1,9 +1,8 @@
-//! The access tables of small policies.
+//! How many rules of small policies give their accesses.
 
-use crate::policies::{number, policy};
-use cil_resolve::Resolved;
-use cil_sets::Members;
-use cil_tables::{LineKey, Lines, Tables};
+use crate::counters::{counted, loaded};
+use crate::policies::policy;
+use cil_counters::Counters;
 use cil_text::RuleKind;
 use std::alloc::Global;
 use std::process::Abort;
@@ -13,19 +12,6 @@ const START: &[u8] =
 
 // The source, the target, the class and the permission of an access, and how many rules give it.
 type Counted<'t> = (&'t [u8], &'t [u8], &'t [u8], &'t [u8], u64);
-
-fn tables_of(rt: &impl Abort, alloc: Global, resolved: &Resolved) -> Tables {
-    let members = Members::plain(alloc, resolved).expect(rt, "memory");
-    Tables::plain(alloc, resolved, &members).expect(rt, "memory")
-}
-
-fn key_of(resolved: &Resolved, access: &Counted<'_>) -> LineKey {
-    LineKey {
-        source: number(resolved, access.0),
-        class: number(resolved, access.2),
-        permission: number(resolved, access.3),
-    }
-}
 
 // Statements behind the start, a kind, and how many rules of it give accesses.
 const COUNTS: &[(&[u8], RuleKind, &[Counted<'static>])] = &[
@@ -56,7 +42,17 @@ const COUNTS: &[(&[u8], RuleKind, &[Counted<'static>])] = &[
     ),
 ];
 
-// Whether so many rules of a kind give accesses.
+// Whether counters tell that so many rules of a kind give accesses.
+fn tell(counters: &Counters, kind: RuleKind, wanted: &[Counted<'_>]) -> bool {
+    for (source, target, class, permission, count) in wanted {
+        if counters.count(kind, source, target, class, permission) != *count {
+            return false;
+        }
+    }
+    true
+}
+
+// Whether they do where the policy is loaded, and where it is reached in steps.
 fn are_counted(
     rt: &impl Abort,
     alloc: Global,
@@ -65,14 +61,8 @@ fn are_counted(
     wanted: &[Counted<'_>],
 ) -> bool {
     let resolved = policy(rt, alloc, &[START, statements]);
-    let tables = tables_of(rt, alloc, &resolved);
-    for access in wanted {
-        let key = key_of(&resolved, access);
-        if tables.count_at(kind, key, number(&resolved, access.1)) != access.4 {
-            return false;
-        }
-    }
-    true
+    tell(&loaded(rt, alloc, &resolved), kind, wanted)
+        && tell(&counted(rt, alloc, &resolved), kind, wanted)
 }
 
 // More rules than 2^16.
@@ -98,62 +88,4 @@ fn counted_accesses(rt: HostRuntime) {
     }
     let rules = many_rules(&rt, rt.alloc());
     assert!(&rt; are_counted(&rt, rt.alloc(), &rules, RuleKind::Allow, MANY));
-}
-
-const RULES: &[u8] =
-    b"(allow b c (p (use)))(allow a b (q (use)))(allow a b (p (use)))(allow a b (p (use see)))(auditallow c b (p (use)))";
-
-// The lines of each kind, each with the counter of a target.
-const LINES: &[(RuleKind, &[Counted<'static>])] = &[
-    (
-        RuleKind::Allow,
-        &[
-            (b"a", b"b", b"p", b"see", 1),
-            (b"a", b"b", b"p", b"use", 2),
-            (b"a", b"b", b"q", b"use", 1),
-            (b"b", b"b", b"p", b"use", 0),
-        ],
-    ),
-    (RuleKind::AuditAllow, &[(b"c", b"b", b"p", b"use", 1)]),
-    (RuleKind::DontAudit, &[]),
-];
-
-// Whether the line at a place is that of an access, and counts its target as often.
-fn is_line(resolved: &Resolved, lines: &Lines, place: usize, access: &Counted<'_>) -> bool {
-    match lines.at(place) {
-        Some(found) => {
-            let counted = found.line.count(number(resolved, access.1));
-            found.key == key_of(resolved, access) && counted == access.4
-        }
-        None => false,
-    }
-}
-
-// Whether the lines are those of accesses, in their order.
-fn are_lines(resolved: &Resolved, lines: &Lines, wanted: &[Counted<'_>]) -> bool {
-    for place in 0..wanted.len() {
-        if !is_line(resolved, lines, place, &wanted[place]) {
-            return false;
-        }
-    }
-    let len = wanted.len();
-    lines.len() == len && lines.is_empty() == (len == 0) && lines.at(len).is_none()
-}
-
-// Whether the lines of each kind are.
-fn are_all_lines(rt: &impl Abort, alloc: Global) -> bool {
-    let resolved = policy(rt, alloc, &[START, RULES]);
-    let tables = tables_of(rt, alloc, &resolved);
-    for (kind, wanted) in LINES {
-        if !are_lines(&resolved, tables.lines(*kind), wanted) {
-            return false;
-        }
-    }
-    true
-}
-
-// Lines go by source, then by class, then by permission.
-#[test]
-fn lines_in_their_order(rt: HostRuntime) {
-    assert!(&rt; are_all_lines(&rt, rt.alloc()));
 }

@@ -1,8 +1,8 @@
 //! Violations by their places, and reports to sinks that fail.
 
+use crate::counters::members_of;
 use crate::policies::policy;
 use cil_resolve::RuleView;
-use cil_sets::Members;
 use cil_stream::MemorySink;
 use cil_text::RuleKind;
 use cil_violations::{Permissions, Violations};
@@ -22,7 +22,7 @@ const REPORT: &[u8] =
 fn violations_of(rt: &impl Abort, alloc: Global, statements: &[u8]) -> Violations {
     let resolved = policy(rt, alloc, &[START, statements]);
     let resolved = Rc::new(alloc, resolved).expect(rt, "memory");
-    let members = Members::plain(alloc, &resolved).expect(rt, "memory");
+    let members = members_of(rt, alloc, &resolved);
     Violations::of(alloc, &resolved, &members).expect(rt, "memory")
 }
 

@@ -1,5 +1,6 @@
 //! Sets of types at the edges of words.
 
+use crate::counters::members_of;
 use crate::policies::{number, policy};
 use cil_resolve::{Element, Resolved};
 use cil_sets::{Members, TypeSet};
@@ -111,7 +112,7 @@ fn are_members(
     attribute: &[u8],
     want: &[usize],
 ) -> bool {
-    let members = Members::plain(alloc, resolved).expect(rt, "memory");
+    let members = members_of(rt, alloc, resolved);
     let row = number(resolved, attribute);
     let listed = members.members(alloc, row).expect(rt, "memory");
     let other = Element::Attribute(resolved.names_len());

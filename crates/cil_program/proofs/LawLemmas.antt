@@ -17,7 +17,7 @@ use Rattle.cil_store_specs.proofs.HeldLemmas.{opened}
 use Rattle.cil_store_specs.proofs.OneRun.{run-same}
 use Rattle.cil_store_specs.proofs.OneScript.{one-script}
 use Rattle.cil_store_specs.proofs.DumpSession.{dump-taken-back}
-use Rattle.cil_store.proofs.PlainLemmas.{none-meant}
+use Rattle.cil_store.proofs.NothingLemmas.{none-meant}
 use Rattle.cil_store.proofs.MeantLemmas.{run-meant}
 
 -- some call leads from one store to another

@@ -207,6 +207,19 @@ impl<A: Allocator> RecordedLines<A> {
         mask.count_ones()
     }
 
+    /// Adds 1 to the counter of each target of a mask, where there is no step to take back, and logs none. It takes no memory.
+    pub fn add(&mut self, line: usize, word: usize, mask: u64)
+        requires line { line < lines_in self.old }
+        requires settled { steps_in self.old ≡ 0 }
+        requires room { CanRaise (count_now self.old line) (limit_now self.old line) word mask }
+        ensures lines { lines_in self.new ≡ lines_in self.old }
+        ensures steps { steps_in self.new ≡ 0 }
+        ensures now { (l t : ℕ) → count_now self.new l t ≡ count_now self.old l t + hit_at line word mask l t }
+        ensures before { (l t : ℕ) → count_before self.new l t ≡ count_now self.new l t }
+    {
+        word_steps::raise(&mut self.lines, line, word, mask)
+    }
+
     /// Takes 1 from the counter of each target of a mask. It takes no memory, and answers how many counters moved.
     pub fn lower(&mut self, line: usize, word: usize, mask: u64) -> u32
         requires line { line < lines_in self.old }

@@ -2,3 +2,4 @@ pub mod ReachLemmas
 pub mod ShiftLemmas
 pub mod MoveLemmas
 pub mod TurnedLemmas
+pub mod PieceLemmas

@@ -31,7 +31,7 @@ pub fn turned_words<A: Allocator + Copy>(
 }
 
 /// Whether the target of each source is itself; otherwise all sources have the same targets.
-fn is_itself<A: Allocator>(targets: &Targets<A>) -> bool
+pub fn is_itself<A: Allocator>(targets: &Targets<A>) -> bool
     ensures itself { result ≡ true → (s t : ℕ) → takes targets.now s t ≡ (s == t) }
     ensures same { result ≡ false → (s t : ℕ) → takes targets.now s t ≡ takes targets.now 0 t }
 {

@@ -1,7 +1,5 @@
 pub mod AtomLemmas
 pub mod ChangesLemmas
-pub mod CollectLemmas
-pub mod CountedLemmas
 pub mod GroupLemmas
 pub mod ListingLemmas
 pub mod NumberedRowLemmas

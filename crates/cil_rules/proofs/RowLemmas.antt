@@ -14,7 +14,7 @@ use Rattle.cil_specs.specs.Rule.{Atom, kind_index}
 use Rattle.cil_specs.specs.Report.{name_cmp, atom_cmp, AreAtoms, Row, row_cmp, is_listed, IsRow, Has, AreRows}
 use Rattle.cil_specs.proofs.ReportLemmas.{row_total, same-kind, then_equal, equal-is}
 use Rattle.cil_specs.proofs.ReportLemmasMembers.{AnyByRecursion, any_to, any_from, contains_to, contains_from, any_weaker, any-map, any_from_map, any-filter, any_from_filter, any-flat_map, any_from_flat_map, all_weaker, sorted_unmap}
-use Rattle.cil_rules.specs.Rows.{row_with, put_first, groups_of, rows_of}
+use Rattle.cil_rules.specs.Rows.{row_with, put_first, groups_of, listed, rows_of}
 
 -- the access of a row and a permission
 abbrev pub atom_with : Row → List ℕ → Atom
@@ -203,3 +203,14 @@ are-rows test atoms are = record {
         (any-filter (λ r. is_listed r.kind) (λ r. Has r a) (groups_of atoms)
         (any_weaker (λ r. AnyByRecursion (λ x. x ≡ a) (atoms_in r)) (λ r. Has r a × IsTrue (is_listed r.kind))
         (λ r held. let has = has-from_atoms r a held in (has, ap is_listed has.kind ∙ parts.0)) (groups_of atoms) in_rows))
+
+-- rows of the accesses that a listing has are those of all
+pub rows-listed : (test : Atom → Bool) (rows : List Row) → AreRows (listed test) rows → AreRows test rows
+rows-listed test rows are = record {
+  each = are.each;
+  ordered = are.ordered;
+  exact = λ a. (
+    λ some. (and_parts (is_listed a.kind) (listed test a) ((are.exact a).0 some)).1,
+    λ passes. (are.exact a).1 (and_from (is_listed a.kind) (listed test a) (and_parts (is_listed a.kind) (test a) passes).0 passes),
+  );
+}

@@ -1,16 +1,14 @@
--- The accesses of the access tables of a policy are those of its table.
-use Rattle.std.proofs.Common.{◌≡◌, ◌↔◌, ℕ, ◌<◌, ◌==◌, List, [], ◌∷◌, length, map, bytes_eq, nat_lt, Contains, sym, ap, subst, ◌∙◌, inl, inr, arith}
+-- The names of the accesses that the rules of a policy give are the policy's.
+use Rattle.std.proofs.Common.{◌≡◌, ℕ, ◌<◌, ◌==◌, List, [], ◌∷◌, length, bytes_eq, nat_lt, sym, subst, inl, inr}
 use Rattle.std.specs.Bool.{IsTrue}
 use Rattle.std.specs.List.{list_all, list_any}
-use Rattle.std.specs.List.Sorted.{IsStrictlySortedBy}
 use Rattle.std.specs.Cmp.Lexicographic.{bytes_decides}
-use Rattle.std.proofs.lemmas.Bool.{and_parts, cases_lt, eqb-true, lt-ltb, ltb-true}
+use Rattle.std.proofs.lemmas.Bool.{and_parts, eqb-true, ltb-true}
 use Rattle.cil_specs.specs.Rule as spec
 use Rattle.cil_specs.specs.Rule.{kind_index}
-use Rattle.cil_specs.specs.Meaning.{aims, count_of, covers, gives, holds, is_in_table, keeps_type}
-use Rattle.cil_specs.specs.Report.{AreAtoms}
+use Rattle.cil_specs.specs.Meaning.{aims, covers, gives, holds, is_in_table, keeps_type}
 use Rattle.cil_specs.proofs.ReportLemmas.{same-kind}
-use Rattle.cil_specs.proofs.ReportLemmasMembers.{AnyByRecursion, all_from_contains, any-map, any_from, any_from_counted, any_from_map, any_from_test, any_to, contains_from, contains_to}
+use Rattle.cil_specs.proofs.ReportLemmasMembers.{AnyByRecursion, any_from_counted, any_from_map, any_from_test}
 use Rattle.cil_text.specs.Image.{rule_kind_of}
 use Rattle.cil_resolve.specs.Below.{is_element_below, is_name_below, is_rule_below, is_target_below}
 use Rattle.cil_resolve.specs.Numbers.{declared_of, rule_of}
@@ -18,14 +16,9 @@ use Rattle.cil_resolve.specs.Resolved.{meaning_in}
 use Rattle.cil_resolve.specs.declared.numbered.NumberedName.{NumberedName}
 use Rattle.cil_resolve.specs.declared.numbered.NumberedRule.{NumberedRule}
 use Rattle.cil_resolve.specs.declared.resolved.Resolved.{Resolved}
-use Rattle.cil_tables.specs.Tables.{count_now, AreTables}
-use Rattle.cil_tables.specs.declared.tables.Tables.{Tables}
 use Rattle.cil_accesses.specs.declared.access.AccessNumbers.{AccessNumbers}
-use Rattle.cil_accesses.specs.Chunks.{numbers_cmp}
 use Rattle.cil_accesses.specs.Renumbered.{IsWithin}
-use Rattle.cil_rules.specs.Atoms.{atom_at, name_at, AreNumbered}
-use Rattle.cil_rules.specs.Collected.{key_of}
-use Rattle.cil_rules.proofs.AtomLemmas.{atoms-ordered}
+use Rattle.cil_rules.specs.Atoms.{atom_at, name_at}
 
 -- a number of a name
 abbrev pub IsNamed : List (List ℕ) → List ℕ → Type 0
@@ -98,47 +91,3 @@ module _ {A : Type 0} (r : Resolved A) where
   table-numbered a there =
       one-numbered r.rules.items a r.rules_within
       (any_from_map (rule_of r.modules.items names) (λ rule. IsTrue (gives (meaning_in r) rule a)) r.rules.items (any_from_counted (λ rule. gives (meaning_in r) rule a) (meaning_in r).rules there))
-
-  module _ {B : Type 0} (tables : Tables B) (are : AreTables r tables) where
-    abbrev counter_of : AccessNumbers → ℕ
-    counter_of n = count_now tables n.kind (key_of n) n.target
-
-    -- what is counted has numbers of names
-    counted-within : (n : AccessNumbers) → 0 < counter_of n → IsWithin (length names) n
-    counted-within n some =
-        record {
-          source = elim (cases_lt n.source (length names)) [ inl low ↦ low | inr past ↦ absurd (let none = are.no_source n.kind (key_of n) n.target past in omega (arith, none, some)) ];
-          target = elim (cases_lt n.target (length names)) [ inl low ↦ low | inr past ↦ absurd (let none = are.no_target n.kind (key_of n) n.target past in omega (arith, none, some)) ];
-          the_class = elim (cases_lt n.class (length names)) [ inl low ↦ low | inr past ↦ absurd (let none = are.no_class n.kind (key_of n) n.target past in omega (arith, none, some)) ];
-          permission = elim (cases_lt n.permission (length names)) [ inl low ↦ low | inr past ↦ absurd (let none = are.no_permission n.kind (key_of n) n.target past in omega (arith, none, some)) ];
-        }
-
-    -- and is counted as often as rules give it
-    counted-named : (n : AccessNumbers) → IsWithin (length names) n → counter_of n ≡ count_of (meaning_in r) (atom_at names n)
-    counted-named n within = are.counts n.kind (key_of n) n.target within.the_class within.permission within.source within.target
-
-    module _ (atoms : List AccessNumbers) (ordered : IsStrictlySortedBy numbers_cmp atoms) (exact : (n : AccessNumbers) → Contains atoms n ↔ (0 < counter_of n)) where
-      pub are-numbered : AreNumbered names atoms
-      are-numbered = record {
-        names_ordered = r.ordered;
-        ordered = ordered;
-        within = all_from_contains (IsWithin (length names)) atoms (λ n h. counted-within n ((exact n).0 h));
-      }
-
-      to-table : (a : spec.Atom) → Contains (map (atom_at names) atoms) a → IsTrue (is_in_table (meaning_in r) a)
-      to-table a h =
-          let (k, n, low, at, same) = any_from (λ n. atom_at names n ≡ a) atoms (any_from_map (atom_at names) (λ b. b ≡ a) atoms (contains_to (map (atom_at names) atoms) a h)) in
-          let some : 0 < counter_of n = (exact n).0 (k, low, at) in
-          let counts : counter_of n ≡ count_of (meaning_in r) a = counted-named n (counted-within n some) ∙ ap (count_of (meaning_in r)) same in
-          lt-ltb 0 (count_of (meaning_in r) a) (subst (λ c. 0 < c) counts some)
-
-      from-table : (a : spec.Atom) → IsTrue (is_in_table (meaning_in r) a) → Contains (map (atom_at names) atoms) a
-      from-table a there =
-          let (n, within, same) = table-numbered a there in
-          let counts : count_of (meaning_in r) a ≡ counter_of n = sym (counted-named n within ∙ ap (count_of (meaning_in r)) same) in
-          let h : Contains atoms n = (exact n).1 (subst (λ c. 0 < c) counts (ltb-true 0 (count_of (meaning_in r) a) there)) in
-          contains_from (map (atom_at names) atoms) a (any-map (atom_at names) (λ b. b ≡ a) atoms (any_to (λ n. atom_at names n ≡ a) atoms (h.0, n, h.1, h.2, same)))
-
-      -- what is counted, each once and in order, is the table
-      pub are-atoms : AreAtoms (is_in_table (meaning_in r)) (map (atom_at names) atoms)
-      are-atoms = record { ordered = atoms-ordered names atoms are-numbered; exact = λ a. (to-table a, from-table a) }

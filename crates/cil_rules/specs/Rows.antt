@@ -1,5 +1,5 @@
 -- Rows from accesses in order.
-use Rattle.std.specs.Prelude.{ℕ, List, [], ◌∷◌, ◌++◌, codes, map, if◌then◌else◌}
+use Rattle.std.specs.Prelude.{ℕ, Bool, ◌&&◌, List, [], ◌∷◌, ◌++◌, codes, map, if◌then◌else◌}
 use Rattle.std.specs.List.{filter}
 use Rattle.std.specs.Ordering.{eq_by_cmp}
 use Rattle.cil_specs.specs.Statements.{RuleKind, rule_word}
@@ -9,6 +9,10 @@ use Rattle.cil_accesses.specs.declared.access.AccessNumbers.{AccessNumbers}
 use Rattle.cil_accesses.specs.declared.chunk.Chunk.{Chunk}
 use Rattle.cil_accesses.specs.View.{has_bit}
 use Rattle.cil_rules.specs.Atoms.{atom_at, name_at}
+
+-- of the accesses that pass a test, those that a listing has
+abbrev pub listed : (Atom → Bool) → Atom → Bool
+listed test a = is_listed a.kind && test a
 
 -- the row of an access, with these permissions
 abbrev pub row_with : Atom → List (List ℕ) → Row

@@ -1,17 +1,12 @@
 //! The changes between two access tables.
 
-ghost use Rattle.std.specs.Prelude.{◌≡◌, Bool, length, map, slice_get, option_map, IfOk};
-ghost use Rattle.cil_specs.specs.Rule as spec;
-ghost use Rattle.cil_specs.specs.Report.{AreAtoms, AreChanges};
+ghost use Rattle.std.specs.Prelude.{◌≡◌, length, map, slice_get, option_map, IfOk};
 ghost use Rattle.cil_rules.specs.Atoms.{atom_of, atom_at, AreNumbered};
 
 use crate::atom::Atom;
 use crate::name_list::NameList;
 use crate::numbers::named;
-use crate::ranked::rank_accesses;
-use crate::ranks::rank;
-use crate::table::Table;
-use cil_accesses::{Accesses, Difference};
+use cil_accesses::Accesses;
 use cil_resolve::Text;
 use std::alloc::{AllocError, Allocator, Global};
 use std::marker::Model;
@@ -39,43 +34,6 @@ impl<A: Allocator> Model for Changes<A> {
 }
 
 impl<A: Allocator + Copy> Changes<A> {
-    /// The changes from one table to another. Where both have the same names, these are shared.
-    pub fn between(alloc: A, old: &Table<A>, new: &Table<A>) -> Result<Self, AllocError>
-        ensures { IfOk result (λ changes. (p q : spec.Atom → Bool) → AreAtoms p old.now → AreAtoms q new.now → AreChanges p q changes) }
-    {
-        if new.names.is_same(&old.names) {
-            return Changes::by(alloc, new.names.shared()?, &old.accesses, &new.accesses);
-        }
-        let ranks = rank(alloc, old.names.as_slice(), new.names.as_slice())?;
-        let old_accesses = rank_accesses(alloc, &old.accesses, &ranks.first)?;
-        let new_accesses = rank_accesses(alloc, &new.accesses, &ranks.second)?;
-        Changes::by(
-            alloc,
-            NameList::of(ranks.names)?,
-            old_accesses.as_accesses(),
-            new_accesses.as_accesses(),
-        )
-    }
-
-    /// The changes between accesses by the numbers of the same names.
-    fn by(
-        alloc: A,
-        names: NameList<A>,
-        old: &Accesses<A>,
-        new: &Accesses<A>,
-    ) -> Result<Self, AllocError>
-        requires old { AreNumbered names old.now }
-        requires new { AreNumbered names new.now }
-        ensures { IfOk result (λ changes. (p q : spec.Atom → Bool) → AreAtoms p (map (atom_at names) old.now) → AreAtoms q (map (atom_at names) new.now) → AreChanges p q changes) }
-    {
-        let found = Difference::between(alloc, old, new)?;
-        Ok(Changes {
-            names,
-            added: found.added,
-            removed: found.removed,
-        })
-    }
-
     /// The changes that are these accesses by the numbers of names, which it takes over.
     pub fn of(
         names: Vec<Text<A>, A>,

@@ -3,12 +3,9 @@
 
 mod atom;
 mod changes;
-mod collect;
-mod counted;
 mod listing;
 mod name_list;
 mod numbers;
-mod ranked;
 mod ranks;
 mod row;
 mod rows;
@@ -16,7 +13,6 @@ mod table;
 
 pub use atom::Atom;
 pub use changes::Changes;
-pub use counted::count;
 pub use listing::write_row_line;
 pub use name_list::names_of;
 pub use numbers::number;

@@ -1,6 +1,6 @@
 //! Names that several owners share.
 
-ghost use Rattle.std.specs.Prelude.{◌≡◌, ◌↔◌, [], true, IfOk};
+ghost use Rattle.std.specs.Prelude.{◌≡◌, [], IfOk};
 
 use cil_resolve::{Resolved, Text};
 use std::alloc::{AllocError, Allocator, Global};
@@ -53,23 +53,6 @@ impl<A: Allocator> NameList<A> {
             }),
             None => Ok(NameList::empty()),
         }
-    }
-
-    /// Whether it has the same names in the same order as another.
-    pub fn is_same(&self, other: &NameList<A>) -> bool
-        ensures { result ≡ true ↔ (self.now ≡ other.now) }
-    {
-        let names = self.as_slice();
-        let others = other.as_slice();
-        if names.len() != others.len() {
-            return false;
-        }
-        for i in 0..names.len() {
-            if names[i].as_slice() != others[i].as_slice() {
-                return false;
-            }
-        }
-        true
     }
 
     pub fn as_slice(&self) -> &[Text<A>]

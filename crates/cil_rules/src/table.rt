@@ -3,23 +3,18 @@
 ghost use Rattle.std.specs.Prelude.{◌≡◌, ◌≤◌, ◌==◌, Bool, List, [], length, map, slice_get, option_map, IfOk, OnErr};
 ghost use Rattle.std.specs.List.{flat_map};
 ghost use Rattle.cil_specs.specs.Rule as spec;
-ghost use Rattle.cil_specs.specs.Meaning.{is_in_table};
 ghost use Rattle.cil_specs.specs.Report.{AreAtoms, Row, AreRows, row_line};
-ghost use Rattle.cil_resolve.specs.Resolved.{meaning_in};
-ghost use Rattle.cil_tables.specs.Tables.{AreTables};
 ghost use Rattle.cil_stream.specs.Device.{HasFailed, Gains, GainsFront};
 ghost use Rattle.cil_rules.specs.Atoms.{atom_at, atom_of, AreNumbered};
 
 use crate::atom::Atom;
-use crate::collect::accesses_of;
 use crate::listing::write_rows;
-use crate::name_list::{NameList, names_of};
+use crate::name_list::NameList;
 use crate::numbers::named;
 use crate::rows::Rows;
 use cil_accesses::Accesses;
-use cil_resolve::{Resolved, Text};
+use cil_resolve::Text;
 use cil_stream::{Sink, SinkFault};
-use cil_tables::Tables;
 use std::alloc::{AllocError, Allocator, Global};
 use std::marker::Model;
 
@@ -52,18 +47,6 @@ impl<A: Allocator + Copy> Table<A> {
             names: NameList::empty(),
             accesses: Accesses::empty(alloc),
         }
-    }
-
-    /// The table of the rules of a resolved policy, which these tables count. It has names of its own.
-    pub fn of(alloc: A, resolved: &Resolved<A>, tables: &Tables<A>) -> Result<Self, AllocError>
-        requires { AreTables resolved.now tables.now }
-        ensures { IfOk result (λ table. AreAtoms (is_in_table (meaning_in resolved.now)) table) }
-    {
-        let accesses = accesses_of(alloc, resolved, tables)?;
-        Ok(Table {
-            names: NameList::of(names_of(alloc, resolved)?)?,
-            accesses,
-        })
     }
 
     /// The table of these accesses by the numbers of names, which it takes over.

@@ -1,14 +1,12 @@
--- Counters of set statements in the order of dependence.
-use Rattle.std.proofs.Common.{zero, suc, zero-add, ◌≡◌, ℕ, ◌+◌, ◌<◌, Bool, true, false, cond, ◌&&◌, ◌||◌, List, [], ◌∷◌, length, take, drop, get_or, Contains, bytes_eq, count_by, nat_lt, refl, sym, ap, ◌∙◌, subst, true≢false, arith}
+-- How many set statements make a type a member.
+use Rattle.std.proofs.Common.{zero-add, ◌≡◌, ℕ, ◌+◌, Bool, true, false, cond, ◌||◌, List, [], ◌∷◌, Contains, count_by, nat_lt, refl, sym, ap, ◌∙◌, subst, true≢false, arith}
 use Rattle.std.specs.List.{list_any}
-use Rattle.std.proofs.lemmas.Bool.{lt-ltb, or_parts}
-use Rattle.std.proofs.lemmas.List.{drop_more}
-use Rattle.std.proofs.lemmas.List.Sums.{sum_by-cons, sum_by-take-drop}
-use Rattle.cil_specs.specs.Dependence.{has_set, AreInOrder, AreTheSame}
-use Rattle.cil_specs.specs.Meaning.{Meaning, is_in}
+use Rattle.std.proofs.lemmas.Bool.{lt-ltb}
+use Rattle.std.proofs.lemmas.List.Sums.{sum_by-cons}
+use Rattle.cil_specs.specs.Dependence.{AreTheSame}
+use Rattle.cil_specs.specs.Meaning.{Meaning}
 use Rattle.cil_specs.specs.Members.{is_member, HasSoundSets}
 use Rattle.cil_specs.specs.Rule.{SetStatement}
-use Rattle.cil_specs.specs.Sets.{mentions}
 use Rattle.cil_specs.proofs.DependsLemmas.{any-contained}
 use Rattle.cil_specs.proofs.MemberLemmas.{member-fixed}
 use Rattle.cil_specs.proofs.NamesLemmas.{contains-middle}
@@ -46,32 +44,3 @@ counted-any p (x ∷ xs) = ap (nat_lt 0) (one-more p x xs) ∙ by (p x) (counted
 pub counted-member : (meaning : Meaning) → HasSoundSets meaning → (sets : List SetStatement) → AreTheSame meaning.sets sets → (a t : List ℕ) → nat_lt 0 (gives_count meaning a t sets) ≡ is_member meaning a t
 counted-member meaning sound sets same a t =
     counted-any (gives_member meaning a t) sets ∙ sym (any-same (gives_member meaning a t) meaning.sets sets same) ∙ sym (member-fixed meaning sound a t)
-
--- the statement at a place isn't of an attribute that it mentions, nor is one behind it
-none-behind : (sets : List SetStatement) → AreInOrder sets → (i : ℕ) (d : SetStatement) → i < length sets → (a : List ℕ) → mentions a (get_or sets i d).expr ≡ true → has_set (drop i sets) a ≡ false
-none-behind [] order i d within a m = absurd (omega (arith, within))
-none-behind (s ∷ sets) order zero d within a m = order.0 a m
-none-behind (s ∷ sets) order (suc i) d within a m = none-behind sets order.1 i d (omega (arith, within)) a m
-
--- statements of other attributes don't count
-none-counted : (meaning : Meaning) (a t : List ℕ) (sets : List SetStatement) → has_set sets a ≡ false → gives_count meaning a t sets ≡ 0
-none-counted meaning a t [] none = refl
-none-counted meaning a t (s ∷ sets) none = one-more (gives_member meaning a t) s sets ∙ by (bytes_eq a s.attribute) (none-counted meaning a t sets) none
-  where
-    by : (b : Bool) → (has_set sets a ≡ false → gives_count meaning a t sets ≡ 0) → (b || has_set sets a) ≡ false → cond (b && is_in meaning s.expr t) 1 0 + gives_count meaning a t sets ≡ 0
-    by true more none = absurd (true≢false none)
-    by false more none = zero-add (gives_count meaning a t sets) ∙ more none
-
-module _ (meaning : Meaning) (sets : List SetStatement) (order : AreInOrder sets) (i : ℕ) (d : SetStatement) (within : i < length sets) (a : List ℕ) (mentioned : mentions a (get_or sets i d).expr ≡ true) where
-  -- what a statement mentions is another attribute
-  pub other-mentioned : bytes_eq a (get_or sets i d).attribute ≡ false
-  other-mentioned =
-      (or_parts (bytes_eq a (get_or sets i d).attribute) (has_set (drop (i + 1) sets) a)
-      (subst (λ l. has_set l a ≡ false) (drop_more sets i d within) (none-behind sets order i d within a mentioned))).0
-
-  -- and counts no more from there on
-  pub settled-count : (t : List ℕ) → gives_count meaning a t (take i sets) ≡ gives_count meaning a t sets
-  settled-count t =
-      let both = sum_by-take-drop (λ s. cond (gives_member meaning a t s) 1 0) sets i in
-      let none = none-counted meaning a t (drop i sets) (none-behind sets order i d within a mentioned) in
-      omega (arith, both, none)

@@ -1,10 +1,7 @@
 //! The members of attributes, for every attribute and type.
 #![tactic(auto)]
 
-mod filling;
-mod kept;
 mod members;
-mod named;
 mod row;
 mod type_set;
 

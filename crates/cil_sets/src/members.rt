@@ -1,11 +1,8 @@
 //! The members of a policy's attributes.
 
-use crate::filling::Filling;
-use crate::kept::kept_types;
 use crate::row::Row;
 use crate::type_set::{Held, TypeSet};
-use cil_names::counted_in_32_bits;
-use cil_resolve::{Element, Meter, Resolved, resolved_is_sound, resolved_sets_are_in_order};
+use cil_resolve::Element;
 use std::alloc::{AllocError, Allocator, Global};
 
 /// The members of a resolved policy's attributes, by the numbers of the names: for each type how many set statements
@@ -67,34 +64,9 @@ impl<A: Allocator> Members<A> {
 }
 
 impl<A: Allocator + Copy> Members<A> {
-    ghost use Rattle.std.specs.Prelude.{◌≡◌, ◌+◌, ◌<◌, ◌^◌, ◌&&◌, ◌==◌, ℕ, [], length, slice_index_or, if◌then◌else◌, IfOk, OnOk};
-    ghost use Rattle.cil_sets.specs.Counts.{AreWide, one_if};
-    ghost use Rattle.cil_sets.specs.Members.{count_in, AreMembers, IsListOf};
-
-    /// The members of a resolved policy's attributes. A policy of 2^32 set statements or more is told to take too much
-    /// memory.
-    pub fn plain(alloc: A, resolved: &Resolved<A>) -> Result<Self, AllocError>
-        ensures { IfOk result (AreMembers resolved.now) }
-    {
-        let mut meter = Meter::new();
-        Self::metered(alloc, resolved, &mut meter)
-    }
-
-    /// The same, where the caller counts how often a statement is evaluated at a type.
-    pub fn metered(alloc: A, resolved: &Resolved<A>, meter: &mut Meter) -> Result<Self, AllocError>
-        ensures { IfOk result (AreMembers resolved.now) }
-    {
-        resolved_is_sound(resolved);
-        resolved_sets_are_in_order(resolved);
-        let sets = resolved.sets_len();
-        counted_in_32_bits(sets)?;
-        let kept = kept_types(alloc, resolved)?;
-        let mut filling = Filling::new(alloc, resolved)?;
-        for i in 0..sets {
-            filling.add_statement(alloc, resolved, &kept, i, meter)?;
-        }
-        Ok(filling.members)
-    }
+    ghost use Rattle.std.specs.Prelude.{◌≡◌, ◌<◌, ◌&&◌, ◌==◌, ℕ, [], length, slice_index_or, if◌then◌else◌, IfOk, OnOk};
+    ghost use Rattle.cil_sets.specs.Counts.{AreWide};
+    ghost use Rattle.cil_sets.specs.Members.{count_in, IsListOf};
 
     /// The members of an attribute, by the numbers of their names, which rise: in the byte order of the names.
     pub fn members(&self, alloc: A, attribute: usize) -> Result<Vec<usize, A>, AllocError>
@@ -137,23 +109,6 @@ impl<A: Allocator + Copy> Members<A> {
         if row.len() == 0 {
             self.rows[attribute] = Row::new(alloc, columns)?;
         }
-        Ok(())
-    }
-
-    /// One more statement makes the type a member.
-    pub(crate) fn add(&mut self, alloc: A, attribute: usize, ty: usize) -> Result<(), AllocError>
-        requires attribute { attribute < length self.old.rows.items }
-        requires ty { ty < length self.old.rows.items }
-        requires wide { AreWide (length self.old.rows.items) self.old.rows.items }
-        requires fits { count_in self.old attribute ty + 1 < 2 ^ 32 }
-        ensures counts { OnOk result ((a t : ℕ) →
-            count_in self.new a t ≡ count_in self.old a t + one_if ((a == attribute) && (t == ty))) }
-        ensures len { OnOk result (length self.new.rows.items ≡ length self.old.rows.items) }
-        ensures wide { OnOk result (AreWide (length self.new.rows.items) self.new.rows.items) }
-    {
-        self.widen(alloc, attribute)?;
-        let row = &mut self.rows[attribute];
-        row.add_one(ty);
         Ok(())
     }
 

@@ -1,6 +1,6 @@
 //! The counters of one attribute, by the numbers of types.
 
-ghost use Rattle.std.specs.Prelude.{◌≡◌, ◌+◌, ◌*◌, ◌<◌, ◌≤◌, ◌^◌, ℕ, IsTrue, length, replicate, slice_index, slice_set, nat_lt, IfOk, MatchOption};
+ghost use Rattle.std.specs.Prelude.{◌≡◌, ◌*◌, ◌<◌, ◌≤◌, ◌^◌, ℕ, IsTrue, length, replicate, slice_index, slice_set, nat_lt, IfOk, MatchOption};
 ghost use Rattle.cil_sets.specs.Bits.{bit_of, IsNextBit, NoBit, SetsBit, IsNextCount, NoCount, is_counted};
 ghost use Rattle.cil_sets.specs.Search.{NoneFrom, IsFirstWordFrom, IsWordOf};
 
@@ -117,16 +117,6 @@ impl<A: Allocator> Row<A> {
         ensures { result ≡ nat_lt 0 (slice_index self.now column) }
     {
         has_bit(&self.words, column)
-    }
-
-    /// A counter rises by one.
-    pub fn add_one(&mut self, column: usize)
-        requires within { column < length self.old }
-        requires fits { slice_index self.old column + 1 < 2 ^ 32 }
-        ensures { self.new ≡ slice_set self.old column (slice_index self.old column + 1) }
-    {
-        self.counts[column] += 1;
-        set_bit(&mut self.words, column);
     }
 
     /// A counter comes to a value above 0.

@@ -1,9 +1,10 @@
 -- What the engine keeps that changes its counters in place.
 use Rattle.std.proofs.Common.{◌≡◌, Bool, List, [], ◌∷◌, length, Option, None, Result, Ok, Err, IfOk, OnOk, OnErr, Contains, refl, sym, subst, arith}
 use Rattle.std.specs.Rc.{rc_value}
+use Rattle.std.proofs.lemmas.Bool.{and_parts}
 use Rattle.cil_specs.specs.Dependence.{AreTheSame}
-use Rattle.cil_specs.specs.Meaning.{Meaning, is_in_table}
-use Rattle.cil_specs.specs.Report.{AreAtoms, Changes, Row, AreRows}
+use Rattle.cil_specs.specs.Meaning.{Meaning, is_in_table, meaning_of}
+use Rattle.cil_specs.specs.Report.{is_listed, AreAtoms, Changes, Row, AreRows}
 use Rattle.cil_specs.specs.Violations.{Violation, AreViolations}
 use Rattle.cil_specs.specs.Rule.{Atom, SetStatement}
 use Rattle.cil_specs.proofs.NamesLemmas.{contains-first}
@@ -13,12 +14,14 @@ use Rattle.cil_counters.specs.declared.counters.Counters.{Counters}
 use Rattle.cil_symbol_changes.specs.declared.counted_changes.ChangeCounts.{ChangeCounts}
 use Rattle.cil_counters.proofs.CountedLemmas.{back-before, back-now, settled-before, settled-now}
 use Rattle.cil_resolve.specs.declared.resolved.Resolved.{Resolved}
+use Rattle.cil_rules.specs.Rows.{listed}
+use Rattle.cil_rules.proofs.RowLemmas.{rows-listed}
 use Rattle.cil_store_specs.specs.Next.{IsMeaningOf}
 use Rattle.cil_store_specs.specs.Run.{AreRowsOf, AreViolationsOf}
 use Rattle.cil_store_specs.specs.Store.{Store, empty}
 use Rattle.cil_store_specs.proofs.OneStore.{meaning-same}
 use Rattle.cil_store.specs.Counted.{counted_meaning, meaning_kept, IsCountedTo, IsKept}
-use Rattle.cil_store.proofs.PlainLemmas.{no-atoms, no-violations, none-meant}
+use Rattle.cil_store.proofs.NothingLemmas.{no-atoms, no-violations, none-meant}
 use Rattle.cil_store.specs.declared.counted_policy.CountedPolicy.{CountedPolicy}
 
 -- lists of the same statements, of which one is empty
@@ -81,15 +84,17 @@ counted-empty policy none = subst (IsCountedTo empty) (sym none) (record { is_me
 -- ---- what is asked of a store by what is kept
 
 -- the accesses of the policy that is kept are those of the store
-pub atoms-of : {X E A : Type 0} (listing : X → List Atom) (r : Result X E) (store : Store) (policy : Option (CountedPolicy A)) → IsCountedTo store policy → IfOk r (λ table. AreAtoms (is_in_table (meaning_kept policy)) (listing table))
-    → IfOk r (λ table. (meaning : Meaning) → IsMeaningOf store meaning → AreAtoms (is_in_table meaning) (listing table))
-atoms-of listing (Ok table) store policy counted are = λ meaning meant. of-kept store policy (λ m. AreAtoms (is_in_table m) (listing table)) counted are meaning meant
+pub atoms-of : {X E A : Type 0} (listing : X → List Atom) (r : Result X E) (store : Store) (policy : Option (CountedPolicy A)) → IsCountedTo store policy → IfOk r (λ table. AreAtoms (listed (is_in_table (meaning_kept policy))) (listing table))
+    → IfOk r (λ table. (meaning : Meaning) → IsMeaningOf store meaning → AreAtoms (listed (is_in_table meaning)) (listing table))
+atoms-of listing (Ok table) store policy counted are = λ meaning meant. of-kept store policy (λ m. AreAtoms (listed (is_in_table m)) (listing table)) counted are meaning meant
 atoms-of listing (Err e) store policy counted are = tt
 
 -- so are the rows of a table of them
 pub rows-of-store : {X E A : Type 0} (listing : X → List Row) (r : Result X E) (store : Store) (policy : Option (CountedPolicy A)) (table : List Atom) → IsCountedTo store policy
-    → ((meaning : Meaning) → IsMeaningOf store meaning → AreAtoms (is_in_table meaning) table) → IfOk r (λ rows. (p : Atom → Bool) → AreAtoms p table → AreRows p (listing rows)) → IfOk r (λ rows. AreRowsOf store (listing rows))
-rows-of-store listing (Ok rows) store policy table counted told are = (meaning_kept policy, counted.is_meaning, are (is_in_table (meaning_kept policy)) (told (meaning_kept policy) counted.is_meaning))
+    → ((meaning : Meaning) → IsMeaningOf store meaning → AreAtoms (listed (is_in_table meaning)) table) → IfOk r (λ rows. (p : Atom → Bool) → AreAtoms p table → AreRows p (listing rows)) → IfOk r (λ rows. AreRowsOf store (listing rows))
+rows-of-store listing (Ok rows) store policy table counted told are =
+    let meaning = meaning_kept policy in
+    (meaning, counted.is_meaning, rows-listed (is_in_table meaning) (listing rows) (are (listed (is_in_table meaning)) (told meaning counted.is_meaning)))
 rows-of-store listing (Err e) store policy table counted told are = tt
 
 -- and the violations
@@ -102,6 +107,12 @@ violations-of-store listing (Err e) store policy meaning counted same are = tt
 pub nothing-violated : {A : Type 0} (store : Store) (policy : Option (CountedPolicy A)) → policy ≡ None → IsCountedTo store policy → AreViolationsOf store []
 nothing-violated store policy none counted = (meaning_kept policy, counted.is_meaning, subst (λ p. AreViolations (meaning_kept p) []) (sym none) no-violations)
 
--- and no access
-pub nothing-listed : {A : Type 0} (policy : Option (CountedPolicy A)) → policy ≡ None → AreAtoms (is_in_table (meaning_kept policy)) []
-nothing-listed policy none = subst (λ p. AreAtoms (is_in_table (meaning_kept p)) []) (sym none) no-atoms
+-- and its listing no access
+pub nothing-listed : {A : Type 0} (policy : Option (CountedPolicy A)) → policy ≡ None → AreAtoms (listed (is_in_table (meaning_kept policy))) []
+nothing-listed policy none = subst (λ p. AreAtoms (listed (is_in_table (meaning_kept p))) []) (sym none) empty-listed
+  where
+    empty-listed : AreAtoms (listed (is_in_table (meaning_of [] []))) []
+    empty-listed = record {
+      ordered = no-atoms.ordered;
+      exact = λ a. ((λ has. absurd (omega (arith, has.1))), λ passes. (no-atoms.exact a).1 (and_parts (is_listed a.kind) (is_in_table (meaning_of [] []) a) passes).1);
+    }

@@ -7,6 +7,6 @@ pub mod StepLemmas
 pub mod BatchLemmas
 pub mod JoinLemmas
 pub mod DroppedLemmas
-pub mod PlainLemmas
+pub mod NothingLemmas
 pub mod MeantLemmas
 pub mod CountedPolicyLemmas

@@ -4,7 +4,5 @@ pub mod Stored
 pub mod Admitted
 pub mod States
 pub mod Refusing
-pub mod Policy
-pub mod Plain
 pub mod Counted
 pub mod Laws

@@ -1,19 +1,28 @@
 //! A policy with its counters, changed in place.
 
-ghost use Rattle.std.specs.Prelude.{◌≡◌, [], IfOk, OnErr, OnOk};
+ghost use Rattle.std.specs.Prelude.{◌≡◌, [], map, IfErr, IfOk, OnErr, OnOk};
 ghost use Rattle.std.specs.Rc.{rc_value};
 ghost use Rattle.cil_specs.specs.Meaning.{count_of, is_in_table, meaning_of};
 ghost use Rattle.cil_specs.specs.Members.{is_member};
 ghost use Rattle.cil_specs.specs.Report.{AreAtoms};
 ghost use Rattle.cil_specs.specs.Violations.{AreViolations};
 ghost use Rattle.cil_counters.specs.ChangeCounts.{CountsSome};
-ghost use Rattle.cil_counters.specs.Counted.{IsNow, WasBefore};
+ghost use Rattle.cil_counters.specs.Counted.{steps_in, IsNow, WasBefore};
 ghost use Rattle.cil_resolve.specs.Resolved.{meaning_in};
 ghost use Rattle.cil_rules.specs.Atoms.{atom_of};
+ghost use Rattle.cil_rules.specs.Rows.{listed};
+ghost use Rattle.cil_store_specs.specs.Next.{AreTaken, IsMeaningOf, install_of};
+ghost use Rattle.cil_store_specs.specs.Store.{empty};
 ghost use Rattle.cil_store.specs.Counted.{counted_meaning, AreCountedChanges, IsKept};
+ghost use Rattle.cil_store.specs.Edits.{refusal_of};
+ghost use Rattle.cil_store.specs.Refusing.{AreRefused};
+ghost use Rattle.cil_store.specs.Stored.{entry_of};
 
+use crate::batch::{installs, judge};
 use crate::dropped::Dropped;
+use crate::entry::Entry;
 use crate::modules::Store;
+use crate::refusal::Refusal;
 use crate::resolving::resolve_nothing;
 use cil_counters::{ChangeCounts, Counters, counters_tell_accesses, counters_tell_members};
 use cil_names::Seed;
@@ -40,6 +49,17 @@ impl<A: Allocator + Copy> NextPolicy<A> {
         let resolved = Rc::new(alloc, resolved)?;
         Ok(NextPolicy { resolved, dropped })
     }
+
+    /// The same policy, which is shared.
+    pub fn share(&self, alloc: A) -> Result<Self, AllocError>
+        ensures { IfOk result (λ next. rc_value next.resolved ≡ rc_value self.now.resolved) }
+    {
+        let dropped = self.dropped.copied(alloc)?;
+        Ok(NextPolicy {
+            resolved: self.resolved.clone()?,
+            dropped,
+        })
+    }
 }
 
 /// A store that nothing is against, with its policy. What memory it needs is taken, but for that of the counters.
@@ -47,6 +67,27 @@ impl<A: Allocator + Copy> NextPolicy<A> {
 pub struct Prepared<A: Allocator = Global> {
     pub store: Store<A>,
     pub next: NextPolicy<A>,
+}
+
+impl<A: Allocator + Copy> Prepared<A> {
+    /// The store that entries lead to, each of which is installed in turn in an empty store, whose tables of names are hashed by a seed.
+    /// The policy is judged once, at the end.
+    pub fn of(alloc: A, seed: Seed, entries: &[Entry<'_>]) -> Result<Self, Refusal<A>>
+        ensures taken { IfOk result (λ prepared.
+            AreTaken empty (map install_of (map entry_of entries.now)) prepared.store) }
+        ensures means { IfOk result (λ prepared. IsMeaningOf prepared.store
+            (meaning_in (rc_value prepared.next.resolved))) }
+        ensures err { IfErr result (λ refusal.
+            AreRefused empty (map install_of (map entry_of entries.now)) (refusal_of refusal)) }
+    {
+        let edits = installs(alloc, entries)?;
+        let judged = judge(alloc, &Store::new(alloc, seed), &edits)?;
+        let next = NextPolicy::of(alloc, judged.resolved)?;
+        Ok(Prepared {
+            store: judged.store,
+            next,
+        })
+    }
 }
 
 /// A policy that was loaded with its counters, and how many accesses it has more than that of no statement.
@@ -70,6 +111,7 @@ impl<A: Allocator + Copy> CountedPolicy<A> {
     pub fn empty(alloc: A, seed: Seed) -> Result<Self, AllocError>
         ensures kept { IfOk result IsKept }
         ensures meaning { IfOk result (λ policy. counted_meaning policy ≡ meaning_of [] []) }
+        ensures settled { IfOk result (λ policy. steps_in policy.counters ≡ 0) }
     {
         let next = NextPolicy::of(alloc, resolve_nothing(alloc)?)?;
         resolved_sets_are_in_order(&next.resolved);
@@ -91,6 +133,7 @@ impl<A: Allocator + Copy> CountedPolicy<A> {
     ) -> Result<ChangeCounts, AllocError>
         requires kept { IsKept self.old }
         requires none { counted_meaning self.old ≡ meaning_of [] [] }
+        requires settled { steps_in self.old.counters ≡ 0 }
         ensures now { OnOk result (IsNow next.now self.new.counters) }
         ensures changes { IfOk result (CountsSome (AreCountedChanges (meaning_of [] []) (meaning_in next.now) meter.old meter.new)) }
     {
@@ -99,27 +142,47 @@ impl<A: Allocator + Copy> CountedPolicy<A> {
             .load_counted(alloc, &self.resolved, next, meter)
     }
 
-    /// Counts a policy where none was counted yet, and puts its store in place of the one before. The counters can't be led back, so their
-    /// log stays short: an out of memory leaves the store as it was, and gives them up.
+    /// Counts a policy from nothing. The counters can't be led back: an out of memory gives them up.
     pub fn load_counted(
         alloc: A,
         seed: Seed,
-        store: &mut Store<A>,
-        prepared: Prepared<A>,
+        next: NextPolicy<A>,
         meter: &mut Meter,
     ) -> Result<Loaded<A>, AllocError>
         ensures kept { IfOk result (λ loaded. IsKept loaded.policy) }
         ensures changes { IfOk result (λ loaded. CountsSome (AreCountedChanges (meaning_of [] [])
-            (meaning_in (rc_value prepared.next.resolved)) meter.old meter.new) loaded.counts) }
+            (meaning_in (rc_value next.resolved)) meter.old meter.new) loaded.counts) }
         ensures meaning { IfOk result (λ loaded.
-            counted_meaning loaded.policy ≡ meaning_in (rc_value prepared.next.resolved)) }
-        ensures store { OnOk result (store.new ≡ prepared.store) }
-        ensures err { OnErr result (store.new ≡ store.old) }
+            counted_meaning loaded.policy ≡ meaning_in (rc_value next.resolved)) }
     {
         let mut policy = CountedPolicy::empty(alloc, seed)?;
-        let counts = policy.load(alloc, &prepared.next.resolved, meter)?;
-        policy.take_over(store, prepared);
+        let counts = policy.load(alloc, &next.resolved, meter)?;
+        policy.settle_on(next);
         Ok(Loaded { policy, counts })
+    }
+
+    /// Brings the counters of the policy of no statement to those of another one. After an out of memory they are of no use.
+    fn fill(&mut self, alloc: A, next: &Resolved<A>) -> Result<(), AllocError>
+        requires kept { IsKept self.old }
+        requires none { counted_meaning self.old ≡ meaning_of [] [] }
+        requires settled { steps_in self.old.counters ≡ 0 }
+        ensures { OnOk result (IsNow next.now self.new.counters) }
+    {
+        resolved_sets_are_in_order(&self.resolved);
+        self.counters
+            .load(alloc, &self.resolved, next, &mut Meter::new())
+    }
+
+    /// A policy with counters of its own, which are loaded from nothing.
+    pub fn load_anew(alloc: A, seed: Seed, next: &NextPolicy<A>) -> Result<Self, AllocError>
+        ensures kept { IfOk result IsKept }
+        ensures meaning { IfOk result (λ policy. counted_meaning policy ≡ meaning_in (rc_value next.now.resolved)) }
+    {
+        let next = next.share(alloc)?;
+        let mut policy = CountedPolicy::empty(alloc, seed)?;
+        policy.fill(alloc, &next.resolved)?;
+        policy.settle_on(next);
+        Ok(policy)
     }
 
     /// Brings the counters to those of another policy, and puts it and its store in place of this one and its own. An out of memory leaves
@@ -179,6 +242,17 @@ impl<A: Allocator + Copy> CountedPolicy<A> {
         Ok(counts)
     }
 
+    /// Puts the policy to which the counters were brought in place of this one.
+    fn settle_on(&mut self, next: NextPolicy<A>)
+        requires { IsNow (rc_value next.resolved) self.old.counters }
+        ensures kept { IsKept self.new }
+        ensures meaning { counted_meaning self.new ≡ meaning_in (rc_value next.resolved) }
+    {
+        self.counters.settle();
+        self.resolved = next.resolved;
+        self.dropped = next.dropped;
+    }
+
     /// Puts the policy to which the counters were brought in place of this one, and its store in place of another.
     fn take_over(&mut self, store: &mut Store<A>, prepared: Prepared<A>)
         requires { IsNow (rc_value prepared.next.resolved) self.old.counters }
@@ -186,16 +260,14 @@ impl<A: Allocator + Copy> CountedPolicy<A> {
         ensures store { store.new ≡ prepared.store }
         ensures meaning { counted_meaning self.new ≡ meaning_in (rc_value prepared.next.resolved) }
     {
-        self.counters.settle();
         *store = prepared.store;
-        self.resolved = prepared.next.resolved;
-        self.dropped = prepared.next.dropped;
+        self.settle_on(prepared.next);
     }
 
-    /// The accesses that its rules give.
+    /// The accesses that its rules give, but for those of neverallow, which a listing doesn't have.
     pub fn table(&self, alloc: A) -> Result<Table<A>, AllocError>
         requires { IsKept self.now }
-        ensures { IfOk result (λ table. AreAtoms (is_in_table (counted_meaning self.now)) table) }
+        ensures { IfOk result (λ table. AreAtoms (listed (is_in_table (counted_meaning self.now))) table) }
     {
         self.counters.table(alloc, &self.resolved)
     }

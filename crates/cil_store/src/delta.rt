@@ -6,19 +6,22 @@ ghost use Rattle.cil_specs.specs.Meaning.{Meaning, is_in_table};
 ghost use Rattle.cil_specs.specs.Report.{AreAtoms};
 ghost use Rattle.cil_counters.specs.ChangeCounts.{CountsSome};
 ghost use Rattle.cil_resolve.specs.Resolved.{meaning_in};
-ghost use Rattle.cil_store_specs.specs.Next.{AreTaken, IsMeaningOf, is_too_long};
+ghost use Rattle.cil_rules.specs.Rows.{listed};
+ghost use Rattle.cil_store_specs.specs.Next.{AreTaken, IsMeaningOf, Of, accepts, install_of, is_too_long};
 ghost use Rattle.cil_store_specs.specs.Run.{a_batch, an_edit, Step};
 ghost use Rattle.cil_store_specs.specs.Store.{empty};
 ghost use Rattle.cil_store.specs.Calls.{batch_reply, IsCountedStep, IsRefusedStep};
 ghost use Rattle.cil_store.specs.Counted.{counted_meaning, meaning_kept, AreCountedBetween, IsKept, IsKeptWhere, IsUncounted};
 ghost use Rattle.cil_store.specs.Edits.{edit_of, refusal_of};
-ghost use Rattle.cil_store.specs.Refusing.{IsRefusedBatch};
+ghost use Rattle.cil_store.specs.Refusing.{AreRefused, IsRefusedBatch};
+ghost use Rattle.cil_store.specs.Stored.{entry_of};
 
 use crate::batch::judge_batch;
 use crate::compiled::{Compiled, WriteFault};
 use crate::counted_policy::{CountedPolicy, NextPolicy, Prepared};
 use crate::dropped::Dropped;
 use crate::edit::Edit;
+use crate::entry::Entry;
 use crate::modules::Store;
 use crate::refusal::Refusal;
 use cil_counters::ChangeCounts;
@@ -89,8 +92,25 @@ impl<A: Allocator + Copy> Delta<A> {
         }
     }
 
+    /// Compiles a list of entries at once: each is installed in turn in an empty store, whose tables of names are hashed by a seed, and
+    /// the policy is judged once, at the end.
+    pub fn of(alloc: A, seed: Seed, entries: &[Entry<'_>]) -> Result<Self, Refusal<A>>
+        ensures ok { IfOk result (λ delta. Of (map entry_of entries.now) (accepts delta)) }
+        ensures err { IfErr result (λ refusal.
+            AreRefused empty (map install_of (map entry_of entries.now)) (refusal_of refusal)) }
+    {
+        let prepared = Prepared::of(alloc, seed, entries)?;
+        let loaded = CountedPolicy::load_counted(alloc, seed, prepared.next, &mut Meter::new())?;
+        Ok(Delta {
+            alloc,
+            seed,
+            store: prepared.store,
+            policy: Some(loaded.policy),
+        })
+    }
+
     /// Puts a store in place whose policy is known.
-    fn replace(
+    pub(crate) fn replace(
         &mut self,
         prepared: Prepared<A>,
         meter: &mut Meter,
@@ -108,7 +128,7 @@ impl<A: Allocator + Copy> Delta<A> {
 
     /// `replace`, which answers how many changes there are. A first policy is loaded: where that fails there is no
     /// policy still, and no counters to lead back.
-    fn replace_counted(
+    pub(crate) fn replace_counted(
         &mut self,
         prepared: Prepared<A>,
         meter: &mut Meter,
@@ -128,18 +148,35 @@ impl<A: Allocator + Copy> Delta<A> {
                 let loaded = CountedPolicy::load_counted(
                     self.alloc,
                     self.seed,
-                    &mut self.store,
-                    prepared,
+                    prepared.next,
                     meter,
                 )?;
+                self.store = prepared.store;
                 self.policy = Some(loaded.policy);
                 Ok(loaded.counts)
             }
         }
     }
 
+    /// A policy with counters of its own, which are loaded from nothing.
+    pub(crate) fn load_anew(&self, next: &NextPolicy<A>) -> Result<CountedPolicy<A>, AllocError>
+        ensures kept { IfOk result IsKept }
+        ensures meaning { IfOk result (λ policy. counted_meaning policy ≡ meaning_in (rc_value next.now.resolved)) }
+    {
+        CountedPolicy::load_anew(self.alloc, self.seed, next)
+    }
+
+    /// Puts a policy of the store in place of the one that is kept.
+    pub(crate) fn put(&mut self, policy: CountedPolicy<A>)
+        requires kept { IsKept policy }
+        requires meaning { IsMeaningOf self.old (counted_meaning policy) }
+        ensures { self.new ≡ self.old }
+    {
+        self.policy = Some(policy);
+    }
+
     /// Judges a batch, and takes the memory that it needs but for that of the counters.
-    fn prepare(&self, edits: &[Edit<'_>]) -> Result<Prepared<A>, Refusal<A>>
+    pub(crate) fn prepare(&self, edits: &[Edit<'_>]) -> Result<Prepared<A>, Refusal<A>>
         ensures short { OnOk result (is_too_long (map edit_of edits.now) ≡ false) }
         ensures meant { OnOk result ((before : Meaning) × IsMeaningOf self.now before) }
         ensures taken { IfOk result (λ prepared. AreTaken self.now (map edit_of edits.now) prepared.store) }
@@ -218,10 +255,10 @@ impl<A: Allocator + Copy> Delta<A> {
         self.batch_counted_metered(&[edit], meter)
     }
 
-    /// The accesses that the store allows.
+    /// The accesses that a listing of the store has.
     fn table(&self) -> Result<Table<A>, AllocError>
         ensures { IfOk result (λ table. (meaning : Meaning) → IsMeaningOf self.now meaning
-            → AreAtoms (is_in_table meaning) table) }
+            → AreAtoms (listed (is_in_table meaning)) table) }
     {
         match &self.policy {
             Some(policy) => policy.table(self.alloc),

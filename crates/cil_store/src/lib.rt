@@ -32,5 +32,6 @@ pub use edit::Edit;
 pub use entry::Entry;
 pub use modules::{State, Store};
 pub use plain::Plain;
+pub use policy::Policy;
 pub use refusal::{FaultKind, Refusal, StoreFault};
 pub use runs::run;

@@ -1,118 +1,139 @@
-//! What a store compiles to.
+//! Entries that are compiled at once.
 
-ghost use Rattle.std.specs.Prelude.{◌≡◌, ◌≤◌, [], List, IfOk, IsErrOf, length};
+ghost use Rattle.std.specs.Prelude.{◌≡◌, ◌≤◌, List, IfErr, IfOk, IsErrOf, OnErr, flat_map, length, map};
 ghost use Rattle.std.specs.Rc.{rc_value};
 ghost use Rattle.cil_stream.specs.Device.{HasFailed, Gains, GainsFront};
-ghost use Rattle.cil_specs.specs.Meaning.{count_of, is_in_table, meaning_of};
-ghost use Rattle.cil_specs.specs.Members.{is_member};
-ghost use Rattle.cil_specs.specs.Report.{AreAtoms};
+ghost use Rattle.cil_specs.specs.Meaning.{is_in_table};
+ghost use Rattle.cil_specs.specs.Report.{AreAtoms, Row, row_line};
 ghost use Rattle.cil_specs.specs.Violations.{Violation, AreViolations, violations_text};
 ghost use Rattle.cil_resolve.specs.Resolved.{meaning_in};
-ghost use Rattle.cil_rules.specs.Atoms.{atom_of};
-ghost use Rattle.cil_sets.specs.Members.{AreMembers};
-ghost use Rattle.cil_tables.specs.Tables.{AreTables};
+ghost use Rattle.cil_rules.specs.Rows.{listed};
+ghost use Rattle.cil_store_specs.specs.Next.{Of, accepts, install_of};
+ghost use Rattle.cil_store_specs.specs.Run.{AreRowsOf, AreViolationsOf};
+ghost use Rattle.cil_store_specs.specs.Store.{empty};
+ghost use Rattle.cil_store.specs.Edits.{refusal_of};
+ghost use Rattle.cil_store.specs.Refusing.{AreRefused};
+ghost use Rattle.cil_store.specs.Stored.{entry_of};
 
 use crate::compiled::WriteFault;
-use crate::dropped::Dropped;
+use crate::counted_policy::{CountedPolicy, NextPolicy, Prepared};
+use crate::entry::Entry;
+use crate::modules::Store;
+use crate::refusal::Refusal;
 use crate::resolving::resolve_nothing;
-use cil_resolve::Resolved;
-use cil_rules::{Atom, Table, count};
-use cil_sets::Members;
+use cil_counters::members_at_once;
+use cil_names::Seed;
+use cil_resolve::resolved_sets_are_in_order;
+use cil_rules::Table;
 use cil_stream::Sink;
-use cil_tables::Tables;
 use cil_violations::Violations;
 use std::alloc::{AllocError, Allocator, Global};
-use std::rc::Rc;
+use std::marker::Model;
 
-/// A resolved policy, the members of its attributes, and for each access how many of its rules give it.
+/// A store that entries led to, with its policy, of which nothing is counted: what is written of it is worked out then, from nothing.
 #[derive(Drop)]
 pub struct Policy<A: Allocator = Global> {
-    resolved: Rc<Resolved<A>, A>,
-    members: Members<A>,
-    counters: Tables<A>,
-    ghost are_members: { AreMembers (rc_value resolved) members },
-    ghost are_counters: { AreTables (rc_value resolved) counters },
+    alloc: A,
+    seed: Seed,
+    store: Store<A>,
+    next: NextPolicy<A>,
+}
+
+impl<A: Allocator> Model for Policy<A> {
+    ghost use Rattle.std.specs.Rc.{rc_value};
+    ghost use Rattle.cil_resolve.specs.Resolved.{meaning_in};
+    ghost use Rattle.cil_store_specs.specs.Next.{IsMeaningOf};
+    ghost use Rattle.cil_store_specs.specs.Store.{Store};
+
+    ghost Value = { Store };
+
+    ghost view = { λ p. p.store };
+
+    ghost invariant = { λ p. IsMeaningOf p.store (meaning_in (rc_value p.next.resolved)) };
+}
+
+/// The accesses that a listing of a policy has, counted from nothing.
+fn table_of<A: Allocator + Copy>(
+    alloc: A,
+    seed: Seed,
+    next: &NextPolicy<A>,
+) -> Result<Table<A>, AllocError>
+    ensures { IfOk result (λ table. AreAtoms (listed (is_in_table (meaning_in (rc_value next.now.resolved)))) table) }
+{
+    let policy = CountedPolicy::load_anew(alloc, seed, next)?;
+    policy.table(alloc)
+}
+
+/// The violations of a policy. No access is counted.
+fn violations_of<A: Allocator + Copy>(
+    alloc: A,
+    seed: Seed,
+    next: &NextPolicy<A>,
+) -> Result<Violations<A>, AllocError>
+    ensures { IfOk result (AreViolations (meaning_in (rc_value next.now.resolved))) }
+{
+    let nothing = resolve_nothing(alloc)?;
+    resolved_sets_are_in_order(&nothing);
+    let members = members_at_once(alloc, seed, &nothing, &next.resolved)?;
+    Violations::of(alloc, &next.resolved, &members)
 }
 
 impl<A: Allocator + Copy> Policy<A> {
-    /// A resolved policy, the members of whose attributes are found, and whose accesses are counted.
-    pub fn of(alloc: A, resolved: Resolved<A>) -> Result<Self, AllocError>
-        ensures { IfOk result (λ policy. rc_value policy.resolved ≡ resolved) }
+    /// Compiles a list of entries: each is installed in turn in an empty store, whose tables of names are hashed by a seed, and the
+    /// policy is judged once, at the end.
+    pub fn of(alloc: A, seed: Seed, entries: &[Entry<'_>]) -> Result<Self, Refusal<A>>
+        ensures ok { IfOk result (λ policy. Of (map entry_of entries.now) (accepts policy)) }
+        ensures err { IfErr result (λ refusal.
+            AreRefused empty (map install_of (map entry_of entries.now)) (refusal_of refusal)) }
     {
-        let members = Members::plain(alloc, &resolved)?;
-        let counters = Tables::plain(alloc, &resolved, &members)?;
-        let resolved = Rc::new(alloc, resolved)?;
+        let prepared = Prepared::of(alloc, seed, entries)?;
         Ok(Policy {
-            resolved,
-            members,
-            counters,
+            alloc,
+            seed,
+            store: prepared.store,
+            next: prepared.next,
         })
     }
 
-    /// The policy of no statement.
-    pub fn empty(alloc: A) -> Result<Self, AllocError>
-        ensures { IfOk result (λ policy. meaning_in (rc_value policy.resolved) ≡ meaning_of [] []) }
+    /// Writes the listing, a line for each row, and tells how many there are.
+    pub fn write_listing<W: Sink>(&self, sink: &mut W) -> Result<u128, WriteFault>
+        ensures ok { IfOk result (λ n. (rows : List Row) × AreRowsOf self.now rows
+            × (n ≡ length rows)
+            × Gains (W.taken sink.old) (W.taken sink.new) (flat_map row_line rows)) }
+        ensures err { OnErr result ((rows : List Row) × AreRowsOf self.now rows
+            × GainsFront (W.taken sink.old) (W.taken sink.new) (flat_map row_line rows)) }
+        ensures memory { IsErrOf result WriteFault.Memory → W.taken sink.new ≡ W.taken sink.old }
+        ensures failed { IsErrOf result WriteFault.Sink → HasFailed (W.failures sink.old) (W.failures sink.new) }
+        ensures counted { W.failures sink.old ≤ W.failures sink.new }
     {
-        let resolved = resolve_nothing(alloc)?;
-        Policy::of(alloc, resolved)
+        let Ok(table) = table_of(self.alloc, self.seed, &self.next) else {
+            return Err(WriteFault::Memory);
+        };
+        match table.write_listing(sink) {
+            Ok(rows) => Ok(rows),
+            Err(_) => Err(WriteFault::Sink),
+        }
     }
 
-    /// The accesses that its rules give.
-    pub fn table(&self, alloc: A) -> Result<Table<A>, AllocError>
-        ensures { IfOk result (λ table. AreAtoms (is_in_table (meaning_in (rc_value self.now.resolved))) table) }
-    {
-        Table::of(alloc, &self.resolved, &self.counters)
-    }
-
-    /// The optionals that drop.
-    pub fn dropped(&self, alloc: A) -> Result<Dropped<A>, AllocError>
-        ensures { IfOk result (λ dropped. dropped ≡ (meaning_in (rc_value self.now.resolved)).dropped) }
-    {
-        Dropped::of(alloc, &self.resolved)
-    }
-
-    /// Its violations.
-    pub fn violations(&self, alloc: A) -> Result<Violations<A>, AllocError>
-        ensures { IfOk result (AreViolations (meaning_in (rc_value self.now.resolved))) }
-    {
-        Violations::of(alloc, &self.resolved, &self.members)
-    }
-
-    /// Writes its violations, a line for each, and tells how many there are.
-    pub fn write_violations<W: Sink>(&self, alloc: A, sink: &mut W) -> Result<usize, WriteFault>
-        ensures ok { IfOk result (λ n. (violations : List Violation)
-            × AreViolations (meaning_in (rc_value self.now.resolved)) violations
+    /// Writes the violations of neverallow rules, a line for each, and tells how many there are.
+    pub fn write_violations<W: Sink>(&self, sink: &mut W) -> Result<usize, WriteFault>
+        ensures ok { IfOk result (λ n.
+            (violations : List Violation) × AreViolationsOf self.now violations
             × (n ≡ length violations)
             × Gains (W.taken sink.old) (W.taken sink.new) (violations_text violations)) }
-        ensures err { IsErrOf result WriteFault.Sink → (violations : List Violation)
-            × AreViolations (meaning_in (rc_value self.now.resolved)) violations
+        ensures err { IsErrOf result WriteFault.Sink →
+            (violations : List Violation) × AreViolationsOf self.now violations
             × GainsFront (W.taken sink.old) (W.taken sink.new) (violations_text violations) }
         ensures memory { IsErrOf result WriteFault.Memory → W.taken sink.new ≡ W.taken sink.old }
         ensures failed { IsErrOf result WriteFault.Sink → HasFailed (W.failures sink.old) (W.failures sink.new) }
         ensures counted { W.failures sink.old ≤ W.failures sink.new }
     {
-        let Ok(violations) = self.violations(alloc) else {
+        let Ok(violations) = violations_of(self.alloc, self.seed, &self.next) else {
             return Err(WriteFault::Memory);
         };
         match violations.write(sink) {
-            Ok(rows) => Ok(rows),
+            Ok(count) => Ok(count),
             Err(_) => Err(WriteFault::Sink),
         }
-    }
-}
-
-impl<A: Allocator> Policy<A> {
-    /// Whether a type is a member of an attribute, by full names.
-    pub fn has(&self, attribute: &[u8], ty: &[u8]) -> bool
-        ensures { result ≡ is_member (meaning_in (rc_value self.now.resolved)) attribute.now ty.now }
-    {
-        self.members.has_named(&self.resolved, attribute, ty)
-    }
-
-    /// How many of its rules give an access.
-    pub fn count(&self, access: &Atom<'_>) -> u64
-        ensures { result ≡ count_of (meaning_in (rc_value self.now.resolved)) (atom_of access.now) }
-    {
-        count(&self.counters, &self.resolved, access)
     }
 }

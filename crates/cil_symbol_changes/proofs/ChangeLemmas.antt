@@ -176,6 +176,10 @@ line-before lines key t some = by (position (is_key key) lines.keys) (line_of_ke
     by None none = let zero = (none t).1 in absurd (omega (arith, some, zero))
     by (Some l) line = (l, line)
 
+-- where nothing is counted no access is new
+pub none-new : (numbers : List ℕ) (kind : RuleKind) (chunks : List Chunk) → AreGained (IsNewOf numbers kind (λ key t. 0) (λ key t. 0)) chunks chunks
+none-new numbers kind chunks = record { are = λ a. (λ h. inl h, λ h. elim h [ inl h ↦ h | inr new ↦ absurd (let some = new.present in omega (arith, some)) ]); short = λ short. short }
+
 -- ---- all kinds
 
 module _ (numbers : List ℕ) (was is : RuleKind → SymbolKey → ℕ → ℕ) (none allow auditallow dontaudit neverallow : List Chunk) (empty : none ≡ []) (first : AreGained (IsNewOf numbers Allow (was Allow) (is Allow)) none allow)

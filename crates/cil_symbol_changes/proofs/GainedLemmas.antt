@@ -1,19 +1,22 @@
 -- Accesses appended to others: none, one after the other, and those to the targets of a word.
-use Rattle.std.proofs.Common.{◌≡◌, ◌⊎◌, ◌↔◌, ℕ, ◌+◌, ◌*◌, ◌/◌, ◌%◌, ◌<◌, List, length, sym, ap, subst, ◌∙◌, inl, inr, arith, eq-eqb, eqb-true}
+use Rattle.std.proofs.Common.{◌≡◌, ◌≢◌, ◌⊎◌, ◌↔◌, ℕ, ◌+◌, ◌*◌, ◌/◌, ◌%◌, ◌<◌, ◌^◌, ◌++◌, ◌∷◌, List, [], length, slice_index, sym, ap, subst, ◌∙◌, inl, inr, arith, eq-eqb, eqb-true}
 use Rattle.std.specs.Int.{bit_at}
 use Rattle.std.specs.List.{All}
 use Rattle.std.proofs.lemmas.Bool.{cases_eq}
+use Rattle.std.proofs.lemmas.List.Elements.{All-push}
 use Rattle.std.proofs.lemmas.Nat.Bits.{bit_at-lt, bit_at-zero}
 use Rattle.cil_accesses.specs.declared.access.AccessNumbers.{AccessNumbers}
 use Rattle.cil_accesses.specs.declared.chunk.Chunk.{Chunk}
 use Rattle.cil_accesses.specs.Chunks.{IsAccessOf, IsGiven}
 use Rattle.cil_accesses.specs.Renumbered.{IsRenumbered, IsWithin}
+use Rattle.cil_accesses.proofs.Renumbering.{any-push, any-pushed}
 use Rattle.cil_keyed_lines.specs.declared.symbol_key.SymbolKey.{SymbolKey}
 use Rattle.cil_lines.specs.Line.{hit}
+use Rattle.cil_lines.proofs.LineLemmas.{some_bit}
 use Rattle.cil_lines.proofs.StepLemmas.{hit-here, hit-there}
 use Rattle.cil_text.specs.declared.statement.RuleKind.{RuleKind}
-use Rattle.cil_symbol_changes.specs.Gained.{AreGained, AreKnown, chunk_by, IsShort, IsTo}
-use Rattle.cil_symbol_changes.specs.Numbered.{access_by}
+use Rattle.cil_symbol_changes.specs.Gained.{AreGained, AreKept, AreKnown, chunk_by, IsShort, IsTo}
+use Rattle.cil_symbol_changes.specs.Numbered.{access_by, IsNumbered}
 
 -- where nothing is told, nothing is gained
 pub gained-none : (told : AccessNumbers → Type 0) (chunks : List Chunk) → ((a : AccessNumbers) → told a → ⊥) → AreGained told chunks chunks
@@ -105,3 +108,46 @@ module _ (numbers : List ℕ) (kind : RuleKind) (key : SymbolKey) (word mask : �
   gained-nothing none old =
       gained-none (IsTo numbers kind key (λ t. 0 < hit word mask t)) old
       (λ a told. let set = (stands told.target told.among).1 in let clear = ap (λ n. bit_at n (told.target % 64)) none ∙ bit_at-zero (told.target % 64) in omega (arith, set, clear))
+
+  -- a mask that is not empty has a target
+  pub known-mask : mask < 2 ^ 64 → mask ≢ 0 → AreKnown numbers key (hit word mask) → (t : ℕ) × IsNumbered numbers key t
+  known-mask fits some known =
+      let (b, small, set) = some_bit 64 mask fits some in
+      let place : (64 * word + b) % 64 ≡ b = omega (arith, small) in
+      let here : (64 * word + b) / 64 ≡ word = omega (arith, small) in
+      (64 * word + b, known (64 * word + b) (among (64 * word + b) here (ap (bit_at mask) place ∙ set)))
+
+  -- ---- the same where each symbol is its own number
+
+  abbrev pub by_numbers : Chunk
+  by_numbers = record { kind = kind; source = slice_index numbers key.source; word = word; class = slice_index numbers key.class; permission = slice_index numbers key.permission; bits = mask }
+
+  to-kept : AreKept numbers → AreKnown numbers key (hit word mask) → (a : AccessNumbers) → IsAccessOf by_numbers a → IsTo numbers kind key (λ t. 0 < hit word mask t) a
+  to-kept kept known a of =
+      let there = among a.target of.word of.bit in
+      let target = sym (kept a.target (known a.target there).among) in
+      record {
+        target = a.target;
+        among = there;
+        same = λ i. record { kind = of.kind i; source = of.source i; target = target i; class = of.the_class i; permission = of.permission i };
+      }
+
+  from-kept : AreKept numbers → AreKnown numbers key (hit word mask) → (a : AccessNumbers) → IsTo numbers kind key (λ t. 0 < hit word mask t) a → IsAccessOf by_numbers a
+  from-kept kept known a told =
+      let (place, set) = stands told.target told.among in
+      let target : a.target ≡ told.target = ap (λ x. x.target) told.same ∙ kept told.target (known told.target told.among).among in
+      let small : told.target % 64 < 64 = omega arith in
+      record {
+        kind = ap (λ x. x.kind) told.same;
+        source = ap (λ x. x.source) told.same;
+        word = omega (arith, target, place, small);
+        the_class = ap (λ x. x.class) told.same;
+        permission = ap (λ x. x.permission) told.same;
+        bit = ap (λ t. bit_at mask (t % 64)) target ∙ set;
+      }
+
+  pub gained-kept : AreKept numbers → AreKnown numbers key (hit word mask) → word < 2 ^ 26 → (old : List Chunk) → AreGained (IsTo numbers kind key (λ t. 0 < hit word mask t)) old (old ++ by_numbers ∷ [])
+  gained-kept kept known low old =
+      gained-alike (IsAccessOf by_numbers) (IsTo numbers kind key (λ t. 0 < hit word mask t)) old (old ++ by_numbers ∷ [])
+      (record { are = λ a. (any-pushed (λ c. IsAccessOf c a) old by_numbers, any-push (λ c. IsAccessOf c a) old by_numbers); short = λ all. All-push IsShort old by_numbers all low })
+      (to-kept kept known) (from-kept kept known)

@@ -3,6 +3,7 @@ use Rattle.std.proofs.Common.{◌≡◌, ◌⊎◌, ℕ, ◌+◌, ◌*◌, ◌/�
 use Rattle.std.specs.Int.{bit_at}
 use Rattle.std.proofs.lemmas.Bool.{cases_eq, cases_lt}
 use Rattle.std.proofs.lemmas.Option.{same_Some, slice_get_within}
+use Rattle.std.proofs.lemmas.Nat.Bits.{bit_at-zero}
 use Rattle.cil_accesses.specs.declared.access.AccessNumbers.{AccessNumbers}
 use Rattle.cil_accesses.specs.declared.chunk.Chunk.{Chunk}
 use Rattle.cil_keyed_lines.specs.Keyed.{Keyed, IsLineOf, IsNoLine, now_at}
@@ -15,7 +16,7 @@ use Rattle.cil_symbol_tables.specs.declared.symbol_tables.SymbolTables.{SymbolTa
 use Rattle.cil_text.specs.declared.statement.RuleKind.{RuleKind}
 use Rattle.cil_symbol_changes.specs.Gained.{AreGained, AreKnown, AreKnownIn, IsIn, IsTo}
 use Rattle.cil_symbol_changes.specs.Numbered.{access_by, ArePresentNumbered, IsPresentOf}
-use Rattle.cil_symbol_changes.specs.SourceOrder.{AreAllPlaces, IsAt, IsBetween}
+use Rattle.cil_symbol_changes.specs.SourceOrder.{AreAllPlaces, IsAt, IsAtWord, IsBetween}
 use Rattle.cil_symbol_changes.specs.declared.source_order.LinePlace.{LinePlace}
 use Rattle.cil_symbol_changes.proofs.ChangeLemmas.{line-now}
 use Rattle.cil_symbol_changes.proofs.GainedLemmas.{gained-alike, gained-more, gained-none}
@@ -120,6 +121,88 @@ module _ (numbers : List ℕ) (kind : RuleKind) (lines : Keyed) where
   between-all order n old new all past gained =
       gained-alike (IsBetween (IsAt numbers kind lines) order 0 n) (IsIn numbers kind lines (now_at lines)) old new gained (λ a b. b.told.told)
       (λ a told. between-from (IsAt numbers kind lines) order (length lines.keys) n all past told.place (slice_get_within lines.keys told.place told.key told.line.at) a (record { told = told; here = refl }))
+
+-- ---- the lines of a kind, word by word
+
+-- the access of a place, to a target in a word before one
+pub record IsAtBefore (numbers : List ℕ) (kind : RuleKind) (lines : Keyed) (word place : ℕ) (a : AccessNumbers) : Type 0 where
+  pub told : IsAt numbers kind lines place a
+  pub low : told.told.target / 64 < word
+
+module _ (numbers : List ℕ) (kind : RuleKind) (lines : Keyed) (word place : ℕ) where
+  pub word-place : (key : SymbolKey) (mask : ℕ) (old new : List Chunk) → IsLineOf lines place key → IsPresence (now_at lines place) word mask → AreGained (IsTo numbers kind key (λ t. 0 < hit word mask t)) old new
+      → AreGained (IsAtWord numbers kind lines word place) old new
+  word-place key mask old new line present gained = gained-alike (IsTo numbers kind key (λ t. 0 < hit word mask t)) (IsAtWord numbers kind lines word place) old new gained to from
+    where
+      to : (a : AccessNumbers) → IsTo numbers kind key (λ t. 0 < hit word mask t) a → IsAtWord numbers kind lines word place a
+      to a told =
+          let (here, some) = hit-counted (now_at lines place) word mask present told.target told.among in
+          record { told = record { told = record { place = place; key = key; line = line; target = told.target; among = some; same = told.same }; here = refl }; stands = here }
+
+      from : (a : AccessNumbers) → IsAtWord numbers kind lines word place a → IsTo numbers kind key (λ t. 0 < hit word mask t) a
+      from a at =
+          let told = at.told.told in
+          let keys : told.key ≡ key = same_Some told.key key (sym told.line.at ∙ ap (slice_get lines.keys) at.told.here ∙ line.at) in
+          record {
+            target = told.target;
+            among = counted-hit (now_at lines place) word mask present told.target at.stands (subst (λ n. 0 < now_at lines n told.target) at.told.here told.among);
+            same = told.same ∙ ap (λ k. access_by numbers kind k told.target) keys;
+          }
+
+  pub word-no_line : (old : List Chunk) → IsNoLine lines place → AreGained (IsAtWord numbers kind lines word place) old old
+  word-no_line old none = gained-none (IsAtWord numbers kind lines word place) old (λ a at.
+      let told = at.told.told in
+      let within = slice_get_within lines.keys told.place told.key told.line.at in
+      let here = at.told.here in
+      let behind = none.behind in
+      omega (arith, within, here, behind))
+
+  pub word-nothing : (mask : ℕ) (old : List Chunk) → IsPresence (now_at lines place) word mask → mask ≡ 0 → AreGained (IsAtWord numbers kind lines word place) old old
+  word-nothing mask old present none = gained-none (IsAtWord numbers kind lines word place) old (λ a at.
+      let told = at.told.told in
+      let some = counted-hit (now_at lines place) word mask present told.target at.stands (subst (λ n. 0 < now_at lines n told.target) at.told.here told.among) in
+      let is = hit-here word mask told.target at.stands in
+      let clear = ap (λ n. bit_at n (told.target % 64)) none ∙ bit_at-zero (told.target % 64) in
+      omega (arith, some, is, clear))
+
+module _ (numbers : List ℕ) (kind : RuleKind) (lines : Keyed) (order : List LinePlace) (from to : ℕ) where
+  abbrev pub UpTo : ℕ → AccessNumbers → Type 0
+  UpTo word = IsBetween (IsAtBefore numbers kind lines word) order from to
+
+  abbrev Here : ℕ → AccessNumbers → Type 0
+  Here word = IsBetween (IsAtWord numbers kind lines word) order from to
+
+  abbrev Each : AccessNumbers → Type 0
+  Each = IsBetween (IsAt numbers kind lines) order from to
+
+  pub between-no_words : (old : List Chunk) → AreGained (UpTo 0) old old
+  between-no_words old = gained-none (UpTo 0) old (λ a b. let low = b.told.low in omega (arith, low))
+
+  pub between-word : (word : ℕ) (old mid new : List Chunk) → AreGained (UpTo word) old mid → AreGained (Here word) mid new → AreGained (UpTo (word + 1)) old new
+  between-word word old mid new first second = gained-more (UpTo word) (Here word) (UpTo (word + 1)) old mid new first second split left right
+    where
+      split : (a : AccessNumbers) → UpTo (word + 1) a → UpTo word a ⊎ Here word a
+      split a b =
+          let low = b.told.low in
+          elim (cases_lt (b.told.told.told.target / 64) word) [
+            | inl before ↦ inl (record { at = b.at; from_on = b.from_on; before = b.before; told = record { told = b.told.told; low = before } })
+            | inr behind ↦ inr (record { at = b.at; from_on = b.from_on; before = b.before; told = record { told = b.told.told; stands = omega (arith, low, behind) } })
+          ]
+
+      left : (a : AccessNumbers) → UpTo word a → UpTo (word + 1) a
+      left a b = let low = b.told.low in record { at = b.at; from_on = b.from_on; before = b.before; told = record { told = b.told.told; low = omega (arith, low) } }
+
+      right : (a : AccessNumbers) → Here word a → UpTo (word + 1) a
+      right a b = let here = b.told.stands in record { at = b.at; from_on = b.from_on; before = b.before; told = record { told = b.told.told; low = omega (arith, here) } }
+
+  -- no symbol that is known stands behind the words
+  pub between-words : (words : ℕ) (old new : List Chunk) → length numbers ≤ 64 * words → AreKnownIn numbers lines (now_at lines) → AreGained (UpTo words) old new → AreGained Each old new
+  between-words words old new past known gained =
+      gained-alike (UpTo words) Each old new gained (λ a b. record { at = b.at; from_on = b.from_on; before = b.before; told = b.told.told })
+      (λ a b.
+      let told = b.told.told in
+      let low = (known told.place told.key told.line told.target told.among).among in
+      record { at = b.at; from_on = b.from_on; before = b.before; told = record { told = b.told; low = omega (arith, low, past) } })
 
 -- ---- one kind of tables
 

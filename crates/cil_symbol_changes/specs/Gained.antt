@@ -1,5 +1,5 @@
 -- Accesses appended to others.
-use Rattle.std.specs.Prelude.{◌≡◌, ◌↔◌, ◌⊎◌, ℕ, ◌<◌, ◌^◌, List}
+use Rattle.std.specs.Prelude.{◌≡◌, ◌↔◌, ◌⊎◌, ℕ, ◌<◌, ◌^◌, List, length, slice_index}
 use Rattle.std.specs.List.{All}
 use Rattle.cil_accesses.specs.Chunks.{IsGiven}
 use Rattle.cil_accesses.specs.declared.access.AccessNumbers.{AccessNumbers}
@@ -36,6 +36,10 @@ pub record IsIn (numbers : List ℕ) (kind : RuleKind) (lines : Keyed) (stands :
   pub target : ℕ
   pub among : 0 < stands place target
   pub same : a ≡ access_by numbers kind key target
+
+-- each symbol is its own number
+abbrev pub AreKept : List ℕ → Type 0
+AreKept numbers = (t : ℕ) → t < length numbers → slice_index numbers t ≡ t
 
 -- the symbols of a key and of these targets have numbers
 abbrev pub AreKnown : List ℕ → SymbolKey → (ℕ → ℕ) → Type 0

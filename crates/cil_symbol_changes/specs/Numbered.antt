@@ -5,6 +5,7 @@ use Rattle.cil_keyed_lines.specs.declared.symbol_key.SymbolKey.{SymbolKey}
 use Rattle.cil_symbol_tables.specs.Tables.{count_before, count_now}
 use Rattle.cil_symbol_tables.specs.declared.symbol_tables.SymbolTables.{SymbolTables}
 use Rattle.cil_text.specs.declared.statement.RuleKind.{RuleKind}
+use Rattle.cil_text.specs.declared.statement.RuleKind.TheVariants.{Allow, AuditAllow, DontAudit, NeverAllow}
 
 -- the access of a kind, a key and a target, with the numbers at the places of their symbols
 abbrev pub access_by : List ℕ → RuleKind → SymbolKey → ℕ → AccessNumbers
@@ -51,3 +52,10 @@ IsPresentOf numbers kind counts = IsNewOf numbers kind (λ key t. 0) counts
 -- the same of some kind
 abbrev pub IsPresent : List ℕ → (RuleKind → SymbolKey → ℕ → ℕ) → AccessNumbers → Type 0
 IsPresent numbers counts = IsNew numbers (λ kind key t. 0) counts
+
+-- the counters of the accesses that a listing has: those of neverallow are taken as 0
+abbrev pub listed : (RuleKind → SymbolKey → ℕ → ℕ) → RuleKind → SymbolKey → ℕ → ℕ
+listed counts Allow = counts Allow
+listed counts AuditAllow = counts AuditAllow
+listed counts DontAudit = counts DontAudit
+listed counts NeverAllow = λ key t. 0

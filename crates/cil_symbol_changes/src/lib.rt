@@ -5,6 +5,7 @@ mod access_changes;
 mod changed_chunks;
 mod counted_accesses;
 mod counted_changes;
+mod kept_words;
 mod present_accesses;
 mod present_chunks;
 mod source_order;

@@ -1,15 +1,16 @@
-//! The accesses that some rule gives, before they are put in order.
+//! The accesses that a listing has, before they are put in order.
 
-ghost use Rattle.std.specs.Prelude.{◌<◌, ◌≤◌, ◌↔◌, ℕ, length, IfOk, OnOk};
+ghost use Rattle.std.specs.Prelude.{◌<◌, ◌≤◌, ◌↔◌, ℕ, length, IfOk, IsTrue, OnOk};
 ghost use Rattle.std.specs.List.{All};
 ghost use Rattle.cil_accesses.specs.Chunks.{IsGiven};
 ghost use Rattle.cil_accesses.specs.declared.access.AccessNumbers.{AccessNumbers};
 ghost use Rattle.cil_keyed_lines.specs.Keyed.{now_at, IsLineOf};
 ghost use Rattle.cil_symbol_tables.specs.Tables.{count_now};
-ghost use Rattle.cil_symbol_changes.specs.Gained.{AreGained, AreKnownIn, IsIn, IsShort, IsTo};
-ghost use Rattle.cil_symbol_changes.specs.Numbered.{ArePresentNumbered, IsPresent, IsPresentOf};
+ghost use Rattle.cil_symbol_changes.specs.Gained.{AreGained, AreKept, AreKnownIn, IsIn, IsShort, IsTo};
+ghost use Rattle.cil_symbol_changes.specs.Numbered.{listed, ArePresentNumbered, IsPresent, IsPresentOf};
 ghost use Rattle.cil_symbol_changes.specs.SourceOrder.{AreAllPlaces, IsAt, IsBetween};
 
+use crate::kept_words::{are_kept, push_words, words_len};
 use crate::source_order::{LinePlace, by_source, source_end};
 use crate::targets::push_targets;
 use cil_accesses::{Chunk, ChunkPlaces, sort_from};
@@ -17,6 +18,9 @@ use cil_keyed_lines::{KeyedLines, SymbolKey};
 use cil_symbol_tables::SymbolTables;
 use cil_text::RuleKind;
 use std::alloc::{AllocError, Allocator};
+
+// Lines are looked at word by word where at most so many words are looked at for each that has a target.
+const SPAN: usize = 16;
 
 /// How many words of the line of a place have a target whose counter is above 0.
 fn line_words<A: Allocator>(lines: &KeyedLines<A>, place: usize) -> usize {
@@ -42,12 +46,33 @@ fn kind_words<A: Allocator>(tables: &SymbolTables<A>, kind: RuleKind) -> usize {
     words
 }
 
-/// About how many chunks the accesses take that tables count: a list of them that grew would take twice the room.
+/// About how many chunks these accesses take: a list of them that grew would take twice the room.
 fn chunks_len<A: Allocator>(tables: &SymbolTables<A>) -> usize {
     kind_words(tables, RuleKind::Allow)
         .saturating_add(kind_words(tables, RuleKind::AuditAllow))
         .saturating_add(kind_words(tables, RuleKind::DontAudit))
-        .saturating_add(kind_words(tables, RuleKind::NeverAllow))
+}
+
+/// Whether so many words have a target in enough of the lines from one place of an order up to another that these may be looked at word by
+/// word. It looks at no more lines than it takes to see that.
+fn are_dense<A: Allocator>(
+    lines: &KeyedLines<A>,
+    order: &[LinePlace],
+    from: usize,
+    to: usize,
+    words: usize,
+) -> bool
+    requires { to ≤ length order.now }
+{
+    let enough = to.saturating_sub(from).saturating_mul(words) / SPAN;
+    let mut found: usize = 0;
+    for i in from..to {
+        if found >= enough {
+            return true;
+        }
+        found = found.saturating_add(line_words(lines, order[i].place as usize));
+    }
+    found >= enough
 }
 
 /// Appends the accesses of a key to the targets whose counters in its line are above 0.
@@ -93,8 +118,9 @@ fn push_place<A: Allocator>(
     }
 }
 
-/// Appends the accesses of the lines from one place of an order up to another, and puts them in order: a few at a time, where these
-/// lines are of one source.
+/// Appends the accesses of the lines from one place of an order up to another in order, where these lines are of one source. Where each
+/// symbol is its own number, lines that have most words are looked at word by word, which gives the order. Else what the lines give is
+/// put in order: a few at a time.
 fn push_source<A: Allocator>(
     chunks: &mut Vec<Chunk, A>,
     places: &mut ChunkPlaces<A>,
@@ -103,14 +129,19 @@ fn push_source<A: Allocator>(
     order: &[LinePlace],
     from: usize,
     to: usize,
+    kept: bool,
     numbers: &[u32],
 ) -> Result<(), AllocError>
     requires order { from ≤ to }
     requires within { to ≤ length order.now }
+    requires kept { IsTrue kept → AreKept numbers.now }
     requires known { AreKnownIn numbers.now lines.now (now_at lines.now) }
     requires short { All IsShort chunks.old.items }
     ensures { OnOk result (AreGained (IsBetween (IsAt numbers.now kind lines.now) order.now from to) chunks.old.items chunks.new.items) }
 {
+    if kept && are_dense(lines, order, from, to, words_len(numbers)) {
+        return push_words(chunks, kind, lines, order, from, to, numbers);
+    }
     let start = chunks.len();
     for i in from..to {
         push_place(
@@ -140,10 +171,11 @@ fn push_lines<A: Allocator>(
     requires short { All IsShort chunks.old.items }
     ensures { OnOk result (AreGained (IsIn numbers.now kind lines.now (now_at lines.now)) chunks.old.items chunks.new.items) }
 {
+    let kept = are_kept(numbers);
     let mut from = 0;
     while from < order.len() {
         let to = source_end(order, from);
-        push_source(chunks, places, kind, lines, order, from, to, numbers)?;
+        push_source(chunks, places, kind, lines, order, from, to, kept, numbers)?;
         from = to;
     }
     Ok(())
@@ -167,20 +199,19 @@ fn push_kind<A: Allocator + Copy>(
     push_lines(chunks, &mut places, kind, lines, &order, numbers)
 }
 
-/// The accesses of all kinds that some rule gives.
+/// The accesses that some rule gives which a listing has: those of neverallow aren't part of it.
 pub fn collect_present<A: Allocator + Copy>(
     alloc: A,
     tables: &SymbolTables<A>,
     numbers: &[u32],
 ) -> Result<Vec<Chunk, A>, AllocError>
     requires { ArePresentNumbered numbers.now (count_now tables.now) }
-    ensures given { IfOk result (λ chunks. (a : AccessNumbers) → IsGiven chunks.items a ↔ IsPresent numbers.now (count_now tables.now) a) }
+    ensures given { IfOk result (λ chunks. (a : AccessNumbers) → IsGiven chunks.items a ↔ IsPresent numbers.now (listed (count_now tables.now)) a) }
     ensures short { IfOk result (λ chunks. All IsShort chunks.items) }
 {
     let mut chunks = Vec::with_capacity(alloc, chunks_len(tables))?;
     push_kind(&mut chunks, alloc, tables, RuleKind::Allow, numbers)?;
     push_kind(&mut chunks, alloc, tables, RuleKind::AuditAllow, numbers)?;
     push_kind(&mut chunks, alloc, tables, RuleKind::DontAudit, numbers)?;
-    push_kind(&mut chunks, alloc, tables, RuleKind::NeverAllow, numbers)?;
     Ok(chunks)
 }

@@ -22,7 +22,7 @@ pub fn short(symbol: usize) -> Result<u32, AllocError>
 }
 
 /// A word in 32 bits whose targets have no more.
-fn short_word(word: usize) -> Result<u32, AllocError>
+pub fn short_word(word: usize) -> Result<u32, AllocError>
     ensures same { IfOk result (λ n. n ≡ word) }
     ensures low { IfOk result (λ n. n < 2 ^ 26) }
     ensures beyond { OnErr result (2 ^ 26 ≤ word) }

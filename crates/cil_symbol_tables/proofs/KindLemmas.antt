@@ -7,6 +7,7 @@ use Rattle.cil_keyed_lines.specs.Keyed as keyed
 use Rattle.cil_keyed_lines.specs.Keyed.{Keyed}
 use Rattle.cil_keyed_lines.specs.declared.symbol_key.SymbolKey.{SymbolKey}
 use Rattle.cil_rule_shifts.specs.Reach.{one_if}
+use Rattle.cil_rule_shifts.proofs.ReachLemmas.{and-no}
 use Rattle.cil_symbol_tables.specs.Tables.{count_before, count_now, is_kind, lines_of, AllCounted}
 use Rattle.cil_symbol_tables.specs.declared.symbol_tables.SymbolTables.{SymbolTables}
 
@@ -106,6 +107,19 @@ module _ {A : Type 0} (old : SymbolTables A) (was is : SymbolKey → ℕ → Boo
       by AuditAllow key t = refl
       by DontAudit key t = refl
       by NeverAllow key t = moved key t
+
+-- counters that rise and none that fall are moved from nothing
+pub put-moved : (before lines : Keyed) (is : SymbolKey → ℕ → Bool) → ((key : SymbolKey) (t : ℕ) → keyed.count_now lines key t ≡ keyed.count_now before key t + one_if (is key t))
+    → (key : SymbolKey) (t : ℕ) → keyed.count_now lines key t + one_if false ≡ keyed.count_now before key t + one_if (is key t)
+put-moved before lines is put key t = let risen = put key t in omega (arith, risen)
+
+pub moved-put : {A : Type 0} (old new : SymbolTables A) (is : SymbolKey → ℕ → Bool) (kind : RuleKind)
+    → ((other : RuleKind) (key : SymbolKey) (t : ℕ) → count_now new other key t + one_if (is_kind kind other && false) ≡ count_now old other key t + one_if (is_kind kind other && is key t))
+    → (other : RuleKind) (key : SymbolKey) (t : ℕ) → count_now new other key t ≡ count_now old other key t + one_if (is_kind kind other && is key t)
+moved-put old new is kind moved other key t =
+    let none = and-no (is_kind kind other) in
+    let step = moved other key t in
+    omega (arith, none, step)
 
 -- the counters of one kind rise by what a rule gives at most, and those of others stay
 module _ {A : Type 0} (old : SymbolTables A) (gives : SymbolKey → ℕ → Bool) (lines : Keyed) where

@@ -1,7 +1,7 @@
 //! The access tables of a policy, by symbols.
 
 use cil_keyed_lines::{KeyedLines, SymbolKey};
-use cil_rule_shifts::{Reach, shift_rule};
+use cil_rule_shifts::{Reach, put_rule, shift_rule};
 use cil_text::RuleKind;
 use std::alloc::{AllocError, Allocator, Global};
 
@@ -22,12 +22,13 @@ impl<A: Allocator + Copy> SymbolTables<A> {
     ghost use Rattle.cil_rule_shifts.specs.Moves.{moves_where};
     ghost use Rattle.cil_rule_shifts.specs.Reach.{gives, one_if, IsShort};
     ghost use Rattle.cil_sums.specs.Rises.{RisesBy};
-    ghost use Rattle.cil_symbol_tables.specs.Tables.{count_before, count_now, is_kind, RiseAtMost};
+    ghost use Rattle.cil_symbol_tables.specs.Tables.{count_before, count_now, is_kind, steps_in, RiseAtMost};
 
     /// The tables of no rule.
     pub fn new(alloc: A) -> Self
         ensures now { (kind : RuleKind) (key : SymbolKey) (t : ℕ) → count_now result kind key t ≡ 0 }
         ensures before { (kind : RuleKind) (key : SymbolKey) (t : ℕ) → count_before result kind key t ≡ 0 }
+        ensures steps { steps_in result ≡ 0 }
     {
         SymbolTables {
             allow: KeyedLines::new(alloc),
@@ -71,6 +72,43 @@ impl<A: Allocator + Copy> SymbolTables<A> {
             RuleKind::NeverAllow => {
                 shift_rule(&mut self.neverallow, alloc, class, permissions, was, is)
             }
+        }
+    }
+}
+
+impl<A: Allocator + Copy> SymbolTables<A> {
+    ghost use Rattle.std.specs.Prelude.{◌≡◌, ◌+◌, ◌&&◌, ℕ, IfOk, OnOk};
+    ghost use Rattle.std.specs.List.Sorted.{IsStrictlyIncreasing};
+    ghost use Rattle.cil_rule_shifts.specs.Reach.{gives, one_if, IsShort};
+    ghost use Rattle.cil_sums.specs.Rises.{RisesBy};
+    ghost use Rattle.cil_symbol_tables.specs.Tables.{count_now, is_kind, steps_in, RiseAtMost};
+
+    /// Adds 1 to the counter of each access that a rule of a kind and a class gives by its permissions, and answers how many these are, or
+    /// the greatest `u128` where they are more. The permissions are symbols, each once and in their order. There is no step to take back, and
+    /// none is logged. After an out of memory some counters may have risen.
+    pub fn put(
+        &mut self,
+        alloc: A,
+        kind: RuleKind,
+        class: usize,
+        permissions: &[usize],
+        is: &Reach<A>,
+    ) -> Result<u128, AllocError>
+        requires permissions { IsStrictlyIncreasing permissions.now }
+        requires is { IsShort is.now }
+        requires settled { steps_in self.old ≡ 0 }
+        ensures settled { steps_in self.new ≡ 0 }
+        ensures now { OnOk result ((other : RuleKind) (key : SymbolKey) (t : ℕ) → count_now self.new other key t
+            ≡ count_now self.old other key t + one_if (is_kind kind other && gives is.now class permissions.now key t)) }
+        ensures bounded { RiseAtMost self.old self.new
+            (λ other key t. one_if (is_kind kind other && gives is.now class permissions.now key t)) }
+        ensures given { IfOk result (RisesBy (λ (p : SymbolKey × ℕ). gives is.now class permissions.now p.0 p.1) 0) }
+    {
+        match kind {
+            RuleKind::Allow => put_rule(&mut self.allow, alloc, class, permissions, is),
+            RuleKind::AuditAllow => put_rule(&mut self.auditallow, alloc, class, permissions, is),
+            RuleKind::DontAudit => put_rule(&mut self.dontaudit, alloc, class, permissions, is),
+            RuleKind::NeverAllow => put_rule(&mut self.neverallow, alloc, class, permissions, is),
         }
     }
 }

@@ -61,6 +61,27 @@ module _ {A B : Type 0} (symbols : List ℕ) (rule : NumberedRule A) (was is : R
       rises-added (shifts symbols rule was is) before moved after
       (rises-map counter (λ a b same i. (ap (λ c. c.key) same i, ap (λ c. c.target) same i)) (moves_where was is class permissions) (shifts symbols rule was is) there back 0 moved rises) (omega (arith, sum)) (omega (arith, sum))
 
+-- the counters of a rule's kind that rise are those that its lines do
+module _ (rule_kind : RuleKind) (gives covers : SymbolKey → ℕ → Bool) (same : (key : SymbolKey) (t : ℕ) → gives key t ≡ covers key t) where
+  abbrev of_kind : SymbolKey × ℕ → Counter
+  of_kind p = record { kind = rule_kind; key = p.0; target = p.1 }
+
+  abbrev given_of : Counter → Bool
+  given_of c = is_kind rule_kind c.kind && covers c.key c.target
+
+  given-there : (p : SymbolKey × ℕ) → gives p.0 p.1 ≡ true → given_of (of_kind p) ≡ true
+  given-there p is = ap (λ b. b && covers p.0 p.1) (kind-itself rule_kind) ∙ sym (same p.0 p.1) ∙ is
+
+  given-back : (c : Counter) → given_of c ≡ true → (p : SymbolKey × ℕ) × (gives p.0 p.1 ≡ true) × (of_kind p ≡ c)
+  given-back c is =
+      let (kind, covers_it) = and-both (is_kind rule_kind c.kind) _ is in
+      let one = one-kind rule_kind c.kind kind in
+      ((c.key, c.target), same c.key c.target ∙ covers_it, λ i. record { kind = one i; key = c.key; target = c.target })
+
+  pub given-rises : (before given after : ℕ) → RisesBy (λ (p : SymbolKey × ℕ). gives p.0 p.1) 0 given → after ≡ min (before + given) (2 ^ 128 - 1) → RisesBy (λ (c : Counter). is_kind rule_kind c.kind && covers c.key c.target) before after
+  given-rises before given after rises sum =
+      rises-added given_of before given after (rises-map of_kind (λ a b alike i. (ap (λ c. c.key) alike i, ap (λ c. c.target) alike i)) (λ p. gives p.0 p.1) given_of given-there given-back 0 given rises) (omega (arith, sum)) (omega (arith, sum))
+
 differs-no : (a : Bool) → differs a false ≡ a
 differs-no true = refl
 differs-no false = refl

@@ -48,7 +48,7 @@ on-ok-both (Err error) f p q = tt
 -- ---- rules by their places
 
 -- a rule that stands in for one behind all
-nowhere : Rule
+pub nowhere : Rule
 nowhere = record {
   module_name = [];
   at = record { offset = 0; line = 1; column = 1 };
@@ -60,10 +60,10 @@ nowhere = record {
 }
 
 module _ (rules : List Rule) where
-  abbrev at-place : ℕ → Rule
+  abbrev pub at-place : ℕ → Rule
   at-place i = get_or rules i nowhere
 
-  read-place : (i : ℕ) → i < length rules → slice_get rules i ≡ Some (at-place i)
+  pub read-place : (i : ℕ) → i < length rules → slice_get rules i ≡ Some (at-place i)
   read-place i within = slice_get-get_or rules i nowhere within
 
   has-place : (s : Rule) (has : Contains rules s) → slice_get rules has.0 ≡ Some s
@@ -89,10 +89,10 @@ joined-same r s u first second = (first.0 ∙ second.0, first.1 ∙ second.1, fi
 -- ---- accesses by their names
 
 module _ (names : List (List ℕ)) (apart : AreApart names) where
-  abbrev named : Counter → Bool
+  abbrev pub named : Counter → Bool
   named c = is_named names c.key c.target
 
-  abbrev atom : Counter → Atom
+  abbrev pub atom : Counter → Atom
   atom c = atom_of names c.kind c.key c.target
 
   same-symbol : (s u : ℕ) → nat_lt s (length names) ≡ true → nat_lt u (length names) ≡ true → name_at names s ≡ name_at names u → s ≡ u
@@ -114,6 +114,14 @@ module _ (names : List (List ℕ)) (apart : AreApart names) where
       let classes = same-symbol c.key.class d.key.class class other_class (ap (λ a. a.the_class) same) in
       let permissions = same-symbol c.key.permission d.key.permission permission other_permission (ap (λ a. a.permission) same) in
       λ n. record { kind = kinds n; key = record { source = sources n; class = classes n; permission = permissions n }; target = targets n }
+
+  -- the same rule and the same access are of one place and one counter
+  pub one-pair : (rules : List Rule) (apart_rules : spots.AreApart (map rule_spot rules)) (p q : ℕ × Counter) → p.0 < length rules → q.0 < length rules → named p.1 ≡ true → named q.1 ≡ true
+      → IsSameRule (at-place rules p.0) (at-place rules q.0) → atom p.1 ≡ atom q.1 → p ≡ q
+  one-pair rules apart_rules p q p_in q_in p_named q_named same same_atom =
+      let place = same-place rules apart_rules p.0 q.0 (at-place rules p.0) (at-place rules q.0) (read-place rules p.0 p_in) (read-place rules q.0 q_in) same in
+      let counter = one-counter p.1 q.1 p_named q_named same_atom in
+      λ n. (place n, counter n)
 
   -- ---- what a rule gives by names
 
@@ -137,7 +145,7 @@ module _ (names : List (List ℕ)) (apart : AreApart names) where
               ∙ and-false (is_kind rule.kind c.kind) ∙ sym (ap (λ b. b && gives meaning (named-rule rule) (atom c)) unnamed)
         ]
 
-    given-by-names : (c : Counter) (i : ℕ) (r : Rule) → slice_get meaning.rules i ≡ Some r → given p c.kind c.key c.target i ≡ one_if (named c && gives meaning r (atom c))
+    pub given-by-names : (c : Counter) (i : ℕ) (r : Rule) → slice_get meaning.rules i ≡ Some r → given p c.kind c.key c.target i ≡ one_if (named c && gives meaning r (atom c))
     given-by-names c i r at =
         let one = from-mapped named-rule p.resolved.now.rules.items i r at in
         given-rule p c.kind c.key c.target i one.0 one.1 ∙ ap one_if (by-names c i one.0 one.1) ∙ ap (λ s. one_if (named c && gives meaning s (atom c))) one.2
@@ -307,14 +315,6 @@ module _ (names : List (List ℕ)) (apart : AreApart names) where
           All-append IsDirty (map old_pair first.those) (map new_pair second.those)
           (All-map IsDirty old_pair first.those (λ k d inside. let p = get_or first.those k d in let is = within-old p (Contains-get_or first.those k d inside) in gone-dirty p.0 p.1 is.0 is.1))
           (All-map IsDirty new_pair second.those (λ k d inside. let p = get_or second.those k d in (within-new p (Contains-get_or second.those k d inside)).1.dirty))
-
-      -- the same rule and the same access are of one place and one counter
-      one-pair : (rules : List Rule) (apart_rules : spots.AreApart (map rule_spot rules)) (p q : ℕ × Counter) → p.0 < length rules → q.0 < length rules → named p.1 ≡ true → named q.1 ≡ true
-          → IsSameRule (at-place rules p.0) (at-place rules q.0) → atom p.1 ≡ atom q.1 → p ≡ q
-      one-pair rules apart_rules p q p_in q_in p_named q_named same same_atom =
-          let place = same-place rules apart_rules p.0 q.0 (at-place rules p.0) (at-place rules q.0) (read-place rules p.0 p_in) (read-place rules q.0 q_in) same in
-          let counter = one-counter p.1 q.1 p_named q_named same_atom in
-          λ n. (place n, counter n)
 
       once : AllPairs Apart pairs
       once =

@@ -6,4 +6,5 @@ pub mod AdjustedLemmas
 pub mod SameLemmas
 pub mod UpdateLemmas
 pub mod DirtyLemmas
+pub mod LoadLemmas
 pub mod FewLemmas

@@ -43,6 +43,10 @@ swaps old i new j c = not (given old c.kind c.key c.target i == given new c.kind
 abbrev pub goes : {A : Type 0} → Policy A → Matched → ℕ → Counter → Bool
 goes old m i c = nat_lt 0 (alone (given old c.kind c.key c.target) m.ahead i)
 
+-- whether the rule of a place of a policy gives it
+abbrev pub comes : {A : Type 0} → Policy A → ℕ → Counter → Bool
+comes p j c = nat_lt 0 (given p c.kind c.key c.target j)
+
 -- whether exactly one of the rule of a place of the new policy and the same rule of the old policy, if that has it, gives it
 abbrev pub turns : {A : Type 0} → Policy A → Policy A → Matched → ℕ → Counter → Bool
 turns old new m j c = not (across (given old c.kind c.key c.target) m.back j == given new c.kind c.key c.target j)

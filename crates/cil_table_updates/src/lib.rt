@@ -2,12 +2,12 @@
 #![tactic(auto)]
 
 mod changed_rows;
+mod loading;
 mod moves;
 mod passes;
 mod policy;
-mod steps;
 mod updating;
 
+pub use loading::load;
 pub use policy::Named;
-pub use steps::Steps;
 pub use updating::update;

@@ -20,7 +20,8 @@ use cil_text::RuleKind;
 use std::alloc::{AllocError, Allocator};
 
 /// Moves the counters of what a rule gave to those of what it gives, by the kind, the class and the permissions of a policy's rule. The
-/// meter counts each counter that moves. No other function moves counters of accesses, so that none moves uncounted.
+/// meter counts each counter that moves. But for `loading::add_rule` no other function moves counters of accesses, so that none moves
+/// uncounted.
 fn shift_as<A: Allocator + Copy>(
     tables: &mut SymbolTables<A>,
     alloc: A,

@@ -4,16 +4,14 @@ ghost use Rattle.std.specs.Prelude.{◌≡◌, ◌+◌, ◌≤◌, ◌<◌, ℕ,
 ghost use Rattle.cil_resolve.specs.Meter.{adjustments_in, evaluations_in};
 ghost use Rattle.cil_sums.specs.Rises.{below, RisesBy};
 ghost use Rattle.cil_sums.specs.Sums.{across, alone, sum_below};
-ghost use Rattle.cil_symbol_tables.specs.Tables.{count_before, count_now, NoneRises, RiseAtMost, StaysBefore};
+ghost use Rattle.cil_symbol_tables.specs.Tables.{count_before, count_now, NoneRises, RiseAtMost};
 ghost use Rattle.cil_table_updates.specs.Adjusted.{goes, swaps, turns};
 ghost use Rattle.cil_table_updates.specs.Given.{given};
 ghost use Rattle.cil_table_updates.specs.Moves.{AreReplaced, IsReady, IsReplaced};
-ghost use Rattle.cil_table_updates.specs.declared.steps.Steps.TheVariants.{Logged};
 
 use crate::changed_rows::ChangedRows;
 use crate::moves::{put_rule, replace_rule, take_rule};
 use crate::policy::Policy;
-use crate::steps::{Steps, end_rule};
 use cil_keyed_lines::SymbolKey;
 use cil_matching::RuleMatching;
 use cil_resolve::Meter;
@@ -133,8 +131,7 @@ fn put_or_replace<A: Allocator + Copy>(
     }
 }
 
-/// Adds what each rule of the new policy gives. A rule that both have replaces what it gave in the old one. The steps are logged, or settled
-/// rule by rule.
+/// Adds what each rule of the new policy gives. A rule that both have replaces what it gave in the old one.
 pub fn put_new<A: Allocator + Copy>(
     tables: &mut SymbolTables<A>,
     alloc: A,
@@ -142,7 +139,6 @@ pub fn put_new<A: Allocator + Copy>(
     new: &Policy<'_, A>,
     matching: &RuleMatching<A>,
     changed: &ChangedRows<'_, A>,
-    steps: Steps,
     meter: &mut Meter,
 ) -> Result<(), AllocError>
     requires old_ready { IsReady old.now }
@@ -151,7 +147,7 @@ pub fn put_new<A: Allocator + Copy>(
     requires counted { (kind : RuleKind) (key : SymbolKey) (t : ℕ) → sum_below (across (given old.now kind key t) matching.now.back) (length new.now.resolved.now.rules.items) ≤ count_now tables.old kind key t }
     ensures now { OnOk result ((kind : RuleKind) (key : SymbolKey) (t : ℕ) → count_now tables.new kind key t + sum_below (across (given old.now kind key t) matching.now.back) (length new.now.resolved.now.rules.items)
         ≡ count_now tables.old kind key t + sum_below (given new.now kind key t) (length new.now.resolved.now.rules.items)) }
-    ensures before { steps ≡ Logged → StaysBefore tables.old tables.new }
+    ensures before { (kind : RuleKind) (key : SymbolKey) (t : ℕ) → count_before tables.new kind key t ≡ count_before tables.old kind key t }
     ensures bounded { RiseAtMost tables.old tables.new
         (λ kind key t. sum_below (given new.now kind key t) (length new.now.resolved.now.rules.items)) }
     ensures adjustments { OnOk result (RisesBy (below (turns old.now new.now matching.now) (length new.now.resolved.now.rules.items))
@@ -160,7 +156,6 @@ pub fn put_new<A: Allocator + Copy>(
 {
     for j in 0..new.resolved.rules().len() {
         put_or_replace(tables, alloc, old, new, matching, changed, j, meter)?;
-        end_rule(tables, steps);
     }
     Ok(())
 }

@@ -9,12 +9,10 @@ ghost use Rattle.cil_rule_reach.specs.Named.{AreMembersOf};
 ghost use Rattle.cil_symbol_tables.specs.Tables.{count_now, StaysBefore};
 ghost use Rattle.cil_table_updates.specs.Adjusted.{AdjustsAtLeast, AdjustsAtMost};
 ghost use Rattle.cil_table_updates.specs.Policies.{count_named};
-ghost use Rattle.cil_table_updates.specs.declared.steps.Steps.TheVariants.{Logged};
 
 use crate::changed_rows::ChangedRows;
 use crate::passes::{put_new, take_gone};
 use crate::policy::{Named, Policy};
-use crate::steps::Steps;
 use cil_keyed_lines::SymbolKey;
 use cil_matching::RuleMatching;
 use cil_member_rows::MemberRows;
@@ -25,9 +23,9 @@ use cil_symbols::Symbols;
 use cil_text::RuleKind;
 use std::alloc::{AllocError, Allocator};
 
-/// Brings the tables of an old policy to a new one in steps. Where these are logged `undo` takes them back, also after an out of memory.
-/// The rows hold the members of the old policy before their steps, and those of the new one now. Rules that both policies have, of the
-/// same module, offset and content, are passed over where the members of their source and target stayed. The meter counts each counter that moves. No
+/// Brings the tables of an old policy to a new one in steps, which `undo` takes back, also after an out of memory. The rows hold
+/// the members of the old policy before their steps, and those of the new one now. Rules that both policies have, of the same module,
+/// offset and content, are passed over where the members of their source and target stayed. The meter counts each counter that moves. No
 /// counter is ever above the number of rules of both policies that give its access.
 pub fn update<A: Allocator + Copy>(
     tables: &mut SymbolTables<A>,
@@ -36,7 +34,6 @@ pub fn update<A: Allocator + Copy>(
     rows: &MemberRows<A>,
     old: Named<'_, A>,
     new: Named<'_, A>,
-    steps: Steps,
     meter: &mut Meter,
 ) -> Result<(), AllocError>
     requires old_numbers { AreNumbersOf names.now old.numbering.now.symbols old.resolved.now.names.items }
@@ -47,7 +44,7 @@ pub fn update<A: Allocator + Copy>(
     requires new_members { AreMembersOf names.now (meaning_in new.resolved.now) (members.count_now rows.now) }
     requires stands { (kind : RuleKind) (key : SymbolKey) (t : ℕ) → count_now tables.old kind key t ≡ count_named names.now (meaning_in old.resolved.now) kind key t }
     ensures now { OnOk result ((kind : RuleKind) (key : SymbolKey) (t : ℕ) → count_now tables.new kind key t ≡ count_named names.now (meaning_in new.entry.resolved.now) kind key t) }
-    ensures before { steps ≡ Logged → StaysBefore tables.old tables.new }
+    ensures before { StaysBefore tables.old tables.new }
     ensures bounded { (kind : RuleKind) (key : SymbolKey) (t : ℕ) → count_now tables.new kind key t ≤ count_named names.now (meaning_in old.entry.resolved.now) kind key t
         + count_named names.now (meaning_in new.entry.resolved.now) kind key t }
     ensures at_most { OnOk result (AdjustsAtMost (meaning_in old.entry.resolved.now) (meaning_in new.entry.resolved.now) (adjustments_in meter.old) (adjustments_in meter.new)) }
@@ -61,5 +58,5 @@ pub fn update<A: Allocator + Copy>(
     let matching = RuleMatching::of(alloc, old.resolved, new.resolved)?;
     let changed = ChangedRows::of(alloc, rows, names.len())?;
     take_gone(tables, alloc, &old, &matching, meter)?;
-    put_new(tables, alloc, &old, &new, &matching, &changed, steps, meter)
+    put_new(tables, alloc, &old, &new, &matching, &changed, meter)
 }

@@ -8,7 +8,7 @@ ghost use Rattle.cil_store.specs.Stored.{entry_of};
 ghost use Rattle.cil_program.specs.CommandLine.{Compiles};
 
 use crate::script::reply;
-use cil_store::{Compiled, Entry, Plain, Seed, WriteFault};
+use cil_store::{Entry, Policy, Seed, WriteFault};
 use cil_stream::{Sink, SinkFault};
 use std::alloc::Allocator;
 
@@ -42,14 +42,14 @@ pub fn refuse_for_memory<E: Sink>(err: &mut E) -> Result<u8, SinkFault>
 }
 
 /// Writes a report, and gives the exit status.
-fn write_report<W: Sink, A: Allocator + Copy, C: Compiled<A>>(
-    engine: &C,
+fn write_report<W: Sink, A: Allocator + Copy>(
+    policy: &Policy<A>,
     report: Report,
     out: &mut W,
 ) -> Result<u8, WriteFault>
-    ensures ok { (entries : _) → Of entries (accepts (C.store engine.now)) → IfOk result (λ status. (printed : List ℕ)
+    ensures ok { (entries : _) → Of entries (accepts policy.now) → IfOk result (λ status. (printed : List ℕ)
         × Gains (W.taken out.old) (W.taken out.new) printed × Compiles entries report printed [] status) }
-    ensures err { (entries : _) → Of entries (accepts (C.store engine.now))
+    ensures err { (entries : _) → Of entries (accepts policy.now)
         → IsErrOf result WriteFault.Sink → (printed : List ℕ) × (status : ℕ)
         × GainsFront (W.taken out.old) (W.taken out.new) printed
         × Compiles entries report printed [] status }
@@ -59,11 +59,11 @@ fn write_report<W: Sink, A: Allocator + Copy, C: Compiled<A>>(
 {
     match report {
         Report::Listing => {
-            engine.write_listing(out)?;
+            policy.write_listing(out)?;
             Ok(0)
         }
         Report::Violations => {
-            let violations = engine.write_violations(out)?;
+            let violations = policy.write_violations(out)?;
             if violations == 0 { Ok(0) } else { Ok(1) }
         }
     }
@@ -95,14 +95,14 @@ pub fn compile_entries<W: Sink, E: Sink, A: Allocator + Copy>(
     ensures out_counted { W.failures out.old ≤ W.failures out.new }
     ensures err_counted { E.failures err.old ≤ E.failures err.new }
 {
-    let engine = match Plain::of(alloc, asked.seed, entries) {
-        Ok(engine) => engine,
+    let policy = match Policy::of(alloc, asked.seed, entries) {
+        Ok(policy) => policy,
         Err(refusal) => {
             reply::write_refusal(err, &refusal)?;
             return Ok(1);
         }
     };
-    match write_report(&engine, asked.report, out) {
+    match write_report(&policy, asked.report, out) {
         Ok(status) => Ok(status),
         Err(WriteFault::Memory) => refuse_for_memory(err),
         Err(WriteFault::Sink) => Err(SinkFault),

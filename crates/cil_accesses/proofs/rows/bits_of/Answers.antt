@@ -1,4 +1,4 @@
-use Rattle.cil_accesses.specs.Difference.{nowhere}
+use Rattle.cil_accesses.specs.Chunks.{nowhere}
 use Rattle.cil_accesses.proofs.Moves.{bits-more}
 use Rattle.cil_accesses.proofs.rows.bits_of.Goals as goal
 

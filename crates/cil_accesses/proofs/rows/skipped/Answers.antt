@@ -1,6 +1,6 @@
 use Rattle.std.proofs.Common.{◌∙◌, not, sym, ap, arith}
 use Rattle.std.proofs.lemmas.List.Sums.{prefix_len_is}
-use Rattle.cil_accesses.specs.Difference.{nowhere}
+use Rattle.cil_accesses.specs.Chunks.{nowhere}
 use Rattle.cil_accesses.specs.View.{has_bit}
 use Rattle.cil_accesses.proofs.rows.skipped.Goals as goal
 

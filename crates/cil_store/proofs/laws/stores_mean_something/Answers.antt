@@ -1,5 +1,5 @@
 use Rattle.cil_store.proofs.MeantLemmas.{run-meant}
-use Rattle.cil_store.proofs.PlainLemmas.{none-meant}
+use Rattle.cil_store.proofs.NothingLemmas.{none-meant}
 use Rattle.cil_store.proofs.laws.stores_mean_something.Goals as goal
 
 pub returns : goal.returns

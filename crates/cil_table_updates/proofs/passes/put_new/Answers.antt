@@ -13,7 +13,7 @@ loop-j-init g c = record {
       let none = sum-none (across (given c.args.old.now kind key t) c.args.matching.now.back) in
       let nothing = sum-none (given c.args.new.now kind key t) in
       omega (arith, none, nothing);
-  before = λ logged kind key t. refl;
+  before = λ kind key t. refl;
   adjustments = rises-first (turns c.args.old.now c.args.new.now c.args.matching.now) (adjustments_in c.args.meter.now);
   evaluations = refl;
 }
@@ -33,8 +33,8 @@ loop-j-preserved g c = record {
       let is = sum-more (given c.args.new.now kind key t) c.loop-j.j in
       let put = c.loop-j.invariant.now kind key t in
       let one = c.in_ok-put_or_replace.ensures.now kind key t in
-      omega (arith, was, is, put, one, c.end_rule.ensures.now kind key t);
-  before = λ logged kind key t. c.end_rule.ensures.before logged kind key t ∙ c.in_ok-put_or_replace.ensures.before kind key t ∙ c.loop-j.invariant.before logged kind key t;
+      omega (arith, was, is, put, one);
+  before = λ kind key t. c.in_ok-put_or_replace.ensures.before kind key t ∙ c.loop-j.invariant.before kind key t;
   adjustments =
       rises-next (turns c.args.old.now c.args.new.now c.args.matching.now) c.loop-j.j (adjustments_in c.args.meter.now) (adjustments_in c.loop-j.meter) (adjustments_in c.put_or_replace.new.meter) c.loop-j.invariant.adjustments
       c.in_ok-put_or_replace.ensures.adjustments;

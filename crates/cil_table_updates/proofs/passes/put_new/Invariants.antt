@@ -6,7 +6,6 @@ use Rattle.cil_keyed_lines.specs.declared.symbol_key.SymbolKey.{SymbolKey}
 use Rattle.cil_symbol_tables.specs.Tables.{count_before, count_now}
 use Rattle.cil_table_updates.specs.Adjusted.{turns}
 use Rattle.cil_table_updates.specs.Given.{given}
-use Rattle.cil_table_updates.specs.declared.steps.Steps.TheVariants.{Logged}
 use Rattle.cil_text.specs.declared.statement.RuleKind.{RuleKind}
 use Rattle.cil_table_updates.proofs.passes.put_new.Given as goal
 
@@ -14,7 +13,7 @@ use Rattle.cil_table_updates.proofs.passes.put_new.Given as goal
 abbrev pub invariant-loop-j : goal.invariant-loop-j
 invariant-loop-j g l = record {
   now : (kind : RuleKind) (key : SymbolKey) (t : ℕ) → count_now l.tables kind key t + sum_below (across (given l.old kind key t) l.matching.back) l.j ≡ count_now l.fn.tables kind key t + sum_below (given l.new kind key t) l.j;
-  before : l.steps ≡ Logged → (kind : RuleKind) (key : SymbolKey) (t : ℕ) → count_before l.tables kind key t ≡ count_before l.fn.tables kind key t;
+  before : (kind : RuleKind) (key : SymbolKey) (t : ℕ) → count_before l.tables kind key t ≡ count_before l.fn.tables kind key t;
   adjustments : RisesBy (below (turns l.old l.new l.matching) l.j) (adjustments_in l.fn.meter) (adjustments_in l.meter);
   evaluations : evaluations_in l.meter ≡ evaluations_in l.fn.meter;
 }

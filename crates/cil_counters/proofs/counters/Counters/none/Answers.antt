@@ -1,3 +1,4 @@
+use Rattle.std.proofs.Common.{arith}
 use Rattle.cil_member_rows.specs.Rows as member_rows
 use Rattle.cil_resolve.specs.Resolved.{meaning_in}
 use Rattle.cil_resolve.specs.Sets.{sets_in}
@@ -14,3 +15,6 @@ pub returns-clause-before : goal.returns-clause-before
 returns-clause-before g c =
     counted-none c.args.policy.now c.of.new.symbols c.in_ok-of.field-0.symbols (member_rows.count_before c.new.result) (access_tables.count_before c.new-2.result) c.in_ok-of.ensures.symbols
     (none-of (sets_in c.args.policy.now) c.requires.sets) (none-of (meaning_in c.args.policy.now).rules c.requires.rules) c.new.ensures.before c.new-2.ensures.before
+
+pub returns-clause-settled : goal.returns-clause-settled
+returns-clause-settled g c = omega (arith, c.new.ensures.steps, c.new-2.ensures.steps)

@@ -3,6 +3,7 @@ use Rattle.std.proofs.lemmas.Result.{IfOk-weaker}
 use Rattle.cil_member_rows.specs.Rows as member_rows
 use Rattle.cil_resolve.specs.Resolved.{meaning_in}
 use Rattle.cil_rules.specs.Atoms.{atom_at, AreNumbered}
+use Rattle.cil_rules.specs.Rows.{listed}
 use Rattle.cil_specs.specs.Meaning.{is_in_table}
 use Rattle.cil_specs.specs.Report.{AreAtoms}
 use Rattle.cil_symbol_tables.specs.Tables as access_tables
@@ -37,4 +38,4 @@ returns g c =
     let found = c.in_ok-accesses.accesses in
     let are = found-atoms symbols c.as_slice-2.result.now c.args.policy.now ranks (member_rows.count_now c.args.self.now.rows) (access_tables.count_now c.args.self.now.tables) c.requires found
     c.in_ok-accesses.ensures.order c.in_ok-accesses.ensures.present in
-    IfOk-weaker c.numbered.result _ _ (λ table is. subst (AreAtoms (is_in_table (meaning_in c.args.policy.now))) (sym (is ∙ ap (λ list. map (atom_at list) found) c.in_ok-names.ensures)) are) c.numbered.ensures
+    IfOk-weaker c.numbered.result _ _ (λ table is. subst (AreAtoms (listed (is_in_table (meaning_in c.args.policy.now)))) (sym (is ∙ ap (λ list. map (atom_at list) found) c.in_ok-names.ensures)) are) c.numbered.ensures

@@ -7,7 +7,7 @@ use Rattle.cil_program.proofs.command_line.compile.write_report.Goals as goal
 pub returns-in_ok-write_listing-in-Listing-clause-ok : goal.returns-in_ok-write_listing-in-Listing-clause-ok
 returns-in_ok-write_listing-in-Listing-clause-ok g c = λ entries of.
     let written = c.in_ok-write_listing-in-Listing.ensures.ok in
-    (flat_map row_line written.0, written.3, lists (g.C.Compiled.store c.args.engine.now) written.0 c.in-Listing.is of written.1 refl refl refl)
+    (flat_map row_line written.0, written.3, lists c.args.policy.now written.0 c.in-Listing.is of written.1 refl refl refl)
 
 none : (n : ℕ) (violations : List Violation) → n ≡ length violations → n ≡ 0 → 0 ≡ status_of_violations violations
 none n [] is zero = refl
@@ -22,7 +22,7 @@ returns-then-violations-eq0-clause-ok g c = λ entries of.
     let written = c.in_ok-violations-in-Violations.ensures.ok in (
       violations_text written.0,
       written.3,
-      tells (g.C.Compiled.store c.args.engine.now) written.0 c.in-Violations.is of written.1 refl refl (none c.in_ok-violations-in-Violations.violations written.0 written.2 c.if-violations-eq0.true),
+      tells c.args.policy.now written.0 c.in-Violations.is of written.1 refl refl (none c.in_ok-violations-in-Violations.violations written.0 written.2 c.if-violations-eq0.true),
     )
 
 pub returns-else-violations-eq0-clause-ok : goal.returns-else-violations-eq0-clause-ok
@@ -30,13 +30,13 @@ returns-else-violations-eq0-clause-ok g c = λ entries of.
     let written = c.in_ok-violations-in-Violations.ensures.ok in (
       violations_text written.0,
       written.3,
-      tells (g.C.Compiled.store c.args.engine.now) written.0 c.in-Violations.is of written.1 refl refl (some c.in_ok-violations-in-Violations.violations written.0 written.2 c.if-violations-eq0.false),
+      tells c.args.policy.now written.0 c.in-Violations.is of written.1 refl refl (some c.in_ok-violations-in-Violations.violations written.0 written.2 c.if-violations-eq0.false),
     )
 
 pub returns-in_err-write_listing-in-Listing-clause-err : goal.returns-in_err-write_listing-in-Listing-clause-err
 returns-in_err-write_listing-in-Listing-clause-err g c = λ entries of is.
     let begun = c.in_err-write_listing-in-Listing.ensures.err in
-    (flat_map row_line begun.0, 0, begun.2, lists (g.C.Compiled.store c.args.engine.now) begun.0 c.in-Listing.is of begun.1 refl refl refl)
+    (flat_map row_line begun.0, 0, begun.2, lists c.args.policy.now begun.0 c.in-Listing.is of begun.1 refl refl refl)
 
 pub returns-in_err-violations-in-Violations-clause-err : goal.returns-in_err-violations-in-Violations-clause-err
 returns-in_err-violations-in-Violations-clause-err g c = λ entries of is.
@@ -44,5 +44,5 @@ returns-in_err-violations-in-Violations-clause-err g c = λ entries of is.
       violations_text begun.0,
       status_of_violations begun.0,
       begun.2,
-      tells (g.C.Compiled.store c.args.engine.now) begun.0 c.in-Violations.is of begun.1 refl refl refl,
+      tells c.args.policy.now begun.0 c.in-Violations.is of begun.1 refl refl refl,
     )

@@ -1,4 +1,4 @@
-use Rattle.std.proofs.Common.{◌≡◌, ◌∙◌, [], sym, subst, IfOk, None, Ok, Some}
+use Rattle.std.proofs.Common.{◌≡◌, ◌∙◌, [], refl, sym, subst, IfOk, None, Ok, Some}
 use Rattle.std.specs.Rc.{rc_value}
 use Rattle.cil_counters.specs.ChangeCounts.{CountsSome}
 use Rattle.cil_resolve.specs.Resolved.{meaning_in}
@@ -40,13 +40,12 @@ returns-in-Some-clause-changes g c =
 pub returns-in_ok-loaded-in-None-clause-changes : goal.returns-in_ok-loaded-in-None-clause-changes
 returns-in_ok-loaded-in-None-clause-changes g c =
     let inside : Store = c.self.inside.store in
-    let new : Store = c.load_counted.new.store in
     let to : Store = c.args.prepared.store in
     let next = meaning_in (rc_value c.args.prepared.next.resolved) in
     let meter = c.args.meter.now in
     let after = c.load_counted.new.meter in
     let counts = c.in_ok-loaded-in-None.loaded.counts in
     let none : c.self.inside.policy ≡ None = sym c.take.ensures.value ∙ c.in-None.is in
-    subst (λ s. CountsSome (AreCountedBetween s new meter after) counts) c.self.view_is
-    (told-counted {E = Unit {0}} inside new to (meaning_of [] []) next (subst (λ p. IsMeaningOf inside (meaning_kept p)) none c.self.invariant.is_meaning) c.requires
-    (λ m n changes. AreCountedChanges m n meter after changes) (Ok counts) c.in_ok-loaded-in-None.ensures.store c.in_ok-loaded-in-None.ensures.changes)
+    subst (λ s. CountsSome (AreCountedBetween s to meter after) counts) c.self.view_is
+    (told-counted {E = Unit {0}} inside to to (meaning_of [] []) next (subst (λ p. IsMeaningOf inside (meaning_kept p)) none c.self.invariant.is_meaning) c.requires
+    (λ m n changes. AreCountedChanges m n meter after changes) (Ok counts) refl c.in_ok-loaded-in-None.ensures.changes)

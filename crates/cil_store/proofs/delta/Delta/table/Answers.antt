@@ -1,6 +1,7 @@
 use Rattle.std.proofs.Common.{[], sym, subst, IfOk}
 use Rattle.cil_specs.specs.Meaning.{is_in_table}
 use Rattle.cil_specs.specs.Report.{AreAtoms}
+use Rattle.cil_rules.specs.Rows.{listed}
 use Rattle.cil_store.specs.Counted.{meaning_kept, IsCountedTo}
 use Rattle.cil_store.proofs.CountedPolicyLemmas.{atoms-of, of-kept, nothing-listed}
 use Rattle.cil_store.proofs.delta.Delta.table.Goals as goal
@@ -9,10 +10,10 @@ pub returns-in-Some : goal.returns-in-Some
 returns-in-Some g c =
     let self = c.self.inside in
     let counted = subst (λ s. IsCountedTo s self.policy) c.self.view_is c.self.invariant in
-    atoms-of (λ table. table) c.table.result c.args.self.now self.policy counted (subst (λ p. IfOk c.table.result (λ table. AreAtoms (is_in_table (meaning_kept p)) table)) (sym c.in-Some.is) c.table.ensures)
+    atoms-of (λ table. table) c.table.result c.args.self.now self.policy counted (subst (λ p. IfOk c.table.result (λ table. AreAtoms (listed (is_in_table (meaning_kept p))) table)) (sym c.in-Some.is) c.table.ensures)
 
 pub returns-in-None : goal.returns-in-None
 returns-in-None g c meaning meant =
     let self = c.self.inside in
     let counted = subst (λ s. IsCountedTo s self.policy) c.self.view_is c.self.invariant in
-    subst (AreAtoms (is_in_table meaning)) (sym c.empty.ensures) (of-kept c.args.self.now self.policy (λ m. AreAtoms (is_in_table m) []) counted (nothing-listed self.policy c.in-None.is) meaning meant)
+    subst (AreAtoms (listed (is_in_table meaning))) (sym c.empty.ensures) (of-kept c.args.self.now self.policy (λ m. AreAtoms (listed (is_in_table m)) []) counted (nothing-listed self.policy c.in-None.is) meaning meant)

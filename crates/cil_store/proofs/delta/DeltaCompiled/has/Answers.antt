@@ -2,7 +2,7 @@ use Rattle.std.proofs.Common.{◌≡◌, false, sym, subst}
 use Rattle.cil_specs.specs.Members.{is_member}
 use Rattle.cil_store.specs.Counted.{meaning_kept, IsCountedTo}
 use Rattle.cil_store.proofs.CountedPolicyLemmas.{of-kept}
-use Rattle.cil_store.proofs.PlainLemmas.{none-held}
+use Rattle.cil_store.proofs.NothingLemmas.{none-held}
 use Rattle.cil_store.proofs.delta.DeltaCompiled.has.Goals as goal
 
 pub returns-in-Some : goal.returns-in-Some

@@ -1,8 +1,8 @@
 use Rattle.std.proofs.Common.{subst, arith}
 use Rattle.cil_specs.specs.Meaning.{is_in_table}
 use Rattle.cil_stream.proofs.Gaining.{gains-none}
-use Rattle.cil_rules.specs.Rows.{rows_of}
-use Rattle.cil_rules.proofs.RowLemmas.{are-rows}
+use Rattle.cil_rules.specs.Rows.{listed, rows_of}
+use Rattle.cil_rules.proofs.RowLemmas.{are-rows, rows-listed}
 use Rattle.cil_store_specs.proofs.AllAtoms.{all-atoms}
 use Rattle.cil_store.specs.Counted.{meaning_kept, IsCountedTo}
 use Rattle.cil_store.proofs.delta.DeltaCompiled.write_listing.Goals as goal
@@ -21,13 +21,13 @@ returns-in-Ok-write_listing-clause-ok g c =
     let self = c.self.inside in
     let counted = subst (λ s. IsCountedTo s self.policy) c.self.view_is c.self.invariant in
     let meaning = meaning_kept self.policy in
-    let written = c.in-Ok-write_listing.ensures.ok (is_in_table meaning) (c.in-Ok.ensures meaning counted.is_meaning) in
-    (written.0, (meaning, counted.is_meaning, written.1), written.2, written.3)
+    let written = c.in-Ok-write_listing.ensures.ok (listed (is_in_table meaning)) (c.in-Ok.ensures meaning counted.is_meaning) in
+    (written.0, (meaning, counted.is_meaning, rows-listed (is_in_table meaning) written.0 written.1), written.2, written.3)
 
 pub returns-clause-err : goal.returns-clause-err
 returns-clause-err g c =
     let self = c.self.inside in
     let counted = subst (λ s. IsCountedTo s self.policy) c.self.view_is c.self.invariant in
     let meaning = meaning_kept self.policy in
-    let written = c.in-Err.ensures.err (is_in_table meaning) (c.in-Ok.ensures meaning counted.is_meaning) in
-    (written.0, (meaning, counted.is_meaning, written.1), written.2)
+    let written = c.in-Err.ensures.err (listed (is_in_table meaning)) (c.in-Ok.ensures meaning counted.is_meaning) in
+    (written.0, (meaning, counted.is_meaning, rows-listed (is_in_table meaning) written.0 written.1), written.2)

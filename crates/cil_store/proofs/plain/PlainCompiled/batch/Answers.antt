@@ -1,47 +1,53 @@
-use Rattle.std.proofs.Common.{map, refl, sym, subst}
+use Rattle.std.proofs.Common.{◌∙◌, map, refl, sym, subst}
+use Rattle.std.specs.Rc.{rc_value}
 use Rattle.std.proofs.lemmas.Result.{err_from_is_err_and}
-use Rattle.cil_store_specs.specs.Next.{AreTaken}
+use Rattle.cil_resolve.specs.Resolved.{meaning_in}
+use Rattle.cil_store_specs.specs.Next.{IsMeaningOf}
 use Rattle.cil_store_specs.specs.Run.{Step, a_batch, changed_by, out_of_memory}
 use Rattle.cil_store_specs.specs.Store.{Store}
 use Rattle.cil_store.specs.Edits.{edit_of, refusal_of}
-use Rattle.cil_store.specs.Plain.{IsCompiledTo}
 use Rattle.cil_store.specs.Refusing.{IsRefusedBatch}
-use Rattle.cil_store.proofs.PlainLemmas.{accepted-step}
-use Rattle.cil_store.proofs.StepLemmas.{refused-step}
+use Rattle.cil_store.proofs.StepLemmas.{made-step, refused-step}
 use Rattle.cil_store.proofs.plain.PlainCompiled.batch.Goals as goal
 
-pub returns-in_err-judged : goal.returns-in_err-judged
-returns-in_err-judged g c =
+pub returns-in_err-prepared : goal.returns-in_err-prepared
+returns-in_err-prepared g c =
     let made = err_from_is_err_and c.from_residual.result c.from_residual.ensures.1 in
     let edits = map edit_of c.args.edits.now in
-    let refusal = refusal_of c.in_err-judged.field-0.0 in
-    rw (made.1, made.2) (refused-step c.args.self.now edits refusal (subst (λ (s : Store). IsRefusedBatch s edits refusal) c.self.view_is c.in_err-judged.ensures.err))
+    let refusal = refusal_of c.in_err-prepared.field-0.0 in
+    rw (made.1, made.2) (refused-step c.args.self.now edits refusal (subst (λ (s : Store). IsRefusedBatch s edits refusal) c.self.view_is c.in_err-prepared.ensures.err))
 
-pub returns-in_err-made : goal.returns-in_err-made
-returns-in_err-made g c =
-    let made = err_from_is_err_and c.from_residual-in_err-made.result c.from_residual-in_err-made.ensures.1 in
+pub returns-in_err-anew : goal.returns-in_err-anew
+returns-in_err-anew g c =
+    let made = err_from_is_err_and c.from_residual-in_err-anew.result c.from_residual-in_err-anew.ensures.1 in
     rw (made.1, made.2) (out_of_memory refl refl)
 
 pub returns-in_err-changes : goal.returns-in_err-changes
 returns-in_err-changes g c =
     let made = err_from_is_err_and c.from_residual-in_err-changes.result c.from_residual-in_err-changes.ensures.1 in
-    rw (made.1, made.2) (out_of_memory refl refl)
+    rw (made.1, made.2) (out_of_memory refl (c.in_err-changes.ensures.err ∙ c.self.view_is))
 
-pub compile-requires : goal.compile-requires
-compile-requires g c = c.in_ok-judged.ensures.means
+pub replace-requires : goal.replace-requires
+replace-requires g c = c.in_ok-prepared.ensures.means
 
-pub take_over-requires : goal.take_over-requires
-take_over-requires g c = c.in_ok-made.ensures.compiled
+pub put-requires-clause-meaning : goal.put-requires-clause-meaning
+put-requires-clause-meaning g c =
+    let new : Store = c.replace.new.self in
+    let after = meaning_in (rc_value c.in_ok-prepared.prepared.next.resolved) in
+    subst (IsMeaningOf new) (sym c.in_ok-anew.ensures.meaning) (subst (λ (s : Store). IsMeaningOf s after) (sym c.in_ok-changes.ensures.ok) c.in_ok-prepared.ensures.means)
 
 pub returns : goal.returns
 returns g c =
-    let self = c.self.inside in
-    let made = c.in_ok-made.made in
     let store : Store = c.args.self.now in
-    let new : Store = made.store in
+    let inside : Store = c.self.inside.delta in
     let edits = map edit_of c.args.edits.now in
+    let prepared = c.in_ok-prepared.ensures in
+    let to : Store = c.in_ok-prepared.prepared.store in
+    let (before, meant) = prepared.meant in
+    let after = meaning_in (rc_value c.in_ok-prepared.prepared.next.resolved) in
     let changes = c.in_ok-changes.changes in
-    let taken = subst (λ (s : Store). AreTaken s edits new) c.self.view_is (subst (λ (s : Store). AreTaken self.store edits s) (sym c.in_ok-made.ensures.store) c.in_ok-judged.ensures.taken) in
-    let was = subst (λ (s : Store). IsCompiledTo s self.policy self.dropped) c.self.view_is c.self.invariant in
-    let step = accepted-step store new edits self.policy made.policy self.dropped made.dropped changes c.in_ok-judged.ensures.short taken was c.in_ok-made.ensures.compiled c.in_ok-changes.ensures in
-    subst (λ (s : Store). Step store (a_batch edits) (changed_by changes) s) (sym c.take_over.ensures) step
+    let are = c.in_ok-changes.ensures.changes before after meant (subst (λ (s : Store). IsMeaningOf s after) (sym c.in_ok-changes.ensures.ok) prepared.means) in
+    let step = made-step inside to edits before after changes prepared.short prepared.taken meant prepared.means are.are_changes in
+    subst (λ (s : Store). Step s (a_batch edits) (changed_by changes) c.put.new.self) c.self.view_is
+    (subst (λ (s : Store). Step inside (a_batch edits) (changed_by changes) s) (sym c.put.ensures)
+    (subst (λ (s : Store). Step inside (a_batch edits) (changed_by changes) s) (sym c.in_ok-changes.ensures.ok) step))

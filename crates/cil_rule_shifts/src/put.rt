@@ -1,0 +1,123 @@
+//! The counters of keyed lines, raised by what a rule gives, for good.
+
+ghost use Rattle.std.specs.Prelude.{◌≡◌, ◌+◌, ◌&&◌, ℕ, false, IfOk, OnOk};
+ghost use Rattle.std.specs.List.Sorted.{IsStrictlyIncreasing};
+ghost use Rattle.cil_keyed_lines.specs.Keyed.{count_now, is_key, steps_in};
+ghost use Rattle.cil_rule_shifts.specs.Moves.{RiseAtMost};
+ghost use Rattle.cil_rule_shifts.specs.Pieces.{has_target, put_for, AreApart, ArePieces};
+ghost use Rattle.cil_rule_shifts.specs.Reach.{gives, is_line, one_if, takes, AreShort, IsShort};
+ghost use Rattle.cil_sums.specs.Rises.{RisesBy};
+
+use crate::pieces::{Piece, Pieces, pieces_of};
+use crate::reach::{Reach, next_source};
+use crate::targets::Targets;
+use crate::turned::is_itself;
+use cil_keyed_lines::{KeyedLines, SymbolKey};
+use std::alloc::{AllocError, Allocator};
+
+/// Adds 1 to the counter of each target of a list of pieces in the line of a key. After an out of memory those of some pieces have risen.
+fn put_line<A: Allocator + Copy>(
+    lines: &mut KeyedLines<A>,
+    alloc: A,
+    key: SymbolKey,
+    pieces: &[Piece],
+) -> Result<(), AllocError>
+    requires pieces { AreApart pieces.now }
+    requires settled { steps_in lines.old ≡ 0 }
+    ensures settled { steps_in lines.new ≡ 0 }
+    ensures now { OnOk result ((k : SymbolKey) (t : ℕ) → count_now lines.new k t
+        ≡ count_now lines.old k t + one_if (is_key key k && has_target pieces.now t)) }
+    ensures bounded { RiseAtMost lines.old lines.new (λ k t. one_if (is_key key k && has_target pieces.now t)) }
+{
+    for piece in pieces {
+        lines.add(alloc, key, piece.word, piece.mask)?;
+    }
+    Ok(())
+}
+
+/// Adds 1 to the counter of each target of a source in its lines for a class and its permissions, and answers how many these are.
+fn put_source<A: Allocator + Copy>(
+    lines: &mut KeyedLines<A>,
+    alloc: A,
+    source: usize,
+    class: usize,
+    permissions: &[usize],
+    pieces: &Pieces<A>,
+) -> Result<u128, AllocError>
+    requires permissions { IsStrictlyIncreasing permissions.now }
+    requires pieces { ArePieces pieces.now }
+    requires settled { steps_in lines.old ≡ 0 }
+    ensures settled { steps_in lines.new ≡ 0 }
+    ensures now { OnOk result ((k : SymbolKey) (t : ℕ) → count_now lines.new k t
+        ≡ count_now lines.old k t + one_if (is_line source class permissions.now k && has_target pieces.now.list.items t)) }
+    ensures bounded { RiseAtMost lines.old lines.new
+        (λ k t. one_if (is_line source class permissions.now k && has_target pieces.now.list.items t)) }
+    ensures given { IfOk result (RisesBy (put_for source class permissions.now pieces.now.list.items) 0) }
+{
+    let mut given: u128 = 0;
+    for permission in permissions {
+        let key = SymbolKey {
+            source,
+            class,
+            permission: *permission,
+        };
+        put_line(lines, alloc, key, &pieces.list)?;
+        given = given.saturating_add(pieces.ones);
+    }
+    Ok(given)
+}
+
+/// Makes pieces those of the targets of a source. Where the target of each source is itself, they are made anew; otherwise they are those
+/// of every source.
+fn turn_pieces<A: Allocator + Copy>(
+    pieces: &mut Pieces<A>,
+    alloc: A,
+    source: usize,
+    targets: &Targets<A>,
+    itself: bool,
+) -> Result<(), AllocError>
+    requires short { AreShort targets.now }
+    requires pieces { ArePieces pieces.old }
+    requires same { itself ≡ false → (t : ℕ) → has_target pieces.old.list.items t ≡ takes targets.now source t }
+    ensures pieces { ArePieces pieces.new }
+    ensures targets { OnOk result ((t : ℕ) → has_target pieces.new.list.items t ≡ takes targets.now source t) }
+    ensures same { itself ≡ false → pieces.new ≡ pieces.old }
+{
+    if itself {
+        *pieces = pieces_of(alloc, source, targets)?;
+    }
+    Ok(())
+}
+
+/// Adds 1 to the counter of each access that a rule of a class gives by its permissions, and answers how many these are, or the greatest
+/// `u128` where they are more. The permissions are symbols, each once and in their order. There is no step to take back, and none is
+/// logged. After an out of memory some counters may have risen, none by more than 1.
+pub fn put_rule<A: Allocator + Copy>(
+    lines: &mut KeyedLines<A>,
+    alloc: A,
+    class: usize,
+    permissions: &[usize],
+    is: &Reach<A>,
+) -> Result<u128, AllocError>
+    requires permissions { IsStrictlyIncreasing permissions.now }
+    requires is { IsShort is.now }
+    requires settled { steps_in lines.old ≡ 0 }
+    ensures settled { steps_in lines.new ≡ 0 }
+    ensures now { OnOk result ((k : SymbolKey) (t : ℕ) → count_now lines.new k t
+        ≡ count_now lines.old k t + one_if (gives is.now class permissions.now k t)) }
+    ensures bounded { RiseAtMost lines.old lines.new (λ k t. one_if (gives is.now class permissions.now k t)) }
+    ensures given { IfOk result (RisesBy (λ (p : SymbolKey × ℕ). gives is.now class permissions.now p.0 p.1) 0) }
+{
+    let none = Reach::none(alloc);
+    let itself = is_itself(&is.targets);
+    let mut pieces = pieces_of(alloc, 0, &is.targets)?;
+    let mut given: u128 = 0;
+    let mut from = 0;
+    while let Some(source) = next_source(&none, is, true, from) {
+        turn_pieces(&mut pieces, alloc, source, &is.targets, itself)?;
+        let here = put_source(lines, alloc, source, class, permissions, &pieces)?;
+        given = given.saturating_add(here);
+        from = source + 1;
+    }
+    Ok(given)
+}

@@ -1,0 +1,20 @@
+use Rattle.std.proofs.Common.{refl}
+use Rattle.std.proofs.lemmas.Result.{err_from_is_err_and}
+use Rattle.std.specs.Rc.{rc_value}
+use Rattle.cil_resolve.specs.Resolved.{meaning_in}
+use Rattle.cil_store_specs.specs.Next.{all_good}
+use Rattle.cil_store_specs.specs.Store.{Store}
+use Rattle.cil_store.proofs.policy.Policy.of.Goals as goal
+
+pub returns-in_err-prepared-clause-err : goal.returns-in_err-prepared-clause-err
+returns-in_err-prepared-clause-err g c =
+    let made = err_from_is_err_and c.from_residual.result c.from_residual.ensures.1 in
+    rw (made.1, made.2) c.in_err-prepared.ensures.err
+
+pub invariant_of-result : goal.invariant_of-result
+invariant_of-result g c = c.in_ok-prepared.ensures.means
+
+pub returns-clause-ok : goal.returns-clause-ok
+returns-clause-ok g c =
+    let to : Store = c.in_ok-prepared.prepared.store in
+    all_good to (meaning_in (rc_value c.in_ok-prepared.prepared.next.resolved)) c.in_ok-prepared.ensures.taken c.in_ok-prepared.ensures.means refl

@@ -1,0 +1,129 @@
+//! The accesses of the lines of a source, word by word, where each symbol is its own number.
+
+ghost use Rattle.std.specs.Prelude.{◌≡◌, ◌≢◌, ◌*◌, ◌<◌, ◌≤◌, length, IsTrue, OnOk};
+ghost use Rattle.std.specs.List.{All};
+ghost use Rattle.cil_keyed_lines.specs.Keyed.{now_at, IsLineOf};
+ghost use Rattle.cil_lines.specs.Line.{hit};
+ghost use Rattle.cil_symbol_changes.specs.Gained.{AreGained, AreKept, AreKnown, AreKnownIn, IsShort, IsTo};
+ghost use Rattle.cil_symbol_changes.specs.SourceOrder.{IsAt, IsAtWord, IsBetween};
+
+use crate::source_order::LinePlace;
+use crate::targets::short_word;
+use cil_accesses::Chunk;
+use cil_keyed_lines::{KeyedLines, SymbolKey};
+use cil_text::RuleKind;
+use std::alloc::{AllocError, Allocator};
+
+/// Whether each symbol is its own number.
+pub fn are_kept(numbers: &[u32]) -> bool
+    ensures { IsTrue result → AreKept numbers.now }
+{
+    for symbol in 0..numbers.len() {
+        if numbers[symbol] as usize != symbol {
+            return false;
+        }
+    }
+    true
+}
+
+/// Appends the accesses of a key to the targets of a word that a mask has, where there are any.
+fn push_mask<A: Allocator>(
+    chunks: &mut Vec<Chunk, A>,
+    kind: RuleKind,
+    key: SymbolKey,
+    word: usize,
+    mask: u64,
+    numbers: &[u32],
+) -> Result<(), AllocError>
+    requires kept { AreKept numbers.now }
+    requires known { AreKnown numbers.now key (hit word mask) }
+    requires some { mask ≢ 0 }
+    ensures { OnOk result (AreGained (IsTo numbers.now kind key (λ t. 0 < hit word mask t)) chunks.old.items chunks.new.items) }
+{
+    chunks.push(Chunk {
+        kind,
+        source: numbers[key.source],
+        word: short_word(word)?,
+        class: numbers[key.class],
+        permission: numbers[key.permission],
+        bits: mask,
+    })?;
+    Ok(())
+}
+
+/// Appends the accesses to the targets of a word whose counters in the line of a place are above 0.
+fn push_place<A: Allocator>(
+    chunks: &mut Vec<Chunk, A>,
+    kind: RuleKind,
+    lines: &KeyedLines<A>,
+    place: usize,
+    word: usize,
+    numbers: &[u32],
+) -> Result<(), AllocError>
+    requires kept { AreKept numbers.now }
+    requires known { AreKnownIn numbers.now lines.now (now_at lines.now) }
+    ensures { OnOk result (AreGained (IsAtWord numbers.now kind lines.now word place) chunks.old.items chunks.new.items) }
+{
+    let mask = lines.present(place, word);
+    if mask == 0 {
+        return Ok(());
+    }
+    match lines.at(place) {
+        Some(key) => push_mask(chunks, kind, key, word, mask, numbers),
+        None => Ok(()),
+    }
+}
+
+/// Appends the accesses to the targets of a word that the lines from one place of an order up to another give.
+fn push_word<A: Allocator>(
+    chunks: &mut Vec<Chunk, A>,
+    kind: RuleKind,
+    lines: &KeyedLines<A>,
+    order: &[LinePlace],
+    from: usize,
+    to: usize,
+    word: usize,
+    numbers: &[u32],
+) -> Result<(), AllocError>
+    requires order { from ≤ to }
+    requires within { to ≤ length order.now }
+    requires kept { AreKept numbers.now }
+    requires known { AreKnownIn numbers.now lines.now (now_at lines.now) }
+    ensures { OnOk result (AreGained (IsBetween (IsAtWord numbers.now kind lines.now word) order.now from to) chunks.old.items chunks.new.items) }
+{
+    for i in from..to {
+        let place = order[i].place as usize;
+        push_place(chunks, kind, lines, place, word, numbers)?;
+    }
+    Ok(())
+}
+
+/// Appends the accesses that the lines from one place of an order up to another give, word by word: where the lines are of one source and
+/// in order, so are these.
+pub fn push_words<A: Allocator>(
+    chunks: &mut Vec<Chunk, A>,
+    kind: RuleKind,
+    lines: &KeyedLines<A>,
+    order: &[LinePlace],
+    from: usize,
+    to: usize,
+    numbers: &[u32],
+) -> Result<(), AllocError>
+    requires order { from ≤ to }
+    requires within { to ≤ length order.now }
+    requires kept { AreKept numbers.now }
+    requires known { AreKnownIn numbers.now lines.now (now_at lines.now) }
+    ensures { OnOk result (AreGained (IsBetween (IsAt numbers.now kind lines.now) order.now from to) chunks.old.items chunks.new.items) }
+{
+    for word in 0..words_len(numbers) {
+        push_word(chunks, kind, lines, order, from, to, word, numbers)?;
+    }
+    Ok(())
+}
+
+/// How many words the symbols have that have numbers.
+pub fn words_len(numbers: &[u32]) -> usize
+    ensures { length numbers.now ≤ 64 * result }
+{
+    numbers.len() / 64 + 1
+}

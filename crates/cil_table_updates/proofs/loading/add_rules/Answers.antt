@@ -1,0 +1,52 @@
+use Rattle.std.proofs.Common.{◌∙◌, refl, ap, arith, length, subst, sym, ◌<◌, ◌≡◌, nat_lt}
+use Rattle.cil_resolve.specs.Below.{is_rule_below}
+use Rattle.cil_resolve.specs.Meter.{adjustments_in}
+use Rattle.cil_sums.proofs.RiseLemmas.{rises-first, rises-next, rises-same}
+use Rattle.cil_sums.proofs.SumLemmas.{sum-more, sum-none, sum-part}
+use Rattle.cil_table_updates.specs.Adjusted.{comes, gives_it}
+use Rattle.cil_table_updates.specs.Given.{given}
+use Rattle.cil_table_updates.proofs.AdjustedLemmas.{counted-some}
+use Rattle.cil_table_updates.proofs.GivenLemmas.{given-rule}
+use Rattle.cil_table_updates.proofs.PlaceLemmas.{passes-at, read-at}
+use Rattle.cil_table_updates.proofs.loading.add_rules.Goals as goal
+
+pub loop-j-init : goal.loop-j-init
+loop-j-init g c = record {
+  settled = c.requires.settled;
+  now = λ kind key t. let nothing = sum-none (given c.args.policy.now kind key t) in omega (arith, nothing);
+  adjustments = rises-first (comes c.args.policy.now) (adjustments_in c.args.meter.now);
+  evaluations = refl;
+}
+
+pub returns-in_err-add_rule-clause-bounded : goal.returns-in_err-add_rule-clause-bounded
+returns-in_err-add_rule-clause-bounded g c kind key t =
+    let policy = c.args.policy.now in
+    let rules = policy.resolved.now.rules.items in
+    let within = subst (λ l. c.loop-j.j < length l) c.rules-j-end.ensures.rules c.loop-j-test.true in
+    let gives = given-rule policy kind key t c.loop-j.j c.index-rules-j.result (read-at c.rules.result.now rules c.loop-j.j c.index-rules-j.result c.rules.ensures.rules within c.index-rules-j.is) in
+    let part = sum-part (given policy kind key t) c.loop-j.j (length rules) within in
+    let put = c.loop-j.invariant.now kind key t in
+    let one = c.in_err-add_rule.ensures.bounded kind key t in
+    omega (arith, gives, part, put, one)
+
+pub loop-j-preserved : goal.loop-j-preserved
+loop-j-preserved g c =
+    let policy = c.args.policy.now in
+    let rules = policy.resolved.now.rules.items in
+    let rule = c.index-rules-j.result in
+    let within = subst (λ l. c.loop-j.j < length l) c.rules-j-end.ensures.rules c.loop-j-test.true in
+    let read = read-at c.rules.result.now rules c.loop-j.j rule c.rules.ensures.rules within c.index-rules-j.is in
+    record {
+      settled = c.in_ok-add_rule.ensures.settled;
+      now = λ kind key t.
+          let gives = given-rule policy kind key t c.loop-j.j rule read in
+          let more = sum-more (given policy kind key t) c.loop-j.j in
+          let put = c.loop-j.invariant.now kind key t in
+          let one = c.in_ok-add_rule.ensures.now kind key t in
+          omega (arith, gives, more, put, one);
+      adjustments =
+          rises-next (comes policy) c.loop-j.j (adjustments_in c.args.meter.now) (adjustments_in c.loop-j.meter) (adjustments_in c.add_rule.new.meter) c.loop-j.invariant.adjustments
+          (rises-same (gives_it policy rule) (comes policy c.loop-j.j) (adjustments_in c.loop-j.meter) (adjustments_in c.add_rule.new.meter)
+          (λ x. counted-some (gives_it policy rule x) ∙ sym (ap (nat_lt 0) (given-rule policy x.kind x.key x.target c.loop-j.j rule read))) c.in_ok-add_rule.ensures.adjustments);
+      evaluations = c.in_ok-add_rule.ensures.evaluations ∙ c.loop-j.invariant.evaluations;
+    }
