@@ -28,14 +28,6 @@ use Rattle.cil_counters.specs.Counted.{IsCounted}
 use Rattle.cil_counters.specs.SymbolRanks.{AreRanks}
 use Rattle.cil_counters.proofs.ToldLemmas.{all-named}
 
--- each name of the one list stands in the other
-abbrev pub Holds : List (List ℕ) → List (List ℕ) → Type 0
-Holds names some = (name : List ℕ) → IsNamed some name → (k : ℕ) × (slice_get names k ≡ Some name)
-
-pub places-hold : (names some : List (List ℕ)) (places : List ℕ) → ArePlaces names places some → Holds names some
-places-hold names some places are name (i, within, is) =
-    (get_or places i 0, slice_get-get_or names (get_or places i 0) [] (number-within names some places are i within) ∙ ap Some (name_at-place names some places are i within ∙ is))
-
 -- an access has symbols
 pub record IsByKey (symbols : List (List ℕ)) (a : spec.Atom) : Type 0 where
   pub kind : RuleKind
@@ -88,7 +80,7 @@ module _ {A : Type 0} (symbols : List (List ℕ)) (r : Resolved A) (members : �
         same = (λ i. record { kind = (atom_at r.names.items n).kind; source = source_is i; target = target_is i; the_class = class_is i; permission = permission_is i }) ∙ same;
       }
 
-module _ {A : Type 0} (symbols names : List (List ℕ)) (numbers : List ℕ) (ranks : AreRanks names symbols (length names) numbers) (r : Resolved A) (held : Holds names r.names.items) where
+module _ {A : Type 0} (symbols names : List (List ℕ)) (numbers : List ℕ) (r : Resolved A) (ranks : AreRanks names symbols r.names.items numbers) where
   -- the number at a symbol is a place of its name
   record IsRanked (s : ℕ) : Type 0 where
     has_number : s < length numbers
@@ -97,8 +89,8 @@ module _ {A : Type 0} (symbols names : List (List ℕ)) (numbers : List ℕ) (ra
 
   ranked-symbol : (s : ℕ) → s < length symbols → IsNamed r.names.items (name_at symbols s) → IsRanked s
   ranked-symbol s low named =
-      let (k, at) = held (name_at symbols s) named in
-      let there = ranks.places k s (name_at symbols s) (slice_get_within names k (name_at symbols s) at) at (slice_get-get_or symbols s [] low) in
+      let (k, within, is) = named in
+      let there = ranks.places k s (name_at symbols s) (slice_get-get_or r.names.items k [] within ∙ ap Some is) (slice_get-get_or symbols s [] low) in
       record {
         has_number = let long = ranks.long in omega (arith, long, low);
         within = slice_get_within names (slice_index numbers s) (name_at symbols s) there;
@@ -134,11 +126,11 @@ module _ {A : Type 0} (symbols names : List (List ℕ)) (numbers : List ℕ) (ra
       table-known kind key t listed (lt-ltb 0 (count_of (meaning_in r) (atom_of symbols kind key t)) (subst (λ n. 0 < n) (counted-atom symbols r members counts is kind key t listed) some))
 
 -- from an old policy to a new one
-module _ {A : Type 0} (symbols names : List (List ℕ)) (numbers : List ℕ) (ranks : AreRanks names symbols (length names) numbers) (rise : IsTrue (names_rise names)) (old new : Resolved A) (held : Holds names new.names.items) (old_members new_members : ℕ → ℕ → ℕ)
+module _ {A : Type 0} (symbols names : List (List ℕ)) (numbers : List ℕ) (rise : IsTrue (names_rise names)) (old new : Resolved A) (ranks : AreRanks names symbols new.names.items numbers) (old_members new_members : ℕ → ℕ → ℕ)
     (was now : RuleKind → SymbolKey → ℕ → ℕ) (old_counted : IsCounted symbols old old_members was) (new_counted : IsCounted symbols new new_members now) (found : List AccessNumbers) (ordered : IsStrictlySortedBy numbers_cmp found)
     (exact : (n : AccessNumbers) → Contains found n ↔ IsNew numbers was now n) where
-  known : (n : AccessNumbers) (is_new : IsNew numbers was now n) → IsKnown symbols names numbers ranks new held is_new.0 is_new.1.key is_new.1.target
-  known n is_new = counted-known symbols names numbers ranks new held new_members now new_counted is_new.0 is_new.1.key is_new.1.target is_new.1.present
+  known : (n : AccessNumbers) (is_new : IsNew numbers was now n) → IsKnown symbols names numbers new ranks is_new.0 is_new.1.key is_new.1.target
+  known n is_new = counted-known symbols names numbers new ranks new_members now new_counted is_new.0 is_new.1.key is_new.1.target is_new.1.present
 
   pub changed-numbered : AreNumbered names found
   changed-numbered = record {
@@ -185,31 +177,25 @@ module _ {A : Type 0} (symbols names : List (List ℕ)) (numbers : List ℕ) (ra
   changed-atoms = record { ordered = atoms-ordered names found changed-numbered; exact = λ a. (to-come a, from-come a) }
 
 -- the changes between two policies, by the names of both
-module _ {A : Type 0} (symbols names : List (List ℕ)) (numbers first second : List ℕ) (old new : Resolved A) (merged : IsMerged names first second old.names.items new.names.items) (ranks : AreRanks names symbols (length names) numbers)
-    (old_members new_members : ℕ → ℕ → ℕ) (was now : RuleKind → SymbolKey → ℕ → ℕ) (old_counted : IsCounted symbols old old_members was) (new_counted : IsCounted symbols new new_members now) where
-  old_held : Holds names old.names.items
-  old_held = places-hold names old.names.items first merged.first_places
-
-  new_held : Holds names new.names.items
-  new_held = places-hold names new.names.items second merged.second_places
-
+module _ {A : Type 0} (symbols names : List (List ℕ)) (numbers first second : List ℕ) (old new : Resolved A) (merged : IsMerged names first second old.names.items new.names.items) (old_ranks : AreRanks names symbols old.names.items numbers)
+    (new_ranks : AreRanks names symbols new.names.items numbers) (old_members new_members : ℕ → ℕ → ℕ) (was now : RuleKind → SymbolKey → ℕ → ℕ) (old_counted : IsCounted symbols old old_members was) (new_counted : IsCounted symbols new new_members now) where
   -- what is counted has numbers
   pub numbered-before : (kind : RuleKind) (key : SymbolKey) (t : ℕ) → 0 < was kind key t → IsNumbered numbers key t
-  numbered-before kind key t some = (counted-known symbols names numbers ranks old old_held old_members was old_counted kind key t some).numbered
+  numbered-before kind key t some = (counted-known symbols names numbers old old_ranks old_members was old_counted kind key t some).numbered
 
   pub numbered-now : (kind : RuleKind) (key : SymbolKey) (t : ℕ) → 0 < now kind key t → IsNumbered numbers key t
-  numbered-now kind key t some = (counted-known symbols names numbers ranks new new_held new_members now new_counted kind key t some).numbered
+  numbered-now kind key t some = (counted-known symbols names numbers new new_ranks new_members now new_counted kind key t some).numbered
 
   pub added-numbered : (added : List AccessNumbers) → IsStrictlySortedBy numbers_cmp added → ((n : AccessNumbers) → Contains added n ↔ IsNew numbers was now n) → AreNumbered names added
-  added-numbered = changed-numbered symbols names numbers ranks merged.ordered old new new_held old_members new_members was now old_counted new_counted
+  added-numbered = changed-numbered symbols names numbers merged.ordered old new new_ranks old_members new_members was now old_counted new_counted
 
   pub removed-numbered : (removed : List AccessNumbers) → IsStrictlySortedBy numbers_cmp removed → ((n : AccessNumbers) → Contains removed n ↔ IsNew numbers now was n) → AreNumbered names removed
-  removed-numbered = changed-numbered symbols names numbers ranks merged.ordered new old old_held new_members old_members now was new_counted old_counted
+  removed-numbered = changed-numbered symbols names numbers merged.ordered new old old_ranks new_members old_members now was new_counted old_counted
 
   pub are-changes : (added removed : List AccessNumbers) → IsStrictlySortedBy numbers_cmp added → ((n : AccessNumbers) → Contains added n ↔ IsNew numbers was now n)
       → IsStrictlySortedBy numbers_cmp removed → ((n : AccessNumbers) → Contains removed n ↔ IsNew numbers now was n)
       → AreChanges (is_in_table (meaning_in old)) (is_in_table (meaning_in new)) (record { added = map (atom_at names) added; removed = map (atom_at names) removed })
   are-changes added removed added_order came removed_order went = record {
-    added = changed-atoms symbols names numbers ranks merged.ordered old new new_held old_members new_members was now old_counted new_counted added added_order came;
-    removed = changed-atoms symbols names numbers ranks merged.ordered new old old_held new_members old_members now was new_counted old_counted removed removed_order went;
+    added = changed-atoms symbols names numbers merged.ordered old new new_ranks old_members new_members was now old_counted new_counted added added_order came;
+    removed = changed-atoms symbols names numbers merged.ordered new old old_ranks new_members old_members now was new_counted old_counted removed removed_order went;
   }

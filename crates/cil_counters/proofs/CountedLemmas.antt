@@ -28,8 +28,10 @@ use Rattle.cil_table_updates.proofs.GivenLemmas.{counted-named}
 use Rattle.cil_table_updates.proofs.PlaceLemmas.{names-apart}
 use Rattle.cil_member_rows.specs.Rows as member_rows
 use Rattle.cil_symbol_tables.specs.Tables as access_tables
-use Rattle.cil_counters.specs.Counted.{AreSettled, AreTakenBack, IsCounted, IsNow, WasBefore}
+use Rattle.cil_counters.specs.Counted.{symbols_now, AreSettled, AreSymbolsOf, AreTakenBack, IsCounted, IsCountedBy, IsNow, WasBefore}
 use Rattle.cil_counters.specs.declared.counters.Counters.{Counters}
+use Rattle.cil_counters.specs.declared.policy_symbols.PolicySymbols.{PolicySymbols}
+use Rattle.std.specs.Prelude.{unwrap_or}
 
 none-counted : {X : Type 0} (test : X → Bool) (xs : List X) → ((x : X) → test x ≡ false) → count_by test xs ≡ 0
 none-counted test [] none = refl
@@ -125,23 +127,45 @@ counted-alike r names others members new_members counts new_counts is same same_
   are_counts = λ kind key t. same_counts kind key t ∙ is.are_counts kind key t;
 })
 
+-- so do the symbols of a policy
+pub symbols-alike : {A B : Type 0} (r : Resolved A) (names others : List (List ℕ)) (s t : PolicySymbols B) → AreSymbolsOf names r s → others ≡ names → t ≡ s → AreSymbolsOf others r t
+symbols-alike r names others s t are same is = subst (λ l. AreSymbolsOf l r t) (sym same) (subst (AreSymbolsOf names r) (sym is) are)
+
+-- and so does what is counted by those before the steps
+pub counted-by-alike : {A B : Type 0} (r : Resolved A) (old new : Counters B) (members new_members : ℕ → ℕ → ℕ) (counts new_counts : RuleKind → SymbolKey → ℕ → ℕ) → IsCountedBy old.names r old.policy members counts → new.names ≡ old.names
+    → new.policy ≡ old.policy → ((a t : ℕ) → new_members a t ≡ members a t) → ((kind : RuleKind) (key : SymbolKey) (t : ℕ) → new_counts kind key t ≡ counts kind key t) → IsCountedBy new.names r new.policy new_members new_counts
+counted-by-alike r old new members new_members counts new_counts is names policy same_members same_counts = record {
+  symbols = symbols-alike r old.names new.names old.policy new.policy is.symbols names policy;
+  counted = counted-alike r old.names new.names members new_members counts new_counts is.counted names same_members same_counts;
+}
+
 module _ {A B : Type 0} (r : Resolved A) (old new : Counters B) where
   -- counters that were taken back are those of the policy before the steps
   pub back-now : WasBefore r old → AreTakenBack old new → IsNow r new
-  back-now was back =
-      counted-alike r old.names new.names (member_rows.count_before old.rows) (member_rows.count_now new.rows) (access_tables.count_before old.tables) (access_tables.count_now new.tables) was back.names back.members back.accesses
+  back-now was back = record {
+    symbols = symbols-alike r old.names new.names old.policy (symbols_now new) was.symbols back.names (ap (λ n. unwrap_or n new.policy) back.next ∙ back.policy);
+    counted = counted-alike r old.names new.names (member_rows.count_before old.rows) (member_rows.count_now new.rows) (access_tables.count_before old.tables) (access_tables.count_now new.tables) was.counted back.names back.members back.accesses;
+  }
 
   pub back-before : WasBefore r old → AreTakenBack old new → WasBefore r new
-  back-before was back =
-      counted-alike r old.names new.names (member_rows.count_before old.rows) (member_rows.count_before new.rows) (access_tables.count_before old.tables) (access_tables.count_before new.tables) was back.names back.members_before
-      back.accesses_before
+  back-before was back = record {
+    symbols = symbols-alike r old.names new.names old.policy new.policy was.symbols back.names back.policy;
+    counted =
+        counted-alike r old.names new.names (member_rows.count_before old.rows) (member_rows.count_before new.rows) (access_tables.count_before old.tables) (access_tables.count_before new.tables) was.counted back.names
+        back.members_before back.accesses_before;
+  }
 
   -- counters that are kept are those of the policy now
   pub settled-now : IsNow r old → AreSettled old new → IsNow r new
-  settled-now is kept =
-      counted-alike r old.names new.names (member_rows.count_now old.rows) (member_rows.count_now new.rows) (access_tables.count_now old.tables) (access_tables.count_now new.tables) is kept.names kept.members kept.accesses
+  settled-now is kept = record {
+    symbols = symbols-alike r old.names new.names (symbols_now old) (symbols_now new) is.symbols kept.names (ap (λ n. unwrap_or n new.policy) kept.next ∙ kept.policy);
+    counted = counted-alike r old.names new.names (member_rows.count_now old.rows) (member_rows.count_now new.rows) (access_tables.count_now old.tables) (access_tables.count_now new.tables) is.counted kept.names kept.members kept.accesses;
+  }
 
   pub settled-before : IsNow r old → AreSettled old new → WasBefore r new
-  settled-before is kept =
-      counted-alike r old.names new.names (member_rows.count_now old.rows) (member_rows.count_before new.rows) (access_tables.count_now old.tables) (access_tables.count_before new.tables) is kept.names kept.members_before
-      kept.accesses_before
+  settled-before is kept = record {
+    symbols = symbols-alike r old.names new.names (symbols_now old) new.policy is.symbols kept.names kept.policy;
+    counted =
+        counted-alike r old.names new.names (member_rows.count_now old.rows) (member_rows.count_before new.rows) (access_tables.count_now old.tables) (access_tables.count_before new.tables) is.counted kept.names
+        kept.members_before kept.accesses_before;
+  }

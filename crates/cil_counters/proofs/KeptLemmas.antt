@@ -1,5 +1,5 @@
 -- What is counted by symbols, where names come in the place of names that the policy lacks.
-use Rattle.std.proofs.Common.{◌≡◌, ℕ, ◌+◌, ◌&&◌, Bool, true, false, List, [], ◌∷◌, length, cond, count_by, bytes_eq, get_or, slice_get, Option, None, Some, is_some, position, Contains, refl, sym, ap, ◌∙◌, true≢false}
+use Rattle.std.proofs.Common.{◌≡◌, ℕ, ◌+◌, ◌*◌, ◌&&◌, Bool, true, false, List, [], ◌∷◌, length, cond, count_by, bytes_eq, get_or, slice_get, Option, None, Some, is_some, position, Contains, refl, sym, ap, ◌∙◌, ◌≤◌, arith, true≢false}
 use Rattle.std.specs.List.{list_all, IsDistinct}
 use Rattle.std.proofs.lemmas.Bool.{and_parts}
 use Rattle.std.proofs.lemmas.List.Sums.{sum_by-cons}
@@ -21,14 +21,16 @@ use Rattle.cil_resolve.specs.Consistent.{is_consistent}
 use Rattle.cil_resolve.specs.Resolved.{meaning_in}
 use Rattle.cil_resolve.specs.Sets.{sets_in}
 use Rattle.cil_resolve.specs.declared.resolved.Resolved.{Resolved}
+use Rattle.cil_sets.specs.Counts.{one_if}
 use Rattle.cil_symbols.proofs.NameLemmas.{found-name}
-use Rattle.cil_member_updates.specs.Given.{gives, holds, is_of, of_name}
-use Rattle.cil_member_updates.specs.Policy.{AreCounts}
+use Rattle.cil_member_updates.specs.Given.{gives, holds, is_of, keeps, of_name}
+use Rattle.cil_member_updates.specs.Policy.{AreCounts, AreKept}
 use Rattle.cil_member_updates.proofs.NameLemmas.{named-by, same-symbol}
 use Rattle.cil_member_updates.proofs.SymbolLemmas.{symbol-name, symbol-some}
 use Rattle.cil_table_updates.proofs.GivenLemmas.{counted-named}
 use Rattle.cil_table_updates.proofs.PlaceLemmas.{names-apart}
-use Rattle.cil_counters.specs.Counted.{IsCounted}
+use Rattle.cil_counters.specs.Counted.{AreSymbolsOf, IsCounted, IsCountedBy}
+use Rattle.cil_counters.specs.declared.policy_symbols.PolicySymbols.{PolicySymbols}
 use Rattle.cil_counters.proofs.CountedLemmas.{members-counted}
 
 -- booleans that are true together
@@ -63,13 +65,18 @@ module _ (names others : List (List ℕ)) (numbers : List ℕ) (kept : List (Lis
   test-kept : (test : List ℕ → Bool) → ((name : List ℕ) → test name ≡ true → has_name kept name ≡ true) → (t : ℕ) → of_name test (slice_get names t) ≡ of_name test (slice_get others t)
   test-kept test known t = alike (of_name test (slice_get names t)) (of_name test (slice_get others t)) (test-stays names others numbers kept are stay distinct test known t) (test-stays others names numbers kept stay are apart test known t)
 
+  -- so do those that tell the kept types
+  pub kept-stay : {A : Type 0} (r : Resolved A) (words : List ℕ) → ((name : List ℕ) → keeps_type (meaning_in r) name ≡ true → has_name kept name ≡ true) → AreKept names r words → AreKept others r words
+  unfolding keeps
+  kept-stay r words types kept_there w b low = kept_there w b low ∙ ap one_if (test-kept (keeps_type (meaning_in r)) types (64 * w + b))
+
   module _ (meaning : Meaning) (types : (name : List ℕ) → keeps_type meaning name ≡ true → has_name kept name ≡ true) where
     holds-kept : (s : SetStatement) (t : ℕ) → holds names meaning s t ≡ holds others meaning s t
     unfolding holds
-    holds-kept s t = test-kept (is_in meaning s.expr) (λ name is. types name (keeps name is)) t
+    holds-kept s t = test-kept (is_in meaning s.expr) (λ name is. types name (keeps-type name is)) t
       where
-        keeps : (name : List ℕ) → is_in meaning s.expr name ≡ true → keeps_type meaning name ≡ true
-        keeps name is = (and_parts (keeps_type meaning name) (holds_with meaning.sets (length meaning.attributes) s.expr name) is).0
+        keeps-type : (name : List ℕ) → is_in meaning s.expr name ≡ true → keeps_type meaning name ≡ true
+        keeps-type name is = (and_parts (keeps_type meaning name) (holds_with meaning.sets (length meaning.attributes) s.expr name) is).0
 
     gives-kept : (s : SetStatement) → has_name kept s.attribute ≡ true → (a t : ℕ) → gives names meaning a t s ≡ gives others meaning a t s
     unfolding is_of
@@ -88,7 +95,7 @@ module _ (names others : List (List ℕ)) (numbers : List ℕ) (kept : List (Lis
         ∙ sym (sum_by-cons (λ x. cond (gives others meaning a t x) 1 0) s sets)
 
 -- what is counted of a policy stays where its names keep their symbols
-pub counted-kept : {A : Type 0} (names others : List (List ℕ)) (r : Resolved A) (numbers : List ℕ) → AreNumbersOf names numbers r.names.items → AreNumbersOf others numbers r.names.items → IsDistinct bytes_eq names → IsDistinct bytes_eq others
+counted-kept : {A : Type 0} (names others : List (List ℕ)) (r : Resolved A) (numbers : List ℕ) → AreNumbersOf names numbers r.names.items → AreNumbersOf others numbers r.names.items → IsDistinct bytes_eq names → IsDistinct bytes_eq others
     → HasSoundSets (meaning_in r) → AreTheSame (meaning_in r).sets (sets_in r) → ((name : List ℕ) → keeps_type (meaning_in r) name ≡ true → has_name r.names.items name ≡ true)
     → ((name : List ℕ) → keeps_attribute (meaning_in r) name ≡ true → has_name r.names.items name ≡ true) → list_all (is_rule_below (length r.names.items)) r.rules.items ≡ true → is_consistent (meaning_in r) ≡ true
     → (members : ℕ → ℕ → ℕ) (counts : RuleKind → SymbolKey → ℕ → ℕ) → IsCounted names r members counts → IsCounted others r members counts
@@ -106,3 +113,17 @@ counted-kept names others r numbers are stay distinct apart sound same types att
     all a t =
         is.are_members a t
         ∙ count-kept names others numbers r.names.items are stay distinct apart (meaning_in r) types (sets_in r) (λ s there. attributes s.attribute (sound.own.attributes s ((same s).1 there))) a t
+
+-- and so do the symbols by which it is counted
+pub counted-by-kept : {A B : Type 0} (names others : List (List ℕ)) (r : Resolved A) (s : PolicySymbols B) → AreNumbersOf others s.numbering.symbols r.names.items → length names ≤ length others → IsDistinct bytes_eq names → IsDistinct bytes_eq others
+    → HasSoundSets (meaning_in r) → AreTheSame (meaning_in r).sets (sets_in r) → ((name : List ℕ) → keeps_type (meaning_in r) name ≡ true → has_name r.names.items name ≡ true)
+    → ((name : List ℕ) → keeps_attribute (meaning_in r) name ≡ true → has_name r.names.items name ≡ true) → list_all (is_rule_below (length r.names.items)) r.rules.items ≡ true → is_consistent (meaning_in r) ≡ true
+    → AreSymbolsOf names r s → (members : ℕ → ℕ → ℕ) (counts : RuleKind → SymbolKey → ℕ → ℕ) → IsCounted names r members counts → IsCountedBy others r s members counts
+counted-by-kept names others r s stay grown distinct apart sound same types attributes below consistent are members counts is = record {
+  symbols = record {
+    numbers = stay;
+    count = let count = are.count in omega (arith, count, grown);
+    kept = kept-stay names others s.numbering.symbols r.names.items are.numbers stay distinct apart r s.kept types are.kept;
+  };
+  counted = counted-kept names others r s.numbering.symbols are.numbers stay distinct apart sound same types attributes below consistent members counts is;
+}

@@ -1,14 +1,18 @@
--- The places of names by their symbols, name by name.
-use Rattle.std.proofs.Common.{◌≡◌, ℕ, ◌+◌, ◌<◌, List, [], length, set, get_or, replicate, bytes_eq, position, slice_get, slice_index, None, Some, is_some, sym, ap, ◌∙◌, inl, inr, arith, true≢false}
+-- The places of names by their symbols.
+use Rattle.std.proofs.Common.{◌≡◌, ◌⊎◌, ℕ, ◌+◌, ◌<◌, ◌≤◌, List, [], length, set, get_or, map, bytes_eq, position, slice_get, slice_index, None, Some, is_some, refl, sym, ap, ◌∙◌, inl, inr, arith, true≢false}
 use Rattle.std.proofs.lemmas.Bool.{cases_eq, cases_lt}
-use Rattle.std.proofs.lemmas.List.{length-set, length-replicate, get_or-set_same, get_or-set_other}
+use Rattle.std.proofs.lemmas.List.{length-set, get_or-set_same, get_or-set_other}
 use Rattle.std.proofs.lemmas.List.Folds.{list_any_at}
-use Rattle.std.proofs.lemmas.Option.{get_or_from_slice_get, same_Some, slice_get_within}
+use Rattle.std.proofs.lemmas.Option.{get_or_from_slice_get, none-some, same_Some, slice_get_within, slice_get-get_or}
 use Rattle.std.proofs.lemmas.Slice.Eq.{bytes_eq-Decides}
 use Rattle.cil_bind.proofs.PositionLemmas.{any-position}
-use Rattle.cil_symbols.proofs.NameLemmas.{found-name}
+use Rattle.cil_parse.specs.Lexicon.{AreNumbersOf}
+use Rattle.cil_rules.specs.Ranks.{ArePlaces}
+use Rattle.cil_rules.proofs.ChangesLemmas.{name_at-place, number-within, places-length}
+use Rattle.cil_symbols.specs.Numbered as numbered
+use Rattle.cil_member_updates.proofs.SymbolLemmas.{symbol-name, symbol-some}
 use Rattle.cil_table_updates.specs.Policies.{AreApart}
-use Rattle.cil_counters.specs.SymbolRanks.{AreRanks}
+use Rattle.cil_counters.specs.SymbolRanks.{ArePut, AreRanks, IsPut}
 
 -- a name without a symbol stands nowhere
 pub stands-nowhere : (symbols : List (List ℕ)) (s : ℕ) (name : List ℕ) → position (bytes_eq name) symbols ≡ None → slice_get symbols s ≡ Some name → ⊥
@@ -16,42 +20,94 @@ stands-nowhere symbols s name missing at = true≢false
     (sym (list_any_at (bytes_eq name) symbols s [] (slice_get_within symbols s name at) ((bytes_eq-Decides name (get_or symbols s [])).1 (sym (get_or_from_slice_get symbols s name [] at))))
     ∙ any-position (bytes_eq name) symbols ∙ ap is_some missing)
 
-module _ (names symbols : List (List ℕ)) where
-  pub ranks-none : (numbers : List ℕ) → numbers ≡ replicate (length symbols) 0 → AreRanks names symbols 0 numbers
-  ranks-none numbers is = record { long = ap length is ∙ length-replicate (length symbols) 0; places = λ k s name low. absurd (omega (arith, low)) }
+module _ (symbols places old : List ℕ) (first : ℕ) (numbers : List ℕ) (so_far : ArePut symbols places old first numbers) where
+  more : (s : ℕ) → IsPut symbols first s → IsPut symbols (first + 1) s
+  more s put = record { number = put.number; low = let low = put.low in omega (arith, low); at = put.at }
 
-  module _ (place : ℕ) (name : List ℕ) (numbers : List ℕ) (at : slice_get names place ≡ Some name) (ranks : AreRanks names symbols place numbers) where
-    same-name : (k : ℕ) (other : List ℕ) → k ≡ place → slice_get names k ≡ Some other → name ≡ other
-    same-name k other here is = same_Some name other (sym at ∙ ap (slice_get names) (sym here) ∙ is)
+  -- the next number has no symbol that is counted
+  pub put-past : ((s : ℕ) → slice_get symbols first ≡ Some s → s < length old → ⊥) → ArePut symbols places old (first + 1) numbers
+  put-past none = record {
+    len = so_far.len;
+    put = λ k s at low within. elim (cases_lt k first) [
+      | inl before ↦ so_far.put k s at before within
+      | inr behind ↦ absurd (none s (ap (slice_get symbols) (let same : first ≡ k = omega (arith, low, behind) in same) ∙ at) within)
+    ];
+    others = λ s. elim (so_far.others s) [ inl put ↦ inl (more s put) | inr same ↦ inr same ];
+  }
 
-    -- the next name has no symbol
-    pub ranks-past : position (bytes_eq name) symbols ≡ None → AreRanks names symbols (place + 1) numbers
-    ranks-past missing = record { long = ranks.long; places = places }
-      where
-        places : (k s : ℕ) (other : List ℕ) → k < place + 1 → slice_get names k ≡ Some other → slice_get symbols s ≡ Some other → slice_get names (slice_index numbers s) ≡ Some other
-        places k s other low is symbol =
-            elim (cases_lt k place) [
-              | inl before ↦ ranks.places k s other before is symbol
-              | inr behind ↦ absurd (stands-nowhere symbols s name missing (symbol ∙ ap Some (sym (same-name k other (omega (arith, low, behind)) is))))
-            ]
+  -- and where it has one
+  pub put-next : numbered.AreApart symbols → (t : ℕ) → slice_get symbols first ≡ Some t → t < length numbers → ArePut symbols places old (first + 1) (set numbers t (slice_index places first))
+  put-next apart t here within = record {
+    len = length-set numbers t (slice_index places first) ∙ so_far.len;
+    put = put;
+    others = others;
+  }
+    where
+      put : (k s : ℕ) → slice_get symbols k ≡ Some s → k < first + 1 → s < length old → slice_index (set numbers t (slice_index places first)) s ≡ slice_index places k
+      put k s at low inside = elim (cases_lt k first) [
+        | inl before ↦
+            get_or-set_other numbers t s (slice_index places first) 0
+            (λ same. let is : k ≡ first = apart k first s at (here ∙ ap Some (sym same)) in absurd (omega (arith, is, before)))
+            ∙ so_far.put k s at before inside
+        | inr behind ↦
+            let last : k ≡ first = omega (arith, low, behind) in
+            let same : s ≡ t = same_Some s t (sym at ∙ ap (slice_get symbols) last ∙ here) in
+            ap (slice_index (set numbers t (slice_index places first))) same ∙ get_or-set_same numbers t (slice_index places first) 0 within ∙ ap (slice_index places) (sym last)
+      ]
 
-    -- the next name has a symbol
-    pub ranks-more : AreApart symbols → (t : ℕ) → position (bytes_eq name) symbols ≡ Some t → AreRanks names symbols (place + 1) (set numbers t place)
-    ranks-more apart t found = record { long = length-set numbers t place ∙ ranks.long; places = places }
-      where
-        there : slice_get symbols t ≡ Some name
-        there = found-name symbols name t found
+      others : (s : ℕ) → IsPut symbols (first + 1) s ⊎ (slice_index (set numbers t (slice_index places first)) s ≡ slice_index old s)
+      others s = elim (cases_eq s t) [
+        | inl same ↦ inl (record { number = first; low = omega arith; at = here ∙ ap Some (sym same) })
+        | inr other ↦ elim (so_far.others s) [
+          | inl put ↦ inl (more s put)
+          | inr is ↦ inr (get_or-set_other numbers t s (slice_index places first) 0 other ∙ is)
+        ]
+      ]
 
-        at-symbol : slice_index (set numbers t place) t ≡ place
-        at-symbol = get_or-set_same numbers t place 0 (let low = slice_get_within symbols t name there in let long = ranks.long in omega (arith, low, long))
+-- For each of some names there is a place of that name in a list.
+pub record ArePlaced (names : List (List ℕ)) (places : List ℕ) (some : List (List ℕ)) : Type 0 where
+  pub len : length places ≡ length some
+  pub at : (k : ℕ) → k < length some → slice_get names (slice_index places k) ≡ slice_get some k
 
-        places : (k s : ℕ) (other : List ℕ) → k < place + 1 → slice_get names k ≡ Some other → slice_get symbols s ≡ Some other → slice_get names (slice_index (set numbers t place) s) ≡ Some other
-        places k s other low is symbol =
-            elim (cases_eq s t) [
-              | inl same ↦
-                  ap (slice_get names) (ap (slice_index (set numbers t place)) same ∙ at-symbol) ∙ at ∙ sym there ∙ ap (slice_get symbols) (sym same) ∙ symbol
-              | inr apart_from ↦ elim (cases_lt k place) [
-                | inl before ↦ ap (slice_get names) (get_or-set_other numbers t s place 0 apart_from) ∙ ranks.places k s other before is symbol
-                | inr behind ↦ absurd (apart_from (apart s t name (symbol ∙ ap Some (sym (same-name k other (omega (arith, low, behind)) is))) there))
-              ]
-            ]
+pub placed-by : (names some : List (List ℕ)) (places : List ℕ) → ArePlaces names places some → ArePlaced names places some
+placed-by names some places are = record {
+  len = places-length names some places are;
+  at = λ k low.
+      slice_get-get_or names (get_or places k 0) [] (number-within names some places are k low)
+      ∙ ap Some (name_at-place names some places are k low)
+      ∙ sym (slice_get-get_or some k [] low);
+}
+
+-- each name stands at its own place
+pub placed-own : (names : List (List ℕ)) (places : List ℕ) → length places ≡ length names → ((k : ℕ) → k < length names → slice_index places k ≡ k) → ArePlaced names places names
+placed-own names places len own = record { len = len; at = λ k low. ap (slice_get names) (own k low) }
+
+-- The numbers at the symbols of a policy's names.
+module _ (names symbols some : List (List ℕ)) (numbering places old numbers : List ℕ) (are : AreNumbersOf symbols numbering some) (apart : AreApart symbols) (put : ArePut numbering places old (length places) numbers)
+    (long : length old ≡ length symbols) (placed : ArePlaced names places some) where
+  -- are places of these names
+  pub ranks-put : AreRanks names symbols some numbers
+  ranks-put = record { long = put.len ∙ long; places = at-name }
+    where
+      at-name : (k s : ℕ) (name : List ℕ) → slice_get some k ≡ Some name → slice_get symbols s ≡ Some name → slice_get names (slice_index numbers s) ≡ Some name
+      at-name k s name here there =
+          let low : k < length some = slice_get_within some k name here in
+          let is : ℕ = get_or numbering k 0 in
+          let has = symbol-some symbols numbering some are k low in
+          let same : is ≡ s = apart is s name (symbol-name symbols numbering some are k is has ∙ sym (slice_get-get_or some k [] low) ∙ here) there in
+          let many = placed.len in
+          let within = slice_get_within symbols s name there in
+          ap (slice_get names) (put.put k s (has ∙ ap Some same) (omega (arith, low, many)) (omega (arith, within, long))) ∙ placed.at k low ∙ here
+
+  -- and those at the symbols of another one's names stay so
+  pub ranks-kept : (others : List (List ℕ)) → AreRanks names symbols others old → AreRanks names symbols others numbers
+  ranks-kept others ranks = record { long = put.len ∙ long; places = at-name }
+    where
+      at-name : (k s : ℕ) (name : List ℕ) → slice_get others k ≡ Some name → slice_get symbols s ≡ Some name → slice_get names (slice_index numbers s) ≡ Some name
+      at-name k s name here there = elim (put.others s) [
+        | inl mine ↦
+            let low : mine.number < length some = let below = mine.low in let many = placed.len in omega (arith, below, many) in
+            let is = symbol-name symbols numbering some are mine.number s mine.at in
+            ranks-put.places mine.number s name (slice_get-get_or some mine.number [] low ∙ sym is ∙ there) there
+        | inr same ↦ ap (slice_get names) same ∙ ranks.places k s name here there
+      ]

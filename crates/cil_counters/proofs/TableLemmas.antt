@@ -24,11 +24,7 @@ use Rattle.cil_rules.proofs.AtomLemmas.{atoms-ordered}
 use Rattle.cil_symbol_changes.specs.Numbered.{access_by, listed, ArePresentNumbered, IsPresent}
 use Rattle.cil_counters.specs.Counted.{IsCounted}
 use Rattle.cil_counters.specs.SymbolRanks.{AreRanks}
-use Rattle.cil_counters.proofs.ChangedLemmas.{counted-atom, counted-known, counted-listed, table-key, Holds, IsKnown}
-
--- each name of a list stands in it
-own-names : (names : List (List ℕ)) → Holds names names
-own-names names name (i, within, is) = (i, slice_get-get_or names i [] within ∙ ap Some is)
+use Rattle.cil_counters.proofs.ChangedLemmas.{counted-atom, counted-known, counted-listed, table-key, IsKnown}
 
 -- what a listing has is counted, and is of a kind that it has
 some-counted : (counts : RuleKind → SymbolKey → ℕ → ℕ) (kind : RuleKind) (key : SymbolKey) (t : ℕ) → 0 < listed counts kind key t → (0 < counts kind key t) × IsTrue (is_listed (rule_kind_of kind))
@@ -44,9 +40,9 @@ some-listed counts AuditAllow key t is some = some
 some-listed counts DontAudit key t is some = some
 some-listed counts NeverAllow key t is some = absurd (true≢false (sym is))
 
-module _ {A : Type 0} (symbols : List (List ℕ)) (numbers : List ℕ) (r : Resolved A) (ranks : AreRanks r.names.items symbols (length r.names.items) numbers) (members : ℕ → ℕ → ℕ) (counts : RuleKind → SymbolKey → ℕ → ℕ) (is_counted : IsCounted symbols r members counts) where
-  known : (kind : RuleKind) (key : SymbolKey) (t : ℕ) → 0 < counts kind key t → IsKnown symbols r.names.items numbers ranks r (own-names r.names.items) kind key t
-  known = counted-known symbols r.names.items numbers ranks r (own-names r.names.items) members counts is_counted
+module _ {A : Type 0} (symbols : List (List ℕ)) (numbers : List ℕ) (r : Resolved A) (ranks : AreRanks r.names.items symbols r.names.items numbers) (members : ℕ → ℕ → ℕ) (counts : RuleKind → SymbolKey → ℕ → ℕ) (is_counted : IsCounted symbols r members counts) where
+  known : (kind : RuleKind) (key : SymbolKey) (t : ℕ) → 0 < counts kind key t → IsKnown symbols r.names.items numbers r ranks kind key t
+  known = counted-known symbols r.names.items numbers r ranks members counts is_counted
 
   -- what is counted has numbers
   pub present-numbered : ArePresentNumbered numbers counts

@@ -1,17 +1,18 @@
 -- The counters of a policy.
-use Rattle.std.specs.Prelude.{◌≡◌, ◌+◌, ◌≤◌, ℕ, Bool, false, List, length, max, Option, None, Some, bytes_eq, nat_lt, position}
+use Rattle.std.specs.Prelude.{◌≡◌, ◌+◌, ◌≤◌, ℕ, Bool, false, List, length, max, Option, None, Some, bytes_eq, nat_lt, position, unwrap_or}
 use Rattle.cil_specs.specs.Rule.{Atom}
 use Rattle.cil_text.specs.Image.{rule_kind_of}
 use Rattle.cil_parse.specs.Lexicon.{AreNumbersOf}
 use Rattle.cil_text.specs.declared.statement.RuleKind.{RuleKind}
 use Rattle.cil_keyed_lines.specs.declared.symbol_key.SymbolKey.{SymbolKey}
 use Rattle.cil_member_rows.specs.Rows as member_rows
-use Rattle.cil_member_updates.specs.Policy.{AreCounts}
+use Rattle.cil_member_updates.specs.Policy.{AreCounts, AreKept}
 use Rattle.cil_resolve.specs.Resolved.{meaning_in}
 use Rattle.cil_resolve.specs.declared.resolved.Resolved.{Resolved}
 use Rattle.cil_symbol_tables.specs.Tables as access_tables
 use Rattle.cil_table_updates.specs.Policies.{count_named}
 use Rattle.cil_counters.specs.declared.counters.Counters.{Counters}
+use Rattle.cil_counters.specs.declared.policy_symbols.PolicySymbols.{PolicySymbols}
 
 -- The names of a policy have symbols, and the counters say of each attribute and type how many of its set statements make the one a
 -- member of the other, and of each access how many of its rules give it.
@@ -21,12 +22,27 @@ pub record IsCounted {A : Type 0} (names : List (List ℕ)) (r : Resolved A) (me
   pub are_members : AreCounts names r members
   pub are_counts : (kind : RuleKind) (key : SymbolKey) (t : ℕ) → counts kind key t ≡ count_named names (meaning_in r) kind key t
 
--- they are so now, and they were before the steps
+-- These are the symbols of a policy's names, and of its kept types.
+pub record AreSymbolsOf {A B : Type 0} (names : List (List ℕ)) (r : Resolved A) (s : PolicySymbols B) : Type 0 where
+  pub numbers : AreNumbersOf names s.numbering.symbols r.names.items
+  pub count : s.numbering.count ≤ length names
+  pub kept : AreKept names r s.kept
+
+-- those of the policy that steps lead to; where no steps lead to another, of the policy before
+abbrev pub symbols_now : {A : Type 0} → Counters A → PolicySymbols A
+symbols_now c = unwrap_or c.next c.policy
+
+-- A policy has these symbols and counters.
+pub record IsCountedBy {A B : Type 0} (names : List (List ℕ)) (r : Resolved A) (s : PolicySymbols B) (members : ℕ → ℕ → ℕ) (counts : RuleKind → SymbolKey → ℕ → ℕ) : Type 0 where
+  pub symbols : AreSymbolsOf names r s
+  pub counted : IsCounted names r members counts
+
+-- it has them now, and it had them before the steps
 abbrev pub IsNow : {A B : Type 0} → Resolved A → Counters B → Type 0
-IsNow r c = IsCounted c.names r (member_rows.count_now c.rows) (access_tables.count_now c.tables)
+IsNow r c = IsCountedBy c.names r (symbols_now c) (member_rows.count_now c.rows) (access_tables.count_now c.tables)
 
 abbrev pub WasBefore : {A B : Type 0} → Resolved A → Counters B → Type 0
-WasBefore r c = IsCounted c.names r (member_rows.count_before c.rows) (access_tables.count_before c.tables)
+WasBefore r c = IsCountedBy c.names r c.policy (member_rows.count_before c.rows) (access_tables.count_before c.tables)
 
 -- the names of a policy have symbols
 abbrev pub HasNames : {A B : Type 0} → Resolved A → Counters B → Type 0
@@ -49,6 +65,8 @@ steps_in c = member_rows.steps_in c.rows + access_tables.steps_in c.tables
 pub record AreTakenBack {A : Type 0} (old new : Counters A) : Type 0 where
   pub none : steps_in new ≡ 0
   pub names : new.names ≡ old.names
+  pub policy : new.policy ≡ old.policy
+  pub next : new.next ≡ None
   pub members : (a t : ℕ) → member_rows.count_now new.rows a t ≡ member_rows.count_before old.rows a t
   pub members_before : (a t : ℕ) → member_rows.count_before new.rows a t ≡ member_rows.count_before old.rows a t
   pub accesses : (kind : RuleKind) (key : SymbolKey) (t : ℕ) → access_tables.count_now new.tables kind key t ≡ access_tables.count_before old.tables kind key t
@@ -58,6 +76,8 @@ pub record AreTakenBack {A : Type 0} (old new : Counters A) : Type 0 where
 pub record AreSettled {A : Type 0} (old new : Counters A) : Type 0 where
   pub none : steps_in new ≡ 0
   pub names : new.names ≡ old.names
+  pub policy : new.policy ≡ symbols_now old
+  pub next : new.next ≡ None
   pub members : (a t : ℕ) → member_rows.count_now new.rows a t ≡ member_rows.count_now old.rows a t
   pub members_before : (a t : ℕ) → member_rows.count_before new.rows a t ≡ member_rows.count_now old.rows a t
   pub accesses : (kind : RuleKind) (key : SymbolKey) (t : ℕ) → access_tables.count_now new.tables kind key t ≡ access_tables.count_now old.tables kind key t

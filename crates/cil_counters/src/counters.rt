@@ -1,6 +1,6 @@
 //! The counters of a policy.
 
-ghost use Rattle.std.specs.Prelude.{◌≡◌, ◌↔◌, ◌-◌, ◌<◌, ◌≤◌, ◌^◌, ℕ, List, bytes_eq, false, length, min, IfOk, IsTrue, OnOk};
+ghost use Rattle.std.specs.Prelude.{◌≡◌, ◌↔◌, ◌-◌, ◌<◌, ◌≤◌, ◌^◌, ℕ, List, bytes_eq, false, length, min, IfOk, IsTrue, None, OnOk};
 ghost use Rattle.std.specs.List.{IsDistinct};
 ghost use Rattle.cil_delta_specs.specs.Work.{AdjustsFew, EvaluatesFew};
 ghost use Rattle.cil_member_rows.specs.Rows as member_rows;
@@ -17,18 +17,19 @@ ghost use Rattle.cil_rules.specs.Rows.{listed};
 ghost use Rattle.cil_sets.specs.Members.{AreMembers};
 ghost use Rattle.cil_counters.specs.ChangeCounts.{CountsSome};
 ghost use Rattle.cil_counters.specs.ChangedMembers.{pairs_of, AreChangedMembers};
-ghost use Rattle.cil_counters.specs.Counted.{count_with, had_named, has_named, steps_in, AreBounded, AreSettled, AreTakenBack, HasFewNames, HasNames, IsNow, WasBefore};
+ghost use Rattle.cil_counters.specs.Counted.{count_with, had_named, has_named, steps_in, symbols_now, AreBounded, AreSettled, AreSymbolsOf, AreTakenBack, HasFewNames, HasNames, IsNow, WasBefore};
 ghost use Rattle.cil_symbol_tables.specs.Tables as access_tables;
 ghost use Rattle.cil_table_updates.specs.Policies.{count_named};
 
 use crate::changed_members::{ChangedMember, changed_members_of};
 use crate::member_counts::members_of;
 use crate::more_rows::add_rows;
-use crate::symbol_ranks::symbol_ranks;
+use crate::policy_symbols::PolicySymbols;
+use crate::symbol_ranks::{ranks_of, ranks_of_both};
 use cil_keyed_lines::SymbolKey;
 use cil_matching::SetMatching;
 use cil_member_rows::MemberRows;
-use cil_member_updates::{KeptTypes, Side};
+use cil_member_updates::Side;
 use cil_names::Seed;
 use cil_resolve::{
     Meter, Resolved, resolved_is_consistent, resolved_is_sound, resolved_names_are_kept,
@@ -50,6 +51,10 @@ use std::alloc::{AllocError, Allocator, Global};
 #[derive(Drop)]
 pub struct Counters<A: Allocator = Global> {
     names: Symbols<A>,
+    /// Those of the policy before the steps.
+    policy: PolicySymbols<A>,
+    /// Those of the policy that the steps lead to.
+    next: Option<PolicySymbols<A>>,
     rows: MemberRows<A>,
     tables: SymbolTables<A>,
 }
@@ -64,9 +69,12 @@ impl<A: Allocator + Copy> Counters<A> {
         ensures settled { IfOk result (λ c. steps_in c ≡ 0) }
     {
         let mut names = Symbols::new(alloc, seed);
-        Numbering::of(alloc, &mut names, policy)?;
+        let numbering = Numbering::of(alloc, &mut names, policy)?;
+        let symbols = PolicySymbols::of(alloc, &names, policy, numbering)?;
         Ok(Counters {
             names,
+            policy: symbols,
+            next: None,
             rows: MemberRows::new(alloc),
             tables: SymbolTables::new(alloc),
         })
@@ -77,68 +85,67 @@ impl<A: Allocator + Copy> Counters<A> {
     fn number(
         &mut self,
         alloc: A,
-        old: Named<'_, A>,
+        old: &Resolved<A>,
         new: &Resolved<A>,
     ) -> Result<Numbering<A>, AllocError>
-        requires now { IsNow old.resolved.now self.old }
-        requires before { WasBefore old.resolved.now self.old }
-        requires old_numbers { AreNumbersOf self.old.names old.numbering.now.symbols old.resolved.now.names.items }
-        requires old_count { old.numbering.now.count ≡ length self.old.names }
-        ensures now { IsNow old.entry.resolved.now self.new }
-        ensures before { WasBefore old.entry.resolved.now self.new }
+        requires now { IsNow old.now self.old }
+        requires before { WasBefore old.now self.old }
+        ensures now { IsNow old.now self.new }
+        ensures before { WasBefore old.now self.new }
         ensures tables { self.new.tables ≡ self.old.tables }
-        ensures kept { AreNumbersOf self.new.names old.entry.numbering.now.symbols old.entry.resolved.now.names.items }
-        ensures grown { length self.old.names ≤ length self.new.names }
+        ensures next { self.new.next ≡ None }
         ensures numbers { IfOk result (λ n. AreNumbersOf self.new.names n.symbols new.now.names.items) }
         ensures count { IfOk result (λ n. n.count ≡ length self.new.names) }
         ensures distinct { IsDistinct bytes_eq self.new.names }
-        ensures few { HasFewNames old.entry.resolved.now new.now self.old self.new }
+        ensures few { HasFewNames old.now new.now self.old self.new }
     {
-        resolved_names_are_kept(old.resolved);
-        resolved_is_sound(old.resolved);
-        resolved_sets_are_in_order(old.resolved);
-        resolved_is_consistent(old.resolved);
-        old.resolved.rules();
+        resolved_names_are_kept(old);
+        resolved_is_sound(old);
+        resolved_sets_are_in_order(old);
+        resolved_is_consistent(old);
+        old.rules();
+        self.next = None;
         self.names.len();
-        let numbering = Numbering::beside(alloc, &mut self.names, old.numbering, new);
+        let numbering = Numbering::beside(alloc, &mut self.names, &self.policy.numbering, new);
         self.names.len();
         numbering
     }
 
-    /// Brings the members from an old policy to a new one.
+    /// Brings the members from an old policy to a new one with these symbols.
     fn update_members(
         &mut self,
         alloc: A,
-        old: Named<'_, A>,
-        new: Named<'_, A>,
+        old: &Resolved<A>,
+        new: &Resolved<A>,
+        next: &PolicySymbols<A>,
         meter: &mut Meter,
     ) -> Result<(), AllocError>
         requires distinct { IsDistinct bytes_eq self.old.names }
-        requires old_numbers { AreNumbersOf self.old.names old.numbering.now.symbols old.resolved.now.names.items }
-        requires new_numbers { AreNumbersOf self.old.names new.numbering.now.symbols new.resolved.now.names.items }
-        requires now { AreCounts self.old.names old.resolved.now (member_rows.count_now self.old.rows) }
-        requires before { AreCounts self.old.names old.resolved.now (member_rows.count_before self.old.rows) }
-        ensures now { OnOk result (AreCounts self.old.names new.entry.resolved.now (member_rows.count_now self.new.rows)) }
+        requires old_symbols { AreSymbolsOf self.old.names old.now self.old.policy }
+        requires new_symbols { AreSymbolsOf self.old.names new.now next.now }
+        requires now { AreCounts self.old.names old.now (member_rows.count_now self.old.rows) }
+        requires before { AreCounts self.old.names old.now (member_rows.count_before self.old.rows) }
+        ensures now { OnOk result (AreCounts self.old.names new.now (member_rows.count_now self.new.rows)) }
         ensures before { (a t : ℕ) → member_rows.count_before self.new.rows a t ≡ member_rows.count_before self.old.rows a t }
         ensures names { self.new.names ≡ self.old.names }
+        ensures policy { self.new.policy ≡ self.old.policy }
+        ensures next { self.new.next ≡ self.old.next }
         ensures tables { self.new.tables ≡ self.old.tables }
-        ensures evaluations { OnOk result (EvaluatesFew (meaning_in old.entry.resolved.now) (meaning_in new.entry.resolved.now)
+        ensures evaluations { OnOk result (EvaluatesFew (meaning_in old.now) (meaning_in new.now)
             (evaluations_in meter.old) (evaluations_in meter.new)) }
         ensures adjustments { adjustments_in meter.new ≡ adjustments_in meter.old }
     {
-        let old_kept = KeptTypes::of(alloc, &self.names, old.resolved, old.numbering)?;
-        let new_kept = KeptTypes::of(alloc, &self.names, new.resolved, new.numbering)?;
-        let matching = SetMatching::of(alloc, self.names.seed(), old.resolved, new.resolved)?;
+        let matching = SetMatching::of(alloc, self.names.seed(), old, new)?;
         add_rows(&mut self.rows, alloc, self.names.len())?;
         let old_side = Side {
-            resolved: old.resolved,
-            numbering: old.numbering,
-            kept: &old_kept,
+            resolved: old,
+            numbering: &self.policy.numbering,
+            kept: &self.policy.kept,
         };
         let new_side = Side {
-            resolved: new.resolved,
-            numbering: new.numbering,
-            kept: &new_kept,
+            resolved: new,
+            numbering: &next.numbering,
+            kept: &next.kept,
         };
         cil_member_updates::update(
             &mut self.rows,
@@ -151,15 +158,15 @@ impl<A: Allocator + Copy> Counters<A> {
         )
     }
 
-    /// Brings the members from an old policy to a new one, in steps, and answers the symbols of the names of both. What is counted of
-    /// accesses stays.
+    /// Brings the members from an old policy to a new one, in steps, and answers the symbols of the new one. What is counted of accesses
+    /// stays.
     fn bring_members(
         &mut self,
         alloc: A,
         old: &Resolved<A>,
         new: &Resolved<A>,
         meter: &mut Meter,
-    ) -> Result<(Numbering<A>, Numbering<A>), AllocError>
+    ) -> Result<PolicySymbols<A>, AllocError>
         requires now { IsNow old.now self.old }
         requires before { WasBefore old.now self.old }
         ensures before { WasBefore old.now self.new }
@@ -167,26 +174,15 @@ impl<A: Allocator + Copy> Counters<A> {
         ensures accesses { (kind : RuleKind) (key : SymbolKey) (t : ℕ)
             → access_tables.count_now self.new.tables kind key t ≡ count_named self.new.names (meaning_in old.now) kind key t }
         ensures steps { access_tables.steps_in self.new.tables ≡ access_tables.steps_in self.old.tables }
-        ensures old_numbers { IfOk result (λ n. AreNumbersOf self.new.names n.0.symbols old.now.names.items) }
-        ensures new_numbers { IfOk result (λ n. AreNumbersOf self.new.names n.1.symbols new.now.names.items) }
-        ensures old_count { IfOk result (λ n. n.0.count ≤ length self.new.names) }
-        ensures new_count { IfOk result (λ n. n.1.count ≤ length self.new.names) }
+        ensures symbols { IfOk result (AreSymbolsOf self.new.names new.now) }
         ensures evaluations { OnOk result (EvaluatesFew (meaning_in old.now) (meaning_in new.now) (evaluations_in meter.old) (evaluations_in meter.new)) }
         ensures adjustments { adjustments_in meter.new ≡ adjustments_in meter.old }
         ensures names { HasFewNames old.now new.now self.old self.new }
     {
-        let old_numbering = Numbering::known(alloc, &self.names, old)?;
-        let old = Named {
-            resolved: old,
-            numbering: &old_numbering,
-        };
-        let new_numbering = self.number(alloc, old, new)?;
-        let new = Named {
-            resolved: new,
-            numbering: &new_numbering,
-        };
-        self.update_members(alloc, old, new, meter)?;
-        Ok((old_numbering, new_numbering))
+        let numbering = self.number(alloc, old, new)?;
+        let next = PolicySymbols::of(alloc, &self.names, new, numbering)?;
+        self.update_members(alloc, old, new, &next, meter)?;
+        Ok(next)
     }
 
     /// Brings the counters from an old policy to a new one, in steps.
@@ -215,14 +211,14 @@ impl<A: Allocator + Copy> Counters<A> {
         resolved_is_sound(new);
         resolved_sets_are_in_order(old);
         resolved_sets_are_in_order(new);
-        let (old_numbering, new_numbering) = self.bring_members(alloc, old, new, meter)?;
+        let next = self.bring_members(alloc, old, new, meter)?;
         let old = Named {
             resolved: old,
-            numbering: &old_numbering,
+            numbering: &self.policy.numbering,
         };
         let new = Named {
             resolved: new,
-            numbering: &new_numbering,
+            numbering: &next.numbering,
         };
         cil_table_updates::update(
             &mut self.tables,
@@ -232,7 +228,9 @@ impl<A: Allocator + Copy> Counters<A> {
             old,
             new,
             meter,
-        )
+        )?;
+        self.next = Some(next);
+        Ok(())
     }
 
     /// Brings the counters from those of a policy without set statements and rules, as that of an empty store is, to those of another one.
@@ -263,12 +261,14 @@ impl<A: Allocator + Copy> Counters<A> {
         new.rules();
         resolved_is_sound(new);
         resolved_sets_are_in_order(new);
-        let (_, new_numbering) = self.bring_members(alloc, old, new, meter)?;
+        let next = self.bring_members(alloc, old, new, meter)?;
         let new = Named {
             resolved: new,
-            numbering: &new_numbering,
+            numbering: &next.numbering,
         };
-        cil_table_updates::load(&mut self.tables, alloc, &self.names, &self.rows, new, meter)
+        cil_table_updates::load(&mut self.tables, alloc, &self.names, &self.rows, new, meter)?;
+        self.next = Some(next);
+        Ok(())
     }
 
     /// Brings the members from an old policy to a new one, and puts them together. What is counted of accesses stays that of the old
@@ -299,8 +299,9 @@ impl<A: Allocator + Copy> Counters<A> {
         ensures { IfOk result (AreChanges (is_in_table (meaning_in old.now)) (is_in_table (meaning_in new.now))) }
     {
         let ranks = rank(alloc, old.names(), new.names())?;
-        let numbers = symbol_ranks(alloc, &self.names, ranks.names.as_slice())?;
-        let found = cil_symbol_changes::changes(alloc, &self.tables, numbers.as_slice())?;
+        let now = self.numbering_now();
+        let numbers = ranks_of_both(alloc, &self.names, &self.policy.numbering, now, &ranks)?;
+        let found = cil_symbol_changes::changes(alloc, &self.tables, &numbers)?;
         Changes::of(ranks.names, found.added, found.removed)
     }
 
@@ -340,10 +341,9 @@ impl<A: Allocator + Copy> Counters<A> {
         requires { IsNow policy.now self.now }
         ensures { IfOk result (λ table. AreAtoms (listed (is_in_table (meaning_in policy.now))) table) }
     {
-        let names = names_of(alloc, policy)?;
-        let numbers = symbol_ranks(alloc, &self.names, names.as_slice())?;
-        let accesses = cil_symbol_changes::accesses(alloc, &self.tables, numbers.as_slice())?;
-        Table::numbered(names, accesses)
+        let numbers = ranks_of(alloc, &self.names, self.numbering_now(), policy)?;
+        let accesses = cil_symbol_changes::accesses(alloc, &self.tables, &numbers)?;
+        Table::numbered(names_of(alloc, policy)?, accesses)
     }
 
     /// The members of the attributes of the policy whose counters stand now. No set statement is evaluated.
@@ -440,6 +440,16 @@ impl<A: Allocator + Copy> Counters<A> {
 }
 
 impl<A: Allocator> Counters<A> {
+    /// The numbering of the policy that the steps lead to, or of the one before where there is none.
+    fn numbering_now(&self) -> &Numbering<A>
+        ensures { result.now ≡ (symbols_now self.now).numbering }
+    {
+        match &self.next {
+            Some(next) => &next.numbering,
+            None => &self.policy.numbering,
+        }
+    }
+
     /// Whether a type is a member of an attribute, by full names. It takes no memory.
     pub fn has(&self, attribute: &[u8], ty: &[u8]) -> bool
         ensures { result ≡ has_named self.now attribute.now ty.now }
@@ -508,6 +518,7 @@ impl<A: Allocator> Counters<A> {
     {
         self.rows.undo();
         self.tables.undo();
+        self.next = None;
     }
 
     /// Keeps the steps, so that they can't be taken back any more. It takes no memory.
@@ -516,5 +527,8 @@ impl<A: Allocator> Counters<A> {
     {
         self.rows.settle();
         self.tables.settle();
+        if let Some(next) = self.next.take() {
+            self.policy = next;
+        }
     }
 }

@@ -7,6 +7,7 @@ mod counters;
 mod laws;
 mod member_counts;
 mod more_rows;
+mod policy_symbols;
 mod symbol_ranks;
 
 pub use at_once::members_at_once;

@@ -79,6 +79,10 @@ still-used marks i s low used = elim (cases_eq s i) [
 pub used-push : (marks : List Bool) (s : ℕ) → IsUsed marks s → IsUsed (marks ++ true ∷ []) s
 used-push marks s used = get-append marks (true ∷ []) s true used
 
+-- nor does one that isn't in use change that
+pub used-past : (marks : List Bool) (s : ℕ) → IsUsed marks s → IsUsed (marks ++ false ∷ []) s
+used-past marks s used = get-append marks (false ∷ []) s true used
+
 -- where all symbols are in use, there are as many as are
 pub all-used : (marks : List Bool) → AreUsedBelow marks (length marks) → used_in marks ≡ length marks
 all-used [] all = refl

@@ -89,6 +89,19 @@ fn symbols_beside<A: Allocator + Copy>(
     Ok(numbers)
 }
 
+/// Adds marks of symbols that aren't in use until there are so many.
+fn pad<A: Allocator>(marks: &mut Vec<bool, A>, count: usize) -> Result<(), AllocError>
+    requires { length marks.old.items ≤ count }
+    ensures long { OnOk result (length marks.new.items ≡ count) }
+    ensures used { OnOk result ((s : ℕ) → IsUsed marks.old.items s → IsUsed marks.new.items s) }
+    ensures count { OnOk result (used_in marks.new.items ≡ used_in marks.old.items) }
+{
+    while marks.len() < count {
+        marks.push(false)?;
+    }
+    Ok(())
+}
+
 impl<A: Allocator + Copy> Numbering<A> {
     /// The numbering of a policy whose names all have symbols.
     pub fn known(alloc: A, symbols: &Symbols<A>, resolved: &Resolved<A>) -> Result<Self, AllocError>
@@ -109,28 +122,30 @@ impl<A: Allocator + Copy> Numbering<A> {
         other: &Numbering<A>,
         resolved: &Resolved<A>,
     ) -> Result<Self, AllocError>
-        requires count { other.now.count ≡ length symbols.old }
+        requires count { other.now.count ≤ length symbols.old }
         ensures kept { (k s : ℕ) → slice_get other.now.symbols k ≡ Some s → slice_get symbols.new s ≡ slice_get symbols.old s }
         ensures symbols { IfOk result (λ n. AreNumbersOf symbols.new n.symbols resolved.now.names.items) }
         ensures count { IfOk result (λ n. n.count ≡ length symbols.new) }
         ensures grown { length symbols.old ≤ length symbols.new }
         ensures few { length symbols.new ≤ max (length symbols.old) (length other.now.symbols + length resolved.now.names.items) }
     {
-        let mut in_use = other.in_use(alloc)?;
+        let mut in_use = other.in_use(alloc, symbols.len())?;
         let numbers = symbols_beside(alloc, symbols, &mut in_use, resolved)?;
         Self::with_symbols(alloc, numbers, symbols.len())
     }
 
-    /// The symbols that the policy's names use.
-    fn in_use(&self, alloc: A) -> Result<InUse<A>, AllocError>
-        ensures long { IfOk result (λ marks. length marks ≡ self.now.count) }
+    /// Which of so many symbols the policy's names use.
+    fn in_use(&self, alloc: A, count: usize) -> Result<InUse<A>, AllocError>
+        requires { self.now.count ≤ count }
+        ensures long { IfOk result (λ marks. length marks ≡ count) }
         ensures used { IfOk result (λ marks. AreUsed marks self.now.symbols) }
         ensures count { IfOk result (λ marks. used_in marks ≡ length self.now.symbols) }
     {
-        let mut marks = Vec::with_capacity(alloc, self.locals.len())?;
+        let mut marks = Vec::with_capacity(alloc, count)?;
         for local in &self.locals {
             marks.push(local.is_some())?;
         }
+        pad(&mut marks, count)?;
         Ok(InUse::new(marks))
     }
 

@@ -15,4 +15,4 @@ returns g c =
     let now = access_tables.count_now c.args.self.now.tables in
     changes-counted names (names-apart names c.requires.distinct) old c.args.new.now (λ a t. 0) (member_rows.count_now c.args.self.now.rows) (λ kind key t. 0) now
     (counted-none old names c.requires.named.0 (λ a t. 0) (λ kind key t. 0) c.requires.named.1 (none-of (sets_in old) c.requires.sets) (none-of (meaning_in old).rules c.requires.rules) (λ a t. refl) (λ kind key t. refl))
-    c.requires.now _ c.in_ok-added.ensures (none-went now)
+    c.requires.now.counted _ c.in_ok-added.ensures (none-went now)

@@ -16,6 +16,6 @@ returns g c =
     let was = access_tables.count_before c.args.self.now.tables in
     let now = access_tables.count_now c.args.self.now.tables in
     both-ok c.count_changes.result (λ n. AreSoMany (has_come was now) n.added) (λ n. AreSoMany (has_come now was) n.removed) (CountsSome (AreChanges (is_in_table (meaning_in c.args.old.now)) (is_in_table (meaning_in c.args.new.now))))
-    (λ n. changes-counted symbols (names-apart symbols c.requires.distinct) c.args.old.now c.args.new.now (member_rows.count_before c.args.self.now.rows) (member_rows.count_now c.args.self.now.rows) was now c.requires.before
-    c.requires.now n)
+    (λ n. changes-counted symbols (names-apart symbols c.requires.distinct) c.args.old.now c.args.new.now (member_rows.count_before c.args.self.now.rows) (member_rows.count_now c.args.self.now.rows) was now c.requires.before.counted
+    c.requires.now.counted n)
     c.count_changes.ensures.added c.count_changes.ensures.removed

@@ -1,14 +1,11 @@
 use Rattle.std.proofs.Common.{◌≡◌, ◌∙◌, arith, length, subst, sym, true}
 use Rattle.std.specs.List.{list_all}
-use Rattle.std.proofs.lemmas.Result.{on_ok_weaker}
 use Rattle.cil_delta_specs.specs.Work.{AdjustsFew, EvaluatesFew}
 use Rattle.cil_member_rows.specs.Rows as member_rows
 use Rattle.cil_resolve.specs.Below.{is_rule_below}
 use Rattle.cil_resolve.specs.Meter.{adjustments_in, evaluations_in}
 use Rattle.cil_resolve.specs.Resolved.{meaning_in}
 use Rattle.cil_symbol_tables.specs.Tables as access_tables
-use Rattle.cil_table_updates.specs.Adjusted.{AdjustsAtLeast, AdjustsAtMost}
-use Rattle.cil_table_updates.proofs.DirtyLemmas.{on-ok-both}
 use Rattle.cil_table_updates.proofs.FewLemmas.{adjusts-few}
 use Rattle.cil_counters.proofs.FoundLemmas.{found, tells}
 use Rattle.cil_counters.proofs.CountedLemmas.{count-none, members-counted, none-of}
@@ -24,29 +21,28 @@ load-requires-clause-none g c kind key t =
 
 pub load-requires-clause-new_members : goal.load-requires-clause-new_members
 load-requires-clause-new_members g c =
-    members-counted c.bring_members.new.self.names c.args.new.now c.resolved_is_sound.ensures c.resolved_sets_are_in_order.ensures.the_same (member_rows.count_now c.bring_members.new.self.rows) c.in_ok-new_numbering.ensures.members
+    members-counted c.bring_members.new.self.names c.args.new.now c.resolved_is_sound.ensures c.resolved_sets_are_in_order.ensures.the_same (member_rows.count_now c.bring_members.new.self.rows) c.in_ok-next.ensures.members
 
 pub returns-clause-now : goal.returns-clause-now
-returns-clause-now g c =
-    on_ok_weaker c.load.result
-    (λ moved. record {
-      symbols = c.in_ok-new_numbering.new_numbering.symbols;
-      numbers = c.in_ok-new_numbering.ensures.new_numbers;
-      are_members = c.in_ok-new_numbering.ensures.members;
-      are_counts = moved;
-    })
-    c.load.ensures.now
+returns-clause-now g c = record {
+  symbols = c.in_ok-next.ensures.symbols;
+  counted = record {
+    symbols = c.in_ok-next.next.numbering.symbols;
+    numbers = c.in_ok-next.ensures.symbols.numbers;
+    are_members = c.in_ok-next.ensures.members;
+    are_counts = c.in_ok-load.ensures.now;
+  };
+}
 
 pub returns-clause-named : goal.returns-clause-named
-returns-clause-named g c = on_ok_weaker c.load.result (λ moved. (c.bring_members.ensures.before.symbols, c.bring_members.ensures.before.numbers)) c.load.ensures.now
+returns-clause-named g c = (c.bring_members.ensures.before.counted.symbols, c.bring_members.ensures.before.counted.numbers)
 
 pub returns-clause-evaluations : goal.returns-clause-evaluations
 returns-clause-evaluations g c =
-    on_ok_weaker c.load.result
-    (λ moved. subst (EvaluatesFew (meaning_in c.args.old.now) (meaning_in c.args.new.now) (evaluations_in c.args.meter.now)) (sym c.load.ensures.evaluations) c.in_ok-new_numbering.ensures.evaluations) c.load.ensures.now
+    subst (EvaluatesFew (meaning_in c.args.old.now) (meaning_in c.args.new.now) (evaluations_in c.args.meter.now)) (sym c.load.ensures.evaluations) c.in_ok-next.ensures.evaluations
 
 pub returns-clause-adjustments : goal.returns-clause-adjustments
-returns-clause-adjustments g c =
+returns-clause-adjustments g c changes are =
     let names = c.bring_members.new.self.names in
     let old = c.args.old.now in
     let new = c.args.new.now in
@@ -56,21 +52,21 @@ returns-clause-adjustments g c =
     let rows = member_rows.count_now c.bring_members.new.self.rows in
     let between = adjustments_in c.bring_members.new.meter in
     let after = adjustments_in c.load.new.meter in
-    let before = c.bring_members.ensures.before in
-    on-ok-both c.load.result
-    (λ (both : AdjustsAtMost (meaning_in old) (meaning_in new) between after × AdjustsAtLeast was is between after) counted changes are.
+    let before = c.bring_members.ensures.before.counted in
     subst (λ n. AdjustsFew (meaning_in old) (meaning_in new) changes n after) c.bring_members.ensures.adjustments
     (adjusts-few names (meaning_in old) (meaning_in new) was is (found names)
     (tells names old new old_rows rows was is (record { symbols = before.symbols; numbers = before.numbers; are_members = before.are_members; are_counts = c.bring_members.ensures.accesses })
-    (record { symbols = c.in_ok-new_numbering.new_numbering.symbols; numbers = c.in_ok-new_numbering.ensures.new_numbers; are_members = c.in_ok-new_numbering.ensures.members; are_counts = counted })
+    (record { symbols = c.in_ok-next.next.numbering.symbols; numbers = c.in_ok-next.ensures.symbols.numbers; are_members = c.in_ok-next.ensures.members; are_counts = c.in_ok-load.ensures.now })
     c.resolved_names_are_kept.ensures.types c.resolved_names_are_kept-2.ensures.types
     (subst (λ l. list_all (is_rule_below (length old.names.items)) l ≡ true) c.rules.ensures.rules c.rules.ensures.within)
     (subst (λ l. list_all (is_rule_below (length new.names.items)) l ≡ true) c.rules-2.ensures.rules c.rules-2.ensures.within))
-    changes are between after both.0 both.1))
-    (on-ok-both c.load.result (λ most least. (most (meaning_in old) c.requires.rules, least)) c.load.ensures.at_most c.load.ensures.at_least) c.load.ensures.now
+    changes are between after (c.in_ok-load.ensures.at_most (meaning_in old) c.requires.rules) c.in_ok-load.ensures.at_least)
 
-pub returns-in_err-new_numbering-clause-bounded : goal.returns-in_err-new_numbering-clause-bounded
-returns-in_err-new_numbering-clause-bounded g c kind key t = let was = c.bring_members.ensures.accesses kind key t in omega (arith, was)
+pub returns-in_err-next-clause-bounded : goal.returns-in_err-next-clause-bounded
+returns-in_err-next-clause-bounded g c kind key t = let was = c.bring_members.ensures.accesses kind key t in omega (arith, was)
+
+pub returns-in_err-load-clause-bounded : goal.returns-in_err-load-clause-bounded
+returns-in_err-load-clause-bounded g c kind key t = let is = c.load.ensures.bounded kind key t in omega (arith, is)
 
 pub returns-clause-bounded : goal.returns-clause-bounded
 returns-clause-bounded g c kind key t = let is = c.load.ensures.bounded kind key t in omega (arith, is)

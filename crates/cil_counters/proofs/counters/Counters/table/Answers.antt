@@ -1,4 +1,4 @@
-use Rattle.std.proofs.Common.{◌∙◌, ap, length, map, subst, sym}
+use Rattle.std.proofs.Common.{◌∙◌, ap, map, subst, sym}
 use Rattle.std.proofs.lemmas.Result.{IfOk-weaker}
 use Rattle.cil_member_rows.specs.Rows as member_rows
 use Rattle.cil_resolve.specs.Resolved.{meaning_in}
@@ -15,27 +15,27 @@ pub accesses-requires : goal.accesses-requires
 accesses-requires g c =
     let symbols = c.args.self.now.names in
     let names = c.args.policy.now.names.items in
-    let ranks = subst (AreRanks names symbols (length names)) (sym c.as_slice-2.ensures.value) (rw (c.as_slice.ensures.value ∙ c.in_ok-names.ensures) at c.in_ok-numbers.ensures) in
+    let ranks = subst (AreRanks names symbols names) (sym c.deref.ensures.value) c.in_ok-numbers.ensures in
     record {
-      known = present-numbered symbols c.as_slice-2.result.now c.args.policy.now ranks (member_rows.count_now c.args.self.now.rows) (access_tables.count_now c.args.self.now.tables) c.requires;
+      known = present-numbered symbols c.deref.result.now c.args.policy.now ranks (member_rows.count_now c.args.self.now.rows) (access_tables.count_now c.args.self.now.tables) c.requires.counted;
     }
 
 pub numbered-requires : goal.numbered-requires
 numbered-requires g c =
     let symbols = c.args.self.now.names in
     let names = c.args.policy.now.names.items in
-    let ranks = subst (AreRanks names symbols (length names)) (sym c.as_slice-2.ensures.value) (rw (c.as_slice.ensures.value ∙ c.in_ok-names.ensures) at c.in_ok-numbers.ensures) in
+    let ranks = subst (AreRanks names symbols names) (sym c.deref.ensures.value) c.in_ok-numbers.ensures in
     let found = c.in_ok-accesses.accesses in
-    subst (λ list. AreNumbered list found) (sym c.in_ok-names.ensures)
-    (found-numbered symbols c.as_slice-2.result.now c.args.policy.now ranks (member_rows.count_now c.args.self.now.rows) (access_tables.count_now c.args.self.now.tables) c.requires found
+    subst (λ list. AreNumbered list found) (sym c.in_ok-names_of.ensures)
+    (found-numbered symbols c.deref.result.now c.args.policy.now ranks (member_rows.count_now c.args.self.now.rows) (access_tables.count_now c.args.self.now.tables) c.requires.counted found
     c.in_ok-accesses.ensures.order c.in_ok-accesses.ensures.present)
 
 pub returns : goal.returns
 returns g c =
     let symbols = c.args.self.now.names in
     let names = c.args.policy.now.names.items in
-    let ranks = subst (AreRanks names symbols (length names)) (sym c.as_slice-2.ensures.value) (rw (c.as_slice.ensures.value ∙ c.in_ok-names.ensures) at c.in_ok-numbers.ensures) in
+    let ranks = subst (AreRanks names symbols names) (sym c.deref.ensures.value) c.in_ok-numbers.ensures in
     let found = c.in_ok-accesses.accesses in
-    let are = found-atoms symbols c.as_slice-2.result.now c.args.policy.now ranks (member_rows.count_now c.args.self.now.rows) (access_tables.count_now c.args.self.now.tables) c.requires found
+    let are = found-atoms symbols c.deref.result.now c.args.policy.now ranks (member_rows.count_now c.args.self.now.rows) (access_tables.count_now c.args.self.now.tables) c.requires.counted found
     c.in_ok-accesses.ensures.order c.in_ok-accesses.ensures.present in
-    IfOk-weaker c.numbered.result _ _ (λ table is. subst (AreAtoms (listed (is_in_table (meaning_in c.args.policy.now)))) (sym (is ∙ ap (λ list. map (atom_at list) found) c.in_ok-names.ensures)) are) c.numbered.ensures
+    IfOk-weaker c.numbered.result _ _ (λ table is. subst (AreAtoms (listed (is_in_table (meaning_in c.args.policy.now)))) (sym (is ∙ ap (λ list. map (atom_at list) found) c.in_ok-names_of.ensures)) are) c.numbered.ensures

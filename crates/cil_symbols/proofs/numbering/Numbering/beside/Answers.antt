@@ -8,5 +8,5 @@ with_symbols-requires-clause-apart g c =
 
 pub with_symbols-requires-clause-below : goal.with_symbols-requires-clause-below
 with_symbols-requires-clause-below g c k s at =
-    subst (λ n. s < n) (sym c.len.ensures.len)
+    subst (λ n. s < n) (sym c.len-2.ensures.len)
     (number-below c.symbols_beside.new.symbols c.in_ok-numbers.numbers.items c.args.resolved.now.names.items k s c.in_ok-numbers.ensures.numbers at)
