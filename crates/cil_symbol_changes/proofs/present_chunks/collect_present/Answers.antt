@@ -9,10 +9,10 @@ push_lines-requires-clause-all g c = subst (AreAllPlaces (length c.lines-lines.r
 
 pub push_lines-requires-clause-known : goal.push_lines-requires-clause-known
 push_lines-requires-clause-known g c =
-    known-now {A = g.row.A.Denot} c.args.tables.now c.args.numbers.now c.args.kind c.lines-lines.result.now c.lines-lines.ensures c.requires.numbered
+    known-now {A = g.row.A.Denot} c.args.lines.now c.args.numbers.now c.lines-lines.result.now c.lines-lines.ensures c.requires.numbered
 
 pub returns : goal.returns
 returns g c =
     on_ok_weaker c.push_lines.result
-    (in-present {A = g.row.A.Denot} c.args.tables.now c.args.numbers.now c.args.kind c.lines-lines.result.now c.lines-lines.ensures c.args.chunks.now.items c.push_lines.new.chunks.items)
+    (in-present {A = g.row.A.Denot} c.args.lines.now c.args.numbers.now c.lines-lines.result.now c.lines-lines.ensures c.args.chunks.now.items c.push_lines.new.chunks.items)
     c.push_lines.ensures
