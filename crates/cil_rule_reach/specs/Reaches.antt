@@ -34,5 +34,6 @@ aims_by members symbols (aims.Element element) s t = has_by members symbols elem
 
 -- whether a rule gives an access, by its kind and the symbols of its names
 unfoldable pub covers_by : {A : Type 0} → (ℕ → ℕ → ℕ) → List ℕ → NumberedRule A → SymbolKey → ℕ → Bool
-covers_by members symbols rule key t = (has_by members symbols rule.source key.source && aims_by members symbols rule.target key.source t)
-    && (is_kind rule.kind key.kind && ((slice_index symbols rule.class == key.class) && list_any (λ p. key.permission == slice_index symbols p) rule.permissions))
+covers_by members symbols rule key t = is_kind rule.kind key.kind
+    && ((has_by members symbols rule.source key.source && aims_by members symbols rule.target key.source t)
+    && ((slice_index symbols rule.class == key.class) && list_any (λ p. key.permission == slice_index symbols p) rule.permissions))

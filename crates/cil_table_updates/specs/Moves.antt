@@ -19,8 +19,8 @@ lists symbols rule p = list_any (λ q. p == slice_index symbols q) rule.permissi
 
 -- whether a rule's kind, class and permissions give an access to what a source reaches
 abbrev pub gives_as : {A B : Type 0} → List ℕ → NumberedRule A → Reach B → SymbolKey → ℕ → Bool
-gives_as symbols rule reach key t = reaches reach key.source t
-    && (is_kind rule.kind key.kind && ((slice_index symbols rule.class == key.class) && lists symbols rule key.permission))
+gives_as symbols rule reach key t = is_kind rule.kind key.kind
+    && (reaches reach key.source t && ((slice_index symbols rule.class == key.class) && lists symbols rule key.permission))
 
 -- No symbol behind those of all names is that of a name of the policy, or that of a member.
 pub record IsKnown {A : Type 0} (p : Policy A) : Type 0 where
