@@ -48,10 +48,10 @@ fn put_source<A: Allocator + Copy>(
     requires settled { steps_in lines.old ≡ 0 }
     ensures settled { steps_in lines.new ≡ 0 }
     ensures now { OnOk result ((k : SymbolKey) (t : ℕ) → count_now lines.new k t
-        ≡ count_now lines.old k t + one_if (is_line source head k && has_target pieces.now.list.items t)) }
+        ≡ count_now lines.old k t + one_if (is_line source head.entry k && has_target pieces.now.list.items t)) }
     ensures bounded { RiseAtMost lines.old lines.new
-        (λ k t. one_if (is_line source head k && has_target pieces.now.list.items t)) }
-    ensures given { IfOk result (RisesBy (put_for source head pieces.now.list.items) 0) }
+        (λ k t. one_if (is_line source head.entry k && has_target pieces.now.list.items t)) }
+    ensures given { IfOk result (RisesBy (put_for source head.entry pieces.now.list.items) 0) }
 {
     let mut given: u128 = 0;
     for permission in head.permissions {
@@ -103,9 +103,9 @@ pub fn put_rule<A: Allocator + Copy>(
     requires settled { steps_in lines.old ≡ 0 }
     ensures settled { steps_in lines.new ≡ 0 }
     ensures now { OnOk result ((k : SymbolKey) (t : ℕ) → count_now lines.new k t
-        ≡ count_now lines.old k t + one_if (gives is.now head k t)) }
-    ensures bounded { RiseAtMost lines.old lines.new (λ k t. one_if (gives is.now head k t)) }
-    ensures given { IfOk result (RisesBy (λ (p : SymbolKey × ℕ). gives is.now head p.0 p.1) 0) }
+        ≡ count_now lines.old k t + one_if (gives is.now head.entry k t)) }
+    ensures bounded { RiseAtMost lines.old lines.new (λ k t. one_if (gives is.now head.entry k t)) }
+    ensures given { IfOk result (RisesBy (λ (p : SymbolKey × ℕ). gives is.now head.entry p.0 p.1) 0) }
 {
     let none = Reach::none(alloc);
     let itself = is_itself(&is.targets);

@@ -56,11 +56,11 @@ fn shift_lines<A: Allocator + Copy>(
     requires permissions { IsStrictlyIncreasing head.permissions.now }
     requires words { AreTurned (takes was.now source) (takes is.now source) words.now }
     requires counted { (k : SymbolKey) (t : ℕ) → one_if (is_line source head k && takes was.now source t) ≤ count_now lines.old k t }
-    ensures now { OnOk result ((k : SymbolKey) (t : ℕ) → count_now lines.new k t + one_if (is_line source head k && takes was.now source t)
-        ≡ count_now lines.old k t + one_if (is_line source head k && takes is.now source t)) }
-    ensures bounded { RiseAtMost lines.old lines.new (λ k t. one_if (is_line source head k && takes is.now source t)) }
+    ensures now { OnOk result ((k : SymbolKey) (t : ℕ) → count_now lines.new k t + one_if (is_line source head.entry k && takes was.now source t)
+        ≡ count_now lines.old k t + one_if (is_line source head.entry k && takes is.now source t)) }
+    ensures bounded { RiseAtMost lines.old lines.new (λ k t. one_if (is_line source head.entry k && takes is.now source t)) }
     ensures before { (k : SymbolKey) (t : ℕ) → count_before lines.new k t ≡ count_before lines.old k t }
-    ensures moved { IfOk result (RisesBy (moves_for source head was.now is.now) 0) }
+    ensures moved { IfOk result (RisesBy (moves_for source head.entry was.now is.now) 0) }
 {
     let mut moved: u128 = 0;
     for permission in head.permissions {
@@ -120,11 +120,11 @@ fn shift_source<A: Allocator + Copy>(
     requires was { IsShort was.now }
     requires is { IsShort is.now }
     requires counted { (k : SymbolKey) (t : ℕ) → one_if ((source == k.source) && gives was.now head k t) ≤ count_now lines.old k t }
-    ensures now { OnOk result ((k : SymbolKey) (t : ℕ) → count_now lines.new k t + one_if ((source == k.source) && gives was.now head k t)
-        ≡ count_now lines.old k t + one_if ((source == k.source) && gives is.now head k t)) }
-    ensures bounded { RiseAtMost lines.old lines.new (λ k t. one_if ((source == k.source) && gives is.now head k t)) }
+    ensures now { OnOk result ((k : SymbolKey) (t : ℕ) → count_now lines.new k t + one_if ((source == k.source) && gives was.now head.entry k t)
+        ≡ count_now lines.old k t + one_if ((source == k.source) && gives is.now head.entry k t)) }
+    ensures bounded { RiseAtMost lines.old lines.new (λ k t. one_if ((source == k.source) && gives is.now head.entry k t)) }
     ensures before { (k : SymbolKey) (t : ℕ) → count_before lines.new k t ≡ count_before lines.old k t }
-    ensures moved { IfOk result (RisesBy (moves_of source was.now is.now head) 0) }
+    ensures moved { IfOk result (RisesBy (moves_of source was.now is.now head.entry) 0) }
 {
     let none = Targets::Nothing;
     let gone = targets_of(was, &none, source);
@@ -155,11 +155,11 @@ fn shift_sources<A: Allocator + Copy>(
     requires was { IsShort was.now }
     requires is { IsShort is.now }
     requires counted { (k : SymbolKey) (t : ℕ) → one_if (gives was.now head k t) ≤ count_now lines.old k t }
-    ensures now { OnOk result ((k : SymbolKey) (t : ℕ) → count_now lines.new k t + one_if (gives was.now head k t)
-        ≡ count_now lines.old k t + one_if (gives is.now head k t)) }
-    ensures bounded { RiseAtMost lines.old lines.new (λ k t. one_if (gives is.now head k t)) }
+    ensures now { OnOk result ((k : SymbolKey) (t : ℕ) → count_now lines.new k t + one_if (gives was.now head.entry k t)
+        ≡ count_now lines.old k t + one_if (gives is.now head.entry k t)) }
+    ensures bounded { RiseAtMost lines.old lines.new (λ k t. one_if (gives is.now head.entry k t)) }
     ensures before { (k : SymbolKey) (t : ℕ) → count_before lines.new k t ≡ count_before lines.old k t }
-    ensures moved { IfOk result (RisesBy (moves_where was.now is.now head) 0) }
+    ensures moved { IfOk result (RisesBy (moves_where was.now is.now head.entry) 0) }
 {
     let all = may_differ(common);
     let mut moved: u128 = 0;
@@ -186,11 +186,11 @@ pub fn shift_rule<A: Allocator + Copy>(
     requires was { IsShort was.now }
     requires is { IsShort is.now }
     requires counted { (k : SymbolKey) (t : ℕ) → one_if (gives was.now head k t) ≤ count_now lines.old k t }
-    ensures now { OnOk result ((k : SymbolKey) (t : ℕ) → count_now lines.new k t + one_if (gives was.now head k t)
-        ≡ count_now lines.old k t + one_if (gives is.now head k t)) }
-    ensures bounded { RiseAtMost lines.old lines.new (λ k t. one_if (gives is.now head k t)) }
+    ensures now { OnOk result ((k : SymbolKey) (t : ℕ) → count_now lines.new k t + one_if (gives was.now head.entry k t)
+        ≡ count_now lines.old k t + one_if (gives is.now head.entry k t)) }
+    ensures bounded { RiseAtMost lines.old lines.new (λ k t. one_if (gives is.now head.entry k t)) }
     ensures before { (k : SymbolKey) (t : ℕ) → count_before lines.new k t ≡ count_before lines.old k t }
-    ensures moved { IfOk result (RisesBy (moves_where was.now is.now head) 0) }
+    ensures moved { IfOk result (RisesBy (moves_where was.now is.now head.entry) 0) }
 {
     let common = common_words(alloc, &was.targets, &is.targets)?;
     shift_sources(lines, alloc, head, &common, was, is)
