@@ -11,7 +11,7 @@ use Rattle.cil_keyed_lines.specs.Keyed.{is_key}
 use Rattle.cil_keyed_lines.specs.declared.symbol_key.SymbolKey.{SymbolKey}
 use Rattle.cil_keyed_lines.proofs.KeyedLemmas.{key_itself, one_key}
 use Rattle.cil_rule_shifts.specs.Moves.{differs, has_either, has_word, moves_for, moves_in, moves_of, moves_where, turns, AreSame, AreTurned}
-use Rattle.cil_rule_shifts.specs.Reach.{gives, has_head, has_permission, has_source, is_line, one_if, reaches, takes, IsNext, NoneFrom}
+use Rattle.cil_rule_shifts.specs.Reach.{gives, has_head, has_source, is_line, one_if, reaches, takes, IsNext, NoneFrom}
 use Rattle.cil_rule_shifts.specs.declared.head.RuleHead.{RuleHead}
 use Rattle.cil_rule_shifts.specs.declared.reach.Reach.{Reach}
 use Rattle.cil_rule_shifts.specs.declared.targets.Targets.{Targets}

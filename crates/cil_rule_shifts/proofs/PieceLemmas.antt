@@ -18,7 +18,7 @@ use Rattle.cil_rule_shifts.specs.declared.reach.Reach.{Reach}
 use Rattle.cil_rule_shifts.specs.declared.targets.Targets.{Targets}
 use Rattle.cil_rule_shifts.proofs.MoveLemmas.{gives-none, word-count}
 use Rattle.cil_rule_shifts.proofs.ReachLemmas.{no-second}
-use Rattle.cil_rule_shifts.proofs.ShiftLemmas.{first, head-more, line-more, of_head, same-either-way, source-all, source-gives, source-more}
+use Rattle.cil_rule_shifts.proofs.ShiftLemmas.{first, head-more, of_head, same-either-way, source-all, source-gives, source-more}
 use Rattle.cil_sums.specs.Rises.{RisesBy}
 use Rattle.cil_sums.proofs.RiseLemmas.{rises-more, rises-none, rises-same, same-from_counts}
 

@@ -136,6 +136,17 @@ module _ (xs : List ℕ) (rising : IsStrictlyIncreasing xs) (i p : ℕ) (within 
 
 -- ---- the head of a rule
 
+-- nothing is of no word, nor of no permission
+pub no-word : (b w : Bool) → ((b && false) && w) ≡ false
+no-word true w = refl
+no-word false w = refl
+
+no-line : (s b c w : Bool) → ((s && (b && (c && false))) && w) ≡ false
+no-line true true true w = refl
+no-line true true false w = refl
+no-line true false c w = refl
+no-line false b c w = refl
+
 -- a head with the first permissions alone
 abbrev pub first : ℕ → RuleHead → RuleHead
 first i head = record head { permissions = record head.permissions { now = take i head.permissions.now } }
@@ -143,6 +154,9 @@ first i head = record head { permissions = record head.permissions { now = take 
 -- the key of a source's line for a permission
 abbrev pub of_head : ℕ → RuleHead → ℕ → SymbolKey
 of_head source head p = record { kind = head.kind; source = source; class = head.class; permission = p }
+
+pub no-permission : (source : ℕ) (head : RuleHead) (k : SymbolKey) (w : Bool) → (is_line source (first 0 head) k && w) ≡ false
+no-permission source head k w = no-line (source == k.source) (is_kind head.kind k.kind) (head.class == k.class) w
 
 module _ (source : ℕ) (head : RuleHead) (rising : IsStrictlyIncreasing head.permissions.now) (i p : ℕ) (within : i < length head.permissions.now) (at : get_or head.permissions.now i 0 ≡ p) where
   abbrev xs : List ℕ

@@ -107,13 +107,7 @@ fn push_source<A: Allocator>(
     let added = chunks.added.len();
     let removed = chunks.removed.len();
     for i in from..to {
-        push_place(
-            chunks,
-            lines,
-            changes,
-            order[i].place as usize,
-            numbers,
-        )?;
+        push_place(chunks, lines, changes, order[i].place as usize, numbers)?;
     }
     sort_from(&mut chunks.added, added);
     sort_from(&mut chunks.removed, removed);

@@ -133,13 +133,7 @@ fn push_source<A: Allocator>(
     }
     let start = chunks.len();
     for i in from..to {
-        push_place(
-            chunks,
-            places,
-            lines,
-            order[i].place as usize,
-            numbers,
-        )?;
+        push_place(chunks, places, lines, order[i].place as usize, numbers)?;
     }
     sort_from(chunks, start);
     Ok(())

@@ -71,15 +71,7 @@ pub fn take_rule<A: Allocator + Copy>(
     ensures evaluations { evaluations_in meter.new ≡ evaluations_in meter.old }
 {
     let was = rule_reach(alloc, &policy.members, policy.numbering, rule)?;
-    shift_as(
-        lines,
-        alloc,
-        policy,
-        rule,
-        &was,
-        &Reach::none(alloc),
-        meter,
-    )
+    shift_as(lines, alloc, policy, rule, &was, &Reach::none(alloc), meter)
 }
 
 /// Puts a rule of a policy in.

@@ -1,10 +1,10 @@
-use Rattle.std.proofs.Common.{◌==◌, ◌&&◌, ap, arith, refl, slice_index_or}
+use Rattle.std.proofs.Common.{◌&&◌, ap, arith, refl, slice_index_or}
 use Rattle.cil_keyed_lines.specs.Keyed.{is_key}
-use Rattle.cil_keyed_lines.specs.declared.symbol_key.SymbolKey.{SymbolKey}
-use Rattle.cil_rule_shifts.specs.Pieces.{has_target}
+use Rattle.cil_rule_shifts.specs.Pieces.{has_target, put_for}
 use Rattle.cil_rule_shifts.specs.Reach.{one_if}
 use Rattle.cil_rule_shifts.proofs.PieceLemmas.{put-step}
-use Rattle.cil_rule_shifts.proofs.ShiftLemmas.{head-more, head-within, of_head}
+use Rattle.cil_rule_shifts.proofs.ShiftLemmas.{head-more, head-within, of_head, first, no-permission}
+use Rattle.cil_sums.proofs.RiseLemmas.{rises-none}
 use Rattle.cil_rule_shifts.proofs.put.put_source.Goals as goal
 
 pub loop-permission-preserved : goal.loop-permission-preserved
@@ -35,3 +35,11 @@ returns-in_err-put_line-clause-bounded g c k t =
     let step = c.in_err-put_line.ensures.bounded k t in
     let so_far = c.loop-permission.invariant.1 k t in
     omega (arith, within, same, step, so_far)
+
+pub loop-permission-init : goal.loop-permission-init
+loop-permission-init g c =
+    let items = c.args.pieces.now.list.items in (
+      c.requires.settled,
+      λ k t. let none = ap one_if (no-permission c.args.source c.args.head k (has_target items t)) in omega (arith, none),
+      rises-none (put_for c.args.source (first 0 c.args.head) items) 0 (λ p. no-permission c.args.source c.args.head p.0 (has_target items p.1)),
+    )

@@ -1,9 +1,10 @@
-use Rattle.std.proofs.Common.{◌==◌, ◌∙◌, slice_index_or, refl, arith}
+use Rattle.std.proofs.Common.{◌∙◌, slice_index_or, refl, arith, ap}
 use Rattle.cil_keyed_lines.specs.Keyed.{count_now}
-use Rattle.cil_keyed_lines.specs.declared.symbol_key.SymbolKey.{SymbolKey}
-use Rattle.cil_rule_shifts.specs.Reach.{takes}
+use Rattle.cil_rule_shifts.specs.Reach.{takes, one_if}
 use Rattle.cil_rule_shifts.proofs.MoveLemmas.{lines-step}
-use Rattle.cil_rule_shifts.proofs.ShiftLemmas.{above-line, head-more, head-within, of_head}
+use Rattle.cil_rule_shifts.proofs.ShiftLemmas.{above-line, head-more, head-within, of_head, first, no-permission}
+use Rattle.cil_rule_shifts.specs.Moves.{moves_for, turns}
+use Rattle.cil_sums.proofs.RiseLemmas.{rises-none}
 use Rattle.cil_rule_shifts.proofs.shift.shift_lines.Goals as goal
 
 pub shift_line-requires-clause-counted : goal.shift_line-requires-clause-counted
@@ -38,3 +39,14 @@ returns-in_err-here-clause-bounded g c k t =
     let step = c.in_err-here.ensures.bounded k t in
     let moved = c.loop-permission.invariant.0 k t in
     omega (arith, within, step, moved)
+
+pub loop-permission-init : goal.loop-permission-init
+loop-permission-init g c = (
+  λ k t.
+      let was = ap one_if (no-permission c.args.source c.args.head k (takes c.args.was.now c.args.source t)) in
+      let is = ap one_if (no-permission c.args.source c.args.head k (takes c.args.is.now c.args.source t)) in
+      omega (arith, was, is),
+  λ k t. refl,
+  rises-none (moves_for c.args.source (first 0 c.args.head) c.args.was.now c.args.is.now) 0
+      (λ p. no-permission c.args.source c.args.head p.0 (turns c.args.was.now c.args.is.now c.args.source p.1)),
+)
