@@ -18,7 +18,7 @@ use Rattle.cil_recorded.proofs.LogLemmas.{count_past, hit_nothing, hit_off, hit_
 use Rattle.cil_recorded.proofs.PlaceLemmas.{untouched}
 use Rattle.cil_keyed_lines.specs.declared.symbol_key.SymbolKey.{SymbolKey}
 use Rattle.cil_keyed_lines.specs.Keyed.{count_by, hit_of, is_key, with_key, AreAmong, AreCounted, AreHeld, AreKeyed, ArePaired}
-use Rattle.cil_keyed_lines.proofs.KeyedLemmas.{count_absent, count_placed, count_raised, count_reached, count_same, count_shifted, key_placed, past_raised, past_shifted, placed_at, placed_within, listed_at, swap_of}
+use Rattle.cil_keyed_lines.proofs.KeyedLemmas.{count_absent, count_placed, count_raised, count_reached, count_same, count_shifted, key_placed, no_key, past_raised, past_shifted, placed_at, placed_within, listed_at, swap_of}
 
 -- ---- counters by key
 
@@ -48,19 +48,19 @@ module _ (keys news : List SymbolKey) (place : ℕ) (within : place < length key
 
   long : length news ≡ n
   long =
-      let d : SymbolKey = record { source = 0; class = 0; permission = 0 } in
+      let d = no_key in
       ap length (taken d) ∙ length-take-le n (set keys place (get_or keys n d)) (omega (arith, length-set keys place (get_or keys n d)))
 
   moved : place < n → slice_get news place ≡ slice_get keys n
   moved less =
-      let d : SymbolKey = record { source = 0; class = 0; permission = 0 } in
+      let d = no_key in
       slice_get-get_or news place d (omega (arith, long))
       ∙ ap (λ x. Some x) (ap (λ l. get_or l place d) (taken d) ∙ get_or-take n (set keys place (get_or keys n d)) place d less ∙ get_or-set_same keys place (get_or keys n d) d within)
       ∙ sym (slice_get-get_or keys n d (omega (arith, within)))
 
   other : (l : ℕ) → l ≢ place → l < n → slice_get news l ≡ slice_get keys l
   other l apart less =
-      let d : SymbolKey = record { source = 0; class = 0; permission = 0 } in
+      let d = no_key in
       slice_get-get_or news l d (omega (arith, long))
       ∙ ap (λ x. Some x) (ap (λ ks. get_or ks l d) (taken d) ∙ get_or-take n (set keys place (get_or keys n d)) l d less ∙ get_or-set_other keys place l (get_or keys n d) d apart)
       ∙ sym (slice_get-get_or keys l d (omega (arith, within)))

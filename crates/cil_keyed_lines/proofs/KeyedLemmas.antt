@@ -19,8 +19,12 @@ use Rattle.cil_recorded.specs.Log.{hit_at}
 use Rattle.cil_recorded.specs.Recorded as recorded
 use Rattle.cil_recorded.specs.Recorded.{State, lines_in}
 use Rattle.cil_recorded.proofs.LogLemmas.{hit_in, hit_nothing, hit_off, same_counts}
+use Rattle.cil_text.specs.declared.statement.RuleKind.{RuleKind}
+use Rattle.cil_text.specs.declared.statement.RuleKind.TheVariants.{Allow, AuditAllow, DontAudit, NeverAllow}
+use Rattle.cil_text.specs.contracts.statement.RuleKindPartialEq.TheImpl.{eq-value as kind_eq}
+use Rattle.cil_keyed_lines.specs.contracts.symbol_key.SymbolKeyPartialEq.TheImpl.{eq-value as key_eq}
 use Rattle.cil_keyed_lines.specs.declared.symbol_key.SymbolKey.{SymbolKey}
-use Rattle.cil_keyed_lines.specs.Keyed.{Keyed, AreKeyed, IsLineOf, IsNoLine, NoneCounted, before_at, count_by, hit_of, is_key, now_at, with_key}
+use Rattle.cil_keyed_lines.specs.Keyed.{Keyed, AreKeyed, IsLineOf, IsNoLine, NoneCounted, before_at, count_by, hit_of, is_key, is_kind, now_at, with_key}
 
 -- ---- keys
 
@@ -28,20 +32,74 @@ both_true : (b c : Bool) → (b && c) ≡ true → (b ≡ true) × (c ≡ true)
 both_true true c is = (refl, is)
 both_true false c is = absurd (true≢false (sym is))
 
+-- kinds that are the same are one
+pub one_kind : (kind other : RuleKind) → is_kind kind other ≡ true → kind ≡ other
+one_kind Allow Allow is = refl
+one_kind Allow AuditAllow is = absurd (true≢false (sym is))
+one_kind Allow DontAudit is = absurd (true≢false (sym is))
+one_kind Allow NeverAllow is = absurd (true≢false (sym is))
+one_kind AuditAllow Allow is = absurd (true≢false (sym is))
+one_kind AuditAllow AuditAllow is = refl
+one_kind AuditAllow DontAudit is = absurd (true≢false (sym is))
+one_kind AuditAllow NeverAllow is = absurd (true≢false (sym is))
+one_kind DontAudit Allow is = absurd (true≢false (sym is))
+one_kind DontAudit AuditAllow is = absurd (true≢false (sym is))
+one_kind DontAudit DontAudit is = refl
+one_kind DontAudit NeverAllow is = absurd (true≢false (sym is))
+one_kind NeverAllow Allow is = absurd (true≢false (sym is))
+one_kind NeverAllow AuditAllow is = absurd (true≢false (sym is))
+one_kind NeverAllow DontAudit is = absurd (true≢false (sym is))
+one_kind NeverAllow NeverAllow is = refl
+
+pub kind_itself : (kind : RuleKind) → is_kind kind kind ≡ true
+kind_itself Allow = refl
+kind_itself AuditAllow = refl
+kind_itself DontAudit = refl
+kind_itself NeverAllow = refl
+
+-- the comparison that is derived is the same
+same_kinds : (kind other : RuleKind) → kind_eq.it kind other ≡ is_kind kind other
+same_kinds Allow Allow = refl
+same_kinds Allow AuditAllow = refl
+same_kinds Allow DontAudit = refl
+same_kinds Allow NeverAllow = refl
+same_kinds AuditAllow Allow = refl
+same_kinds AuditAllow AuditAllow = refl
+same_kinds AuditAllow DontAudit = refl
+same_kinds AuditAllow NeverAllow = refl
+same_kinds DontAudit Allow = refl
+same_kinds DontAudit AuditAllow = refl
+same_kinds DontAudit DontAudit = refl
+same_kinds DontAudit NeverAllow = refl
+same_kinds NeverAllow Allow = refl
+same_kinds NeverAllow AuditAllow = refl
+same_kinds NeverAllow DontAudit = refl
+same_kinds NeverAllow NeverAllow = refl
+
+pub same_eq : key_eq.it ≡ is_key
+same_eq i key other = same_kinds key.kind other.kind i && (key.source == other.source && (key.class == other.class && key.permission == other.permission))
+
 -- keys that are the same are one
 pub one_key : (key other : SymbolKey) → is_key key other ≡ true → key ≡ other
 one_key key other is =
-    let (source, rest) = both_true (key.source == other.source) _ is in
+    let (kind, names) = both_true (is_kind key.kind other.kind) _ is in
+    let (source, rest) = both_true (key.source == other.source) _ names in
     let (class, permission) = both_true (key.class == other.class) _ rest in
+    let kind = one_kind key.kind other.kind kind in
     let source = eqb-true key.source other.source source in
     let class = eqb-true key.class other.class class in
     let permission = eqb-true key.permission other.permission permission in
-    λ i. record { source = source i; class = class i; permission = permission i }
+    λ i. record { kind = kind i; source = source i; class = class i; permission = permission i }
 
 pub key_itself : (key : SymbolKey) → is_key key key ≡ true
 key_itself key =
-    ap (λ b. b && (key.class == key.class && key.permission == key.permission)) (eq-eqb key.source key.source refl)
+    ap (λ b. b && (key.source == key.source && (key.class == key.class && key.permission == key.permission))) (kind_itself key.kind)
+    ∙ ap (λ b. b && (key.class == key.class && key.permission == key.permission)) (eq-eqb key.source key.source refl)
     ∙ ap (λ b. b && (key.permission == key.permission)) (eq-eqb key.class key.class refl) ∙ eq-eqb key.permission key.permission refl
+
+-- a key to fall back on
+pub no_key : SymbolKey
+no_key = record { kind = Allow; source = 0; class = 0; permission = 0 }
 
 other_key : (key other : SymbolKey) → is_key key other ≡ false → is_key other key ≡ false
 other_key key other is = by (is_key other key) refl
@@ -290,9 +348,6 @@ line_of_place k i None keyed is =
     let behind : length k.keys ≤ i = by (cases_lt i (length k.keys)) in
     record { behind = behind; now = λ t. keyed.now i t behind; before = λ t. keyed.before i t behind }
   where
-    no_key : SymbolKey
-    no_key = record { source = 0; class = 0; permission = 0 }
-
     by : (i < length k.keys) ⊎ (length k.keys ≤ i) → length k.keys ≤ i
     by (inl less) = absurd (none-some (get_or k.keys i no_key) (is ∙ slice_get-get_or k.keys i no_key less))
     by (inr behind) = behind

@@ -1,7 +1,10 @@
 -- Lines of counters by their keys, and the log of their steps.
-use Rattle.std.specs.Prelude.{◌≡◌, ◌<◌, ◌≤◌, ℕ, ◌==◌, ◌&&◌, Bool, false, List, [], ◌∷◌, ◌++◌, length, position, slice_get, Some, if◌then◌else◌, Contains}
+use Rattle.std.specs.Prelude.{◌≡◌, ◌<◌, ◌≤◌, ℕ, ◌+◌, ◌==◌, ◌&&◌, Bool, false, List, [], ◌∷◌, ◌++◌, length, position, slice_get, Some, if◌then◌else◌, Contains}
 use Rattle.std.specs.List.{list_any, IsDistinct}
 use Rattle.std.specs.Option.{option_map_or}
+use Rattle.cil_specs.specs.Rule.{kind_index}
+use Rattle.cil_text.specs.Image.{rule_kind_of}
+use Rattle.cil_text.specs.declared.statement.RuleKind.{RuleKind}
 use Rattle.cil_lines.specs.Line.{hit}
 use Rattle.cil_recorded.specs.Recorded as recorded
 use Rattle.cil_recorded.specs.Log.{falls, has_line}
@@ -14,9 +17,13 @@ pub record Keyed : Type 0 where
   pub keys : List SymbolKey
   pub lines : State
 
+-- whether two kinds of rules are the same
+abbrev pub is_kind : RuleKind → RuleKind → Bool
+is_kind kind other = kind_index (rule_kind_of kind) == kind_index (rule_kind_of other)
+
 -- whether two keys are the same
 abbrev pub is_key : SymbolKey → SymbolKey → Bool
-is_key key other = (key.source == other.source) && (key.class == other.class && key.permission == other.permission)
+is_key key other = is_kind key.kind other.kind && ((key.source == other.source) && (key.class == other.class && key.permission == other.permission))
 
 -- the keys with one that stands last if it is new
 abbrev pub with_key : List SymbolKey → SymbolKey → List SymbolKey
@@ -93,3 +100,15 @@ AreAmong keys others = (key : SymbolKey) → Contains keys key → Contains othe
 -- each line has a counter above 0
 abbrev pub AllCounted : Keyed → Type 0
 AllCounted k = (i : ℕ) → i < length k.keys → (t : ℕ) × (0 < now_at k i t)
+
+-- no counter rises by more than this
+abbrev pub RiseAtMost : Keyed → Keyed → (SymbolKey → ℕ → ℕ) → Type 0
+RiseAtMost old new most = (key : SymbolKey) (t : ℕ) → count_now new key t ≤ count_now old key t + most key t
+
+-- no counter rises
+abbrev pub NoneRises : Keyed → Keyed → Type 0
+NoneRises old new = (key : SymbolKey) (t : ℕ) → count_now new key t ≤ count_now old key t
+
+-- each counter as it was before the steps is what it was then, too
+abbrev pub StaysBefore : Keyed → Keyed → Type 0
+StaysBefore old new = (key : SymbolKey) (t : ℕ) → count_before new key t ≡ count_before old key t

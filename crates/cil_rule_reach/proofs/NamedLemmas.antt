@@ -7,12 +7,13 @@ use Rattle.std.proofs.lemmas.List.{length-map}
 use Rattle.std.proofs.lemmas.Option.{slice_get_within, get_or_from_slice_get, slice_get-get_or}
 use Rattle.std.proofs.lemmas.Slice.Eq.{bytes_eq-Decides}
 use Rattle.cil_bind.proofs.DeclareLemmas.{same-bool}
-use Rattle.cil_specs.specs.Meaning.{aims, covers, holds, keeps_type}
+use Rattle.cil_specs.specs.Meaning.{aims, gives, holds, keeps_type}
 use Rattle.cil_specs.specs.Members.{is_member, keeps_element}
 use Rattle.cil_specs.specs.Rule as spec
 use Rattle.cil_parse.specs.Lexicon.{AreNumbersOf}
 use Rattle.cil_expression.specs.declared.expression.Element.{Element}
 use Rattle.cil_expression.specs.declared.expression.Element.TheVariants.{«Type», Attribute}
+use Rattle.cil_keyed_lines.specs.Keyed.{is_kind}
 use Rattle.cil_keyed_lines.specs.declared.symbol_key.SymbolKey.{SymbolKey}
 use Rattle.cil_resolve.specs.Below.{is_element_below, is_rule_below, is_target_below}
 use Rattle.cil_resolve.specs.Consistent.{is_aim_of, is_element_of, is_rule_of}
@@ -24,7 +25,7 @@ use Rattle.cil_resolve.specs.declared.numbered.ResolvedTarget.{ResolvedTarget}
 use Rattle.cil_resolve.specs.declared.numbered.ResolvedTarget.TheVariants as targets
 use Rattle.cil_resolve.specs.declared.resolved.Resolved.{Resolved}
 use Rattle.cil_sets.proofs.HeldLemmas.{element-kept}
-use Rattle.cil_rule_reach.specs.Named.{is_named, name_at, AreMembersOf}
+use Rattle.cil_rule_reach.specs.Named.{atom_of, is_named, name_at, AreMembersOf}
 use Rattle.cil_rule_reach.specs.Reaches.{aims_by, covers_by, has_by}
 
 and-first : (a b : Bool) → (a && b) ≡ true → a ≡ true
@@ -159,14 +160,15 @@ module _ {A : Type 0} (r : Resolved A) (all : List (List ℕ)) (symbols : List �
         let low = ltb-true q count (and-first (nat_lt q count) (list_all (λ k. nat_lt k count) ps) below) in
         ap (λ b. b || list_any (λ k. p == slice_index symbols k) ps) (eqb-turned p (slice_index symbols q) ∙ no-symbol q p low past) ∙ listed-none p ps past (and-second (nat_lt q count) (list_all (λ k. nat_lt k count) ps) below)
 
-    -- what a rule covers by symbols, it covers by names
+    -- what a rule gives by symbols, it gives by names
     pub covers-named : (rule : NumberedRule A) (key : SymbolKey) (t : ℕ) → is_rule_below count rule ≡ true
         → is_rule_of (meaning_in r).types (meaning_in r).attributes (meaning_in r).classes (rule_of r.modules.items r.names.items rule) ≡ true
         → is_named all key t ≡ true
-        → covers_by members symbols rule key t ≡ covers (meaning_in r) (rule_of r.modules.items r.names.items rule) (name_at all key.source) (name_at all t) (name_at all key.class) (name_at all key.permission)
+        → covers_by members symbols rule key t ≡ gives (meaning_in r) (rule_of r.modules.items r.names.items rule) (atom_of all key t)
     unfolding covers_by
     covers-named rule key t below declared named =
-        ap (λ b. (b && aims_by members symbols rule.target key.source t) && ((slice_index symbols rule.class == key.class) && list_any (λ p. key.permission == slice_index symbols p) rule.permissions))
+        ap (λ b. is_kind rule.kind key.kind && b)
+        (ap (λ b. (b && aims_by members symbols rule.target key.source t) && ((slice_index symbols rule.class == key.class) && list_any (λ p. key.permission == slice_index symbols p) rule.permissions))
         (has-named rule.source key.source bound.source (element-kept (meaning_in r) whole.source source_declared) source_within)
         ∙ ap (λ b. (holds (meaning_in r) whole.source (name_at all key.source) && b) && ((slice_index symbols rule.class == key.class) && list_any (λ p. key.permission == slice_index symbols p) rule.permissions))
         (aims-named rule.target key.source t bound.target target_declared source_within target_within)
@@ -174,7 +176,7 @@ module _ {A : Type 0} (r : Resolved A) (all : List (List ℕ)) (symbols : List �
         (same-symbol rule.class key.class bound.class class_within)
         ∙ ap (λ b. (holds (meaning_in r) whole.source (name_at all key.source) && aims (meaning_in r) whole.target (name_at all key.source) (name_at all t)) && (bytes_eq whole.the_class (name_at all key.class) && b))
         (listed-named key.permission rule.permissions permission_within bound.permissions)
-        ∙ and-again (holds (meaning_in r) whole.source (name_at all key.source)) (aims (meaning_in r) whole.target (name_at all key.source) (name_at all t)) _
+        ∙ and-again (holds (meaning_in r) whole.source (name_at all key.source)) (aims (meaning_in r) whole.target (name_at all key.source) (name_at all t)) _)
       where
         whole : spec.Rule
         whole = rule_of r.modules.items r.names.items rule
@@ -206,11 +208,12 @@ module _ {A : Type 0} (r : Resolved A) (all : List (List ℕ)) (symbols : List �
         permission_within : key.permission < length all
         permission_within = ltb-true key.permission (length all) (and-second (nat_lt key.class (length all)) (nat_lt key.permission (length all)) others)
 
-    -- and it covers nothing by symbols that are those of no names
+    -- and it gives nothing by symbols that are those of no names
     pub covers-none : (rule : NumberedRule A) (key : SymbolKey) (t : ℕ) → is_rule_below count rule ≡ true → is_named all key t ≡ false → covers_by members symbols rule key t ≡ false
     unfolding covers_by
     covers-none rule key t below unnamed =
-        elim (cases_lt key.source (length all)) [
+        ap (λ b. is_kind rule.kind key.kind && b)
+        (elim (cases_lt key.source (length all)) [
           | inr past ↦ ap (λ b. (b && aims_by members symbols rule.target key.source t) && ((slice_index symbols rule.class == key.class) && list_any (λ p. key.permission == slice_index symbols p) rule.permissions)) (has-none rule.source key.source bound.source past)
           | inl source_low ↦ elim (cases_lt t (length all)) [
             | inr past ↦
@@ -229,7 +232,7 @@ module _ {A : Type 0} (r : Resolved A) (all : List (List ℕ)) (symbols : List �
               ]
             ]
           ]
-        ]
+        ]) ∙ and-false (is_kind rule.kind key.kind)
       where
         bound : IsBelow r rule
         bound = is-below r rule below

@@ -4,7 +4,6 @@ use Rattle.cil_specs.specs.Meaning.{Meaning}
 use Rattle.cil_specs.specs.Members.{is_member}
 use Rattle.cil_specs.specs.Rule.{Atom}
 use Rattle.cil_text.specs.Image.{rule_kind_of}
-use Rattle.cil_text.specs.declared.statement.RuleKind.{RuleKind}
 use Rattle.cil_keyed_lines.specs.declared.symbol_key.SymbolKey.{SymbolKey}
 
 -- the name of a symbol
@@ -16,9 +15,9 @@ abbrev pub is_named : List (List ℕ) → SymbolKey → ℕ → Bool
 is_named names key t = (nat_lt key.source (length names) && nat_lt t (length names)) && (nat_lt key.class (length names) && nat_lt key.permission (length names))
 
 -- the access whose names have these symbols
-abbrev pub atom_of : List (List ℕ) → RuleKind → SymbolKey → ℕ → Atom
-atom_of names kind key t = record {
-  kind = rule_kind_of kind;
+abbrev pub atom_of : List (List ℕ) → SymbolKey → ℕ → Atom
+atom_of names key t = record {
+  kind = rule_kind_of key.kind;
   source = name_at names key.source;
   target = name_at names t;
   the_class = name_at names key.class;

@@ -3,6 +3,7 @@ use Rattle.std.specs.Prelude.{◌==◌, ◌&&◌, ℕ, Bool, List, nat_lt, slice
 use Rattle.std.specs.List.{list_any}
 use Rattle.cil_expression.specs.declared.expression.Element.{Element}
 use Rattle.cil_expression.specs.declared.expression.Element.TheVariants.{«Type», Attribute}
+use Rattle.cil_keyed_lines.specs.Keyed.{is_kind}
 use Rattle.cil_keyed_lines.specs.declared.symbol_key.SymbolKey.{SymbolKey}
 use Rattle.cil_recorded.specs.Recorded.{State}
 use Rattle.cil_member_rows.specs.Rows.{count_before, count_now}
@@ -31,7 +32,8 @@ abbrev pub aims_by : (ℕ → ℕ → ℕ) → List ℕ → ResolvedTarget → �
 aims_by members symbols aims.Itself s t = s == t
 aims_by members symbols (aims.Element element) s t = has_by members symbols element t
 
--- whether a rule covers an access, by the symbols of its names
+-- whether a rule gives an access, by its kind and the symbols of its names
 unfoldable pub covers_by : {A : Type 0} → (ℕ → ℕ → ℕ) → List ℕ → NumberedRule A → SymbolKey → ℕ → Bool
-covers_by members symbols rule key t = (has_by members symbols rule.source key.source && aims_by members symbols rule.target key.source t)
-    && ((slice_index symbols rule.class == key.class) && list_any (λ p. key.permission == slice_index symbols p) rule.permissions)
+covers_by members symbols rule key t = is_kind rule.kind key.kind
+    && ((has_by members symbols rule.source key.source && aims_by members symbols rule.target key.source t)
+    && ((slice_index symbols rule.class == key.class) && list_any (λ p. key.permission == slice_index symbols p) rule.permissions))

@@ -11,11 +11,12 @@ use Rattle.cil_keyed_lines.specs.Keyed.{is_key}
 use Rattle.cil_keyed_lines.specs.declared.symbol_key.SymbolKey.{SymbolKey}
 use Rattle.cil_keyed_lines.proofs.KeyedLemmas.{key_itself, one_key}
 use Rattle.cil_rule_shifts.specs.Moves.{differs, has_either, has_word, moves_for, moves_in, moves_of, moves_where, turns, AreSame, AreTurned}
-use Rattle.cil_rule_shifts.specs.Reach.{gives, has_permission, has_source, is_line, one_if, reaches, takes, IsNext, NoneFrom}
+use Rattle.cil_rule_shifts.specs.Reach.{gives, has_head, has_source, is_line, one_if, reaches, takes, IsNext, NoneFrom}
+use Rattle.cil_rule_shifts.specs.declared.head.RuleHead.{RuleHead}
 use Rattle.cil_rule_shifts.specs.declared.reach.Reach.{Reach}
 use Rattle.cil_rule_shifts.specs.declared.targets.Targets.{Targets}
 use Rattle.cil_rule_shifts.proofs.ReachLemmas.{no-first, no-second}
-use Rattle.cil_rule_shifts.proofs.ShiftLemmas.{line-more, same-either-way, source-all, source-gives, source-more}
+use Rattle.cil_rule_shifts.proofs.ShiftLemmas.{first, head-more, line-more, of_head, same-either-way, source-all, source-gives, source-more}
 use Rattle.cil_sums.specs.Rises.{RisesBy}
 use Rattle.cil_sums.proofs.RiseLemmas.{rises-bits, rises-map, rises-more, rises-none, rises-same, same-from_counts}
 
@@ -140,41 +141,41 @@ module _ {A : Type 0} (key : SymbolKey) (was is : Targets A) (words : List ℕ) 
       by true true w v rest moved = moved
       by true false w v rest moved = let same = ap one_if (differs-same w v (rest refl)) in omega (arith, moved, same)
 
-module _ {A : Type 0} (source class : ℕ) (permissions : List ℕ) (rising : IsStrictlyIncreasing permissions) (was is : Targets A) (i count : ℕ) where
+module _ {A : Type 0} (source : ℕ) (head : RuleHead) (rising : IsStrictlyIncreasing head.permissions.now) (was is : Targets A) (i count : ℕ) where
   -- one permission more
-  pub lines-step : (here after : ℕ) → i < length permissions → RisesBy (moves_for source class (take i permissions) was is) 0 count
-      → RisesBy (moves_in (record { source = source; class = class; permission = get_or permissions i 0 }) was is) 0 here → after ≡ min (count + here) (2 ^ 128 - 1)
-      → RisesBy (moves_for source class (take (i + 1) permissions) was is) 0 after
+  pub lines-step : (here after : ℕ) → i < length head.permissions.now → RisesBy (moves_for source (first i head) was is) 0 count
+      → RisesBy (moves_in (of_head source head (get_or head.permissions.now i 0)) was is) 0 here → after ≡ min (count + here) (2 ^ 128 - 1)
+      → RisesBy (moves_for source (first (i + 1) head) was is) 0 after
   lines-step here after within =
-      rises-more (moves_for source class (take i permissions) was is) (moves_in (record { source = source; class = class; permission = get_or permissions i 0 }) was is) (moves_for source class (take (i + 1) permissions) was is)
-      (λ p. line-more permissions rising i (get_or permissions i 0) within refl (source == p.0.source) (class == p.0.class) (turns was is source p.1) p.0.permission) 0 count here after
+      rises-more (moves_for source (first i head) was is) (moves_in (of_head source head (get_or head.permissions.now i 0)) was is) (moves_for source (first (i + 1) head) was is)
+      (λ p. head-more source head rising i (get_or head.permissions.now i 0) within refl p.0 (turns was is source p.1)) 0 count here after
 
 -- a rule gives nothing to what is no source of it
-pub gives-none : {A : Type 0} (reach : Reach A) (class : ℕ) (permissions : List ℕ) (p : SymbolKey × ℕ) → has_source reach p.0.source ≡ false → gives reach class permissions p.0 p.1 ≡ false
-gives-none reach class permissions p none = ap (λ b. (b && takes reach.targets p.0.source p.1) && ((class == p.0.class) && has_permission permissions p.0.permission)) none
+pub gives-none : {A : Type 0} (reach : Reach A) (head : RuleHead) (p : SymbolKey × ℕ) → has_source reach p.0.source ≡ false → gives reach head p.0 p.1 ≡ false
+gives-none reach head p none = ap (λ b. (b && takes reach.targets p.0.source p.1) && has_head head p.0) none
 
 -- the counters that move in the lines of the sources below one
-abbrev pub moves_up_to : {A : Type 0} → Reach A → Reach A → ℕ → List ℕ → ℕ → SymbolKey × ℕ → Bool
-moves_up_to was is class permissions from p = nat_lt p.0.source from && moves_where was is class permissions p
+abbrev pub moves_up_to : {A : Type 0} → Reach A → Reach A → RuleHead → ℕ → SymbolKey × ℕ → Bool
+moves_up_to was is head from p = nat_lt p.0.source from && moves_where was is head p
 
-pub source-first : {A : Type 0} (was is : Reach A) (class : ℕ) (permissions : List ℕ) → RisesBy (moves_up_to was is class permissions 0) 0 0
-source-first was is class permissions = rises-none (moves_up_to was is class permissions 0) 0 (λ p. ap (λ b. b && moves_where was is class permissions p) (le-ltb p.0.source 0 (omega arith)))
+pub source-first : {A : Type 0} (was is : Reach A) (head : RuleHead) → RisesBy (moves_up_to was is head 0) 0 0
+source-first was is head = rises-none (moves_up_to was is head 0) 0 (λ p. ap (λ b. b && moves_where was is head p) (le-ltb p.0.source 0 (omega arith)))
 
 -- the lines of a source with the targets that a rule had and has for it
-pub source-moves : {A : Type 0} (was is : Reach A) (gone come : Targets A) (source class : ℕ) (permissions : List ℕ) → ((t : ℕ) → takes gone source t ≡ reaches was source t) → ((t : ℕ) → takes come source t ≡ reaches is source t)
-    → (n : ℕ) → RisesBy (moves_for source class permissions gone come) 0 n → RisesBy (moves_of source was is class permissions) 0 n
-source-moves was is gone come source class permissions first second n =
-    rises-same (moves_for source class permissions gone come) (moves_of source was is class permissions) 0 n
-    (λ p. within (is_line source class permissions p.0) (takes gone source p.1) (takes come source p.1) ∙ ap (λ b. differs b (is_line source class permissions p.0 && takes come source p.1)) (source-gives was gone source class permissions p.0 p.1 (first p.1))
-    ∙ ap (differs ((source == p.0.source) && gives was class permissions p.0 p.1)) (source-gives is come source class permissions p.0 p.1 (second p.1)) ∙ sym (within (source == p.0.source) (gives was class permissions p.0 p.1) (gives is class permissions p.0 p.1)))
+pub source-moves : {A : Type 0} (was is : Reach A) (gone come : Targets A) (source : ℕ) (head : RuleHead) → ((t : ℕ) → takes gone source t ≡ reaches was source t) → ((t : ℕ) → takes come source t ≡ reaches is source t)
+    → (n : ℕ) → RisesBy (moves_for source head gone come) 0 n → RisesBy (moves_of source was is head) 0 n
+source-moves was is gone come source head first second n =
+    rises-same (moves_for source head gone come) (moves_of source was is head) 0 n
+    (λ p. within (is_line source head p.0) (takes gone source p.1) (takes come source p.1) ∙ ap (λ b. differs b (is_line source head p.0 && takes come source p.1)) (source-gives was gone source head p.0 p.1 (first p.1))
+    ∙ ap (differs ((source == p.0.source) && gives was head p.0 p.1)) (source-gives is come source head p.0 p.1 (second p.1)) ∙ sym (within (source == p.0.source) (gives was head p.0 p.1) (gives is head p.0 p.1)))
   where
     within : (b x y : Bool) → (b && differs x y) ≡ differs (b && x) (b && y)
     within true x y = refl
     within false x y = refl
 
-module _ {A : Type 0} (all : Bool) (was is : Reach A) (class : ℕ) (permissions : List ℕ) (same : all ≡ false → AreSame was.targets is.targets) where
+module _ {A : Type 0} (all : Bool) (was is : Reach A) (head : RuleHead) (same : all ≡ false → AreSame was.targets is.targets) where
   -- what is no source of either, or, where the targets stayed, one of both, has the same as before
-  pub idle : (p : SymbolKey × ℕ) → has_either all was is p.0.source ≡ false → moves_where was is class permissions p ≡ false
+  pub idle : (p : SymbolKey × ℕ) → has_either all was is p.0.source ≡ false → moves_where was is head p ≡ false
   idle p = by all same
     where
       itself : (b : Bool) → differs b b ≡ false
@@ -186,25 +187,25 @@ module _ {A : Type 0} (all : Bool) (was is : Reach A) (class : ℕ) (permissions
           ap (λ x. differs ((a && t) && c) ((x && u) && c)) (sym (differs-same a b sources)) ∙ ap (λ x. differs ((a && t) && c) ((a && x) && c)) (sym (differs-same t u targets))
           ∙ itself ((a && t) && c)
 
-      by : (all : Bool) → (all ≡ false → AreSame was.targets is.targets) → has_either all was is p.0.source ≡ false → moves_where was is class permissions p ≡ false
-      by true same none = differs-none (gives was class permissions p.0 p.1) (gives is class permissions p.0 p.1) (gives-none was class permissions p (no-first _ _ none)) (gives-none is class permissions p (no-second _ _ none))
+      by : (all : Bool) → (all ≡ false → AreSame was.targets is.targets) → has_either all was is p.0.source ≡ false → moves_where was is head p ≡ false
+      by true same none = differs-none (gives was head p.0 p.1) (gives is head p.0 p.1) (gives-none was head p (no-first _ _ none)) (gives-none is head p (no-second _ _ none))
       by false same none =
-          stayed (has_source was p.0.source) (has_source is p.0.source) (takes was.targets p.0.source p.1) (takes is.targets p.0.source p.1) ((class == p.0.class) && has_permission permissions p.0.permission) none
+          stayed (has_source was p.0.source) (has_source is p.0.source) (takes was.targets p.0.source p.1) (takes is.targets p.0.source p.1) (has_head head p.0) none
           (same refl p.0.source p.1)
 
-  pub same-given : (k : SymbolKey) (t : ℕ) → has_either all was is k.source ≡ false → gives was class permissions k t ≡ gives is class permissions k t
-  same-given k t none = differs-same (gives was class permissions k t) (gives is class permissions k t) (idle (k, t) none)
+  pub same-given : (k : SymbolKey) (t : ℕ) → has_either all was is k.source ≡ false → gives was head k t ≡ gives is head k t
+  same-given k t none = differs-same (gives was head k t) (gives is head k t) (idle (k, t) none)
 
-  module _ (from count : ℕ) (moved : RisesBy (moves_up_to was is class permissions from) 0 count) where
+  module _ (from count : ℕ) (moved : RisesBy (moves_up_to was is head from) 0 count) where
     -- one source more
-    pub source-step : (source here after : ℕ) → IsNext (has_either all was is) from source → RisesBy (moves_of source was is class permissions) 0 here → after ≡ min (count + here) (2 ^ 128 - 1)
-        → RisesBy (moves_up_to was is class permissions (source + 1)) 0 after
+    pub source-step : (source here after : ℕ) → IsNext (has_either all was is) from source → RisesBy (moves_of source was is head) 0 here → after ≡ min (count + here) (2 ^ 128 - 1)
+        → RisesBy (moves_up_to was is head (source + 1)) 0 after
     source-step source here after next =
-        rises-more (moves_up_to was is class permissions from) (moves_of source was is class permissions) (moves_up_to was is class permissions (source + 1))
-        (λ p. source-more from source p.0.source (moves_where was is class permissions p) next.from_on (λ low high. idle p (next.first p.0.source low high))) 0 count here after moved
+        rises-more (moves_up_to was is head from) (moves_of source was is head) (moves_up_to was is head (source + 1))
+        (λ p. source-more from source p.0.source (moves_where was is head p) next.from_on (λ low high. idle p (next.first p.0.source low high))) 0 count here after moved
 
     -- no source follows
-    pub source-done : NoneFrom (has_either all was is) from → RisesBy (moves_where was is class permissions) 0 count
+    pub source-done : NoneFrom (has_either all was is) from → RisesBy (moves_where was is head) 0 count
     source-done none =
-        rises-same (moves_up_to was is class permissions from) (moves_where was is class permissions) 0 count
-        (λ p. same-from_counts (moves_up_to was is class permissions from p) (moves_where was is class permissions p) (source-all from p.0.source (moves_where was is class permissions p) (λ past. idle p (none p.0.source past)))) moved
+        rises-same (moves_up_to was is head from) (moves_where was is head) 0 count
+        (λ p. same-from_counts (moves_up_to was is head from p) (moves_where was is head p) (source-all from p.0.source (moves_where was is head p) (λ past. idle p (none p.0.source past)))) moved

@@ -12,12 +12,13 @@ use Rattle.cil_keyed_lines.specs.declared.symbol_key.SymbolKey.{SymbolKey}
 use Rattle.cil_rule_shifts.specs.Moves.{has_either}
 use Rattle.cil_rule_shifts.specs.Pieces.{has_target, hits_of, put_for, put_in, AreApart}
 use Rattle.cil_rule_shifts.specs.Reach.{gives, has_source, is_line, one_if, takes, AreShort, IsNext, IsNextWord, NoneFrom, NoneFromWord}
+use Rattle.cil_rule_shifts.specs.declared.head.RuleHead.{RuleHead}
 use Rattle.cil_rule_shifts.specs.declared.pieces.Piece.{Piece}
 use Rattle.cil_rule_shifts.specs.declared.reach.Reach.{Reach}
 use Rattle.cil_rule_shifts.specs.declared.targets.Targets.{Targets}
 use Rattle.cil_rule_shifts.proofs.MoveLemmas.{gives-none, word-count}
 use Rattle.cil_rule_shifts.proofs.ReachLemmas.{no-second}
-use Rattle.cil_rule_shifts.proofs.ShiftLemmas.{line-more, same-either-way, source-all, source-gives, source-more}
+use Rattle.cil_rule_shifts.proofs.ShiftLemmas.{first, head-more, of_head, same-either-way, source-all, source-gives, source-more}
 use Rattle.cil_sums.specs.Rises.{RisesBy}
 use Rattle.cil_sums.proofs.RiseLemmas.{rises-more, rises-none, rises-same, same-from_counts}
 
@@ -138,58 +139,58 @@ short-word targets source from word short fits next =
     ]
 
 -- one permission more
-pub put-step : (source class : ℕ) (permissions : List ℕ) (pieces : List Piece) (i count here after : ℕ) → IsStrictlyIncreasing permissions → i < length permissions
-    → RisesBy (put_for source class (take i permissions) pieces) 0 count → RisesBy (put_in (record { source = source; class = class; permission = get_or permissions i 0 }) pieces) 0 here
-    → after ≡ min (count + here) (2 ^ 128 - 1) → RisesBy (put_for source class (take (i + 1) permissions) pieces) 0 after
-put-step source class permissions pieces i count here after rising within =
-    rises-more (put_for source class (take i permissions) pieces) (put_in (record { source = source; class = class; permission = get_or permissions i 0 }) pieces) (put_for source class (take (i + 1) permissions) pieces)
-    (λ p. line-more permissions rising i (get_or permissions i 0) within refl (source == p.0.source) (class == p.0.class) (has_target pieces p.1) p.0.permission) 0 count here after
+pub put-step : (source : ℕ) (head : RuleHead) (pieces : List Piece) (i count here after : ℕ) → IsStrictlyIncreasing head.permissions.now → i < length head.permissions.now
+    → RisesBy (put_for source (first i head) pieces) 0 count → RisesBy (put_in (of_head source head (get_or head.permissions.now i 0)) pieces) 0 here
+    → after ≡ min (count + here) (2 ^ 128 - 1) → RisesBy (put_for source (first (i + 1) head) pieces) 0 after
+put-step source head pieces i count here after rising within =
+    rises-more (put_for source (first i head) pieces) (put_in (of_head source head (get_or head.permissions.now i 0)) pieces) (put_for source (first (i + 1) head) pieces)
+    (λ p. head-more source head rising i (get_or head.permissions.now i 0) within refl p.0 (has_target pieces p.1)) 0 count here after
 
 -- the accesses of the sources below one
-abbrev pub put_up_to : {A : Type 0} → Reach A → ℕ → List ℕ → ℕ → SymbolKey × ℕ → Bool
-put_up_to reach class permissions from p = nat_lt p.0.source from && gives reach class permissions p.0 p.1
+abbrev pub put_up_to : {A : Type 0} → Reach A → RuleHead → ℕ → SymbolKey × ℕ → Bool
+put_up_to reach head from p = nat_lt p.0.source from && gives reach head p.0 p.1
 
-pub put-first : {A : Type 0} (reach : Reach A) (class : ℕ) (permissions : List ℕ) (p : SymbolKey × ℕ) → put_up_to reach class permissions 0 p ≡ false
-put-first reach class permissions p = ap (λ b. b && gives reach class permissions p.0 p.1) (le-ltb p.0.source 0 (omega arith))
+pub put-first : {A : Type 0} (reach : Reach A) (head : RuleHead) (p : SymbolKey × ℕ) → put_up_to reach head 0 p ≡ false
+put-first reach head p = ap (λ b. b && gives reach head p.0 p.1) (le-ltb p.0.source 0 (omega arith))
 
 -- some accesses are no more than all
 pub front-within : (b g : Bool) → one_if (b && g) ≤ one_if g
 front-within true g = omega arith
 front-within false g = omega arith
 
-module _ {A : Type 0} (none reach : Reach A) (class : ℕ) (permissions : List ℕ) where
+module _ {A : Type 0} (none reach : Reach A) (head : RuleHead) where
   -- a rule gives nothing to what is no source of it
-  idle : (k : SymbolKey) (t : ℕ) → has_either true none reach k.source ≡ false → gives reach class permissions k t ≡ false
-  idle k t neither = gives-none reach class permissions (k, t) (no-second _ _ neither)
+  idle : (k : SymbolKey) (t : ℕ) → has_either true none reach k.source ≡ false → gives reach head k t ≡ false
+  idle k t neither = gives-none reach head (k, t) (no-second _ _ neither)
 
   -- no source follows
-  pub put-all : (from : ℕ) → NoneFrom (has_either true none reach) from → (k : SymbolKey) (t : ℕ) → one_if (put_up_to reach class permissions from (k, t)) ≡ one_if (gives reach class permissions k t)
-  put-all from past k t = source-all from k.source (gives reach class permissions k t) (λ behind. idle k t (past k.source behind))
+  pub put-all : (from : ℕ) → NoneFrom (has_either true none reach) from → (k : SymbolKey) (t : ℕ) → one_if (put_up_to reach head from (k, t)) ≡ one_if (gives reach head k t)
+  put-all from past k t = source-all from k.source (gives reach head k t) (λ behind. idle k t (past k.source behind))
 
-  pub sources-done : (from count : ℕ) → NoneFrom (has_either true none reach) from → RisesBy (put_up_to reach class permissions from) 0 count → RisesBy (λ (p : SymbolKey × ℕ). gives reach class permissions p.0 p.1) 0 count
+  pub sources-done : (from count : ℕ) → NoneFrom (has_either true none reach) from → RisesBy (put_up_to reach head from) 0 count → RisesBy (λ (p : SymbolKey × ℕ). gives reach head p.0 p.1) 0 count
   sources-done from count past =
-      rises-same (put_up_to reach class permissions from) (λ (p : SymbolKey × ℕ). gives reach class permissions p.0 p.1) 0 count
-      (λ p. same-from_counts (put_up_to reach class permissions from p) (gives reach class permissions p.0 p.1) (put-all from past p.0 p.1))
+      rises-same (put_up_to reach head from) (λ (p : SymbolKey × ℕ). gives reach head p.0 p.1) 0 count
+      (λ p. same-from_counts (put_up_to reach head from p) (gives reach head p.0 p.1) (put-all from past p.0 p.1))
 
   module _ (from source : ℕ) (pieces : List Piece) (nowhere : (s : ℕ) → has_source none s ≡ false) (next : IsNext (has_either true none reach) from source) (targets : (t : ℕ) → has_target pieces t ≡ takes reach.targets source t) where
     is_source : has_source reach source ≡ true
     is_source = ap (λ b. b || has_source reach source) (sym (nowhere source)) ∙ next.holds
 
     -- the accesses of the next source are those of its lines
-    of-source : (k : SymbolKey) (t : ℕ) → (is_line source class permissions k && has_target pieces t) ≡ ((source == k.source) && gives reach class permissions k t)
+    of-source : (k : SymbolKey) (t : ℕ) → (is_line source head k && has_target pieces t) ≡ ((source == k.source) && gives reach head k t)
     of-source k t =
-        ap (λ b. is_line source class permissions k && b) (targets t)
-        ∙ source-gives reach reach.targets source class permissions k t (ap (λ b. b && takes reach.targets source t) (sym is_source))
+        ap (λ b. is_line source head k && b) (targets t)
+        ∙ source-gives reach reach.targets source head k t (ap (λ b. b && takes reach.targets source t) (sym is_source))
 
-    pub source-put : (k : SymbolKey) (t : ℕ) → one_if (put_up_to reach class permissions from (k, t)) + one_if (is_line source class permissions k && has_target pieces t) ≡ one_if (put_up_to reach class permissions (source + 1) (k, t))
+    pub source-put : (k : SymbolKey) (t : ℕ) → one_if (put_up_to reach head from (k, t)) + one_if (is_line source head k && has_target pieces t) ≡ one_if (put_up_to reach head (source + 1) (k, t))
     source-put k t =
-        ap (λ b. one_if (put_up_to reach class permissions from (k, t)) + one_if b) (of-source k t)
-        ∙ source-more from source k.source (gives reach class permissions k t) next.from_on (λ low high. idle k t (next.first k.source low high))
+        ap (λ b. one_if (put_up_to reach head from (k, t)) + one_if b) (of-source k t)
+        ∙ source-more from source k.source (gives reach head k t) next.from_on (λ low high. idle k t (next.first k.source low high))
 
-    pub source-within : (k : SymbolKey) (t : ℕ) → one_if (put_up_to reach class permissions from (k, t)) + one_if (is_line source class permissions k && has_target pieces t) ≤ one_if (gives reach class permissions k t)
-    source-within k t = subst (λ n. n ≤ one_if (gives reach class permissions k t)) (sym (source-put k t)) (front-within (nat_lt k.source (source + 1)) (gives reach class permissions k t))
+    pub source-within : (k : SymbolKey) (t : ℕ) → one_if (put_up_to reach head from (k, t)) + one_if (is_line source head k && has_target pieces t) ≤ one_if (gives reach head k t)
+    source-within k t = subst (λ n. n ≤ one_if (gives reach head k t)) (sym (source-put k t)) (front-within (nat_lt k.source (source + 1)) (gives reach head k t))
 
     -- one source more
-    pub sources-step : (count here after : ℕ) → RisesBy (put_up_to reach class permissions from) 0 count → RisesBy (put_for source class permissions pieces) 0 here → after ≡ min (count + here) (2 ^ 128 - 1)
-        → RisesBy (put_up_to reach class permissions (source + 1)) 0 after
-    sources-step = rises-more (put_up_to reach class permissions from) (put_for source class permissions pieces) (put_up_to reach class permissions (source + 1)) (λ p. source-put p.0 p.1) 0
+    pub sources-step : (count here after : ℕ) → RisesBy (put_up_to reach head from) 0 count → RisesBy (put_for source head pieces) 0 here → after ≡ min (count + here) (2 ^ 128 - 1)
+        → RisesBy (put_up_to reach head (source + 1)) 0 after
+    sources-step = rises-more (put_up_to reach head from) (put_for source head pieces) (put_up_to reach head (source + 1)) (λ p. source-put p.0 p.1) 0

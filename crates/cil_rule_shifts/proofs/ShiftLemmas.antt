@@ -8,10 +8,12 @@ use Rattle.std.proofs.lemmas.List.Kept.{AllPairs-from_increasing}
 use Rattle.std.proofs.lemmas.Nat.Bits.{bit_at_and}
 use Rattle.cil_lines.specs.Line.{hit}
 use Rattle.cil_lines.proofs.StepLemmas.{hit-here, hit-there}
-use Rattle.cil_keyed_lines.specs.Keyed.{hit_of, is_key}
+use Rattle.cil_keyed_lines.specs.Keyed.{hit_of, is_key, is_kind}
 use Rattle.cil_keyed_lines.specs.declared.symbol_key.SymbolKey.{SymbolKey}
+use Rattle.cil_keyed_lines.proofs.KeyedLemmas.{kind_itself}
 use Rattle.cil_rule_shifts.specs.Moves.{differs, has_either, has_word}
-use Rattle.cil_rule_shifts.specs.Reach.{gives, has_permission, has_source, is_line, one_if, takes, IsNext, IsShort}
+use Rattle.cil_rule_shifts.specs.Reach.{gives, has_head, has_permission, has_source, is_line, one_if, takes, IsNext, IsShort}
+use Rattle.cil_rule_shifts.specs.declared.head.RuleHead.{RuleHead}
 use Rattle.cil_rule_shifts.specs.declared.reach.Reach.{Reach}
 use Rattle.cil_rule_shifts.specs.declared.targets.Targets.{Targets}
 use Rattle.cil_rule_shifts.proofs.ReachLemmas.{and-no}
@@ -76,14 +78,14 @@ bounded xs rising (suc i) p within any =
 
 module _ (xs : List ℕ) (rising : IsStrictlyIncreasing xs) (i p : ℕ) (within : i < length xs) (at : get_or xs i 0 ≡ p) where
   -- the next one doesn't stand in the front
-  pub new-permission : has_permission (take i xs) p ≡ false
+  new-permission : has_permission (take i xs) p ≡ false
   new-permission = by (has_permission (take i xs) p) refl
     where
       by : (b : Bool) → has_permission (take i xs) p ≡ b → has_permission (take i xs) p ≡ false
       by true front = let low = bounded xs rising i p within front in absurd (omega (arith, low, at))
       by false front = front
 
-  pub has-next : has_permission xs p ≡ true
+  has-next : has_permission xs p ≡ true
   has-next = list_any_at (nat_eq p) xs i 0 within (ap (nat_eq p) at ∙ eq-eqb p p refl)
 
   more : (q : ℕ) → has_permission (take (i + 1) xs) q ≡ (has_permission (take i xs) q || (p == q))
@@ -124,7 +126,7 @@ module _ (xs : List ℕ) (rising : IsStrictlyIncreasing xs) (i p : ℕ) (within 
   line-more false c w q = refl
 
   -- are lines of the whole list
-  pub line-within : (s c w : Bool) (q : ℕ) → one_if ((s && (c && has_permission (take i xs) q)) && w) + one_if ((s && (c && (p == q))) && w) ≤ one_if ((s && (c && has_permission xs q)) && w)
+  line-within : (s c w : Bool) (q : ℕ) → one_if ((s && (c && has_permission (take i xs) q)) && w) + one_if ((s && (c && (p == q))) && w) ≤ one_if ((s && (c && has_permission xs q)) && w)
   line-within s c w q = let less = one-less (s && (c && has_permission (take (i + 1) xs) q)) (s && (c && has_permission xs q)) w (there s c) in omega (arith, line-more s c w q, less)
     where
       there : (s c : Bool) → (s && (c && has_permission (take (i + 1) xs) q)) ≡ true → (s && (c && has_permission xs q)) ≡ true
@@ -132,46 +134,91 @@ module _ (xs : List ℕ) (rising : IsStrictlyIncreasing xs) (i p : ℕ) (within 
       there true false front = front
       there false c front = front
 
-  module _ (source class : ℕ) where
-    abbrev key : SymbolKey
-    key = record { source = source; class = class; permission = p }
+-- ---- the head of a rule
 
-    here : is_line source class xs key ≡ true
-    here =
-        ap (λ b. b && ((class == class) && has_permission xs p)) (eq-eqb source source refl)
-        ∙ ap (λ b. b && has_permission xs p) (eq-eqb class class refl) ∙ has-next
+-- nothing is of no word, nor of no permission
+pub no-word : (b w : Bool) → ((b && false) && w) ≡ false
+no-word true w = refl
+no-word false w = refl
 
-    not-yet : is_line source class (take i xs) key ≡ false
-    not-yet =
-        ap (λ b. b && ((class == class) && has_permission (take i xs) p)) (eq-eqb source source refl)
-        ∙ ap (λ b. b && has_permission (take i xs) p) (eq-eqb class class refl) ∙ new-permission
+no-line : (s b c w : Bool) → ((s && (b && (c && false))) && w) ≡ false
+no-line true true true w = refl
+no-line true true false w = refl
+no-line true false c w = refl
+no-line false b c w = refl
 
-    -- what the line of the next permission had has counters
-    pub above-line : (now before : ℕ) (was is : Bool) → one_if (is_line source class xs key && was) ≤ before
-        → now + one_if (is_line source class (take i xs) key && was) ≡ before + one_if (is_line source class (take i xs) key && is) → one_if was ≤ now
-    above-line now before was is counted moved =
-        let no_was : one_if (is_line source class (take i xs) key && was) ≡ 0 = ap (λ b. one_if (b && was)) not-yet in
-        let no_is : one_if (is_line source class (take i xs) key && is) ≡ 0 = ap (λ b. one_if (b && is)) not-yet in
-        let all : one_if (is_line source class xs key && was) ≡ one_if was = ap (λ b. one_if (b && was)) here in
-        omega (arith, no_was, no_is, all, counted, moved)
+-- a head with the first permissions alone
+abbrev pub first : ℕ → RuleHead → RuleHead
+first i head = record head { permissions = record head.permissions { now = take i head.permissions.now } }
+
+-- the key of a source's line for a permission
+abbrev pub of_head : ℕ → RuleHead → ℕ → SymbolKey
+of_head source head p = record { kind = head.kind; source = source; class = head.class; permission = p }
+
+pub no-permission : (source : ℕ) (head : RuleHead) (k : SymbolKey) (w : Bool) → (is_line source (first 0 head) k && w) ≡ false
+no-permission source head k w = no-line (source == k.source) (is_kind head.kind k.kind) (head.class == k.class) w
+
+module _ (source : ℕ) (head : RuleHead) (rising : IsStrictlyIncreasing head.permissions.now) (i p : ℕ) (within : i < length head.permissions.now) (at : get_or head.permissions.now i 0 ≡ p) where
+  abbrev xs : List ℕ
+  xs = head.permissions.now
+
+  abbrev key : SymbolKey
+  key = of_head source head p
+
+  -- the lines of one more permission
+  pub head-more : (k : SymbolKey) (w : Bool) → one_if (is_line source (first i head) k && w) + one_if (is_key key k && w) ≡ one_if (is_line source (first (i + 1) head) k && w)
+  head-more k w = by (is_kind head.kind k.kind) (source == k.source)
+    where
+      by : (b s : Bool) → one_if ((s && (b && ((head.class == k.class) && has_permission (take i xs) k.permission))) && w) + one_if ((b && (s && ((head.class == k.class) && (p == k.permission)))) && w)
+          ≡ one_if ((s && (b && ((head.class == k.class) && has_permission (take (i + 1) xs) k.permission))) && w)
+      by true s = line-more xs rising i p within at s (head.class == k.class) w k.permission
+      by false true = refl
+      by false false = refl
+
+  -- are lines of the whole list
+  pub head-within : (k : SymbolKey) (w : Bool) → one_if (is_line source (first i head) k && w) + one_if (is_key key k && w) ≤ one_if (is_line source head k && w)
+  head-within k w = by (is_kind head.kind k.kind) (source == k.source)
+    where
+      by : (b s : Bool) → one_if ((s && (b && ((head.class == k.class) && has_permission (take i xs) k.permission))) && w) + one_if ((b && (s && ((head.class == k.class) && (p == k.permission)))) && w)
+          ≤ one_if ((s && (b && ((head.class == k.class) && has_permission xs k.permission))) && w)
+      by true s = line-within xs rising i p within at s (head.class == k.class) w k.permission
+      by false true = omega arith
+      by false false = omega arith
+
+  is-line : (ps : List ℕ) → ((source == source) && (is_kind head.kind head.kind && ((head.class == head.class) && has_permission ps p))) ≡ has_permission ps p
+  is-line ps =
+      ap (λ b. b && (is_kind head.kind head.kind && ((head.class == head.class) && has_permission ps p))) (eq-eqb source source refl)
+      ∙ ap (λ b. b && ((head.class == head.class) && has_permission ps p)) (kind_itself head.kind)
+      ∙ ap (λ b. b && has_permission ps p) (eq-eqb head.class head.class refl)
+
+  -- what the line of the next permission had has counters
+  pub above-line : (now before : ℕ) (was is : Bool) → one_if (is_line source head key && was) ≤ before
+      → now + one_if (is_line source (first i head) key && was) ≡ before + one_if (is_line source (first i head) key && is) → one_if was ≤ now
+  above-line now before was is counted moved =
+      let here : is_line source head key ≡ true = is-line xs ∙ has-next xs rising i p within at in
+      let not_yet : is_line source (first i head) key ≡ false = is-line (take i xs) ∙ new-permission xs rising i p within at in
+      let no_was : one_if (is_line source (first i head) key && was) ≡ 0 = ap (λ b. one_if (b && was)) not_yet in
+      let no_is : one_if (is_line source (first i head) key && is) ≡ 0 = ap (λ b. one_if (b && is)) not_yet in
+      let all : one_if (is_line source head key && was) ≡ one_if was = ap (λ b. one_if (b && was)) here in
+      omega (arith, no_was, no_is, all, counted, moved)
 
 -- the lines of a source are those of the accesses of the source
-pub source-gives : {A : Type 0} (reach : Reach A) (targets : Targets A) (source class : ℕ) (permissions : List ℕ) (k : SymbolKey) (t : ℕ) → takes targets source t ≡ (has_source reach source && takes reach.targets source t)
-    → (is_line source class permissions k && takes targets source t) ≡ ((source == k.source) && gives reach class permissions k t)
-source-gives reach targets source class permissions k t same =
+pub source-gives : {A : Type 0} (reach : Reach A) (targets : Targets A) (source : ℕ) (head : RuleHead) (k : SymbolKey) (t : ℕ) → takes targets source t ≡ (has_source reach source && takes reach.targets source t)
+    → (is_line source head k && takes targets source t) ≡ ((source == k.source) && gives reach head k t)
+source-gives reach targets source head k t same =
     elim (cases_eq source k.source) [
       | inl is ↦
           ap (λ b. (b && rest) && takes targets source t) (eq-eqb source k.source is)
           ∙ ap (λ b. rest && b) same
           ∙ turned rest (has_source reach source && takes reach.targets source t)
           ∙ ap (λ s. (has_source reach s && takes reach.targets s t) && rest) is
-          ∙ sym (ap (λ b. b && gives reach class permissions k t) (eq-eqb source k.source is))
+          ∙ sym (ap (λ b. b && gives reach head k t) (eq-eqb source k.source is))
       | inr other ↦
-          ap (λ b. (b && rest) && takes targets source t) (ne_eqb source k.source other) ∙ sym (ap (λ b. b && gives reach class permissions k t) (ne_eqb source k.source other))
+          ap (λ b. (b && rest) && takes targets source t) (ne_eqb source k.source other) ∙ sym (ap (λ b. b && gives reach head k t) (ne_eqb source k.source other))
     ]
   where
     rest : Bool
-    rest = (class == k.class) && has_permission permissions k.permission
+    rest = has_head head k
 
     turned : (a b : Bool) → (a && b) ≡ (b && a)
     turned true true = refl

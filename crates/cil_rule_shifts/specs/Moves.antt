@@ -1,9 +1,10 @@
 -- Which counters move where a rule gives something else than it gave.
-use Rattle.std.specs.Prelude.{◌≡◌, ◌+◌, ◌<◌, ◌≤◌, ◌/◌, ◌^◌, ◌&&◌, ◌||◌, ◌==◌, ℕ, Bool, true, false, List, Option, MatchOption, Vec, length, not, slice_index}
+use Rattle.std.specs.Prelude.{◌≡◌, ◌<◌, ◌/◌, ◌^◌, ◌&&◌, ◌||◌, ◌==◌, ℕ, Bool, true, false, List, Option, MatchOption, Vec, length, not, slice_index}
 use Rattle.std.specs.List.Sorted.{IsStrictlyIncreasing}
-use Rattle.cil_keyed_lines.specs.Keyed.{count_now, is_key, Keyed}
+use Rattle.cil_keyed_lines.specs.Keyed.{is_key}
 use Rattle.cil_keyed_lines.specs.declared.symbol_key.SymbolKey.{SymbolKey}
 use Rattle.cil_rule_shifts.specs.Reach.{gives, has_permission, has_source, is_line, takes}
+use Rattle.cil_rule_shifts.specs.declared.head.RuleHead.{RuleHead}
 use Rattle.cil_rule_shifts.specs.declared.reach.Reach.{Reach}
 use Rattle.cil_rule_shifts.specs.declared.targets.Targets.{Targets}
 
@@ -20,17 +21,17 @@ turns was is source t = differs (takes was source t) (takes is source t)
 abbrev pub moves_in : {A : Type 0} → SymbolKey → Targets A → Targets A → SymbolKey × ℕ → Bool
 moves_in key was is p = is_key key p.0 && turns was is key.source p.1
 
--- in the lines of a source for a class and some permissions
-abbrev pub moves_for : {A : Type 0} → ℕ → ℕ → List ℕ → Targets A → Targets A → SymbolKey × ℕ → Bool
-moves_for source class permissions was is p = is_line source class permissions p.0 && turns was is source p.1
+-- in the lines of a source for a rule's kind, class and permissions
+abbrev pub moves_for : {A : Type 0} → ℕ → RuleHead → Targets A → Targets A → SymbolKey × ℕ → Bool
+moves_for source head was is p = is_line source head p.0 && turns was is source p.1
 
--- wherever a rule of a class and permissions gave or gives the access, and not both
-abbrev pub moves_where : {A : Type 0} → Reach A → Reach A → ℕ → List ℕ → SymbolKey × ℕ → Bool
-moves_where was is class permissions p = differs (gives was class permissions p.0 p.1) (gives is class permissions p.0 p.1)
+-- wherever a rule gave or gives the access, and not both
+abbrev pub moves_where : {A : Type 0} → Reach A → Reach A → RuleHead → SymbolKey × ℕ → Bool
+moves_where was is head p = differs (gives was head p.0 p.1) (gives is head p.0 p.1)
 
 -- of these, in the lines of a source
-abbrev pub moves_of : {A : Type 0} → ℕ → Reach A → Reach A → ℕ → List ℕ → SymbolKey × ℕ → Bool
-moves_of source was is class permissions p = (source == p.0.source) && moves_where was is class permissions p
+abbrev pub moves_of : {A : Type 0} → ℕ → Reach A → Reach A → RuleHead → SymbolKey × ℕ → Bool
+moves_of source was is head p = (source == p.0.source) && moves_where was is head p
 
 -- whether a list has the word of a target
 abbrev pub has_word : List ℕ → ℕ → Bool
@@ -62,7 +63,3 @@ goes_over false was is = differs was is
 -- whether a source of one rule alone, or of either, is one
 abbrev pub has_either : {A : Type 0} → Bool → Reach A → Reach A → ℕ → Bool
 has_either all was is s = goes_over all (has_source was s) (has_source is s)
-
--- no counter rises by more than this
-abbrev pub RiseAtMost : Keyed → Keyed → (SymbolKey → ℕ → ℕ) → Type 0
-RiseAtMost old new most = (k : SymbolKey) (t : ℕ) → count_now new k t ≤ count_now old k t + most k t

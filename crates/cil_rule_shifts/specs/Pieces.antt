@@ -5,6 +5,7 @@ use Rattle.cil_lines.specs.Line.{hit}
 use Rattle.cil_keyed_lines.specs.Keyed.{is_key}
 use Rattle.cil_keyed_lines.specs.declared.symbol_key.SymbolKey.{SymbolKey}
 use Rattle.cil_rule_shifts.specs.Reach.{is_line}
+use Rattle.cil_rule_shifts.specs.declared.head.RuleHead.{RuleHead}
 use Rattle.cil_rule_shifts.specs.declared.pieces.Piece.{Piece}
 use Rattle.cil_rule_shifts.specs.declared.pieces.Pieces.{Pieces}
 use Rattle.cil_sums.specs.Rises.{RisesBy}
@@ -32,6 +33,6 @@ pub record ArePieces {A : Type 0} (pieces : Pieces A) : Type 0 where
   pub apart : AreApart pieces.list.items
   pub counted : (key : SymbolKey) → RisesBy (put_in key pieces.list.items) 0 pieces.ones
 
--- whether a counter is one of the targets in the lines of a source for a class and some permissions
-abbrev pub put_for : ℕ → ℕ → List ℕ → List Piece → SymbolKey × ℕ → Bool
-put_for source class permissions pieces p = is_line source class permissions p.0 && has_target pieces p.1
+-- whether a counter is one of the targets in the lines of a source for a rule's kind, class and permissions
+abbrev pub put_for : ℕ → RuleHead → List Piece → SymbolKey × ℕ → Bool
+put_for source head pieces p = is_line source head p.0 && has_target pieces p.1

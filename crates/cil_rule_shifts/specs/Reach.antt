@@ -3,7 +3,9 @@ use Rattle.std.specs.Prelude.{◌≡◌, ◌≤◌, ◌+◌, ◌-◌, ◌*◌, �
 use Rattle.std.specs.Int.{bit_at}
 use Rattle.std.specs.List.{list_any}
 use Rattle.cil_lines.specs.Line.{Counters, count_of}
+use Rattle.cil_keyed_lines.specs.Keyed.{is_kind}
 use Rattle.cil_keyed_lines.specs.declared.symbol_key.SymbolKey.{SymbolKey}
+use Rattle.cil_rule_shifts.specs.declared.head.RuleHead.{RuleHead}
 use Rattle.cil_rule_shifts.specs.declared.targets.Targets.{Targets}
 use Rattle.cil_rule_shifts.specs.declared.targets.Targets.TheVariants.{Nothing, Itself, These}
 use Rattle.cil_rule_shifts.specs.declared.reach.Reach.{Reach}
@@ -34,13 +36,17 @@ has_permission permissions p = list_any (nat_eq p) permissions
 abbrev pub reaches : {A : Type 0} → Reach A → ℕ → ℕ → Bool
 reaches reach s t = has_source reach s && takes reach.targets s t
 
--- whether a rule of a class and permissions gives an access
-abbrev pub gives : {A : Type 0} → Reach A → ℕ → List ℕ → SymbolKey → ℕ → Bool
-gives reach class permissions key t = reaches reach key.source t && ((class == key.class) && has_permission permissions key.permission)
+-- whether a key is of a rule's kind, class, and one of its permissions
+abbrev pub has_head : RuleHead → SymbolKey → Bool
+has_head head key = is_kind head.kind key.kind && ((head.class == key.class) && has_permission head.permissions.now key.permission)
 
--- whether a key is of a source, a class and one of some permissions
-abbrev pub is_line : ℕ → ℕ → List ℕ → SymbolKey → Bool
-is_line source class permissions key = (source == key.source) && ((class == key.class) && has_permission permissions key.permission)
+-- whether a rule gives an access
+abbrev pub gives : {A : Type 0} → Reach A → RuleHead → SymbolKey → ℕ → Bool
+gives reach head key t = reaches reach key.source t && has_head head key
+
+-- whether a key is of a source and a rule's kind, class and permissions
+abbrev pub is_line : ℕ → RuleHead → SymbolKey → Bool
+is_line source head key = (source == key.source) && has_head head key
 
 -- the targets of each source are numbers of the code
 abbrev pub AreShort : {A : Type 0} → Targets A → Type 0

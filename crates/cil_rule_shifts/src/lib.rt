@@ -1,6 +1,7 @@
 //! The counters of an access table, moved from what a rule gave to what it gives.
 #![tactic(auto)]
 
+mod head;
 mod pieces;
 mod put;
 mod reach;
@@ -9,6 +10,7 @@ mod targets;
 mod turned;
 mod words;
 
+pub use head::RuleHead;
 pub use put::put_rule;
 pub use reach::Reach;
 pub use shift::shift_rule;

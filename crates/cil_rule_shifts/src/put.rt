@@ -2,12 +2,12 @@
 
 ghost use Rattle.std.specs.Prelude.{◌≡◌, ◌+◌, ◌&&◌, ℕ, false, IfOk, OnOk};
 ghost use Rattle.std.specs.List.Sorted.{IsStrictlyIncreasing};
-ghost use Rattle.cil_keyed_lines.specs.Keyed.{count_now, is_key, steps_in};
-ghost use Rattle.cil_rule_shifts.specs.Moves.{RiseAtMost};
+ghost use Rattle.cil_keyed_lines.specs.Keyed.{count_now, is_key, steps_in, RiseAtMost};
 ghost use Rattle.cil_rule_shifts.specs.Pieces.{has_target, put_for, AreApart, ArePieces};
 ghost use Rattle.cil_rule_shifts.specs.Reach.{gives, is_line, one_if, takes, AreShort, IsShort};
 ghost use Rattle.cil_sums.specs.Rises.{RisesBy};
 
+use crate::head::RuleHead;
 use crate::pieces::{Piece, Pieces, pieces_of};
 use crate::reach::{Reach, next_source};
 use crate::targets::Targets;
@@ -35,30 +35,30 @@ fn put_line<A: Allocator + Copy>(
     Ok(())
 }
 
-/// Adds 1 to the counter of each target of a source in its lines for a class and its permissions, and answers how many these are.
+/// Adds 1 to the counter of each target of a source in its lines for a head's kind, class and permissions, and answers how many these are.
 fn put_source<A: Allocator + Copy>(
     lines: &mut KeyedLines<A>,
     alloc: A,
     source: usize,
-    class: usize,
-    permissions: &[usize],
+    head: RuleHead<'_>,
     pieces: &Pieces<A>,
 ) -> Result<u128, AllocError>
-    requires permissions { IsStrictlyIncreasing permissions.now }
+    requires permissions { IsStrictlyIncreasing head.permissions.now }
     requires pieces { ArePieces pieces.now }
     requires settled { steps_in lines.old ≡ 0 }
     ensures settled { steps_in lines.new ≡ 0 }
     ensures now { OnOk result ((k : SymbolKey) (t : ℕ) → count_now lines.new k t
-        ≡ count_now lines.old k t + one_if (is_line source class permissions.now k && has_target pieces.now.list.items t)) }
+        ≡ count_now lines.old k t + one_if (is_line source head.entry k && has_target pieces.now.list.items t)) }
     ensures bounded { RiseAtMost lines.old lines.new
-        (λ k t. one_if (is_line source class permissions.now k && has_target pieces.now.list.items t)) }
-    ensures given { IfOk result (RisesBy (put_for source class permissions.now pieces.now.list.items) 0) }
+        (λ k t. one_if (is_line source head.entry k && has_target pieces.now.list.items t)) }
+    ensures given { IfOk result (RisesBy (put_for source head.entry pieces.now.list.items) 0) }
 {
     let mut given: u128 = 0;
-    for permission in permissions {
+    for permission in head.permissions {
         let key = SymbolKey {
+            kind: head.kind,
             source,
-            class,
+            class: head.class,
             permission: *permission,
         };
         put_line(lines, alloc, key, &pieces.list)?;
@@ -89,24 +89,23 @@ fn turn_pieces<A: Allocator + Copy>(
     Ok(())
 }
 
-/// Adds 1 to the counter of each access that a rule of a class gives by its permissions, and answers how many these are, or the greatest
+/// Adds 1 to the counter of each access that a rule gives by its kind, class and permissions, and answers how many these are, or the greatest
 /// `u128` where they are more. The permissions are symbols, each once and in their order. There is no step to take back, and none is
 /// logged. After an out of memory some counters may have risen, none by more than 1.
 pub fn put_rule<A: Allocator + Copy>(
     lines: &mut KeyedLines<A>,
     alloc: A,
-    class: usize,
-    permissions: &[usize],
+    head: RuleHead<'_>,
     is: &Reach<A>,
 ) -> Result<u128, AllocError>
-    requires permissions { IsStrictlyIncreasing permissions.now }
+    requires permissions { IsStrictlyIncreasing head.permissions.now }
     requires is { IsShort is.now }
     requires settled { steps_in lines.old ≡ 0 }
     ensures settled { steps_in lines.new ≡ 0 }
     ensures now { OnOk result ((k : SymbolKey) (t : ℕ) → count_now lines.new k t
-        ≡ count_now lines.old k t + one_if (gives is.now class permissions.now k t)) }
-    ensures bounded { RiseAtMost lines.old lines.new (λ k t. one_if (gives is.now class permissions.now k t)) }
-    ensures given { IfOk result (RisesBy (λ (p : SymbolKey × ℕ). gives is.now class permissions.now p.0 p.1) 0) }
+        ≡ count_now lines.old k t + one_if (gives is.now head.entry k t)) }
+    ensures bounded { RiseAtMost lines.old lines.new (λ k t. one_if (gives is.now head.entry k t)) }
+    ensures given { IfOk result (RisesBy (λ (p : SymbolKey × ℕ). gives is.now head.entry p.0 p.1) 0) }
 {
     let none = Reach::none(alloc);
     let itself = is_itself(&is.targets);
@@ -115,7 +114,7 @@ pub fn put_rule<A: Allocator + Copy>(
     let mut from = 0;
     while let Some(source) = next_source(&none, is, true, from) {
         turn_pieces(&mut pieces, alloc, source, &is.targets, itself)?;
-        let here = put_source(lines, alloc, source, class, permissions, &pieces)?;
+        let here = put_source(lines, alloc, source, head, &pieces)?;
         given = given.saturating_add(here);
         from = source + 1;
     }

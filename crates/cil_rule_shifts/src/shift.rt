@@ -2,11 +2,12 @@
 
 ghost use Rattle.std.specs.Prelude.{◌≡◌, ◌+◌, ◌≤◌, ◌<◌, ◌^◌, ◌/◌, ◌&&◌, ◌||◌, ◌==◌, ℕ, false, true, IfOk, IfSome, OnOk};
 ghost use Rattle.std.specs.List.Sorted.{IsStrictlyIncreasing};
-ghost use Rattle.cil_keyed_lines.specs.Keyed.{count_before, count_now, is_key};
-ghost use Rattle.cil_rule_shifts.specs.Moves.{moves_for, moves_in, moves_of, moves_where, AreTurned, AreTurnedForAll, RiseAtMost};
+ghost use Rattle.cil_keyed_lines.specs.Keyed.{count_before, count_now, is_key, RiseAtMost};
+ghost use Rattle.cil_rule_shifts.specs.Moves.{moves_for, moves_in, moves_of, moves_where, AreTurned, AreTurnedForAll};
 ghost use Rattle.cil_rule_shifts.specs.Reach.{gives, is_line, one_if, reaches, takes, AreShort, IsShort};
 ghost use Rattle.cil_sums.specs.Rises.{RisesBy};
 
+use crate::head::RuleHead;
 use crate::reach::{Reach, next_source};
 use crate::targets::Targets;
 use crate::turned::{common_words, may_differ, turned_words};
@@ -41,32 +42,32 @@ fn shift_line<A: Allocator + Copy>(
     Ok(moved)
 }
 
-/// Moves the counters of the lines of a source, of a class and its permissions, from the targets that it had to those that it has, in
+/// Moves the counters of the lines of a source, of a kind, a class and its permissions, from the targets that it had to those that it has, in
 /// the words in which they differ, and answers how many moved.
 fn shift_lines<A: Allocator + Copy>(
     lines: &mut KeyedLines<A>,
     alloc: A,
     source: usize,
-    class: usize,
-    permissions: &[usize],
+    head: RuleHead<'_>,
     words: &[usize],
     was: &Targets<A>,
     is: &Targets<A>,
 ) -> Result<u128, AllocError>
-    requires permissions { IsStrictlyIncreasing permissions.now }
+    requires permissions { IsStrictlyIncreasing head.permissions.now }
     requires words { AreTurned (takes was.now source) (takes is.now source) words.now }
-    requires counted { (k : SymbolKey) (t : ℕ) → one_if (is_line source class permissions.now k && takes was.now source t) ≤ count_now lines.old k t }
-    ensures now { OnOk result ((k : SymbolKey) (t : ℕ) → count_now lines.new k t + one_if (is_line source class permissions.now k && takes was.now source t)
-        ≡ count_now lines.old k t + one_if (is_line source class permissions.now k && takes is.now source t)) }
-    ensures bounded { RiseAtMost lines.old lines.new (λ k t. one_if (is_line source class permissions.now k && takes is.now source t)) }
+    requires counted { (k : SymbolKey) (t : ℕ) → one_if (is_line source head k && takes was.now source t) ≤ count_now lines.old k t }
+    ensures now { OnOk result ((k : SymbolKey) (t : ℕ) → count_now lines.new k t + one_if (is_line source head.entry k && takes was.now source t)
+        ≡ count_now lines.old k t + one_if (is_line source head.entry k && takes is.now source t)) }
+    ensures bounded { RiseAtMost lines.old lines.new (λ k t. one_if (is_line source head.entry k && takes is.now source t)) }
     ensures before { (k : SymbolKey) (t : ℕ) → count_before lines.new k t ≡ count_before lines.old k t }
-    ensures moved { IfOk result (RisesBy (moves_for source class permissions.now was.now is.now) 0) }
+    ensures moved { IfOk result (RisesBy (moves_for source head.entry was.now is.now) 0) }
 {
     let mut moved: u128 = 0;
-    for permission in permissions {
+    for permission in head.permissions {
         let key = SymbolKey {
+            kind: head.kind,
             source,
-            class,
+            class: head.class,
             permission: *permission,
         };
         let here = shift_line(lines, alloc, key, words, was, is)?;
@@ -109,91 +110,88 @@ fn shift_source<A: Allocator + Copy>(
     lines: &mut KeyedLines<A>,
     alloc: A,
     source: usize,
-    class: usize,
-    permissions: &[usize],
+    head: RuleHead<'_>,
     common: &Option<Vec<usize, A>>,
     was: &Reach<A>,
     is: &Reach<A>,
 ) -> Result<u128, AllocError>
-    requires permissions { IsStrictlyIncreasing permissions.now }
+    requires permissions { IsStrictlyIncreasing head.permissions.now }
     requires common { IfSome common.now (λ words. AreTurnedForAll was.now.targets is.now.targets words.items) }
     requires was { IsShort was.now }
     requires is { IsShort is.now }
-    requires counted { (k : SymbolKey) (t : ℕ) → one_if ((source == k.source) && gives was.now class permissions.now k t) ≤ count_now lines.old k t }
-    ensures now { OnOk result ((k : SymbolKey) (t : ℕ) → count_now lines.new k t + one_if ((source == k.source) && gives was.now class permissions.now k t)
-        ≡ count_now lines.old k t + one_if ((source == k.source) && gives is.now class permissions.now k t)) }
-    ensures bounded { RiseAtMost lines.old lines.new (λ k t. one_if ((source == k.source) && gives is.now class permissions.now k t)) }
+    requires counted { (k : SymbolKey) (t : ℕ) → one_if ((source == k.source) && gives was.now head k t) ≤ count_now lines.old k t }
+    ensures now { OnOk result ((k : SymbolKey) (t : ℕ) → count_now lines.new k t + one_if ((source == k.source) && gives was.now head.entry k t)
+        ≡ count_now lines.old k t + one_if ((source == k.source) && gives is.now head.entry k t)) }
+    ensures bounded { RiseAtMost lines.old lines.new (λ k t. one_if ((source == k.source) && gives is.now head.entry k t)) }
     ensures before { (k : SymbolKey) (t : ℕ) → count_before lines.new k t ≡ count_before lines.old k t }
-    ensures moved { IfOk result (RisesBy (moves_of source was.now is.now class permissions.now) 0) }
+    ensures moved { IfOk result (RisesBy (moves_of source was.now is.now head.entry) 0) }
 {
     let none = Targets::Nothing;
     let gone = targets_of(was, &none, source);
     let come = targets_of(is, &none, source);
     match common {
         Some(words) if has_targets(was, source) && has_targets(is, source) => {
-            shift_lines(lines, alloc, source, class, permissions, words, gone, come)
+            shift_lines(lines, alloc, source, head, words, gone, come)
         }
         _ => {
             let words = turned_words(alloc, source, gone, come)?;
-            shift_lines(lines, alloc, source, class, permissions, &words, gone, come)
+            shift_lines(lines, alloc, source, head, &words, gone, come)
         }
     }
 }
 
-/// Moves the counters of what a rule of a class gave by its permissions to those of what it gives, source by source, and answers how many
+/// Moves the counters of what a rule gave by its kind, class and permissions to those of what it gives, source by source, and answers how many
 /// moved. The words in which the targets of every source differ are given, if there are such.
 fn shift_sources<A: Allocator + Copy>(
     lines: &mut KeyedLines<A>,
     alloc: A,
-    class: usize,
-    permissions: &[usize],
+    head: RuleHead<'_>,
     common: &Option<Vec<usize, A>>,
     was: &Reach<A>,
     is: &Reach<A>,
 ) -> Result<u128, AllocError>
-    requires permissions { IsStrictlyIncreasing permissions.now }
+    requires permissions { IsStrictlyIncreasing head.permissions.now }
     requires common { IfSome common.now (λ words. AreTurnedForAll was.now.targets is.now.targets words.items) }
     requires was { IsShort was.now }
     requires is { IsShort is.now }
-    requires counted { (k : SymbolKey) (t : ℕ) → one_if (gives was.now class permissions.now k t) ≤ count_now lines.old k t }
-    ensures now { OnOk result ((k : SymbolKey) (t : ℕ) → count_now lines.new k t + one_if (gives was.now class permissions.now k t)
-        ≡ count_now lines.old k t + one_if (gives is.now class permissions.now k t)) }
-    ensures bounded { RiseAtMost lines.old lines.new (λ k t. one_if (gives is.now class permissions.now k t)) }
+    requires counted { (k : SymbolKey) (t : ℕ) → one_if (gives was.now head k t) ≤ count_now lines.old k t }
+    ensures now { OnOk result ((k : SymbolKey) (t : ℕ) → count_now lines.new k t + one_if (gives was.now head.entry k t)
+        ≡ count_now lines.old k t + one_if (gives is.now head.entry k t)) }
+    ensures bounded { RiseAtMost lines.old lines.new (λ k t. one_if (gives is.now head.entry k t)) }
     ensures before { (k : SymbolKey) (t : ℕ) → count_before lines.new k t ≡ count_before lines.old k t }
-    ensures moved { IfOk result (RisesBy (moves_where was.now is.now class permissions.now) 0) }
+    ensures moved { IfOk result (RisesBy (moves_where was.now is.now head.entry) 0) }
 {
     let all = may_differ(common);
     let mut moved: u128 = 0;
     let mut from = 0;
     while let Some(source) = next_source(was, is, all, from) {
-        let here = shift_source(lines, alloc, source, class, permissions, common, was, is)?;
+        let here = shift_source(lines, alloc, source, head, common, was, is)?;
         moved = moved.saturating_add(here);
         from = source + 1;
     }
     Ok(moved)
 }
 
-/// Moves the counters of what a rule of a class gave by its permissions to those of what it gives, and answers how many moved, or the
+/// Moves the counters of what a rule gave by its kind, class and permissions to those of what it gives, and answers how many moved, or the
 /// greatest `u128` where they are more. The permissions are symbols, each once and in their order. After an out of memory some counters
 /// may have moved; their steps are logged. No counter is more than 1 above what it was then, either.
 pub fn shift_rule<A: Allocator + Copy>(
     lines: &mut KeyedLines<A>,
     alloc: A,
-    class: usize,
-    permissions: &[usize],
+    head: RuleHead<'_>,
     was: &Reach<A>,
     is: &Reach<A>,
 ) -> Result<u128, AllocError>
-    requires permissions { IsStrictlyIncreasing permissions.now }
+    requires permissions { IsStrictlyIncreasing head.permissions.now }
     requires was { IsShort was.now }
     requires is { IsShort is.now }
-    requires counted { (k : SymbolKey) (t : ℕ) → one_if (gives was.now class permissions.now k t) ≤ count_now lines.old k t }
-    ensures now { OnOk result ((k : SymbolKey) (t : ℕ) → count_now lines.new k t + one_if (gives was.now class permissions.now k t)
-        ≡ count_now lines.old k t + one_if (gives is.now class permissions.now k t)) }
-    ensures bounded { RiseAtMost lines.old lines.new (λ k t. one_if (gives is.now class permissions.now k t)) }
+    requires counted { (k : SymbolKey) (t : ℕ) → one_if (gives was.now head k t) ≤ count_now lines.old k t }
+    ensures now { OnOk result ((k : SymbolKey) (t : ℕ) → count_now lines.new k t + one_if (gives was.now head.entry k t)
+        ≡ count_now lines.old k t + one_if (gives is.now head.entry k t)) }
+    ensures bounded { RiseAtMost lines.old lines.new (λ k t. one_if (gives is.now head.entry k t)) }
     ensures before { (k : SymbolKey) (t : ℕ) → count_before lines.new k t ≡ count_before lines.old k t }
-    ensures moved { IfOk result (RisesBy (moves_where was.now is.now class permissions.now) 0) }
+    ensures moved { IfOk result (RisesBy (moves_where was.now is.now head.entry) 0) }
 {
     let common = common_words(alloc, &was.targets, &is.targets)?;
-    shift_sources(lines, alloc, class, permissions, &common, was, is)
+    shift_sources(lines, alloc, head, &common, was, is)
 }

@@ -10,7 +10,6 @@ use Rattle.cil_accesses.specs.declared.access.AccessNumbers.{AccessNumbers}
 use Rattle.cil_accesses.specs.declared.chunk.Chunk.{Chunk}
 use Rattle.cil_accesses.specs.Chunks.{IsGiven}
 use Rattle.cil_keyed_lines.specs.Keyed.{Keyed, IsLineOf, IsNoLine, NoneCounted, before_at, is_key, now_at}
-use Rattle.cil_keyed_lines.specs.Keyed as keyed
 use Rattle.cil_keyed_lines.specs.declared.symbol_key.SymbolKey.{SymbolKey}
 use Rattle.cil_keyed_lines.proofs.KeyedLemmas.{line_of_key}
 use Rattle.cil_lines.specs.Line.{hit}
@@ -18,12 +17,9 @@ use Rattle.cil_recorded.specs.Log.{hit_at}
 use Rattle.cil_recorded.specs.declared.recorded_lines.changes.Change.{Change}
 use Rattle.cil_recorded.proofs.LogLemmas.{hit_in, hit_off}
 use Rattle.cil_recorded.specs.Differences.{appeared_at, gone_at}
-use Rattle.cil_symbol_tables.specs.Tables.{count_before, count_now, lines_of}
-use Rattle.cil_symbol_tables.specs.declared.symbol_tables.SymbolTables.{SymbolTables}
-use Rattle.cil_text.specs.declared.statement.RuleKind.{RuleKind}
-use Rattle.cil_text.specs.declared.statement.RuleKind.TheVariants.{Allow, AuditAllow, DontAudit, NeverAllow}
+use Rattle.cil_keyed_lines.specs.Keyed.{count_before, count_now}
 use Rattle.cil_symbol_changes.specs.Gained.{AreGained, AreKnown, AreKnownIn, IsIn, IsShort, IsTo}
-use Rattle.cil_symbol_changes.specs.Numbered.{access_by, AreNumbered, IsNew, IsNewOf, IsNumbered}
+use Rattle.cil_symbol_changes.specs.Numbered.{access_by, AreNumbered, IsNew, IsNew, IsNumbered}
 use Rattle.cil_symbol_changes.specs.SourceOrder.{AreAllPlaces, IsBetween}
 use Rattle.cil_symbol_changes.specs.declared.source_order.LinePlace.{LinePlace}
 use Rattle.cil_symbol_changes.proofs.GainedLemmas.{gained-alike, gained-none}
@@ -46,7 +42,7 @@ one_of f (x ∷ xs) some =
       | inr one ↦ (0, omega arith, omega (arith, one))
     ]
 
-module _ (numbers : List ℕ) (kind : RuleKind) (lines : Keyed) where
+module _ (numbers : List ℕ) (lines : Keyed) where
   -- ---- one change
 
   module _ (line word mask : ℕ) where
@@ -57,10 +53,10 @@ module _ (numbers : List ℕ) (kind : RuleKind) (lines : Keyed) where
     pub known-word : (key : SymbolKey) → IsLineOf lines line key → AreKnownIn numbers lines (hit_at line word mask) → AreKnown numbers key (hit word mask)
     known-word key is known t some = known line key is t (subst (λ n. 0 < n) (sym (hit_in line word mask line t refl)) some)
 
-    pub in-line : (key : SymbolKey) (old new : List Chunk) → IsLineOf lines line key → AreGained (IsTo numbers kind key (λ t. 0 < hit word mask t)) old new → AreGained (IsIn numbers kind lines (hit_at line word mask)) old new
-    in-line key old new is gained = gained-alike (IsTo numbers kind key (λ t. 0 < hit word mask t)) (IsIn numbers kind lines (hit_at line word mask)) old new gained to from
+    pub in-line : (key : SymbolKey) (old new : List Chunk) → IsLineOf lines line key → AreGained (IsTo numbers key (λ t. 0 < hit word mask t)) old new → AreGained (IsIn numbers lines (hit_at line word mask)) old new
+    in-line key old new is gained = gained-alike (IsTo numbers key (λ t. 0 < hit word mask t)) (IsIn numbers lines (hit_at line word mask)) old new gained to from
       where
-        to : (a : AccessNumbers) → IsTo numbers kind key (λ t. 0 < hit word mask t) a → IsIn numbers kind lines (hit_at line word mask) a
+        to : (a : AccessNumbers) → IsTo numbers key (λ t. 0 < hit word mask t) a → IsIn numbers lines (hit_at line word mask) a
         to a told = record {
           place = line;
           key = key;
@@ -70,20 +66,20 @@ module _ (numbers : List ℕ) (kind : RuleKind) (lines : Keyed) where
           same = told.same;
         }
 
-        from : (a : AccessNumbers) → IsIn numbers kind lines (hit_at line word mask) a → IsTo numbers kind key (λ t. 0 < hit word mask t) a
+        from : (a : AccessNumbers) → IsIn numbers lines (hit_at line word mask) a → IsTo numbers key (λ t. 0 < hit word mask t) a
         from a told =
             let here = on-line told.place told.target told.among in
             let keys : told.key ≡ key = same_Some told.key key (sym told.line.at ∙ ap (slice_get lines.keys) here ∙ is.at) in
             record {
               target = told.target;
               among = subst (λ n. 0 < n) (hit_in line word mask told.place told.target here) told.among;
-              same = told.same ∙ ap (λ k. access_by numbers kind k told.target) keys;
+              same = told.same ∙ ap (λ k. access_by numbers k told.target) keys;
             }
 
-    pub in-no_line : (old : List Chunk) → IsNoLine lines line → AreGained (IsIn numbers kind lines (hit_at line word mask)) old old
-    in-no_line old none = gained-none (IsIn numbers kind lines (hit_at line word mask)) old by
+    pub in-no_line : (old : List Chunk) → IsNoLine lines line → AreGained (IsIn numbers lines (hit_at line word mask)) old old
+    in-no_line old none = gained-none (IsIn numbers lines (hit_at line word mask)) old by
       where
-        by : (a : AccessNumbers) → IsIn numbers kind lines (hit_at line word mask) a → ⊥
+        by : (a : AccessNumbers) → IsIn numbers lines (hit_at line word mask) a → ⊥
         by a told =
             let here = on-line told.place told.target told.among in
             let within = slice_get_within lines.keys told.place told.key told.line.at in
@@ -92,8 +88,8 @@ module _ (numbers : List ℕ) (kind : RuleKind) (lines : Keyed) where
 
   -- ---- changes in an order of their places
 
-  pub in-none : (stands : ℕ → ℕ → ℕ) (old : List Chunk) → ((l t : ℕ) → stands l t ≡ 0) → AreGained (IsIn numbers kind lines stands) old old
-  in-none stands old none = gained-none (IsIn numbers kind lines stands) old (λ a told. let some = told.among in let zero = none told.place told.target in omega (arith, some, zero))
+  pub in-none : (stands : ℕ → ℕ → ℕ) (old : List Chunk) → ((l t : ℕ) → stands l t ≡ 0) → AreGained (IsIn numbers lines stands) old old
+  in-none stands old none = gained-none (IsIn numbers lines stands) old (λ a told. let some = told.among in let zero = none told.place told.target in omega (arith, some, zero))
 
   -- what holds of the targets in all changes holds of those in one
   pub known-one : (at : Change → ℕ → ℕ → ℕ) (changes : List Change) (i : ℕ) (d : Change) → i < length changes → AreKnownIn numbers lines (λ l t. sum_by (λ x. at x l t) changes) → AreKnownIn numbers lines (at (get_or changes i d))
@@ -103,11 +99,11 @@ module _ (numbers : List ℕ) (kind : RuleKind) (lines : Keyed) where
   module _ (at : Change → ℕ → ℕ → ℕ) (nothing : (l t : ℕ) → at no_change l t ≡ 0) (changes : List Change) where
     -- the accesses of the change of a place
     abbrev pub IsOfPlace : ℕ → AccessNumbers → Type 0
-    IsOfPlace place = IsIn numbers kind lines (at (get_or changes place no_change))
+    IsOfPlace place = IsIn numbers lines (at (get_or changes place no_change))
 
     -- and those of all changes
     abbrev pub IsOfAll : AccessNumbers → Type 0
-    IsOfAll = IsIn numbers kind lines (λ l t. sum_by (λ x. at x l t) changes)
+    IsOfAll = IsIn numbers lines (λ l t. sum_by (λ x. at x l t) changes)
 
     past-changes : (place l t : ℕ) → length changes ≤ place → at (get_or changes place no_change) l t ≡ 0
     past-changes place l t past = ap (λ d. at d l t) (get_or_past changes place no_change past) ∙ nothing l t
@@ -144,16 +140,16 @@ module _ (numbers : List ℕ) (kind : RuleKind) (lines : Keyed) where
     pub known-turned : ((key : SymbolKey) (t : ℕ) → 0 < is key t → IsNumbered numbers key t) → AreKnownIn numbers lines stands
     known-turned known l key line t some = let one = turned-at l key t line in known key t (omega (arith, some, one))
 
-    pub in-new : (old new : List Chunk) → ((key : SymbolKey) (t : ℕ) → 0 < is key t → (l : ℕ) × IsLineOf lines l key) → AreGained (IsIn numbers kind lines stands) old new → AreGained (IsNewOf numbers kind was is) old new
-    in-new old new find gained = gained-alike (IsIn numbers kind lines stands) (IsNewOf numbers kind was is) old new gained to from
+    pub in-new : (old new : List Chunk) → ((key : SymbolKey) (t : ℕ) → 0 < is key t → (l : ℕ) × IsLineOf lines l key) → AreGained (IsIn numbers lines stands) old new → AreGained (IsNew numbers was is) old new
+    in-new old new find gained = gained-alike (IsIn numbers lines stands) (IsNew numbers was is) old new gained to from
       where
-        to : (a : AccessNumbers) → IsIn numbers kind lines stands a → IsNewOf numbers kind was is a
+        to : (a : AccessNumbers) → IsIn numbers lines stands a → IsNew numbers was is a
         to a told =
             let some = told.among in
             let one = turned-at told.place told.key told.target told.line in
             record { key = told.key; target = told.target; absent = omega (arith, some, one); present = omega (arith, some, one); same = told.same }
 
-        from : (a : AccessNumbers) → IsNewOf numbers kind was is a → IsIn numbers kind lines stands a
+        from : (a : AccessNumbers) → IsNew numbers was is a → IsIn numbers lines stands a
         from a told =
             let (l, line) = find told.key told.target told.present in
             let one = turned-at l told.key told.target line in
@@ -162,14 +158,14 @@ module _ (numbers : List ℕ) (kind : RuleKind) (lines : Keyed) where
             record { place = l; key = told.key; line = line; target = told.target; among = omega (arith, one, absent, present); same = told.same }
 
 -- a key with a counter above 0 has a line
-pub line-now : (lines : Keyed) (key : SymbolKey) (t : ℕ) → 0 < keyed.count_now lines key t → (l : ℕ) × IsLineOf lines l key
+pub line-now : (lines : Keyed) (key : SymbolKey) (t : ℕ) → 0 < count_now lines key t → (l : ℕ) × IsLineOf lines l key
 line-now lines key t some = by (position (is_key key) lines.keys) (line_of_key lines key (position (is_key key) lines.keys) refl)
   where
     by : (o : Option ℕ) → MatchOption o (NoneCounted lines key) (λ l. IsLineOf lines l key) → (l : ℕ) × IsLineOf lines l key
     by None none = let zero = (none t).0 in absurd (omega (arith, some, zero))
     by (Some l) line = (l, line)
 
-pub line-before : (lines : Keyed) (key : SymbolKey) (t : ℕ) → 0 < keyed.count_before lines key t → (l : ℕ) × IsLineOf lines l key
+pub line-before : (lines : Keyed) (key : SymbolKey) (t : ℕ) → 0 < count_before lines key t → (l : ℕ) × IsLineOf lines l key
 line-before lines key t some = by (position (is_key key) lines.keys) (line_of_key lines key (position (is_key key) lines.keys) refl)
   where
     by : (o : Option ℕ) → MatchOption o (NoneCounted lines key) (λ l. IsLineOf lines l key) → (l : ℕ) × IsLineOf lines l key
@@ -177,70 +173,32 @@ line-before lines key t some = by (position (is_key key) lines.keys) (line_of_ke
     by (Some l) line = (l, line)
 
 -- where nothing is counted no access is new
-pub none-new : (numbers : List ℕ) (kind : RuleKind) (chunks : List Chunk) → AreGained (IsNewOf numbers kind (λ key t. 0) (λ key t. 0)) chunks chunks
-none-new numbers kind chunks = record { are = λ a. (λ h. inl h, λ h. elim h [ inl h ↦ h | inr new ↦ absurd (let some = new.present in omega (arith, some)) ]); short = λ short. short }
+pub none-new : (numbers : List ℕ) (chunks : List Chunk) → AreGained (IsNew numbers (λ key t. 0) (λ key t. 0)) chunks chunks
+none-new numbers chunks = record { are = λ a. (λ h. inl h, λ h. elim h [ inl h ↦ h | inr new ↦ absurd (let some = new.present in omega (arith, some)) ]); short = λ short. short }
 
--- ---- all kinds
+-- ---- lines
 
-module _ (numbers : List ℕ) (was is : RuleKind → SymbolKey → ℕ → ℕ) (none allow auditallow dontaudit neverallow : List Chunk) (empty : none ≡ []) (first : AreGained (IsNewOf numbers Allow (was Allow) (is Allow)) none allow)
-    (second : AreGained (IsNewOf numbers AuditAllow (was AuditAllow) (is AuditAllow)) allow auditallow) (third : AreGained (IsNewOf numbers DontAudit (was DontAudit) (is DontAudit)) auditallow dontaudit)
-    (fourth : AreGained (IsNewOf numbers NeverAllow (was NeverAllow) (is NeverAllow)) dontaudit neverallow) where
-  pub all-kinds : (a : AccessNumbers) → IsGiven neverallow a ↔ IsNew numbers was is a
-  all-kinds a = (
-    λ h. elim ((fourth.are a).0 h) [
-      | inr new ↦ (NeverAllow, new)
-      | inl h ↦ elim ((third.are a).0 h) [
-        | inr new ↦ (DontAudit, new)
-        | inl h ↦ elim ((second.are a).0 h) [
-          | inr new ↦ (AuditAllow, new)
-          | inl h ↦ elim ((first.are a).0 h) [ inr new ↦ (Allow, new) | inl h ↦ absurd (no-given h) ]
-        ]
-      ]
-    ],
-    λ new. from new.0 new.1,
-  )
-    where
-      no-given : IsGiven none a → ⊥
-      no-given (k, c, within, at, of) = let size = ap length empty in omega (arith, within, size)
-
-      from : (kind : RuleKind) → IsNewOf numbers kind (was kind) (is kind) a → IsGiven neverallow a
-      from Allow new = (fourth.are a).1 (inl ((third.are a).1 (inl ((second.are a).1 (inl ((first.are a).1 (inr new)))))))
-      from AuditAllow new = (fourth.are a).1 (inl ((third.are a).1 (inl ((second.are a).1 (inr new)))))
-      from DontAudit new = (fourth.are a).1 (inl ((third.are a).1 (inr new)))
-      from NeverAllow new = (fourth.are a).1 (inr new)
-
-  pub all-short : All IsShort neverallow
-  all-short = fourth.short (third.short (second.short (first.short (subst (All IsShort) (sym empty) (All-nil IsShort)))))
-
--- ---- one kind of tables
-
-module _ {A : Type 0} (tables : SymbolTables A) (numbers : List ℕ) (kind : RuleKind) (lines : Keyed) (given changes : List Change) (at : lines ≡ lines_of tables kind) (all : given ≡ changes) where
+module _ (numbers : List ℕ) (lines : Keyed) (given changes : List Change) (all : given ≡ changes) where
   -- what appeared
   module _ (appeared : (l t : ℕ) → appeared_at changes l t ≡ min 1 (now_at lines l t) - min 1 (before_at lines l t)) where
-    pub known-appeared : AreNumbered numbers tables → AreKnownIn numbers lines (appeared_at given)
-    unfolding count_now
+    pub known-appeared : AreNumbered numbers lines → AreKnownIn numbers lines (appeared_at given)
     known-appeared numbered =
-        known-turned numbers kind lines (appeared_at given) (before_at lines) (now_at lines) (keyed.count_before lines) (keyed.count_now lines) (λ l t. ap (λ cs. appeared_at cs l t) all ∙ appeared l t) (λ l key line t. (line.before t, line.now t))
-        (λ key t some. numbered.now kind key t (subst (λ (k : Keyed). 0 < keyed.count_now k key t) at some))
+        known-turned numbers lines (appeared_at given) (before_at lines) (now_at lines) (count_before lines) (count_now lines) (λ l t. ap (λ cs. appeared_at cs l t) all ∙ appeared l t) (λ l key line t. (line.before t, line.now t))
+        (λ key t some. numbered.now key t some)
 
-    pub new-appeared : (old new : List Chunk) → AreGained (IsIn numbers kind lines (appeared_at given)) old new → AreGained (IsNewOf numbers kind (count_before tables kind) (count_now tables kind)) old new
-    unfolding count_now count_before
+    pub new-appeared : (old new : List Chunk) → AreGained (IsIn numbers lines (appeared_at given)) old new → AreGained (IsNew numbers (count_before lines) (count_now lines)) old new
     new-appeared old new gained =
-        subst (λ (k : Keyed). AreGained (IsNewOf numbers kind (keyed.count_before k) (keyed.count_now k)) old new) at
-        (in-new numbers kind lines (appeared_at given) (before_at lines) (now_at lines) (keyed.count_before lines) (keyed.count_now lines) (λ l t. ap (λ cs. appeared_at cs l t) all ∙ appeared l t) (λ l key line t. (line.before t, line.now t))
+        (in-new numbers lines (appeared_at given) (before_at lines) (now_at lines) (count_before lines) (count_now lines) (λ l t. ap (λ cs. appeared_at cs l t) all ∙ appeared l t) (λ l key line t. (line.before t, line.now t))
         old new (line-now lines) gained)
 
   -- what went
   module _ (gone : (l t : ℕ) → gone_at changes l t ≡ min 1 (before_at lines l t) - min 1 (now_at lines l t)) where
-    pub known-gone : AreNumbered numbers tables → AreKnownIn numbers lines (gone_at given)
-    unfolding count_before
+    pub known-gone : AreNumbered numbers lines → AreKnownIn numbers lines (gone_at given)
     known-gone numbered =
-        known-turned numbers kind lines (gone_at given) (now_at lines) (before_at lines) (keyed.count_now lines) (keyed.count_before lines) (λ l t. ap (λ cs. gone_at cs l t) all ∙ gone l t) (λ l key line t. (line.now t, line.before t))
-        (λ key t some. numbered.before kind key t (subst (λ (k : Keyed). 0 < keyed.count_before k key t) at some))
+        known-turned numbers lines (gone_at given) (now_at lines) (before_at lines) (count_now lines) (count_before lines) (λ l t. ap (λ cs. gone_at cs l t) all ∙ gone l t) (λ l key line t. (line.now t, line.before t))
+        (λ key t some. numbered.before key t some)
 
-    pub new-gone : (old new : List Chunk) → AreGained (IsIn numbers kind lines (gone_at given)) old new → AreGained (IsNewOf numbers kind (count_now tables kind) (count_before tables kind)) old new
-    unfolding count_now count_before
+    pub new-gone : (old new : List Chunk) → AreGained (IsIn numbers lines (gone_at given)) old new → AreGained (IsNew numbers (count_now lines) (count_before lines)) old new
     new-gone old new gained =
-        subst (λ (k : Keyed). AreGained (IsNewOf numbers kind (keyed.count_now k) (keyed.count_before k)) old new) at
-        (in-new numbers kind lines (gone_at given) (now_at lines) (before_at lines) (keyed.count_now lines) (keyed.count_before lines) (λ l t. ap (λ cs. gone_at cs l t) all ∙ gone l t) (λ l key line t. (line.now t, line.before t))
+        (in-new numbers lines (gone_at given) (now_at lines) (before_at lines) (count_now lines) (count_before lines) (λ l t. ap (λ cs. gone_at cs l t) all ∙ gone l t) (λ l key line t. (line.now t, line.before t))
         old new (line-before lines) gained)

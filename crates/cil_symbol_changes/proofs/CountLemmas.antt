@@ -9,7 +9,6 @@ use Rattle.std.proofs.lemmas.List.Sums.{sum_by-cons}
 use Rattle.std.proofs.lemmas.Nat.{zero_from_ones}
 use Rattle.std.proofs.lemmas.Nat.Bits.{bit_at_above, bit_at-lt}
 use Rattle.std.proofs.lemmas.Option.{get_or_from_slice_get, same_Some, slice_get-get_or}
-use Rattle.cil_keyed_lines.specs.Keyed as keyed
 use Rattle.cil_keyed_lines.specs.Keyed.{AreKeyed, Keyed, IsLineOf, NoneCounted, before_at, is_key, now_at}
 use Rattle.cil_keyed_lines.specs.declared.symbol_key.SymbolKey.{SymbolKey}
 use Rattle.cil_keyed_lines.proofs.KeyedLemmas.{line_of_key, placed_at}
@@ -21,11 +20,8 @@ use Rattle.cil_recorded.proofs.LogLemmas.{hit_nothing, hit_off, hit_on, hit_out}
 use Rattle.cil_sums.specs.Rises.{below, RisesBy}
 use Rattle.cil_sums.proofs.PairLemmas.{from-mapped, mapped, pairs-map}
 use Rattle.cil_sums.proofs.RiseLemmas.{rises-added, rises-bits, rises-both, rises-first, rises-map, rises-next, rises-none}
-use Rattle.cil_symbol_tables.specs.Tables.{count_before, count_now, lines_of}
-use Rattle.cil_symbol_tables.specs.declared.symbol_tables.SymbolTables.{SymbolTables}
-use Rattle.cil_text.specs.declared.statement.RuleKind.{RuleKind}
-use Rattle.cil_text.specs.declared.statement.RuleKind.TheVariants.{Allow, AuditAllow, DontAudit, NeverAllow}
-use Rattle.cil_symbol_changes.specs.Counts.{came, has_come, has_come_to, has_risen, went, AreSoMany, SymbolAccess}
+use Rattle.cil_keyed_lines.specs.Keyed.{count_before, count_now}
+use Rattle.cil_symbol_changes.specs.Counts.{came, has_come, has_come, has_risen, went, AreSoMany, SymbolAccess}
 
 -- Things that stand for those that pass, each for one, are as many.
 module _ {X Y : Type 0} (f : X → Y) (p : X → Bool) (q : Y → Bool) (alone : (a b : X) → p a ≡ true → p b ≡ true → f a ≡ f b → a ≡ b) (there : (x : X) → p x ≡ true → q (f x) ≡ true)
@@ -188,17 +184,17 @@ module _ (lines : Keyed) (stands f g : ℕ → ℕ → ℕ) (was is : SymbolKey 
   led : (p : ℕ × ℕ) → in_lines p ≡ true → IsFound lines p.0
   led p passes = let some = ltb-true 0 (stands p.0 p.1) passes in found p.0 p.1 (omega (arith, some, turned p.0 p.1))
 
-  risen-at : (l : ℕ) (key : SymbolKey) (t : ℕ) → position (is_key key) lines.keys ≡ Some l → nat_lt 0 (stands l t) ≡ has_come_to was is (key, t)
+  risen-at : (l : ℕ) (key : SymbolKey) (t : ℕ) → position (is_key key) lines.keys ≡ Some l → nat_lt 0 (stands l t) ≡ has_come was is (key, t)
   risen-at l key t leads =
       let (before, now) = at l key (line-led lines l key leads) t in
       turned-risen (stands l t) (was key t) (is key t) (turned l t ∙ ap (λ n. min 1 n - min 1 (f l t)) now ∙ ap (λ n. min 1 (is key t) - min 1 n) before)
 
-  of-lines : (p : ℕ × ℕ) → in_lines p ≡ true → has_come_to was is (by_key p) ≡ true
+  of-lines : (p : ℕ × ℕ) → in_lines p ≡ true → has_come was is (by_key p) ≡ true
   of-lines p passes =
       let line = led p passes in
-      ap (λ key. has_come_to was is (key, p.1)) (get_or_from_slice_get lines.keys p.0 line.key no_key line.at) ∙ sym (risen-at p.0 line.key p.1 line.leads) ∙ passes
+      ap (λ key. has_come was is (key, p.1)) (get_or_from_slice_get lines.keys p.0 line.key no_key line.at) ∙ sym (risen-at p.0 line.key p.1 line.leads) ∙ passes
 
-  to-lines : (q : SymbolKey × ℕ) → has_come_to was is q ≡ true → (p : ℕ × ℕ) × (in_lines p ≡ true) × (by_key p ≡ q)
+  to-lines : (q : SymbolKey × ℕ) → has_come was is q ≡ true → (p : ℕ × ℕ) × (in_lines p ≡ true) × (by_key p ≡ q)
   to-lines q come =
       let present = (both-hold (nat_lt 0 (is q.0 q.1)) (not (nat_lt 0 (was q.0 q.1))) come).0 in
       let (l, leads) = find q.0 q.1 (ltb-true 0 (is q.0 q.1) present) in
@@ -215,18 +211,18 @@ module _ (lines : Keyed) (stands f g : ℕ → ℕ → ℕ) (was is : SymbolKey 
       let targets = ap (λ r. r.1) same in
       λ i. (lines_same i, targets i)
 
-  pub key-count : (before after : ℕ) → RisesBy in_lines before after → RisesBy (has_come_to was is) before after
-  key-count = rises-stand by_key in_lines (has_come_to was is) one-line of-lines to-lines
+  pub key-count : (before after : ℕ) → RisesBy in_lines before after → RisesBy (has_come was is) before after
+  key-count = rises-stand by_key in_lines (has_come was is) one-line of-lines to-lines
 
 -- a key with a counter above 0 has a line
-pub place-now : (lines : Keyed) (key : SymbolKey) (t : ℕ) → 0 < keyed.count_now lines key t → (l : ℕ) × (position (is_key key) lines.keys ≡ Some l)
+pub place-now : (lines : Keyed) (key : SymbolKey) (t : ℕ) → 0 < count_now lines key t → (l : ℕ) × (position (is_key key) lines.keys ≡ Some l)
 place-now lines key t some = by (position (is_key key) lines.keys) refl (line_of_key lines key (position (is_key key) lines.keys) refl)
   where
     by : (o : Option ℕ) → position (is_key key) lines.keys ≡ o → MatchOption o (NoneCounted lines key) (λ l. IsLineOf lines l key) → (l : ℕ) × (position (is_key key) lines.keys ≡ Some l)
     by None at none = let zero = (none t).0 in absurd (omega (arith, some, zero))
     by (Some l) at line = (l, at)
 
-place-before : (lines : Keyed) (key : SymbolKey) (t : ℕ) → 0 < keyed.count_before lines key t → (l : ℕ) × (position (is_key key) lines.keys ≡ Some l)
+place-before : (lines : Keyed) (key : SymbolKey) (t : ℕ) → 0 < count_before lines key t → (l : ℕ) × (position (is_key key) lines.keys ≡ Some l)
 place-before lines key t some = by (position (is_key key) lines.keys) refl (line_of_key lines key (position (is_key key) lines.keys) refl)
   where
     by : (o : Option ℕ) → position (is_key key) lines.keys ≡ o → MatchOption o (NoneCounted lines key) (λ l. IsLineOf lines l key) → (l : ℕ) × (position (is_key key) lines.keys ≡ Some l)
@@ -249,23 +245,19 @@ module _ (lines : Keyed) (held : AreKeyed lines.keys lines.lines) where
         | inr behind ↦ let none = held.before l t behind in absurd (omega (arith, some, none))
       ])
 
--- ---- the numbers of a kind
+-- ---- the numbers of lines
 
-module _ {A : Type 0} (tables : SymbolTables A) (kind : RuleKind) (lines : Keyed) (at : lines ≡ lines_of tables kind) (held : AreKeyed lines.keys lines.lines) (stands : ℕ → ℕ → ℕ) (count : ℕ)
+module _ (lines : Keyed) (held : AreKeyed lines.keys lines.lines) (stands : ℕ → ℕ → ℕ) (count : ℕ)
     (many : RisesBy (λ (p : ℕ × ℕ). nat_lt 0 (stands p.0 p.1)) 0 count) where
   -- the number of what appeared in the lines of a kind
-  pub kind-come : ((l t : ℕ) → stands l t ≡ min 1 (now_at lines l t) - min 1 (before_at lines l t)) → RisesBy (has_come_to (count_before tables kind) (count_now tables kind)) 0 count
-  unfolding count_now count_before
-  kind-come turned =
-      subst (λ (k : Keyed). RisesBy (has_come_to (keyed.count_before k) (keyed.count_now k)) 0 count) at
-      (key-count lines stands (before_at lines) (now_at lines) (keyed.count_before lines) (keyed.count_now lines) turned (here-now lines held) (λ l key line t. (line.before t, line.now t)) (place-now lines) 0 count many)
+  pub lines-come : ((l t : ℕ) → stands l t ≡ min 1 (now_at lines l t) - min 1 (before_at lines l t)) → RisesBy (has_come (count_before lines) (count_now lines)) 0 count
+  lines-come turned =
+      (key-count lines stands (before_at lines) (now_at lines) (count_before lines) (count_now lines) turned (here-now lines held) (λ l key line t. (line.before t, line.now t)) (place-now lines) 0 count many)
 
   -- and of what went
-  pub kind-gone : ((l t : ℕ) → stands l t ≡ min 1 (before_at lines l t) - min 1 (now_at lines l t)) → RisesBy (has_come_to (count_now tables kind) (count_before tables kind)) 0 count
-  unfolding count_now count_before
-  kind-gone turned =
-      subst (λ (k : Keyed). RisesBy (has_come_to (keyed.count_now k) (keyed.count_before k)) 0 count) at
-      (key-count lines stands (now_at lines) (before_at lines) (keyed.count_now lines) (keyed.count_before lines) turned (here-before lines held) (λ l key line t. (line.now t, line.before t)) (place-before lines) 0 count many)
+  pub lines-gone : ((l t : ℕ) → stands l t ≡ min 1 (before_at lines l t) - min 1 (now_at lines l t)) → RisesBy (has_come (count_now lines) (count_before lines)) 0 count
+  lines-gone turned =
+      (key-count lines stands (now_at lines) (before_at lines) (count_now lines) (count_before lines) turned (here-before lines held) (λ l key line t. (line.now t, line.before t)) (place-before lines) 0 count many)
 
 -- ---- steps that turned targets one way
 
@@ -320,7 +312,7 @@ module _ (ss : List Step) (now before : ℕ → ℕ → ℕ) (turned : IsTurned 
       let zero = no-masks (λ (s : Step). s.line) (λ (s : Step). s.word) went ss none l t in
       (omega (arith, balance l t, zero), omega (arith, balance l t, zero))
 
-module _ {A : Type 0} (tables : SymbolTables A) (kind : RuleKind) (lines : Keyed) (at : lines ≡ lines_of tables kind) (held : AreKeyed lines.keys lines.lines) (log : List Step) (is : log ≡ lines.lines.log)
+module _ (lines : Keyed) (held : AreKeyed lines.keys lines.lines) (log : List Step) (is : log ≡ lines.lines.log)
     (turned : IsTurned lines.lines.log (now_at lines) (before_at lines)) (fits : All (λ (s : Step). s.turned < 2 ^ 64) log) (added removed : ℕ) (came_is : added ≡ sum_by (λ s. count_ones (came s)) log)
     (went_is : removed ≡ sum_by (λ s. count_ones (went s)) log) (none : (added ≡ 0) ⊎ (removed ≡ 0)) where
   each : (l t : ℕ) → (came_at log l t ≡ min 1 (now_at lines l t) - min 1 (before_at lines l t)) × (went_at log l t ≡ min 1 (before_at lines l t) - min 1 (now_at lines l t))
@@ -331,125 +323,37 @@ module _ {A : Type 0} (tables : SymbolTables A) (kind : RuleKind) (lines : Keyed
         | inr nothing ↦ inr (sym went_is ∙ nothing)
       ])
 
-  pub steps-come : RisesBy (has_come_to (count_before tables kind) (count_now tables kind)) 0 added
+  pub steps-come : RisesBy (has_come (count_before lines) (count_now lines)) 0 added
   steps-come =
-      kind-come tables kind lines at held (came_at log) added
+      lines-come lines held (came_at log) added
       (subst (RisesBy (λ (p : ℕ × ℕ). nat_lt 0 (came_at log p.0 p.1)) 0) (sym came_is)
       (all-masks (λ (s : Step). s.line) (λ (s : Step). s.word) came log (λ s there. came-fits s (All-contains (λ (t : Step). t.turned < 2 ^ 64) log s fits there)) (λ l t. let e = (each l t).0 in omega (arith, e))))
       (λ l t. (each l t).0)
 
-  pub steps-gone : RisesBy (has_come_to (count_now tables kind) (count_before tables kind)) 0 removed
+  pub steps-gone : RisesBy (has_come (count_now lines) (count_before lines)) 0 removed
   steps-gone =
-      kind-gone tables kind lines at held (went_at log) removed
+      lines-gone lines held (went_at log) removed
       (subst (RisesBy (λ (p : ℕ × ℕ). nat_lt 0 (went_at log p.0 p.1)) 0) (sym went_is)
       (all-masks (λ (s : Step). s.line) (λ (s : Step). s.word) went log (λ s there. went-fits s (All-contains (λ (t : Step). t.turned < 2 ^ 64) log s fits there)) (λ l t. let e = (each l t).1 in omega (arith, e))))
       (λ l t. (each l t).1)
 
 -- ---- changes
 
-module _ {A : Type 0} (tables : SymbolTables A) (kind : RuleKind) (lines : Keyed) (at : lines ≡ lines_of tables kind) (held : AreKeyed lines.keys lines.lines) (given changes : List Change) (all : given ≡ changes) (count : ℕ) where
+module _ (lines : Keyed) (held : AreKeyed lines.keys lines.lines) (given changes : List Change) (all : given ≡ changes) (count : ℕ) where
   pub changes-come : ((l t : ℕ) → appeared_at changes l t ≡ min 1 (now_at lines l t) - min 1 (before_at lines l t)) → All (λ (c : Change). c.appeared < 2 ^ 64) given → count ≡ sum_by (λ c. count_ones c.appeared) given
-      → RisesBy (has_come_to (count_before tables kind) (count_now tables kind)) 0 count
+      → RisesBy (has_come (count_before lines) (count_now lines)) 0 count
   changes-come appeared fit counted =
       let turned : (l t : ℕ) → appeared_at given l t ≡ min 1 (now_at lines l t) - min 1 (before_at lines l t) = λ l t. ap (λ cs. appeared_at cs l t) all ∙ appeared l t in
-      kind-come tables kind lines at held (appeared_at given) count
+      lines-come lines held (appeared_at given) count
       (subst (RisesBy (λ (p : ℕ × ℕ). nat_lt 0 (appeared_at given p.0 p.1)) 0) (sym counted)
       (all-masks (λ (c : Change). c.line) (λ (c : Change). c.word) (λ (c : Change). c.appeared) given (λ c there. All-contains (λ (d : Change). d.appeared < 2 ^ 64) given c fit there) (λ l t. omega (arith, turned l t))))
       turned
 
   pub changes-gone : ((l t : ℕ) → gone_at changes l t ≡ min 1 (before_at lines l t) - min 1 (now_at lines l t)) → All (λ (c : Change). c.gone < 2 ^ 64) given → count ≡ sum_by (λ c. count_ones c.gone) given
-      → RisesBy (has_come_to (count_now tables kind) (count_before tables kind)) 0 count
+      → RisesBy (has_come (count_now lines) (count_before lines)) 0 count
   changes-gone gone fit counted =
       let turned : (l t : ℕ) → gone_at given l t ≡ min 1 (before_at lines l t) - min 1 (now_at lines l t) = λ l t. ap (λ cs. gone_at cs l t) all ∙ gone l t in
-      kind-gone tables kind lines at held (gone_at given) count
+      lines-gone lines held (gone_at given) count
       (subst (RisesBy (λ (p : ℕ × ℕ). nat_lt 0 (gone_at given p.0 p.1)) 0) (sym counted)
       (all-masks (λ (c : Change). c.line) (λ (c : Change). c.word) (λ (c : Change). c.gone) given (λ c there. All-contains (λ (d : Change). d.gone < 2 ^ 64) given c fit there) (λ l t. omega (arith, turned l t))))
       turned
-
--- ---- kinds
-
--- the kinds by numbers
-kind_at : ℕ → RuleKind
-kind_at zero = Allow
-kind_at (suc zero) = AuditAllow
-kind_at (suc (suc zero)) = DontAudit
-kind_at (suc (suc (suc n))) = NeverAllow
-
-number_of : RuleKind → ℕ
-number_of Allow = 0
-number_of AuditAllow = 1
-number_of DontAudit = 2
-number_of NeverAllow = 3
-
-number-there : (n : ℕ) → n < 4 → number_of (kind_at n) ≡ n
-unfolding kind_at number_of
-number-there zero low = refl
-number-there (suc zero) low = refl
-number-there (suc (suc zero)) low = refl
-number-there (suc (suc (suc zero))) low = refl
-number-there (suc (suc (suc (suc n)))) low = absurd (omega (arith, low))
-
-number-low : (kind : RuleKind) → number_of kind < 4
-unfolding number_of
-number-low Allow = omega arith
-number-low AuditAllow = omega arith
-number-low DontAudit = omega arith
-number-low NeverAllow = omega arith
-
-kind-there : (kind : RuleKind) → kind_at (number_of kind) ≡ kind
-unfolding kind_at number_of
-kind-there Allow = refl
-kind-there AuditAllow = refl
-kind-there DontAudit = refl
-kind-there NeverAllow = refl
-
-module _ (was is : RuleKind → SymbolKey → ℕ → ℕ) where
-  abbrev of_number : ℕ → SymbolKey × ℕ → Bool
-  of_number n = has_come_to (was (kind_at n)) (is (kind_at n))
-
-  abbrev access : ℕ × (SymbolKey × ℕ) → SymbolAccess
-  access p = record { kind = kind_at p.0; key = p.1.0; target = p.1.1 }
-
-  low : (p : ℕ × (SymbolKey × ℕ)) → below of_number 4 p ≡ true → p.0 < 4
-  low p passes = ltb-true p.0 4 (both-hold (nat_lt p.0 4) (of_number p.0 p.1) passes).0
-
-  one-number : (p q : ℕ × (SymbolKey × ℕ)) → below of_number 4 p ≡ true → below of_number 4 q ≡ true → access p ≡ access q → p ≡ q
-  one-number p q first second same =
-      let numbers : p.0 ≡ q.0 = sym (number-there p.0 (low p first)) ∙ ap (λ (a : SymbolAccess). number_of a.kind) same ∙ number-there q.0 (low q second) in
-      let keys = ap (λ (a : SymbolAccess). a.key) same in
-      let targets = ap (λ (a : SymbolAccess). a.target) same in
-      λ i. (numbers i, (keys i, targets i))
-
-  to-access : (p : ℕ × (SymbolKey × ℕ)) → below of_number 4 p ≡ true → has_come was is (access p) ≡ true
-  to-access p passes = (both-hold (nat_lt p.0 4) (of_number p.0 p.1) passes).1
-
-  from-access : (a : SymbolAccess) → has_come was is a ≡ true → (p : ℕ × (SymbolKey × ℕ)) × (below of_number 4 p ≡ true) × (access p ≡ a)
-  from-access a come =
-      let kind = kind-there a.kind in (
-        (number_of a.kind, (a.key, a.target)),
-        ap (λ b. b && of_number (number_of a.kind) (a.key, a.target)) (lt-ltb (number_of a.kind) 4 (number-low a.kind)) ∙ ap (λ k. has_come_to (was k) (is k) (a.key, a.target)) kind ∙ come,
-        λ i. record { kind = kind i; key = a.key; target = a.target },
-      )
-
-  -- a count that rises by what came of each kind in turn
-  pub kinds-in-turn : (allow auditallow dontaudit neverallow : ℕ) → RisesBy (has_come_to (was Allow) (is Allow)) 0 allow → RisesBy (has_come_to (was AuditAllow) (is AuditAllow)) allow auditallow
-      → RisesBy (has_come_to (was DontAudit) (is DontAudit)) auditallow dontaudit → RisesBy (has_come_to (was NeverAllow) (is NeverAllow)) dontaudit neverallow → neverallow < 2 ^ 128 - 1
-      → AreSoMany (has_come was is) neverallow
-  unfolding kind_at
-  kinds-in-turn allow auditallow dontaudit neverallow first second third fourth small =
-      let one : RisesBy (below of_number 1) 0 allow = rises-next of_number 0 0 0 allow (rises-first of_number 0) first in
-      let two : RisesBy (below of_number 2) 0 auditallow = rises-next of_number 1 0 allow auditallow one second in
-      let three : RisesBy (below of_number 3) 0 dontaudit = rises-next of_number 2 0 auditallow dontaudit two third in
-      let four : RisesBy (below of_number 4) 0 neverallow = rises-next of_number 3 0 dontaudit neverallow three fourth in
-      so-many (has_come was is) neverallow small (rises-stand access (below of_number 4) (has_come was is) one-number to-access from-access 0 neverallow four)
-
-  -- the same where each kind is counted from 0
-  pub kinds-count : (allow auditallow dontaudit neverallow : ℕ) → RisesBy (has_come_to (was Allow) (is Allow)) 0 allow → RisesBy (has_come_to (was AuditAllow) (is AuditAllow)) 0 auditallow
-      → RisesBy (has_come_to (was DontAudit) (is DontAudit)) 0 dontaudit → RisesBy (has_come_to (was NeverAllow) (is NeverAllow)) 0 neverallow
-      → allow + auditallow + dontaudit + neverallow < 2 ^ 128 - 1 → AreSoMany (has_come was is) (allow + auditallow + dontaudit + neverallow)
-  kinds-count allow auditallow dontaudit neverallow first second third fourth =
-      kinds-in-turn allow (allow + auditallow) (allow + auditallow + dontaudit) (allow + auditallow + dontaudit + neverallow) first
-      (added AuditAllow allow auditallow second) (added DontAudit (allow + auditallow) dontaudit third) (added NeverAllow (allow + auditallow + dontaudit) neverallow fourth)
-    where
-      added : (kind : RuleKind) (before some : ℕ) → RisesBy (has_come_to (was kind) (is kind)) 0 some → RisesBy (has_come_to (was kind) (is kind)) before (before + some)
-      added kind before some rises = rises-added (has_come_to (was kind) (is kind)) before some (before + some) rises (omega arith) (omega arith)

@@ -14,7 +14,6 @@ use Rattle.cil_keyed_lines.specs.declared.symbol_key.SymbolKey.{SymbolKey}
 use Rattle.cil_lines.specs.Line.{hit}
 use Rattle.cil_lines.proofs.LineLemmas.{some_bit}
 use Rattle.cil_lines.proofs.StepLemmas.{hit-here, hit-there}
-use Rattle.cil_text.specs.declared.statement.RuleKind.{RuleKind}
 use Rattle.cil_symbol_changes.specs.Gained.{AreGained, AreKept, AreKnown, chunk_by, IsShort, IsTo}
 use Rattle.cil_symbol_changes.specs.Numbered.{access_by, IsNumbered}
 
@@ -54,9 +53,9 @@ gained-alike told other old new gained to from = record {
 
 -- ---- the accesses of a word, by symbols
 
-module _ (numbers : List ℕ) (kind : RuleKind) (key : SymbolKey) (word mask : ℕ) where
+module _ (numbers : List ℕ) (key : SymbolKey) (word mask : ℕ) where
   abbrev by_symbols : Chunk
-  by_symbols = chunk_by kind key word mask
+  by_symbols = chunk_by key word mask
 
   -- a target of the mask stands in the word, at a bit that is set
   stands : (t : ℕ) → 0 < hit word mask t → (64 * word + t % 64 ≡ t) × (bit_at mask (t % 64) ≡ 1)
@@ -80,7 +79,7 @@ module _ (numbers : List ℕ) (kind : RuleKind) (key : SymbolKey) (word mask : �
         permission = subst (λ n. n < length numbers) (sym of.permission) named.permission;
       }
 
-  to-target : (a : AccessNumbers) → IsRenumbered numbers by_symbols 64 a → IsTo numbers kind key (λ t. 0 < hit word mask t) a
+  to-target : (a : AccessNumbers) → IsRenumbered numbers by_symbols 64 a → IsTo numbers key (λ t. 0 < hit word mask t) a
   to-target a r =
       let small = r.within in
       let bit : (64 * word + r.bit) % 64 ≡ r.bit = omega (arith, small) in
@@ -90,23 +89,23 @@ module _ (numbers : List ℕ) (kind : RuleKind) (key : SymbolKey) (word mask : �
         same = r.at.is;
       }
 
-  from-target : (a : AccessNumbers) → IsTo numbers kind key (λ t. 0 < hit word mask t) a → IsRenumbered numbers by_symbols 64 a
+  from-target : (a : AccessNumbers) → IsTo numbers key (λ t. 0 < hit word mask t) a → IsRenumbered numbers by_symbols 64 a
   from-target a told =
       let (place, set) = stands told.target told.among in
       record {
         bit = told.target % 64;
         within = omega arith;
-        at = record { set = eq-eqb (bit_at mask (told.target % 64)) 1 set; is = told.same ∙ ap (access_by numbers kind key) (sym place) };
+        at = record { set = eq-eqb (bit_at mask (told.target % 64)) 1 set; is = told.same ∙ ap (access_by numbers key) (sym place) };
       }
 
-  pub gained-targets : (old new : List Chunk) → All IsShort new → ((a : AccessNumbers) → IsGiven new a ↔ (IsGiven old a ⊎ IsRenumbered numbers by_symbols 64 a)) → AreGained (IsTo numbers kind key (λ t. 0 < hit word mask t)) old new
+  pub gained-targets : (old new : List Chunk) → All IsShort new → ((a : AccessNumbers) → IsGiven new a ↔ (IsGiven old a ⊎ IsRenumbered numbers by_symbols 64 a)) → AreGained (IsTo numbers key (λ t. 0 < hit word mask t)) old new
   gained-targets old new short same =
-      gained-alike (IsRenumbered numbers by_symbols 64) (IsTo numbers kind key (λ t. 0 < hit word mask t)) old new (record { are = same; short = λ all. short }) to-target from-target
+      gained-alike (IsRenumbered numbers by_symbols 64) (IsTo numbers key (λ t. 0 < hit word mask t)) old new (record { are = same; short = λ all. short }) to-target from-target
 
   -- a mask that has no target
-  pub gained-nothing : mask ≡ 0 → (old : List Chunk) → AreGained (IsTo numbers kind key (λ t. 0 < hit word mask t)) old old
+  pub gained-nothing : mask ≡ 0 → (old : List Chunk) → AreGained (IsTo numbers key (λ t. 0 < hit word mask t)) old old
   gained-nothing none old =
-      gained-none (IsTo numbers kind key (λ t. 0 < hit word mask t)) old
+      gained-none (IsTo numbers key (λ t. 0 < hit word mask t)) old
       (λ a told. let set = (stands told.target told.among).1 in let clear = ap (λ n. bit_at n (told.target % 64)) none ∙ bit_at-zero (told.target % 64) in omega (arith, set, clear))
 
   -- a mask that is not empty has a target
@@ -120,9 +119,9 @@ module _ (numbers : List ℕ) (kind : RuleKind) (key : SymbolKey) (word mask : �
   -- ---- the same where each symbol is its own number
 
   abbrev pub by_numbers : Chunk
-  by_numbers = record { kind = kind; source = slice_index numbers key.source; word = word; class = slice_index numbers key.class; permission = slice_index numbers key.permission; bits = mask }
+  by_numbers = record { kind = key.kind; source = slice_index numbers key.source; word = word; class = slice_index numbers key.class; permission = slice_index numbers key.permission; bits = mask }
 
-  to-kept : AreKept numbers → AreKnown numbers key (hit word mask) → (a : AccessNumbers) → IsAccessOf by_numbers a → IsTo numbers kind key (λ t. 0 < hit word mask t) a
+  to-kept : AreKept numbers → AreKnown numbers key (hit word mask) → (a : AccessNumbers) → IsAccessOf by_numbers a → IsTo numbers key (λ t. 0 < hit word mask t) a
   to-kept kept known a of =
       let there = among a.target of.word of.bit in
       let target = sym (kept a.target (known a.target there).among) in
@@ -132,7 +131,7 @@ module _ (numbers : List ℕ) (kind : RuleKind) (key : SymbolKey) (word mask : �
         same = λ i. record { kind = of.kind i; source = of.source i; target = target i; class = of.the_class i; permission = of.permission i };
       }
 
-  from-kept : AreKept numbers → AreKnown numbers key (hit word mask) → (a : AccessNumbers) → IsTo numbers kind key (λ t. 0 < hit word mask t) a → IsAccessOf by_numbers a
+  from-kept : AreKept numbers → AreKnown numbers key (hit word mask) → (a : AccessNumbers) → IsTo numbers key (λ t. 0 < hit word mask t) a → IsAccessOf by_numbers a
   from-kept kept known a told =
       let (place, set) = stands told.target told.among in
       let target : a.target ≡ told.target = ap (λ x. x.target) told.same ∙ kept told.target (known told.target told.among).among in
@@ -146,8 +145,8 @@ module _ (numbers : List ℕ) (kind : RuleKind) (key : SymbolKey) (word mask : �
         bit = ap (λ t. bit_at mask (t % 64)) target ∙ set;
       }
 
-  pub gained-kept : AreKept numbers → AreKnown numbers key (hit word mask) → word < 2 ^ 26 → (old : List Chunk) → AreGained (IsTo numbers kind key (λ t. 0 < hit word mask t)) old (old ++ by_numbers ∷ [])
+  pub gained-kept : AreKept numbers → AreKnown numbers key (hit word mask) → word < 2 ^ 26 → (old : List Chunk) → AreGained (IsTo numbers key (λ t. 0 < hit word mask t)) old (old ++ by_numbers ∷ [])
   gained-kept kept known low old =
-      gained-alike (IsAccessOf by_numbers) (IsTo numbers kind key (λ t. 0 < hit word mask t)) old (old ++ by_numbers ∷ [])
+      gained-alike (IsAccessOf by_numbers) (IsTo numbers key (λ t. 0 < hit word mask t)) old (old ++ by_numbers ∷ [])
       (record { are = λ a. (any-pushed (λ c. IsAccessOf c a) old by_numbers, any-push (λ c. IsAccessOf c a) old by_numbers); short = λ all. All-push IsShort old by_numbers all low })
       (to-kept kept known) (from-kept kept known)

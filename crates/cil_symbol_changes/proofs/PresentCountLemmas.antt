@@ -5,15 +5,12 @@ use Rattle.std.specs.Option.{SomeIff}
 use Rattle.std.proofs.lemmas.Bool.{cases_eq, cases_lt, eq-eqb, le-ltb, lt-ltb, ltb-true, ne_eqb}
 use Rattle.std.proofs.lemmas.Nat.Bits.{bit_at_above}
 use Rattle.std.proofs.lemmas.Option.{none-some, same_Some}
-use Rattle.cil_keyed_lines.specs.Keyed as keyed
 use Rattle.cil_keyed_lines.specs.Keyed.{AreKeyed, Keyed, now_at}
 use Rattle.cil_lines.specs.Line.{IsNextPresent, IsPresence}
 use Rattle.cil_sums.specs.Rises.{below, RisesBy}
 use Rattle.cil_sums.proofs.RiseLemmas.{rises-bits, rises-map, rises-more, rises-same}
-use Rattle.cil_symbol_tables.specs.Tables.{count_now, lines_of}
-use Rattle.cil_symbol_tables.specs.declared.symbol_tables.SymbolTables.{SymbolTables}
-use Rattle.cil_text.specs.declared.statement.RuleKind.{RuleKind}
-use Rattle.cil_symbol_changes.specs.Counts.{has_come_to}
+use Rattle.cil_keyed_lines.specs.Keyed.{count_now}
+use Rattle.cil_symbol_changes.specs.Counts.{has_come}
 use Rattle.cil_symbol_changes.proofs.CountLemmas.{both-hold, here-now, key-count, place-now}
 
 -- ---- the words of a line
@@ -88,18 +85,16 @@ module _ (counts : ℕ → ℕ) where
       pub word-more : (start between after : ℕ) → after ≡ min (between + count_ones mask) (2 ^ 128 - 1) → RisesBy (is_before from) start between → RisesBy (is_before behind) start after
       word-more start between after sum rises = rises-more (is_before from) is_here (is_before behind) joined start between (count_ones mask) after rises in-word sum
 
--- ---- the lines of a kind
+-- ---- lines
 
-module _ {A : Type 0} (tables : SymbolTables A) (kind : RuleKind) (lines : Keyed) (at : lines ≡ lines_of tables kind) (held : AreKeyed lines.keys lines.lines) where
+module _ (lines : Keyed) (held : AreKeyed lines.keys lines.lines) where
   -- whether a target stands: it came where nothing was
   abbrev stands : ℕ → ℕ → ℕ
   stands l t = min 1 (now_at lines l t) - min 1 0
 
-  pub kind-present : (before after : ℕ) → RisesBy (below (λ l t. nat_lt 0 (now_at lines l t)) (length lines.keys)) before after → RisesBy (has_come_to (λ key t. 0) (count_now tables kind)) before after
-  unfolding count_now
-  kind-present before after many =
-      subst (λ (k : Keyed). RisesBy (has_come_to (λ key t. 0) (keyed.count_now k)) before after) at
-      (key-count lines stands (λ l t. 0) (now_at lines) (λ key t. 0) (keyed.count_now lines) (λ l t. refl) (here-now lines held) (λ l key line t. (refl, line.now t)) (place-now lines) before after
+  pub lines-present : (before after : ℕ) → RisesBy (below (λ l t. nat_lt 0 (now_at lines l t)) (length lines.keys)) before after → RisesBy (has_come (λ key t. 0) (count_now lines)) before after
+  lines-present before after many =
+      (key-count lines stands (λ l t. 0) (now_at lines) (λ key t. 0) (count_now lines) (λ l t. refl) (here-now lines held) (λ l key line t. (refl, line.now t)) (place-now lines) before after
       (rises-same (below (λ l t. nat_lt 0 (now_at lines l t)) (length lines.keys)) (λ (p : ℕ × ℕ). nat_lt 0 (stands p.0 p.1)) before after same many))
     where
       same : (p : ℕ × ℕ) → below (λ l t. nat_lt 0 (now_at lines l t)) (length lines.keys) p ≡ nat_lt 0 (stands p.0 p.1)

@@ -7,15 +7,12 @@ use Rattle.std.proofs.lemmas.Nat.Bits.{bit_at-zero}
 use Rattle.cil_accesses.specs.declared.access.AccessNumbers.{AccessNumbers}
 use Rattle.cil_accesses.specs.declared.chunk.Chunk.{Chunk}
 use Rattle.cil_keyed_lines.specs.Keyed.{Keyed, IsLineOf, IsNoLine, now_at}
-use Rattle.cil_keyed_lines.specs.Keyed as keyed
 use Rattle.cil_keyed_lines.specs.declared.symbol_key.SymbolKey.{SymbolKey}
 use Rattle.cil_lines.specs.Line.{hit, IsNextPresent, IsPresence, NonePresent}
 use Rattle.cil_lines.proofs.StepLemmas.{hit-here, hit-there}
-use Rattle.cil_symbol_tables.specs.Tables.{count_now, lines_of}
-use Rattle.cil_symbol_tables.specs.declared.symbol_tables.SymbolTables.{SymbolTables}
-use Rattle.cil_text.specs.declared.statement.RuleKind.{RuleKind}
+use Rattle.cil_keyed_lines.specs.Keyed.{count_now}
 use Rattle.cil_symbol_changes.specs.Gained.{AreGained, AreKnown, AreKnownIn, IsIn, IsTo}
-use Rattle.cil_symbol_changes.specs.Numbered.{access_by, ArePresentNumbered, IsPresentOf}
+use Rattle.cil_symbol_changes.specs.Numbered.{access_by, ArePresentNumbered, IsPresent}
 use Rattle.cil_symbol_changes.specs.SourceOrder.{AreAllPlaces, IsAt, IsAtWord, IsBetween}
 use Rattle.cil_symbol_changes.specs.declared.source_order.LinePlace.{LinePlace}
 use Rattle.cil_symbol_changes.proofs.ChangeLemmas.{line-now}
@@ -47,19 +44,19 @@ IsBefore counts from t = (0 < counts t) × (t / 64 < from)
 
 -- ---- the words of a line
 
-module _ (numbers : List ℕ) (kind : RuleKind) (key : SymbolKey) (counts : ℕ → ℕ) where
-  moved : (f g : ℕ → Type 0) (a : AccessNumbers) (told : IsTo numbers kind key f a) → g told.target → IsTo numbers kind key g a
+module _ (numbers : List ℕ) (key : SymbolKey) (counts : ℕ → ℕ) where
+  moved : (f g : ℕ → Type 0) (a : AccessNumbers) (told : IsTo numbers key f a) → g told.target → IsTo numbers key g a
   moved f g a told among = record { target = told.target; among = among; same = told.same }
 
-  pub words-none : (old : List Chunk) → AreGained (IsTo numbers kind key (IsBefore counts 0)) old old
-  words-none old = gained-none (IsTo numbers kind key (IsBefore counts 0)) old (λ a told. let low = told.among.1 in omega (arith, low))
+  pub words-none : (old : List Chunk) → AreGained (IsTo numbers key (IsBefore counts 0)) old old
+  words-none old = gained-none (IsTo numbers key (IsBefore counts 0)) old (λ a told. let low = told.among.1 in omega (arith, low))
 
-  pub words-more : (from word mask : ℕ) (old mid new : List Chunk) → IsNextPresent counts from word → IsPresence counts word mask → AreGained (IsTo numbers kind key (IsBefore counts from)) old mid
-      → AreGained (IsTo numbers kind key (λ t. 0 < hit word mask t)) mid new → AreGained (IsTo numbers kind key (IsBefore counts (word + 1))) old new
+  pub words-more : (from word mask : ℕ) (old mid new : List Chunk) → IsNextPresent counts from word → IsPresence counts word mask → AreGained (IsTo numbers key (IsBefore counts from)) old mid
+      → AreGained (IsTo numbers key (λ t. 0 < hit word mask t)) mid new → AreGained (IsTo numbers key (IsBefore counts (word + 1))) old new
   words-more from word mask old mid new next present first second =
-      gained-more (IsTo numbers kind key (IsBefore counts from)) (IsTo numbers kind key (λ t. 0 < hit word mask t)) (IsTo numbers kind key (IsBefore counts (word + 1))) old mid new first second split left right
+      gained-more (IsTo numbers key (IsBefore counts from)) (IsTo numbers key (λ t. 0 < hit word mask t)) (IsTo numbers key (IsBefore counts (word + 1))) old mid new first second split left right
     where
-      split : (a : AccessNumbers) → IsTo numbers kind key (IsBefore counts (word + 1)) a → IsTo numbers kind key (IsBefore counts from) a ⊎ IsTo numbers kind key (λ t. 0 < hit word mask t) a
+      split : (a : AccessNumbers) → IsTo numbers key (IsBefore counts (word + 1)) a → IsTo numbers key (IsBefore counts from) a ⊎ IsTo numbers key (λ t. 0 < hit word mask t) a
       split a told =
           let (some, low) = told.among in
           elim (cases_lt (told.target / 64) from) [
@@ -70,17 +67,17 @@ module _ (numbers : List ℕ) (kind : RuleKind) (key : SymbolKey) (counts : ℕ 
             ]
           ]
 
-      left : (a : AccessNumbers) → IsTo numbers kind key (IsBefore counts from) a → IsTo numbers kind key (IsBefore counts (word + 1)) a
+      left : (a : AccessNumbers) → IsTo numbers key (IsBefore counts from) a → IsTo numbers key (IsBefore counts (word + 1)) a
       left a told = let on = next.from_on in let low = told.among.1 in moved (IsBefore counts from) (IsBefore counts (word + 1)) a told (told.among.0, omega (arith, on, low))
 
-      right : (a : AccessNumbers) → IsTo numbers kind key (λ t. 0 < hit word mask t) a → IsTo numbers kind key (IsBefore counts (word + 1)) a
+      right : (a : AccessNumbers) → IsTo numbers key (λ t. 0 < hit word mask t) a → IsTo numbers key (IsBefore counts (word + 1)) a
       right a told =
           let (here, some) = hit-counted counts word mask present told.target told.among in
           moved (λ t. 0 < hit word mask t) (IsBefore counts (word + 1)) a told (some, omega (arith, here))
 
-  pub words-all : (from : ℕ) (old new : List Chunk) → NonePresent counts from → AreGained (IsTo numbers kind key (IsBefore counts from)) old new → AreGained (IsTo numbers kind key (λ t. 0 < counts t)) old new
+  pub words-all : (from : ℕ) (old new : List Chunk) → NonePresent counts from → AreGained (IsTo numbers key (IsBefore counts from)) old new → AreGained (IsTo numbers key (λ t. 0 < counts t)) old new
   words-all from old new none gained =
-      gained-alike (IsTo numbers kind key (IsBefore counts from)) (IsTo numbers kind key (λ t. 0 < counts t)) old new gained
+      gained-alike (IsTo numbers key (IsBefore counts from)) (IsTo numbers key (λ t. 0 < counts t)) old new gained
       (λ a told. moved (IsBefore counts from) (λ t. 0 < counts t) a told told.among.0)
       (λ a told. moved (λ t. 0 < counts t) (IsBefore counts from) a told (told.among, before told.target told.among))
     where
@@ -94,86 +91,86 @@ module _ (numbers : List ℕ) (kind : RuleKind) (key : SymbolKey) (counts : ℕ 
   pub word-low : (from word : ℕ) → IsNextPresent counts from word → AreKnown numbers key counts → word < length numbers
   word-low from word next known = let (t, here, some) = next.present in let low = (known t some).among in omega (arith, here, low)
 
--- ---- the lines of a kind
+-- ---- lines
 
-module _ (numbers : List ℕ) (kind : RuleKind) (lines : Keyed) where
-  pub in-place : (place : ℕ) (key : SymbolKey) (old new : List Chunk) → IsLineOf lines place key → AreGained (IsTo numbers kind key (λ t. 0 < now_at lines place t)) old new → AreGained (IsAt numbers kind lines place) old new
+module _ (numbers : List ℕ) (lines : Keyed) where
+  pub in-place : (place : ℕ) (key : SymbolKey) (old new : List Chunk) → IsLineOf lines place key → AreGained (IsTo numbers key (λ t. 0 < now_at lines place t)) old new → AreGained (IsAt numbers lines place) old new
   in-place place key old new line gained =
-      gained-alike (IsTo numbers kind key (λ t. 0 < now_at lines place t)) (IsAt numbers kind lines place) old new gained
+      gained-alike (IsTo numbers key (λ t. 0 < now_at lines place t)) (IsAt numbers lines place) old new gained
       (λ a told. record { told = record { place = place; key = key; line = line; target = told.target; among = told.among; same = told.same }; here = refl }) from
     where
-      from : (a : AccessNumbers) → IsAt numbers kind lines place a → IsTo numbers kind key (λ t. 0 < now_at lines place t) a
+      from : (a : AccessNumbers) → IsAt numbers lines place a → IsTo numbers key (λ t. 0 < now_at lines place t) a
       from a at =
           let told = at.told in
           let keys : told.key ≡ key = same_Some told.key key (sym told.line.at ∙ ap (slice_get lines.keys) at.here ∙ line.at) in
-          record { target = told.target; among = subst (λ n. 0 < now_at lines n told.target) at.here told.among; same = told.same ∙ ap (λ k. access_by numbers kind k told.target) keys }
+          record { target = told.target; among = subst (λ n. 0 < now_at lines n told.target) at.here told.among; same = told.same ∙ ap (λ k. access_by numbers k told.target) keys }
 
-  pub in-no_place : (place : ℕ) (old : List Chunk) → IsNoLine lines place → AreGained (IsAt numbers kind lines place) old old
-  in-no_place place old none = gained-none (IsAt numbers kind lines place) old (λ a at.
+  pub in-no_place : (place : ℕ) (old : List Chunk) → IsNoLine lines place → AreGained (IsAt numbers lines place) old old
+  in-no_place place old none = gained-none (IsAt numbers lines place) old (λ a at.
       let within = slice_get_within lines.keys at.told.place at.told.key at.told.line.at in
       let here = at.here in
       let behind = none.behind in
       omega (arith, within, here, behind))
 
   -- an order that has all lines
-  pub between-all : (order : List LinePlace) (n : ℕ) (old new : List Chunk) → AreAllPlaces (length lines.keys) order → length order ≤ n → AreGained (IsBetween (IsAt numbers kind lines) order 0 n) old new
-      → AreGained (IsIn numbers kind lines (now_at lines)) old new
+  pub between-all : (order : List LinePlace) (n : ℕ) (old new : List Chunk) → AreAllPlaces (length lines.keys) order → length order ≤ n → AreGained (IsBetween (IsAt numbers lines) order 0 n) old new
+      → AreGained (IsIn numbers lines (now_at lines)) old new
   between-all order n old new all past gained =
-      gained-alike (IsBetween (IsAt numbers kind lines) order 0 n) (IsIn numbers kind lines (now_at lines)) old new gained (λ a b. b.told.told)
-      (λ a told. between-from (IsAt numbers kind lines) order (length lines.keys) n all past told.place (slice_get_within lines.keys told.place told.key told.line.at) a (record { told = told; here = refl }))
+      gained-alike (IsBetween (IsAt numbers lines) order 0 n) (IsIn numbers lines (now_at lines)) old new gained (λ a b. b.told.told)
+      (λ a told. between-from (IsAt numbers lines) order (length lines.keys) n all past told.place (slice_get_within lines.keys told.place told.key told.line.at) a (record { told = told; here = refl }))
 
--- ---- the lines of a kind, word by word
+-- ---- lines, word by word
 
 -- the access of a place, to a target in a word before one
-pub record IsAtBefore (numbers : List ℕ) (kind : RuleKind) (lines : Keyed) (word place : ℕ) (a : AccessNumbers) : Type 0 where
-  pub told : IsAt numbers kind lines place a
+pub record IsAtBefore (numbers : List ℕ) (lines : Keyed) (word place : ℕ) (a : AccessNumbers) : Type 0 where
+  pub told : IsAt numbers lines place a
   pub low : told.told.target / 64 < word
 
-module _ (numbers : List ℕ) (kind : RuleKind) (lines : Keyed) (word place : ℕ) where
-  pub word-place : (key : SymbolKey) (mask : ℕ) (old new : List Chunk) → IsLineOf lines place key → IsPresence (now_at lines place) word mask → AreGained (IsTo numbers kind key (λ t. 0 < hit word mask t)) old new
-      → AreGained (IsAtWord numbers kind lines word place) old new
-  word-place key mask old new line present gained = gained-alike (IsTo numbers kind key (λ t. 0 < hit word mask t)) (IsAtWord numbers kind lines word place) old new gained to from
+module _ (numbers : List ℕ) (lines : Keyed) (word place : ℕ) where
+  pub word-place : (key : SymbolKey) (mask : ℕ) (old new : List Chunk) → IsLineOf lines place key → IsPresence (now_at lines place) word mask → AreGained (IsTo numbers key (λ t. 0 < hit word mask t)) old new
+      → AreGained (IsAtWord numbers lines word place) old new
+  word-place key mask old new line present gained = gained-alike (IsTo numbers key (λ t. 0 < hit word mask t)) (IsAtWord numbers lines word place) old new gained to from
     where
-      to : (a : AccessNumbers) → IsTo numbers kind key (λ t. 0 < hit word mask t) a → IsAtWord numbers kind lines word place a
+      to : (a : AccessNumbers) → IsTo numbers key (λ t. 0 < hit word mask t) a → IsAtWord numbers lines word place a
       to a told =
           let (here, some) = hit-counted (now_at lines place) word mask present told.target told.among in
           record { told = record { told = record { place = place; key = key; line = line; target = told.target; among = some; same = told.same }; here = refl }; stands = here }
 
-      from : (a : AccessNumbers) → IsAtWord numbers kind lines word place a → IsTo numbers kind key (λ t. 0 < hit word mask t) a
+      from : (a : AccessNumbers) → IsAtWord numbers lines word place a → IsTo numbers key (λ t. 0 < hit word mask t) a
       from a at =
           let told = at.told.told in
           let keys : told.key ≡ key = same_Some told.key key (sym told.line.at ∙ ap (slice_get lines.keys) at.told.here ∙ line.at) in
           record {
             target = told.target;
             among = counted-hit (now_at lines place) word mask present told.target at.stands (subst (λ n. 0 < now_at lines n told.target) at.told.here told.among);
-            same = told.same ∙ ap (λ k. access_by numbers kind k told.target) keys;
+            same = told.same ∙ ap (λ k. access_by numbers k told.target) keys;
           }
 
-  pub word-no_line : (old : List Chunk) → IsNoLine lines place → AreGained (IsAtWord numbers kind lines word place) old old
-  word-no_line old none = gained-none (IsAtWord numbers kind lines word place) old (λ a at.
+  pub word-no_line : (old : List Chunk) → IsNoLine lines place → AreGained (IsAtWord numbers lines word place) old old
+  word-no_line old none = gained-none (IsAtWord numbers lines word place) old (λ a at.
       let told = at.told.told in
       let within = slice_get_within lines.keys told.place told.key told.line.at in
       let here = at.told.here in
       let behind = none.behind in
       omega (arith, within, here, behind))
 
-  pub word-nothing : (mask : ℕ) (old : List Chunk) → IsPresence (now_at lines place) word mask → mask ≡ 0 → AreGained (IsAtWord numbers kind lines word place) old old
-  word-nothing mask old present none = gained-none (IsAtWord numbers kind lines word place) old (λ a at.
+  pub word-nothing : (mask : ℕ) (old : List Chunk) → IsPresence (now_at lines place) word mask → mask ≡ 0 → AreGained (IsAtWord numbers lines word place) old old
+  word-nothing mask old present none = gained-none (IsAtWord numbers lines word place) old (λ a at.
       let told = at.told.told in
       let some = counted-hit (now_at lines place) word mask present told.target at.stands (subst (λ n. 0 < now_at lines n told.target) at.told.here told.among) in
       let is = hit-here word mask told.target at.stands in
       let clear = ap (λ n. bit_at n (told.target % 64)) none ∙ bit_at-zero (told.target % 64) in
       omega (arith, some, is, clear))
 
-module _ (numbers : List ℕ) (kind : RuleKind) (lines : Keyed) (order : List LinePlace) (from to : ℕ) where
+module _ (numbers : List ℕ) (lines : Keyed) (order : List LinePlace) (from to : ℕ) where
   abbrev pub UpTo : ℕ → AccessNumbers → Type 0
-  UpTo word = IsBetween (IsAtBefore numbers kind lines word) order from to
+  UpTo word = IsBetween (IsAtBefore numbers lines word) order from to
 
   abbrev Here : ℕ → AccessNumbers → Type 0
-  Here word = IsBetween (IsAtWord numbers kind lines word) order from to
+  Here word = IsBetween (IsAtWord numbers lines word) order from to
 
   abbrev Each : AccessNumbers → Type 0
-  Each = IsBetween (IsAt numbers kind lines) order from to
+  Each = IsBetween (IsAt numbers lines) order from to
 
   pub between-no_words : (old : List Chunk) → AreGained (UpTo 0) old old
   between-no_words old = gained-none (UpTo 0) old (λ a b. let low = b.told.low in omega (arith, low))
@@ -204,23 +201,20 @@ module _ (numbers : List ℕ) (kind : RuleKind) (lines : Keyed) (order : List Li
       let low = (known told.place told.key told.line told.target told.among).among in
       record { at = b.at; from_on = b.from_on; before = b.before; told = record { told = b.told; low = omega (arith, low, past) } })
 
--- ---- one kind of tables
+-- ---- lines
 
-module _ {A : Type 0} (tables : SymbolTables A) (numbers : List ℕ) (kind : RuleKind) (lines : Keyed) (at : lines ≡ lines_of tables kind) where
-  pub known-now : ArePresentNumbered numbers (count_now tables) → AreKnownIn numbers lines (now_at lines)
-  unfolding count_now
-  known-now numbered place key line t some = numbered kind key t (subst (λ (k : Keyed). 0 < keyed.count_now k key t) at (subst (λ n. 0 < n) (line.now t) some))
+module _ (numbers : List ℕ) (lines : Keyed) where
+  pub known-now : ArePresentNumbered numbers (count_now lines) → AreKnownIn numbers lines (now_at lines)
+  known-now numbered place key line t some = numbered key t (subst (λ n. 0 < n) (line.now t) some)
 
-  pub in-present : (old new : List Chunk) → AreGained (IsIn numbers kind lines (now_at lines)) old new → AreGained (IsPresentOf numbers kind (count_now tables kind)) old new
-  unfolding count_now
+  pub in-present : (old new : List Chunk) → AreGained (IsIn numbers lines (now_at lines)) old new → AreGained (IsPresent numbers (count_now lines)) old new
   in-present old new gained =
-      subst (λ (k : Keyed). AreGained (IsPresentOf numbers kind (keyed.count_now k)) old new) at
-      (gained-alike (IsIn numbers kind lines (now_at lines)) (IsPresentOf numbers kind (keyed.count_now lines)) old new gained to from)
+      (gained-alike (IsIn numbers lines (now_at lines)) (IsPresent numbers (count_now lines)) old new gained to from)
     where
-      to : (a : AccessNumbers) → IsIn numbers kind lines (now_at lines) a → IsPresentOf numbers kind (keyed.count_now lines) a
+      to : (a : AccessNumbers) → IsIn numbers lines (now_at lines) a → IsPresent numbers (count_now lines) a
       to a told = record { key = told.key; target = told.target; absent = refl; present = subst (λ n. 0 < n) (told.line.now told.target) told.among; same = told.same }
 
-      from : (a : AccessNumbers) → IsPresentOf numbers kind (keyed.count_now lines) a → IsIn numbers kind lines (now_at lines) a
+      from : (a : AccessNumbers) → IsPresent numbers (count_now lines) a → IsIn numbers lines (now_at lines) a
       from a told =
           let (l, line) = line-now lines told.key told.target told.present in
           record { place = l; key = told.key; line = line; target = told.target; among = subst (λ n. 0 < n) (sym (line.now told.target)) told.present; same = told.same }

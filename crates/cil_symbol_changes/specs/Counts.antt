@@ -3,25 +3,14 @@ use Rattle.std.specs.Prelude.{◌≡◌, ◌≢◌, ◌↔◌, ◌&&◌, ℕ, Bo
 use Rattle.std.specs.List.{AllPairs, Contains}
 use Rattle.cil_keyed_lines.specs.declared.symbol_key.SymbolKey.{SymbolKey}
 use Rattle.cil_recorded.specs.declared.step.Step.{Step}
-use Rattle.cil_text.specs.declared.statement.RuleKind.{RuleKind}
-
--- an access, by the symbols of its names
-pub record SymbolAccess : Type 0 where
-  pub kind : RuleKind
-  pub key : SymbolKey
-  pub target : ℕ
 
 -- whether a counter was 0 and is above 0
 abbrev pub has_risen : ℕ → ℕ → Bool
 has_risen was is = nat_lt 0 is && not (nat_lt 0 was)
 
--- whether that of an access did so
-abbrev pub has_come : (RuleKind → SymbolKey → ℕ → ℕ) → (RuleKind → SymbolKey → ℕ → ℕ) → SymbolAccess → Bool
-has_come was is a = has_risen (was a.kind a.key a.target) (is a.kind a.key a.target)
-
--- the same of one kind, by key and target
-abbrev pub has_come_to : (SymbolKey → ℕ → ℕ) → (SymbolKey → ℕ → ℕ) → SymbolKey × ℕ → Bool
-has_come_to was is p = has_risen (was p.0 p.1) (is p.0 p.1)
+-- whether that of an access did so, by key and target
+abbrev pub has_come : (SymbolKey → ℕ → ℕ) → (SymbolKey → ℕ → ℕ) → SymbolKey × ℕ → Bool
+has_come was is p = has_risen (was p.0 p.1) (is p.0 p.1)
 
 -- So many things pass a test.
 pub record AreSoMany {X : Type 0} (test : X → Bool) (count : ℕ) : Type 0 where

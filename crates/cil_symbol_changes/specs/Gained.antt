@@ -7,15 +7,14 @@ use Rattle.cil_accesses.specs.declared.chunk.Chunk.{Chunk}
 use Rattle.cil_keyed_lines.specs.Keyed.{Keyed, IsLineOf}
 use Rattle.cil_keyed_lines.specs.declared.symbol_key.SymbolKey.{SymbolKey}
 use Rattle.cil_symbol_changes.specs.Numbered.{access_by, IsNumbered}
-use Rattle.cil_text.specs.declared.statement.RuleKind.{RuleKind}
 
 -- the targets of a chunk have numbers of 32 bits
 abbrev pub IsShort : Chunk → Type 0
 IsShort c = c.word < 2 ^ 26
 
--- the accesses of a kind and a key to the targets of a word that a mask has, by symbols
-abbrev pub chunk_by : RuleKind → SymbolKey → ℕ → ℕ → Chunk
-chunk_by kind key word mask = record { kind = kind; source = key.source; word = word; class = key.class; permission = key.permission; bits = mask }
+-- the accesses of a key to the targets of a word that a mask has, by symbols
+abbrev pub chunk_by : SymbolKey → ℕ → ℕ → Chunk
+chunk_by key word mask = record { kind = key.kind; source = key.source; word = word; class = key.class; permission = key.permission; bits = mask }
 
 -- Behind some chunks stand those of the accesses that are told, and of no others.
 pub record AreGained (told : AccessNumbers → Type 0) (old new : List Chunk) : Type 0 where
@@ -23,19 +22,19 @@ pub record AreGained (told : AccessNumbers → Type 0) (old new : List Chunk) : 
   pub short : All IsShort old → All IsShort new
 
 -- it is the access of a key to one of these targets
-pub record IsTo (numbers : List ℕ) (kind : RuleKind) (key : SymbolKey) (targets : ℕ → Type 0) (a : AccessNumbers) : Type 0 where
+pub record IsTo (numbers : List ℕ) (key : SymbolKey) (targets : ℕ → Type 0) (a : AccessNumbers) : Type 0 where
   pub target : ℕ
   pub among : targets target
-  pub same : a ≡ access_by numbers kind key target
+  pub same : a ≡ access_by numbers key target
 
 -- it is the access of a line's key to a target that stands there
-pub record IsIn (numbers : List ℕ) (kind : RuleKind) (lines : Keyed) (stands : ℕ → ℕ → ℕ) (a : AccessNumbers) : Type 0 where
+pub record IsIn (numbers : List ℕ) (lines : Keyed) (stands : ℕ → ℕ → ℕ) (a : AccessNumbers) : Type 0 where
   pub place : ℕ
   pub key : SymbolKey
   pub line : IsLineOf lines place key
   pub target : ℕ
   pub among : 0 < stands place target
-  pub same : a ≡ access_by numbers kind key target
+  pub same : a ≡ access_by numbers key target
 
 -- each symbol is its own number
 abbrev pub AreKept : List ℕ → Type 0

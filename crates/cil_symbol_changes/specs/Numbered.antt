@@ -1,16 +1,15 @@
--- Accesses of tables by symbols, by the numbers of their names.
-use Rattle.std.specs.Prelude.{◌≡◌, ℕ, ◌<◌, List, length, slice_index}
+-- Accesses by symbols, by the numbers of their names.
+use Rattle.std.specs.Prelude.{◌≡◌, ℕ, ◌<◌, Bool, true, false, List, cond, length, slice_index}
 use Rattle.cil_accesses.specs.declared.access.AccessNumbers.{AccessNumbers}
+use Rattle.cil_keyed_lines.specs.Keyed.{count_before, count_now, Keyed}
 use Rattle.cil_keyed_lines.specs.declared.symbol_key.SymbolKey.{SymbolKey}
-use Rattle.cil_symbol_tables.specs.Tables.{count_before, count_now}
-use Rattle.cil_symbol_tables.specs.declared.symbol_tables.SymbolTables.{SymbolTables}
 use Rattle.cil_text.specs.declared.statement.RuleKind.{RuleKind}
 use Rattle.cil_text.specs.declared.statement.RuleKind.TheVariants.{Allow, AuditAllow, DontAudit, NeverAllow}
 
--- the access of a kind, a key and a target, with the numbers at the places of their symbols
-abbrev pub access_by : List ℕ → RuleKind → SymbolKey → ℕ → AccessNumbers
-access_by numbers kind key target = record {
-  kind = kind;
+-- the access of a key and a target, with the numbers at the places of their symbols
+abbrev pub access_by : List ℕ → SymbolKey → ℕ → AccessNumbers
+access_by numbers key target = record {
+  kind = key.kind;
   source = slice_index numbers key.source;
   target = slice_index numbers target;
   class = slice_index numbers key.class;
@@ -24,38 +23,34 @@ pub record IsNumbered (numbers : List ℕ) (key : SymbolKey) (target : ℕ) : Ty
   pub the_class : key.class < length numbers
   pub permission : key.permission < length numbers
 
--- the symbols of each counter that is above 0, now or before the steps, have numbers
-pub record AreNumbered {A : Type 0} (numbers : List ℕ) (tables : SymbolTables A) : Type 0 where
-  pub now : (kind : RuleKind) (key : SymbolKey) (t : ℕ) → 0 < count_now tables kind key t → IsNumbered numbers key t
-  pub before : (kind : RuleKind) (key : SymbolKey) (t : ℕ) → 0 < count_before tables kind key t → IsNumbered numbers key t
+-- the symbols of each counter that is above 0 have numbers
+abbrev pub ArePresentNumbered : List ℕ → (SymbolKey → ℕ → ℕ) → Type 0
+ArePresentNumbered numbers counts = (key : SymbolKey) (t : ℕ) → 0 < counts key t → IsNumbered numbers key t
 
--- an access of a kind, by numbers, whose counter was 0 and is above 0
-pub record IsNewOf (numbers : List ℕ) (kind : RuleKind) (was is : SymbolKey → ℕ → ℕ) (a : AccessNumbers) : Type 0 where
+-- so do those of each that is above 0 now or was before the steps
+pub record AreNumbered (numbers : List ℕ) (lines : Keyed) : Type 0 where
+  pub now : ArePresentNumbered numbers (count_now lines)
+  pub before : ArePresentNumbered numbers (count_before lines)
+
+-- an access by numbers whose counter was 0 and is above 0
+pub record IsNew (numbers : List ℕ) (was is : SymbolKey → ℕ → ℕ) (a : AccessNumbers) : Type 0 where
   pub key : SymbolKey
   pub target : ℕ
   pub absent : was key target ≡ 0
   pub present : 0 < is key target
-  pub same : a ≡ access_by numbers kind key target
+  pub same : a ≡ access_by numbers key target
 
--- the same of some kind
-abbrev pub IsNew : List ℕ → (RuleKind → SymbolKey → ℕ → ℕ) → (RuleKind → SymbolKey → ℕ → ℕ) → AccessNumbers → Type 0
-IsNew numbers was is a = (kind : RuleKind) × IsNewOf numbers kind (was kind) (is kind) a
+-- an access by numbers whose counter is above 0: it is new where nothing was
+abbrev pub IsPresent : List ℕ → (SymbolKey → ℕ → ℕ) → AccessNumbers → Type 0
+IsPresent numbers counts = IsNew numbers (λ key t. 0) counts
 
--- the symbols of each counter that is above 0 have numbers
-abbrev pub ArePresentNumbered : List ℕ → (RuleKind → SymbolKey → ℕ → ℕ) → Type 0
-ArePresentNumbered numbers counts = (kind : RuleKind) (key : SymbolKey) (t : ℕ) → 0 < counts kind key t → IsNumbered numbers key t
+-- whether a listing has the accesses of a kind
+abbrev pub is_listed : RuleKind → Bool
+is_listed Allow = true
+is_listed AuditAllow = true
+is_listed DontAudit = true
+is_listed NeverAllow = false
 
--- an access of a kind, by numbers, whose counter is above 0: it is new where nothing was
-abbrev pub IsPresentOf : List ℕ → RuleKind → (SymbolKey → ℕ → ℕ) → AccessNumbers → Type 0
-IsPresentOf numbers kind counts = IsNewOf numbers kind (λ key t. 0) counts
-
--- the same of some kind
-abbrev pub IsPresent : List ℕ → (RuleKind → SymbolKey → ℕ → ℕ) → AccessNumbers → Type 0
-IsPresent numbers counts = IsNew numbers (λ kind key t. 0) counts
-
--- the counters of the accesses that a listing has: those of neverallow are taken as 0
-abbrev pub listed : (RuleKind → SymbolKey → ℕ → ℕ) → RuleKind → SymbolKey → ℕ → ℕ
-listed counts Allow = counts Allow
-listed counts AuditAllow = counts AuditAllow
-listed counts DontAudit = counts DontAudit
-listed counts NeverAllow = λ key t. 0
+-- the counters of the accesses that a listing has: the others are taken as 0
+abbrev pub listed : (SymbolKey → ℕ → ℕ) → SymbolKey → ℕ → ℕ
+listed counts key t = cond (is_listed key.kind) (counts key t) 0

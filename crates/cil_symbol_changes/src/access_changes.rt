@@ -1,15 +1,15 @@
-//! Which accesses appeared and which went in access tables.
+//! Which accesses appeared and which went in lines of their counters.
 
 ghost use Rattle.std.specs.Prelude.{◌↔◌, Contains, IfOk};
 ghost use Rattle.std.specs.List.Sorted.{IsStrictlySortedBy};
 ghost use Rattle.cil_accesses.specs.Chunks.{numbers_cmp};
 ghost use Rattle.cil_accesses.specs.declared.access.AccessNumbers.{AccessNumbers};
-ghost use Rattle.cil_symbol_tables.specs.Tables.{count_before, count_now};
+ghost use Rattle.cil_keyed_lines.specs.Keyed.{count_before, count_now};
 ghost use Rattle.cil_symbol_changes.specs.Numbered.{AreNumbered, IsNew};
 
 use crate::changed_chunks::collect;
 use cil_accesses::Accesses;
-use cil_symbol_tables::SymbolTables;
+use cil_keyed_lines::KeyedLines;
 use std::alloc::{AllocError, Allocator, Global};
 
 /// The accesses that appeared and those that went, by numbers and in their order.
@@ -19,22 +19,22 @@ pub struct AccessChanges<A: Allocator = Global> {
     pub removed: Accesses<A>,
 }
 
-/// Which accesses appeared in tables since the last settling and which went: those that some rule gives now and none gave before,
+/// Which accesses appeared in lines since the last settling and which went: those that some rule gives now and none gave before,
 /// and those that some rule gave and none gives now. The symbols of their names have numbers, each at the place of the symbol; where
-/// two symbols had one number, their accesses couldn't be told apart. It
-/// takes time by the steps since then and by what changed, and looks at no other line.
+/// two symbols had one number, their accesses couldn't be told apart. It takes time by the steps since then and by what changed, and
+/// looks at no other line.
 pub fn changes<A: Allocator + Copy>(
     alloc: A,
-    tables: &SymbolTables<A>,
+    lines: &KeyedLines<A>,
     numbers: &[u32],
 ) -> Result<AccessChanges<A>, AllocError>
-    requires known { AreNumbered numbers.now tables.now }
-    ensures added { IfOk result (λ r. (a : AccessNumbers) → Contains r.added a ↔ IsNew numbers.now (count_before tables.now) (count_now tables.now) a) }
-    ensures removed { IfOk result (λ r. (a : AccessNumbers) → Contains r.removed a ↔ IsNew numbers.now (count_now tables.now) (count_before tables.now) a) }
+    requires known { AreNumbered numbers.now lines.now }
+    ensures added { IfOk result (λ r. (a : AccessNumbers) → Contains r.added a ↔ IsNew numbers.now (count_before lines.now) (count_now lines.now) a) }
+    ensures removed { IfOk result (λ r. (a : AccessNumbers) → Contains r.removed a ↔ IsNew numbers.now (count_now lines.now) (count_before lines.now) a) }
     ensures added_order { IfOk result (λ r. IsStrictlySortedBy numbers_cmp r.added) }
     ensures removed_order { IfOk result (λ r. IsStrictlySortedBy numbers_cmp r.removed) }
 {
-    let found = collect(alloc, tables, numbers)?;
+    let found = collect(alloc, lines, numbers)?;
     Ok(AccessChanges {
         added: Accesses::of(found.added),
         removed: Accesses::of(found.removed),

@@ -6,9 +6,9 @@ ghost use Rattle.cil_accesses.specs.Chunks.{IsGiven};
 ghost use Rattle.cil_accesses.specs.declared.access.AccessNumbers.{AccessNumbers};
 ghost use Rattle.cil_recorded.specs.Differences.{appeared_at, gone_at};
 ghost use Rattle.cil_recorded.specs.Log.{hit_at};
-ghost use Rattle.cil_symbol_tables.specs.Tables.{count_before, count_now};
+ghost use Rattle.cil_keyed_lines.specs.Keyed.{count_before, count_now};
 ghost use Rattle.cil_symbol_changes.specs.Gained.{AreGained, AreKnownIn, IsIn, IsShort};
-ghost use Rattle.cil_symbol_changes.specs.Numbered.{AreNumbered, IsNew, IsNewOf};
+ghost use Rattle.cil_symbol_changes.specs.Numbered.{AreNumbered, IsNew};
 ghost use Rattle.cil_symbol_changes.specs.SourceOrder.{appeared_in, gone_in, AreAllPlaces, IsBetween};
 
 use crate::source_order::{LinePlace, changes_by_source, source_end};
@@ -16,11 +16,9 @@ use crate::targets::push_targets;
 use cil_accesses::{Chunk, ChunkPlaces, sort_from};
 use cil_keyed_lines::KeyedLines;
 use cil_recorded::Change;
-use cil_symbol_tables::SymbolTables;
-use cil_text::RuleKind;
 use std::alloc::{AllocError, Allocator, Global};
 
-/// Chunks of the accesses that appeared and of those that went, source by source.
+/// Chunks of the accesses that appeared and of those that went, kind by kind and source by source.
 #[derive(Drop)]
 pub struct ChangedChunks<A: Allocator = Global> {
     pub added: Vec<Chunk, A>,
@@ -32,7 +30,6 @@ pub struct ChangedChunks<A: Allocator = Global> {
 /// Appends the accesses of the targets that appeared and went in a word of a line.
 fn push_change<A: Allocator>(
     chunks: &mut ChangedChunks<A>,
-    kind: RuleKind,
     lines: &KeyedLines<A>,
     change: &Change,
     numbers: &[u32],
@@ -41,14 +38,13 @@ fn push_change<A: Allocator>(
     requires gone { AreKnownIn numbers.now lines.now (hit_at change.now.line change.now.word change.now.gone) }
     requires short_added { All IsShort chunks.old.added.items }
     requires short_removed { All IsShort chunks.old.removed.items }
-    ensures added { OnOk result (AreGained (IsIn numbers.now kind lines.now (hit_at change.now.line change.now.word change.now.appeared)) chunks.old.added.items chunks.new.added.items) }
-    ensures removed { OnOk result (AreGained (IsIn numbers.now kind lines.now (hit_at change.now.line change.now.word change.now.gone)) chunks.old.removed.items chunks.new.removed.items) }
+    ensures added { OnOk result (AreGained (IsIn numbers.now lines.now (hit_at change.now.line change.now.word change.now.appeared)) chunks.old.added.items chunks.new.added.items) }
+    ensures removed { OnOk result (AreGained (IsIn numbers.now lines.now (hit_at change.now.line change.now.word change.now.gone)) chunks.old.removed.items chunks.new.removed.items) }
 {
     if let Some(key) = lines.at(change.line) {
         push_targets(
             &mut chunks.added,
             &mut chunks.added_places,
-            kind,
             key,
             change.word,
             change.appeared,
@@ -57,7 +53,6 @@ fn push_change<A: Allocator>(
         push_targets(
             &mut chunks.removed,
             &mut chunks.removed_places,
-            kind,
             key,
             change.word,
             change.gone,
@@ -70,7 +65,6 @@ fn push_change<A: Allocator>(
 /// Appends the accesses of the targets that appeared and went in the change of a place.
 fn push_place<A: Allocator>(
     chunks: &mut ChangedChunks<A>,
-    kind: RuleKind,
     lines: &KeyedLines<A>,
     changes: &[Change],
     place: usize,
@@ -80,21 +74,20 @@ fn push_place<A: Allocator>(
     requires gone { AreKnownIn numbers.now lines.now (gone_at changes.now) }
     requires short_added { All IsShort chunks.old.added.items }
     requires short_removed { All IsShort chunks.old.removed.items }
-    ensures added { OnOk result (AreGained (IsIn numbers.now kind lines.now (appeared_in changes.now place)) chunks.old.added.items chunks.new.added.items) }
-    ensures removed { OnOk result (AreGained (IsIn numbers.now kind lines.now (gone_in changes.now place)) chunks.old.removed.items chunks.new.removed.items) }
+    ensures added { OnOk result (AreGained (IsIn numbers.now lines.now (appeared_in changes.now place)) chunks.old.added.items chunks.new.added.items) }
+    ensures removed { OnOk result (AreGained (IsIn numbers.now lines.now (gone_in changes.now place)) chunks.old.removed.items chunks.new.removed.items) }
 {
     if place < changes.len() {
-        push_change(chunks, kind, lines, &changes[place], numbers)
+        push_change(chunks, lines, &changes[place], numbers)
     } else {
         Ok(())
     }
 }
 
 /// Appends the accesses of the changes from one place of an order up to another, and puts them in order: a few at a time, where these
-/// changes are of one source.
+/// changes are of one kind and source.
 fn push_source<A: Allocator>(
     chunks: &mut ChangedChunks<A>,
-    kind: RuleKind,
     lines: &KeyedLines<A>,
     changes: &[Change],
     order: &[LinePlace],
@@ -108,30 +101,22 @@ fn push_source<A: Allocator>(
     requires gone { AreKnownIn numbers.now lines.now (gone_at changes.now) }
     requires short_added { All IsShort chunks.old.added.items }
     requires short_removed { All IsShort chunks.old.removed.items }
-    ensures added { OnOk result (AreGained (IsBetween (λ place. IsIn numbers.now kind lines.now (appeared_in changes.now place)) order.now from to) chunks.old.added.items chunks.new.added.items) }
-    ensures removed { OnOk result (AreGained (IsBetween (λ place. IsIn numbers.now kind lines.now (gone_in changes.now place)) order.now from to) chunks.old.removed.items chunks.new.removed.items) }
+    ensures added { OnOk result (AreGained (IsBetween (λ place. IsIn numbers.now lines.now (appeared_in changes.now place)) order.now from to) chunks.old.added.items chunks.new.added.items) }
+    ensures removed { OnOk result (AreGained (IsBetween (λ place. IsIn numbers.now lines.now (gone_in changes.now place)) order.now from to) chunks.old.removed.items chunks.new.removed.items) }
 {
     let added = chunks.added.len();
     let removed = chunks.removed.len();
     for i in from..to {
-        push_place(
-            chunks,
-            kind,
-            lines,
-            changes,
-            order[i].place as usize,
-            numbers,
-        )?;
+        push_place(chunks, lines, changes, order[i].place as usize, numbers)?;
     }
     sort_from(&mut chunks.added, added);
     sort_from(&mut chunks.removed, removed);
     Ok(())
 }
 
-/// Appends the accesses of the targets that appeared and went in lines, source by source.
+/// Appends the accesses of the targets that appeared and went in lines, kind by kind and source by source.
 fn push_changes<A: Allocator>(
     chunks: &mut ChangedChunks<A>,
-    kind: RuleKind,
     lines: &KeyedLines<A>,
     changes: &[Change],
     order: &[LinePlace],
@@ -142,47 +127,27 @@ fn push_changes<A: Allocator>(
     requires gone { AreKnownIn numbers.now lines.now (gone_at changes.now) }
     requires short_added { All IsShort chunks.old.added.items }
     requires short_removed { All IsShort chunks.old.removed.items }
-    ensures added { OnOk result (AreGained (IsIn numbers.now kind lines.now (appeared_at changes.now)) chunks.old.added.items chunks.new.added.items) }
-    ensures removed { OnOk result (AreGained (IsIn numbers.now kind lines.now (gone_at changes.now)) chunks.old.removed.items chunks.new.removed.items) }
+    ensures added { OnOk result (AreGained (IsIn numbers.now lines.now (appeared_at changes.now)) chunks.old.added.items chunks.new.added.items) }
+    ensures removed { OnOk result (AreGained (IsIn numbers.now lines.now (gone_at changes.now)) chunks.old.removed.items chunks.new.removed.items) }
 {
     let mut from = 0;
     while from < order.len() {
         let to = source_end(order, from);
-        push_source(chunks, kind, lines, changes, order, from, to, numbers)?;
+        push_source(chunks, lines, changes, order, from, to, numbers)?;
         from = to;
     }
     Ok(())
 }
 
-/// Appends the accesses of a kind that appeared and went in tables.
-fn push_kind<A: Allocator + Copy>(
-    chunks: &mut ChangedChunks<A>,
-    alloc: A,
-    tables: &SymbolTables<A>,
-    kind: RuleKind,
-    numbers: &[u32],
-) -> Result<(), AllocError>
-    requires numbered { AreNumbered numbers.now tables.now }
-    requires short_added { All IsShort chunks.old.added.items }
-    requires short_removed { All IsShort chunks.old.removed.items }
-    ensures added { OnOk result (AreGained (IsNewOf numbers.now kind (count_before tables.now kind) (count_now tables.now kind)) chunks.old.added.items chunks.new.added.items) }
-    ensures removed { OnOk result (AreGained (IsNewOf numbers.now kind (count_now tables.now kind) (count_before tables.now kind)) chunks.old.removed.items chunks.new.removed.items) }
-{
-    let lines = tables.lines(kind);
-    let changes = lines.changes(alloc)?;
-    let order = changes_by_source(alloc, lines, &changes, numbers)?;
-    push_changes(chunks, kind, lines, &changes, &order, numbers)
-}
-
-/// The accesses of all kinds that appeared and went in tables.
+/// The accesses that appeared and went in lines.
 pub fn collect<A: Allocator + Copy>(
     alloc: A,
-    tables: &SymbolTables<A>,
+    lines: &KeyedLines<A>,
     numbers: &[u32],
 ) -> Result<ChangedChunks<A>, AllocError>
-    requires { AreNumbered numbers.now tables.now }
-    ensures added { IfOk result (λ chunks. (a : AccessNumbers) → IsGiven chunks.added.items a ↔ IsNew numbers.now (count_before tables.now) (count_now tables.now) a) }
-    ensures removed { IfOk result (λ chunks. (a : AccessNumbers) → IsGiven chunks.removed.items a ↔ IsNew numbers.now (count_now tables.now) (count_before tables.now) a) }
+    requires { AreNumbered numbers.now lines.now }
+    ensures added { IfOk result (λ chunks. (a : AccessNumbers) → IsGiven chunks.added.items a ↔ IsNew numbers.now (count_before lines.now) (count_now lines.now) a) }
+    ensures removed { IfOk result (λ chunks. (a : AccessNumbers) → IsGiven chunks.removed.items a ↔ IsNew numbers.now (count_now lines.now) (count_before lines.now) a) }
     ensures short_added { IfOk result (λ chunks. All IsShort chunks.added.items) }
     ensures short_removed { IfOk result (λ chunks. All IsShort chunks.removed.items) }
 {
@@ -192,9 +157,8 @@ pub fn collect<A: Allocator + Copy>(
         added_places: ChunkPlaces::new(alloc),
         removed_places: ChunkPlaces::new(alloc),
     };
-    push_kind(&mut chunks, alloc, tables, RuleKind::Allow, numbers)?;
-    push_kind(&mut chunks, alloc, tables, RuleKind::AuditAllow, numbers)?;
-    push_kind(&mut chunks, alloc, tables, RuleKind::DontAudit, numbers)?;
-    push_kind(&mut chunks, alloc, tables, RuleKind::NeverAllow, numbers)?;
+    let changes = lines.changes(alloc)?;
+    let order = changes_by_source(alloc, lines, &changes, numbers)?;
+    push_changes(&mut chunks, lines, &changes, &order, numbers)?;
     Ok(chunks)
 }

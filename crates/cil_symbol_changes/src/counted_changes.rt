@@ -1,14 +1,12 @@
-//! How many accesses appeared and how many went in access tables.
+//! How many accesses appeared and how many went in lines of their counters.
 
 ghost use Rattle.std.specs.Prelude.{◌≡◌, ◌+◌, ◌<◌, ◌^◌, count_ones, sum_by, IfOk};
 ghost use Rattle.std.specs.List.{All};
-ghost use Rattle.cil_sums.specs.Rises.{RisesBy};
-ghost use Rattle.cil_symbol_tables.specs.Tables.{count_before, count_now};
-ghost use Rattle.cil_symbol_changes.specs.Counts.{came, has_come, has_come_to, went, AreSoMany};
+ghost use Rattle.cil_keyed_lines.specs.Keyed.{count_before, count_now};
+ghost use Rattle.cil_symbol_changes.specs.Counts.{came, has_come, went, AreSoMany};
 
+use cil_keyed_lines::KeyedLines;
 use cil_recorded::{Change, Step};
-use cil_symbol_tables::SymbolTables;
-use cil_text::RuleKind;
 use std::alloc::{AllocError, Allocator};
 
 /// How many accesses appeared, and how many went.
@@ -78,43 +76,21 @@ fn count_targets(changes: &[Change]) -> ChangeCounts
     counts
 }
 
-/// How many accesses of a kind appeared in tables, and how many went. Where all steps turned targets one way, each target turned once, and
-/// the steps are counted as they stand. Else those of a word are put together first.
-fn count_kind<A: Allocator + Copy>(
+/// How many accesses appeared in lines since the last settling, and how many went: those that some rule gives now and none gave before,
+/// and those that some rule gave and none gives now. Where all steps turned targets one way, each target turned once, and the steps are
+/// counted as they stand. Else those of a word are put together first, which takes memory. It takes time by the steps since then. No
+/// access is put together, and none is given a name.
+pub fn count_changes<A: Allocator + Copy>(
     alloc: A,
-    tables: &SymbolTables<A>,
-    kind: RuleKind,
+    lines: &KeyedLines<A>,
 ) -> Result<ChangeCounts, AllocError>
-    ensures added { IfOk result (λ n. RisesBy (has_come_to (count_before tables.now kind) (count_now tables.now kind)) 0 n.added) }
-    ensures removed { IfOk result (λ n. RisesBy (has_come_to (count_now tables.now kind) (count_before tables.now kind)) 0 n.removed) }
-    ensures few_added { IfOk result (λ n. n.added < 2 ^ 96) }
-    ensures few_removed { IfOk result (λ n. n.removed < 2 ^ 96) }
+    ensures added { IfOk result (λ n. AreSoMany (has_come (count_before lines.now) (count_now lines.now)) n.added) }
+    ensures removed { IfOk result (λ n. AreSoMany (has_come (count_now lines.now) (count_before lines.now)) n.removed) }
 {
-    let lines = tables.lines(kind);
     let turned = count_steps(lines.log());
     if turned.added == 0 || turned.removed == 0 {
         return Ok(turned);
     }
     let changes = lines.changes(alloc)?;
     Ok(count_targets(&changes))
-}
-
-/// How many accesses appeared in tables since the last settling, and how many went: those that some rule gives now and none gave before,
-/// and those that some rule gave and none gives now. It takes time by the steps since then, and memory only where accesses of a kind both
-/// appeared and went. No access is put together, and none is given a name.
-pub fn count_changes<A: Allocator + Copy>(
-    alloc: A,
-    tables: &SymbolTables<A>,
-) -> Result<ChangeCounts, AllocError>
-    ensures added { IfOk result (λ n. AreSoMany (has_come (count_before tables.now) (count_now tables.now)) n.added) }
-    ensures removed { IfOk result (λ n. AreSoMany (has_come (count_now tables.now) (count_before tables.now)) n.removed) }
-{
-    let allow = count_kind(alloc, tables, RuleKind::Allow)?;
-    let auditallow = count_kind(alloc, tables, RuleKind::AuditAllow)?;
-    let dontaudit = count_kind(alloc, tables, RuleKind::DontAudit)?;
-    let neverallow = count_kind(alloc, tables, RuleKind::NeverAllow)?;
-    Ok(ChangeCounts {
-        added: allow.added + auditallow.added + dontaudit.added + neverallow.added,
-        removed: allow.removed + auditallow.removed + dontaudit.removed + neverallow.removed,
-    })
 }

@@ -11,7 +11,6 @@ use crate::source_order::LinePlace;
 use crate::targets::short_word;
 use cil_accesses::Chunk;
 use cil_keyed_lines::{KeyedLines, SymbolKey};
-use cil_text::RuleKind;
 use std::alloc::{AllocError, Allocator};
 
 /// Whether each symbol is its own number.
@@ -29,7 +28,6 @@ pub fn are_kept(numbers: &[u32]) -> bool
 /// Appends the accesses of a key to the targets of a word that a mask has, where there are any.
 fn push_mask<A: Allocator>(
     chunks: &mut Vec<Chunk, A>,
-    kind: RuleKind,
     key: SymbolKey,
     word: usize,
     mask: u64,
@@ -38,10 +36,10 @@ fn push_mask<A: Allocator>(
     requires kept { AreKept numbers.now }
     requires known { AreKnown numbers.now key (hit word mask) }
     requires some { mask ≢ 0 }
-    ensures { OnOk result (AreGained (IsTo numbers.now kind key (λ t. 0 < hit word mask t)) chunks.old.items chunks.new.items) }
+    ensures { OnOk result (AreGained (IsTo numbers.now key (λ t. 0 < hit word mask t)) chunks.old.items chunks.new.items) }
 {
     chunks.push(Chunk {
-        kind,
+        kind: key.kind,
         source: numbers[key.source],
         word: short_word(word)?,
         class: numbers[key.class],
@@ -54,7 +52,6 @@ fn push_mask<A: Allocator>(
 /// Appends the accesses to the targets of a word whose counters in the line of a place are above 0.
 fn push_place<A: Allocator>(
     chunks: &mut Vec<Chunk, A>,
-    kind: RuleKind,
     lines: &KeyedLines<A>,
     place: usize,
     word: usize,
@@ -62,14 +59,14 @@ fn push_place<A: Allocator>(
 ) -> Result<(), AllocError>
     requires kept { AreKept numbers.now }
     requires known { AreKnownIn numbers.now lines.now (now_at lines.now) }
-    ensures { OnOk result (AreGained (IsAtWord numbers.now kind lines.now word place) chunks.old.items chunks.new.items) }
+    ensures { OnOk result (AreGained (IsAtWord numbers.now lines.now word place) chunks.old.items chunks.new.items) }
 {
     let mask = lines.present(place, word);
     if mask == 0 {
         return Ok(());
     }
     match lines.at(place) {
-        Some(key) => push_mask(chunks, kind, key, word, mask, numbers),
+        Some(key) => push_mask(chunks, key, word, mask, numbers),
         None => Ok(()),
     }
 }
@@ -77,7 +74,6 @@ fn push_place<A: Allocator>(
 /// Appends the accesses to the targets of a word that the lines from one place of an order up to another give.
 fn push_word<A: Allocator>(
     chunks: &mut Vec<Chunk, A>,
-    kind: RuleKind,
     lines: &KeyedLines<A>,
     order: &[LinePlace],
     from: usize,
@@ -89,11 +85,11 @@ fn push_word<A: Allocator>(
     requires within { to ≤ length order.now }
     requires kept { AreKept numbers.now }
     requires known { AreKnownIn numbers.now lines.now (now_at lines.now) }
-    ensures { OnOk result (AreGained (IsBetween (IsAtWord numbers.now kind lines.now word) order.now from to) chunks.old.items chunks.new.items) }
+    ensures { OnOk result (AreGained (IsBetween (IsAtWord numbers.now lines.now word) order.now from to) chunks.old.items chunks.new.items) }
 {
     for i in from..to {
         let place = order[i].place as usize;
-        push_place(chunks, kind, lines, place, word, numbers)?;
+        push_place(chunks, lines, place, word, numbers)?;
     }
     Ok(())
 }
@@ -102,7 +98,6 @@ fn push_word<A: Allocator>(
 /// in order, so are these.
 pub fn push_words<A: Allocator>(
     chunks: &mut Vec<Chunk, A>,
-    kind: RuleKind,
     lines: &KeyedLines<A>,
     order: &[LinePlace],
     from: usize,
@@ -113,10 +108,10 @@ pub fn push_words<A: Allocator>(
     requires within { to ≤ length order.now }
     requires kept { AreKept numbers.now }
     requires known { AreKnownIn numbers.now lines.now (now_at lines.now) }
-    ensures { OnOk result (AreGained (IsBetween (IsAt numbers.now kind lines.now) order.now from to) chunks.old.items chunks.new.items) }
+    ensures { OnOk result (AreGained (IsBetween (IsAt numbers.now lines.now) order.now from to) chunks.old.items chunks.new.items) }
 {
     for word in 0..words_len(numbers) {
-        push_word(chunks, kind, lines, order, from, to, word, numbers)?;
+        push_word(chunks, lines, order, from, to, word, numbers)?;
     }
     Ok(())
 }

@@ -1,4 +1,5 @@
-//! Which accesses stand in access tables changed in steps, which appeared and which went, by numbers that the caller gives the symbols.
+//! Which accesses stand in lines of counters that change in steps, which appeared and which went, by numbers that the caller gives the
+//! symbols.
 #![tactic(auto)]
 
 mod access_changes;

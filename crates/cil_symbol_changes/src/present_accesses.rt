@@ -1,28 +1,29 @@
-//! Which accesses a listing of access tables has.
+//! Which accesses a listing has.
 
 ghost use Rattle.std.specs.Prelude.{◌↔◌, Contains, IfOk};
 ghost use Rattle.std.specs.List.Sorted.{IsStrictlySortedBy};
 ghost use Rattle.cil_accesses.specs.Chunks.{numbers_cmp};
 ghost use Rattle.cil_accesses.specs.declared.access.AccessNumbers.{AccessNumbers};
-ghost use Rattle.cil_symbol_tables.specs.Tables.{count_now};
+ghost use Rattle.cil_keyed_lines.specs.Keyed.{count_now};
 ghost use Rattle.cil_symbol_changes.specs.Numbered.{listed, ArePresentNumbered, IsPresent};
 
 use crate::present_chunks::collect_present;
 use cil_accesses::Accesses;
-use cil_symbol_tables::SymbolTables;
+use cil_keyed_lines::KeyedLines;
 use std::alloc::{AllocError, Allocator};
 
-/// The accesses that some rule gives, but for those of neverallow, which a listing doesn't have: by numbers and in their order. The symbols of their names have numbers, each at the place of the
-/// symbol; where two symbols had one number, their accesses couldn't be told apart. No rule is looked at: it takes time by the words
-/// of the lines that have a target.
+/// The accesses that some rule gives, but for those of neverallow, which a listing doesn't have: by numbers and in their
+/// order. The symbols of their names have numbers, each at the place of the symbol; where two symbols had one number, their accesses
+/// couldn't be told apart. No rule is looked at: it takes time by the words of the lines that have a target, and the lines of neverallow
+/// are passed over.
 pub fn accesses<A: Allocator + Copy>(
     alloc: A,
-    tables: &SymbolTables<A>,
+    lines: &KeyedLines<A>,
     numbers: &[u32],
 ) -> Result<Accesses<A>, AllocError>
-    requires known { ArePresentNumbered numbers.now (count_now tables.now) }
-    ensures present { IfOk result (λ found. (a : AccessNumbers) → Contains found a ↔ IsPresent numbers.now (listed (count_now tables.now)) a) }
+    requires known { ArePresentNumbered numbers.now (count_now lines.now) }
+    ensures present { IfOk result (λ found. (a : AccessNumbers) → Contains found a ↔ IsPresent numbers.now (listed (count_now lines.now)) a) }
     ensures order { IfOk result (λ found. IsStrictlySortedBy numbers_cmp found) }
 {
-    Ok(Accesses::of(collect_present(alloc, tables, numbers)?))
+    Ok(Accesses::of(collect_present(alloc, lines, numbers)?))
 }

@@ -4,19 +4,16 @@ ghost use Rattle.std.specs.Prelude.{◌<◌, ◌≤◌, ◌↔◌, ℕ, length, 
 ghost use Rattle.std.specs.List.{All};
 ghost use Rattle.cil_accesses.specs.Chunks.{IsGiven};
 ghost use Rattle.cil_accesses.specs.declared.access.AccessNumbers.{AccessNumbers};
-ghost use Rattle.cil_keyed_lines.specs.Keyed.{now_at, IsLineOf};
-ghost use Rattle.cil_symbol_tables.specs.Tables.{count_now};
-ghost use Rattle.cil_symbol_changes.specs.Gained.{AreGained, AreKept, AreKnownIn, IsIn, IsShort, IsTo};
-ghost use Rattle.cil_symbol_changes.specs.Numbered.{listed, ArePresentNumbered, IsPresent, IsPresentOf};
-ghost use Rattle.cil_symbol_changes.specs.SourceOrder.{AreAllPlaces, IsAt, IsBetween};
+ghost use Rattle.cil_keyed_lines.specs.Keyed.{count_now, now_at, IsLineOf};
+ghost use Rattle.cil_symbol_changes.specs.Gained.{AreGained, AreKept, AreKnownIn, IsShort, IsTo};
+ghost use Rattle.cil_symbol_changes.specs.Numbered.{listed, ArePresentNumbered, IsPresent};
+ghost use Rattle.cil_symbol_changes.specs.SourceOrder.{AreListedPlaces, IsAt, IsBetween, IsListedIn};
 
 use crate::kept_words::{are_kept, push_words, words_len};
-use crate::source_order::{LinePlace, by_source, source_end};
+use crate::source_order::{LinePlace, by_source, is_listed_at, source_end};
 use crate::targets::push_targets;
 use cil_accesses::{Chunk, ChunkPlaces, sort_from};
 use cil_keyed_lines::{KeyedLines, SymbolKey};
-use cil_symbol_tables::SymbolTables;
-use cil_text::RuleKind;
 use std::alloc::{AllocError, Allocator};
 
 // Lines are looked at word by word where at most so many words are looked at for each that has a target.
@@ -36,21 +33,15 @@ fn line_words<A: Allocator>(lines: &KeyedLines<A>, place: usize) -> usize {
     words
 }
 
-/// The same of all lines of a kind.
-fn kind_words<A: Allocator>(tables: &SymbolTables<A>, kind: RuleKind) -> usize {
-    let lines = tables.lines(kind);
+/// About how many chunks the accesses of a listing take: a list of them that grew would take twice the room.
+fn chunks_len<A: Allocator>(lines: &KeyedLines<A>) -> usize {
     let mut words: usize = 0;
     for place in 0..lines.len() {
-        words = words.saturating_add(line_words(lines, place));
+        if is_listed_at(lines, place) {
+            words = words.saturating_add(line_words(lines, place));
+        }
     }
     words
-}
-
-/// About how many chunks these accesses take: a list of them that grew would take twice the room.
-fn chunks_len<A: Allocator>(tables: &SymbolTables<A>) -> usize {
-    kind_words(tables, RuleKind::Allow)
-        .saturating_add(kind_words(tables, RuleKind::AuditAllow))
-        .saturating_add(kind_words(tables, RuleKind::DontAudit))
 }
 
 /// Whether so many words have a target in enough of the lines from one place of an order up to another that these may be looked at word by
@@ -79,7 +70,6 @@ fn are_dense<A: Allocator>(
 fn push_line<A: Allocator>(
     chunks: &mut Vec<Chunk, A>,
     places: &mut ChunkPlaces<A>,
-    kind: RuleKind,
     lines: &KeyedLines<A>,
     place: usize,
     key: SymbolKey,
@@ -88,12 +78,12 @@ fn push_line<A: Allocator>(
     requires line { IsLineOf lines.now place key }
     requires known { AreKnownIn numbers.now lines.now (now_at lines.now) }
     requires short { All IsShort chunks.old.items }
-    ensures { OnOk result (AreGained (IsTo numbers.now kind key (λ t. 0 < now_at lines.now place t)) chunks.old.items chunks.new.items) }
+    ensures { OnOk result (AreGained (IsTo numbers.now key (λ t. 0 < now_at lines.now place t)) chunks.old.items chunks.new.items) }
 {
     let mut from = 0;
     while let Some(word) = lines.next_present_word(place, from) {
         let mask = lines.present(place, word);
-        push_targets(chunks, places, kind, key, word, mask, numbers)?;
+        push_targets(chunks, places, key, word, mask, numbers)?;
         from = word + 1;
     }
     Ok(())
@@ -103,28 +93,27 @@ fn push_line<A: Allocator>(
 fn push_place<A: Allocator>(
     chunks: &mut Vec<Chunk, A>,
     places: &mut ChunkPlaces<A>,
-    kind: RuleKind,
     lines: &KeyedLines<A>,
     place: usize,
     numbers: &[u32],
 ) -> Result<(), AllocError>
     requires known { AreKnownIn numbers.now lines.now (now_at lines.now) }
     requires short { All IsShort chunks.old.items }
-    ensures { OnOk result (AreGained (IsAt numbers.now kind lines.now place) chunks.old.items chunks.new.items) }
+    ensures { OnOk result (AreGained (IsAt numbers.now lines.now place) chunks.old.items chunks.new.items) }
 {
     match lines.at(place) {
-        Some(key) => push_line(chunks, places, kind, lines, place, key, numbers),
+        Some(key) => push_line(chunks, places, lines, place, key, numbers),
         None => Ok(()),
     }
 }
 
-/// Appends the accesses of the lines from one place of an order up to another in order, where these lines are of one source. Where each
+/// Appends the accesses of the lines from one place of an order up to another in order, where these lines are of one kind and
+/// source. Where each
 /// symbol is its own number, lines that have most words are looked at word by word, which gives the order. Else what the lines give is
 /// put in order: a few at a time.
 fn push_source<A: Allocator>(
     chunks: &mut Vec<Chunk, A>,
     places: &mut ChunkPlaces<A>,
-    kind: RuleKind,
     lines: &KeyedLines<A>,
     order: &[LinePlace],
     from: usize,
@@ -137,81 +126,55 @@ fn push_source<A: Allocator>(
     requires kept { IsTrue kept → AreKept numbers.now }
     requires known { AreKnownIn numbers.now lines.now (now_at lines.now) }
     requires short { All IsShort chunks.old.items }
-    ensures { OnOk result (AreGained (IsBetween (IsAt numbers.now kind lines.now) order.now from to) chunks.old.items chunks.new.items) }
+    ensures { OnOk result (AreGained (IsBetween (IsAt numbers.now lines.now) order.now from to) chunks.old.items chunks.new.items) }
 {
     if kept && are_dense(lines, order, from, to, words_len(numbers)) {
-        return push_words(chunks, kind, lines, order, from, to, numbers);
+        return push_words(chunks, lines, order, from, to, numbers);
     }
     let start = chunks.len();
     for i in from..to {
-        push_place(
-            chunks,
-            places,
-            kind,
-            lines,
-            order[i].place as usize,
-            numbers,
-        )?;
+        push_place(chunks, places, lines, order[i].place as usize, numbers)?;
     }
     sort_from(chunks, start);
     Ok(())
 }
 
-/// Appends the accesses of the targets whose counters are above 0, source by source.
+/// Appends the accesses of the targets whose counters are above 0 in the lines of a listing, kind by kind and source by source.
 fn push_lines<A: Allocator>(
     chunks: &mut Vec<Chunk, A>,
     places: &mut ChunkPlaces<A>,
-    kind: RuleKind,
     lines: &KeyedLines<A>,
     order: &[LinePlace],
     numbers: &[u32],
 ) -> Result<(), AllocError>
-    requires all { AreAllPlaces (length lines.now.keys) order.now }
+    requires listed { AreListedPlaces lines.now order.now }
     requires known { AreKnownIn numbers.now lines.now (now_at lines.now) }
     requires short { All IsShort chunks.old.items }
-    ensures { OnOk result (AreGained (IsIn numbers.now kind lines.now (now_at lines.now)) chunks.old.items chunks.new.items) }
+    ensures { OnOk result (AreGained (IsListedIn numbers.now lines.now) chunks.old.items chunks.new.items) }
 {
     let kept = are_kept(numbers);
     let mut from = 0;
     while from < order.len() {
         let to = source_end(order, from);
-        push_source(chunks, places, kind, lines, order, from, to, kept, numbers)?;
+        push_source(chunks, places, lines, order, from, to, kept, numbers)?;
         from = to;
     }
     Ok(())
 }
 
-/// Appends the accesses of a kind that some rule gives.
-fn push_kind<A: Allocator + Copy>(
-    chunks: &mut Vec<Chunk, A>,
-    alloc: A,
-    tables: &SymbolTables<A>,
-    kind: RuleKind,
-    numbers: &[u32],
-) -> Result<(), AllocError>
-    requires numbered { ArePresentNumbered numbers.now (count_now tables.now) }
-    requires short { All IsShort chunks.old.items }
-    ensures { OnOk result (AreGained (IsPresentOf numbers.now kind (count_now tables.now kind)) chunks.old.items chunks.new.items) }
-{
-    let lines = tables.lines(kind);
-    let order = by_source(alloc, lines, numbers)?;
-    let mut places = ChunkPlaces::new(alloc);
-    push_lines(chunks, &mut places, kind, lines, &order, numbers)
-}
-
 /// The accesses that some rule gives which a listing has: those of neverallow aren't part of it.
 pub fn collect_present<A: Allocator + Copy>(
     alloc: A,
-    tables: &SymbolTables<A>,
+    lines: &KeyedLines<A>,
     numbers: &[u32],
 ) -> Result<Vec<Chunk, A>, AllocError>
-    requires { ArePresentNumbered numbers.now (count_now tables.now) }
-    ensures given { IfOk result (λ chunks. (a : AccessNumbers) → IsGiven chunks.items a ↔ IsPresent numbers.now (listed (count_now tables.now)) a) }
+    requires { ArePresentNumbered numbers.now (count_now lines.now) }
+    ensures given { IfOk result (λ chunks. (a : AccessNumbers) → IsGiven chunks.items a ↔ IsPresent numbers.now (listed (count_now lines.now)) a) }
     ensures short { IfOk result (λ chunks. All IsShort chunks.items) }
 {
-    let mut chunks = Vec::with_capacity(alloc, chunks_len(tables))?;
-    push_kind(&mut chunks, alloc, tables, RuleKind::Allow, numbers)?;
-    push_kind(&mut chunks, alloc, tables, RuleKind::AuditAllow, numbers)?;
-    push_kind(&mut chunks, alloc, tables, RuleKind::DontAudit, numbers)?;
+    let order = by_source(alloc, lines, numbers)?;
+    let mut chunks = Vec::with_capacity(alloc, chunks_len(lines))?;
+    let mut places = ChunkPlaces::new(alloc);
+    push_lines(&mut chunks, &mut places, lines, &order, numbers)?;
     Ok(chunks)
 }

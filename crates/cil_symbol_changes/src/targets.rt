@@ -7,7 +7,6 @@ ghost use Rattle.cil_symbol_changes.specs.Gained.{AreGained, AreKnown, chunk_by,
 
 use cil_accesses::{Chunk, ChunkPlaces, push_renumbered};
 use cil_keyed_lines::SymbolKey;
-use cil_text::RuleKind;
 use std::alloc::{AllocError, Allocator};
 
 /// A symbol or a place in 32 bits. More than these can number don't fit in memory; no other is refused.
@@ -35,12 +34,12 @@ pub fn short_word(word: usize) -> Result<u32, AllocError>
 }
 
 /// The accesses of a key to the targets of a word that a mask has, by symbols.
-fn by_symbols(kind: RuleKind, key: SymbolKey, word: usize, mask: u64) -> Result<Chunk, AllocError>
-    ensures same { IfOk result (λ c. c ≡ chunk_by kind key word mask) }
+fn by_symbols(key: SymbolKey, word: usize, mask: u64) -> Result<Chunk, AllocError>
+    ensures same { IfOk result (λ c. c ≡ chunk_by key word mask) }
     ensures short { IfOk result IsShort }
 {
     Ok(Chunk {
-        kind,
+        kind: key.kind,
         source: short(key.source)?,
         word: short_word(word)?,
         class: short(key.class)?,
@@ -53,7 +52,6 @@ fn by_symbols(kind: RuleKind, key: SymbolKey, word: usize, mask: u64) -> Result<
 pub fn push_targets<A: Allocator>(
     chunks: &mut Vec<Chunk, A>,
     places: &mut ChunkPlaces<A>,
-    kind: RuleKind,
     key: SymbolKey,
     word: usize,
     mask: u64,
@@ -61,12 +59,12 @@ pub fn push_targets<A: Allocator>(
 ) -> Result<(), AllocError>
     requires known { AreKnown numbers.now key (hit word mask) }
     requires short { All IsShort chunks.old.items }
-    ensures { OnOk result (AreGained (IsTo numbers.now kind key (λ t. 0 < hit word mask t)) chunks.old.items chunks.new.items) }
+    ensures { OnOk result (AreGained (IsTo numbers.now key (λ t. 0 < hit word mask t)) chunks.old.items chunks.new.items) }
 {
     if mask == 0 {
         return Ok(());
     }
-    let symbols = by_symbols(kind, key, word, mask)?;
+    let symbols = by_symbols(key, word, mask)?;
     push_renumbered(chunks, places, &symbols, numbers)?;
     Ok(())
 }

@@ -3,14 +3,13 @@ use Rattle.std.proofs.Common.{◌≡◌, ℕ, ◌+◌, ◌-◌, ◌^◌, ◌==�
 use Rattle.std.proofs.lemmas.Bool.{eq-eqb}
 use Rattle.cil_sums.specs.Rises.{RisesBy}
 use Rattle.cil_sums.proofs.RiseLemmas.{rises-added, rises-map, rises-same}
-use Rattle.cil_text.specs.declared.statement.RuleKind.{RuleKind}
 use Rattle.cil_text.specs.declared.statement.RuleKind.TheVariants.{Allow, AuditAllow, DontAudit, NeverAllow}
 use Rattle.cil_keyed_lines.specs.declared.symbol_key.SymbolKey.{SymbolKey}
 use Rattle.cil_resolve.specs.declared.numbered.NumberedRule.{NumberedRule}
 use Rattle.cil_rule_shifts.specs.Moves.{differs, moves_where}
 use Rattle.cil_rule_shifts.specs.Reach.{gives, one_if}
 use Rattle.cil_rule_shifts.specs.declared.reach.Reach.{Reach}
-use Rattle.cil_symbol_tables.specs.Tables.{is_kind}
+use Rattle.cil_keyed_lines.specs.Keyed.{is_kind}
 use Rattle.cil_table_updates.specs.Adjusted.{shifts, Counter}
 use Rattle.cil_table_updates.specs.Moves.{gives_as}
 use Rattle.cil_table_updates.proofs.MoveLemmas.{kind-itself}

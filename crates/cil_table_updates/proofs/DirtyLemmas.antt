@@ -15,7 +15,6 @@ use Rattle.cil_specs.specs.Rule.{a_type, at_itself, kind_index, Atom, IsSameRule
 use Rattle.cil_specs.specs.Statements.{allow}
 use Rattle.cil_delta_specs.specs.Dirty.{HasGiver, OnlyOne}
 use Rattle.cil_text.specs.Image.{rule_kind_of}
-use Rattle.cil_text.specs.declared.statement.RuleKind.{RuleKind}
 use Rattle.cil_keyed_lines.specs.declared.symbol_key.SymbolKey.{SymbolKey}
 use Rattle.cil_matching.specs.Matching.{AreMatched, AreSameAt, Matched}
 use Rattle.cil_matching.specs.Spot as spots
@@ -31,7 +30,7 @@ use Rattle.cil_rule_reach.specs.Reaches.{members_of}
 use Rattle.cil_rule_reach.proofs.NamedLemmas.{covers-named, covers-none}
 use Rattle.cil_rule_shifts.specs.Moves.{differs}
 use Rattle.cil_rule_shifts.specs.Reach.{one_if}
-use Rattle.cil_symbol_tables.specs.Tables.{is_kind}
+use Rattle.cil_keyed_lines.specs.Keyed.{is_kind}
 use Rattle.cil_table_updates.specs.Adjusted.{goes, turns, AdjustsAtLeast, AdjustsAtMost, Counter}
 use Rattle.cil_table_updates.specs.Given.{given, gives_by}
 use Rattle.cil_table_updates.specs.Policies.{AreApart, IsPolicy}
@@ -93,7 +92,7 @@ module _ (names : List (List ℕ)) (apart : AreApart names) where
   named c = is_named names c.key c.target
 
   abbrev pub atom : Counter → Atom
-  atom c = atom_of names c.kind c.key c.target
+  atom c = atom_of names c.key c.target
 
   same-symbol : (s u : ℕ) → nat_lt s (length names) ≡ true → nat_lt u (length names) ≡ true → name_at names s ≡ name_at names u → s ≡ u
   same-symbol s u low below same =
@@ -132,7 +131,7 @@ module _ (names : List (List ℕ)) (apart : AreApart names) where
     abbrev named-rule : NumberedRule A → Rule
     named-rule = rule_of p.resolved.now.modules.items p.resolved.now.names.items
 
-    by-names : (c : Counter) (i : ℕ) (rule : NumberedRule A) → slice_get p.resolved.now.rules.items i ≡ Some rule → gives_by p c.kind c.key c.target rule ≡ (named c && gives meaning (named-rule rule) (atom c))
+    by-names : (c : Counter) (i : ℕ) (rule : NumberedRule A) → slice_get p.resolved.now.rules.items i ≡ Some rule → gives_by p c.key c.target rule ≡ (named c && gives meaning (named-rule rule) (atom c))
     by-names c i rule at =
         let below_it = passes-at (is_rule_below (length p.resolved.now.names.items)) p.resolved.now.rules.items i rule low at in
         let declared_it = passes-at (is_rule_of meaning.types meaning.attributes meaning.classes) meaning.rules i (named-rule rule) declared (to-mapped named-rule p.resolved.now.rules.items i rule at) in
@@ -145,10 +144,10 @@ module _ (names : List (List ℕ)) (apart : AreApart names) where
               ∙ and-false (is_kind rule.kind c.kind) ∙ sym (ap (λ b. b && gives meaning (named-rule rule) (atom c)) unnamed)
         ]
 
-    pub given-by-names : (c : Counter) (i : ℕ) (r : Rule) → slice_get meaning.rules i ≡ Some r → given p c.kind c.key c.target i ≡ one_if (named c && gives meaning r (atom c))
+    pub given-by-names : (c : Counter) (i : ℕ) (r : Rule) → slice_get meaning.rules i ≡ Some r → given p c.key c.target i ≡ one_if (named c && gives meaning r (atom c))
     given-by-names c i r at =
         let one = from-mapped named-rule p.resolved.now.rules.items i r at in
-        given-rule p c.kind c.key c.target i one.0 one.1 ∙ ap one_if (by-names c i one.0 one.1) ∙ ap (λ s. one_if (named c && gives meaning s (atom c))) one.2
+        given-rule p c.key c.target i one.0 one.1 ∙ ap one_if (by-names c i one.0 one.1) ∙ ap (λ s. one_if (named c && gives meaning s (atom c))) one.2
 
   -- ---- two policies
 
@@ -163,10 +162,10 @@ module _ (names : List (List ℕ)) (apart : AreApart names) where
     now = meaning_in new.resolved.now
 
     abbrev old_given : Counter → ℕ → ℕ
-    old_given c = given old c.kind c.key c.target
+    old_given c = given old c.key c.target
 
     abbrev new_given : Counter → ℕ → ℕ
-    new_given c = given new c.kind c.key c.target
+    new_given c = given new c.key c.target
 
     -- a rule that goes gave the access, and the new policy doesn't have it
     record IsGone (i : ℕ) (c : Counter) : Type 0 where
@@ -358,26 +357,26 @@ module _ (names : List (List ℕ)) (apart : AreApart names) where
 
 module _ {A : Type 0} (old new : Policy A) (m : Matched) (n k before between after : ℕ) (first : RisesBy (below (goes old m) n) before between) (second : RisesBy (below (turns old new m) k) between after)
     (was between_counts is : RuleKind → SymbolKey → ℕ → ℕ)
-    (taken : (kind : RuleKind) (key : SymbolKey) (t : ℕ) → between_counts kind key t + sum_below (alone (given old kind key t) m.ahead) n ≡ was kind key t)
-    (put : (kind : RuleKind) (key : SymbolKey) (t : ℕ) → is kind key t + sum_below (across (given old kind key t) m.back) k ≡ between_counts kind key t + sum_below (given new kind key t) k) where
+    (taken : (key : SymbolKey) (t : ℕ) → between_counts key t + sum_below (alone (given old key t) m.ahead) n ≡ was key t)
+    (put : (key : SymbolKey) (t : ℕ) → is key t + sum_below (across (given old key t) m.back) k ≡ between_counts key t + sum_below (given new key t) k) where
   abbrev moved : List Counter
   moved = map (λ (p : ℕ × Counter). p.1) first.those ++ map (λ (p : ℕ × Counter). p.1) second.those
 
-  other-moved : (c : Counter) → was c.kind c.key c.target ≢ is c.kind c.key c.target → Contains moved c
+  other-moved : (c : Counter) → was c.key c.target ≢ is c.key c.target → Contains moved c
   other-moved c other =
       elim (cases_eq (sum_below (old_alone c) n) 0) [
-        | inl none ↦ came none (sum-differs (old_across c) (new_given_at c) k (λ same. other (omega (arith, same, none, taken c.kind c.key c.target, put c.kind c.key c.target))))
+        | inl none ↦ came none (sum-differs (old_across c) (new_given_at c) k (λ same. other (omega (arith, same, none, taken c.key c.target, put c.key c.target))))
         | inr some ↦ went (sum-differs (old_alone c) (λ i. 0) n (λ same. some (same ∙ sum-zero (λ i. 0) n (λ i within. refl))))
       ]
     where
       old_alone : Counter → ℕ → ℕ
-      old_alone d = alone (given old d.kind d.key d.target) m.ahead
+      old_alone d = alone (given old d.key d.target) m.ahead
 
       old_across : Counter → ℕ → ℕ
-      old_across d = across (given old d.kind d.key d.target) m.back
+      old_across d = across (given old d.key d.target) m.back
 
       new_given_at : Counter → ℕ → ℕ
-      new_given_at d = given new d.kind d.key d.target
+      new_given_at d = given new d.key d.target
 
       went : (i : ℕ) × (i < n) × (old_alone c i ≢ 0) → Contains moved c
       went at =
@@ -395,7 +394,7 @@ module _ {A : Type 0} (old new : Policy A) (m : Matched) (n k before between aft
 
   pub rises-at-least : AdjustsAtLeast was is before after
   rises-at-least counters others once =
-      let few = at-most-all counters moved once (λ c has. other-moved c (All-contains (λ d. was d.kind d.key d.target ≢ is d.kind d.key d.target) counters c others has)) in
+      let few = at-most-all counters moved once (λ c has. other-moved c (All-contains (λ d. was d.key d.target ≢ is d.key d.target) counters c others has)) in
       omega (
         arith,
         few,

@@ -1,4 +1,4 @@
--- What bounds the adjustments by counters bounds them by the changes between the tables.
+-- What bounds the adjustments by counters bounds them by the changes between the lines.
 use Rattle.std.proofs.Common.{◌≡◌, ◌≢◌, ℕ, ◌&&◌, Bool, true, false, Equal, Less, List, ◌++◌, get_or, map, not, refl, sym, ap, ◌∙◌, inl, inr, arith, true≢false}
 use Rattle.std.specs.List.{AllPairs, Contains}
 use Rattle.std.specs.List.Sorted.{IsStrictlySortedBy}
@@ -12,7 +12,6 @@ use Rattle.cil_specs.specs.Report.{atom_cmp, AreChanges, Changes}
 use Rattle.cil_specs.specs.Rule.{Atom}
 use Rattle.cil_specs.proofs.ReportLemmas.{atom_total}
 use Rattle.cil_delta_specs.specs.Work.{AdjustsFew}
-use Rattle.cil_text.specs.declared.statement.RuleKind.{RuleKind}
 use Rattle.cil_keyed_lines.specs.declared.symbol_key.SymbolKey.{SymbolKey}
 use Rattle.cil_rule_reach.specs.Named.{atom_of}
 use Rattle.cil_table_updates.specs.Adjusted.{AdjustsAtLeast, AdjustsAtMost, Counter}
@@ -59,10 +58,10 @@ module _ (names : List (List ℕ)) (old new : Meaning) (was is : RuleKind → Sy
   pub adjusts-few : (before after : ℕ) → AdjustsAtMost old new before after → AdjustsAtLeast was is before after → AdjustsFew old new changes before after
   adjusts-few before after most least =
       let enough = least (map found atoms)
-      (All-map (λ c. was c.kind c.key c.target ≢ is c.kind c.key c.target) found atoms
+      (All-map (λ c. was c.key c.target ≢ is c.key c.target) found atoms
       (λ k d within. let a = get_or atoms k d in (tells a (other a (Contains-get_or atoms k d within))).1))
       (pairs-map found (λ c d. c ≢ d) atoms once
-      (λ a b a_has b_has apart same. apart (sym (tells a (other a a_has)).0 ∙ ap (λ (c : Counter). atom_of names c.kind c.key c.target) same ∙ (tells b (other b b_has)).0))) in
+      (λ a b a_has b_has apart same. apart (sym (tells a (other a a_has)).0 ∙ ap (λ (c : Counter). atom_of names c.key c.target) same ∙ (tells b (other b b_has)).0))) in
       record {
         pairs = most.pairs;
         dirty = most.dirty;

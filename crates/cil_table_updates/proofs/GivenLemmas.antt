@@ -9,7 +9,6 @@ use Rattle.cil_sums.specs.Sums.{alone, sum_below}
 use Rattle.cil_sums.proofs.SumLemmas.{alone-none, sum-more, sum-none}
 use Rattle.cil_specs.specs.Meaning.{count_of, gives}
 use Rattle.cil_parse.specs.Lexicon.{AreNumbersOf}
-use Rattle.cil_text.specs.declared.statement.RuleKind.{RuleKind}
 use Rattle.cil_keyed_lines.specs.declared.symbol_key.SymbolKey.{SymbolKey}
 use Rattle.cil_resolve.specs.Below.{is_rule_below}
 use Rattle.cil_resolve.specs.Consistent.{is_consistent, is_rule_of}
@@ -21,7 +20,7 @@ use Rattle.cil_rule_reach.specs.Named.{atom_of, is_named, AreMembersOf}
 use Rattle.cil_rule_reach.specs.Reaches.{covers_by, members_of}
 use Rattle.cil_rule_reach.proofs.NamedLemmas.{covers-named, covers-none}
 use Rattle.cil_rule_shifts.specs.Reach.{one_if}
-use Rattle.cil_symbol_tables.specs.Tables.{is_kind}
+use Rattle.cil_keyed_lines.specs.Keyed.{is_kind}
 use Rattle.cil_table_updates.specs.Given.{given, gives_by}
 use Rattle.cil_table_updates.specs.Policies.{count_named, AreApart, IsPolicy}
 use Rattle.cil_table_updates.specs.declared.policy.Policy.{Policy}
@@ -56,16 +55,16 @@ pub sum-counted : {X : Type 0} (p : X → Bool) (xs : List X) → sum_below (λ 
 sum-counted p [] = sum-none (λ i. one_if (option_map_or p (slice_get [] i) false))
 sum-counted p (x ∷ xs) = sum-front (λ i. one_if (option_map_or p (slice_get (x ∷ xs) i) false)) (length xs) ∙ ap (λ n. one_if (p x) + n) (sum-counted p xs) ∙ sym (one-more p x xs)
 
-pub sum-given : {A : Type 0} (p : Policy A) (kind : RuleKind) (key : SymbolKey) (t : ℕ) → sum_below (given p kind key t) (length p.resolved.now.rules.items) ≡ count_by (gives_by p kind key t) p.resolved.now.rules.items
+pub sum-given : {A : Type 0} (p : Policy A) (key : SymbolKey) (t : ℕ) → sum_below (given p key t) (length p.resolved.now.rules.items) ≡ count_by (gives_by p key t) p.resolved.now.rules.items
 unfolding given
-sum-given p kind key t = sum-counted (gives_by p kind key t) p.resolved.now.rules.items
+sum-given p key t = sum-counted (gives_by p key t) p.resolved.now.rules.items
 
 -- whether a rule gives an access by these members and symbols
 abbrev pub gives_with : {A : Type 0} → (ℕ → ℕ → ℕ) → List ℕ → RuleKind → SymbolKey → ℕ → NumberedRule A → Bool
-gives_with members symbols kind key t rule = is_kind rule.kind kind && covers_by members symbols rule key t
+gives_with members symbols key t rule = is_kind rule.kind kind && covers_by members symbols rule key t
 
 module _ {A : Type 0} (names : List (List ℕ)) (apart : AreApart names) (r : Resolved A) (symbols : List ℕ) (numbers : AreNumbersOf names symbols r.names.items) (members : ℕ → ℕ → ℕ) (are : AreMembersOf names (meaning_in r) members)
-    (kind : RuleKind) (key : SymbolKey) (t : ℕ) where
+    (key : SymbolKey) (t : ℕ) where
   abbrev AreBelow : List (NumberedRule A) → Type 0
   AreBelow rules = list_all (is_rule_below (length r.names.items)) rules ≡ true
 
@@ -73,44 +72,44 @@ module _ {A : Type 0} (names : List (List ℕ)) (apart : AreApart names) (r : Re
   AreDeclared rules = list_all (is_rule_of (meaning_in r).types (meaning_in r).attributes (meaning_in r).classes) (map (rule_of r.modules.items r.names.items) rules) ≡ true
 
   named-counts : is_named names key t ≡ true → (rules : List (NumberedRule A)) → AreBelow rules → AreDeclared rules
-      → count_by (gives_with members symbols kind key t) rules ≡ count_by (λ rule. gives (meaning_in r) rule (atom_of names kind key t)) (map (rule_of r.modules.items r.names.items) rules)
+      → count_by (gives_with members symbols key t) rules ≡ count_by (λ rule. gives (meaning_in r) rule (atom_of names key t)) (map (rule_of r.modules.items r.names.items) rules)
   named-counts named [] below declared = refl
   named-counts named (rule ∷ rules) below declared =
-      one-more (gives_with members symbols kind key t) rule rules
-      ∙ ap (λ b. one_if (is_kind rule.kind kind && b) + count_by (gives_with members symbols kind key t) rules)
+      one-more (gives_with members symbols key t) rule rules
+      ∙ ap (λ b. one_if (is_kind rule.kind kind && b) + count_by (gives_with members symbols key t) rules)
       (covers-named r names symbols apart numbers members are rule key t (and-first _ _ below) (and-first _ _ declared) named)
-      ∙ ap (λ n. one_if (gives (meaning_in r) (rule_of r.modules.items r.names.items rule) (atom_of names kind key t)) + n) (named-counts named rules (and-second _ _ below) (and-second _ _ declared))
-      ∙ sym (one-more (λ one. gives (meaning_in r) one (atom_of names kind key t)) (rule_of r.modules.items r.names.items rule) (map (rule_of r.modules.items r.names.items) rules))
+      ∙ ap (λ n. one_if (gives (meaning_in r) (rule_of r.modules.items r.names.items rule) (atom_of names key t)) + n) (named-counts named rules (and-second _ _ below) (and-second _ _ declared))
+      ∙ sym (one-more (λ one. gives (meaning_in r) one (atom_of names key t)) (rule_of r.modules.items r.names.items rule) (map (rule_of r.modules.items r.names.items) rules))
 
-  unnamed-counts : is_named names key t ≡ false → (rules : List (NumberedRule A)) → AreBelow rules → count_by (gives_with members symbols kind key t) rules ≡ 0
+  unnamed-counts : is_named names key t ≡ false → (rules : List (NumberedRule A)) → AreBelow rules → count_by (gives_with members symbols key t) rules ≡ 0
   unnamed-counts unnamed [] below = refl
   unnamed-counts unnamed (rule ∷ rules) below =
-      one-more (gives_with members symbols kind key t) rule rules
-      ∙ ap (λ b. one_if (is_kind rule.kind kind && b) + count_by (gives_with members symbols kind key t) rules)
+      one-more (gives_with members symbols key t) rule rules
+      ∙ ap (λ b. one_if (is_kind rule.kind kind && b) + count_by (gives_with members symbols key t) rules)
       (covers-none r names symbols apart numbers members are rule key t (and-first _ _ below) unnamed)
-      ∙ ap (λ b. one_if b + count_by (gives_with members symbols kind key t) rules) (and-false (is_kind rule.kind kind))
-      ∙ zero-add (count_by (gives_with members symbols kind key t) rules) ∙ unnamed-counts unnamed rules (and-second _ _ below)
+      ∙ ap (λ b. one_if b + count_by (gives_with members symbols key t) rules) (and-false (is_kind rule.kind kind))
+      ∙ zero-add (count_by (gives_with members symbols key t) rules) ∙ unnamed-counts unnamed rules (and-second _ _ below)
 
   -- as many rules give an access by symbols as by names
-  pub counted-named : AreBelow r.rules.items → is_consistent (meaning_in r) ≡ true → count_by (gives_with members symbols kind key t) r.rules.items ≡ count_named names (meaning_in r) kind key t
+  pub counted-named : AreBelow r.rules.items → is_consistent (meaning_in r) ≡ true → count_by (gives_with members symbols key t) r.rules.items ≡ count_named names (meaning_in r) key t
   counted-named below consistent =
       elim (cases_Bool (is_named names key t)) [
-        | inl named ↦ named-counts named r.rules.items below consistent ∙ sym (ap (λ b. cond b (count_of (meaning_in r) (atom_of names kind key t)) 0) named)
-        | inr unnamed ↦ unnamed-counts unnamed r.rules.items below ∙ sym (ap (λ b. cond b (count_of (meaning_in r) (atom_of names kind key t)) 0) unnamed)
+        | inl named ↦ named-counts named r.rules.items below consistent ∙ sym (ap (λ b. cond b (count_of (meaning_in r) (atom_of names key t)) 0) named)
+        | inr unnamed ↦ unnamed-counts unnamed r.rules.items below ∙ sym (ap (λ b. cond b (count_of (meaning_in r) (atom_of names key t)) 0) unnamed)
       ]
 
-pub given-named : {A : Type 0} (names : List (List ℕ)) (apart : AreApart names) (p : Policy A) (is : IsPolicy names p) (kind : RuleKind) (key : SymbolKey) (t : ℕ)
+pub given-named : {A : Type 0} (names : List (List ℕ)) (apart : AreApart names) (p : Policy A) (is : IsPolicy names p) (key : SymbolKey) (t : ℕ)
     → list_all (is_rule_below (length p.resolved.now.names.items)) p.resolved.now.rules.items ≡ true → is_consistent (meaning_in p.resolved.now) ≡ true
-    → sum_below (given p kind key t) (length p.resolved.now.rules.items) ≡ count_named names (meaning_in p.resolved.now) kind key t
-given-named names apart p is kind key t below consistent =
-    sum-given p kind key t ∙ counted-named names apart p.resolved.now p.numbering.now.symbols is.numbers (members_of p.members) is.members kind key t below consistent
+    → sum_below (given p key t) (length p.resolved.now.rules.items) ≡ count_named names (meaning_in p.resolved.now) key t
+given-named names apart p is key t below consistent =
+    sum-given p key t ∙ counted-named names apart p.resolved.now p.numbering.now.symbols is.numbers (members_of p.members) is.members key t below consistent
 
 -- what the rule at a place gives
-pub given-rule : {A : Type 0} (p : Policy A) (kind : RuleKind) (key : SymbolKey) (t i : ℕ) (rule : NumberedRule A) → slice_get p.resolved.now.rules.items i ≡ Some rule → given p kind key t i ≡ one_if (gives_by p kind key t rule)
+pub given-rule : {A : Type 0} (p : Policy A) (key : SymbolKey) (t i : ℕ) (rule : NumberedRule A) → slice_get p.resolved.now.rules.items i ≡ Some rule → given p key t i ≡ one_if (gives_by p key t rule)
 unfolding given
-given-rule p kind key t i rule is = ap (λ r. one_if (option_map_or (gives_by p kind key t) r false)) is
+given-rule p key t i rule is = ap (λ r. one_if (option_map_or (gives_by p key t) r false)) is
 
 -- and what it gives where it has no place in the other policy
-pub gone-rule : {A : Type 0} (p : Policy A) (kind : RuleKind) (key : SymbolKey) (t : ℕ) (places : List (Option ℕ)) (i : ℕ) (rule : NumberedRule A) → slice_get p.resolved.now.rules.items i ≡ Some rule
-    → ((j : ℕ) → slice_get places i ≡ Some (Some j) → ⊥) → alone (given p kind key t) places i ≡ one_if (gives_by p kind key t rule)
-gone-rule p kind key t places i rule at none = alone-none (given p kind key t) places i none ∙ given-rule p kind key t i rule at
+pub gone-rule : {A : Type 0} (p : Policy A) (key : SymbolKey) (t : ℕ) (places : List (Option ℕ)) (i : ℕ) (rule : NumberedRule A) → slice_get p.resolved.now.rules.items i ≡ Some rule
+    → ((j : ℕ) → slice_get places i ≡ Some (Some j) → ⊥) → alone (given p key t) places i ≡ one_if (gives_by p key t rule)
+gone-rule p key t places i rule at none = alone-none (given p key t) places i none ∙ given-rule p key t i rule at

@@ -11,7 +11,6 @@ use Rattle.cil_sums.proofs.SumLemmas.{sum-differs, sum-zero}
 use Rattle.cil_specs.specs.Meaning.{gives, Meaning}
 use Rattle.cil_specs.specs.Rule.{Atom, IsSameRule, Rule}
 use Rattle.cil_delta_specs.specs.Dirty.{HasGiver, OnlyOne}
-use Rattle.cil_text.specs.declared.statement.RuleKind.{RuleKind}
 use Rattle.cil_keyed_lines.specs.declared.symbol_key.SymbolKey.{SymbolKey}
 use Rattle.cil_matching.specs.Spot as spots
 use Rattle.cil_matching.specs.Spot.{rule_spot}
@@ -79,19 +78,19 @@ module _ {A : Type 0} (names : List (List ℕ)) (apart : AreApart names) (p : Po
 
 -- each counter that isn't what it was is one that rose
 module _ {A : Type 0} (p : Policy A) (n before after : ℕ) (rises : RisesBy (below (comes p) n) before after) (was is : RuleKind → SymbolKey → ℕ → ℕ)
-    (put : (kind : RuleKind) (key : SymbolKey) (t : ℕ) → is kind key t ≡ was kind key t + sum_below (given p kind key t) n) where
+    (put : (key : SymbolKey) (t : ℕ) → is key t ≡ was key t + sum_below (given p key t) n) where
   abbrev counter_of : ℕ × Counter → Counter
   counter_of q = q.1
 
-  other-rose : (c : Counter) → was c.kind c.key c.target ≢ is c.kind c.key c.target → Contains (map counter_of rises.those) c
+  other-rose : (c : Counter) → was c.key c.target ≢ is c.key c.target → Contains (map counter_of rises.those) c
   other-rose c other =
-      let at = sum-differs (given p c.kind c.key c.target) (λ i. 0) n (λ same. other (omega (arith, same, sum-zero (λ i. 0) n (λ i within. refl), put c.kind c.key c.target))) in
-      mapped counter_of rises.those (at.0, c) ((rises.exact (at.0, c)).1 (ap (λ b. b && comes p at.0 c) (lt-ltb at.0 n at.1) ∙ lt-ltb 0 (given p c.kind c.key c.target at.0) (positive (given p c.kind c.key c.target at.0) at.2)))
+      let at = sum-differs (given p c.key c.target) (λ i. 0) n (λ same. other (omega (arith, same, sum-zero (λ i. 0) n (λ i within. refl), put c.key c.target))) in
+      mapped counter_of rises.those (at.0, c) ((rises.exact (at.0, c)).1 (ap (λ b. b && comes p at.0 c) (lt-ltb at.0 n at.1) ∙ lt-ltb 0 (given p c.key c.target at.0) (positive (given p c.key c.target at.0) at.2)))
     where
       positive : (x : ℕ) → x ≢ 0 → 0 < x
       positive x some = omega (arith, some)
 
   pub load-at-least : AdjustsAtLeast was is before after
   load-at-least counters others once =
-      let few = at-most-all counters (map counter_of rises.those) once (λ c has. other-rose c (All-contains (λ d. was d.kind d.key d.target ≢ is d.kind d.key d.target) counters c others has)) in
+      let few = at-most-all counters (map counter_of rises.those) once (λ c has. other-rose c (All-contains (λ d. was d.key d.target ≢ is d.key d.target) counters c others has)) in
       omega (arith, few, length-map rises.those counter_of, rises.at_least)

@@ -5,7 +5,6 @@ use Rattle.std.proofs.lemmas.Bool.{ltb-true}
 use Rattle.cil_specs.specs.Rule.{content_of}
 use Rattle.cil_parse.specs.Lexicon.{AreNumbersOf}
 use Rattle.cil_text.specs.Image.{rule_kind_of}
-use Rattle.cil_text.specs.declared.statement.RuleKind.{RuleKind}
 use Rattle.cil_text.specs.declared.statement.RuleKind.TheVariants.{Allow, AuditAllow, DontAudit, NeverAllow}
 use Rattle.cil_expression.specs.declared.expression.Element.{Element}
 use Rattle.cil_expression.specs.declared.expression.Element.TheVariants.{«Type», Attribute}

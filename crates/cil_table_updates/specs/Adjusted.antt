@@ -6,30 +6,27 @@ use Rattle.cil_specs.specs.Rule.{Rule, Atom}
 use Rattle.cil_delta_specs.specs.Dirty.{AreDirtyGives}
 use Rattle.cil_delta_specs.specs.Work.{raised}
 use Rattle.cil_sums.specs.Sums.{across, alone}
-use Rattle.cil_text.specs.declared.statement.RuleKind.{RuleKind}
 use Rattle.cil_keyed_lines.specs.declared.symbol_key.SymbolKey.{SymbolKey}
 use Rattle.cil_matching.specs.Matching.{Matched}
 use Rattle.cil_resolve.specs.declared.numbered.NumberedRule.{NumberedRule}
 use Rattle.cil_rule_shifts.specs.Moves.{differs}
 use Rattle.cil_rule_shifts.specs.declared.reach.Reach.{Reach}
-use Rattle.cil_symbol_tables.specs.Tables.{is_kind}
 use Rattle.cil_table_updates.specs.Given.{given, gives_by}
 use Rattle.cil_table_updates.specs.Moves.{gives_as}
 use Rattle.cil_table_updates.specs.declared.policy.Policy.{Policy}
 
--- what a counter counts the rules of: a kind of rules, and an access by the symbols of its names
+-- what a counter counts the rules of: an access, by its kind and the symbols of its names
 pub record Counter : Type 0 where
-  pub kind : RuleKind
   pub key : SymbolKey
   pub target : ℕ
 
 -- whether exactly one of what a rule reached and reaches has the counter's access, by the rule's kind, class and permissions
 abbrev pub shifts : {A B : Type 0} → List ℕ → NumberedRule A → Reach B → Reach B → Counter → Bool
-shifts symbols rule was is c = is_kind rule.kind c.kind && differs (gives_as symbols rule was c.key c.target) (gives_as symbols rule is c.key c.target)
+shifts symbols rule was is c = differs (gives_as symbols rule was c.key c.target) (gives_as symbols rule is c.key c.target)
 
 -- whether a rule of a policy gives it
 abbrev pub gives_it : {A : Type 0} → Policy A → NumberedRule A → Counter → Bool
-gives_it p rule c = gives_by p c.kind c.key c.target rule
+gives_it p rule c = gives_by p c.key c.target rule
 
 -- whether exactly one of a rule of the old policy and one of the new policy does
 abbrev pub replaces : {A : Type 0} → Policy A → NumberedRule A → Policy A → NumberedRule A → Counter → Bool
@@ -37,19 +34,19 @@ replaces old old_rule new new_rule c = differs (gives_it old old_rule c) (gives_
 
 -- the same of rules by their places
 abbrev pub swaps : {A : Type 0} → Policy A → ℕ → Policy A → ℕ → Counter → Bool
-swaps old i new j c = not (given old c.kind c.key c.target i == given new c.kind c.key c.target j)
+swaps old i new j c = not (given old c.key c.target i == given new c.key c.target j)
 
 -- whether the rule of a place of the old policy gives it, and the new policy doesn't have the rule
 abbrev pub goes : {A : Type 0} → Policy A → Matched → ℕ → Counter → Bool
-goes old m i c = nat_lt 0 (alone (given old c.kind c.key c.target) m.ahead i)
+goes old m i c = nat_lt 0 (alone (given old c.key c.target) m.ahead i)
 
 -- whether the rule of a place of a policy gives it
 abbrev pub comes : {A : Type 0} → Policy A → ℕ → Counter → Bool
-comes p j c = nat_lt 0 (given p c.kind c.key c.target j)
+comes p j c = nat_lt 0 (given p c.key c.target j)
 
 -- whether exactly one of the rule of a place of the new policy and the same rule of the old policy, if that has it, gives it
 abbrev pub turns : {A : Type 0} → Policy A → Policy A → Matched → ℕ → Counter → Bool
-turns old new m j c = not (across (given old c.kind c.key c.target) m.back j == given new c.kind c.key c.target j)
+turns old new m j c = not (across (given old c.key c.target) m.back j == given new c.key c.target j)
 
 -- The adjustments rise by at most one for each access that a rule gives in one policy alone.
 pub record AdjustsAtMost (old new : Meaning) (before after : ℕ) : Type 0 where
@@ -58,6 +55,6 @@ pub record AdjustsAtMost (old new : Meaning) (before after : ℕ) : Type 0 where
   pub at_most : after ≤ before + length pairs
 
 -- They rise at least by one for each counter that isn't what it was.
-abbrev pub AdjustsAtLeast : (RuleKind → SymbolKey → ℕ → ℕ) → (RuleKind → SymbolKey → ℕ → ℕ) → ℕ → ℕ → Type 0
+abbrev pub AdjustsAtLeast : (SymbolKey → ℕ → ℕ) → (SymbolKey → ℕ → ℕ) → ℕ → ℕ → Type 0
 AdjustsAtLeast was is before after =
-    (counters : List Counter) → All (λ c. was c.kind c.key c.target ≢ is c.kind c.key c.target) counters → AllPairs (λ c d. c ≢ d) counters → raised before (length counters) ≤ after
+    (counters : List Counter) → All (λ c. was c.key c.target ≢ is c.key c.target) counters → AllPairs (λ c d. c ≢ d) counters → raised before (length counters) ≤ after

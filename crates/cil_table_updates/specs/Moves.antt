@@ -1,6 +1,7 @@
 -- What lets a rule's counters be moved.
 use Rattle.std.specs.Prelude.{◌≡◌, ◌≤◌, ◌&&◌, ◌==◌, ℕ, Bool, IsTrue, List, length, slice_get, slice_index, Some}
 use Rattle.std.specs.List.{list_all, list_any}
+use Rattle.cil_keyed_lines.specs.Keyed.{is_kind}
 use Rattle.cil_keyed_lines.specs.declared.symbol_key.SymbolKey.{SymbolKey}
 use Rattle.cil_matching.specs.Matching.{Matched}
 use Rattle.cil_member_rows.specs.Rows.{count_before, count_now}
@@ -16,9 +17,10 @@ use Rattle.cil_table_updates.specs.declared.policy.Policy.{Policy}
 abbrev pub lists : {A : Type 0} → List ℕ → NumberedRule A → ℕ → Bool
 lists symbols rule p = list_any (λ q. p == slice_index symbols q) rule.permissions
 
--- whether a rule's class and permissions give an access to what a source reaches
+-- whether a rule's kind, class and permissions give an access to what a source reaches
 abbrev pub gives_as : {A B : Type 0} → List ℕ → NumberedRule A → Reach B → SymbolKey → ℕ → Bool
-gives_as symbols rule reach key t = reaches reach key.source t && ((slice_index symbols rule.class == key.class) && lists symbols rule key.permission)
+gives_as symbols rule reach key t = is_kind rule.kind key.kind
+    && (reaches reach key.source t && ((slice_index symbols rule.class == key.class) && lists symbols rule key.permission))
 
 -- No symbol behind those of all names is that of a name of the policy, or that of a member.
 pub record IsKnown {A : Type 0} (p : Policy A) : Type 0 where

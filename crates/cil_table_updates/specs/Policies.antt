@@ -2,7 +2,6 @@
 use Rattle.std.specs.Prelude.{◌≡◌, ◌≤◌, ℕ, List, cond, length, Some, slice_get}
 use Rattle.cil_specs.specs.Meaning.{Meaning, count_of}
 use Rattle.cil_parse.specs.Lexicon.{AreNumbersOf}
-use Rattle.cil_text.specs.declared.statement.RuleKind.{RuleKind}
 use Rattle.cil_keyed_lines.specs.declared.symbol_key.SymbolKey.{SymbolKey}
 use Rattle.cil_resolve.specs.Resolved.{meaning_in}
 use Rattle.cil_rule_reach.specs.Named.{atom_of, is_named, AreMembersOf}
@@ -10,8 +9,8 @@ use Rattle.cil_rule_reach.specs.Reaches.{members_of}
 use Rattle.cil_table_updates.specs.declared.policy.Policy.{Policy}
 
 -- how many rules of a policy give the access whose names have these symbols; 0 where one of them is the symbol of no name
-abbrev pub count_named : List (List ℕ) → Meaning → RuleKind → SymbolKey → ℕ → ℕ
-count_named names meaning kind key t = cond (is_named names key t) (count_of meaning (atom_of names kind key t)) 0
+abbrev pub count_named : List (List ℕ) → Meaning → SymbolKey → ℕ → ℕ
+count_named names meaning key t = cond (is_named names key t) (count_of meaning (atom_of names key t)) 0
 
 -- No two symbols are those of one name.
 abbrev pub AreApart : List (List ℕ) → Type 0

@@ -1,4 +1,4 @@
-//! Access tables, brought from one policy to another in place.
+//! Counters of accesses, brought from one policy to another in place.
 #![tactic(auto)]
 
 mod changed_rows;

@@ -5,25 +5,23 @@ ghost use Rattle.cil_resolve.specs.Below.{is_rule_below};
 ghost use Rattle.cil_resolve.specs.Meter.{adjustments_in, evaluations_in};
 ghost use Rattle.cil_rule_shifts.specs.Reach.{one_if, IsShort};
 ghost use Rattle.cil_sums.specs.Rises.{RisesBy};
-ghost use Rattle.cil_symbol_tables.specs.Tables.{count_before, count_now, is_kind, NoneRises, RiseAtMost};
+ghost use Rattle.cil_keyed_lines.specs.Keyed.{count_before, count_now, NoneRises, RiseAtMost};
 ghost use Rattle.cil_table_updates.specs.Adjusted.{gives_it, replaces, shifts};
 ghost use Rattle.cil_table_updates.specs.Given.{gives_by};
 ghost use Rattle.cil_table_updates.specs.Moves.{gives_as, HaveSameHead, IsKnown};
 
 use crate::policy::Policy;
-use cil_keyed_lines::SymbolKey;
+use cil_keyed_lines::{KeyedLines, SymbolKey};
 use cil_resolve::{Meter, NumberedRule};
 use cil_rule_reach::{permission_symbols, rule_reach, symbol_of};
-use cil_rule_shifts::Reach;
-use cil_symbol_tables::SymbolTables;
-use cil_text::RuleKind;
+use cil_rule_shifts::{Reach, RuleHead, shift_rule};
 use std::alloc::{AllocError, Allocator};
 
 /// Moves the counters of what a rule gave to those of what it gives, by the kind, the class and the permissions of a policy's rule. The
 /// meter counts each counter that moves. But for `loading::add_rule` no other function moves counters of accesses, so that none moves
 /// uncounted.
 fn shift_as<A: Allocator + Copy>(
-    tables: &mut SymbolTables<A>,
+    lines: &mut KeyedLines<A>,
     alloc: A,
     policy: &Policy<'_, A>,
     rule: &NumberedRule<A>,
@@ -34,25 +32,30 @@ fn shift_as<A: Allocator + Copy>(
     requires below { IsTrue (is_rule_below (length policy.now.numbering.now.symbols) rule.now) }
     requires was { IsShort was.now }
     requires is { IsShort is.now }
-    requires counted { (key : SymbolKey) (t : ℕ) → one_if (gives_as policy.now.numbering.now.symbols rule.now was.now key t) ≤ count_now tables.old rule.now.kind key t }
-    ensures now { OnOk result ((kind : RuleKind) (key : SymbolKey) (t : ℕ) → count_now tables.new kind key t + one_if (is_kind rule.now.kind kind && gives_as policy.now.numbering.now.symbols rule.now was.now key t)
-        ≡ count_now tables.old kind key t + one_if (is_kind rule.now.kind kind && gives_as policy.now.numbering.now.symbols rule.now is.now key t)) }
-    ensures before { (kind : RuleKind) (key : SymbolKey) (t : ℕ) → count_before tables.new kind key t ≡ count_before tables.old kind key t }
-    ensures bounded { RiseAtMost tables.old tables.new
-        (λ kind key t. one_if (is_kind rule.now.kind kind && gives_as policy.now.numbering.now.symbols rule.now is.now key t)) }
+    requires counted { (key : SymbolKey) (t : ℕ) → one_if (gives_as policy.now.numbering.now.symbols rule.now was.now key t) ≤ count_now lines.old key t }
+    ensures now { OnOk result ((key : SymbolKey) (t : ℕ) → count_now lines.new key t + one_if (gives_as policy.now.numbering.now.symbols rule.now was.now key t)
+        ≡ count_now lines.old key t + one_if (gives_as policy.now.numbering.now.symbols rule.now is.now key t)) }
+    ensures before { (key : SymbolKey) (t : ℕ) → count_before lines.new key t ≡ count_before lines.old key t }
+    ensures bounded { RiseAtMost lines.old lines.new
+        (λ key t. one_if (gives_as policy.now.numbering.now.symbols rule.now is.now key t)) }
     ensures adjustments { OnOk result (RisesBy (shifts policy.now.numbering.now.symbols rule.now was.now is.now) (adjustments_in meter.old) (adjustments_in meter.new)) }
     ensures evaluations { evaluations_in meter.new ≡ evaluations_in meter.old }
 {
     let permissions = permission_symbols(alloc, policy.numbering, rule.permissions.as_slice())?;
     let class = symbol_of(policy.numbering, rule.class);
-    let moved = tables.shift(alloc, rule.kind, class, &permissions, was, is)?;
+    let head = RuleHead {
+        kind: rule.kind,
+        class,
+        permissions: &permissions,
+    };
+    let moved = shift_rule(lines, alloc, head, was, is)?;
     meter.adjusted(moved);
     Ok(())
 }
 
 /// Takes a rule of a policy out.
 pub fn take_rule<A: Allocator + Copy>(
-    tables: &mut SymbolTables<A>,
+    lines: &mut KeyedLines<A>,
     alloc: A,
     policy: &Policy<'_, A>,
     rule: &NumberedRule<A>,
@@ -60,28 +63,20 @@ pub fn take_rule<A: Allocator + Copy>(
 ) -> Result<(), AllocError>
     requires known { IsKnown policy.now }
     requires below { IsTrue (is_rule_below (length policy.now.numbering.now.symbols) rule.now) }
-    requires counted { (kind : RuleKind) (key : SymbolKey) (t : ℕ) → one_if (gives_by policy.now kind key t rule.now) ≤ count_now tables.old kind key t }
-    ensures now { OnOk result ((kind : RuleKind) (key : SymbolKey) (t : ℕ) → count_now tables.new kind key t + one_if (gives_by policy.now kind key t rule.now) ≡ count_now tables.old kind key t) }
-    ensures before { (kind : RuleKind) (key : SymbolKey) (t : ℕ) → count_before tables.new kind key t ≡ count_before tables.old kind key t }
-    ensures bounded { NoneRises tables.old tables.new }
+    requires counted { (key : SymbolKey) (t : ℕ) → one_if (gives_by policy.now key t rule.now) ≤ count_now lines.old key t }
+    ensures now { OnOk result ((key : SymbolKey) (t : ℕ) → count_now lines.new key t + one_if (gives_by policy.now key t rule.now) ≡ count_now lines.old key t) }
+    ensures before { (key : SymbolKey) (t : ℕ) → count_before lines.new key t ≡ count_before lines.old key t }
+    ensures bounded { NoneRises lines.old lines.new }
     ensures adjustments { OnOk result (RisesBy (gives_it policy.now rule.now) (adjustments_in meter.old) (adjustments_in meter.new)) }
     ensures evaluations { evaluations_in meter.new ≡ evaluations_in meter.old }
 {
     let was = rule_reach(alloc, &policy.members, policy.numbering, rule)?;
-    shift_as(
-        tables,
-        alloc,
-        policy,
-        rule,
-        &was,
-        &Reach::none(alloc),
-        meter,
-    )
+    shift_as(lines, alloc, policy, rule, &was, &Reach::none(alloc), meter)
 }
 
 /// Puts a rule of a policy in.
 pub fn put_rule<A: Allocator + Copy>(
-    tables: &mut SymbolTables<A>,
+    lines: &mut KeyedLines<A>,
     alloc: A,
     policy: &Policy<'_, A>,
     rule: &NumberedRule<A>,
@@ -89,19 +84,19 @@ pub fn put_rule<A: Allocator + Copy>(
 ) -> Result<(), AllocError>
     requires known { IsKnown policy.now }
     requires below { IsTrue (is_rule_below (length policy.now.numbering.now.symbols) rule.now) }
-    ensures now { OnOk result ((kind : RuleKind) (key : SymbolKey) (t : ℕ) → count_now tables.new kind key t ≡ count_now tables.old kind key t + one_if (gives_by policy.now kind key t rule.now)) }
-    ensures before { (kind : RuleKind) (key : SymbolKey) (t : ℕ) → count_before tables.new kind key t ≡ count_before tables.old kind key t }
-    ensures bounded { RiseAtMost tables.old tables.new (λ kind key t. one_if (gives_by policy.now kind key t rule.now)) }
+    ensures now { OnOk result ((key : SymbolKey) (t : ℕ) → count_now lines.new key t ≡ count_now lines.old key t + one_if (gives_by policy.now key t rule.now)) }
+    ensures before { (key : SymbolKey) (t : ℕ) → count_before lines.new key t ≡ count_before lines.old key t }
+    ensures bounded { RiseAtMost lines.old lines.new (λ key t. one_if (gives_by policy.now key t rule.now)) }
     ensures adjustments { OnOk result (RisesBy (gives_it policy.now rule.now) (adjustments_in meter.old) (adjustments_in meter.new)) }
     ensures evaluations { evaluations_in meter.new ≡ evaluations_in meter.old }
 {
     let is = rule_reach(alloc, &policy.members, policy.numbering, rule)?;
-    shift_as(tables, alloc, policy, rule, &Reach::none(alloc), &is, meter)
+    shift_as(lines, alloc, policy, rule, &Reach::none(alloc), &is, meter)
 }
 
 /// Puts a rule of the new policy in place of the old one's.
 pub fn replace_rule<A: Allocator + Copy>(
-    tables: &mut SymbolTables<A>,
+    lines: &mut KeyedLines<A>,
     alloc: A,
     old: &Policy<'_, A>,
     old_rule: &NumberedRule<A>,
@@ -114,15 +109,15 @@ pub fn replace_rule<A: Allocator + Copy>(
     requires old_below { IsTrue (is_rule_below (length old.now.numbering.now.symbols) old_rule.now) }
     requires new_below { IsTrue (is_rule_below (length new.now.numbering.now.symbols) new_rule.now) }
     requires head { HaveSameHead old.now.numbering.now.symbols old_rule.now new.now.numbering.now.symbols new_rule.now }
-    requires counted { (kind : RuleKind) (key : SymbolKey) (t : ℕ) → one_if (gives_by old.now kind key t old_rule.now) ≤ count_now tables.old kind key t }
-    ensures now { OnOk result ((kind : RuleKind) (key : SymbolKey) (t : ℕ) → count_now tables.new kind key t + one_if (gives_by old.now kind key t old_rule.now)
-        ≡ count_now tables.old kind key t + one_if (gives_by new.now kind key t new_rule.now)) }
-    ensures before { (kind : RuleKind) (key : SymbolKey) (t : ℕ) → count_before tables.new kind key t ≡ count_before tables.old kind key t }
-    ensures bounded { RiseAtMost tables.old tables.new (λ kind key t. one_if (gives_by new.now kind key t new_rule.now)) }
+    requires counted { (key : SymbolKey) (t : ℕ) → one_if (gives_by old.now key t old_rule.now) ≤ count_now lines.old key t }
+    ensures now { OnOk result ((key : SymbolKey) (t : ℕ) → count_now lines.new key t + one_if (gives_by old.now key t old_rule.now)
+        ≡ count_now lines.old key t + one_if (gives_by new.now key t new_rule.now)) }
+    ensures before { (key : SymbolKey) (t : ℕ) → count_before lines.new key t ≡ count_before lines.old key t }
+    ensures bounded { RiseAtMost lines.old lines.new (λ key t. one_if (gives_by new.now key t new_rule.now)) }
     ensures adjustments { OnOk result (RisesBy (replaces old.now old_rule.now new.now new_rule.now) (adjustments_in meter.old) (adjustments_in meter.new)) }
     ensures evaluations { evaluations_in meter.new ≡ evaluations_in meter.old }
 {
     let was = rule_reach(alloc, &old.members, old.numbering, old_rule)?;
     let is = rule_reach(alloc, &new.members, new.numbering, new_rule)?;
-    shift_as(tables, alloc, new, new_rule, &was, &is, meter)
+    shift_as(lines, alloc, new, new_rule, &was, &is, meter)
 }

@@ -1,6 +1,7 @@
-use Rattle.std.proofs.Common.{◌≡◌, ◌∙◌, ◌-◌, length, ap, arith}
+use Rattle.std.proofs.Common.{◌≡◌, ◌∙◌, ◌-◌, length, ap, subst, arith}
 use Rattle.std.specs.List.{IsDistinct}
 use Rattle.cil_keyed_lines.proofs.EndLemmas.{among_taken, count_taken}
+use Rattle.cil_keyed_lines.proofs.KeyedLemmas.{same_eq}
 use Rattle.cil_keyed_lines.specs.Keyed.{is_key}
 use Rattle.cil_recorded.specs.Recorded.{count_now, lines_in}
 use Rattle.cil_keyed_lines.proofs.ended_lines.take_out.Goals as goal
@@ -11,7 +12,7 @@ returns-clause-counts g c =
     let news = c.swap_remove_index.new.self.keys in
     let old = c.args.lines.now in
     let new = c.swap_remove.new.self in
-    let distinct : IsDistinct is_key news = c.swap_remove_index.ensures.unique in
+    let distinct : IsDistinct is_key news = subst (λ same. IsDistinct same news) same_eq c.swap_remove_index.ensures.unique in
     let long : lines_in new ≡ length keys - 1 = omega (arith, c.swap_remove.ensures.lines, c.requires.paired.len) in
     count_taken keys news c.args.place c.requires.place c.swap_remove_index.result c.swap_remove_index.ensures.key c.swap_remove_index.ensures.keys (count_now old) (count_now new)
     c.requires.paired.distinct distinct c.requires.clear

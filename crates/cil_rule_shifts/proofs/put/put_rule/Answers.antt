@@ -9,10 +9,10 @@ use Rattle.cil_rule_shifts.proofs.put.put_rule.Goals as goal
 
 pub loop-source-init : goal.loop-source-init
 loop-source-init g c =
-    let none = put-first c.args.is.now c.args.class c.args.permissions.now in (
+    let none = put-first c.args.is.now c.args.head in (
       c.requires.settled,
       λ k t. let nothing = ap one_if (none (k, t)) in omega (arith, nothing),
-      rises-none (put_up_to c.args.is.now c.args.class c.args.permissions.now 0) 0 none,
+      rises-none (put_up_to c.args.is.now c.args.head 0) 0 none,
       c.in_ok-pieces.ensures.pieces,
       λ same t. c.in_ok-pieces.ensures.targets t,
     )
@@ -22,7 +22,7 @@ turn_pieces-requires-clause-same g c same t = c.loop-source.invariant.4 same t �
 
 pub returns-in_err-here-clause-bounded : goal.returns-in_err-here-clause-bounded
 returns-in_err-here-clause-bounded g c k t =
-    let within = source-within c.none-none.result c.args.is.now c.args.class c.args.permissions.now c.loop-source.from c.in-Some.source c.turn_pieces.new.pieces.list.items
+    let within = source-within c.none-none.result c.args.is.now c.args.head c.loop-source.from c.in-Some.source c.turn_pieces.new.pieces.list.items
     c.none-none.ensures.none c.in-Some.ensures c.in_ok-turn_pieces.ensures.targets k t in
     let step = c.in_err-here.ensures.bounded k t in
     let so_far = c.loop-source.invariant.1 k t in
@@ -37,8 +37,7 @@ pub loop-source-preserved : goal.loop-source-preserved
 loop-source-preserved g c =
     let none = c.none-none.result in
     let is = c.args.is.now in
-    let class = c.args.class in
-    let permissions = c.args.permissions.now in
+    let head = c.args.head in
     let from = c.loop-source.from in
     let source = c.in-Some.source in
     let items = c.turn_pieces.new.pieces.list.items in
@@ -46,11 +45,11 @@ loop-source-preserved g c =
     let targets = c.in_ok-turn_pieces.ensures.targets in (
       c.in_ok-here.ensures.settled,
       λ k t.
-          let put = source-put none is class permissions from source items nowhere c.in-Some.ensures targets k t in
+          let put = source-put none is head from source items nowhere c.in-Some.ensures targets k t in
           let step = c.in_ok-here.ensures.now k t in
           let so_far = c.loop-source.invariant.1 k t in
           omega (arith, put, step, so_far),
-      sources-step none is class permissions from source items nowhere c.in-Some.ensures targets c.loop-source.given c.in_ok-here.here c.saturating_add-given.result
+      sources-step none is head from source items nowhere c.in-Some.ensures targets c.loop-source.given c.in_ok-here.here c.saturating_add-given.result
           c.loop-source.invariant.2 c.in_ok-here.ensures.given c.saturating_add-given.ensures,
       c.turn_pieces.ensures.pieces,
       λ same t. ap (λ (p : Pieces g.row.A.Denot). has_target p.list.items t) (c.turn_pieces.ensures.same same) ∙ c.loop-source.invariant.4 same t,
@@ -58,4 +57,4 @@ loop-source-preserved g c =
 
 pub returns-clause-given : goal.returns-clause-given
 returns-clause-given g c =
-    sources-done c.none-none.result c.args.is.now c.args.class c.args.permissions.now c.loop-source.from c.loop-source.given c.in_default.ensures c.loop-source.invariant.2
+    sources-done c.none-none.result c.args.is.now c.args.head c.loop-source.from c.loop-source.given c.in_default.ensures c.loop-source.invariant.2

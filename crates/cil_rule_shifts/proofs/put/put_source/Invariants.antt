@@ -1,8 +1,9 @@
-use Rattle.std.proofs.Common.{ℕ, ◌≡◌, ◌+◌, ◌&&◌, take}
+use Rattle.std.proofs.Common.{ℕ, ◌≡◌, ◌+◌, ◌&&◌}
 use Rattle.cil_keyed_lines.specs.Keyed.{count_now, steps_in}
 use Rattle.cil_keyed_lines.specs.declared.symbol_key.SymbolKey.{SymbolKey}
 use Rattle.cil_rule_shifts.specs.Pieces.{has_target, put_for}
 use Rattle.cil_rule_shifts.specs.Reach.{is_line, one_if}
+use Rattle.cil_rule_shifts.proofs.ShiftLemmas.{first}
 use Rattle.cil_sums.specs.Rises.{RisesBy}
 use Rattle.cil_rule_shifts.proofs.put.put_source.Given as goal
 
@@ -10,5 +11,5 @@ use Rattle.cil_rule_shifts.proofs.put.put_source.Given as goal
 abbrev pub invariant-loop-permission : goal.invariant-loop-permission
 invariant-loop-permission g l =
     (steps_in l.lines ≡ 0)
-    × ((k : SymbolKey) (t : ℕ) → count_now l.lines k t ≡ count_now l.fn.lines k t + one_if (is_line l.source l.class (take l.permission-index l.permissions) k && has_target l.pieces.list.items t))
-    × RisesBy (put_for l.source l.class (take l.permission-index l.permissions) l.pieces.list.items) 0 l.given
+    × ((k : SymbolKey) (t : ℕ) → count_now l.lines k t ≡ count_now l.fn.lines k t + one_if (is_line l.source (first l.permission-index l.head) k && has_target l.pieces.list.items t))
+    × RisesBy (put_for l.source (first l.permission-index l.head) l.pieces.list.items) 0 l.given

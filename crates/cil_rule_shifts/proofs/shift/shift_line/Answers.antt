@@ -1,9 +1,13 @@
-use Rattle.std.proofs.Common.{◌<◌, ◌^◌, ◌∙◌, ◌/◌, arith, refl, slice_index_or, true, w64}
+use Rattle.std.proofs.Common.{◌<◌, ◌^◌, ◌∙◌, ◌/◌, arith, refl, slice_index_or, true, w64, ap, subst, []}
 use Rattle.std.specs.Int.{bit_not}
 use Rattle.cil_keyed_lines.specs.Keyed.{count_now, is_key}
-use Rattle.cil_rule_shifts.specs.Reach.{takes}
-use Rattle.cil_rule_shifts.proofs.MoveLemmas.{line-step}
-use Rattle.cil_rule_shifts.proofs.ShiftLemmas.{above-word, hit-keyed, hit-line, line-more}
+use Rattle.cil_rule_shifts.specs.Reach.{takes, one_if}
+use Rattle.cil_rule_shifts.proofs.MoveLemmas.{line-step, line-done, moves_in_words}
+use Rattle.cil_rule_shifts.proofs.ShiftLemmas.{above-word, hit-keyed, hit-line, line-more, no-word}
+use Rattle.cil_rule_shifts.specs.Moves.{turns}
+use Rattle.cil_sums.proofs.RiseLemmas.{rises-none}
+use Rattle.cil_sums.specs.Rises.{RisesBy}
+use Rattle.std.proofs.lemmas.List.{take_all}
 use Rattle.cil_rule_shifts.proofs.shift.shift_line.Goals as goal
 
 pub shift-requires-clause-above : goal.shift-requires-clause-above
@@ -35,3 +39,20 @@ loop-word-preserved g c = (
       c.loop-word-test.true c.loop-word.invariant.2 (let fits : c.word-gone.result < 2 ^ 64 = c.word-gone.type_inv in fits) (let fits : c.word-come.result < 2 ^ 64 = c.word-come.type_inv in fits)
       c.word-gone.ensures c.word-come.ensures c.in_ok-here.ensures.moved c.saturating_add-moved.ensures,
 )
+
+pub loop-word-init : goal.loop-word-init
+loop-word-init g c = (
+  λ k t.
+      let was = ap one_if (no-word (is_key c.args.key k) (takes c.args.was.now c.args.key.source t)) in
+      let is = ap one_if (no-word (is_key c.args.key k) (takes c.args.is.now c.args.key.source t)) in
+      omega (arith, was, is),
+  λ k t. refl,
+  rises-none (moves_in_words c.args.key c.args.was.now c.args.is.now []) 0 (λ p. no-word (is_key c.args.key p.0) (turns c.args.was.now c.args.is.now c.args.key.source p.1)),
+)
+
+pub returns-clause-moved : goal.returns-clause-moved
+returns-clause-moved g c =
+    let words = c.args.words.now in
+    let i = c.loop-word.word-index in
+    line-done c.args.key c.args.was.now c.args.is.now words c.requires.words c.loop-word.moved
+    (subst (λ ws. RisesBy (moves_in_words c.args.key c.args.was.now c.args.is.now ws) 0 c.loop-word.moved) (take_all i words (omega (arith, c.loop-word-test.false))) c.loop-word.invariant.2)

@@ -1,15 +1,16 @@
-use Rattle.std.proofs.Common.{ℕ, ◌≡◌, ◌+◌, ◌&&◌, take}
+use Rattle.std.proofs.Common.{ℕ, ◌≡◌, ◌+◌, ◌&&◌}
 use Rattle.cil_keyed_lines.specs.Keyed.{count_before, count_now}
 use Rattle.cil_keyed_lines.specs.declared.symbol_key.SymbolKey.{SymbolKey}
 use Rattle.cil_rule_shifts.specs.Moves.{moves_for}
 use Rattle.cil_rule_shifts.specs.Reach.{is_line, one_if, takes}
+use Rattle.cil_rule_shifts.proofs.ShiftLemmas.{first}
 use Rattle.cil_sums.specs.Rises.{RisesBy}
 use Rattle.cil_rule_shifts.proofs.shift.shift_lines.Given as goal
 
 -- the lines of the permissions so far are moved
 abbrev pub invariant-loop-permission : goal.invariant-loop-permission
 invariant-loop-permission g l =
-    ((k : SymbolKey) (t : ℕ) → count_now l.lines k t + one_if (is_line l.source l.class (take l.permission-index l.permissions) k && takes l.was l.source t)
-    ≡ count_now l.fn.lines k t + one_if (is_line l.source l.class (take l.permission-index l.permissions) k && takes l.is l.source t))
+    ((k : SymbolKey) (t : ℕ) → count_now l.lines k t + one_if (is_line l.source (first l.permission-index l.head) k && takes l.was l.source t)
+    ≡ count_now l.fn.lines k t + one_if (is_line l.source (first l.permission-index l.head) k && takes l.is l.source t))
     × ((k : SymbolKey) (t : ℕ) → count_before l.lines k t ≡ count_before l.fn.lines k t)
-    × RisesBy (moves_for l.source l.class (take l.permission-index l.permissions) l.was l.is) 0 l.moved
+    × RisesBy (moves_for l.source (first l.permission-index l.head) l.was l.is) 0 l.moved

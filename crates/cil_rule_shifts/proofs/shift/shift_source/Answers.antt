@@ -19,7 +19,7 @@ targets_of-come-requires-clause-none g c s t = takes-nothing _ s refl t
 pub shift_lines-requires-clause-counted : goal.shift_lines-requires-clause-counted
 shift_lines-requires-clause-counted g c k t =
     subst (λ b. one_if b ≤ count_now c.args.lines.now k t)
-    (sym (source-gives c.args.was.now c.targets_of-gone.result.now c.args.source c.args.class c.args.permissions.now k t (c.targets_of-gone.ensures.targets t))) (c.requires.counted k t)
+    (sym (source-gives c.args.was.now c.targets_of-gone.result.now c.args.source c.args.head k t (c.targets_of-gone.ensures.targets t))) (c.requires.counted k t)
 
 pub shift_lines-requires-clause-words : goal.shift_lines-requires-clause-words
 shift_lines-requires-clause-words g c =
@@ -35,11 +35,11 @@ shift_lines-requires-clause-words g c =
 
 pub returns-in-Some-clause-moved : goal.returns-in-Some-clause-moved
 returns-in-Some-clause-moved g c =
-    IfOk-weaker c.shift_lines.result _ _ (source-moves c.args.was.now c.args.is.now c.targets_of-gone.result.now c.targets_of-come.result.now c.args.source c.args.class c.args.permissions.now c.targets_of-gone.ensures.targets c.targets_of-come.ensures.targets)
+    IfOk-weaker c.shift_lines.result _ _ (source-moves c.args.was.now c.args.is.now c.targets_of-gone.result.now c.targets_of-come.result.now c.args.source c.args.head c.targets_of-gone.ensures.targets c.targets_of-come.ensures.targets)
     c.shift_lines.ensures.moved
 
 pub returns-clause-moved : goal.returns-clause-moved
 returns-clause-moved g c =
     IfOk-weaker c.shift_lines-in_default.result _ _
-    (source-moves c.args.was.now c.args.is.now c.targets_of-gone.result.now c.targets_of-come.result.now c.args.source c.args.class c.args.permissions.now c.targets_of-gone.ensures.targets c.targets_of-come.ensures.targets)
+    (source-moves c.args.was.now c.args.is.now c.targets_of-gone.result.now c.targets_of-come.result.now c.args.source c.args.head c.targets_of-gone.ensures.targets c.targets_of-come.ensures.targets)
     c.shift_lines-in_default.ensures.moved

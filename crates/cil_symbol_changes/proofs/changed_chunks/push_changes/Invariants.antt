@@ -6,8 +6,8 @@ use Rattle.cil_symbol_changes.proofs.changed_chunks.push_changes.Given as goal
 -- the changes so far are taken
 abbrev pub invariant-loop-from : goal.invariant-loop-from
 invariant-loop-from g l = record {
-  added : AreGained (IsBetween (λ place. IsIn l.numbers l.kind l.lines (appeared_in l.changes place)) l.order 0 l.from) l.fn.chunks.added.items l.chunks.added.items;
-  removed : AreGained (IsBetween (λ place. IsIn l.numbers l.kind l.lines (gone_in l.changes place)) l.order 0 l.from) l.fn.chunks.removed.items l.chunks.removed.items;
+  added : AreGained (IsBetween (λ place. IsIn l.numbers l.lines (appeared_in l.changes place)) l.order 0 l.from) l.fn.chunks.added.items l.chunks.added.items;
+  removed : AreGained (IsBetween (λ place. IsIn l.numbers l.lines (gone_in l.changes place)) l.order 0 l.from) l.fn.chunks.removed.items l.chunks.removed.items;
 }
 
 abbrev pub decreases-loop-from : goal.decreases-loop-from

@@ -1,22 +1,34 @@
-use Rattle.std.proofs.Common.{arith}
-use Rattle.cil_symbol_tables.specs.Tables.{count_before, count_now}
-use Rattle.cil_symbol_changes.proofs.CountLemmas.{kinds-count}
+use Rattle.std.proofs.Common.{inl, inr}
+use Rattle.cil_symbol_changes.proofs.CountLemmas.{changes-come, changes-gone, steps-come, steps-gone}
 use Rattle.cil_symbol_changes.proofs.counted_changes.count_changes.Goals as goal
+use Rattle.cil_symbol_changes.proofs.counted_changes.count_changes.Goals.{then-turned-eq0-via-then-turned-eq0, then-turned-eq0-via-else-turned-eq0+then-turned-eq0-2}
+
+pub returns-then-turned-eq0-clause-added : goal.returns-then-turned-eq0-clause-added
+returns-then-turned-eq0-clause-added g c =
+    let told = c.count_steps-turned in
+    steps-come {A = g.row.A.Denot} c.args.lines.now c.lines-lines.result.now c.lines-lines.ensures c.log.ensures.keyed c.log.result.now c.log.ensures.log c.log.ensures.turned told.ensures.turned told.result.added
+    told.result.removed told.ensures.added told.ensures.removed
+    (elim c.then-turned-eq0.branch [
+      | then-turned-eq0-via-then-turned-eq0 w ↦ inl w.if-turned-eq0.true
+      | then-turned-eq0-via-else-turned-eq0+then-turned-eq0-2 w ↦ inr w.if-turned-eq0-2.true
+    ])
+
+pub returns-then-turned-eq0-clause-removed : goal.returns-then-turned-eq0-clause-removed
+returns-then-turned-eq0-clause-removed g c =
+    let told = c.count_steps-turned in
+    steps-gone {A = g.row.A.Denot} c.args.lines.now c.lines-lines.result.now c.lines-lines.ensures c.log.ensures.keyed c.log.result.now c.log.ensures.log c.log.ensures.turned told.ensures.turned told.result.added
+    told.result.removed told.ensures.added told.ensures.removed
+    (elim c.then-turned-eq0.branch [
+      | then-turned-eq0-via-then-turned-eq0 w ↦ inl w.if-turned-eq0.true
+      | then-turned-eq0-via-else-turned-eq0+then-turned-eq0-2 w ↦ inr w.if-turned-eq0-2.true
+    ])
 
 pub returns-clause-added : goal.returns-clause-added
 returns-clause-added g c =
-    let allow = c.in_ok-allow.ensures.few_added in
-    let auditallow = c.in_ok-auditallow.ensures.few_added in
-    let dontaudit = c.in_ok-dontaudit.ensures.few_added in
-    let neverallow = c.in_ok-neverallow.ensures.few_added in
-    kinds-count (count_before {A = g.row.A.Denot} c.args.tables.now) (count_now {A = g.row.A.Denot} c.args.tables.now) c.in_ok-allow.allow.added c.in_ok-auditallow.auditallow.added c.in_ok-dontaudit.dontaudit.added
-    c.in_ok-neverallow.neverallow.added c.in_ok-allow.ensures.added c.in_ok-auditallow.ensures.added c.in_ok-dontaudit.ensures.added c.in_ok-neverallow.ensures.added (omega (arith, allow, auditallow, dontaudit, neverallow))
+    changes-come {A = g.row.A.Denot} c.args.lines.now c.lines-lines.result.now c.lines-lines.ensures c.log.ensures.keyed c.deref.result.now c.in_ok-changes.changes.items c.deref.ensures.value
+    c.count_targets.result.added c.in_ok-changes.ensures.appeared c.count_targets.ensures.appeared c.count_targets.ensures.added
 
 pub returns-clause-removed : goal.returns-clause-removed
 returns-clause-removed g c =
-    let allow = c.in_ok-allow.ensures.few_removed in
-    let auditallow = c.in_ok-auditallow.ensures.few_removed in
-    let dontaudit = c.in_ok-dontaudit.ensures.few_removed in
-    let neverallow = c.in_ok-neverallow.ensures.few_removed in
-    kinds-count (count_now {A = g.row.A.Denot} c.args.tables.now) (count_before {A = g.row.A.Denot} c.args.tables.now) c.in_ok-allow.allow.removed c.in_ok-auditallow.auditallow.removed c.in_ok-dontaudit.dontaudit.removed
-    c.in_ok-neverallow.neverallow.removed c.in_ok-allow.ensures.removed c.in_ok-auditallow.ensures.removed c.in_ok-dontaudit.ensures.removed c.in_ok-neverallow.ensures.removed (omega (arith, allow, auditallow, dontaudit, neverallow))
+    changes-gone {A = g.row.A.Denot} c.args.lines.now c.lines-lines.result.now c.lines-lines.ensures c.log.ensures.keyed c.deref.result.now c.in_ok-changes.changes.items c.deref.ensures.value
+    c.count_targets.result.removed c.in_ok-changes.ensures.gone c.count_targets.ensures.gone c.count_targets.ensures.removed

@@ -1,17 +1,18 @@
-use Rattle.cil_text.specs.declared.statement.RuleKind.TheVariants.{NeverAllow}
-use Rattle.cil_symbol_changes.specs.Numbered.{listed}
-use Rattle.cil_symbol_tables.specs.Tables.{count_now}
-use Rattle.cil_symbol_changes.proofs.ChangeLemmas.{all-kinds, all-short, none-new}
+use Rattle.std.proofs.Common.{length, subst, sym}
+use Rattle.std.proofs.lemmas.Result.{on_ok_weaker}
+use Rattle.cil_symbol_changes.specs.SourceOrder.{AreAllPlaces}
+use Rattle.cil_symbol_changes.proofs.PresentLemmas.{in-present, known-now}
 use Rattle.cil_symbol_changes.proofs.present_chunks.collect_present.Goals as goal
 
-pub returns-clause-given : goal.returns-clause-given
-returns-clause-given g c =
-    all-kinds c.args.numbers.now (λ kind key t. 0) (listed (count_now {A = g.row.A.Denot} c.args.tables.now)) c.in_ok-chunks.chunks.items c.push_kind.new.chunks.items c.push_kind-2.new.chunks.items
-    c.push_kind-3.new.chunks.items c.push_kind-3.new.chunks.items c.in_ok-chunks.ensures.items c.in_ok-push_kind.ensures c.in_ok-push_kind-2.ensures c.in_ok-push_kind-3.ensures
-    (none-new c.args.numbers.now NeverAllow c.push_kind-3.new.chunks.items)
+pub push_lines-requires-clause-all : goal.push_lines-requires-clause-all
+push_lines-requires-clause-all g c = subst (AreAllPlaces (length c.lines-lines.result.now.keys)) (sym c.deref.ensures.value) c.in_ok-order.ensures
 
-pub returns-clause-short : goal.returns-clause-short
-returns-clause-short g c =
-    all-short c.args.numbers.now (λ kind key t. 0) (listed (count_now {A = g.row.A.Denot} c.args.tables.now)) c.in_ok-chunks.chunks.items c.push_kind.new.chunks.items c.push_kind-2.new.chunks.items
-    c.push_kind-3.new.chunks.items c.push_kind-3.new.chunks.items c.in_ok-chunks.ensures.items c.in_ok-push_kind.ensures c.in_ok-push_kind-2.ensures c.in_ok-push_kind-3.ensures
-    (none-new c.args.numbers.now NeverAllow c.push_kind-3.new.chunks.items)
+pub push_lines-requires-clause-known : goal.push_lines-requires-clause-known
+push_lines-requires-clause-known g c =
+    known-now {A = g.row.A.Denot} c.args.lines.now c.args.numbers.now c.lines-lines.result.now c.lines-lines.ensures c.requires.numbered
+
+pub returns : goal.returns
+returns g c =
+    on_ok_weaker c.push_lines.result
+    (in-present {A = g.row.A.Denot} c.args.lines.now c.args.numbers.now c.lines-lines.result.now c.lines-lines.ensures c.args.chunks.now.items c.push_lines.new.chunks.items)
+    c.push_lines.ensures

@@ -4,18 +4,18 @@ use Rattle.cil_keyed_lines.specs.declared.symbol_key.SymbolKey.{SymbolKey}
 use Rattle.cil_resolve.specs.Meter.{adjustments_in}
 use Rattle.cil_rule_reach.specs.Reaches.{covers_by, members_of}
 use Rattle.cil_rule_shifts.specs.Reach.{gives, has_permission, one_if}
-use Rattle.cil_symbol_tables.specs.Tables.{count_now, is_kind}
+use Rattle.cil_keyed_lines.specs.Keyed.{count_now, is_kind}
 use Rattle.cil_table_updates.proofs.AdjustedLemmas.{given-rises}
 use Rattle.cil_table_updates.proofs.MoveLemmas.{bounded-covered, gives-covered, gives-listed}
 use Rattle.cil_table_updates.proofs.loading.add_rule.Goals as goal
 
 pub returns-clause-now : goal.returns-clause-now
-returns-clause-now g c kind key t =
+returns-clause-now g c key t =
     let symbols = c.args.policy.now.numbering.now.symbols in
     let members = members_of c.args.policy.now.members in
     let rule = c.args.rule.now in
-    c.in_ok-given.ensures.now kind key t
-    ∙ ap (λ b. count_now c.args.tables.now kind key t + one_if (is_kind rule.kind kind && b))
+    c.in_ok-given.ensures.now key t
+    ∙ ap (λ b. count_now c.args.lines.now key t + one_if (is_kind rule.kind kind && b))
     (gives-listed symbols rule c.in_ok-is.is' c.symbol_of-class.result c.deref.result.now c.symbol_of-class.ensures.is
     (λ p. ap (λ l. has_permission l p) c.deref.ensures.value ∙ c.in_ok-permissions.ensures.same p ∙ ap (list_any (λ q. p == slice_index symbols q)) c.as_slice.ensures) key t
     ∙ gives-covered symbols rule c.in_ok-is.is' members c.in_ok-is.ensures.sources c.in_ok-is.ensures.targets key t)
@@ -36,7 +36,7 @@ returns-clause-bounded g c =
     let symbols = c.args.policy.now.numbering.now.symbols in
     let members = members_of c.args.policy.now.members in
     let rule = c.args.rule.now in
-    bounded-covered rule.kind (gives c.in_ok-is.is' c.symbol_of-class.result c.deref.result.now) (covers_by members symbols rule) (count_now c.put.new.self) (count_now c.args.tables.now)
+    bounded-covered rule.kind (gives c.in_ok-is.is' c.symbol_of-class.result c.deref.result.now) (covers_by members symbols rule) (count_now c.put.new.self) (count_now c.args.lines.now)
     (λ key t. gives-listed symbols rule c.in_ok-is.is' c.symbol_of-class.result c.deref.result.now c.symbol_of-class.ensures.is
     (λ p. ap (λ l. has_permission l p) c.deref.ensures.value ∙ c.in_ok-permissions.ensures.same p ∙ ap (list_any (λ q. p == slice_index symbols q)) c.as_slice.ensures) key t
     ∙ gives-covered symbols rule c.in_ok-is.is' members c.in_ok-is.ensures.sources c.in_ok-is.ensures.targets key t)
@@ -47,7 +47,7 @@ returns-in_err-given-clause-bounded g c =
     let symbols = c.args.policy.now.numbering.now.symbols in
     let members = members_of c.args.policy.now.members in
     let rule = c.args.rule.now in
-    bounded-covered rule.kind (gives c.in_ok-is.is' c.symbol_of-class.result c.deref.result.now) (covers_by members symbols rule) (count_now c.put.new.self) (count_now c.args.tables.now)
+    bounded-covered rule.kind (gives c.in_ok-is.is' c.symbol_of-class.result c.deref.result.now) (covers_by members symbols rule) (count_now c.put.new.self) (count_now c.args.lines.now)
     (λ key t. gives-listed symbols rule c.in_ok-is.is' c.symbol_of-class.result c.deref.result.now c.symbol_of-class.ensures.is
     (λ p. ap (λ l. has_permission l p) c.deref.ensures.value ∙ c.in_ok-permissions.ensures.same p ∙ ap (list_any (λ q. p == slice_index symbols q)) c.as_slice.ensures) key t
     ∙ gives-covered symbols rule c.in_ok-is.is' members c.in_ok-is.ensures.sources c.in_ok-is.ensures.targets key t)

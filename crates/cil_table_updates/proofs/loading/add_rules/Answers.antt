@@ -13,20 +13,20 @@ use Rattle.cil_table_updates.proofs.loading.add_rules.Goals as goal
 pub loop-j-init : goal.loop-j-init
 loop-j-init g c = record {
   settled = c.requires.settled;
-  now = λ kind key t. let nothing = sum-none (given c.args.policy.now kind key t) in omega (arith, nothing);
+  now = λ key t. let nothing = sum-none (given c.args.policy.now key t) in omega (arith, nothing);
   adjustments = rises-first (comes c.args.policy.now) (adjustments_in c.args.meter.now);
   evaluations = refl;
 }
 
 pub returns-in_err-add_rule-clause-bounded : goal.returns-in_err-add_rule-clause-bounded
-returns-in_err-add_rule-clause-bounded g c kind key t =
+returns-in_err-add_rule-clause-bounded g c key t =
     let policy = c.args.policy.now in
     let rules = policy.resolved.now.rules.items in
     let within = subst (λ l. c.loop-j.j < length l) c.rules-j-end.ensures.rules c.loop-j-test.true in
-    let gives = given-rule policy kind key t c.loop-j.j c.index-rules-j.result (read-at c.rules.result.now rules c.loop-j.j c.index-rules-j.result c.rules.ensures.rules within c.index-rules-j.is) in
-    let part = sum-part (given policy kind key t) c.loop-j.j (length rules) within in
-    let put = c.loop-j.invariant.now kind key t in
-    let one = c.in_err-add_rule.ensures.bounded kind key t in
+    let gives = given-rule policy key t c.loop-j.j c.index-rules-j.result (read-at c.rules.result.now rules c.loop-j.j c.index-rules-j.result c.rules.ensures.rules within c.index-rules-j.is) in
+    let part = sum-part (given policy key t) c.loop-j.j (length rules) within in
+    let put = c.loop-j.invariant.now key t in
+    let one = c.in_err-add_rule.ensures.bounded key t in
     omega (arith, gives, part, put, one)
 
 pub loop-j-preserved : goal.loop-j-preserved
@@ -38,15 +38,15 @@ loop-j-preserved g c =
     let read = read-at c.rules.result.now rules c.loop-j.j rule c.rules.ensures.rules within c.index-rules-j.is in
     record {
       settled = c.in_ok-add_rule.ensures.settled;
-      now = λ kind key t.
-          let gives = given-rule policy kind key t c.loop-j.j rule read in
-          let more = sum-more (given policy kind key t) c.loop-j.j in
-          let put = c.loop-j.invariant.now kind key t in
-          let one = c.in_ok-add_rule.ensures.now kind key t in
+      now = λ key t.
+          let gives = given-rule policy key t c.loop-j.j rule read in
+          let more = sum-more (given policy key t) c.loop-j.j in
+          let put = c.loop-j.invariant.now key t in
+          let one = c.in_ok-add_rule.ensures.now key t in
           omega (arith, gives, more, put, one);
       adjustments =
           rises-next (comes policy) c.loop-j.j (adjustments_in c.args.meter.now) (adjustments_in c.loop-j.meter) (adjustments_in c.add_rule.new.meter) c.loop-j.invariant.adjustments
           (rises-same (gives_it policy rule) (comes policy c.loop-j.j) (adjustments_in c.loop-j.meter) (adjustments_in c.add_rule.new.meter)
-          (λ x. counted-some (gives_it policy rule x) ∙ sym (ap (nat_lt 0) (given-rule policy x.kind x.key x.target c.loop-j.j rule read))) c.in_ok-add_rule.ensures.adjustments);
+          (λ x. counted-some (gives_it policy rule x) ∙ sym (ap (nat_lt 0) (given-rule policy x.key x.target c.loop-j.j rule read))) c.in_ok-add_rule.ensures.adjustments);
       evaluations = c.in_ok-add_rule.ensures.evaluations ∙ c.loop-j.invariant.evaluations;
     }

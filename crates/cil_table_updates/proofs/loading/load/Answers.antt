@@ -3,7 +3,7 @@ use Rattle.std.proofs.lemmas.Result.{on_ok_weaker}
 use Rattle.cil_matching.proofs.ApartLemmas.{apart-rules}
 use Rattle.cil_resolve.specs.Meter.{adjustments_in}
 use Rattle.cil_resolve.specs.Resolved.{meaning_in}
-use Rattle.cil_symbol_tables.specs.Tables.{count_now}
+use Rattle.cil_keyed_lines.specs.Keyed.{count_now}
 use Rattle.cil_table_updates.specs.Adjusted.{AdjustsAtMost}
 use Rattle.cil_table_updates.specs.Policies.{count_named}
 use Rattle.cil_table_updates.proofs.DirtyLemmas.{on-ok-both}
@@ -14,22 +14,22 @@ use Rattle.cil_table_updates.proofs.loading.load.Goals as goal
 pub returns-clause-now : goal.returns-clause-now
 returns-clause-now g c =
     on_ok_weaker c.add_rules.result
-    (λ put kind key t.
-    let added = put kind key t in
-    let none = c.requires.none kind key t in
+    (λ put key t.
+    let added = put key t in
+    let none = c.requires.none key t in
     let named =
-    given-named c.args.names.now c.of-new.ensures.apart c.of-new.result c.of-new.ensures.policy kind key t c.of-new.ensures.below c.of-new.ensures.consistent
-    ∙ ap (λ r. count_named c.args.names.now (meaning_in r) kind key t) c.of-new.ensures.resolved in
+    given-named c.args.names.now c.of-new.ensures.apart c.of-new.result c.of-new.ensures.policy key t c.of-new.ensures.below c.of-new.ensures.consistent
+    ∙ ap (λ r. count_named c.args.names.now (meaning_in r) key t) c.of-new.ensures.resolved in
     omega (arith, added, none, named))
     c.add_rules.ensures.now
 
 pub returns-clause-bounded : goal.returns-clause-bounded
-returns-clause-bounded g c kind key t =
-    let added = c.add_rules.ensures.bounded kind key t in
-    let none = c.requires.none kind key t in
+returns-clause-bounded g c key t =
+    let added = c.add_rules.ensures.bounded key t in
+    let none = c.requires.none key t in
     let named =
-    given-named c.args.names.now c.of-new.ensures.apart c.of-new.result c.of-new.ensures.policy kind key t c.of-new.ensures.below c.of-new.ensures.consistent
-    ∙ ap (λ r. count_named c.args.names.now (meaning_in r) kind key t) c.of-new.ensures.resolved in
+    given-named c.args.names.now c.of-new.ensures.apart c.of-new.result c.of-new.ensures.policy key t c.of-new.ensures.below c.of-new.ensures.consistent
+    ∙ ap (λ r. count_named c.args.names.now (meaning_in r) key t) c.of-new.ensures.resolved in
     omega (arith, added, none, named)
 
 pub returns-clause-at_most : goal.returns-clause-at_most
@@ -49,5 +49,5 @@ returns-clause-at_least g c =
     let new = c.of-new.result in
     on-ok-both c.add_rules.result
     (λ rises put.
-    load-at-least new (length new.resolved.now.rules.items) (adjustments_in c.args.meter.now) (adjustments_in c.add_rules.new.meter) rises (count_now c.args.tables.now) (count_now c.add_rules.new.tables) put)
+    load-at-least new (length new.resolved.now.rules.items) (adjustments_in c.args.meter.now) (adjustments_in c.add_rules.new.meter) rises (count_now c.args.lines.now) (count_now c.add_rules.new.lines) put)
     c.add_rules.ensures.adjustments c.add_rules.ensures.now

@@ -1,7 +1,7 @@
 use Rattle.std.proofs.lemmas.Result.{on_ok_weaker}
 use Rattle.cil_resolve.specs.Meter.{adjustments_in}
 use Rattle.cil_rule_reach.specs.Reaches.{covers_by, members_of}
-use Rattle.cil_symbol_tables.specs.Tables.{count_now}
+use Rattle.cil_keyed_lines.specs.Keyed.{count_now}
 use Rattle.cil_table_updates.specs.Moves.{gives_as}
 use Rattle.cil_table_updates.proofs.AdjustedLemmas.{put-rises}
 use Rattle.cil_table_updates.proofs.MoveLemmas.{bounded-covered, gives-covered, gives-nothing, put-moved}
@@ -14,7 +14,7 @@ returns-clause-now g c =
     let rule = c.args.rule.now in
     on_ok_weaker c.shift_as.result
     (λ moved.
-    put-moved symbols rule c.none.result c.in_ok-is.is' (count_now c.shift_as.new.tables) (count_now c.args.tables.now) moved (covers_by members symbols rule) (gives-nothing symbols rule c.none.result c.none.ensures.none)
+    put-moved symbols rule c.none.result c.in_ok-is.is' (count_now c.shift_as.new.lines) (count_now c.args.lines.now) moved (covers_by members symbols rule) (gives-nothing symbols rule c.none.result c.none.ensures.none)
     (gives-covered symbols rule c.in_ok-is.is' members c.in_ok-is.ensures.sources c.in_ok-is.ensures.targets))
     c.shift_as.ensures.now
 
@@ -34,5 +34,5 @@ returns-clause-bounded g c =
     let symbols = c.args.policy.now.numbering.now.symbols in
     let members = members_of c.args.policy.now.members in
     let rule = c.args.rule.now in
-    bounded-covered rule.kind (gives_as symbols rule c.in_ok-is.is') (covers_by members symbols rule) (count_now c.shift_as.new.tables) (count_now c.args.tables.now)
+    bounded-covered rule.kind (gives_as symbols rule c.in_ok-is.is') (covers_by members symbols rule) (count_now c.shift_as.new.lines) (count_now c.args.lines.now)
     (gives-covered symbols rule c.in_ok-is.is' members c.in_ok-is.ensures.sources c.in_ok-is.ensures.targets) c.shift_as.ensures.bounded

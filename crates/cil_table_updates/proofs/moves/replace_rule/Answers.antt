@@ -2,7 +2,7 @@ use Rattle.std.proofs.Common.{◌∙◌}
 use Rattle.std.proofs.lemmas.Result.{on_ok_weaker}
 use Rattle.cil_resolve.specs.Meter.{adjustments_in}
 use Rattle.cil_rule_reach.specs.Reaches.{covers_by, members_of}
-use Rattle.cil_symbol_tables.specs.Tables.{count_now}
+use Rattle.cil_keyed_lines.specs.Keyed.{count_now}
 use Rattle.cil_table_updates.specs.Moves.{gives_as}
 use Rattle.cil_table_updates.proofs.AdjustedLemmas.{replace-rises}
 use Rattle.cil_table_updates.proofs.MoveLemmas.{bounded-covered, counted-kind, covered-alike, gives-covered, replace-moved}
@@ -15,7 +15,7 @@ shift_as-requires-clause-counted g c =
     let was_members = members_of c.args.old.now.members in
     let was_rule = c.args.old_rule.now in
     let rule = c.args.new_rule.now in
-    counted-kind was_rule.kind rule.kind (gives_as symbols rule c.in_ok-was.was') (covers_by was_members was_symbols was_rule) (count_now c.args.tables.now) c.requires.head.kind
+    counted-kind was_rule.kind rule.kind (gives_as symbols rule c.in_ok-was.was') (covers_by was_members was_symbols was_rule) (count_now c.args.lines.now) c.requires.head.kind
     (λ key t.
     covered-alike was_symbols symbols was_rule rule c.in_ok-was.was' c.requires.head key t
     ∙ gives-covered was_symbols was_rule c.in_ok-was.was' was_members c.in_ok-was.ensures.sources c.in_ok-was.ensures.targets key t)
@@ -31,7 +31,7 @@ returns-clause-now g c =
     let rule = c.args.new_rule.now in
     on_ok_weaker c.shift_as.result
     (λ moved.
-    replace-moved symbols rule c.in_ok-was.was' c.in_ok-is.is' (count_now c.shift_as.new.tables) (count_now c.args.tables.now) moved was_rule.kind (covers_by was_members was_symbols was_rule) (covers_by members symbols rule)
+    replace-moved symbols rule c.in_ok-was.was' c.in_ok-is.is' (count_now c.shift_as.new.lines) (count_now c.args.lines.now) moved was_rule.kind (covers_by was_members was_symbols was_rule) (covers_by members symbols rule)
     c.requires.head.kind
     (λ key t.
     covered-alike was_symbols symbols was_rule rule c.in_ok-was.was' c.requires.head key t
@@ -62,5 +62,5 @@ returns-clause-bounded g c =
     let symbols = c.args.new.now.numbering.now.symbols in
     let members = members_of c.args.new.now.members in
     let rule = c.args.new_rule.now in
-    bounded-covered rule.kind (gives_as symbols rule c.in_ok-is.is') (covers_by members symbols rule) (count_now c.shift_as.new.tables) (count_now c.args.tables.now)
+    bounded-covered rule.kind (gives_as symbols rule c.in_ok-is.is') (covers_by members symbols rule) (count_now c.shift_as.new.lines) (count_now c.args.lines.now)
     (gives-covered symbols rule c.in_ok-is.is' members c.in_ok-is.ensures.sources c.in_ok-is.ensures.targets) c.shift_as.ensures.bounded

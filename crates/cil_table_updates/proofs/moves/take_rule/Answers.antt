@@ -2,7 +2,7 @@ use Rattle.std.proofs.Common.{refl}
 use Rattle.std.proofs.lemmas.Result.{on_ok_weaker}
 use Rattle.cil_resolve.specs.Meter.{adjustments_in}
 use Rattle.cil_rule_reach.specs.Reaches.{covers_by, members_of}
-use Rattle.cil_symbol_tables.specs.Tables.{count_now}
+use Rattle.cil_keyed_lines.specs.Keyed.{count_now}
 use Rattle.cil_table_updates.specs.Moves.{gives_as}
 use Rattle.cil_table_updates.proofs.AdjustedLemmas.{take-rises}
 use Rattle.cil_table_updates.proofs.MoveLemmas.{bounded-nothing, counted-kind, gives-covered, gives-nothing, take-moved}
@@ -13,7 +13,7 @@ shift_as-requires-clause-counted g c =
     let symbols = c.args.policy.now.numbering.now.symbols in
     let members = members_of c.args.policy.now.members in
     let rule = c.args.rule.now in
-    counted-kind rule.kind rule.kind (gives_as symbols rule c.in_ok-was.was') (covers_by members symbols rule) (count_now c.args.tables.now) refl
+    counted-kind rule.kind rule.kind (gives_as symbols rule c.in_ok-was.was') (covers_by members symbols rule) (count_now c.args.lines.now) refl
     (gives-covered symbols rule c.in_ok-was.was' members c.in_ok-was.ensures.sources c.in_ok-was.ensures.targets) c.requires.counted
 
 pub returns-clause-now : goal.returns-clause-now
@@ -23,7 +23,7 @@ returns-clause-now g c =
     let rule = c.args.rule.now in
     on_ok_weaker c.shift_as.result
     (λ moved.
-    take-moved symbols rule c.in_ok-was.was' c.none.result (count_now c.shift_as.new.tables) (count_now c.args.tables.now) moved (covers_by members symbols rule) (gives-nothing symbols rule c.none.result c.none.ensures.none)
+    take-moved symbols rule c.in_ok-was.was' c.none.result (count_now c.shift_as.new.lines) (count_now c.args.lines.now) moved (covers_by members symbols rule) (gives-nothing symbols rule c.none.result c.none.ensures.none)
     (gives-covered symbols rule c.in_ok-was.was' members c.in_ok-was.ensures.sources c.in_ok-was.ensures.targets))
     c.shift_as.ensures.now
 
@@ -42,4 +42,4 @@ pub returns-clause-bounded : goal.returns-clause-bounded
 returns-clause-bounded g c =
     let symbols = c.args.policy.now.numbering.now.symbols in
     let rule = c.args.rule.now in
-    bounded-nothing rule.kind (gives_as symbols rule c.none.result) (count_now c.shift_as.new.tables) (count_now c.args.tables.now) (gives-nothing symbols rule c.none.result c.none.ensures.none) c.shift_as.ensures.bounded
+    bounded-nothing rule.kind (gives_as symbols rule c.none.result) (count_now c.shift_as.new.lines) (count_now c.args.lines.now) (gives-nothing symbols rule c.none.result c.none.ensures.none) c.shift_as.ensures.bounded

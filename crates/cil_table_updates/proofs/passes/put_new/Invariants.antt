@@ -3,17 +3,16 @@ use Rattle.cil_resolve.specs.Meter.{adjustments_in, evaluations_in}
 use Rattle.cil_sums.specs.Rises.{below, RisesBy}
 use Rattle.cil_sums.specs.Sums.{across, sum_below}
 use Rattle.cil_keyed_lines.specs.declared.symbol_key.SymbolKey.{SymbolKey}
-use Rattle.cil_symbol_tables.specs.Tables.{count_before, count_now}
+use Rattle.cil_keyed_lines.specs.Keyed.{count_before, count_now}
 use Rattle.cil_table_updates.specs.Adjusted.{turns}
 use Rattle.cil_table_updates.specs.Given.{given}
-use Rattle.cil_text.specs.declared.statement.RuleKind.{RuleKind}
 use Rattle.cil_table_updates.proofs.passes.put_new.Given as goal
 
 -- the rules so far are put in, in place of what they gave in the old policy
 abbrev pub invariant-loop-j : goal.invariant-loop-j
 invariant-loop-j g l = record {
-  now : (kind : RuleKind) (key : SymbolKey) (t : ℕ) → count_now l.tables kind key t + sum_below (across (given l.old kind key t) l.matching.back) l.j ≡ count_now l.fn.tables kind key t + sum_below (given l.new kind key t) l.j;
-  before : (kind : RuleKind) (key : SymbolKey) (t : ℕ) → count_before l.tables kind key t ≡ count_before l.fn.tables kind key t;
+  now : (key : SymbolKey) (t : ℕ) → count_now l.lines key t + sum_below (across (given l.old key t) l.matching.back) l.j ≡ count_now l.fn.lines key t + sum_below (given l.new key t) l.j;
+  before : (key : SymbolKey) (t : ℕ) → count_before l.lines key t ≡ count_before l.fn.lines key t;
   adjustments : RisesBy (below (turns l.old l.new l.matching) l.j) (adjustments_in l.fn.meter) (adjustments_in l.meter);
   evaluations : evaluations_in l.meter ≡ evaluations_in l.fn.meter;
 }

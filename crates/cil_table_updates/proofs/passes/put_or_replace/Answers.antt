@@ -4,7 +4,7 @@ use Rattle.cil_resolve.specs.Below.{is_rule_below}
 use Rattle.cil_resolve.specs.Meter.{adjustments_in}
 use Rattle.cil_sums.proofs.RiseLemmas.{rises-same}
 use Rattle.cil_sums.proofs.SumLemmas.{across-none, across-some}
-use Rattle.cil_symbol_tables.specs.Tables.{count_now}
+use Rattle.cil_keyed_lines.specs.Keyed.{count_now}
 use Rattle.cil_table_updates.specs.Adjusted.{gives_it, swaps, turns}
 use Rattle.cil_table_updates.specs.Given.{given}
 use Rattle.cil_table_updates.proofs.AdjustedLemmas.{counted-other}
@@ -16,10 +16,10 @@ pub replace_changed-requires-clause-replaced : goal.replace_changed-requires-cla
 replace_changed-requires-clause-replaced g c = c.requires.matched c.in-Some.i c.args.j ((c.old_place.ensures c.in-Some.i).0 c.in-Some.is)
 
 pub replace_changed-requires-clause-counted : goal.replace_changed-requires-clause-counted
-replace_changed-requires-clause-counted g c kind key t =
-    subst (λ n. n ≤ count_now c.args.tables.now kind key t)
-    (across-some (given c.args.old.now kind key t) c.args.matching.now.back c.in-Some.i c.args.j ((c.old_place.ensures c.in-Some.i).0 c.in-Some.is))
-    (c.requires.counted kind key t)
+replace_changed-requires-clause-counted g c key t =
+    subst (λ n. n ≤ count_now c.args.lines.now key t)
+    (across-some (given c.args.old.now key t) c.args.matching.now.back c.in-Some.i c.args.j ((c.old_place.ensures c.in-Some.i).0 c.in-Some.is))
+    (c.requires.counted key t)
 
 pub put_rule-requires-clause-below : goal.put_rule-requires-clause-below
 put_rule-requires-clause-below g c =
@@ -29,23 +29,23 @@ put_rule-requires-clause-below g c =
 pub returns-in-Some-clause-now : goal.returns-in-Some-clause-now
 returns-in-Some-clause-now g c =
     on_ok_weaker c.replace_changed.result
-    (λ moved kind key t.
-    ap (λ n. count_now c.replace_changed.new.tables kind key t + n)
-    (across-some (given c.args.old.now kind key t) c.args.matching.now.back c.in-Some.i c.args.j ((c.old_place.ensures c.in-Some.i).0 c.in-Some.is))
-    ∙ moved kind key t)
+    (λ moved key t.
+    ap (λ n. count_now c.replace_changed.new.lines key t + n)
+    (across-some (given c.args.old.now key t) c.args.matching.now.back c.in-Some.i c.args.j ((c.old_place.ensures c.in-Some.i).0 c.in-Some.is))
+    ∙ moved key t)
     c.replace_changed.ensures.now
 
 pub returns-in-None-clause-now : goal.returns-in-None-clause-now
 returns-in-None-clause-now g c =
     on_ok_weaker c.put_rule.result
-    (λ moved kind key t.
-    ap (λ n. count_now c.put_rule.new.tables kind key t + n)
-    (across-none (given c.args.old.now kind key t) c.args.matching.now.back c.args.j
+    (λ moved key t.
+    ap (λ n. count_now c.put_rule.new.lines key t + n)
+    (across-none (given c.args.old.now key t) c.args.matching.now.back c.args.j
     (never (λ i. slice_get c.args.matching.now.back c.args.j ≡ Some (Some i)) c.old_place.result c.old_place.ensures c.in-None.is))
-    ∙ add-zero (count_now c.put_rule.new.tables kind key t)
-    ∙ moved kind key t
-    ∙ ap (λ n. count_now c.args.tables.now kind key t + n)
-    (sym (given-rule c.args.new.now kind key t c.args.j c.index-rules-j.result
+    ∙ add-zero (count_now c.put_rule.new.lines key t)
+    ∙ moved key t
+    ∙ ap (λ n. count_now c.args.lines.now key t + n)
+    (sym (given-rule c.args.new.now key t c.args.j c.index-rules-j.result
     (read-at c.rules.result.now c.args.new.now.resolved.now.rules.items c.args.j c.index-rules-j.result c.rules.ensures.rules c.requires.within c.index-rules-j.is))))
     c.put_rule.ensures.now
 
@@ -55,8 +55,8 @@ returns-in-Some-clause-adjustments g c =
     let new = c.args.new.now in
     on_ok_weaker c.replace_changed.result
     (rises-same (swaps old c.in-Some.i new c.args.j) (turns old new c.args.matching.now c.args.j) (adjustments_in c.args.meter.now) (adjustments_in c.replace_changed.new.meter)
-    (λ x. sym (ap (λ n. not (n == given new x.kind x.key x.target c.args.j))
-    (across-some (given old x.kind x.key x.target) c.args.matching.now.back c.in-Some.i c.args.j ((c.old_place.ensures c.in-Some.i).0 c.in-Some.is)))))
+    (λ x. sym (ap (λ n. not (n == given new x.key x.target c.args.j))
+    (across-some (given old x.key x.target) c.args.matching.now.back c.in-Some.i c.args.j ((c.old_place.ensures c.in-Some.i).0 c.in-Some.is)))))
     c.replace_changed.ensures.adjustments
 
 pub returns-in-None-clause-adjustments : goal.returns-in-None-clause-adjustments
@@ -68,15 +68,15 @@ returns-in-None-clause-adjustments g c =
     on_ok_weaker c.put_rule.result
     (rises-same (gives_it new rule) (turns old new c.args.matching.now c.args.j) (adjustments_in c.args.meter.now) (adjustments_in c.put_rule.new.meter)
     (λ x. counted-other false (gives_it new rule x)
-    ∙ sym (ap (λ n. not (0 == n)) (given-rule new x.kind x.key x.target c.args.j rule read))
-    ∙ sym (ap (λ n. not (n == given new x.kind x.key x.target c.args.j))
-    (across-none (given old x.kind x.key x.target) c.args.matching.now.back c.args.j
+    ∙ sym (ap (λ n. not (0 == n)) (given-rule new x.key x.target c.args.j rule read))
+    ∙ sym (ap (λ n. not (n == given new x.key x.target c.args.j))
+    (across-none (given old x.key x.target) c.args.matching.now.back c.args.j
     (never (λ i. slice_get c.args.matching.now.back c.args.j ≡ Some (Some i)) c.old_place.result c.old_place.ensures c.in-None.is)))))
     c.put_rule.ensures.adjustments
 
 pub returns-in-None-clause-bounded : goal.returns-in-None-clause-bounded
-returns-in-None-clause-bounded g c kind key t =
+returns-in-None-clause-bounded g c key t =
     let rules = c.args.new.now.resolved.now.rules.items in
     let read = read-at c.rules.result.now rules c.args.j c.index-rules-j.result c.rules.ensures.rules c.requires.within c.index-rules-j.is in
-    let gives = given-rule c.args.new.now kind key t c.args.j c.index-rules-j.result read in
-    omega (arith, c.put_rule.ensures.bounded kind key t, gives)
+    let gives = given-rule c.args.new.now key t c.args.j c.index-rules-j.result read in
+    omega (arith, c.put_rule.ensures.bounded key t, gives)

@@ -7,7 +7,7 @@ use Rattle.cil_resolve.specs.Meter.{adjustments_in}
 use Rattle.cil_rule_reach.specs.Reaches.{covers_by}
 use Rattle.cil_rule_shifts.specs.Reach.{one_if}
 use Rattle.cil_sums.proofs.RiseLemmas.{rises-none, rises-same}
-use Rattle.cil_symbol_tables.specs.Tables.{count_now}
+use Rattle.cil_keyed_lines.specs.Keyed.{count_now}
 use Rattle.cil_table_updates.specs.Adjusted.{gives_it, replaces, swaps}
 use Rattle.cil_table_updates.specs.Given.{given}
 use Rattle.cil_table_updates.specs.Moves.{HaveSameHead}
@@ -25,16 +25,16 @@ rule_stays-requires g c =
     (read-at c.rules.result.now rules c.args.j c.index-rules-j.result c.rules.ensures.rules within c.index-rules-j.is)
 
 pub returns-then-rule_stays-clause-now : goal.returns-then-rule_stays-clause-now
-returns-then-rule_stays-clause-now g c kind key t =
+returns-then-rule_stays-clause-now g c key t =
     let rules = c.args.new.now.resolved.now.rules.items in
     let symbols = c.args.new.now.numbering.now.symbols in
     let within = slice_get_within rules c.args.j c.requires.replaced.new_rule c.requires.replaced.there in
     let read = read-at c.rules.result.now rules c.args.j c.index-rules-j.result c.rules.ensures.rules within c.index-rules-j.is in
     let same = same_Some c.index-rules-j.result c.requires.replaced.new_rule (sym read ∙ c.requires.replaced.there) in
-    ap (λ n. count_now c.args.tables.now kind key t + n)
+    ap (λ n. count_now c.args.lines.now key t + n)
     (stays-given c.args.changed.now c.args.old.now c.args.i c.args.new.now c.args.j c.requires.replaced
     (λ k u. subst (λ rule. covers_by (count_before c.args.changed.now) symbols rule k u ≡ covers_by (members_now c.args.changed.now) symbols rule k u) same (c.rule_stays.ensures c.if-rule_stays.true k u))
-    kind key t)
+    key t)
 
 pub bounds-rules-i : goal.bounds-rules-i
 bounds-rules-i g c =
@@ -74,12 +74,12 @@ replace_rule-requires-clause-head g c =
     c.requires.replaced.head)
 
 pub replace_rule-requires-clause-counted : goal.replace_rule-requires-clause-counted
-replace_rule-requires-clause-counted g c kind key t =
+replace_rule-requires-clause-counted g c key t =
     let rules = c.args.old.now.resolved.now.rules.items in
     let within = slice_get_within rules c.args.i c.requires.replaced.old_rule c.requires.replaced.here in
-    subst (λ n. n ≤ count_now c.args.tables.now kind key t)
-    (given-rule c.args.old.now kind key t c.args.i c.index-rules-i.result (read-at c.rules-2.result.now rules c.args.i c.index-rules-i.result c.rules-2.ensures.rules within c.index-rules-i.is))
-    (c.requires.counted kind key t)
+    subst (λ n. n ≤ count_now c.args.lines.now key t)
+    (given-rule c.args.old.now key t c.args.i c.index-rules-i.result (read-at c.rules-2.result.now rules c.args.i c.index-rules-i.result c.rules-2.ensures.rules within c.index-rules-i.is))
+    (c.requires.counted key t)
 
 pub returns-clause-now : goal.returns-clause-now
 returns-clause-now g c =
@@ -88,12 +88,12 @@ returns-clause-now g c =
     let within = slice_get_within rules c.args.i c.requires.replaced.old_rule c.requires.replaced.here in
     let below = slice_get_within others c.args.j c.requires.replaced.new_rule c.requires.replaced.there in
     on_ok_weaker c.replace_rule.result
-    (λ moved kind key t.
-    ap (λ n. count_now c.replace_rule.new.tables kind key t + n)
-    (given-rule c.args.old.now kind key t c.args.i c.index-rules-i.result (read-at c.rules-2.result.now rules c.args.i c.index-rules-i.result c.rules-2.ensures.rules within c.index-rules-i.is))
-    ∙ moved kind key t
-    ∙ ap (λ n. count_now c.args.tables.now kind key t + n)
-    (sym (given-rule c.args.new.now kind key t c.args.j c.index-rules-j.result (read-at c.rules.result.now others c.args.j c.index-rules-j.result c.rules.ensures.rules below c.index-rules-j.is))))
+    (λ moved key t.
+    ap (λ n. count_now c.replace_rule.new.lines key t + n)
+    (given-rule c.args.old.now key t c.args.i c.index-rules-i.result (read-at c.rules-2.result.now rules c.args.i c.index-rules-i.result c.rules-2.ensures.rules within c.index-rules-i.is))
+    ∙ moved key t
+    ∙ ap (λ n. count_now c.args.lines.now key t + n)
+    (sym (given-rule c.args.new.now key t c.args.j c.index-rules-j.result (read-at c.rules.result.now others c.args.j c.index-rules-j.result c.rules.ensures.rules below c.index-rules-j.is))))
     c.replace_rule.ensures.now
 
 pub returns-then-rule_stays-clause-adjustments : goal.returns-then-rule_stays-clause-adjustments
@@ -104,10 +104,10 @@ returns-then-rule_stays-clause-adjustments g c =
     let read = read-at c.rules.result.now rules c.args.j c.index-rules-j.result c.rules.ensures.rules within c.index-rules-j.is in
     let same = same_Some c.index-rules-j.result c.requires.replaced.new_rule (sym read ∙ c.requires.replaced.there) in
     rises-none (swaps c.args.old.now c.args.i c.args.new.now c.args.j) (adjustments_in c.args.meter.now)
-    (λ x. no-other (given c.args.old.now x.kind x.key x.target c.args.i) (given c.args.new.now x.kind x.key x.target c.args.j)
+    (λ x. no-other (given c.args.old.now x.key x.target c.args.i) (given c.args.new.now x.key x.target c.args.j)
     (stays-given c.args.changed.now c.args.old.now c.args.i c.args.new.now c.args.j c.requires.replaced
     (λ k u. subst (λ rule. covers_by (count_before c.args.changed.now) symbols rule k u ≡ covers_by (members_now c.args.changed.now) symbols rule k u) same (c.rule_stays.ensures c.if-rule_stays.true k u))
-    x.kind x.key x.target))
+    x.key x.target))
 
 pub returns-clause-adjustments : goal.returns-clause-adjustments
 returns-clause-adjustments g c =
@@ -120,14 +120,14 @@ returns-clause-adjustments g c =
     on_ok_weaker c.replace_rule.result
     (rises-same (replaces c.args.old.now c.index-rules-i.result c.args.new.now c.index-rules-j.result) (swaps c.args.old.now c.args.i c.args.new.now c.args.j) (adjustments_in c.args.meter.now) (adjustments_in c.replace_rule.new.meter)
     (λ x. counted-other (gives_it c.args.old.now c.index-rules-i.result x) (gives_it c.args.new.now c.index-rules-j.result x)
-    ∙ sym (ap (λ n. not (n == one_if (gives_it c.args.new.now c.index-rules-j.result x))) (given-rule c.args.old.now x.kind x.key x.target c.args.i c.index-rules-i.result read))
-    ∙ sym (ap (λ n. not (given c.args.old.now x.kind x.key x.target c.args.i == n)) (given-rule c.args.new.now x.kind x.key x.target c.args.j c.index-rules-j.result other))))
+    ∙ sym (ap (λ n. not (n == one_if (gives_it c.args.new.now c.index-rules-j.result x))) (given-rule c.args.old.now x.key x.target c.args.i c.index-rules-i.result read))
+    ∙ sym (ap (λ n. not (given c.args.old.now x.key x.target c.args.i == n)) (given-rule c.args.new.now x.key x.target c.args.j c.index-rules-j.result other))))
     c.replace_rule.ensures.adjustments
 
 pub returns-clause-bounded : goal.returns-clause-bounded
-returns-clause-bounded g c kind key t =
+returns-clause-bounded g c key t =
     let rules = c.args.new.now.resolved.now.rules.items in
     let within = slice_get_within rules c.args.j c.requires.replaced.new_rule c.requires.replaced.there in
     let read = read-at c.rules.result.now rules c.args.j c.index-rules-j.result c.rules.ensures.rules within c.index-rules-j.is in
-    let gives = given-rule c.args.new.now kind key t c.args.j c.index-rules-j.result read in
-    omega (arith, c.replace_rule.ensures.bounded kind key t, gives)
+    let gives = given-rule c.args.new.now key t c.args.j c.index-rules-j.result read in
+    omega (arith, c.replace_rule.ensures.bounded key t, gives)

@@ -3,17 +3,16 @@ use Rattle.cil_resolve.specs.Meter.{adjustments_in, evaluations_in}
 use Rattle.cil_sums.specs.Rises.{below, RisesBy}
 use Rattle.cil_sums.specs.Sums.{alone, sum_below}
 use Rattle.cil_keyed_lines.specs.declared.symbol_key.SymbolKey.{SymbolKey}
-use Rattle.cil_symbol_tables.specs.Tables.{count_before, count_now}
+use Rattle.cil_keyed_lines.specs.Keyed.{count_before, count_now}
 use Rattle.cil_table_updates.specs.Adjusted.{goes}
 use Rattle.cil_table_updates.specs.Given.{given}
-use Rattle.cil_text.specs.declared.statement.RuleKind.{RuleKind}
 use Rattle.cil_table_updates.proofs.passes.take_gone.Given as goal
 
 -- the rules so far are taken out, but for those that stay
 abbrev pub invariant-loop-i : goal.invariant-loop-i
 invariant-loop-i g l = record {
-  now : (kind : RuleKind) (key : SymbolKey) (t : ℕ) → count_now l.tables kind key t + sum_below (alone (given l.old kind key t) l.matching.ahead) l.i ≡ count_now l.fn.tables kind key t;
-  before : (kind : RuleKind) (key : SymbolKey) (t : ℕ) → count_before l.tables kind key t ≡ count_before l.fn.tables kind key t;
+  now : (key : SymbolKey) (t : ℕ) → count_now l.lines key t + sum_below (alone (given l.old key t) l.matching.ahead) l.i ≡ count_now l.fn.lines key t;
+  before : (key : SymbolKey) (t : ℕ) → count_before l.lines key t ≡ count_before l.fn.lines key t;
   adjustments : RisesBy (below (goes l.old l.matching) l.i) (adjustments_in l.fn.meter) (adjustments_in l.meter);
   evaluations : evaluations_in l.meter ≡ evaluations_in l.fn.meter;
 }

@@ -3,7 +3,7 @@ use Rattle.std.proofs.lemmas.Result.{on_ok_weaker}
 use Rattle.cil_resolve.specs.Meter.{adjustments_in}
 use Rattle.cil_sums.proofs.RiseLemmas.{rises-none, rises-same}
 use Rattle.cil_sums.proofs.SumLemmas.{alone-some}
-use Rattle.cil_symbol_tables.specs.Tables.{count_now}
+use Rattle.cil_keyed_lines.specs.Keyed.{count_now}
 use Rattle.cil_table_updates.specs.Adjusted.{gives_it, goes}
 use Rattle.cil_table_updates.specs.Given.{given}
 use Rattle.cil_table_updates.proofs.AdjustedLemmas.{counted-some}
@@ -12,33 +12,33 @@ use Rattle.cil_table_updates.proofs.PlaceLemmas.{never, read-at}
 use Rattle.cil_table_updates.proofs.passes.take_if_gone.Goals as goal
 
 pub returns-in-Some-clause-now : goal.returns-in-Some-clause-now
-returns-in-Some-clause-now g c kind key t =
-    ap (λ n. count_now c.args.tables.now kind key t + n) (alone-some (given c.args.old.now kind key t) c.args.matching.now.ahead c.args.i c.in-Some.field-0 ((c.new_place.ensures c.in-Some.field-0).0 c.in-Some.is))
-    ∙ add-zero (count_now c.args.tables.now kind key t)
+returns-in-Some-clause-now g c key t =
+    ap (λ n. count_now c.args.lines.now key t + n) (alone-some (given c.args.old.now key t) c.args.matching.now.ahead c.args.i c.in-Some.field-0 ((c.new_place.ensures c.in-Some.field-0).0 c.in-Some.is))
+    ∙ add-zero (count_now c.args.lines.now key t)
 
 pub take_rule-requires-clause-counted : goal.take_rule-requires-clause-counted
-take_rule-requires-clause-counted g c kind key t =
-    subst (λ n. n ≤ count_now c.args.tables.now kind key t)
-    (gone-rule c.args.old.now kind key t c.args.matching.now.ahead c.args.i c.index-rules-i.result
+take_rule-requires-clause-counted g c key t =
+    subst (λ n. n ≤ count_now c.args.lines.now key t)
+    (gone-rule c.args.old.now key t c.args.matching.now.ahead c.args.i c.index-rules-i.result
     (read-at c.rules.result.now c.args.old.now.resolved.now.rules.items c.args.i c.index-rules-i.result c.rules.ensures.rules c.requires.within c.index-rules-i.is)
     (never (λ j. slice_get c.args.matching.now.ahead c.args.i ≡ Some (Some j)) c.new_place.result c.new_place.ensures c.in-None.is))
-    (c.requires.counted kind key t)
+    (c.requires.counted key t)
 
 pub returns-in-None-clause-now : goal.returns-in-None-clause-now
 returns-in-None-clause-now g c =
     on_ok_weaker c.take_rule.result
-    (λ moved kind key t.
-    ap (λ n. count_now c.take_rule.new.tables kind key t + n)
-    (gone-rule c.args.old.now kind key t c.args.matching.now.ahead c.args.i c.index-rules-i.result
+    (λ moved key t.
+    ap (λ n. count_now c.take_rule.new.lines key t + n)
+    (gone-rule c.args.old.now key t c.args.matching.now.ahead c.args.i c.index-rules-i.result
     (read-at c.rules.result.now c.args.old.now.resolved.now.rules.items c.args.i c.index-rules-i.result c.rules.ensures.rules c.requires.within c.index-rules-i.is)
     (never (λ j. slice_get c.args.matching.now.ahead c.args.i ≡ Some (Some j)) c.new_place.result c.new_place.ensures c.in-None.is))
-    ∙ moved kind key t)
+    ∙ moved key t)
     c.take_rule.ensures.now
 
 pub returns-in-Some-clause-adjustments : goal.returns-in-Some-clause-adjustments
 returns-in-Some-clause-adjustments g c =
     rises-none (goes c.args.old.now c.args.matching.now c.args.i) (adjustments_in c.args.meter.now)
-    (λ x. ap (nat_lt 0) (alone-some (given c.args.old.now x.kind x.key x.target) c.args.matching.now.ahead c.args.i c.in-Some.field-0 ((c.new_place.ensures c.in-Some.field-0).0 c.in-Some.is)))
+    (λ x. ap (nat_lt 0) (alone-some (given c.args.old.now x.key x.target) c.args.matching.now.ahead c.args.i c.in-Some.field-0 ((c.new_place.ensures c.in-Some.field-0).0 c.in-Some.is)))
 
 pub returns-in-None-clause-adjustments : goal.returns-in-None-clause-adjustments
 returns-in-None-clause-adjustments g c =
@@ -47,7 +47,7 @@ returns-in-None-clause-adjustments g c =
     on_ok_weaker c.take_rule.result
     (rises-same (gives_it old rule) (goes old c.args.matching.now c.args.i) (adjustments_in c.args.meter.now) (adjustments_in c.take_rule.new.meter)
     (λ x. counted-some (gives_it old rule x)
-    ∙ sym (ap (nat_lt 0) (gone-rule old x.kind x.key x.target c.args.matching.now.ahead c.args.i rule
+    ∙ sym (ap (nat_lt 0) (gone-rule old x.key x.target c.args.matching.now.ahead c.args.i rule
     (read-at c.rules.result.now old.resolved.now.rules.items c.args.i rule c.rules.ensures.rules c.requires.within c.index-rules-i.is)
     (never (λ j. slice_get c.args.matching.now.ahead c.args.i ≡ Some (Some j)) c.new_place.result c.new_place.ensures c.in-None.is)))))
     c.take_rule.ensures.adjustments

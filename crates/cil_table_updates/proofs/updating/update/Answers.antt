@@ -3,7 +3,7 @@ use Rattle.std.proofs.lemmas.Result.{on_ok_weaker}
 use Rattle.cil_matching.proofs.ApartLemmas.{apart-rules}
 use Rattle.cil_resolve.specs.Meter.{adjustments_in}
 use Rattle.cil_resolve.specs.Resolved.{meaning_in}
-use Rattle.cil_symbol_tables.specs.Tables.{count_now}
+use Rattle.cil_keyed_lines.specs.Keyed.{count_now}
 use Rattle.cil_table_updates.specs.Adjusted.{AdjustsAtMost}
 use Rattle.cil_table_updates.specs.Given.{given}
 use Rattle.cil_table_updates.specs.Moves.{AreReplaced}
@@ -14,11 +14,11 @@ use Rattle.cil_table_updates.proofs.UpdateLemmas.{counts-new, gone-counted, rule
 use Rattle.cil_table_updates.proofs.updating.update.Goals as goal
 
 pub take_gone-requires-clause-counted : goal.take_gone-requires-clause-counted
-take_gone-requires-clause-counted g c kind key t =
+take_gone-requires-clause-counted g c key t =
     gone-counted c.args.names.now c.of-old.ensures.apart c.args.rows.now c.of-old.result c.of-new.result c.of-old.ensures.policy c.of-new.ensures.policy c.of-old.ensures.members c.of-new.ensures.members c.of-old.ensures.below c.of-new.ensures.below
-    (given c.of-old.result kind key t) c.in_ok-matching.matching (count_now c.args.tables.now kind key t) c.in_ok-matching.ensures
-    (c.requires.stands kind key t ∙ ap (λ r. count_named c.args.names.now (meaning_in r) kind key t) (sym c.of-old.ensures.resolved)
-    ∙ sym (given-named c.args.names.now c.of-old.ensures.apart c.of-old.result c.of-old.ensures.policy kind key t c.of-old.ensures.below c.of-old.ensures.consistent))
+    (given c.of-old.result key t) c.in_ok-matching.matching (count_now c.args.lines.now key t) c.in_ok-matching.ensures
+    (c.requires.stands key t ∙ ap (λ r. count_named c.args.names.now (meaning_in r) key t) (sym c.of-old.ensures.resolved)
+    ∙ sym (given-named c.args.names.now c.of-old.ensures.apart c.of-old.result c.of-old.ensures.policy key t c.of-old.ensures.below c.of-old.ensures.consistent))
 
 pub put_new-requires-clause-matched : goal.put_new-requires-clause-matched
 put_new-requires-clause-matched g c =
@@ -26,25 +26,25 @@ put_new-requires-clause-matched g c =
     (rules-replaced c.args.names.now c.of-old.ensures.apart c.args.rows.now c.of-old.result c.of-new.result c.of-old.ensures.policy c.of-new.ensures.policy c.of-old.ensures.members c.of-new.ensures.members c.of-old.ensures.below c.of-new.ensures.below c.in_ok-matching.matching c.in_ok-matching.ensures)
 
 pub put_new-requires-clause-counted : goal.put_new-requires-clause-counted
-put_new-requires-clause-counted g c kind key t =
+put_new-requires-clause-counted g c key t =
     stayed-counted c.args.names.now c.of-old.ensures.apart c.args.rows.now c.of-old.result c.of-new.result c.of-old.ensures.policy c.of-new.ensures.policy c.of-old.ensures.members c.of-new.ensures.members c.of-old.ensures.below c.of-new.ensures.below
-    (given c.of-old.result kind key t) c.in_ok-matching.matching (count_now c.args.tables.now kind key t) (count_now c.take_gone.new.tables kind key t) c.in_ok-matching.ensures
-    (c.requires.stands kind key t ∙ ap (λ r. count_named c.args.names.now (meaning_in r) kind key t) (sym c.of-old.ensures.resolved)
-    ∙ sym (given-named c.args.names.now c.of-old.ensures.apart c.of-old.result c.of-old.ensures.policy kind key t c.of-old.ensures.below c.of-old.ensures.consistent))
-    (c.in_ok-take_gone.ensures.now kind key t)
+    (given c.of-old.result key t) c.in_ok-matching.matching (count_now c.args.lines.now key t) (count_now c.take_gone.new.lines key t) c.in_ok-matching.ensures
+    (c.requires.stands key t ∙ ap (λ r. count_named c.args.names.now (meaning_in r) key t) (sym c.of-old.ensures.resolved)
+    ∙ sym (given-named c.args.names.now c.of-old.ensures.apart c.of-old.result c.of-old.ensures.policy key t c.of-old.ensures.below c.of-old.ensures.consistent))
+    (c.in_ok-take_gone.ensures.now key t)
 
 pub returns-clause-now : goal.returns-clause-now
 returns-clause-now g c =
     on_ok_weaker c.put_new.result
-    (λ put kind key t.
+    (λ put key t.
     counts-new c.args.names.now c.of-old.ensures.apart c.args.rows.now c.of-old.result c.of-new.result c.of-old.ensures.policy c.of-new.ensures.policy c.of-old.ensures.members c.of-new.ensures.members c.of-old.ensures.below c.of-new.ensures.below
-    (given c.of-old.result kind key t) (given c.of-new.result kind key t) c.in_ok-matching.matching (count_now c.args.tables.now kind key t) (count_now c.take_gone.new.tables kind key t) (count_now c.put_new.new.tables kind key t)
+    (given c.of-old.result key t) (given c.of-new.result key t) c.in_ok-matching.matching (count_now c.args.lines.now key t) (count_now c.take_gone.new.lines key t) (count_now c.put_new.new.lines key t)
     c.in_ok-matching.ensures
-    (c.requires.stands kind key t ∙ ap (λ r. count_named c.args.names.now (meaning_in r) kind key t) (sym c.of-old.ensures.resolved)
-    ∙ sym (given-named c.args.names.now c.of-old.ensures.apart c.of-old.result c.of-old.ensures.policy kind key t c.of-old.ensures.below c.of-old.ensures.consistent))
-    (c.in_ok-take_gone.ensures.now kind key t) (put kind key t)
-    ∙ given-named c.args.names.now c.of-new.ensures.apart c.of-new.result c.of-new.ensures.policy kind key t c.of-new.ensures.below c.of-new.ensures.consistent
-    ∙ ap (λ r. count_named c.args.names.now (meaning_in r) kind key t) c.of-new.ensures.resolved)
+    (c.requires.stands key t ∙ ap (λ r. count_named c.args.names.now (meaning_in r) key t) (sym c.of-old.ensures.resolved)
+    ∙ sym (given-named c.args.names.now c.of-old.ensures.apart c.of-old.result c.of-old.ensures.policy key t c.of-old.ensures.below c.of-old.ensures.consistent))
+    (c.in_ok-take_gone.ensures.now key t) (put key t)
+    ∙ given-named c.args.names.now c.of-new.ensures.apart c.of-new.result c.of-new.ensures.policy key t c.of-new.ensures.below c.of-new.ensures.consistent
+    ∙ ap (λ r. count_named c.args.names.now (meaning_in r) key t) c.of-new.ensures.resolved)
     c.put_new.ensures.now
 
 pub returns-clause-at_most : goal.returns-clause-at_most
@@ -69,15 +69,15 @@ returns-clause-at_least g c =
     on-ok-both c.put_new.result
     (λ rises put.
     rises-at-least old new c.in_ok-matching.matching (length old.resolved.now.rules.items) (length new.resolved.now.rules.items) (adjustments_in c.args.meter.now) (adjustments_in c.take_gone.new.meter) (adjustments_in c.put_new.new.meter)
-    c.in_ok-take_gone.ensures.adjustments rises (count_now c.args.tables.now) (count_now c.take_gone.new.tables) (count_now c.put_new.new.tables) c.in_ok-take_gone.ensures.now put)
+    c.in_ok-take_gone.ensures.adjustments rises (count_now c.args.lines.now) (count_now c.take_gone.new.lines) (count_now c.put_new.new.lines) c.in_ok-take_gone.ensures.now put)
     c.put_new.ensures.adjustments c.put_new.ensures.now
 
 pub returns-clause-bounded : goal.returns-clause-bounded
-returns-clause-bounded g c kind key t =
-    let put = c.put_new.ensures.bounded kind key t in
-    let taken = c.in_ok-take_gone.ensures.bounded kind key t in
-    let stands = c.requires.stands kind key t in
+returns-clause-bounded g c key t =
+    let put = c.put_new.ensures.bounded key t in
+    let taken = c.in_ok-take_gone.ensures.bounded key t in
+    let stands = c.requires.stands key t in
     let named =
-    given-named c.args.names.now c.of-new.ensures.apart c.of-new.result c.of-new.ensures.policy kind key t c.of-new.ensures.below c.of-new.ensures.consistent
-    ∙ ap (λ r. count_named c.args.names.now (meaning_in r) kind key t) c.of-new.ensures.resolved in
+    given-named c.args.names.now c.of-new.ensures.apart c.of-new.result c.of-new.ensures.policy key t c.of-new.ensures.below c.of-new.ensures.consistent
+    ∙ ap (λ r. count_named c.args.names.now (meaning_in r) key t) c.of-new.ensures.resolved in
     omega (arith, put, taken, stands, named)

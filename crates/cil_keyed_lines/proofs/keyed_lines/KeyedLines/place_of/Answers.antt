@@ -1,7 +1,7 @@
-use Rattle.std.proofs.Common.{sym, subst}
+use Rattle.std.proofs.Common.{◌∙◌, ap, position, sym, subst}
 use Rattle.std.specs.List.{IsDistinct}
 use Rattle.cil_keyed_lines.specs.Keyed.{is_key}
-use Rattle.cil_keyed_lines.proofs.KeyedLemmas.{listed_at, placed_at}
+use Rattle.cil_keyed_lines.proofs.KeyedLemmas.{listed_at, placed_at, same_eq}
 use Rattle.cil_keyed_lines.proofs.keyed_lines.KeyedLines.place_of.Goals as goal
 
 pub returns-then-is_at-clause-place : goal.returns-then-is_at-clause-place
@@ -21,3 +21,6 @@ returns-then-is_at-2-clause-place g c =
 
 pub returns-then-is_at-2-clause-found : goal.returns-then-is_at-2-clause-found
 returns-then-is_at-2-clause-found g c = sym (listed_at c.args.self.now.keys c.saturating_add-next.result c.args.key (c.is_at-2.ensures c.if-is_at-2.true))
+
+pub returns-clause-place : goal.returns-clause-place
+returns-clause-place g c = rw (← c.self.view_is) (c.get_index_of.ensures.index ∙ ap (λ same. position (same c.args.key) c.self.inside.keys.keys) same_eq)
