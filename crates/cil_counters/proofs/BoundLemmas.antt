@@ -13,9 +13,9 @@ use Rattle.cil_counters.specs.Counted.{atom_with, count_at, IsCounted}
 use Rattle.cil_counters.proofs.ToldLemmas.{all-named}
 
 -- the counters of one of two policies
-pub bounded-counts : {A B : Type 0} (one : Resolved A) (other : Resolved B) (names : List (List ℕ)) (members : ℕ → ℕ → ℕ) (counts : RuleKind → SymbolKey → ℕ → ℕ) → IsCounted names one members counts
-    → (kind : RuleKind) (key : SymbolKey) (t : ℕ) → counts kind key t ≤ count_named names (meaning_in one) kind key t + count_named names (meaning_in other) kind key t
-bounded-counts one other names members counts is kind key t = omega (arith, is.are_counts kind key t)
+pub bounded-counts : {A B : Type 0} (one : Resolved A) (other : Resolved B) (names : List (List ℕ)) (members : ℕ → ℕ → ℕ) (counts : SymbolKey → ℕ → ℕ) → IsCounted names one members counts
+    → (key : SymbolKey) (t : ℕ) → counts key t ≤ count_named names (meaning_in one) key t + count_named names (meaning_in other) key t
+bounded-counts one other names members counts is key t = omega (arith, is.are_counts key t)
 
 module _ (names : List (List ℕ)) where
   named-at : (name : List ℕ) (i : ℕ) → position (bytes_eq name) names ≡ Some i → name_at names i ≡ name
@@ -26,21 +26,21 @@ module _ (names : List (List ℕ)) where
 
   -- how many rules give the access of symbols is how many give that of their names
   count-by-names : (meaning : Meaning) (kind : RuleKind) (source target class permission : List ℕ) (i j k l : ℕ) → position (bytes_eq source) names ≡ Some i → position (bytes_eq target) names ≡ Some j → position (bytes_eq class) names ≡ Some k
-      → position (bytes_eq permission) names ≡ Some l → count_named names meaning kind (record { source = i; class = k; permission = l }) j ≡ count_of meaning (atom_with kind source target class permission)
+      → position (bytes_eq permission) names ≡ Some l → count_named names meaning (record { kind = kind; source = i; class = k; permission = l }) j ≡ count_of meaning (atom_with kind source target class permission)
   count-by-names meaning kind source target class permission i j k l at_source at_target at_class at_permission =
-      ap (λ b. cond b (count_of meaning (atom_of names kind (record { source = i; class = k; permission = l }) j)) 0)
-      (all-named names (record { source = i; class = k; permission = l }) j (named-within source i at_source) (named-within target j at_target) (named-within class k at_class) (named-within permission l at_permission))
+      ap (λ b. cond b (count_of meaning (atom_of names (record { kind = kind; source = i; class = k; permission = l }) j)) 0)
+      (all-named names (record { kind = kind; source = i; class = k; permission = l }) j (named-within source i at_source) (named-within target j at_target) (named-within class k at_class) (named-within permission l at_permission))
       ∙ ap (λ name. count_of meaning (atom_with kind name (name_at names j) (name_at names k) (name_at names l))) (named-at source i at_source)
       ∙ ap (λ name. count_of meaning (atom_with kind source name (name_at names k) (name_at names l))) (named-at target j at_target)
       ∙ ap (λ name. count_of meaning (atom_with kind source target name (name_at names l))) (named-at class k at_class)
       ∙ ap (λ name. count_of meaning (atom_with kind source target class name)) (named-at permission l at_permission)
 
-  module _ (one other : Meaning) (counts : RuleKind → SymbolKey → ℕ → ℕ)
-      (bounded : (kind : RuleKind) (key : SymbolKey) (t : ℕ) → counts kind key t ≤ count_named names one kind key t + count_named names other kind key t) (kind : RuleKind) (source target class permission : List ℕ) where
+  module _ (one other : Meaning) (counts : SymbolKey → ℕ → ℕ)
+      (bounded : (key : SymbolKey) (t : ℕ) → counts key t ≤ count_named names one key t + count_named names other key t) (kind : RuleKind) (source target class permission : List ℕ) where
     abbrev rules : ℕ
     rules = count_of one (atom_with kind source target class permission) + count_of other (atom_with kind source target class permission)
 
-    by : (p q s t : Option ℕ) → position (bytes_eq source) names ≡ p → position (bytes_eq target) names ≡ q → position (bytes_eq class) names ≡ s → position (bytes_eq permission) names ≡ t → count_at (counts kind) p q s t ≤ rules
+    by : (p q s t : Option ℕ) → position (bytes_eq source) names ≡ p → position (bytes_eq target) names ≡ q → position (bytes_eq class) names ≡ s → position (bytes_eq permission) names ≡ t → count_at counts kind p q s t ≤ rules
     by None q s t at_source at_target at_class at_permission = omega arith
     by (Some i) None s t at_source at_target at_class at_permission = omega arith
     by (Some i) (Some j) None t at_source at_target at_class at_permission = omega arith
@@ -48,7 +48,7 @@ module _ (names : List (List ℕ)) where
     by (Some i) (Some j) (Some k) (Some l) at_source at_target at_class at_permission =
         let here = count-by-names one kind source target class permission i j k l at_source at_target at_class at_permission in
         let there = count-by-names other kind source target class permission i j k l at_source at_target at_class at_permission in
-        omega (arith, bounded kind (record { source = i; class = k; permission = l }) j, here, there)
+        omega (arith, bounded (record { kind = kind; source = i; class = k; permission = l }) j, here, there)
 
-    pub bounded-by-names : count_at (counts kind) (position (bytes_eq source) names) (position (bytes_eq target) names) (position (bytes_eq class) names) (position (bytes_eq permission) names) ≤ rules
+    pub bounded-by-names : count_at counts kind (position (bytes_eq source) names) (position (bytes_eq target) names) (position (bytes_eq class) names) (position (bytes_eq permission) names) ≤ rules
     bounded-by-names = by (position (bytes_eq source) names) (position (bytes_eq target) names) (position (bytes_eq class) names) (position (bytes_eq permission) names) refl refl refl refl

@@ -25,7 +25,7 @@ use Rattle.cil_keyed_lines.specs.declared.symbol_key.SymbolKey.{SymbolKey}
 use Rattle.cil_resolve.specs.Resolved.{meaning_in}
 use Rattle.cil_resolve.specs.declared.resolved.Resolved.{Resolved}
 use Rattle.cil_rule_reach.specs.Named.{atom_of, is_named, name_at}
-use Rattle.cil_symbol_changes.specs.Counts.{has_come, has_risen, AreSoMany, SymbolAccess}
+use Rattle.cil_symbol_changes.specs.Counts.{has_come, has_risen, AreSoMany}
 use Rattle.cil_symbol_changes.specs.declared.counted_changes.ChangeCounts.{ChangeCounts}
 use Rattle.cil_symbol_changes.proofs.CountLemmas.{both-hold}
 use Rattle.cil_table_updates.specs.Policies.{AreApart}
@@ -160,46 +160,46 @@ are-low symbols key t named =
     }
 
 module _ (symbols : List (List ℕ)) (apart : AreApart symbols) where
-  abbrev pub by_names : SymbolAccess → Atom
-  by_names a = atom_of symbols a.kind a.key a.target
+  abbrev pub by_names : SymbolKey × ℕ → Atom
+  by_names a = atom_of symbols a.0 a.1
 
   same-symbol : (i j : ℕ) → i < length symbols → j < length symbols → name_at symbols i ≡ name_at symbols j → i ≡ j
   same-symbol i j first second same = apart i j (name_at symbols j) (slice_get-get_or symbols i [] first ∙ ap Some same) (slice_get-get_or symbols j [] second)
 
   -- one access has one kind and one symbol for each of its names
-  one-access : (a b : SymbolAccess) → AreLow symbols a.key a.target → AreLow symbols b.key b.target → by_names a ≡ by_names b → a ≡ b
+  one-access : (a b : SymbolKey × ℕ) → AreLow symbols a.0 a.1 → AreLow symbols b.0 b.1 → by_names a ≡ by_names b → a ≡ b
   one-access a b low other same =
-      let kinds : a.kind ≡ b.kind = sym (kind-back a.kind) ∙ ap (λ (x : Atom). kind_for x.kind) same ∙ kind-back b.kind in
-      let sources = same-symbol a.key.source b.key.source low.source other.source (ap (λ (x : Atom). x.source) same) in
-      let targets = same-symbol a.target b.target low.target other.target (ap (λ (x : Atom). x.target) same) in
-      let classes = same-symbol a.key.class b.key.class low.the_class other.the_class (ap (λ (x : Atom). x.the_class) same) in
-      let permissions = same-symbol a.key.permission b.key.permission low.permission other.permission (ap (λ (x : Atom). x.permission) same) in
-      λ i. record { kind = kinds i; key = record { source = sources i; class = classes i; permission = permissions i }; target = targets i }
+      let kinds : a.0.kind ≡ b.0.kind = sym (kind-back a.0.kind) ∙ ap (λ (x : Atom). kind_for x.kind) same ∙ kind-back b.0.kind in
+      let sources = same-symbol a.0.source b.0.source low.source other.source (ap (λ (x : Atom). x.source) same) in
+      let targets = same-symbol a.1 b.1 low.target other.target (ap (λ (x : Atom). x.target) same) in
+      let classes = same-symbol a.0.class b.0.class low.the_class other.the_class (ap (λ (x : Atom). x.the_class) same) in
+      let permissions = same-symbol a.0.permission b.0.permission low.permission other.permission (ap (λ (x : Atom). x.permission) same) in
+      λ i. (record { kind = kinds i; source = sources i; class = classes i; permission = permissions i }, targets i)
 
 -- ---- from an old policy to a new one
 
-module _ {A : Type 0} (symbols : List (List ℕ)) (apart : AreApart symbols) (old new : Resolved A) (old_members new_members : ℕ → ℕ → ℕ) (was now : RuleKind → SymbolKey → ℕ → ℕ) (old_counted : IsCounted symbols old old_members was)
+module _ {A : Type 0} (symbols : List (List ℕ)) (apart : AreApart symbols) (old new : Resolved A) (old_members new_members : ℕ → ℕ → ℕ) (was now : SymbolKey → ℕ → ℕ) (old_counted : IsCounted symbols old old_members was)
     (new_counted : IsCounted symbols new new_members now) (count : ℕ) (many : AreSoMany (has_come was now) count) where
   abbrev comes : Atom → Bool
   comes a = is_in_table (meaning_in new) a && not (is_in_table (meaning_in old) a)
 
   -- a counter rose from 0 where the access of its names came to the table
-  risen : (a : SymbolAccess) → is_named symbols a.key a.target ≡ true → has_come was now a ≡ comes (by_names symbols apart a)
+  risen : (a : SymbolKey × ℕ) → is_named symbols a.0 a.1 ≡ true → has_come was now a ≡ comes (by_names symbols apart a)
   risen a named =
-      ap (λ n. has_risen n (now a.kind a.key a.target)) (counted-atom symbols old old_members was old_counted a.kind a.key a.target named)
-      ∙ ap (has_risen (count_of (meaning_in old) (by_names symbols apart a))) (counted-atom symbols new new_members now new_counted a.kind a.key a.target named)
+      ap (λ n. has_risen n (now a.0 a.1)) (counted-atom symbols old old_members was old_counted a.0 a.1 named)
+      ∙ ap (has_risen (count_of (meaning_in old) (by_names symbols apart a))) (counted-atom symbols new new_members now new_counted a.0 a.1 named)
 
-  come-named : (a : SymbolAccess) → has_come was now a ≡ true → is_named symbols a.key a.target ≡ true
+  come-named : (a : SymbolKey × ℕ) → has_come was now a ≡ true → is_named symbols a.0 a.1 ≡ true
   come-named a come =
-      let present = (both-hold (nat_lt 0 (now a.kind a.key a.target)) (not (nat_lt 0 (was a.kind a.key a.target))) come).0 in
-      counted-listed symbols new new_members now new_counted a.kind a.key a.target (ltb-true 0 (now a.kind a.key a.target) present)
+      let present = (both-hold (nat_lt 0 (now a.0 a.1)) (not (nat_lt 0 (was a.0 a.1))) come).0 in
+      counted-listed symbols new new_members now new_counted a.0 a.1 (ltb-true 0 (now a.0 a.1) present)
 
   abbrev atoms : List Atom
   atoms = map (by_names symbols apart) many.those
 
   once : AllPairs (λ a b. a ≢ b) atoms
   once = pairs-map (by_names symbols apart) (λ a b. a ≢ b) many.those many.once (λ a b one other different same.
-      different (one-access symbols apart a b (are-low symbols a.key a.target (come-named a ((many.exact a).0 one))) (are-low symbols b.key b.target (come-named b ((many.exact b).0 other))) same))
+      different (one-access symbols apart a b (are-low symbols a.0 a.1 (come-named a ((many.exact a).0 one))) (are-low symbols b.0 b.1 (come-named b ((many.exact b).0 other))) same))
 
   to-come : (a : Atom) → Contains atoms a → IsTrue (comes a)
   to-come a at =
@@ -210,7 +210,7 @@ module _ {A : Type 0} (symbols : List (List ℕ)) (apart : AreApart symbols) (ol
   from-come : (a : Atom) → IsTrue (comes a) → Contains atoms a
   from-come a come =
       let by = table-key symbols new new_members now new_counted a (both-hold (is_in_table (meaning_in new) a) (not (is_in_table (meaning_in old) a)) come).0 in
-      let x : SymbolAccess = record { kind = by.kind; key = by.key; target = by.target } in
+      let x : SymbolKey × ℕ = (by.key, by.target) in
       let there = (many.exact x).1 (risen x by.listed ∙ ap comes by.same ∙ come) in
       subst (Contains atoms) by.same (mapped (by_names symbols apart) many.those x there)
 
@@ -225,7 +225,7 @@ module _ {A : Type 0} (symbols : List (List ℕ)) (apart : AreApart symbols) (ol
       (put.ordered, record { ordered = put.ascends; exact = λ a. ((λ at. to-come a (to a at)), λ come. from a (from-come a come)) }, omega (arith, many.all, length-map many.those (by_names symbols apart), less, more))
 
 -- none goes to where there was none
-pub none-went : (was : RuleKind → SymbolKey → ℕ → ℕ) → AreSoMany (has_come was (λ kind key t. 0)) 0
+pub none-went : (was : SymbolKey → ℕ → ℕ) → AreSoMany (has_come was (λ key t. 0)) 0
 none-went was = record {
   those = [];
   exact = λ a. ((λ at. absurd (omega (arith, at.1))), λ come. absurd (true≢false (sym come)));
@@ -234,7 +234,7 @@ none-went was = record {
 }
 
 -- the changes between two policies, by what came and what went
-pub changes-counted : {A : Type 0} (symbols : List (List ℕ)) (apart : AreApart symbols) (old new : Resolved A) (old_members new_members : ℕ → ℕ → ℕ) (was now : RuleKind → SymbolKey → ℕ → ℕ) → IsCounted symbols old old_members was
+pub changes-counted : {A : Type 0} (symbols : List (List ℕ)) (apart : AreApart symbols) (old new : Resolved A) (old_members new_members : ℕ → ℕ → ℕ) (was now : SymbolKey → ℕ → ℕ) → IsCounted symbols old old_members was
     → IsCounted symbols new new_members now → (counts : ChangeCounts) → AreSoMany (has_come was now) counts.added → AreSoMany (has_come now was) counts.removed → CountsSome (AreChanges (is_in_table (meaning_in old)) (is_in_table (meaning_in new))) counts
 changes-counted symbols apart old new old_members new_members was now old_counted new_counted counts came went =
     let (added, are_added, so_many) = come-listed symbols apart old new old_members new_members was now old_counted new_counted counts.added came in

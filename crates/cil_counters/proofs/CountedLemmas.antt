@@ -1,7 +1,9 @@
 -- The counters of a policy, when names come and when nothing has a name.
-use Rattle.std.proofs.Common.{◌≡◌, ℕ, ◌+◌, ◌<◌, ◌≤◌, ◌&&◌, Bool, true, false, List, [], ◌∷◌, ◌++◌, length, cond, count_by, bytes_eq, nat_lt, slice_get, refl, sym, ap, ◌∙◌, subst, arith, zero-add}
+use Rattle.std.proofs.Common.{◌≡◌, ◌↔◌, ◌||◌, inl, inr, true≢false, ℕ, ◌+◌, ◌<◌, ◌≤◌, ◌&&◌, Bool, true, false, List, [], ◌∷◌, ◌++◌, length, cond, count_by, bytes_eq, nat_lt, slice_get, refl, sym, ap, ◌∙◌, subst, arith, zero-add}
 use Rattle.std.specs.List.{list_all, IsDistinct}
+use Rattle.std.specs.Bool.{IsTrue}
 use Rattle.std.proofs.Math.Bool.{and-false}
+use Rattle.std.proofs.lemmas.Bool.{cases_lt}
 use Rattle.std.proofs.lemmas.List.Sums.{sum_by-cons}
 use Rattle.std.proofs.lemmas.Option.{slice_get-get_or, slice_get_past}
 use Rattle.cil_specs.specs.Dependence.{AreTheSame}
@@ -27,7 +29,7 @@ use Rattle.cil_table_updates.specs.Policies.{count_named}
 use Rattle.cil_table_updates.proofs.GivenLemmas.{counted-named}
 use Rattle.cil_table_updates.proofs.PlaceLemmas.{names-apart}
 use Rattle.cil_member_rows.specs.Rows as member_rows
-use Rattle.cil_symbol_tables.specs.Tables as access_tables
+use Rattle.cil_keyed_lines.specs.Keyed as access_tables
 use Rattle.cil_counters.specs.Counted.{symbols_now, AreSettled, AreSymbolsOf, AreTakenBack, IsCounted, IsCountedBy, IsNow, WasBefore}
 use Rattle.cil_counters.specs.declared.counters.Counters.{Counters}
 use Rattle.cil_counters.specs.declared.policy_symbols.PolicySymbols.{PolicySymbols}
@@ -64,67 +66,47 @@ module _ {A : Type 0} (names : List (List ℕ)) (r : Resolved A) (sound : HasSou
     no_type = λ a t past. are a t ∙ none-counted (gives names (meaning_in r) a t) (sets_in r) (no-type names (meaning_in r) a t past);
   }
 
-  module _ (types : (name : List ℕ) → keeps_type (meaning_in r) name ≡ true → has_name r.names.items name ≡ true) (attributes : (name : List ℕ) → keeps_attribute (meaning_in r) name ≡ true → has_name r.names.items name ≡ true)
-      (below : list_all (is_rule_below (length r.names.items)) r.rules.items ≡ true) (consistent : is_consistent (meaning_in r) ≡ true) (members : ℕ → ℕ → ℕ) (counts : RuleKind → SymbolKey → ℕ → ℕ) where
-    -- all this stays where names come
-    pub counted-more : (more : List (List ℕ)) → IsDistinct bytes_eq names → IsDistinct bytes_eq (names ++ more) → IsCounted names r members counts → IsCounted (names ++ more) r members counts
-    counted-more more distinct grown is = record {
-      symbols = is.symbols;
-      numbers = numbers;
-      are_members = all;
-      are_counts = λ kind key t.
-          is.are_counts kind key t
-          ∙ sym (counted-named names (names-apart names distinct) r is.symbols is.numbers members (members-counted members is.are_members) kind key t below consistent)
-          ∙ counted-named (names ++ more) (names-apart (names ++ more) grown) r is.symbols numbers members grown_members kind key t below consistent;
-    }
-      where
-        numbers : AreNumbersOf (names ++ more) is.symbols r.names.items
-        numbers = numbers-more names more is.symbols r.names.items is.numbers
-
-        all : AreCounts (names ++ more) r members
-        all a t =
-            is.are_members a t
-            ∙ count-more names more grown is.symbols r.names.items is.numbers (meaning_in r) types (sets_in r) (λ s there. attributes s.attribute (sound.own.attributes s ((same s).1 there))) a t
-
-        grown_members : AreMembersOf (names ++ more) (meaning_in r) members
-        grown_members = record {
-          are = λ a t a_low t_low.
-              ap (nat_lt 0) (all a t ∙ ap (λ test. count_by test (sets_in r)) (λ i s. gives-by-names (names ++ more) (meaning_in r) a t a_low t_low s i))
-              ∙ counted-member (meaning_in r) sound (sets_in r) same (name_at (names ++ more) a) (name_at (names ++ more) t);
-          no_attribute = λ a t past. all a t ∙ none-counted (gives (names ++ more) (meaning_in r) a t) (sets_in r) (no-attribute (names ++ more) (meaning_in r) a t past);
-          no_type = λ a t past. all a t ∙ none-counted (gives (names ++ more) (meaning_in r) a t) (sets_in r) (no-type (names ++ more) (meaning_in r) a t past);
-        }
-
 -- no rule gives an access where there is none
-pub count-none : (names : List (List ℕ)) (meaning : Meaning) (kind : RuleKind) (key : SymbolKey) (t : ℕ) → meaning.rules ≡ [] → count_named names meaning kind key t ≡ 0
-count-none names meaning kind key t no_rules = ap (λ rules. cond (is_named names key t) (count_by (λ rule. rule_gives meaning rule (atom_of names kind key t)) rules) 0) no_rules ∙ either (is_named names key t)
+pub count-none : (names : List (List ℕ)) (meaning : Meaning) (key : SymbolKey) (t : ℕ) → meaning.rules ≡ [] → count_named names meaning key t ≡ 0
+count-none names meaning key t no_rules = ap (λ rules. cond (is_named names key t) (count_by (λ rule. rule_gives meaning rule (atom_of names key t)) rules) 0) no_rules ∙ either (is_named names key t)
   where
     either : (b : Bool) → ◌≡◌ {A = ℕ} (cond b 0 0) 0
     either true = refl
     either false = refl
 
 -- nothing is counted of a policy without set statements and rules
-pub counted-none : {A : Type 0} (r : Resolved A) (names : List (List ℕ)) (symbols : List ℕ) (members : ℕ → ℕ → ℕ) (counts : RuleKind → SymbolKey → ℕ → ℕ) → AreNumbersOf names symbols r.names.items → sets_in r ≡ [] → (meaning_in r).rules ≡ []
-    → ((a t : ℕ) → members a t ≡ 0) → ((kind : RuleKind) (key : SymbolKey) (t : ℕ) → counts kind key t ≡ 0) → IsCounted names r members counts
+pub counted-none : {A : Type 0} (r : Resolved A) (names : List (List ℕ)) (symbols : List ℕ) (members : ℕ → ℕ → ℕ) (counts : SymbolKey → ℕ → ℕ) → AreNumbersOf names symbols r.names.items → sets_in r ≡ [] → (meaning_in r).rules ≡ []
+    → ((a t : ℕ) → members a t ≡ 0) → ((key : SymbolKey) (t : ℕ) → counts key t ≡ 0) → IsCounted names r members counts
 counted-none r names symbols members counts numbers no_sets no_rules no_members no_accesses = record {
   symbols = symbols;
   numbers = numbers;
   are_members = λ a t. no_members a t ∙ sym (ap (count_by (gives names (meaning_in r) a t)) no_sets);
-  are_counts = λ kind key t. no_accesses kind key t ∙ sym (count-none names (meaning_in r) kind key t no_rules);
+  are_counts = λ key t. no_accesses key t ∙ sym (count-none names (meaning_in r) key t no_rules);
 }
 
 pub none-of : {X : Type 0} (xs : List X) → length xs ≡ 0 → xs ≡ []
 none-of [] none = refl
 none-of (x ∷ xs) none = absurd (omega (arith, none))
 
+-- some of two have steps where the one or the other has
+pub either-steps : (a b : Bool) (m n : ℕ) → (IsTrue a ↔ (0 < m)) → (IsTrue b ↔ (0 < n)) → IsTrue (a || b) ↔ (0 < m + n)
+either-steps true b m n one other = (λ _. let some = one.0 refl in omega (arith, some), λ _. refl)
+either-steps false b m n one other = (
+  λ is. let some = other.0 is in omega (arith, some),
+  λ some. elim (cases_lt 0 m) [
+    | inl first ↦ absurd (true≢false (sym (one.1 first)))
+    | inr none ↦ other.1 (omega (arith, some, none))
+  ],
+)
+
 -- what is counted stays where the names and the counters do
-pub counted-alike : {A : Type 0} (r : Resolved A) (names others : List (List ℕ)) (members new_members : ℕ → ℕ → ℕ) (counts new_counts : RuleKind → SymbolKey → ℕ → ℕ) → IsCounted names r members counts → others ≡ names
-    → ((a t : ℕ) → new_members a t ≡ members a t) → ((kind : RuleKind) (key : SymbolKey) (t : ℕ) → new_counts kind key t ≡ counts kind key t) → IsCounted others r new_members new_counts
+pub counted-alike : {A : Type 0} (r : Resolved A) (names others : List (List ℕ)) (members new_members : ℕ → ℕ → ℕ) (counts new_counts : SymbolKey → ℕ → ℕ) → IsCounted names r members counts → others ≡ names
+    → ((a t : ℕ) → new_members a t ≡ members a t) → ((key : SymbolKey) (t : ℕ) → new_counts key t ≡ counts key t) → IsCounted others r new_members new_counts
 counted-alike r names others members new_members counts new_counts is same same_members same_counts = subst (λ l. IsCounted l r new_members new_counts) (sym same) (record {
   symbols = is.symbols;
   numbers = is.numbers;
   are_members = λ a t. same_members a t ∙ is.are_members a t;
-  are_counts = λ kind key t. same_counts kind key t ∙ is.are_counts kind key t;
+  are_counts = λ key t. same_counts key t ∙ is.are_counts key t;
 })
 
 -- so do the symbols of a policy
@@ -132,8 +114,8 @@ pub symbols-alike : {A B : Type 0} (r : Resolved A) (names others : List (List �
 symbols-alike r names others s t are same is = subst (λ l. AreSymbolsOf l r t) (sym same) (subst (AreSymbolsOf names r) (sym is) are)
 
 -- and so does what is counted by those before the steps
-pub counted-by-alike : {A B : Type 0} (r : Resolved A) (old new : Counters B) (members new_members : ℕ → ℕ → ℕ) (counts new_counts : RuleKind → SymbolKey → ℕ → ℕ) → IsCountedBy old.names r old.policy members counts → new.names ≡ old.names
-    → new.policy ≡ old.policy → ((a t : ℕ) → new_members a t ≡ members a t) → ((kind : RuleKind) (key : SymbolKey) (t : ℕ) → new_counts kind key t ≡ counts kind key t) → IsCountedBy new.names r new.policy new_members new_counts
+pub counted-by-alike : {A B : Type 0} (r : Resolved A) (old new : Counters B) (members new_members : ℕ → ℕ → ℕ) (counts new_counts : SymbolKey → ℕ → ℕ) → IsCountedBy old.names r old.policy members counts → new.names ≡ old.names
+    → new.policy ≡ old.policy → ((a t : ℕ) → new_members a t ≡ members a t) → ((key : SymbolKey) (t : ℕ) → new_counts key t ≡ counts key t) → IsCountedBy new.names r new.policy new_members new_counts
 counted-by-alike r old new members new_members counts new_counts is names policy same_members same_counts = record {
   symbols = symbols-alike r old.names new.names old.policy new.policy is.symbols names policy;
   counted = counted-alike r old.names new.names members new_members counts new_counts is.counted names same_members same_counts;

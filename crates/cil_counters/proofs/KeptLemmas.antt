@@ -98,15 +98,15 @@ module _ (names others : List (List ℕ)) (numbers : List ℕ) (kept : List (Lis
 counted-kept : {A : Type 0} (names others : List (List ℕ)) (r : Resolved A) (numbers : List ℕ) → AreNumbersOf names numbers r.names.items → AreNumbersOf others numbers r.names.items → IsDistinct bytes_eq names → IsDistinct bytes_eq others
     → HasSoundSets (meaning_in r) → AreTheSame (meaning_in r).sets (sets_in r) → ((name : List ℕ) → keeps_type (meaning_in r) name ≡ true → has_name r.names.items name ≡ true)
     → ((name : List ℕ) → keeps_attribute (meaning_in r) name ≡ true → has_name r.names.items name ≡ true) → list_all (is_rule_below (length r.names.items)) r.rules.items ≡ true → is_consistent (meaning_in r) ≡ true
-    → (members : ℕ → ℕ → ℕ) (counts : RuleKind → SymbolKey → ℕ → ℕ) → IsCounted names r members counts → IsCounted others r members counts
+    → (members : ℕ → ℕ → ℕ) (counts : SymbolKey → ℕ → ℕ) → IsCounted names r members counts → IsCounted others r members counts
 counted-kept names others r numbers are stay distinct apart sound same types attributes below consistent members counts is = record {
   symbols = numbers;
   numbers = stay;
   are_members = all;
-  are_counts = λ kind key t.
-      is.are_counts kind key t
-      ∙ sym (counted-named names (names-apart names distinct) r numbers are members (members-counted names r sound same members is.are_members) kind key t below consistent)
-      ∙ counted-named others (names-apart others apart) r numbers stay members (members-counted others r sound same members all) kind key t below consistent;
+  are_counts = λ key t.
+      is.are_counts key t
+      ∙ sym (counted-named names (names-apart names distinct) r numbers are members (members-counted names r sound same members is.are_members) key t below consistent)
+      ∙ counted-named others (names-apart others apart) r numbers stay members (members-counted others r sound same members all) key t below consistent;
 }
   where
     all : AreCounts others r members
@@ -118,7 +118,7 @@ counted-kept names others r numbers are stay distinct apart sound same types att
 pub counted-by-kept : {A B : Type 0} (names others : List (List ℕ)) (r : Resolved A) (s : PolicySymbols B) → AreNumbersOf others s.numbering.symbols r.names.items → length names ≤ length others → IsDistinct bytes_eq names → IsDistinct bytes_eq others
     → HasSoundSets (meaning_in r) → AreTheSame (meaning_in r).sets (sets_in r) → ((name : List ℕ) → keeps_type (meaning_in r) name ≡ true → has_name r.names.items name ≡ true)
     → ((name : List ℕ) → keeps_attribute (meaning_in r) name ≡ true → has_name r.names.items name ≡ true) → list_all (is_rule_below (length r.names.items)) r.rules.items ≡ true → is_consistent (meaning_in r) ≡ true
-    → AreSymbolsOf names r s → (members : ℕ → ℕ → ℕ) (counts : RuleKind → SymbolKey → ℕ → ℕ) → IsCounted names r members counts → IsCountedBy others r s members counts
+    → AreSymbolsOf names r s → (members : ℕ → ℕ → ℕ) (counts : SymbolKey → ℕ → ℕ) → IsCounted names r members counts → IsCountedBy others r s members counts
 counted-by-kept names others r s stay grown distinct apart sound same types attributes below consistent are members counts is = record {
   symbols = record {
     numbers = stay;

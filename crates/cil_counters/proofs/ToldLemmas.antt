@@ -59,7 +59,7 @@ all-named names key t source target class permission =
     ∙ ap (λ b. b && (nat_lt key.class (length names) && nat_lt key.permission (length names))) (lt-ltb t (length names) target)
     ∙ ap (λ b. b && nat_lt key.permission (length names)) (lt-ltb key.class (length names) class) ∙ lt-ltb key.permission (length names) permission
 
-module _ {A : Type 0} (names : List (List ℕ)) (r : Resolved A) (members : ℕ → ℕ → ℕ) (counts : RuleKind → SymbolKey → ℕ → ℕ) (is : IsCounted names r members counts) where
+module _ {A : Type 0} (names : List (List ℕ)) (r : Resolved A) (members : ℕ → ℕ → ℕ) (counts : SymbolKey → ℕ → ℕ) (is : IsCounted names r members counts) where
   abbrev IsMissing : List ℕ → Type 0
   IsMissing name = position (bytes_eq name) names ≡ None
 
@@ -147,7 +147,7 @@ module _ {A : Type 0} (names : List (List ℕ)) (r : Resolved A) (members : ℕ 
               ]
 
       told-by : (kind : RuleKind) (source target class permission : List ℕ) (p q s t : Option ℕ) → position (bytes_eq source) names ≡ p → position (bytes_eq target) names ≡ q → position (bytes_eq class) names ≡ s → position (bytes_eq permission) names ≡ t
-          → count_at (counts kind) p q s t ≡ count_of (meaning_in r) (atom_with kind source target class permission)
+          → count_at counts kind p q s t ≡ count_of (meaning_in r) (atom_with kind source target class permission)
       told-by kind source target class permission None q s t at_source at_target at_class at_permission = told-none (atom_with kind source target class permission) (λ rule low.
           right-false _ _ (left-false _ _ (none-held (rule_of r.modules.items r.names.items rule).source source at_source)))
       told-by kind source target class permission (Some i) None s t at_source at_target at_class at_permission = told-none (atom_with kind source target class permission) (λ rule low.
@@ -159,15 +159,15 @@ module _ {A : Type 0} (names : List (List ℕ)) (r : Resolved A) (members : ℕ 
           let whole = rule_of r.modules.items r.names.items rule in
           permission-false (kind_index whole.kind == kind_index (rule_kind_of kind)) (holds (meaning_in r) whole.source source) (aims (meaning_in r) whole.target source target) (bytes_eq whole.the_class class) (list_any (bytes_eq permission) whole.permissions) (none-listed permission rule.permissions (is-below r rule low).permissions at_permission))
       told-by kind source target class permission (Some i) (Some j) (Some k) (Some l) at_source at_target at_class at_permission =
-          is.are_counts kind (record { source = i; class = k; permission = l }) j
-          ∙ ap (λ b. cond b (count_of (meaning_in r) (atom_of names kind (record { source = i; class = k; permission = l }) j)) 0)
-          (all-named names (record { source = i; class = k; permission = l }) j (named-within source i at_source) (named-within target j at_target) (named-within class k at_class) (named-within permission l at_permission))
+          is.are_counts (record { kind = kind; source = i; class = k; permission = l }) j
+          ∙ ap (λ b. cond b (count_of (meaning_in r) (atom_of names (record { kind = kind; source = i; class = k; permission = l }) j)) 0)
+          (all-named names (record { kind = kind; source = i; class = k; permission = l }) j (named-within source i at_source) (named-within target j at_target) (named-within class k at_class) (named-within permission l at_permission))
           ∙ ap (λ name. count_of (meaning_in r) (atom_with kind name (name_at names j) (name_at names k) (name_at names l))) (named-at source i at_source)
           ∙ ap (λ name. count_of (meaning_in r) (atom_with kind source name (name_at names k) (name_at names l))) (named-at target j at_target)
           ∙ ap (λ name. count_of (meaning_in r) (atom_with kind source target name (name_at names l))) (named-at class k at_class)
           ∙ ap (λ name. count_of (meaning_in r) (atom_with kind source target class name)) (named-at permission l at_permission)
 
       pub told-accesses : (kind : RuleKind) (source target class permission : List ℕ)
-          → count_at (counts kind) (position (bytes_eq source) names) (position (bytes_eq target) names) (position (bytes_eq class) names) (position (bytes_eq permission) names) ≡ count_of (meaning_in r) (atom_with kind source target class permission)
+          → count_at counts kind (position (bytes_eq source) names) (position (bytes_eq target) names) (position (bytes_eq class) names) (position (bytes_eq permission) names) ≡ count_of (meaning_in r) (atom_with kind source target class permission)
       told-accesses kind source target class permission =
           told-by kind source target class permission (position (bytes_eq source) names) (position (bytes_eq target) names) (position (bytes_eq class) names) (position (bytes_eq permission) names) refl refl refl refl

@@ -9,18 +9,18 @@ use Rattle.cil_member_rows.specs.Rows as member_rows
 use Rattle.cil_member_updates.specs.Policy.{AreCounts, AreKept}
 use Rattle.cil_resolve.specs.Resolved.{meaning_in}
 use Rattle.cil_resolve.specs.declared.resolved.Resolved.{Resolved}
-use Rattle.cil_symbol_tables.specs.Tables as access_tables
+use Rattle.cil_keyed_lines.specs.Keyed as access_tables
 use Rattle.cil_table_updates.specs.Policies.{count_named}
 use Rattle.cil_counters.specs.declared.counters.Counters.{Counters}
 use Rattle.cil_counters.specs.declared.policy_symbols.PolicySymbols.{PolicySymbols}
 
 -- The names of a policy have symbols, and the counters say of each attribute and type how many of its set statements make the one a
 -- member of the other, and of each access how many of its rules give it.
-pub record IsCounted {A : Type 0} (names : List (List ℕ)) (r : Resolved A) (members : ℕ → ℕ → ℕ) (counts : RuleKind → SymbolKey → ℕ → ℕ) : Type 0 where
+pub record IsCounted {A : Type 0} (names : List (List ℕ)) (r : Resolved A) (members : ℕ → ℕ → ℕ) (counts : SymbolKey → ℕ → ℕ) : Type 0 where
   pub symbols : List ℕ
   pub numbers : AreNumbersOf names symbols r.names.items
   pub are_members : AreCounts names r members
-  pub are_counts : (kind : RuleKind) (key : SymbolKey) (t : ℕ) → counts kind key t ≡ count_named names (meaning_in r) kind key t
+  pub are_counts : (key : SymbolKey) (t : ℕ) → counts key t ≡ count_named names (meaning_in r) key t
 
 -- These are the symbols of a policy's names, and of its kept types.
 pub record AreSymbolsOf {A B : Type 0} (names : List (List ℕ)) (r : Resolved A) (s : PolicySymbols B) : Type 0 where
@@ -33,7 +33,7 @@ abbrev pub symbols_now : {A : Type 0} → Counters A → PolicySymbols A
 symbols_now c = unwrap_or c.next c.policy
 
 -- A policy has these symbols and counters.
-pub record IsCountedBy {A B : Type 0} (names : List (List ℕ)) (r : Resolved A) (s : PolicySymbols B) (members : ℕ → ℕ → ℕ) (counts : RuleKind → SymbolKey → ℕ → ℕ) : Type 0 where
+pub record IsCountedBy {A B : Type 0} (names : List (List ℕ)) (r : Resolved A) (s : PolicySymbols B) (members : ℕ → ℕ → ℕ) (counts : SymbolKey → ℕ → ℕ) : Type 0 where
   pub symbols : AreSymbolsOf names r s
   pub counted : IsCounted names r members counts
 
@@ -54,8 +54,8 @@ HasFewNames one other before after = length after.names ≤ max (length before.n
 
 -- No counter of an access is above the number of rules of two policies that give it.
 abbrev pub AreBounded : {A B C : Type 0} → (one : Resolved A) (other : Resolved B) → Counters C → Type 0
-AreBounded one other c = (kind : RuleKind) (key : SymbolKey) (t : ℕ)
-    → access_tables.count_now c.tables kind key t ≤ count_named c.names (meaning_in one) kind key t + count_named c.names (meaning_in other) kind key t
+AreBounded one other c = (key : SymbolKey) (t : ℕ)
+    → access_tables.count_now c.tables key t ≤ count_named c.names (meaning_in one) key t + count_named c.names (meaning_in other) key t
 
 -- how many steps there are that `undo` would take back
 abbrev pub steps_in : {A : Type 0} → Counters A → ℕ
@@ -69,8 +69,8 @@ pub record AreTakenBack {A : Type 0} (old new : Counters A) : Type 0 where
   pub next : new.next ≡ None
   pub members : (a t : ℕ) → member_rows.count_now new.rows a t ≡ member_rows.count_before old.rows a t
   pub members_before : (a t : ℕ) → member_rows.count_before new.rows a t ≡ member_rows.count_before old.rows a t
-  pub accesses : (kind : RuleKind) (key : SymbolKey) (t : ℕ) → access_tables.count_now new.tables kind key t ≡ access_tables.count_before old.tables kind key t
-  pub accesses_before : (kind : RuleKind) (key : SymbolKey) (t : ℕ) → access_tables.count_before new.tables kind key t ≡ access_tables.count_before old.tables kind key t
+  pub accesses : (key : SymbolKey) (t : ℕ) → access_tables.count_now new.tables key t ≡ access_tables.count_before old.tables key t
+  pub accesses_before : (key : SymbolKey) (t : ℕ) → access_tables.count_before new.tables key t ≡ access_tables.count_before old.tables key t
 
 -- The counters stay, and are those before the steps from now on.
 pub record AreSettled {A : Type 0} (old new : Counters A) : Type 0 where
@@ -80,8 +80,8 @@ pub record AreSettled {A : Type 0} (old new : Counters A) : Type 0 where
   pub next : new.next ≡ None
   pub members : (a t : ℕ) → member_rows.count_now new.rows a t ≡ member_rows.count_now old.rows a t
   pub members_before : (a t : ℕ) → member_rows.count_before new.rows a t ≡ member_rows.count_now old.rows a t
-  pub accesses : (kind : RuleKind) (key : SymbolKey) (t : ℕ) → access_tables.count_now new.tables kind key t ≡ access_tables.count_now old.tables kind key t
-  pub accesses_before : (kind : RuleKind) (key : SymbolKey) (t : ℕ) → access_tables.count_before new.tables kind key t ≡ access_tables.count_now old.tables kind key t
+  pub accesses : (key : SymbolKey) (t : ℕ) → access_tables.count_now new.tables key t ≡ access_tables.count_now old.tables key t
+  pub accesses_before : (key : SymbolKey) (t : ℕ) → access_tables.count_before new.tables key t ≡ access_tables.count_now old.tables key t
 
 -- whether the counter of an attribute and a type is above 0, where both have symbols
 abbrev pub has_at : (ℕ → ℕ → ℕ) → Option ℕ → Option ℕ → Bool
@@ -96,17 +96,17 @@ has_named c attribute ty = has_at (member_rows.count_now c.rows) (position (byte
 abbrev pub had_named : {A : Type 0} → Counters A → List ℕ → List ℕ → Bool
 had_named c attribute ty = has_at (member_rows.count_before c.rows) (position (bytes_eq attribute) c.names) (position (bytes_eq ty) c.names)
 
--- the counter of an access, where all its names have symbols; 0 elsewhere
-abbrev pub count_at : (SymbolKey → ℕ → ℕ) → Option ℕ → Option ℕ → Option ℕ → Option ℕ → ℕ
-count_at counts None target class permission = 0
-count_at counts (Some s) None class permission = 0
-count_at counts (Some s) (Some t) None permission = 0
-count_at counts (Some s) (Some t) (Some c) None = 0
-count_at counts (Some s) (Some t) (Some c) (Some p) = counts (record { source = s; class = c; permission = p }) t
+-- the counter of an access of a kind, where all its names have symbols; 0 elsewhere
+abbrev pub count_at : (SymbolKey → ℕ → ℕ) → RuleKind → Option ℕ → Option ℕ → Option ℕ → Option ℕ → ℕ
+count_at counts kind None target class permission = 0
+count_at counts kind (Some s) None class permission = 0
+count_at counts kind (Some s) (Some t) None permission = 0
+count_at counts kind (Some s) (Some t) (Some c) None = 0
+count_at counts kind (Some s) (Some t) (Some c) (Some p) = counts (record { kind = kind; source = s; class = c; permission = p }) t
 
 abbrev pub count_with : {A : Type 0} → Counters A → RuleKind → (source target class permission : List ℕ) → ℕ
 count_with c kind source target class permission =
-    count_at (access_tables.count_now c.tables kind) (position (bytes_eq source) c.names) (position (bytes_eq target) c.names) (position (bytes_eq class) c.names) (position (bytes_eq permission) c.names)
+    count_at (access_tables.count_now c.tables) kind (position (bytes_eq source) c.names) (position (bytes_eq target) c.names) (position (bytes_eq class) c.names) (position (bytes_eq permission) c.names)
 
 -- the access of these names
 abbrev pub atom_with : RuleKind → (source target class permission : List ℕ) → Atom

@@ -18,7 +18,7 @@ ghost use Rattle.cil_sets.specs.Members.{AreMembers};
 ghost use Rattle.cil_counters.specs.ChangeCounts.{CountsSome};
 ghost use Rattle.cil_counters.specs.ChangedMembers.{pairs_of, AreChangedMembers};
 ghost use Rattle.cil_counters.specs.Counted.{count_with, had_named, has_named, steps_in, symbols_now, AreBounded, AreSettled, AreSymbolsOf, AreTakenBack, HasFewNames, HasNames, IsNow, WasBefore};
-ghost use Rattle.cil_symbol_tables.specs.Tables as access_tables;
+ghost use Rattle.cil_keyed_lines.specs.Keyed as access_tables;
 ghost use Rattle.cil_table_updates.specs.Policies.{count_named};
 
 use crate::changed_members::{ChangedMember, changed_members_of};
@@ -26,7 +26,7 @@ use crate::member_counts::members_of;
 use crate::more_rows::add_rows;
 use crate::policy_symbols::PolicySymbols;
 use crate::symbol_ranks::{ranks_of, ranks_of_both};
-use cil_keyed_lines::SymbolKey;
+use cil_keyed_lines::{KeyedLines, SymbolKey};
 use cil_matching::SetMatching;
 use cil_member_rows::MemberRows;
 use cil_member_updates::Side;
@@ -38,7 +38,6 @@ use cil_resolve::{
 use cil_rules::{Changes, Table, names_of, rank};
 use cil_sets::Members;
 use cil_symbol_changes::{ChangeCounts, count_accesses};
-use cil_symbol_tables::SymbolTables;
 use cil_symbols::{Numbering, Symbols};
 use cil_table_updates::Named;
 use cil_text::RuleKind;
@@ -56,7 +55,7 @@ pub struct Counters<A: Allocator = Global> {
     /// Those of the policy that the steps lead to.
     next: Option<PolicySymbols<A>>,
     rows: MemberRows<A>,
-    tables: SymbolTables<A>,
+    tables: KeyedLines<A>,
 }
 
 impl<A: Allocator + Copy> Counters<A> {
@@ -76,7 +75,7 @@ impl<A: Allocator + Copy> Counters<A> {
             policy: symbols,
             next: None,
             rows: MemberRows::new(alloc),
-            tables: SymbolTables::new(alloc),
+            tables: KeyedLines::new(alloc),
         })
     }
 
@@ -171,8 +170,8 @@ impl<A: Allocator + Copy> Counters<A> {
         requires before { WasBefore old.now self.old }
         ensures before { WasBefore old.now self.new }
         ensures members { OnOk result (AreCounts self.new.names new.now (member_rows.count_now self.new.rows)) }
-        ensures accesses { (kind : RuleKind) (key : SymbolKey) (t : ℕ)
-            → access_tables.count_now self.new.tables kind key t ≡ count_named self.new.names (meaning_in old.now) kind key t }
+        ensures accesses { (key : SymbolKey) (t : ℕ)
+            → access_tables.count_now self.new.tables key t ≡ count_named self.new.names (meaning_in old.now) key t }
         ensures steps { access_tables.steps_in self.new.tables ≡ access_tables.steps_in self.old.tables }
         ensures symbols { IfOk result (AreSymbolsOf self.new.names new.now) }
         ensures evaluations { OnOk result (EvaluatesFew (meaning_in old.now) (meaning_in new.now) (evaluations_in meter.old) (evaluations_in meter.new)) }
@@ -494,18 +493,19 @@ impl<A: Allocator> Counters<A> {
             return 0;
         };
         let key = SymbolKey {
+            kind,
             source,
             class,
             permission,
         };
-        self.tables.count(kind, key, target)
+        self.tables.count(key, target)
     }
 
     /// Whether there are steps that `undo` would take back. No means that `undo` and `settle` would change nothing.
     pub fn is_pending(&self) -> bool
         ensures steps { IsTrue result ↔ (0 < steps_in self.now) }
         ensures members { result ≡ false → (a t : ℕ) → member_rows.count_before self.now.rows a t ≡ member_rows.count_now self.now.rows a t }
-        ensures accesses { result ≡ false → (kind : RuleKind) (key : SymbolKey) (t : ℕ) → access_tables.count_before self.now.tables kind key t ≡ access_tables.count_now self.now.tables kind key t }
+        ensures accesses { result ≡ false → (key : SymbolKey) (t : ℕ) → access_tables.count_before self.now.tables key t ≡ access_tables.count_now self.now.tables key t }
     {
         let rows = self.rows.is_pending();
         let tables = self.tables.is_pending();

@@ -1,5 +1,5 @@
 use Rattle.cil_resolve.specs.Resolved.{meaning_in}
-use Rattle.cil_symbol_tables.specs.Tables as access_tables
+use Rattle.cil_keyed_lines.specs.Keyed as access_tables
 use Rattle.cil_counters.proofs.BoundLemmas.{bounded-by-names}
 use Rattle.cil_counters.proofs.laws.counters_are_bounded.Goals as goal
 

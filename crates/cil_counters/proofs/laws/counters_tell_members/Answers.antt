@@ -1,5 +1,5 @@
 use Rattle.cil_member_rows.specs.Rows as member_rows
-use Rattle.cil_symbol_tables.specs.Tables as access_tables
+use Rattle.cil_keyed_lines.specs.Keyed as access_tables
 use Rattle.cil_counters.proofs.ToldLemmas.{told-members}
 use Rattle.cil_counters.proofs.laws.counters_tell_members.Goals as goal
 

@@ -2,7 +2,7 @@ use Rattle.std.proofs.Common.{◌∙◌, ap, subst, sym}
 use Rattle.cil_member_rows.specs.Rows as member_rows
 use Rattle.cil_member_updates.specs.Policy.{AreCounts}
 use Rattle.cil_resolve.specs.Resolved.{meaning_in}
-use Rattle.cil_symbol_tables.specs.Tables as access_tables
+use Rattle.cil_keyed_lines.specs.Keyed as access_tables
 use Rattle.cil_table_updates.specs.Policies.{count_named}
 use Rattle.cil_counters.specs.Counted.{AreSymbolsOf}
 use Rattle.cil_counters.proofs.CountedLemmas.{counted-by-alike}
@@ -24,13 +24,13 @@ pub returns-in_err-update_members-clause-before : goal.returns-in_err-update_mem
 returns-in_err-update_members-clause-before g c =
     counted-by-alike c.args.old.now c.number.new.self c.update_members.new.self (member_rows.count_before c.number.new.self.rows) (member_rows.count_before c.update_members.new.self.rows)
     (access_tables.count_before c.number.new.self.tables) (access_tables.count_before c.update_members.new.self.tables) c.number.ensures.before c.update_members.ensures.names c.update_members.ensures.policy
-    c.update_members.ensures.before (λ kind key t. ap (λ tables. access_tables.count_before tables kind key t) c.update_members.ensures.tables)
+    c.update_members.ensures.before (λ key t. ap (λ tables. access_tables.count_before tables key t) c.update_members.ensures.tables)
 
 pub returns-in_err-update_members-clause-accesses : goal.returns-in_err-update_members-clause-accesses
-returns-in_err-update_members-clause-accesses g c kind key t =
-    ap (λ tables. access_tables.count_now tables kind key t) c.update_members.ensures.tables
-    ∙ c.number.ensures.now.counted.are_counts kind key t
-    ∙ ap (λ l. count_named l (meaning_in c.args.old.now) kind key t) (sym c.update_members.ensures.names)
+returns-in_err-update_members-clause-accesses g c key t =
+    ap (λ tables. access_tables.count_now tables key t) c.update_members.ensures.tables
+    ∙ c.number.ensures.now.counted.are_counts key t
+    ∙ ap (λ l. count_named l (meaning_in c.args.old.now) key t) (sym c.update_members.ensures.names)
 
 pub returns-in_err-update_members-clause-steps : goal.returns-in_err-update_members-clause-steps
 returns-in_err-update_members-clause-steps g c = ap (λ tables. access_tables.steps_in tables) (c.update_members.ensures.tables ∙ c.number.ensures.tables)
@@ -39,16 +39,16 @@ pub returns-clause-before : goal.returns-clause-before
 returns-clause-before g c =
     counted-by-alike c.args.old.now c.number.new.self c.update_members.new.self (member_rows.count_before c.number.new.self.rows) (member_rows.count_before c.update_members.new.self.rows)
     (access_tables.count_before c.number.new.self.tables) (access_tables.count_before c.update_members.new.self.tables) c.number.ensures.before c.update_members.ensures.names c.update_members.ensures.policy
-    c.update_members.ensures.before (λ kind key t. ap (λ tables. access_tables.count_before tables kind key t) c.update_members.ensures.tables)
+    c.update_members.ensures.before (λ key t. ap (λ tables. access_tables.count_before tables key t) c.update_members.ensures.tables)
 
 pub returns-clause-members : goal.returns-clause-members
 returns-clause-members g c = subst (λ l. AreCounts l c.args.new.now (member_rows.count_now c.update_members.new.self.rows)) (sym c.update_members.ensures.names) c.in_ok-update_members.ensures.now
 
 pub returns-clause-accesses : goal.returns-clause-accesses
-returns-clause-accesses g c kind key t =
-    ap (λ tables. access_tables.count_now tables kind key t) c.update_members.ensures.tables
-    ∙ c.number.ensures.now.counted.are_counts kind key t
-    ∙ ap (λ l. count_named l (meaning_in c.args.old.now) kind key t) (sym c.update_members.ensures.names)
+returns-clause-accesses g c key t =
+    ap (λ tables. access_tables.count_now tables key t) c.update_members.ensures.tables
+    ∙ c.number.ensures.now.counted.are_counts key t
+    ∙ ap (λ l. count_named l (meaning_in c.args.old.now) key t) (sym c.update_members.ensures.names)
 
 pub returns-clause-steps : goal.returns-clause-steps
 returns-clause-steps g c = ap (λ tables. access_tables.steps_in tables) (c.update_members.ensures.tables ∙ c.number.ensures.tables)

@@ -4,7 +4,7 @@ use Rattle.cil_resolve.specs.Resolved.{meaning_in}
 use Rattle.cil_specs.specs.Meaning.{is_in_table}
 use Rattle.cil_specs.specs.Report.{AreChanges}
 use Rattle.cil_symbol_changes.specs.Counts.{has_come, AreSoMany}
-use Rattle.cil_symbol_tables.specs.Tables as access_tables
+use Rattle.cil_keyed_lines.specs.Keyed as access_tables
 use Rattle.cil_table_updates.proofs.PlaceLemmas.{names-apart}
 use Rattle.cil_counters.specs.ChangeCounts.{CountsSome}
 use Rattle.cil_counters.proofs.ChangeCountLemmas.{changes-counted}

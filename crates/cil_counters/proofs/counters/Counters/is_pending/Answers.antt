@@ -1,6 +1,6 @@
 use Rattle.cil_member_rows.specs.Rows as member_rows
-use Rattle.cil_symbol_tables.specs.Tables as access_tables
-use Rattle.cil_symbol_tables.proofs.KindLemmas.{either-steps}
+use Rattle.cil_keyed_lines.specs.Keyed as access_tables
+use Rattle.cil_counters.proofs.CountedLemmas.{either-steps}
 use Rattle.cil_counters.proofs.counters.Counters.is_pending.Goals as goal
 
 pub returns-clause-steps : goal.returns-clause-steps

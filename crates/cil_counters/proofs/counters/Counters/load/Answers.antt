@@ -5,7 +5,7 @@ use Rattle.cil_member_rows.specs.Rows as member_rows
 use Rattle.cil_resolve.specs.Below.{is_rule_below}
 use Rattle.cil_resolve.specs.Meter.{adjustments_in, evaluations_in}
 use Rattle.cil_resolve.specs.Resolved.{meaning_in}
-use Rattle.cil_symbol_tables.specs.Tables as access_tables
+use Rattle.cil_keyed_lines.specs.Keyed as access_tables
 use Rattle.cil_table_updates.proofs.FewLemmas.{adjusts-few}
 use Rattle.cil_counters.proofs.FoundLemmas.{found, tells}
 use Rattle.cil_counters.proofs.CountedLemmas.{count-none, members-counted, none-of}
@@ -15,9 +15,9 @@ pub load-requires-clause-settled : goal.load-requires-clause-settled
 load-requires-clause-settled g c = omega (arith, c.bring_members.ensures.steps, c.requires.settled)
 
 pub load-requires-clause-none : goal.load-requires-clause-none
-load-requires-clause-none g c kind key t =
+load-requires-clause-none g c key t =
     let meaning = meaning_in c.args.old.now in
-    c.bring_members.ensures.accesses kind key t ∙ count-none c.bring_members.new.self.names meaning kind key t (none-of meaning.rules c.requires.rules)
+    c.bring_members.ensures.accesses key t ∙ count-none c.bring_members.new.self.names meaning key t (none-of meaning.rules c.requires.rules)
 
 pub load-requires-clause-new_members : goal.load-requires-clause-new_members
 load-requires-clause-new_members g c =
@@ -63,10 +63,10 @@ returns-clause-adjustments g c changes are =
     changes are between after (c.in_ok-load.ensures.at_most (meaning_in old) c.requires.rules) c.in_ok-load.ensures.at_least)
 
 pub returns-in_err-next-clause-bounded : goal.returns-in_err-next-clause-bounded
-returns-in_err-next-clause-bounded g c kind key t = let was = c.bring_members.ensures.accesses kind key t in omega (arith, was)
+returns-in_err-next-clause-bounded g c key t = let was = c.bring_members.ensures.accesses key t in omega (arith, was)
 
 pub returns-in_err-load-clause-bounded : goal.returns-in_err-load-clause-bounded
-returns-in_err-load-clause-bounded g c kind key t = let is = c.load.ensures.bounded kind key t in omega (arith, is)
+returns-in_err-load-clause-bounded g c key t = let is = c.load.ensures.bounded key t in omega (arith, is)
 
 pub returns-clause-bounded : goal.returns-clause-bounded
-returns-clause-bounded g c kind key t = let is = c.load.ensures.bounded kind key t in omega (arith, is)
+returns-clause-bounded g c key t = let is = c.load.ensures.bounded key t in omega (arith, is)

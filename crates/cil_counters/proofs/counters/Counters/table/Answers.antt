@@ -6,7 +6,7 @@ use Rattle.cil_rules.specs.Atoms.{atom_at, AreNumbered}
 use Rattle.cil_rules.specs.Rows.{listed}
 use Rattle.cil_specs.specs.Meaning.{is_in_table}
 use Rattle.cil_specs.specs.Report.{AreAtoms}
-use Rattle.cil_symbol_tables.specs.Tables as access_tables
+use Rattle.cil_keyed_lines.specs.Keyed as access_tables
 use Rattle.cil_counters.specs.SymbolRanks.{AreRanks}
 use Rattle.cil_counters.proofs.TableLemmas.{found-atoms, found-numbered, present-numbered}
 use Rattle.cil_counters.proofs.counters.Counters.table.Goals as goal

@@ -5,7 +5,7 @@ use Rattle.cil_member_rows.specs.Rows as member_rows
 use Rattle.cil_resolve.specs.Below.{is_rule_below}
 use Rattle.cil_resolve.specs.Meter.{adjustments_in, evaluations_in}
 use Rattle.cil_resolve.specs.Resolved.{meaning_in}
-use Rattle.cil_symbol_tables.specs.Tables as access_tables
+use Rattle.cil_keyed_lines.specs.Keyed as access_tables
 use Rattle.cil_table_updates.proofs.FewLemmas.{adjusts-few}
 use Rattle.cil_counters.proofs.FoundLemmas.{found, tells}
 use Rattle.cil_counters.proofs.CountedLemmas.{counted-by-alike, members-counted}
@@ -69,4 +69,4 @@ returns-clause-adjustments g c changes are =
     changes are between after c.in_ok-update.ensures.at_most c.in_ok-update.ensures.at_least)
 
 pub returns-in_err-next-clause-bounded : goal.returns-in_err-next-clause-bounded
-returns-in_err-next-clause-bounded g c kind key t = let was = c.bring_members.ensures.accesses kind key t in omega (arith, was)
+returns-in_err-next-clause-bounded g c key t = let was = c.bring_members.ensures.accesses key t in omega (arith, was)
