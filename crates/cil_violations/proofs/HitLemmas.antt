@@ -1,7 +1,7 @@
 -- The numbers at which a test holds, found one after the other.
 use Rattle.std.proofs.Common.{◌≡◌, ◌∙◌, inl, inr, ℕ, zero, suc, ◌+◌, ◌-◌, ◌<◌, ◌≤◌, Bool, true, false, cond, List, [], ◌∷◌, ◌++◌, flat_map, refl, sym, ap, subst, arith, append_assoc, append-nil, add-one}
 use Rattle.std.proofs.lemmas.Bool.{cases_eq}
-use Rattle.cil_sets.specs.Search.{NoneFrom, IsFirstFrom}
+use Rattle.cil_violations.specs.Search.{NoneFrom, IsFirstFrom}
 use Rattle.cil_violations.specs.Rows.{hits}
 
 -- none where it holds at none

@@ -13,7 +13,7 @@ use Rattle.cil_specs.proofs.MemberLemmas.{member-fixed}
 use Rattle.cil_specs.proofs.NamesLemmas.{contains-first, contains-other}
 use Rattle.cil_resolve.specs.Sets.{sets_in}
 use Rattle.cil_resolve.specs.declared.resolved.Resolved.{Resolved}
-use Rattle.cil_sets.specs.Places.{set_at, no_set}
+use Rattle.cil_member_updates.specs.Places.{set_at, no_set}
 
 pub set-there : {A : Type 0} (r : Resolved A) (i : ℕ) → i < length (sets_in r) → slice_get (sets_in r) i ≡ Some (set_at r i)
 set-there r i within = slice_get-get_or (sets_in r) i no_set within

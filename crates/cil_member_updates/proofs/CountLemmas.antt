@@ -11,7 +11,7 @@ use Rattle.cil_specs.proofs.DependsLemmas.{any-contained}
 use Rattle.cil_specs.proofs.MemberLemmas.{member-fixed}
 use Rattle.cil_specs.proofs.NamesLemmas.{contains-middle}
 use Rattle.cil_specs.proofs.OnceLemmas.{passes-among}
-use Rattle.cil_sets.specs.Counts.{gives_member, gives_count}
+use Rattle.cil_member_updates.specs.Counts.{gives_member, gives_count}
 
 -- a test of one of the same statements
 any-same : (p : SetStatement → Bool) (sets others : List SetStatement) → AreTheSame sets others → list_any p sets ≡ list_any p others

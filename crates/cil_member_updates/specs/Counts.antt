@@ -1,5 +1,5 @@
 -- How many set statements make a type a member of an attribute.
-use Rattle.std.specs.Prelude.{◌≡◌, ◌<◌, ℕ, Bool, ◌&&◌, List, [], bytes_eq, cond, count_by, length, slice_index, slice_index_or}
+use Rattle.std.specs.Prelude.{ℕ, Bool, ◌&&◌, List, bytes_eq, cond, count_by}
 use Rattle.cil_specs.specs.Meaning.{Meaning, is_in}
 use Rattle.cil_specs.specs.Rule.{SetStatement}
 
@@ -14,11 +14,3 @@ gives_count meaning a t sets = count_by (gives_member meaning a t) sets
 -- 1 or 0
 abbrev pub one_if : Bool → ℕ
 one_if b = cond b 1 0
-
--- the counter of an attribute and a type, by their numbers; 0 where there is none
-abbrev pub count_at : List (List ℕ) → ℕ → ℕ → ℕ
-count_at rows a t = slice_index (slice_index_or rows a []) t
-
--- a row has no counter, or one for each name
-abbrev pub AreWide : ℕ → List (List ℕ) → Type 0
-AreWide width rows = (a : ℕ) → 0 < length (slice_index_or rows a []) → length (slice_index_or rows a []) ≡ width
