@@ -1,5 +1,5 @@
 -- What elements hold, by the numbers of names and by full names.
-use Rattle.std.proofs.Common.{◌≡◌, ◌∙◌, ℕ, ◌<◌, true, List, [], bytes_eq, length, slice_get, slice_index, Some, sym, ap, subst, arith}
+use Rattle.std.proofs.Common.{◌≡◌, ◌∙◌, ℕ, ◌<◌, true, List, [], bytes_eq, length, slice_get, slice_index, Some, sym, ap, arith}
 use Rattle.std.proofs.lemmas.Option.{get_or_from_slice_get, slice_get_within}
 use Rattle.cil_bind.proofs.NamespaceLemmas.{distinct-place}
 use Rattle.cil_specs.specs.Meaning.{holds}

@@ -9,7 +9,6 @@ use Rattle.std.proofs.lemmas.Option.{slice_get-map}
 use Rattle.std.proofs.lemmas.Slice.Eq.{bytes_eq-Decides}
 use Rattle.cil_specs.specs.Meaning.{holds, aims, covers}
 use Rattle.cil_specs.proofs.ReportLemmasMembers.{AnyByRecursion, any_from, any-map, any_from_map, any-filter, any_from_filter, any_from_test, test_from_any, contains_to, contains_from, any_weaker}
-use Rattle.cil_expression.specs.declared.expression.Element.{Element}
 use Rattle.cil_resolve.specs.Below.{is_element_below, is_target_below, is_rule_below}
 use Rattle.cil_resolve.specs.Consistent.{is_rule_of, is_element_of, is_aim_of}
 use Rattle.cil_resolve.specs.Numbers.{rule_of, element_of, resolved_target_of}

@@ -1,17 +1,13 @@
 -- Rules at places, and what their tests tell.
-use Rattle.std.proofs.Common.{◌≡◌, ◌∙◌, ℕ, zero, suc, ◌<◌, ◌&&◌, Bool, true, false, List, [], ◌∷◌, Option, Some, None, slice_get, refl, sym, ap, subst, true≢false}
+use Rattle.std.proofs.Common.{◌≡◌, ℕ, zero, suc, ◌<◌, Bool, true, List, [], ◌∷◌, Option, Some, None, slice_get, refl, sym, ap, subst, true≢false}
 use Rattle.std.specs.List.{list_all}
 use Rattle.std.proofs.lemmas.Bool.{and_parts, lt-ltb}
 use Rattle.std.proofs.lemmas.Option.{none-some, same_Some}
 use Rattle.cil_resolve.specs.Below.{is_element_below, is_target_below}
-use Rattle.cil_resolve.specs.declared.numbered.NumberedRule.{NumberedRule}
 use Rattle.cil_resolve.specs.declared.numbered.ResolvedTarget.{ResolvedTarget}
 use Rattle.cil_resolve.specs.declared.numbered.ResolvedTarget.TheVariants as targets
-use Rattle.cil_violations.specs.Held.{are_both_held, is_held_in}
 use Rattle.cil_violations.specs.Aims.{aim_of}
 use Rattle.cil_violations.specs.Index.{if_there}
-use Rattle.cil_violations.specs.Rows.{rules_in, tests_of}
-use Rattle.cil_violations.specs.declared.search.Search.{Search}
 
 -- what holds of all holds of the one at a place
 pub all-at : {X : Type 0} (p : X → Bool) (xs : List X) (i : ℕ) (x : X) → list_all p xs ≡ true → slice_get xs i ≡ Some x → p x ≡ true
@@ -31,12 +27,3 @@ if-at p o x at = ap (if_there p) at
 pub aim-below : (n : ℕ) (target : ResolvedTarget) (source : ℕ) → is_target_below n target ≡ true → source < n → is_element_below n (aim_of target source) ≡ true
 aim-below n targets.Itself source below low = lt-ltb source n low
 aim-below n (targets.Element element) source below low = below
-
-module _ {A : Type 0} (s : Search A) (i j : ℕ) (never allowed : NumberedRule A) (never_at : slice_get (rules_in s) i ≡ Some never) (allowed_at : slice_get (rules_in s) j ≡ Some allowed) where
-  -- two rules take in the sources that the elements of both hold
-  pub source-test : are_both_held s.members never.source allowed.source ≡ (tests_of s).source i j
-  source-test k t = if_there (λ r. is_held_in s.members r.source t) (sym never_at k) && if_there (λ r. is_held_in s.members r.source t) (sym allowed_at k)
-
-  -- and the targets of a source likewise
-  pub target-test : (source : ℕ) → are_both_held s.members (aim_of never.target source) (aim_of allowed.target source) ≡ (tests_of s).target i j source
-  target-test source k t = if_there (λ r. is_held_in s.members (aim_of r.target source) t) (sym never_at k) && if_there (λ r. is_held_in s.members (aim_of r.target source) t) (sym allowed_at k)

@@ -1,6 +1,6 @@
 //! Looks for violations: pairs of rules of one class first, then the types that they have in common.
 
-ghost use Rattle.std.specs.Prelude.{◌≡◌, ◌+◌, ◌++◌, ◌∷◌, [], ◌<◌, ℕ, length, IfOk, OnOk};
+ghost use Rattle.std.specs.Prelude.{◌≡◌, ◌+◌, ◌++◌, ◌∷◌, [], ◌<◌, ℕ, length, slice_get, Some, IfOk, OnOk};
 ghost use Rattle.std.specs.List.{flat_map};
 ghost use Rattle.cil_violations.specs.Aims.{aim_of};
 ghost use Rattle.cil_violations.specs.Index.{is_met, IsNext};
@@ -13,7 +13,7 @@ use crate::permissions::share;
 use crate::row::RowNumbers;
 use crate::shared::shared;
 use cil_parse::Lists;
-use cil_resolve::{Element, Resolved, ResolvedTarget};
+use cil_resolve::{Element, NumberedRule, Resolved, ResolvedTarget};
 use cil_text::RuleKind;
 use std::alloc::{AllocError, Allocator, Global};
 
@@ -60,6 +60,14 @@ fn push_rows<A: Allocator>(
 }
 
 impl<A: Allocator + Copy> Search<'_, A> {
+    /// The rule at a place.
+    fn rule(&self, place: usize) -> &NumberedRule<A>
+        requires { place < length (rules_in self.now) }
+        ensures { slice_get (rules_in self.now) place ≡ Some result.now }
+    {
+        &self.resolved.rules()[place]
+    }
+
     /// Whether the rule at a place is a neverallow rule.
     fn is_never(&self, never: usize) -> bool
         requires { never < length (rules_in self.now) }
@@ -117,13 +125,9 @@ impl<A: Allocator + Copy> Search<'_, A> {
         requires allowed { allowed < length (rules_in self.now) }
         ensures { IfOk result (λ list. list.items ≡ hits ((tests_of self.now).source never allowed) 0 (names_in self.now)) }
     {
-        let rules = self.resolved.rules();
-        shared(
-            self.alloc,
-            &self.members,
-            rules[never].source,
-            rules[allowed].source,
-        )
+        let first = self.rule(never).source;
+        let second = self.rule(allowed).source;
+        shared(self.alloc, &self.members, first, second)
     }
 
     /// The types that both rules take in as targets of a source, in order.
@@ -139,9 +143,8 @@ impl<A: Allocator + Copy> Search<'_, A> {
         requires source { source < names_in self.now }
         ensures { IfOk result (λ list. list.items ≡ hits ((tests_of self.now).target never allowed source) 0 (names_in self.now)) }
     {
-        let rules = self.resolved.rules();
-        let first = aim(rules[never].target, source);
-        let second = aim(rules[allowed].target, source);
+        let first = aim(self.rule(never).target, source);
+        let second = aim(self.rule(allowed).target, source);
         shared(self.alloc, &self.members, first, second)
     }
 
@@ -199,13 +202,12 @@ impl<A: Allocator + Copy> Search<'_, A> {
         requires allowed { allowed < length (rules_in self.now) }
         ensures { OnOk result (rows.new.items ≡ rows.old.items ++ source_rows (tests_of self.now) (names_in self.now) never allowed) }
     {
-        let rules = self.resolved.rules();
-        let first = rules[never].source;
-        let second = rules[allowed].source;
-        if self.members.next_shared_word(first, second, 0).is_none() {
+        let first = self.rule(never);
+        let second = self.rule(allowed);
+        if self.members.next_shared_word(first.source, second.source, 0).is_none() {
             return Ok(());
         }
-        match (rules[never].target, rules[allowed].target) {
+        match (first.target, second.target) {
             (ResolvedTarget::Element(first), ResolvedTarget::Element(second)) => {
                 let targets = shared(self.alloc, &self.members, first, second)?;
                 self.push_with_targets(rows, never, allowed, &targets)

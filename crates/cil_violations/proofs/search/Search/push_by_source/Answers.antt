@@ -1,43 +1,25 @@
-use Rattle.std.proofs.Common.{◌∙◌, ◌-◌, ◌+◌, ◌++◌, length, flat_map, ap, arith}
-use Rattle.cil_violations.specs.Rows.{hits, tests_of, target_rows}
-use Rattle.cil_violations.proofs.HitLemmas.{hits-next, hits-none, done-more, done-all}
-use Rattle.cil_violations.proofs.TestLemmas.{source-below}
-use Rattle.cil_violations.proofs.search.Search.push_sources.Goals as goal
+use Rattle.std.proofs.Common.{◌∙◌, ◌++◌, ◌∷◌, ◌<◌, [], flat_map, get_or, length, ap, arith, subst, sym}
+use Rattle.cil_violations.specs.Rows.{hits, names_in, row_with, target_rows, tests_of}
+use Rattle.cil_violations.proofs.HitLemmas.{hits-below}
+use Rattle.cil_violations.proofs.PairLemmas.{part-more}
+use Rattle.cil_violations.proofs.search.Search.push_by_source.Goals as goal
 
-pub push_targets-requires-clause-source : goal.push_targets-requires-clause-source
-push_targets-requires-clause-source g c = source-below c.args.self.now c.requires.search c.args.never c.args.allowed c.in-Some.source c.in-Some.ensures.holds
-
-pub overflow_add-from : goal.overflow_add-from
-overflow_add-from g c =
-    let low = source-below c.args.self.now c.requires.search c.args.never c.args.allowed c.in-Some.source c.in-Some.ensures.holds in
-    let long = c.names_len.ensures in
-    omega (arith, low, long)
-
-pub loop-source-smaller : goal.loop-source-smaller
-loop-source-smaller g c =
-    let low = source-below c.args.self.now c.requires.search c.args.never c.args.allowed c.in-Some.source c.in-Some.ensures.holds in
-    let on = c.in-Some.ensures.from_on in
-    omega (arith, low, on)
+pub targets-requires-clause-source : goal.targets-requires-clause-source
+targets-requires-clause-source g c =
+    let s = c.args.self.now in
+    let is = c.deref-source-items.ensures.value ∙ c.in_ok-sources.ensures in
+    let test = (tests_of s).source c.args.never c.args.allowed in
+    let low = hits-below test (names_in s) 0 c.loop-source.source-index (subst (λ l. c.loop-source.source-index < length l) is c.loop-source-test.true) in
+    subst (λ l. get_or l c.loop-source.source-index 0 < names_in s) (sym is) (omega (arith, low))
 
 pub loop-source-preserved : goal.loop-source-preserved
 loop-source-preserved g c =
     let s = c.args.self.now in
-    let n = length s.resolved.now.names.items in
-    let test = (tests_of s).source c.args.never c.args.allowed in
-    let source = c.in-Some.source in
-    let low = source-below s c.requires.search c.args.never c.args.allowed source c.in-Some.ensures.holds in
-    record {
-      within = omega (arith, low);
-      so_far =
-          ap (λ l. l ++ flat_map (target_rows (tests_of s) n c.args.never c.args.allowed) (hits test (source + 1) (n - (source + 1)))) c.in_ok-push_targets.ensures
-          ∙ done-more (target_rows (tests_of s) n c.args.never c.args.allowed) _ c.loop-source.rows.items source (hits test c.loop-source.from (n - c.loop-source.from)) (hits test (source + 1) (n - (source + 1)))
-          (hits-next test n c.loop-source.from source c.loop-source.invariant.within c.in-Some.ensures low) c.loop-source.invariant.so_far;
-    }
-
-pub returns : goal.returns
-returns g c =
-    let s = c.args.self.now in
-    let n = length s.resolved.now.names.items in
-    let test = (tests_of s).source c.args.never c.args.allowed in
-    done-all (target_rows (tests_of s) n c.args.never c.args.allowed) _ c.loop-source.rows.items (hits test c.loop-source.from (n - c.loop-source.from))
-    (hits-none test (n - c.loop-source.from) c.loop-source.from c.in_default.ensures) c.loop-source.invariant.so_far
+    let is = c.deref-source-items.ensures.value ∙ c.in_ok-sources.ensures in
+    let rows = target_rows (tests_of s) (names_in s) c.args.never c.args.allowed in
+    let source = get_or c.deref-source-items.result.now c.loop-source.source-index 0 in
+    part-more rows c.args.rows.now.items c.loop-source.rows.items c.push_rows.new.rows.items (hits ((tests_of s).source c.args.never c.args.allowed) 0 (names_in s)) c.loop-source.source-index
+    (subst (λ l. c.loop-source.source-index < length l) is c.loop-source-test.true) c.loop-source.invariant
+    (c.in_ok-push_rows.ensures
+    ∙ ap (λ l. c.loop-source.rows.items ++ flat_map (λ target. row_with c.args.never c.args.allowed source target ∷ []) l) (c.deref.ensures.value ∙ c.in_ok-targets.ensures)
+    ∙ ap (λ l. c.loop-source.rows.items ++ rows (get_or l c.loop-source.source-index 0)) is)
