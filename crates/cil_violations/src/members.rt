@@ -41,7 +41,8 @@ impl<A: Allocator> Members<'_, A> {
         match element {
             Element::Type(ty) => word_of(symbol_of(self.numbering, ty), index),
             Element::Attribute(attribute) => {
-                self.rows.present(symbol_of(self.numbering, attribute), index)
+                let row = symbol_of(self.numbering, attribute);
+                self.rows.present(row, index)
             }
         }
     }
@@ -74,12 +75,7 @@ impl<A: Allocator> Members<'_, A> {
     }
 
     /// The first word from one on with a type that two elements hold. Words without a type of either are skipped.
-    pub fn next_shared_word(
-        &self,
-        first: Element,
-        second: Element,
-        from: usize,
-    ) -> Option<usize>
+    pub fn next_shared_word(&self, first: Element, second: Element, from: usize) -> Option<usize>
         requires short { AreShort self.now }
         requires first { IsTrue (is_known self.now first) }
         requires second { IsTrue (is_known self.now second) }

@@ -204,7 +204,10 @@ impl<A: Allocator + Copy> Search<'_, A> {
     {
         let first = self.rule(never);
         let second = self.rule(allowed);
-        if self.members.next_shared_word(first.source, second.source, 0).is_none() {
+        let word = self
+            .members
+            .next_shared_word(first.source, second.source, 0);
+        if word.is_none() {
             return Ok(());
         }
         match (first.target, second.target) {

@@ -6,6 +6,7 @@ ghost use Rattle.cil_violations.specs.Rows.{hits};
 ghost use Rattle.cil_violations.specs.Shared.{HasBit};
 
 use crate::members::{Members, WORD};
+use crate::permissions::put_in_order;
 use cil_resolve::Element;
 use cil_symbols::Numbering;
 use std::alloc::{AllocError, Allocator};
@@ -64,7 +65,6 @@ pub fn shared<A: Allocator + Copy>(
         push_names(&mut list, members.numbering, index, word)?;
         from = index + 1;
     }
-    list.sort_unstable();
-    list.dedup();
+    put_in_order(&mut list);
     Ok(list)
 }

@@ -1,7 +1,5 @@
-use Rattle.std.proofs.lemmas.List.Filters.{dedup_is}
 use Rattle.cil_violations.specs.Held.{both_hold, symbols_in}
 use Rattle.cil_violations.proofs.ListedLemmas.{found-all, found-more}
-use Rattle.cil_violations.proofs.PermissionLemmas.{ordered-list}
 use Rattle.cil_violations.proofs.shared.shared.Goals as goal
 
 pub loop-index-preserved : goal.loop-index-preserved
@@ -11,5 +9,5 @@ loop-index-preserved g c =
 
 pub returns : goal.returns
 returns g c =
-    found-all (symbols_in c.args.members.now) (both_hold c.args.members.now c.args.first c.args.second) c.loop-index.from c.loop-index.list.items c.dedup.new.self.items c.in_default.ensures c.loop-index.invariant
-    (ordered-list _ _ _ c.sort_unstable.ensures.permutation c.sort_unstable.ensures.sorted (dedup_is _ _ _ c.dedup.ensures.filtered))
+    found-all (symbols_in c.args.members.now) (both_hold c.args.members.now c.args.first c.args.second) c.loop-index.from c.loop-index.list.items c.put_in_order.new.numbers.items c.in_default.ensures c.loop-index.invariant
+    c.put_in_order.ensures

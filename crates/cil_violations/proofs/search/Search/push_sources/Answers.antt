@@ -3,18 +3,18 @@ use Rattle.cil_violations.proofs.HeldLemmas.{short}
 use Rattle.cil_violations.proofs.PairLemmas.{element-known, no-sources, same-targets, source-known}
 use Rattle.cil_violations.proofs.search.Search.push_sources.Goals as goal
 
-pub next_shared_word-requires-clause-short : goal.next_shared_word-requires-clause-short
-next_shared_word-requires-clause-short g c = short c.args.self.now.resolved.now c.args.self.now.members c.requires.search.members
+pub next_shared_word-word-requires-clause-short : goal.next_shared_word-word-requires-clause-short
+next_shared_word-word-requires-clause-short g c = short c.args.self.now.resolved.now c.args.self.now.members c.requires.search.members
 
-pub next_shared_word-requires-clause-first : goal.next_shared_word-requires-clause-first
-next_shared_word-requires-clause-first g c = source-known c.args.self.now c.requires.search c.args.never c.rule-first.result.now c.rule-first.ensures
+pub next_shared_word-word-requires-clause-first : goal.next_shared_word-word-requires-clause-first
+next_shared_word-word-requires-clause-first g c = source-known c.args.self.now c.requires.search c.args.never c.rule-first.result.now c.rule-first.ensures
 
-pub next_shared_word-requires-clause-second : goal.next_shared_word-requires-clause-second
-next_shared_word-requires-clause-second g c = source-known c.args.self.now c.requires.search c.args.allowed c.rule-second.result.now c.rule-second.ensures
+pub next_shared_word-word-requires-clause-second : goal.next_shared_word-word-requires-clause-second
+next_shared_word-word-requires-clause-second g c = source-known c.args.self.now c.requires.search c.args.allowed c.rule-second.result.now c.rule-second.ensures
 
 pub returns-then-is_none : goal.returns-then-is_none
 returns-then-is_none g c =
-    sym (ap (λ l. c.args.rows.now.items ++ l) (no-sources c.args.self.now c.requires.search c.args.never c.args.allowed c.rule-first.result.now c.rule-second.result.now c.rule-first.ensures c.rule-second.ensures c.next_shared_word.result c.if-is_none.ensures c.next_shared_word.ensures) ∙ append-nil c.args.rows.now.items)
+    sym (ap (λ l. c.args.rows.now.items ++ l) (no-sources c.args.self.now c.requires.search c.args.never c.args.allowed c.rule-first.result.now c.rule-second.result.now c.rule-first.ensures c.rule-second.ensures c.next_shared_word-word.result c.if-is_none.ensures c.next_shared_word-word.ensures) ∙ append-nil c.args.rows.now.items)
 
 pub shared-requires-clause-short : goal.shared-requires-clause-short
 shared-requires-clause-short g c = short c.args.self.now.resolved.now c.args.self.now.members c.requires.search.members
@@ -28,6 +28,6 @@ shared-requires-clause-second g c = element-known c.args.self.now c.requires.sea
 pub push_with_targets-requires-clause-targets : goal.push_with_targets-requires-clause-targets
 push_with_targets-requires-clause-targets g c =
     λ source.
-        c.deref.ensures.value ∙ c.in_ok-targets-in-Element-Element.ensures
-        ∙ same-targets c.args.self.now c.requires.search c.args.never c.args.allowed c.rule-first.result.now c.rule-second.result.now c.rule-first.ensures c.rule-second.ensures c.in-Element-Element.first c.in-Element-Element.second
-        c.in-Element-Element.is-0 c.in-Element-Element.is-1 source
+    c.deref.ensures.value ∙ c.in_ok-targets-in-Element-Element.ensures
+    ∙ same-targets c.args.self.now c.requires.search c.args.never c.args.allowed c.rule-first.result.now c.rule-second.result.now c.rule-first.ensures c.rule-second.ensures c.in-Element-Element.first c.in-Element-Element.second
+    c.in-Element-Element.is-0 c.in-Element-Element.is-1 source
