@@ -5,7 +5,7 @@ use Rattle.std.proofs.lemmas.Nat.Bits.{shr_and_one, bit_at_and, bit_at_or, bit_a
 use Rattle.std.proofs.Math.Bool.{and-false}
 use Rattle.std.specs.Int.{bit_at}
 use Rattle.cil_lines.specs.Line.{IsPresence}
-use Rattle.cil_sets.specs.Counts.{one_if}
+use Rattle.cil_member_updates.specs.Counts.{one_if}
 use Rattle.cil_specs.specs.Sets.{differ}
 use Rattle.cil_member_updates.specs.Bits.{AreBits, AreHeld, Cover}
 

@@ -3,8 +3,8 @@ use Rattle.std.proofs.Common.{◌≡◌, ◌<◌, ◌&&◌, ℕ, Bool, true, fal
 use Rattle.cil_matching.specs.Matching.{Matched}
 use Rattle.cil_resolve.specs.Resolved.{meaning_in}
 use Rattle.cil_resolve.specs.declared.resolved.Resolved.{Resolved}
-use Rattle.cil_sets.specs.Counts.{one_if}
-use Rattle.cil_sets.specs.Places.{set_at}
+use Rattle.cil_member_updates.specs.Counts.{one_if}
+use Rattle.cil_member_updates.specs.Places.{set_at}
 use Rattle.cil_specs.specs.Sets.{differ}
 use Rattle.cil_sums.proofs.SumLemmas.{across-some}
 use Rattle.cil_member_updates.specs.Evaluated.{Comes, IsHeld, IsMovedAt}

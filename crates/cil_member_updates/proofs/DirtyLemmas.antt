@@ -14,10 +14,10 @@ use Rattle.cil_resolve.specs.Apart.{StandApart}
 use Rattle.cil_resolve.specs.Resolved.{meaning_in}
 use Rattle.cil_resolve.specs.Sets.{sets_in}
 use Rattle.cil_resolve.specs.declared.resolved.Resolved.{Resolved}
-use Rattle.cil_sets.specs.Counts.{one_if}
-use Rattle.cil_sets.specs.Places.{no_set, set_at}
-use Rattle.cil_sets.proofs.CountLemmas.{counted-member}
-use Rattle.cil_sets.proofs.KeptLemmas.{member-kept}
+use Rattle.cil_member_updates.specs.Counts.{one_if}
+use Rattle.cil_member_updates.specs.Places.{no_set, set_at}
+use Rattle.cil_member_updates.proofs.CountLemmas.{counted-member}
+use Rattle.cil_member_updates.proofs.PlaceLemmas.{member-kept}
 use Rattle.cil_specs.specs.Dependence.{AreTheSame}
 use Rattle.cil_specs.specs.Lookup.{has_name}
 use Rattle.cil_specs.specs.Meaning.{keeps_type, Meaning}

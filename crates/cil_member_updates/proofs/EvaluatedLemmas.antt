@@ -7,7 +7,7 @@ use Rattle.std.proofs.lemmas.Option.{slice_get_past}
 use Rattle.cil_specs.specs.Meaning.{Meaning}
 use Rattle.cil_specs.specs.Rule.{SetStatement}
 use Rattle.cil_specs.specs.Sets.{differ}
-use Rattle.cil_sets.specs.Counts.{one_if}
+use Rattle.cil_member_updates.specs.Counts.{one_if}
 use Rattle.cil_sums.specs.Rises.{up_to, RisesBy, RisesWithin}
 use Rattle.cil_sums.proofs.WithinLemmas.{up_to-some, within-both, within-by, within-either, within-map, within-none, within-weaker}
 use Rattle.cil_member_updates.specs.Bits.{AreBits, Cover}

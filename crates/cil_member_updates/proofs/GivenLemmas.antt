@@ -10,9 +10,9 @@ use Rattle.cil_specs.specs.Rule.{SetStatement}
 use Rattle.cil_specs.specs.Sets.{mentions}
 use Rattle.cil_sums.specs.Sums.{sum_below}
 use Rattle.cil_sums.proofs.SumLemmas.{sum-none, sum-more}
-use Rattle.cil_sets.specs.Counts.{one_if, gives_member}
+use Rattle.cil_member_updates.specs.Counts.{one_if, gives_member}
 use Rattle.cil_member_updates.specs.Given.{holds, gives, Tell}
-use Rattle.cil_sets.proofs.CountLemmas.{counted-member}
+use Rattle.cil_member_updates.proofs.CountLemmas.{counted-member}
 use Rattle.cil_member_updates.proofs.NameLemmas.{is-of-named, holds-named}
 
 -- those that pass a test, one by one

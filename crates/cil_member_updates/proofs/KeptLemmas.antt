@@ -11,7 +11,7 @@ use Rattle.std.proofs.lemmas.Option.{same_Some, slice_get-get_or}
 use Rattle.std.proofs.lemmas.Slice.Eq.{bytes_eq-Decides}
 use Rattle.cil_specs.specs.Rule.{Declared}
 use Rattle.cil_specs.specs.Meaning.{Meaning}
-use Rattle.cil_sets.specs.Counts.{one_if}
+use Rattle.cil_member_updates.specs.Counts.{one_if}
 use Rattle.cil_member_updates.specs.Bits.{AreBits}
 use Rattle.cil_member_updates.specs.Given.{of_name, keeps}
 use Rattle.cil_member_updates.proofs.NameLemmas.{same-symbol, bytes-refl}

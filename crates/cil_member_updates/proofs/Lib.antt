@@ -1,5 +1,6 @@
 pub mod BitLemmas
 pub mod ComesLemmas
+pub mod CountLemmas
 pub mod DirtyLemmas
 pub mod EvaluatedLemmas
 pub mod GivenLemmas
@@ -8,6 +9,7 @@ pub mod KeptLemmas
 pub mod MovedLemmas
 pub mod NameLemmas
 pub mod PassLemmas
+pub mod PlaceLemmas
 pub mod RenewLemmas
 pub mod SideLemmas
 pub mod StayLemmas

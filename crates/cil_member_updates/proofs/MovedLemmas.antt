@@ -9,7 +9,7 @@ use Rattle.cil_lines.proofs.StepLemmas.{hit-there}
 use Rattle.cil_recorded.specs.Log.{hit_at}
 use Rattle.cil_recorded.proofs.LogLemmas.{hit_in, hit_off, hit_on, hit_out}
 use Rattle.cil_member_updates.specs.Moved.{IsMoved, AreMoved}
-use Rattle.cil_sets.specs.Counts.{one_if}
+use Rattle.cil_member_updates.specs.Counts.{one_if}
 use Rattle.cil_member_updates.specs.Bits.{AreHeld, Cover}
 
 -- the counters of the words so far

@@ -17,7 +17,7 @@ use Rattle.cil_specs.proofs.DependsLemmas.{any-contained}
 use Rattle.cil_specs.proofs.OnceLemmas.{passes-among}
 use Rattle.cil_specs.proofs.NamesLemmas.{contains-middle}
 use Rattle.cil_lines.specs.Line.{IsPresence}
-use Rattle.cil_sets.specs.Counts.{one_if}
+use Rattle.cil_member_updates.specs.Counts.{one_if}
 use Rattle.cil_member_updates.specs.Bits.{AreBits, Cover}
 use Rattle.cil_member_updates.specs.Given.{of_name, keeps, holds, is_of, element_holds, IsUnchanged, Tell}
 use Rattle.cil_member_updates.proofs.BitLemmas.{cover-bits, cover-present}

@@ -8,7 +8,7 @@ use Rattle.cil_specs.specs.Sets.{mentions}
 use Rattle.cil_sums.specs.Sums.{sum_below, across, ArePlaces}
 use Rattle.cil_sums.proofs.SumLemmas.{across-some, across-none}
 use Rattle.cil_matching.specs.Matching.{Matched, AreMatched, AreSameAt}
-use Rattle.cil_sets.specs.Counts.{one_if}
+use Rattle.cil_member_updates.specs.Counts.{one_if}
 use Rattle.cil_member_updates.specs.Given.{gives}
 use Rattle.cil_member_updates.proofs.GivenLemmas.{none-behind, gives-other, count-sum}
 use Rattle.cil_member_updates.proofs.PassLemmas.{settled}

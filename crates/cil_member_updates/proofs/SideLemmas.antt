@@ -8,7 +8,7 @@ use Rattle.cil_parse.specs.Lexicon.{AreNumbersOf}
 use Rattle.cil_resolve.specs.Resolved.{meaning_in}
 use Rattle.cil_resolve.specs.Sets.{name_in, sets_in, TellsMembers}
 use Rattle.cil_resolve.specs.declared.resolved.Resolved.{Resolved}
-use Rattle.cil_sets.specs.Places.{no_set, set_at}
+use Rattle.cil_member_updates.specs.Places.{no_set, set_at}
 use Rattle.cil_matching.specs.Matching.{Matched, AreMatched}
 use Rattle.cil_sums.specs.Sums.{sum_below}
 use Rattle.cil_member_updates.specs.Given.{gives, Tell}

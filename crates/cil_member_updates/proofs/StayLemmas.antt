@@ -6,7 +6,7 @@ use Rattle.std.proofs.lemmas.Nat.Bits.{bit_at-zero}
 use Rattle.cil_specs.specs.Meaning.{Meaning}
 use Rattle.cil_specs.specs.Rule.{an_attribute, SetStatement}
 use Rattle.cil_specs.specs.Sets.{differ}
-use Rattle.cil_sets.specs.Counts.{one_if}
+use Rattle.cil_member_updates.specs.Counts.{one_if}
 use Rattle.cil_member_rows.specs.Words.{IsOutside}
 use Rattle.cil_member_rows.specs.declared.words.Words.{Words}
 use Rattle.cil_member_updates.specs.Bits.{Cover}

@@ -8,7 +8,7 @@ use Rattle.cil_specs.specs.Meaning.{keeps_type, Meaning}
 use Rattle.cil_specs.specs.Members.{is_member}
 use Rattle.cil_specs.specs.Rule.{an_attribute, Element, SetStatement}
 use Rattle.cil_specs.specs.Sets.{differ, mentions}
-use Rattle.cil_sets.specs.Counts.{one_if}
+use Rattle.cil_member_updates.specs.Counts.{one_if}
 use Rattle.cil_member_updates.specs.Bits.{AreBits}
 use Rattle.cil_member_updates.specs.Evaluated.{AreUnsettledAt, HasTurned, IsTurnedAt, IsUnsettled}
 use Rattle.cil_member_updates.specs.Given.{keeps, Tell}

@@ -12,7 +12,7 @@ use Rattle.cil_recorded.proofs.LogLemmas.{hit_in, hit_nothing}
 use Rattle.cil_specs.specs.Meaning.{Meaning}
 use Rattle.cil_specs.specs.Rule.{SetStatement}
 use Rattle.cil_specs.specs.Sets.{differ}
-use Rattle.cil_sets.specs.Counts.{one_if}
+use Rattle.cil_member_updates.specs.Counts.{one_if}
 use Rattle.cil_member_updates.specs.Bits.{AreHeld, Cover}
 use Rattle.cil_member_updates.specs.Moved.{IsMoved, nothing}
 use Rattle.cil_member_updates.specs.Given.{holds, is_of, gives}

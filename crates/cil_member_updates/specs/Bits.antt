@@ -1,7 +1,7 @@
 -- Symbols by the bits of words of 64.
 use Rattle.std.specs.Prelude.{◌≡◌, ◌==◌, ◌<◌, ◌*◌, ◌+◌, ◌&&◌, ℕ, Bool, false}
 use Rattle.std.specs.Int.{bit_at}
-use Rattle.cil_sets.specs.Counts.{one_if}
+use Rattle.cil_member_updates.specs.Counts.{one_if}
 
 -- the bits of a word tell at which of its symbols a test holds
 abbrev pub AreBits : (ℕ → Bool) → ℕ → ℕ → Type 0

@@ -9,8 +9,8 @@ use Rattle.cil_member_rows.specs.Rows.{count_before, count_now}
 use Rattle.cil_resolve.specs.Resolved.{meaning_in}
 use Rattle.cil_resolve.specs.Sets.{sets_in}
 use Rattle.cil_resolve.specs.declared.resolved.Resolved.{Resolved}
-use Rattle.cil_sets.specs.Counts.{one_if}
-use Rattle.cil_sets.specs.Places.{set_at}
+use Rattle.cil_member_updates.specs.Counts.{one_if}
+use Rattle.cil_member_updates.specs.Places.{set_at}
 use Rattle.cil_symbols.specs.Numbered.{Numbered}
 use Rattle.cil_member_updates.specs.declared.side.Side.{Side}
 use Rattle.cil_member_updates.specs.declared.when.When.{When}

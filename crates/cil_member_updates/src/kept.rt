@@ -2,7 +2,7 @@
 
 ghost use Rattle.std.specs.Prelude.{◌≡◌, ◌<◌, ◌≤◌, ℕ, length, slice_get, slice_index, slice_index_or, IfOk, Some};
 ghost use Rattle.cil_resolve.specs.Resolved.{meaning_in};
-ghost use Rattle.cil_sets.specs.Places.{no_declared};
+ghost use Rattle.cil_member_updates.specs.Places.{no_declared};
 ghost use Rattle.cil_member_updates.specs.Policy.{AreKept, IsNumbering};
 
 use cil_member_rows::Words;

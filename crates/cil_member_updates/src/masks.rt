@@ -4,8 +4,8 @@ ghost use Rattle.std.specs.Prelude.{◌≡◌, ◌+◌, ◌-◌, ◌*◌, ◌%�
 ghost use Rattle.cil_resolve.specs.Meter.{adjustments_in, evaluations_in};
 ghost use Rattle.cil_resolve.specs.Resolved.{meaning_in};
 ghost use Rattle.cil_resolve.specs.Sets.{sets_in};
-ghost use Rattle.cil_sets.specs.Counts.{one_if};
-ghost use Rattle.cil_sets.specs.Places.{set_at};
+ghost use Rattle.cil_member_updates.specs.Counts.{one_if};
+ghost use Rattle.cil_member_updates.specs.Places.{set_at};
 ghost use Rattle.cil_member_updates.specs.Given.{holds, keeps, Tell};
 ghost use Rattle.cil_member_updates.specs.Policy.{counts_at, IsSide};
 ghost use Rattle.cil_sums.specs.Rises.{RisesBy};

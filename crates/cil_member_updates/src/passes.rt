@@ -6,7 +6,7 @@ ghost use Rattle.cil_matching.specs.Matching.{AreMatched};
 ghost use Rattle.cil_resolve.specs.Meter.{adjustments_in, evaluations_in};
 ghost use Rattle.cil_resolve.specs.Resolved.{meaning_in};
 ghost use Rattle.cil_resolve.specs.Sets.{sets_in};
-ghost use Rattle.cil_sets.specs.Places.{set_at};
+ghost use Rattle.cil_member_updates.specs.Places.{set_at};
 ghost use Rattle.cil_specs.specs.Rule.{IsSameSet};
 ghost use Rattle.cil_sums.specs.Sums.{sum_below};
 ghost use Rattle.cil_member_rows.specs.Rows.{count_before, count_now, rows_in};

@@ -2,7 +2,7 @@
 
 ghost use Rattle.std.specs.Prelude.{◌≡◌, ◌<◌, length, slice_get, Some};
 ghost use Rattle.cil_resolve.specs.Sets.{sets_in};
-ghost use Rattle.cil_sets.specs.Places.{set_at};
+ghost use Rattle.cil_member_updates.specs.Places.{set_at};
 ghost use Rattle.cil_member_updates.specs.Policy.{IsSide};
 
 use crate::kept::KeptTypes;

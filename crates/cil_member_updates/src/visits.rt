@@ -5,7 +5,7 @@ ghost use Rattle.cil_resolve.specs.Below.{is_element_below};
 ghost use Rattle.cil_resolve.specs.Numbers.{element_of};
 ghost use Rattle.cil_resolve.specs.Resolved.{meaning_in};
 ghost use Rattle.cil_resolve.specs.Sets.{sets_in};
-ghost use Rattle.cil_sets.specs.Places.{set_at};
+ghost use Rattle.cil_member_updates.specs.Places.{set_at};
 ghost use Rattle.cil_specs.specs.Expr.{leaves};
 ghost use Rattle.cil_specs.specs.Rule.{IsSameSet};
 ghost use Rattle.cil_specs.specs.Sets.{differ};

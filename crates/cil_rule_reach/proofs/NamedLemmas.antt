@@ -7,16 +7,17 @@ use Rattle.std.proofs.lemmas.List.{length-map}
 use Rattle.std.proofs.lemmas.Option.{slice_get_within, get_or_from_slice_get, slice_get-get_or}
 use Rattle.std.proofs.lemmas.Slice.Eq.{bytes_eq-Decides}
 use Rattle.cil_bind.proofs.DeclareLemmas.{same-bool}
-use Rattle.cil_specs.specs.Meaning.{aims, gives, holds, keeps_type}
+use Rattle.cil_specs.specs.Meaning.{aims, gives, holds, keeps_type, Meaning}
 use Rattle.cil_specs.specs.Members.{is_member, keeps_element}
 use Rattle.cil_specs.specs.Rule as spec
+use Rattle.cil_specs.specs.Rule.{Declared}
 use Rattle.cil_parse.specs.Lexicon.{AreNumbersOf}
 use Rattle.cil_expression.specs.declared.expression.Element.{Element}
 use Rattle.cil_expression.specs.declared.expression.Element.TheVariants.{«Type», Attribute}
 use Rattle.cil_keyed_lines.specs.Keyed.{is_kind}
 use Rattle.cil_keyed_lines.specs.declared.symbol_key.SymbolKey.{SymbolKey}
 use Rattle.cil_resolve.specs.Below.{is_element_below, is_rule_below, is_target_below}
-use Rattle.cil_resolve.specs.Consistent.{is_aim_of, is_element_of, is_rule_of}
+use Rattle.cil_resolve.specs.Consistent.{is_aim_of, is_declared, is_element_of, is_rule_of}
 use Rattle.cil_resolve.specs.Numbers.{element_of, resolved_target_of, rule_of}
 use Rattle.cil_resolve.specs.Resolved.{meaning_in}
 use Rattle.cil_resolve.specs.Sets.{name_in}
@@ -24,7 +25,6 @@ use Rattle.cil_resolve.specs.declared.numbered.NumberedRule.{NumberedRule}
 use Rattle.cil_resolve.specs.declared.numbered.ResolvedTarget.{ResolvedTarget}
 use Rattle.cil_resolve.specs.declared.numbered.ResolvedTarget.TheVariants as targets
 use Rattle.cil_resolve.specs.declared.resolved.Resolved.{Resolved}
-use Rattle.cil_sets.proofs.HeldLemmas.{element-kept}
 use Rattle.cil_rule_reach.specs.Named.{atom_of, is_named, name_at, AreMembersOf}
 use Rattle.cil_rule_reach.specs.Reaches.{aims_by, covers_by, has_by}
 
@@ -49,6 +49,15 @@ turned xs ys =
     same-bool (bytes_eq xs ys) (bytes_eq ys xs)
     (λ e. (bytes_eq-Decides ys xs).1 (sym ((bytes_eq-Decides xs ys).0 e)))
     (λ e. (bytes_eq-Decides xs ys).1 (sym ((bytes_eq-Decides ys xs).0 e)))
+
+-- what is declared is kept
+kept-as : (ds : List Declared) (name : List ℕ) → is_declared ds name ≡ list_any (λ d. bytes_eq name d.name) ds
+kept-as [] name = refl
+kept-as (d ∷ ds) name = ap (λ b. b || is_declared ds name) (turned d.name name) ∙ ap (λ b. bytes_eq name d.name || b) (kept-as ds name)
+
+pub element-kept : (meaning : Meaning) (element : spec.Element) → is_element_of meaning.types meaning.attributes element ≡ true → keeps_element meaning element ≡ true
+element-kept meaning (spec.a_type name) declared = sym (kept-as meaning.types name) ∙ declared
+element-kept meaning (spec.an_attribute name) declared = sym (kept-as meaning.attributes name) ∙ declared
 
 module _ {A : Type 0} (r : Resolved A) where
   -- the parts of a rule's bound
@@ -111,7 +120,7 @@ module _ {A : Type 0} (r : Resolved A) (all : List (List ℕ)) (symbols : List �
   no-symbol n t low past = ne_eqb (slice_index symbols n) t (λ e. let within = symbol-within n low in omega (arith, within, past, e))
 
   module _ (members : ℕ → ℕ → ℕ) (are : AreMembersOf all (meaning_in r) members) where
-    has-named : (element : Element) (t : ℕ) → is_element_below count element ≡ true → keeps_element (meaning_in r) (element_of r.names.items element) ≡ true → t < length all
+    pub has-named : (element : Element) (t : ℕ) → is_element_below count element ≡ true → keeps_element (meaning_in r) (element_of r.names.items element) ≡ true → t < length all
         → has_by members symbols element t ≡ holds (meaning_in r) (element_of r.names.items element) (name_at all t)
     unfolding is_member
     has-named («Type» n) t below kept within =
@@ -130,7 +139,7 @@ module _ {A : Type 0} (r : Resolved A) (all : List (List ℕ)) (symbols : List �
         let low = ltb-true a count below in
         are.are (slice_index symbols a) t (symbol-within a low) within ∙ ap (λ name. is_member (meaning_in r) name (name_at all t)) (symbol-name a low)
 
-    has-none : (element : Element) (t : ℕ) → is_element_below count element ≡ true → length all ≤ t → has_by members symbols element t ≡ false
+    pub has-none : (element : Element) (t : ℕ) → is_element_below count element ≡ true → length all ≤ t → has_by members symbols element t ≡ false
     has-none («Type» n) t below past = no-symbol n t (ltb-true n count below) past
     has-none (Attribute a) t below past = ap (nat_lt 0) (are.no_type (slice_index symbols a) t past)
 

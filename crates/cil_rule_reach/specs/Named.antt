@@ -1,8 +1,12 @@
 -- What the symbols of names stand for.
-use Rattle.std.specs.Prelude.{◌≡◌, ◌<◌, ◌≤◌, ◌&&◌, ℕ, Bool, List, [], length, nat_lt, slice_index_or}
+use Rattle.std.specs.Prelude.{◌≡◌, ◌<◌, ◌≤◌, ◌^◌, ◌&&◌, ℕ, Bool, List, [], bytes_eq, length, nat_lt, slice_index_or}
+use Rattle.std.specs.List.{IsDistinct}
 use Rattle.cil_specs.specs.Meaning.{Meaning}
 use Rattle.cil_specs.specs.Members.{is_member}
 use Rattle.cil_specs.specs.Rule.{Atom}
+use Rattle.cil_parse.specs.Lexicon.{AreNumbersOf}
+use Rattle.cil_resolve.specs.Resolved.{meaning_in}
+use Rattle.cil_resolve.specs.declared.resolved.Resolved.{Resolved}
 use Rattle.cil_text.specs.Image.{rule_kind_of}
 use Rattle.cil_keyed_lines.specs.declared.symbol_key.SymbolKey.{SymbolKey}
 
@@ -29,3 +33,11 @@ pub record AreMembersOf (names : List (List ℕ)) (meaning : Meaning) (members :
   pub are : (a t : ℕ) → a < length names → t < length names → nat_lt 0 (members a t) ≡ is_member meaning (name_at names a) (name_at names t)
   pub no_attribute : (a t : ℕ) → length names ≤ a → members a t ≡ 0
   pub no_type : (a t : ℕ) → length names ≤ t → members a t ≡ 0
+
+-- The counters say so by the symbols of a policy's names, which are their numbers among distinct names.
+pub record AreMembersBy {A : Type 0} (r : Resolved A) (symbols : List ℕ) (members : ℕ → ℕ → ℕ) : Type 0 where
+  pub names : List (List ℕ)
+  pub distinct : IsDistinct bytes_eq names
+  pub short : length names < 2 ^ 64
+  pub numbers : AreNumbersOf names symbols r.names.items
+  pub are : AreMembersOf names (meaning_in r) members

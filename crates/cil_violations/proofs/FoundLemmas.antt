@@ -12,7 +12,7 @@ pub record Hit (test : ℕ → Bool) (all : ℕ) (P : ℕ → Type 0) : Type 0 w
   pub passes : test number ≡ true
   pub holds : P number
 
-hit-to : (test : ℕ → Bool) (P : ℕ → Type 0) (n from all : ℕ) → from + n ≡ all → AnyByRecursion P (hits test from n) → Hit test all P
+pub hit-to : (test : ℕ → Bool) (P : ℕ → Type 0) (n from all : ℕ) → from + n ≡ all → AnyByRecursion P (hits test from n) → Hit test all P
 hit-to test P zero from all is none = absurd none
 hit-to test P (suc n) from all is some = by (hit-to test P n (suc from) all (omega (arith, is))) (test from) refl some
   where
@@ -21,7 +21,7 @@ hit-to test P (suc n) from all is some = by (hit-to test P n (suc from) all (ome
     by rest true passes (inr later) = rest later
     by rest false fails later = rest later
 
-hit-from : (test : ℕ → Bool) (P : ℕ → Type 0) (n from k : ℕ) → from ≤ k → k < from + n → test k ≡ true → P k → AnyByRecursion P (hits test from n)
+pub hit-from : (test : ℕ → Bool) (P : ℕ → Type 0) (n from k : ℕ) → from ≤ k → k < from + n → test k ≡ true → P k → AnyByRecursion P (hits test from n)
 hit-from test P zero from k low high passes holds = absurd (omega (arith, low, high))
 hit-from test P (suc n) from k low high passes holds = by (λ apart. hit-from test P n (suc from) k (omega (arith, low, apart)) (omega (arith, high)) passes holds) (test from) refl
   where

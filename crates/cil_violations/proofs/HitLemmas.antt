@@ -1,7 +1,7 @@
 -- The numbers at which a test holds, found one after the other.
-use Rattle.std.proofs.Common.{◌≡◌, ◌∙◌, inl, inr, ℕ, zero, suc, ◌+◌, ◌-◌, ◌<◌, ◌≤◌, Bool, true, false, cond, List, [], ◌∷◌, ◌++◌, flat_map, refl, sym, ap, subst, arith, append_assoc, append-nil, add-one}
+use Rattle.std.proofs.Common.{◌≡◌, ◌∙◌, inl, inr, ℕ, zero, suc, ◌+◌, ◌-◌, ◌<◌, ◌≤◌, Bool, true, false, cond, List, [], ◌∷◌, ◌++◌, length, get_or, flat_map, refl, sym, ap, subst, arith, append_assoc, append-nil, add-one}
 use Rattle.std.proofs.lemmas.Bool.{cases_eq}
-use Rattle.cil_sets.specs.Search.{NoneFrom, IsFirstFrom}
+use Rattle.cil_violations.specs.Search.{NoneFrom, IsFirstFrom}
 use Rattle.cil_violations.specs.Rows.{hits}
 
 -- none where it holds at none
@@ -48,3 +48,14 @@ module _ {X : Type 0} (f : ℕ → List X) (whole : List X) where
 
   pub done-all : (done : List X) (numbers : List ℕ) → numbers ≡ [] → done ++ flat_map f numbers ≡ whole → done ≡ whole
   done-all done numbers is so_far = sym (append-nil done) ∙ done-same done numbers [] is so_far
+
+-- they are below the bound
+pub hits-below : (test : ℕ → Bool) (n from k : ℕ) → k < length (hits test from n) → get_or (hits test from n) k 0 < from + n
+hits-below test zero from k within = absurd (omega (arith, within))
+hits-below test (suc n) from k within = by (hits-below test n (suc from)) (test from) k within
+  where
+    by : ((j : ℕ) → j < length (hits test (suc from) n) → get_or (hits test (suc from) n) j 0 < suc from + n) → (b : Bool) (j : ℕ) → j < length (cond b (from ∷ hits test (suc from) n) (hits test (suc from) n))
+        → get_or (cond b (from ∷ hits test (suc from) n) (hits test (suc from) n)) j 0 < from + suc n
+    by rest true zero low = omega arith
+    by rest true (suc j) low = let below = rest j (omega (arith, low)) in omega (arith, below)
+    by rest false j low = let below = rest j low in omega (arith, below)

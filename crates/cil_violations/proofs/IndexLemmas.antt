@@ -12,7 +12,7 @@ use Rattle.cil_text.specs.declared.statement.RuleKind.{RuleKind}
 use Rattle.cil_text.specs.declared.statement.RuleKind.TheVariants.{Allow, AuditAllow, DontAudit, NeverAllow}
 use Rattle.cil_resolve.specs.Below.{is_element_below, is_target_below, is_rule_below}
 use Rattle.cil_resolve.specs.declared.numbered.NumberedRule.{NumberedRule}
-use Rattle.cil_sets.specs.Search.{NoneFrom}
+use Rattle.cil_violations.specs.Search.{NoneFrom}
 use Rattle.cil_violations.specs.Index.{if_there, is_kind, is_allow_of, is_met, IsNext, IsIndexFrom}
 use Rattle.cil_violations.specs.Rows.{hits, rules_in, permissions_at, tests_of, IsSearch}
 use Rattle.cil_violations.specs.Permissions.{share}

@@ -1,10 +1,14 @@
+pub mod HeldLemmas
 pub mod PermissionLemmas
 pub mod ShareLemmas
+pub mod WordLemmas
+pub mod ListedLemmas
 pub mod HitLemmas
 pub mod TestLemmas
 pub mod IndexLemmas
 pub mod OrderLemmas
 pub mod FoundLemmas
 pub mod MeaningLemmas
+pub mod PairLemmas
 pub mod ViolatesLemmas
 pub mod LineLemmas

@@ -9,7 +9,6 @@ use Rattle.std.proofs.lemmas.Option.{slice_get-map}
 use Rattle.std.proofs.lemmas.Slice.Eq.{bytes_eq-Decides}
 use Rattle.cil_specs.specs.Meaning.{holds, aims, covers}
 use Rattle.cil_specs.proofs.ReportLemmasMembers.{AnyByRecursion, any_from, any-map, any_from_map, any-filter, any_from_filter, any_from_test, test_from_any, contains_to, contains_from, any_weaker}
-use Rattle.cil_expression.specs.declared.expression.Element.{Element}
 use Rattle.cil_resolve.specs.Below.{is_element_below, is_target_below, is_rule_below}
 use Rattle.cil_resolve.specs.Consistent.{is_rule_of, is_element_of, is_aim_of}
 use Rattle.cil_resolve.specs.Numbers.{rule_of, element_of, resolved_target_of}
@@ -19,9 +18,11 @@ use Rattle.cil_resolve.specs.declared.numbered.NumberedRule.{NumberedRule}
 use Rattle.cil_resolve.specs.declared.numbered.ResolvedTarget.{ResolvedTarget}
 use Rattle.cil_resolve.specs.declared.numbered.ResolvedTarget.TheVariants as targets
 use Rattle.cil_resolve.specs.declared.resolved.Resolved.{Resolved}
-use Rattle.cil_resolve.proofs.RisingNames.{same-name}
-use Rattle.cil_sets.specs.TypeSets.{is_held_in, HoldByNumbers}
-use Rattle.cil_sets.specs.declared.members.Members.{Members}
+use Rattle.cil_rule_reach.specs.Named.{AreMembersBy}
+use Rattle.cil_member_rows.specs.Rows.{count_now}
+use Rattle.cil_violations.specs.Held.{is_held_in, symbols_in}
+use Rattle.cil_violations.specs.declared.members.Members.{Members}
+use Rattle.cil_violations.proofs.HeldLemmas.{held-named, same-held}
 use Rattle.cil_violations.specs.Aims.{aim_of}
 use Rattle.cil_violations.specs.Permissions.{is_among, share, shared}
 use Rattle.cil_violations.proofs.TestLemmas.{all-at}
@@ -106,15 +107,11 @@ rule-sound r i rule at =
       target_kept = target.0;
     }
 
-module _ {A B : Type 0} (r : Resolved A) (members : Members B) (hold : HoldByNumbers r members) where
-  held-source : (element : Element) → is_element_below (length r.names.items) element ≡ true → is_element_of (meaning_in r).types (meaning_in r).attributes (element_of r.names.items element) ≡ true
-      → (t : ℕ) → t < length r.names.items → is_held_in members element t ≡ holds (meaning_in r) (element_of r.names.items element) (name_in r t)
-  held-source element below declared t low = hold.of_kept element t below low (hold.declared (element_of r.names.items element) declared)
-
+module _ {A : Type 0} (r : Resolved A) (members : Members A) (are : AreMembersBy r (symbols_in members) (count_now members.rows.now)) where
   held-aim : (target : ResolvedTarget) → is_target_below (length r.names.items) target ≡ true → is_aim_of (meaning_in r).types (meaning_in r).attributes (resolved_target_of r.names.items target) ≡ true
       → (source t : ℕ) → source < length r.names.items → t < length r.names.items → is_held_in members (aim_of target source) t ≡ aims (meaning_in r) (resolved_target_of r.names.items target) (name_in r source) (name_in r t)
-  held-aim targets.Itself below declared source t source_low low = sym (same-name r.names.items source t r.ordered source_low low)
-  held-aim (targets.Element element) below declared source t source_low low = held-source element below declared t low
+  held-aim targets.Itself below declared source t source_low low = same-held r members are source t source_low low
+  held-aim (targets.Element element) below declared source t source_low low = held-named r members are element below declared t low
 
   -- what a rule covers, by numbers and by names
   module _ (rule : NumberedRule A) (sound : IsSound r rule) (source target : ℕ) (source_low : source < length r.names.items) (target_low : target < length r.names.items) where
@@ -122,7 +119,7 @@ module _ {A B : Type 0} (r : Resolved A) (members : Members B) (hold : HoldByNum
         → list_any (bytes_eq p) (map (name_in r) rule.permissions) ≡ true → covers (meaning_in r) (rule_of r.modules.items r.names.items rule) (name_in r source) (name_in r target) c p ≡ true
     covers-to held aimed c p the_class listed =
         let m = meaning_in r in
-        and_from (holds m (element_of r.names.items rule.source) (name_in r source)) _ (sym (held-source rule.source sound.source_below sound.source_kept source source_low) ∙ held)
+        and_from (holds m (element_of r.names.items rule.source) (name_in r source)) _ (sym (held-named r members are rule.source sound.source_below sound.source_kept source source_low) ∙ held)
         (and_from (aims m (resolved_target_of r.names.items rule.target) (name_in r source) (name_in r target)) _ (sym (held-aim rule.target sound.target_below sound.target_kept source target source_low target_low) ∙ aimed)
         (and_from (bytes_eq (name_in r rule.class) c) (list_any (bytes_eq p) (map (name_in r) rule.permissions)) (same-bytes (name_in r rule.class) c the_class) listed))
 
@@ -133,7 +130,7 @@ module _ {A B : Type 0} (r : Resolved A) (members : Members B) (hold : HoldByNum
         let first = and_parts (holds m (element_of r.names.items rule.source) (name_in r source)) _ covered in
         let second = and_parts (aims m (resolved_target_of r.names.items rule.target) (name_in r source) (name_in r target)) _ first.1 in
         let third = and_parts (bytes_eq (name_in r rule.class) c) (list_any (bytes_eq p) (map (name_in r) rule.permissions)) second.1 in (
-          held-source rule.source sound.source_below sound.source_kept source source_low ∙ first.0,
+          held-named r members are rule.source sound.source_below sound.source_kept source source_low ∙ first.0,
           held-aim rule.target sound.target_below sound.target_kept source target source_low target_low ∙ second.0,
           bytes-same (name_in r rule.class) c third.0,
           third.1,

@@ -45,7 +45,7 @@ hits-from test (suc n) from low on = by (test from) (hits-from test n (suc from)
     by true rest = (on, rest)
     by false rest = rest
 
-hits-ascend : (test : ℕ → Bool) (n from : ℕ) → IsStrictlySortedBy nat_cmp (hits test from n)
+pub hits-ascend : (test : ℕ → Bool) (n from : ℕ) → IsStrictlySortedBy nat_cmp (hits test from n)
 unfolding IsStrictlySortedBy
 hits-ascend test zero from = tt
 hits-ascend test (suc n) from = by (test from) (hits-ascend test n (suc from))

@@ -28,8 +28,7 @@ use Rattle.cil_resolve.specs.declared.numbered.NumberedRule.{NumberedRule}
 use Rattle.cil_resolve.specs.declared.numbered.ResolvedTarget.{ResolvedTarget}
 use Rattle.cil_resolve.specs.declared.numbered.ResolvedTarget.TheVariants as targets
 use Rattle.cil_resolve.proofs.RisingNames.{same-number}
-use Rattle.cil_sets.specs.TypeSets.{is_held_in, HoldByNumbers}
-use Rattle.cil_sets.proofs.HeldLemmas.{hold-by-numbers}
+use Rattle.cil_violations.specs.Held.{is_held_in}
 use Rattle.cil_specs.specs.Violations.{Violation, IsViolation, AreViolations, rule_cmp, violation_cmp}
 use Rattle.cil_violations.specs.Aims.{aim_of}
 use Rattle.cil_violations.specs.Permissions.{is_among, share, shared}
@@ -62,9 +61,6 @@ then-equal Equal = refl
 then-equal Greater = refl
 
 module _ {A : Type 0} (s : Search A) (is : IsSearch s) where
-  hold : HoldByNumbers s.resolved.now s.members.now
-  hold = hold-by-numbers s.resolved.now s.members.now is.members
-
   -- a row's rules, which meet at its source and target
   pub record Meets (row : RowNumbers) : Type 0 where
     pub never : NumberedRule A
@@ -77,10 +73,10 @@ module _ {A : Type 0} (s : Search A) (is : IsSearch s) where
     pub shares : share (permissions_at s row.never) (permissions_at s row.allowed) ≡ true
     pub source_low : row.source < length s.resolved.now.names.items
     pub target_low : row.target < length s.resolved.now.names.items
-    pub never_source : is_held_in s.members.now never.source row.source ≡ true
-    pub allowed_source : is_held_in s.members.now allowed.source row.source ≡ true
-    pub never_target : is_held_in s.members.now (aim_of never.target row.source) row.target ≡ true
-    pub allowed_target : is_held_in s.members.now (aim_of allowed.target row.source) row.target ≡ true
+    pub never_source : is_held_in s.members never.source row.source ≡ true
+    pub allowed_source : is_held_in s.members allowed.source row.source ≡ true
+    pub never_target : is_held_in s.members (aim_of never.target row.source) row.target ≡ true
+    pub allowed_target : is_held_in s.members (aim_of allowed.target row.source) row.target ≡ true
 
   pub meets : (row : RowNumbers) → Passes (tests_of s) (length (rules_in s)) (length s.resolved.now.names.items) row → Meets row
   meets row p =
@@ -103,10 +99,10 @@ module _ {A : Type 0} (s : Search A) (is : IsSearch s) where
         shares = rest.1;
         source_low = p.source_below;
         target_low = p.target_below;
-        never_source = sym (if-at (λ r. is_held_in s.members.now r.source row.source) (slice_get (rules_in s) row.never) n n_at) ∙ sources.0;
-        allowed_source = sym (if-at (λ r. is_held_in s.members.now r.source row.source) (slice_get (rules_in s) row.allowed) a a_at) ∙ sources.1;
-        never_target = sym (if-at (λ r. is_held_in s.members.now (aim_of r.target row.source) row.target) (slice_get (rules_in s) row.never) n n_at) ∙ aimed.0;
-        allowed_target = sym (if-at (λ r. is_held_in s.members.now (aim_of r.target row.source) row.target) (slice_get (rules_in s) row.allowed) a a_at) ∙ aimed.1;
+        never_source = sym (if-at (λ r. is_held_in s.members r.source row.source) (slice_get (rules_in s) row.never) n n_at) ∙ sources.0;
+        allowed_source = sym (if-at (λ r. is_held_in s.members r.source row.source) (slice_get (rules_in s) row.allowed) a a_at) ∙ sources.1;
+        never_target = sym (if-at (λ r. is_held_in s.members (aim_of r.target row.source) row.target) (slice_get (rules_in s) row.never) n n_at) ∙ aimed.0;
+        allowed_target = sym (if-at (λ r. is_held_in s.members (aim_of r.target row.source) row.target) (slice_get (rules_in s) row.allowed) a a_at) ∙ aimed.1;
       }
 
   pub passes : (row : RowNumbers) → Meets row → Passes (tests_of s) (length (rules_in s)) (length s.resolved.now.names.items) row
@@ -124,12 +120,12 @@ module _ {A : Type 0} (s : Search A) (is : IsSearch s) where
             ∙ and_from (is_kind 0 m.allowed) _ m.permits (and_from (m.allowed.class == n.class) (share (permissions_at s row.never) (permissions_at s row.allowed)) m.the_class m.shares);
         source =
             and_from (takes_source s row.never row.source) (takes_source s row.allowed row.source)
-            (if-at (λ r. is_held_in s.members.now r.source row.source) (slice_get (rules_in s) row.never) n m.never_at ∙ m.never_source)
-            (if-at (λ r. is_held_in s.members.now r.source row.source) (slice_get (rules_in s) row.allowed) m.allowed m.allowed_at ∙ m.allowed_source);
+            (if-at (λ r. is_held_in s.members r.source row.source) (slice_get (rules_in s) row.never) n m.never_at ∙ m.never_source)
+            (if-at (λ r. is_held_in s.members r.source row.source) (slice_get (rules_in s) row.allowed) m.allowed m.allowed_at ∙ m.allowed_source);
         target =
             and_from (takes_target s row.never row.source row.target) (takes_target s row.allowed row.source row.target)
-            (if-at (λ r. is_held_in s.members.now (aim_of r.target row.source) row.target) (slice_get (rules_in s) row.never) n m.never_at ∙ m.never_target)
-            (if-at (λ r. is_held_in s.members.now (aim_of r.target row.source) row.target) (slice_get (rules_in s) row.allowed) m.allowed m.allowed_at ∙ m.allowed_target);
+            (if-at (λ r. is_held_in s.members (aim_of r.target row.source) row.target) (slice_get (rules_in s) row.never) n m.never_at ∙ m.never_target)
+            (if-at (λ r. is_held_in s.members (aim_of r.target row.source) row.target) (slice_get (rules_in s) row.allowed) m.allowed m.allowed_at ∙ m.allowed_target);
       }
 
   -- the violation of rules by numbers
@@ -195,9 +191,9 @@ module _ {A : Type 0} (s : Search A) (is : IsSearch s) where
         let in_never = ((is.permissions.each row.never m.never m.never_at).same q).0 here in
         let in_allowed = ((is.permissions.each row.allowed m.allowed m.allowed_at).same q).0 also in
         and_from _ _
-        (covers-to r s.members.now hold m.never never_sound row.source row.target m.source_low m.target_low m.never_source m.never_target (name m.never.class) p refl
+        (covers-to r s.members is.members m.never never_sound row.source row.target m.source_low m.target_low m.never_source m.never_target (name m.never.class) p refl
         (subst (λ t. list_any (bytes_eq t) (map name m.never.permissions) ≡ true) (sym p_is) (listed-to name m.never.permissions q in_never)))
-        (covers-to r s.members.now hold m.allowed allowed_sound row.source row.target m.source_low m.target_low m.allowed_source m.allowed_target (name m.never.class) p classes
+        (covers-to r s.members is.members m.allowed allowed_sound row.source row.target m.source_low m.target_low m.allowed_source m.allowed_target (name m.never.class) p classes
         (subst (λ t. list_any (bytes_eq t) (map name m.allowed.permissions) ≡ true) (sym p_is) (listed-to name m.allowed.permissions q in_allowed)))
 
     uncovered : (p : List ℕ) → (covers (meaning_in s.resolved.now) (violation_of row m.never m.allowed).never (name_in s.resolved.now row.source) (name_in s.resolved.now row.target) (name_in s.resolved.now m.never.class) p
@@ -207,8 +203,8 @@ module _ {A : Type 0} (s : Search A) (is : IsSearch s) where
         let r = s.resolved.now in
         let name = name_in r in
         let parts = and_parts _ _ both in
-        let one = covers-from r s.members.now hold m.never never_sound row.source row.target m.source_low m.target_low (name m.never.class) p parts.0 in
-        let two = covers-from r s.members.now hold m.allowed allowed_sound row.source row.target m.source_low m.target_low (name m.never.class) p parts.1 in
+        let one = covers-from r s.members is.members m.never never_sound row.source row.target m.source_low m.target_low (name m.never.class) p parts.0 in
+        let two = covers-from r s.members is.members m.allowed allowed_sound row.source row.target m.source_low m.target_low (name m.never.class) p parts.1 in
         let (q, here, q_is) = listed-from name p m.never.permissions one.3 in
         let (k, there, k_is) = listed-from name p m.allowed.permissions two.3 in
         let same = same-number r.names.items q k r.ordered (permission-low m.never never_sound q here) (permission-low m.allowed allowed_sound k there) (sym q_is ∙ k_is) in
@@ -288,9 +284,9 @@ module _ {A : Type 0} (s : Search A) (is : IsSearch s) where
       let n_sound = rule-sound r i n n_at in
       let a_sound = rule-sound r j a a_at in
       let one =
-      covers-from r s.members.now hold n n_sound source target source_low target_low v.the_class p (subst (λ t. covers m (f n) t (name target) v.the_class p ≡ true) source_is (subst (λ t. covers m (f n) v.source t v.the_class p ≡ true) target_is n_covers)) in
+      covers-from r s.members is.members n n_sound source target source_low target_low v.the_class p (subst (λ t. covers m (f n) t (name target) v.the_class p ≡ true) source_is (subst (λ t. covers m (f n) v.source t v.the_class p ≡ true) target_is n_covers)) in
       let two =
-      covers-from r s.members.now hold a a_sound source target source_low target_low v.the_class p (subst (λ t. covers m (f a) t (name target) v.the_class p ≡ true) source_is (subst (λ t. covers m (f a) v.source t v.the_class p ≡ true) target_is a_covers)) in
+      covers-from r s.members is.members a a_sound source target source_low target_low v.the_class p (subst (λ t. covers m (f a) t (name target) v.the_class p ≡ true) source_is (subst (λ t. covers m (f a) v.source t v.the_class p ≡ true) target_is a_covers)) in
       let same_class = same-number r.names.items a.class n.class r.ordered a_sound.class_below n_sound.class_below (two.2 ∙ sym one.2) in
       let (q, here, q_is) = listed-from name p n.permissions one.3 in
       let (k, there, k_is) = listed-from name p a.permissions two.3 in

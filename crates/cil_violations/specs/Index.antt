@@ -4,7 +4,7 @@ use Rattle.cil_specs.specs.Rule.{kind_index}
 use Rattle.cil_text.specs.Image.{rule_kind_of}
 use Rattle.cil_resolve.specs.declared.numbered.NumberedRule.{NumberedRule}
 use Rattle.cil_resolve.specs.declared.resolved.Resolved.{Resolved}
-use Rattle.cil_sets.specs.Search.{NoneFrom, IsFirstFrom}
+use Rattle.cil_violations.specs.Search.{NoneFrom, IsFirstFrom}
 use Rattle.cil_violations.specs.declared.index.ClassIndex.{ClassIndex}
 
 -- whether there is something of which a test holds

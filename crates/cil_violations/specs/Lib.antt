@@ -1,3 +1,6 @@
+pub mod Search
+pub mod Held
+pub mod Shared
 pub mod Aims
 pub mod Permissions
 pub mod Index

@@ -1,11 +1,12 @@
 -- Violations by numbers.
-use Rattle.std.specs.Prelude.{◌&&◌, ◌==◌, ℕ, zero, suc, Bool, List, [], ◌∷◌, slice_get, slice_index_or, if◌then◌else◌}
+use Rattle.std.specs.Prelude.{◌&&◌, ◌==◌, ℕ, zero, suc, Bool, List, [], ◌∷◌, length, slice_get, slice_index_or, if◌then◌else◌}
 use Rattle.std.specs.List.{flat_map}
 use Rattle.cil_resolve.specs.declared.numbered.NumberedRule.{NumberedRule}
-use Rattle.cil_sets.specs.Members.{AreMembers}
+use Rattle.cil_member_rows.specs.Rows.{count_now}
+use Rattle.cil_rule_reach.specs.Named.{AreMembersBy}
 use Rattle.cil_violations.specs.Index.{if_there, is_kind, IsIndexOf}
 use Rattle.cil_violations.specs.Permissions.{AreOrdered, share}
-use Rattle.cil_sets.specs.TypeSets.{is_held_in}
+use Rattle.cil_violations.specs.Held.{is_held_in, symbols_in}
 use Rattle.cil_violations.specs.Aims.{aim_of}
 use Rattle.cil_violations.specs.declared.row.RowNumbers.{RowNumbers}
 use Rattle.cil_violations.specs.declared.search.Search.{Search}
@@ -41,6 +42,10 @@ pair_rows tests rules names never = flat_map (source_rows tests names never) (hi
 abbrev pub all_rows : Tests → ℕ → ℕ → List RowNumbers
 all_rows tests rules names = flat_map (pair_rows tests rules names) (hits tests.never 0 rules)
 
+-- how many names the policy has
+abbrev pub names_in : {A : Type 0} → Search A → ℕ
+names_in s = length s.resolved.now.names.items
+
 abbrev pub rules_in : {A : Type 0} → Search A → List (NumberedRule A)
 rules_in s = s.resolved.now.rules.items
 
@@ -49,10 +54,10 @@ abbrev pub permissions_at : {A : Type 0} → Search A → ℕ → List ℕ
 permissions_at s i = slice_index_or s.permissions.now.0 i []
 
 abbrev pub takes_source : {A : Type 0} → Search A → ℕ → ℕ → Bool
-takes_source s i source = if_there (λ r. is_held_in s.members.now r.source source) (slice_get (rules_in s) i)
+takes_source s i source = if_there (λ r. is_held_in s.members r.source source) (slice_get (rules_in s) i)
 
 abbrev pub takes_target : {A : Type 0} → Search A → ℕ → ℕ → ℕ → Bool
-takes_target s i source target = if_there (λ r. is_held_in s.members.now (aim_of r.target source) target) (slice_get (rules_in s) i)
+takes_target s i source target = if_there (λ r. is_held_in s.members (aim_of r.target source) target) (slice_get (rules_in s) i)
 
 abbrev pub tests_of : {A : Type 0} → Search A → Tests
 tests_of s = record {
@@ -64,6 +69,6 @@ tests_of s = record {
 
 -- the members, the permissions and the index are those of the policy
 pub record IsSearch {A : Type 0} (s : Search A) : Type 0 where
-  pub members : AreMembers s.resolved.now s.members.now
+  pub members : AreMembersBy s.resolved.now (symbols_in s.members) (count_now s.members.rows.now)
   pub permissions : AreOrdered (rules_in s) s.permissions.now.0
   pub index : IsIndexOf s.resolved.now s.index.now

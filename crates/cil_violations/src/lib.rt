@@ -3,6 +3,7 @@
 
 mod index;
 mod line;
+mod members;
 mod permissions;
 mod row;
 mod search;

@@ -9,13 +9,20 @@ use cil_parse::Lists;
 use cil_resolve::NumberedRule;
 use std::alloc::{AllocError, Allocator};
 
+/// Puts numbers in order, each once. It takes no memory.
+pub fn put_in_order<A: Allocator>(numbers: &mut Vec<usize, A>)
+    ensures { IsOrdered numbers.old.items numbers.new.items }
+{
+    numbers.sort_unstable();
+    numbers.dedup();
+}
+
 /// Some numbers in order, each once.
 fn ordered<A: Allocator + Copy>(alloc: A, numbers: &[usize]) -> Result<Vec<usize, A>, AllocError>
     ensures { IfOk result (λ v. IsOrdered numbers.now v.items) }
 {
     let mut ordered = Vec::from_slice(alloc, numbers)?;
-    ordered.sort_unstable();
-    ordered.dedup();
+    put_in_order(&mut ordered);
     Ok(ordered)
 }
 

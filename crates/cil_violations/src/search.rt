@@ -1,28 +1,29 @@
 //! Looks for violations: pairs of rules of one class first, then the types that they have in common.
 
-ghost use Rattle.std.specs.Prelude.{◌≡◌, ◌+◌, ◌++◌, ◌<◌, length, MatchOption, OnOk};
-ghost use Rattle.cil_sets.specs.Search.{NoneFrom, IsFirstFrom};
+ghost use Rattle.std.specs.Prelude.{◌≡◌, ◌+◌, ◌++◌, ◌∷◌, [], ◌<◌, ℕ, length, slice_get, Some, IfOk, OnOk};
+ghost use Rattle.std.specs.List.{flat_map};
 ghost use Rattle.cil_violations.specs.Aims.{aim_of};
 ghost use Rattle.cil_violations.specs.Index.{is_met, IsNext};
 ghost use Rattle.cil_violations.specs.Permissions.{share};
-ghost use Rattle.cil_violations.specs.Rows.{tests_of, rules_in, permissions_at, IsSearch, target_rows, source_rows, pair_rows, all_rows};
+ghost use Rattle.cil_violations.specs.Rows.{hits, names_in, row_with, tests_of, rules_in, permissions_at, IsSearch, source_rows, pair_rows, all_rows};
 
 use crate::index::ClassIndex;
+use crate::members::Members;
 use crate::permissions::share;
 use crate::row::RowNumbers;
-use crate::shared::next_shared;
+use crate::shared::shared;
 use cil_parse::Lists;
-use cil_resolve::{Element, Resolved, ResolvedTarget};
-use cil_sets::Members;
+use cil_resolve::{Element, NumberedRule, Resolved, ResolvedTarget};
 use cil_text::RuleKind;
 use std::alloc::{AllocError, Allocator, Global};
 
 /// What violations are looked for in: a policy, the members of its attributes, the permissions of each rule in order, and the allow rules
-/// of each class.
+/// of each class. Lists of the types that two rules have in common are made by the allocator.
 #[derive(Clone, Copy)]
 pub struct Search<'r, A: Allocator = Global> {
+    pub alloc: A,
     pub resolved: &'r Resolved<A>,
-    pub members: &'r Members<A>,
+    pub members: Members<'r, A>,
     pub permissions: &'r Lists<usize, A>,
     pub index: &'r ClassIndex<A>,
 }
@@ -37,7 +38,36 @@ fn aim(target: ResolvedTarget, source: usize) -> Element
     }
 }
 
-impl<A: Allocator> Search<'_, A> {
+/// Appends the violations of two rules with a source and some targets.
+fn push_rows<A: Allocator>(
+    rows: &mut Vec<RowNumbers, A>,
+    never: usize,
+    allowed: usize,
+    source: usize,
+    targets: &[usize],
+) -> Result<(), AllocError>
+    ensures { OnOk result (rows.new.items ≡ rows.old.items ++ flat_map (λ target. row_with never allowed source target ∷ []) targets.now) }
+{
+    for target in targets {
+        rows.push(RowNumbers {
+            never,
+            allowed,
+            source,
+            target: *target,
+        })?;
+    }
+    Ok(())
+}
+
+impl<A: Allocator + Copy> Search<'_, A> {
+    /// The rule at a place.
+    fn rule(&self, place: usize) -> &NumberedRule<A>
+        requires { place < length (rules_in self.now) }
+        ensures { slice_get (rules_in self.now) place ≡ Some result.now }
+    {
+        &self.resolved.rules()[place]
+    }
+
     /// Whether the rule at a place is a neverallow rule.
     fn is_never(&self, never: usize) -> bool
         requires { never < length (rules_in self.now) }
@@ -88,62 +118,79 @@ impl<A: Allocator> Search<'_, A> {
             && self.share_permission(never, allowed)
     }
 
-    /// The first type from a number on that is in the sources of both rules.
-    fn next_source(&self, never: usize, allowed: usize, from: usize) -> Option<usize>
+    /// The types that are in the sources of both rules, in order.
+    fn sources(&self, never: usize, allowed: usize) -> Result<Vec<usize, A>, AllocError>
+        requires search { IsSearch self.now }
         requires never { never < length (rules_in self.now) }
         requires allowed { allowed < length (rules_in self.now) }
-        ensures { MatchOption result (NoneFrom ((tests_of self.now).source never allowed) from) (IsFirstFrom ((tests_of self.now).source never allowed) from) }
+        ensures { IfOk result (λ list. list.items ≡ hits ((tests_of self.now).source never allowed) 0 (names_in self.now)) }
     {
-        let rules = self.resolved.rules();
-        next_shared(
-            self.members,
-            rules[never].source,
-            rules[allowed].source,
-            from,
-        )
+        let first = self.rule(never).source;
+        let second = self.rule(allowed).source;
+        shared(self.alloc, &self.members, first, second)
     }
 
-    /// The first type from a number on that both rules take in as a target of a source.
-    fn next_target(&self, never: usize, allowed: usize, source: usize, from: usize) -> Option<usize>
+    /// The types that both rules take in as targets of a source, in order.
+    fn targets(
+        &self,
+        never: usize,
+        allowed: usize,
+        source: usize,
+    ) -> Result<Vec<usize, A>, AllocError>
+        requires search { IsSearch self.now }
         requires never { never < length (rules_in self.now) }
         requires allowed { allowed < length (rules_in self.now) }
-        ensures { MatchOption result (NoneFrom ((tests_of self.now).target never allowed source) from) (IsFirstFrom ((tests_of self.now).target never allowed source) from) }
+        requires source { source < names_in self.now }
+        ensures { IfOk result (λ list. list.items ≡ hits ((tests_of self.now).target never allowed source) 0 (names_in self.now)) }
     {
-        let rules = self.resolved.rules();
-        let first = aim(rules[never].target, source);
-        let second = aim(rules[allowed].target, source);
-        next_shared(self.members, first, second, from)
+        let first = aim(self.rule(never).target, source);
+        let second = aim(self.rule(allowed).target, source);
+        shared(self.alloc, &self.members, first, second)
     }
 
-    /// Appends the violations of two rules with a source.
-    fn push_targets(
+    /// Appends the violations of two rules that take in the same targets for each source.
+    fn push_with_targets(
         &self,
         rows: &mut Vec<RowNumbers, A>,
         never: usize,
         allowed: usize,
-        source: usize,
+        targets: &[usize],
     ) -> Result<(), AllocError>
         requires search { IsSearch self.now }
         requires never { never < length (rules_in self.now) }
         requires allowed { allowed < length (rules_in self.now) }
-        requires source { source < length self.now.resolved.now.names.items }
-        ensures { OnOk result (rows.new.items ≡ rows.old.items ++ target_rows (tests_of self.now) (length self.now.resolved.now.names.items) never allowed source) }
+        requires targets { (source : ℕ) → targets.now ≡ hits ((tests_of self.now).target never allowed source) 0 (names_in self.now) }
+        ensures { OnOk result (rows.new.items ≡ rows.old.items ++ source_rows (tests_of self.now) (names_in self.now) never allowed) }
     {
-        self.resolved.names_len();
-        let mut from = 0;
-        while let Some(target) = self.next_target(never, allowed, source, from) {
-            rows.push(RowNumbers {
-                never,
-                allowed,
-                source,
-                target,
-            })?;
-            from = target + 1;
+        if targets.is_empty() {
+            return Ok(());
+        }
+        for source in &self.sources(never, allowed)? {
+            push_rows(rows, never, allowed, *source, targets)?;
         }
         Ok(())
     }
 
-    /// Appends the violations of two rules.
+    /// Appends the violations of two rules of which one takes in each source itself.
+    fn push_by_source(
+        &self,
+        rows: &mut Vec<RowNumbers, A>,
+        never: usize,
+        allowed: usize,
+    ) -> Result<(), AllocError>
+        requires search { IsSearch self.now }
+        requires never { never < length (rules_in self.now) }
+        requires allowed { allowed < length (rules_in self.now) }
+        ensures { OnOk result (rows.new.items ≡ rows.old.items ++ source_rows (tests_of self.now) (names_in self.now) never allowed) }
+    {
+        for source in &self.sources(never, allowed)? {
+            let targets = self.targets(never, allowed, *source)?;
+            push_rows(rows, never, allowed, *source, &targets)?;
+        }
+        Ok(())
+    }
+
+    /// Appends the violations of two rules. Most have no source in common, or no target: then it takes no memory.
     fn push_sources(
         &self,
         rows: &mut Vec<RowNumbers, A>,
@@ -153,22 +200,30 @@ impl<A: Allocator> Search<'_, A> {
         requires search { IsSearch self.now }
         requires never { never < length (rules_in self.now) }
         requires allowed { allowed < length (rules_in self.now) }
-        ensures { OnOk result (rows.new.items ≡ rows.old.items ++ source_rows (tests_of self.now) (length self.now.resolved.now.names.items) never allowed) }
+        ensures { OnOk result (rows.new.items ≡ rows.old.items ++ source_rows (tests_of self.now) (names_in self.now) never allowed) }
     {
-        self.resolved.names_len();
-        let mut from = 0;
-        while let Some(source) = self.next_source(never, allowed, from) {
-            self.push_targets(rows, never, allowed, source)?;
-            from = source + 1;
+        let first = self.rule(never);
+        let second = self.rule(allowed);
+        let word = self
+            .members
+            .next_shared_word(first.source, second.source, 0);
+        if word.is_none() {
+            return Ok(());
         }
-        Ok(())
+        match (first.target, second.target) {
+            (ResolvedTarget::Element(first), ResolvedTarget::Element(second)) => {
+                let targets = shared(self.alloc, &self.members, first, second)?;
+                self.push_with_targets(rows, never, allowed, &targets)
+            }
+            _ => self.push_by_source(rows, never, allowed),
+        }
     }
 
     /// Appends the violations of a neverallow rule. It meets the allow rules of its class alone.
     fn push_pairs(&self, rows: &mut Vec<RowNumbers, A>, never: usize) -> Result<(), AllocError>
         requires search { IsSearch self.now }
         requires never { never < length (rules_in self.now) }
-        ensures { OnOk result (rows.new.items ≡ rows.old.items ++ pair_rows (tests_of self.now) (length (rules_in self.now)) (length self.now.resolved.now.names.items) never) }
+        ensures { OnOk result (rows.new.items ≡ rows.old.items ++ pair_rows (tests_of self.now) (length (rules_in self.now)) (names_in self.now) never) }
     {
         let mut next = self.first_of_class(never);
         while let Some(allowed) = next {
@@ -183,7 +238,7 @@ impl<A: Allocator> Search<'_, A> {
     /// Appends all violations.
     pub fn push_all(&self, rows: &mut Vec<RowNumbers, A>) -> Result<(), AllocError>
         requires { IsSearch self.now }
-        ensures { OnOk result (rows.new.items ≡ rows.old.items ++ all_rows (tests_of self.now) (length (rules_in self.now)) (length self.now.resolved.now.names.items)) }
+        ensures { OnOk result (rows.new.items ≡ rows.old.items ++ all_rows (tests_of self.now) (length (rules_in self.now)) (names_in self.now)) }
     {
         for never in 0..self.resolved.rules_len() {
             if self.is_never(never) {

@@ -5,21 +5,25 @@ ghost use Rattle.std.specs.List.{flat_map};
 ghost use Rattle.std.specs.Rc.{rc_value};
 ghost use Rattle.cil_stream.specs.Device.{HasFailed, Gains, GainsFront};
 ghost use Rattle.cil_resolve.specs.Resolved.{meaning_in};
-ghost use Rattle.cil_sets.specs.Members.{AreMembers};
+ghost use Rattle.cil_member_rows.specs.Rows.{count_now};
+ghost use Rattle.cil_rule_reach.specs.Named.{AreMembersBy};
 ghost use Rattle.cil_specs.specs.Violations.{AreViolations, violation_line, violations_text};
+ghost use Rattle.cil_violations.specs.Held.{symbols_in};
 ghost use Rattle.cil_violations.specs.Lines.{line_by, violation_by, AreRows};
 ghost use Rattle.cil_violations.specs.Views.{violation_seen, violation_head};
 
 use crate::index::ClassIndex;
 use crate::line::write_line;
+use crate::members::Members;
 use crate::permissions::ordered_permissions;
 use crate::row::RowNumbers;
 use crate::search::Search;
 use crate::violation::Violation;
+use cil_member_rows::MemberRows;
 use cil_parse::Lists;
 use cil_resolve::{Resolved, resolved_rules_are_in_order};
-use cil_sets::Members;
 use cil_stream::{Sink, SinkFault};
+use cil_symbols::Numbering;
 use std::alloc::{AllocError, Allocator, Global};
 use std::marker::Model;
 use std::rc::Rc;
@@ -77,9 +81,9 @@ struct Found<A: Allocator> {
 fn find<A: Allocator + Copy>(
     alloc: A,
     resolved: &Resolved<A>,
-    members: &Members<A>,
+    members: Members<'_, A>,
 ) -> Result<Found<A>, AllocError>
-    requires { AreMembers resolved.now members.now }
+    requires { AreMembersBy resolved.now (symbols_in members) (count_now members.rows.now) }
     ensures rows { IfOk result (λ found. AreRows resolved.now found.permissions.0 found.rows.items) }
     ensures violations { IfOk result (λ found. AreViolations (meaning_in resolved.now) (map (violation_by resolved.now found.permissions.0) found.rows.items)) }
 {
@@ -88,6 +92,7 @@ fn find<A: Allocator + Copy>(
     let index = ClassIndex::of(alloc, resolved)?;
     let mut rows = Vec::new(alloc);
     let search = Search {
+        alloc,
         resolved,
         members,
         permissions: &permissions,
@@ -98,16 +103,19 @@ fn find<A: Allocator + Copy>(
 }
 
 impl<A: Allocator + Copy> Violations<A> {
-    /// The violations of a policy. An out of memory stands also where no more owners of the policy can be counted.
+    /// The violations of a policy whose names have these symbols, and whose members the rows count by them. Lists
+    /// of types are made only for pairs of rules with a violation. An out of memory stands also where no more
+    /// owners of the policy can be counted.
     pub fn of(
         alloc: A,
         resolved: &Rc<Resolved<A>, A>,
-        members: &Members<A>,
+        numbering: &Numbering<A>,
+        rows: &MemberRows<A>,
     ) -> Result<Self, AllocError>
-        requires { AreMembers (rc_value resolved.now) members.now }
+        requires { AreMembersBy (rc_value resolved.now) numbering.now.symbols (count_now rows.now) }
         ensures { IfOk result (AreViolations (meaning_in (rc_value resolved.now))) }
     {
-        let found = find(alloc, resolved, members)?;
+        let found = find(alloc, resolved, Members { rows, numbering })?;
         Ok(Violations {
             resolved: resolved.clone()?,
             permissions: found.permissions,

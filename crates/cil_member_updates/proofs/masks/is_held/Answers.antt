@@ -1,8 +1,8 @@
 use Rattle.std.proofs.Common.{◌≡◌, ◌∙◌, ℕ, Some, get_or, nat_lt, of_calls, rules, slice_get, sym}
 use Rattle.cil_resolve.specs.Resolved.{meaning_in}
 use Rattle.cil_resolve.specs.Sets.{name_in}
-use Rattle.cil_sets.specs.Places.{set_at}
-use Rattle.cil_sets.proofs.KeptLemmas.{set-there}
+use Rattle.cil_member_updates.specs.Places.{set_at}
+use Rattle.cil_member_updates.proofs.PlaceLemmas.{set-there}
 use Rattle.cil_member_updates.specs.Policy.{counts_at}
 use Rattle.cil_member_updates.proofs.NameLemmas.{holds-named, keeps-name, keeps-named}
 use Rattle.cil_member_updates.proofs.SymbolLemmas.{number-some, symbol-name, symbol-some, symbol-within}

@@ -4,7 +4,7 @@ use Rattle.std.proofs.lemmas.Bool.{eq-eqb, ne_eqb}
 use Rattle.std.proofs.lemmas.Nat.Bits.{shr_and_one}
 use Rattle.cil_resolve.specs.Meter.{adjustments_in, evaluations_in}
 use Rattle.cil_resolve.specs.Resolved.{meaning_in}
-use Rattle.cil_sets.specs.Places.{set_at}
+use Rattle.cil_member_updates.specs.Places.{set_at}
 use Rattle.cil_sums.specs.Rises.{up_to, RisesBy}
 use Rattle.cil_sums.proofs.RiseLemmas.{rises-same}
 use Rattle.cil_sums.proofs.WithinLemmas.{up_to-add, up_to-skip}

@@ -2,7 +2,7 @@ use Rattle.std.proofs.Common.{◌≡◌, ◌==◌}
 use Rattle.std.specs.Int.{bit_at}
 use Rattle.cil_resolve.specs.Meter.{adjustments_in, evaluations_in}
 use Rattle.cil_resolve.specs.Resolved.{meaning_in}
-use Rattle.cil_sets.specs.Places.{set_at}
+use Rattle.cil_member_updates.specs.Places.{set_at}
 use Rattle.cil_sums.specs.Rises.{up_to, RisesBy}
 use Rattle.cil_member_updates.specs.Given.{holds}
 use Rattle.cil_member_updates.proofs.BitLemmas.{HeldBelow}

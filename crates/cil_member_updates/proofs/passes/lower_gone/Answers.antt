@@ -2,7 +2,7 @@ use Rattle.std.proofs.Common.{◌≡◌, ◌∙◌, length, refl, ap, subst, ari
 use Rattle.cil_member_rows.specs.Rows.{count_before, count_now}
 use Rattle.cil_resolve.specs.Meter.{evaluations_in}
 use Rattle.cil_resolve.specs.Sets.{sets_in}
-use Rattle.cil_sets.specs.Places.{set_at}
+use Rattle.cil_member_updates.specs.Places.{set_at}
 use Rattle.cil_sums.specs.Sums.{sum_below}
 use Rattle.cil_sums.proofs.SumLemmas.{sum-none}
 use Rattle.cil_sums.proofs.WithinLemmas.{within-first, within-next}

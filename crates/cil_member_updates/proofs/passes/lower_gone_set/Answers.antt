@@ -4,7 +4,7 @@ use Rattle.std.proofs.lemmas.Result.{on_ok_weaker}
 use Rattle.cil_member_rows.specs.Rows.{count_now}
 use Rattle.cil_resolve.specs.Meter.{evaluations_in}
 use Rattle.cil_resolve.specs.Resolved.{meaning_in}
-use Rattle.cil_sets.specs.Places.{set_at}
+use Rattle.cil_member_updates.specs.Places.{set_at}
 use Rattle.cil_sums.proofs.SumLemmas.{alone-none, alone-some}
 use Rattle.cil_sums.proofs.WithinLemmas.{within-none, within-weaker}
 use Rattle.cil_member_updates.specs.Evaluated.{Goes, IsHeld, IsKept, MayGo}

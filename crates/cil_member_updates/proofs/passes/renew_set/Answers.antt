@@ -5,7 +5,7 @@ use Rattle.cil_member_rows.specs.Rows.{count_before, count_now}
 use Rattle.cil_resolve.specs.Meter.{evaluations_in}
 use Rattle.cil_resolve.specs.Resolved.{meaning_in}
 use Rattle.cil_resolve.specs.Sets.{sets_in}
-use Rattle.cil_sets.specs.Places.{no_set, set_at}
+use Rattle.cil_member_updates.specs.Places.{no_set, set_at}
 use Rattle.cil_sums.proofs.SumLemmas.{across-none, across-some}
 use Rattle.cil_sums.proofs.WithinLemmas.{within-weaker}
 use Rattle.cil_member_updates.specs.Evaluated.{Comes, IsHeld, IsKept, IsMovedAt, IsUnsettled, MayTurn}

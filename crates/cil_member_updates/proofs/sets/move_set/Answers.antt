@@ -3,7 +3,7 @@ use Rattle.std.proofs.lemmas.Bool.{cases_lt}
 use Rattle.cil_member_rows.specs.Rows.{count_before, count_now}
 use Rattle.cil_resolve.specs.Meter.{evaluations_in}
 use Rattle.cil_resolve.specs.Resolved.{meaning_in}
-use Rattle.cil_sets.specs.Places.{set_at}
+use Rattle.cil_member_updates.specs.Places.{set_at}
 use Rattle.cil_member_updates.specs.Evaluated.{IsMovedAt, IsUnsettled}
 use Rattle.cil_member_updates.specs.Policy.{given}
 use Rattle.cil_member_updates.proofs.EvaluatedLemmas.{moved-within, words-all, words-from, words-next}

@@ -2,7 +2,7 @@ use Rattle.std.proofs.Common.{◌∙◌, refl, sym, arith}
 use Rattle.cil_member_rows.specs.Rows.{count_now}
 use Rattle.cil_resolve.specs.Meter.{evaluations_in}
 use Rattle.cil_resolve.specs.Resolved.{meaning_in}
-use Rattle.cil_sets.specs.Places.{set_at}
+use Rattle.cil_member_updates.specs.Places.{set_at}
 use Rattle.cil_member_updates.specs.Evaluated.{IsHeld, IsKept}
 use Rattle.cil_member_updates.specs.Moved.{nothing}
 use Rattle.cil_member_updates.specs.Policy.{given}

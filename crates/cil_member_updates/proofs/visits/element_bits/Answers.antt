@@ -3,7 +3,7 @@ use Rattle.cil_specs.specs.Expr.{leaves}
 use Rattle.cil_resolve.specs.Numbers.{element_of}
 use Rattle.cil_resolve.specs.Resolved.{meaning_in}
 use Rattle.cil_resolve.specs.Sets.{name_in}
-use Rattle.cil_sets.specs.Places.{set_at}
+use Rattle.cil_member_updates.specs.Places.{set_at}
 use Rattle.cil_member_updates.specs.Bits.{Cover}
 use Rattle.cil_member_updates.specs.Given.{element_holds}
 use Rattle.cil_member_updates.specs.Policy.{counts_at}

@@ -2,8 +2,8 @@ use Rattle.std.proofs.Common.{get_or, subst, arith}
 use Rattle.cil_expression.specs.declared.expression.Element.TheVariants.{«Type»}
 use Rattle.cil_resolve.specs.Numbers.{element_of}
 use Rattle.cil_resolve.specs.Resolved.{meaning_in}
-use Rattle.cil_sets.specs.Places.{set_at}
-use Rattle.cil_sets.proofs.KeptLemmas.{set-there}
+use Rattle.cil_member_updates.specs.Places.{set_at}
+use Rattle.cil_member_updates.proofs.PlaceLemmas.{set-there}
 use Rattle.cil_specs.specs.Expr.{leaves}
 use Rattle.cil_member_updates.specs.Bits.{Cover}
 use Rattle.cil_member_updates.specs.Given.{element_holds}

@@ -1,7 +1,7 @@
 use Rattle.std.proofs.Common.{◌∙◌, sym, subst}
 use Rattle.cil_resolve.specs.Resolved.{meaning_in}
-use Rattle.cil_sets.specs.Places.{set_at}
-use Rattle.cil_sets.proofs.KeptLemmas.{set-there}
+use Rattle.cil_member_updates.specs.Places.{set_at}
+use Rattle.cil_member_updates.proofs.PlaceLemmas.{set-there}
 use Rattle.cil_member_updates.specs.Bits.{AreBits}
 use Rattle.cil_member_updates.specs.Given.{keeps}
 use Rattle.cil_member_updates.proofs.NameLemmas.{cover-kept, cover-reach}

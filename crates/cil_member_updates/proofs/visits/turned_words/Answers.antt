@@ -6,7 +6,7 @@ use Rattle.cil_specs.specs.Sets.{mentions}
 use Rattle.cil_member_rows.specs.Rows.{count_before, count_now}
 use Rattle.cil_resolve.specs.Resolved.{meaning_in}
 use Rattle.cil_resolve.specs.Sets.{sets_in}
-use Rattle.cil_sets.specs.Places.{no_set, set_at}
+use Rattle.cil_member_updates.specs.Places.{no_set, set_at}
 use Rattle.cil_member_updates.proofs.NameLemmas.{cover-stayed, mention-there}
 use Rattle.cil_member_updates.proofs.RenewLemmas.{same-expr}
 use Rattle.cil_member_updates.proofs.SymbolLemmas.{symbol-of}

@@ -1,6 +1,6 @@
 use Rattle.std.proofs.Common.{subst}
 use Rattle.cil_resolve.specs.Resolved.{meaning_in}
-use Rattle.cil_sets.specs.Places.{set_at}
+use Rattle.cil_member_updates.specs.Places.{set_at}
 use Rattle.cil_specs.specs.Sets.{differ}
 use Rattle.cil_member_updates.specs.Bits.{Cover}
 use Rattle.cil_member_updates.specs.Evaluated.{AreUnsettledAt}

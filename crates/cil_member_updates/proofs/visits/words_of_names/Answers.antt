@@ -3,8 +3,8 @@ use Rattle.cil_expression.specs.declared.expression.Element.TheVariants.{Â«TypeÂ
 use Rattle.cil_member_rows.specs.Rows.{count_before, count_now}
 use Rattle.cil_member_rows.specs.Words.{IsOutside}
 use Rattle.cil_resolve.specs.Numbers.{element_of}
-use Rattle.cil_sets.specs.Places.{set_at}
-use Rattle.cil_sets.proofs.KeptLemmas.{set-there}
+use Rattle.cil_member_updates.specs.Places.{set_at}
+use Rattle.cil_member_updates.proofs.PlaceLemmas.{set-there}
 use Rattle.cil_specs.specs.Expr.{leaves}
 use Rattle.cil_member_updates.specs.Given.{IsUnchanged}
 use Rattle.cil_member_updates.proofs.SymbolLemmas.{place-of}

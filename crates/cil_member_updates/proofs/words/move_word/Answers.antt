@@ -4,7 +4,7 @@ use Rattle.std.proofs.lemmas.Result.{on_ok_weaker}
 use Rattle.cil_member_rows.specs.Rows.{count_now}
 use Rattle.cil_resolve.specs.Meter.{evaluations_in}
 use Rattle.cil_resolve.specs.Resolved.{meaning_in}
-use Rattle.cil_sets.specs.Places.{set_at}
+use Rattle.cil_member_updates.specs.Places.{set_at}
 use Rattle.cil_specs.specs.Sets.{differ}
 use Rattle.cil_member_updates.specs.Evaluated.{IsUnsettled}
 use Rattle.cil_member_updates.specs.Given.{holds, keeps}

@@ -2,7 +2,7 @@ use Rattle.std.proofs.Common.{◌∙◌, ◌+◌, ◌/◌, get_or, arith}
 use Rattle.std.proofs.lemmas.List.{length-set}
 use Rattle.std.proofs.lemmas.Option.{slice_get_within}
 use Rattle.cil_resolve.specs.Resolved.{meaning_in}
-use Rattle.cil_sets.specs.Places.{no_declared}
+use Rattle.cil_member_updates.specs.Places.{no_declared}
 use Rattle.cil_member_updates.proofs.KeptLemmas.{among-none, among-next, among-all}
 use Rattle.cil_member_updates.proofs.kept.KeptTypes.of.Goals as goal
 

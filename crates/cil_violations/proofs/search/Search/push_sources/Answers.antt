@@ -1,43 +1,33 @@
-use Rattle.std.proofs.Common.{◌∙◌, ◌-◌, ◌+◌, ◌++◌, length, flat_map, ap, arith}
-use Rattle.cil_violations.specs.Rows.{hits, tests_of, target_rows}
-use Rattle.cil_violations.proofs.HitLemmas.{hits-next, hits-none, done-more, done-all}
-use Rattle.cil_violations.proofs.TestLemmas.{source-below}
+use Rattle.std.proofs.Common.{◌∙◌, ◌++◌, append-nil, ap, sym}
+use Rattle.cil_violations.proofs.HeldLemmas.{short}
+use Rattle.cil_violations.proofs.PairLemmas.{element-known, no-sources, same-targets, source-known}
 use Rattle.cil_violations.proofs.search.Search.push_sources.Goals as goal
 
-pub push_targets-requires-clause-source : goal.push_targets-requires-clause-source
-push_targets-requires-clause-source g c = source-below c.args.self.now c.requires.search c.args.never c.args.allowed c.in-Some.source c.in-Some.ensures.holds
+pub next_shared_word-word-requires-clause-short : goal.next_shared_word-word-requires-clause-short
+next_shared_word-word-requires-clause-short g c = short c.args.self.now.resolved.now c.args.self.now.members c.requires.search.members
 
-pub overflow_add-from : goal.overflow_add-from
-overflow_add-from g c =
-    let low = source-below c.args.self.now c.requires.search c.args.never c.args.allowed c.in-Some.source c.in-Some.ensures.holds in
-    let long = c.names_len.ensures in
-    omega (arith, low, long)
+pub next_shared_word-word-requires-clause-first : goal.next_shared_word-word-requires-clause-first
+next_shared_word-word-requires-clause-first g c = source-known c.args.self.now c.requires.search c.args.never c.rule-first.result.now c.rule-first.ensures
 
-pub loop-source-smaller : goal.loop-source-smaller
-loop-source-smaller g c =
-    let low = source-below c.args.self.now c.requires.search c.args.never c.args.allowed c.in-Some.source c.in-Some.ensures.holds in
-    let on = c.in-Some.ensures.from_on in
-    omega (arith, low, on)
+pub next_shared_word-word-requires-clause-second : goal.next_shared_word-word-requires-clause-second
+next_shared_word-word-requires-clause-second g c = source-known c.args.self.now c.requires.search c.args.allowed c.rule-second.result.now c.rule-second.ensures
 
-pub loop-source-preserved : goal.loop-source-preserved
-loop-source-preserved g c =
-    let s = c.args.self.now in
-    let n = length s.resolved.now.names.items in
-    let test = (tests_of s).source c.args.never c.args.allowed in
-    let source = c.in-Some.source in
-    let low = source-below s c.requires.search c.args.never c.args.allowed source c.in-Some.ensures.holds in
-    record {
-      within = omega (arith, low);
-      so_far =
-          ap (λ l. l ++ flat_map (target_rows (tests_of s) n c.args.never c.args.allowed) (hits test (source + 1) (n - (source + 1)))) c.in_ok-push_targets.ensures
-          ∙ done-more (target_rows (tests_of s) n c.args.never c.args.allowed) _ c.loop-source.rows.items source (hits test c.loop-source.from (n - c.loop-source.from)) (hits test (source + 1) (n - (source + 1)))
-          (hits-next test n c.loop-source.from source c.loop-source.invariant.within c.in-Some.ensures low) c.loop-source.invariant.so_far;
-    }
+pub returns-then-is_none : goal.returns-then-is_none
+returns-then-is_none g c =
+    sym (ap (λ l. c.args.rows.now.items ++ l) (no-sources c.args.self.now c.requires.search c.args.never c.args.allowed c.rule-first.result.now c.rule-second.result.now c.rule-first.ensures c.rule-second.ensures c.next_shared_word-word.result c.if-is_none.ensures c.next_shared_word-word.ensures) ∙ append-nil c.args.rows.now.items)
 
-pub returns : goal.returns
-returns g c =
-    let s = c.args.self.now in
-    let n = length s.resolved.now.names.items in
-    let test = (tests_of s).source c.args.never c.args.allowed in
-    done-all (target_rows (tests_of s) n c.args.never c.args.allowed) _ c.loop-source.rows.items (hits test c.loop-source.from (n - c.loop-source.from))
-    (hits-none test (n - c.loop-source.from) c.loop-source.from c.in_default.ensures) c.loop-source.invariant.so_far
+pub shared-requires-clause-short : goal.shared-requires-clause-short
+shared-requires-clause-short g c = short c.args.self.now.resolved.now c.args.self.now.members c.requires.search.members
+
+pub shared-requires-clause-first : goal.shared-requires-clause-first
+shared-requires-clause-first g c = element-known c.args.self.now c.requires.search c.args.never c.rule-first.result.now c.rule-first.ensures c.in-Element-Element.first c.in-Element-Element.is-0
+
+pub shared-requires-clause-second : goal.shared-requires-clause-second
+shared-requires-clause-second g c = element-known c.args.self.now c.requires.search c.args.allowed c.rule-second.result.now c.rule-second.ensures c.in-Element-Element.second c.in-Element-Element.is-1
+
+pub push_with_targets-requires-clause-targets : goal.push_with_targets-requires-clause-targets
+push_with_targets-requires-clause-targets g c =
+    λ source.
+    c.deref.ensures.value ∙ c.in_ok-targets-in-Element-Element.ensures
+    ∙ same-targets c.args.self.now c.requires.search c.args.never c.args.allowed c.rule-first.result.now c.rule-second.result.now c.rule-first.ensures c.rule-second.ensures c.in-Element-Element.first c.in-Element-Element.second
+    c.in-Element-Element.is-0 c.in-Element-Element.is-1 source
