@@ -19,8 +19,8 @@ use Rattle.cil_resolve.specs.Consistent.{is_consistent}
 use Rattle.cil_resolve.specs.Resolved.{meaning_in}
 use Rattle.cil_resolve.specs.Sets.{sets_in}
 use Rattle.cil_resolve.specs.declared.resolved.Resolved.{Resolved}
-use Rattle.cil_sets.specs.Counts.{gives_member}
-use Rattle.cil_sets.proofs.CountLemmas.{counted-member}
+use Rattle.cil_member_updates.specs.Counts.{gives_member}
+use Rattle.cil_member_updates.proofs.CountLemmas.{counted-member}
 use Rattle.cil_member_updates.specs.Given.{gives, holds, is_of, of_name}
 use Rattle.cil_member_updates.specs.Policy.{AreCounts}
 use Rattle.cil_member_updates.proofs.GrowthLemmas.{count-more, numbers-more}

@@ -21,7 +21,7 @@ use Rattle.cil_resolve.specs.Consistent.{is_consistent}
 use Rattle.cil_resolve.specs.Resolved.{meaning_in}
 use Rattle.cil_resolve.specs.Sets.{sets_in}
 use Rattle.cil_resolve.specs.declared.resolved.Resolved.{Resolved}
-use Rattle.cil_sets.specs.Counts.{one_if}
+use Rattle.cil_member_updates.specs.Counts.{one_if}
 use Rattle.cil_symbols.proofs.NameLemmas.{found-name}
 use Rattle.cil_member_updates.specs.Given.{gives, holds, is_of, keeps, of_name}
 use Rattle.cil_member_updates.specs.Policy.{AreCounts, AreKept}

@@ -4,8 +4,8 @@ pub mod ToldLemmas
 pub mod ChangedLemmas
 pub mod FoundLemmas
 pub mod TableLemmas
-pub mod MemberLemmas
 pub mod KeptLemmas
 pub mod ChangeCountLemmas
 pub mod BoundLemmas
 pub mod ChangedMemberLemmas
+pub mod HitLemmas

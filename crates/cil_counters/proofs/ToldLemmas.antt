@@ -22,7 +22,7 @@ use Rattle.cil_resolve.specs.Resolved.{meaning_in}
 use Rattle.cil_resolve.specs.Sets.{name_in, sets_in}
 use Rattle.cil_resolve.specs.declared.numbered.NumberedRule.{NumberedRule}
 use Rattle.cil_resolve.specs.declared.resolved.Resolved.{Resolved}
-use Rattle.cil_sets.proofs.KeptLemmas.{member-kept}
+use Rattle.cil_member_updates.proofs.PlaceLemmas.{member-kept}
 use Rattle.cil_symbols.proofs.NameLemmas.{found-name}
 use Rattle.cil_member_updates.proofs.SymbolLemmas.{symbol-of}
 use Rattle.cil_rule_reach.specs.Named.{atom_of, is_named, name_at}

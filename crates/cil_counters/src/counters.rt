@@ -2,19 +2,22 @@
 
 ghost use Rattle.std.specs.Prelude.{◌≡◌, ◌↔◌, ◌-◌, ◌<◌, ◌≤◌, ◌^◌, ℕ, List, bytes_eq, false, length, min, IfOk, IsTrue, None, OnOk};
 ghost use Rattle.std.specs.List.{IsDistinct};
+ghost use Rattle.std.specs.Rc.{rc_value};
 ghost use Rattle.cil_delta_specs.specs.Work.{AdjustsFew, EvaluatesFew};
 ghost use Rattle.cil_member_rows.specs.Rows as member_rows;
 ghost use Rattle.cil_specs.specs.Meaning.{is_in_table};
 ghost use Rattle.cil_specs.specs.Report as report;
 ghost use Rattle.cil_specs.specs.Report.{AreAtoms, AreChanges};
+ghost use Rattle.cil_specs.specs.Members.{is_member};
 ghost use Rattle.cil_specs.specs.Sets.{differ};
+ghost use Rattle.cil_specs.specs.Violations.{AreViolations};
 ghost use Rattle.cil_member_updates.specs.Policy.{AreCounts};
 ghost use Rattle.cil_parse.specs.Lexicon.{AreNumbersOf};
 ghost use Rattle.cil_resolve.specs.Meter.{adjustments_in, evaluations_in};
 ghost use Rattle.cil_resolve.specs.Resolved.{meaning_in};
-ghost use Rattle.cil_resolve.specs.Sets.{sets_in};
+ghost use Rattle.cil_resolve.specs.Sets.{name_in, sets_in};
 ghost use Rattle.cil_rules.specs.Rows.{listed};
-ghost use Rattle.cil_sets.specs.Members.{AreMembers};
+ghost use Rattle.cil_violations.specs.Rows.{hits};
 ghost use Rattle.cil_counters.specs.ChangeCounts.{CountsSome};
 ghost use Rattle.cil_counters.specs.ChangedMembers.{pairs_of, AreChangedMembers};
 ghost use Rattle.cil_counters.specs.Counted.{count_with, had_named, has_named, steps_in, symbols_now, AreBounded, AreSettled, AreSymbolsOf, AreTakenBack, HasFewNames, HasNames, IsNow, WasBefore};
@@ -22,7 +25,7 @@ ghost use Rattle.cil_keyed_lines.specs.Keyed as access_tables;
 ghost use Rattle.cil_table_updates.specs.Policies.{count_named};
 
 use crate::changed_members::{ChangedMember, changed_members_of};
-use crate::member_counts::members_of;
+use crate::laws::counters_tell_members;
 use crate::more_rows::add_rows;
 use crate::policy_symbols::PolicySymbols;
 use crate::symbol_ranks::{ranks_of, ranks_of_both};
@@ -36,12 +39,13 @@ use cil_resolve::{
     resolved_sets_are_in_order,
 };
 use cil_rules::{Changes, Table, names_of, rank};
-use cil_sets::Members;
 use cil_symbol_changes::{ChangeCounts, count_accesses};
 use cil_symbols::{Numbering, Symbols};
 use cil_table_updates::Named;
 use cil_text::RuleKind;
+use cil_violations::Violations;
 use std::alloc::{AllocError, Allocator, Global};
+use std::rc::Rc;
 
 /// For each attribute and type of a policy how many set statements make the one a member of the other, and for each access how many
 /// rules give it. They are kept by symbols: numbers of names that stay from one policy to the next. The symbol of a name that went is
@@ -270,20 +274,23 @@ impl<A: Allocator + Copy> Counters<A> {
         Ok(())
     }
 
-    /// Brings the members from an old policy to a new one, and puts them together. What is counted of accesses stays that of the old
-    /// policy, so the counters are of no use from then on.
-    pub(crate) fn members_after(
+    /// Brings the members from an old policy to a new one, and finds the violations of that. What is counted of accesses stays that of the
+    /// old policy, so the counters are of no use from then on.
+    pub(crate) fn violations_after(
         &mut self,
         alloc: A,
         old: &Resolved<A>,
-        new: &Resolved<A>,
-    ) -> Result<Members<A>, AllocError>
+        new: &Rc<Resolved<A>, A>,
+    ) -> Result<Violations<A>, AllocError>
         requires now { IsNow old.now self.old }
         requires before { WasBefore old.now self.old }
-        ensures { IfOk result (AreMembers new.now) }
+        ensures { IfOk result (AreViolations (meaning_in (rc_value new.now))) }
     {
-        self.bring_members(alloc, old, new, &mut Meter::new())?;
-        members_of(alloc, &self.names, &self.rows, new)
+        resolved_is_sound(new);
+        resolved_sets_are_in_order(new);
+        let next = self.bring_members(alloc, old, new, &mut Meter::new())?;
+        self.names.len();
+        Violations::of(alloc, new, &next.numbering, &self.rows)
     }
 
     /// The changes from an old policy, whose counters stand before the steps, to a new one, whose counters stand now.
@@ -345,12 +352,42 @@ impl<A: Allocator + Copy> Counters<A> {
         Table::numbered(names_of(alloc, policy)?, accesses)
     }
 
-    /// The members of the attributes of the policy whose counters stand now. No set statement is evaluated.
-    pub fn members(&self, alloc: A, policy: &Resolved<A>) -> Result<Members<A>, AllocError>
-        requires { IsNow policy.now self.now }
-        ensures { IfOk result (AreMembers policy.now) }
+    /// The violations of the policy whose counters stand now. No set statement is evaluated.
+    pub fn violations(
+        &self,
+        alloc: A,
+        policy: &Rc<Resolved<A>, A>,
+    ) -> Result<Violations<A>, AllocError>
+        requires { IsNow (rc_value policy.now) self.now }
+        ensures { IfOk result (AreViolations (meaning_in (rc_value policy.now))) }
     {
-        members_of(alloc, &self.names, &self.rows, policy)
+        resolved_is_sound(policy);
+        resolved_sets_are_in_order(policy);
+        self.names.len();
+        Violations::of(alloc, policy, self.numbering_now(), &self.rows)
+    }
+
+    /// The members of an attribute of the policy whose counters stand now, by the numbers of their names, which rise: in the byte order of
+    /// the names. There is none where the policy doesn't keep the attribute.
+    pub fn members(
+        &self,
+        alloc: A,
+        policy: &Resolved<A>,
+        attribute: &[u8],
+    ) -> Result<Vec<usize, A>, AllocError>
+        requires { IsNow policy.now self.now }
+        ensures { IfOk result (λ list. list.items ≡ hits
+            (λ n. is_member (meaning_in policy.now) attribute.now (name_in policy.now n))
+            0 (length policy.now.names.items)) }
+    {
+        counters_tell_members(policy, self);
+        let mut list = Vec::new(alloc);
+        for number in 0..policy.names_len() {
+            if self.has(attribute, policy.name(number)) {
+                list.push(number)?;
+            }
+        }
+        Ok(list)
     }
 
     /// Who became a member since the last settling, and who is none any more: each attribute with such a type, once. It takes time by

@@ -5,12 +5,11 @@ mod at_once;
 mod changed_members;
 mod counters;
 mod laws;
-mod member_counts;
 mod more_rows;
 mod policy_symbols;
 mod symbol_ranks;
 
-pub use at_once::members_at_once;
+pub use at_once::violations_at_once;
 pub use changed_members::ChangedMember;
 pub use cil_symbol_changes::ChangeCounts;
 pub use counters::Counters;

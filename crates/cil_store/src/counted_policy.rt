@@ -285,8 +285,7 @@ impl<A: Allocator + Copy> CountedPolicy<A> {
         requires { IsKept self.now }
         ensures { IfOk result (AreViolations (counted_meaning self.now)) }
     {
-        let members = self.counters.members(alloc, &self.resolved)?;
-        Violations::of(alloc, &self.resolved, &members)
+        self.counters.violations(alloc, &self.resolved)
     }
 }
 

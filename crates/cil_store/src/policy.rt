@@ -21,7 +21,7 @@ use crate::entry::Entry;
 use crate::modules::Store;
 use crate::refusal::Refusal;
 use crate::resolving::resolve_nothing;
-use cil_counters::members_at_once;
+use cil_counters::violations_at_once;
 use cil_names::Seed;
 use cil_resolve::resolved_sets_are_in_order;
 use cil_rules::Table;
@@ -74,8 +74,7 @@ fn violations_of<A: Allocator + Copy>(
 {
     let nothing = resolve_nothing(alloc)?;
     resolved_sets_are_in_order(&nothing);
-    let members = members_at_once(alloc, seed, &nothing, &next.resolved)?;
-    Violations::of(alloc, &next.resolved, &members)
+    violations_at_once(alloc, seed, &nothing, &next.resolved)
 }
 
 impl<A: Allocator + Copy> Policy<A> {

@@ -1,0 +1,10 @@
+use Rattle.std.proofs.Common.{◌≡◌}
+use Rattle.cil_resolve.specs.Resolved.{meaning_in}
+use Rattle.cil_resolve.specs.Sets.{name_in}
+use Rattle.cil_specs.specs.Members.{is_member}
+use Rattle.cil_violations.specs.Rows.{hits}
+use Rattle.cil_counters.proofs.counters.Counters.members.Given as goal
+
+-- those among the first numbers
+abbrev pub invariant-loop-number : goal.invariant-loop-number
+invariant-loop-number g l = l.list.items ≡ hits (λ n. is_member (meaning_in l.policy) l.attribute (name_in l.policy n)) 0 l.number

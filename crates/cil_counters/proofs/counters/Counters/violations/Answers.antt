@@ -1,0 +1,24 @@
+use Rattle.std.proofs.Common.{◌<◌, ◌^◌, subst, sym}
+use Rattle.std.specs.Rc.{rc_value}
+use Rattle.cil_member_rows.specs.Rows as member_rows
+use Rattle.cil_parse.specs.Lexicon.{AreNumbersOf}
+use Rattle.cil_resolve.specs.Resolved.{meaning_in}
+use Rattle.cil_resolve.specs.Sets.{sets_in}
+use Rattle.cil_specs.specs.Dependence.{AreTheSame}
+use Rattle.cil_specs.specs.Members.{HasSoundSets}
+use Rattle.cil_counters.proofs.CountedLemmas.{members-counted}
+use Rattle.cil_counters.proofs.counters.Counters.violations.Goals as goal
+
+pub of-requires : goal.of-requires
+of-requires g c =
+    let r = rc_value c.args.policy.now in
+    let names = c.args.self.now.names in
+    record {
+      names = names;
+      distinct = c.len.ensures.distinct;
+      short = subst (λ n. n < 2 ^ 64) c.len.ensures.len c.len.type_inv;
+      numbers = subst (λ n. AreNumbersOf names n.symbols r.names.items) (sym c.numbering_now.ensures) c.requires.symbols.numbers;
+      are =
+          members-counted names r (subst (λ x. HasSoundSets (meaning_in x)) c.deref.ensures c.resolved_is_sound.ensures)
+          (subst (λ x. AreTheSame (meaning_in x).sets (sets_in x)) c.deref-2.ensures c.resolved_sets_are_in_order.ensures.the_same) (member_rows.count_now c.args.self.now.rows) c.requires.counted.are_members;
+    }
