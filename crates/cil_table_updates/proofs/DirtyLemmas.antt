@@ -1,7 +1,6 @@
 -- The counters that an update moves are those of accesses that a rule gives in one of the two policies alone.
 use Rattle.std.proofs.Common.{◌≡◌, ◌≢◌, ◌⊎◌, ℕ, ◌+◌, ◌<◌, ◌==◌, ◌&&◌, Bool, true, false, List, [], ◌++◌, get_or, length, map, nat_lt, not, slice_get, Option, None, Some, Result, Ok, Err, OnOk, refl, sym, ap, ◌∙◌, subst, inl, inr, arith, true≢false}
 use Rattle.std.specs.List.{list_all, All, AllPairs, Contains}
-use Rattle.std.proofs.Math.Bool.{and-false}
 use Rattle.std.proofs.lemmas.Bool.{cases_Bool, cases_eq, eq-eqb, lt-ltb, ltb-true, ne_eqb}
 use Rattle.std.proofs.lemmas.List.{length-append, length-map}
 use Rattle.std.proofs.lemmas.List.Elements.{All-append, All-contains, All-map, Contains-append_left, Contains-append_right, Contains-get_or}
@@ -15,6 +14,7 @@ use Rattle.cil_specs.specs.Rule.{a_type, at_itself, kind_index, Atom, IsSameRule
 use Rattle.cil_specs.specs.Statements.{allow}
 use Rattle.cil_delta_specs.specs.Dirty.{HasGiver, OnlyOne}
 use Rattle.cil_text.specs.Image.{rule_kind_of}
+use Rattle.cil_keyed_lines.proofs.KeyedLemmas.{one_kind}
 use Rattle.cil_keyed_lines.specs.declared.symbol_key.SymbolKey.{SymbolKey}
 use Rattle.cil_matching.specs.Matching.{AreMatched, AreSameAt, Matched}
 use Rattle.cil_matching.specs.Spot as spots
@@ -30,12 +30,11 @@ use Rattle.cil_rule_reach.specs.Reaches.{members_of}
 use Rattle.cil_rule_reach.proofs.NamedLemmas.{covers-named, covers-none}
 use Rattle.cil_rule_shifts.specs.Moves.{differs}
 use Rattle.cil_rule_shifts.specs.Reach.{one_if}
-use Rattle.cil_keyed_lines.specs.Keyed.{is_kind}
 use Rattle.cil_table_updates.specs.Adjusted.{goes, turns, AdjustsAtLeast, AdjustsAtMost, Counter}
 use Rattle.cil_table_updates.specs.Given.{given, gives_by}
 use Rattle.cil_table_updates.specs.Policies.{AreApart, IsPolicy}
 use Rattle.cil_table_updates.specs.declared.policy.Policy.{Policy}
-use Rattle.cil_table_updates.proofs.AdjustedLemmas.{and-both, counted-other, counted-some, one-kind}
+use Rattle.cil_table_updates.proofs.AdjustedLemmas.{and-both, counted-other, counted-some}
 use Rattle.cil_table_updates.proofs.GivenLemmas.{given-rule}
 use Rattle.cil_table_updates.proofs.PlaceLemmas.{passes-at}
 
@@ -107,12 +106,12 @@ module _ (names : List (List ℕ)) (apart : AreApart names) where
       let (other_source, other_target) = and-both (nat_lt d.key.source (length names)) _ other_ends in
       let (class, permission) = and-both (nat_lt c.key.class (length names)) _ words in
       let (other_class, other_permission) = and-both (nat_lt d.key.class (length names)) _ other_words in
-      let kinds = one-kind c.kind d.kind (eq-eqb (kind_index (rule_kind_of c.kind)) (kind_index (rule_kind_of d.kind)) (ap (λ a. kind_index a.kind) same)) in
+      let kinds = one_kind c.key.kind d.key.kind (eq-eqb (kind_index (rule_kind_of c.key.kind)) (kind_index (rule_kind_of d.key.kind)) (ap (λ a. kind_index a.kind) same)) in
       let sources = same-symbol c.key.source d.key.source source other_source (ap (λ a. a.source) same) in
       let targets = same-symbol c.target d.target target other_target (ap (λ a. a.target) same) in
       let classes = same-symbol c.key.class d.key.class class other_class (ap (λ a. a.the_class) same) in
       let permissions = same-symbol c.key.permission d.key.permission permission other_permission (ap (λ a. a.permission) same) in
-      λ n. record { kind = kinds n; key = record { source = sources n; class = classes n; permission = permissions n }; target = targets n }
+      λ n. record { key = record { kind = kinds n; source = sources n; class = classes n; permission = permissions n }; target = targets n }
 
   -- the same rule and the same access are of one place and one counter
   pub one-pair : (rules : List Rule) (apart_rules : spots.AreApart (map rule_spot rules)) (p q : ℕ × Counter) → p.0 < length rules → q.0 < length rules → named p.1 ≡ true → named q.1 ≡ true
@@ -137,11 +136,11 @@ module _ (names : List (List ℕ)) (apart : AreApart names) where
         let declared_it = passes-at (is_rule_of meaning.types meaning.attributes meaning.classes) meaning.rules i (named-rule rule) declared (to-mapped named-rule p.resolved.now.rules.items i rule at) in
         elim (cases_Bool (named c)) [
           | inl is_named_it ↦
-              ap (λ b. is_kind rule.kind c.kind && b) (covers-named p.resolved.now names p.numbering.now.symbols apart is.numbers (members_of p.members) is.members rule c.key c.target below_it declared_it is_named_it)
+              covers-named p.resolved.now names p.numbering.now.symbols apart is.numbers (members_of p.members) is.members rule c.key c.target below_it declared_it is_named_it
               ∙ sym (ap (λ b. b && gives meaning (named-rule rule) (atom c)) is_named_it)
           | inr unnamed ↦
-              ap (λ b. is_kind rule.kind c.kind && b) (covers-none p.resolved.now names p.numbering.now.symbols apart is.numbers (members_of p.members) is.members rule c.key c.target below_it unnamed)
-              ∙ and-false (is_kind rule.kind c.kind) ∙ sym (ap (λ b. b && gives meaning (named-rule rule) (atom c)) unnamed)
+              covers-none p.resolved.now names p.numbering.now.symbols apart is.numbers (members_of p.members) is.members rule c.key c.target below_it unnamed
+              ∙ sym (ap (λ b. b && gives meaning (named-rule rule) (atom c)) unnamed)
         ]
 
     pub given-by-names : (c : Counter) (i : ℕ) (r : Rule) → slice_get meaning.rules i ≡ Some r → given p c.key c.target i ≡ one_if (named c && gives meaning r (atom c))
@@ -356,7 +355,7 @@ module _ (names : List (List ℕ)) (apart : AreApart names) where
 -- ---- each counter that isn't what it was is one that moved
 
 module _ {A : Type 0} (old new : Policy A) (m : Matched) (n k before between after : ℕ) (first : RisesBy (below (goes old m) n) before between) (second : RisesBy (below (turns old new m) k) between after)
-    (was between_counts is : RuleKind → SymbolKey → ℕ → ℕ)
+    (was between_counts is : SymbolKey → ℕ → ℕ)
     (taken : (key : SymbolKey) (t : ℕ) → between_counts key t + sum_below (alone (given old key t) m.ahead) n ≡ was key t)
     (put : (key : SymbolKey) (t : ℕ) → is key t + sum_below (across (given old key t) m.back) k ≡ between_counts key t + sum_below (given new key t) k) where
   abbrev moved : List Counter

@@ -2,7 +2,6 @@
 use Rattle.std.proofs.Common.{◌≡◌, ℕ, zero, suc, ◌+◌, ◌&&◌, Bool, true, false, cond, count_by, length, map, List, [], ◌∷◌, slice_get, Option, Some, refl, sym, ap, ◌∙◌, inl, inr, arith, add-one, zero-add}
 use Rattle.std.specs.List.{list_all}
 use Rattle.std.specs.Option.{option_map_or}
-use Rattle.std.proofs.Math.Bool.{and-false}
 use Rattle.std.proofs.lemmas.Bool.{cases_Bool}
 use Rattle.std.proofs.lemmas.List.Sums.{sum_by-cons}
 use Rattle.cil_sums.specs.Sums.{alone, sum_below}
@@ -20,7 +19,6 @@ use Rattle.cil_rule_reach.specs.Named.{atom_of, is_named, AreMembersOf}
 use Rattle.cil_rule_reach.specs.Reaches.{covers_by, members_of}
 use Rattle.cil_rule_reach.proofs.NamedLemmas.{covers-named, covers-none}
 use Rattle.cil_rule_shifts.specs.Reach.{one_if}
-use Rattle.cil_keyed_lines.specs.Keyed.{is_kind}
 use Rattle.cil_table_updates.specs.Given.{given, gives_by}
 use Rattle.cil_table_updates.specs.Policies.{count_named, AreApart, IsPolicy}
 use Rattle.cil_table_updates.specs.declared.policy.Policy.{Policy}
@@ -59,12 +57,11 @@ pub sum-given : {A : Type 0} (p : Policy A) (key : SymbolKey) (t : ℕ) → sum_
 unfolding given
 sum-given p key t = sum-counted (gives_by p key t) p.resolved.now.rules.items
 
--- whether a rule gives an access by these members and symbols
-abbrev pub gives_with : {A : Type 0} → (ℕ → ℕ → ℕ) → List ℕ → RuleKind → SymbolKey → ℕ → NumberedRule A → Bool
-gives_with members symbols key t rule = is_kind rule.kind kind && covers_by members symbols rule key t
-
 module _ {A : Type 0} (names : List (List ℕ)) (apart : AreApart names) (r : Resolved A) (symbols : List ℕ) (numbers : AreNumbersOf names symbols r.names.items) (members : ℕ → ℕ → ℕ) (are : AreMembersOf names (meaning_in r) members)
     (key : SymbolKey) (t : ℕ) where
+  abbrev covers_it : NumberedRule A → Bool
+  covers_it rule = covers_by members symbols rule key t
+
   abbrev AreBelow : List (NumberedRule A) → Type 0
   AreBelow rules = list_all (is_rule_below (length r.names.items)) rules ≡ true
 
@@ -72,26 +69,25 @@ module _ {A : Type 0} (names : List (List ℕ)) (apart : AreApart names) (r : Re
   AreDeclared rules = list_all (is_rule_of (meaning_in r).types (meaning_in r).attributes (meaning_in r).classes) (map (rule_of r.modules.items r.names.items) rules) ≡ true
 
   named-counts : is_named names key t ≡ true → (rules : List (NumberedRule A)) → AreBelow rules → AreDeclared rules
-      → count_by (gives_with members symbols key t) rules ≡ count_by (λ rule. gives (meaning_in r) rule (atom_of names key t)) (map (rule_of r.modules.items r.names.items) rules)
+      → count_by covers_it rules ≡ count_by (λ rule. gives (meaning_in r) rule (atom_of names key t)) (map (rule_of r.modules.items r.names.items) rules)
   named-counts named [] below declared = refl
   named-counts named (rule ∷ rules) below declared =
-      one-more (gives_with members symbols key t) rule rules
-      ∙ ap (λ b. one_if (is_kind rule.kind kind && b) + count_by (gives_with members symbols key t) rules)
+      one-more covers_it rule rules
+      ∙ ap (λ b. one_if b + count_by covers_it rules)
       (covers-named r names symbols apart numbers members are rule key t (and-first _ _ below) (and-first _ _ declared) named)
       ∙ ap (λ n. one_if (gives (meaning_in r) (rule_of r.modules.items r.names.items rule) (atom_of names key t)) + n) (named-counts named rules (and-second _ _ below) (and-second _ _ declared))
       ∙ sym (one-more (λ one. gives (meaning_in r) one (atom_of names key t)) (rule_of r.modules.items r.names.items rule) (map (rule_of r.modules.items r.names.items) rules))
 
-  unnamed-counts : is_named names key t ≡ false → (rules : List (NumberedRule A)) → AreBelow rules → count_by (gives_with members symbols key t) rules ≡ 0
+  unnamed-counts : is_named names key t ≡ false → (rules : List (NumberedRule A)) → AreBelow rules → count_by covers_it rules ≡ 0
   unnamed-counts unnamed [] below = refl
   unnamed-counts unnamed (rule ∷ rules) below =
-      one-more (gives_with members symbols key t) rule rules
-      ∙ ap (λ b. one_if (is_kind rule.kind kind && b) + count_by (gives_with members symbols key t) rules)
+      one-more covers_it rule rules
+      ∙ ap (λ b. one_if b + count_by covers_it rules)
       (covers-none r names symbols apart numbers members are rule key t (and-first _ _ below) unnamed)
-      ∙ ap (λ b. one_if b + count_by (gives_with members symbols key t) rules) (and-false (is_kind rule.kind kind))
-      ∙ zero-add (count_by (gives_with members symbols key t) rules) ∙ unnamed-counts unnamed rules (and-second _ _ below)
+      ∙ zero-add (count_by covers_it rules) ∙ unnamed-counts unnamed rules (and-second _ _ below)
 
   -- as many rules give an access by symbols as by names
-  pub counted-named : AreBelow r.rules.items → is_consistent (meaning_in r) ≡ true → count_by (gives_with members symbols key t) r.rules.items ≡ count_named names (meaning_in r) key t
+  pub counted-named : AreBelow r.rules.items → is_consistent (meaning_in r) ≡ true → count_by covers_it r.rules.items ≡ count_named names (meaning_in r) key t
   counted-named below consistent =
       elim (cases_Bool (is_named names key t)) [
         | inl named ↦ named-counts named r.rules.items below consistent ∙ sym (ap (λ b. cond b (count_of (meaning_in r) (atom_of names key t)) 0) named)

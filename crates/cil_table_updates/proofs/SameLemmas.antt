@@ -1,13 +1,14 @@
 -- The same rule of two policies, by symbols.
 use Rattle.std.proofs.Common.{◌≡◌, ℕ, ◌<◌, ◌==◌, ◌&&◌, ◌||◌, Bool, true, false, List, [], ◌∷◌, length, map, nat_lt, slice_index, slice_index_or, Some, refl, ap, ◌∙◌}
 use Rattle.std.specs.List.{list_all, list_any}
-use Rattle.std.proofs.lemmas.Bool.{ltb-true}
-use Rattle.cil_specs.specs.Rule.{content_of}
+use Rattle.std.proofs.lemmas.Bool.{eq-eqb, ltb-true}
+use Rattle.cil_specs.specs.Rule.{content_of, kind_index}
 use Rattle.cil_parse.specs.Lexicon.{AreNumbersOf}
 use Rattle.cil_text.specs.Image.{rule_kind_of}
-use Rattle.cil_text.specs.declared.statement.RuleKind.TheVariants.{Allow, AuditAllow, DontAudit, NeverAllow}
 use Rattle.cil_expression.specs.declared.expression.Element.{Element}
 use Rattle.cil_expression.specs.declared.expression.Element.TheVariants.{«Type», Attribute}
+use Rattle.cil_keyed_lines.proofs.KeyedLemmas.{one_kind}
+use Rattle.cil_keyed_lines.specs.Keyed.{is_kind}
 use Rattle.cil_keyed_lines.specs.declared.symbol_key.SymbolKey.{SymbolKey}
 use Rattle.cil_resolve.specs.Below.{is_element_below, is_rule_below, is_target_below}
 use Rattle.cil_resolve.specs.Numbers.{element_of, resolved_target_of, rule_of}
@@ -65,24 +66,6 @@ module _ {A B : Type 0} (old : Resolved A) (new : Resolved B) (names : List (Lis
       and-second false true e = refl
       and-second false false e = e
 
-  same-kind : (k l : RuleKind) → rule_kind_of k ≡ rule_kind_of l → k ≡ l
-  same-kind Allow Allow e = refl
-  same-kind Allow AuditAllow e = absurd (cc e)
-  same-kind Allow DontAudit e = absurd (cc e)
-  same-kind Allow NeverAllow e = absurd (cc e)
-  same-kind AuditAllow Allow e = absurd (cc e)
-  same-kind AuditAllow AuditAllow e = refl
-  same-kind AuditAllow DontAudit e = absurd (cc e)
-  same-kind AuditAllow NeverAllow e = absurd (cc e)
-  same-kind DontAudit Allow e = absurd (cc e)
-  same-kind DontAudit AuditAllow e = absurd (cc e)
-  same-kind DontAudit DontAudit e = refl
-  same-kind DontAudit NeverAllow e = absurd (cc e)
-  same-kind NeverAllow Allow e = absurd (cc e)
-  same-kind NeverAllow AuditAllow e = absurd (cc e)
-  same-kind NeverAllow DontAudit e = absurd (cc e)
-  same-kind NeverAllow NeverAllow e = refl
-
   module _ (rule : NumberedRule A) (other : NumberedRule B) (low : is_rule_below (length old.names.items) rule ≡ true) (below : is_rule_below (length new.names.items) other ≡ true)
       (same : content_of (rule_of old.modules.items old.names.items rule) ≡ content_of (rule_of new.modules.items new.names.items other)) where
     pub same-head : HaveSameHead old_symbols rule new_symbols other
@@ -90,7 +73,7 @@ module _ {A B : Type 0} (old : Resolved A) (new : Resolved B) (names : List (Lis
         let first = is-below old rule low in
         let second = is-below new other below in
         record {
-          kind = same-kind rule.kind other.kind (ap (λ c. c.kind) same);
+          kind = one_kind rule.kind other.kind (eq-eqb (kind_index (rule_kind_of rule.kind)) (kind_index (rule_kind_of other.kind)) (ap (λ c. kind_index c.kind) same));
           class = same-symbol rule.class other.class first.class second.class (ap (λ c. c.the_class) same);
           permissions = λ p. same-permissions p rule.permissions other.permissions first.permissions second.permissions (ap (λ c. c.permissions) same);
         }
@@ -101,9 +84,10 @@ module _ {A B : Type 0} (old : Resolved A) (new : Resolved B) (names : List (Lis
     same-covers members key t =
         let first = is-below old rule low in
         let second = is-below new other below in
-        ap (λ b. (b && aims_by members old_symbols rule.target key.source t) && ((slice_index old_symbols rule.class == key.class) && lists old_symbols rule key.permission))
+        ap (λ k. is_kind k key.kind && ((has_by members old_symbols rule.source key.source && aims_by members old_symbols rule.target key.source t) && ((slice_index old_symbols rule.class == key.class) && lists old_symbols rule key.permission))) same-head.kind
+        ∙ ap (λ b. is_kind other.kind key.kind && ((b && aims_by members old_symbols rule.target key.source t) && ((slice_index old_symbols rule.class == key.class) && lists old_symbols rule key.permission)))
         (same-element members rule.source other.source key.source first.source second.source (ap (λ c. c.source) same))
-        ∙ ap (λ b. (has_by members new_symbols other.source key.source && b) && ((slice_index old_symbols rule.class == key.class) && lists old_symbols rule key.permission))
+        ∙ ap (λ b. is_kind other.kind key.kind && ((has_by members new_symbols other.source key.source && b) && ((slice_index old_symbols rule.class == key.class) && lists old_symbols rule key.permission)))
         (same-target members rule.target other.target key.source t first.target second.target (ap (λ c. c.target) same))
-        ∙ ap (λ c. (has_by members new_symbols other.source key.source && aims_by members new_symbols other.target key.source t) && ((c == key.class) && lists old_symbols rule key.permission)) same-head.class
-        ∙ ap (λ b. (has_by members new_symbols other.source key.source && aims_by members new_symbols other.target key.source t) && ((slice_index new_symbols other.class == key.class) && b)) (same-head.permissions key.permission)
+        ∙ ap (λ c. is_kind other.kind key.kind && ((has_by members new_symbols other.source key.source && aims_by members new_symbols other.target key.source t) && ((c == key.class) && lists old_symbols rule key.permission))) same-head.class
+        ∙ ap (λ b. is_kind other.kind key.kind && ((has_by members new_symbols other.source key.source && aims_by members new_symbols other.target key.source t) && ((slice_index new_symbols other.class == key.class) && b))) (same-head.permissions key.permission)

@@ -1,25 +1,24 @@
-use Rattle.std.proofs.Common.{◌∙◌}
+use Rattle.std.proofs.Common.{◌≤◌, ◌∙◌, subst, sym}
 use Rattle.std.proofs.lemmas.Result.{on_ok_weaker}
 use Rattle.cil_resolve.specs.Meter.{adjustments_in}
 use Rattle.cil_rule_reach.specs.Reaches.{covers_by, members_of}
+use Rattle.cil_rule_shifts.specs.Reach.{one_if}
 use Rattle.cil_keyed_lines.specs.Keyed.{count_now}
 use Rattle.cil_table_updates.specs.Moves.{gives_as}
 use Rattle.cil_table_updates.proofs.AdjustedLemmas.{replace-rises}
-use Rattle.cil_table_updates.proofs.MoveLemmas.{bounded-covered, counted-kind, covered-alike, gives-covered, replace-moved}
+use Rattle.cil_table_updates.proofs.MoveLemmas.{bounded-covered, covered-alike, gives-covered, moved-same}
 use Rattle.cil_table_updates.proofs.moves.replace_rule.Goals as goal
 
 pub shift_as-requires-clause-counted : goal.shift_as-requires-clause-counted
-shift_as-requires-clause-counted g c =
+shift_as-requires-clause-counted g c key t =
     let was_symbols = c.args.old.now.numbering.now.symbols in
     let symbols = c.args.new.now.numbering.now.symbols in
     let was_members = members_of c.args.old.now.members in
     let was_rule = c.args.old_rule.now in
     let rule = c.args.new_rule.now in
-    counted-kind was_rule.kind rule.kind (gives_as symbols rule c.in_ok-was.was') (covers_by was_members was_symbols was_rule) (count_now c.args.lines.now) c.requires.head.kind
-    (λ key t.
-    covered-alike was_symbols symbols was_rule rule c.in_ok-was.was' c.requires.head key t
-    ∙ gives-covered was_symbols was_rule c.in_ok-was.was' was_members c.in_ok-was.ensures.sources c.in_ok-was.ensures.targets key t)
-    c.requires.counted
+    subst (λ b. one_if b ≤ count_now c.args.lines.now key t)
+    (sym (covered-alike was_symbols symbols was_rule rule c.in_ok-was.was' c.requires.head key t
+    ∙ gives-covered was_symbols was_rule c.in_ok-was.was' was_members c.in_ok-was.ensures.sources c.in_ok-was.ensures.targets key t)) (c.requires.counted key t)
 
 pub returns-clause-now : goal.returns-clause-now
 returns-clause-now g c =
@@ -30,13 +29,12 @@ returns-clause-now g c =
     let was_rule = c.args.old_rule.now in
     let rule = c.args.new_rule.now in
     on_ok_weaker c.shift_as.result
-    (λ moved.
-    replace-moved symbols rule c.in_ok-was.was' c.in_ok-is.is' (count_now c.shift_as.new.lines) (count_now c.args.lines.now) moved was_rule.kind (covers_by was_members was_symbols was_rule) (covers_by members symbols rule)
-    c.requires.head.kind
-    (λ key t.
-    covered-alike was_symbols symbols was_rule rule c.in_ok-was.was' c.requires.head key t
+    (λ moved key t.
+    moved-same (count_now c.shift_as.new.lines key t) (count_now c.args.lines.now key t) (gives_as symbols rule c.in_ok-was.was' key t) (gives_as symbols rule c.in_ok-is.is' key t)
+    (covers_by was_members was_symbols was_rule key t) (covers_by members symbols rule key t) (moved key t)
+    (covered-alike was_symbols symbols was_rule rule c.in_ok-was.was' c.requires.head key t
     ∙ gives-covered was_symbols was_rule c.in_ok-was.was' was_members c.in_ok-was.ensures.sources c.in_ok-was.ensures.targets key t)
-    (gives-covered symbols rule c.in_ok-is.is' members c.in_ok-is.ensures.sources c.in_ok-is.ensures.targets))
+    (gives-covered symbols rule c.in_ok-is.is' members c.in_ok-is.ensures.sources c.in_ok-is.ensures.targets key t))
     c.shift_as.ensures.now
 
 pub returns-clause-adjustments : goal.returns-clause-adjustments
@@ -49,8 +47,7 @@ returns-clause-adjustments g c =
     let rule = c.args.new_rule.now in
     on_ok_weaker c.shift_as.result
     (λ rises.
-    replace-rises symbols rule c.in_ok-was.was' c.in_ok-is.is' (adjustments_in c.args.meter.now) (adjustments_in c.shift_as.new.meter) rises was_rule.kind (covers_by was_members was_symbols was_rule) (covers_by members symbols rule)
-    c.requires.head.kind
+    replace-rises symbols rule c.in_ok-was.was' c.in_ok-is.is' (adjustments_in c.args.meter.now) (adjustments_in c.shift_as.new.meter) rises (covers_by was_members was_symbols was_rule) (covers_by members symbols rule)
     (λ key t.
     covered-alike was_symbols symbols was_rule rule c.in_ok-was.was' c.requires.head key t
     ∙ gives-covered was_symbols was_rule c.in_ok-was.was' was_members c.in_ok-was.ensures.sources c.in_ok-was.ensures.targets key t)
@@ -62,5 +59,5 @@ returns-clause-bounded g c =
     let symbols = c.args.new.now.numbering.now.symbols in
     let members = members_of c.args.new.now.members in
     let rule = c.args.new_rule.now in
-    bounded-covered rule.kind (gives_as symbols rule c.in_ok-is.is') (covers_by members symbols rule) (count_now c.shift_as.new.lines) (count_now c.args.lines.now)
+    bounded-covered (gives_as symbols rule c.in_ok-is.is') (covers_by members symbols rule) (count_now c.shift_as.new.lines) (count_now c.args.lines.now)
     (gives-covered symbols rule c.in_ok-is.is' members c.in_ok-is.ensures.sources c.in_ok-is.ensures.targets) c.shift_as.ensures.bounded
