@@ -23,11 +23,7 @@ fn own_places<A: Allocator + Copy>(alloc: A, count: usize) -> Result<Vec<u32, A>
 }
 
 /// Puts the places of a policy's names at the symbols of the names.
-fn put_places<A: Allocator>(
-    numbers: &mut Vec<u32, A>,
-    numbering: &Numbering<A>,
-    places: &[u32],
-)
+fn put_places<A: Allocator>(numbers: &mut Vec<u32, A>, numbering: &Numbering<A>, places: &[u32])
     ensures { ArePut numbering.now.symbols places.now numbers.old.items (length places.now)
         numbers.new.items }
 {

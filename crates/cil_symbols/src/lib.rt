@@ -5,5 +5,5 @@ mod in_use;
 mod numbering;
 mod symbols;
 
-pub use numbering::{Numbering, known_symbols};
+pub use numbering::Numbering;
 pub use symbols::Symbols;

@@ -49,25 +49,6 @@ fn symbols_of<A: Allocator + Copy>(
     Ok(numbers)
 }
 
-/// The symbols of a policy's names, which all have one, in the order of the policy's numbers.
-pub fn known_symbols<A: Allocator + Copy>(
-    alloc: A,
-    symbols: &Symbols<A>,
-    resolved: &Resolved<A>,
-) -> Result<Vec<usize, A>, AllocError>
-    requires { (numbers : List ℕ) × AreNumbersOf symbols.now numbers resolved.now.names.items }
-    ensures { IfOk result (λ numbers. AreNumbersOf symbols.now numbers.items resolved.now.names.items) }
-{
-    let mut numbers = Vec::with_capacity(alloc, resolved.names_len())?;
-    for i in 0..resolved.names_len() {
-        let Some(symbol) = symbols.find(resolved.name(i)) else {
-            unreachable!("each name has a symbol");
-        };
-        numbers.push(symbol)?;
-    }
-    Ok(numbers)
-}
-
 /// The symbols of a policy's names, in the order of the policy's numbers. Names that come get symbols that aren't in use.
 fn symbols_beside<A: Allocator + Copy>(
     alloc: A,
@@ -103,16 +84,6 @@ fn pad<A: Allocator>(marks: &mut Vec<bool, A>, count: usize) -> Result<(), Alloc
 }
 
 impl<A: Allocator + Copy> Numbering<A> {
-    /// The numbering of a policy whose names all have symbols.
-    pub fn known(alloc: A, symbols: &Symbols<A>, resolved: &Resolved<A>) -> Result<Self, AllocError>
-        requires { (numbers : List ℕ) × AreNumbersOf symbols.now numbers resolved.now.names.items }
-        ensures symbols { IfOk result (λ n. AreNumbersOf symbols.now n.symbols resolved.now.names.items) }
-        ensures count { IfOk result (λ n. n.count ≡ length symbols.now) }
-    {
-        let numbers = known_symbols(alloc, symbols, resolved)?;
-        Self::with_symbols(alloc, numbers, symbols.len())
-    }
-
     /// The numbering of a policy beside that of another one, whose names keep their symbols. A name that has no symbol gets one that
     /// neither policy uses, and a new one only where there is none: so there are never more symbols than the names of two policies.
     /// The same holds where memory runs out.

@@ -22,11 +22,11 @@ loop-k-preserved g c =
           subst (λ v. ArePut symbols places old (k + 1) v.items) (sym w.numbers-is)
           (put-past symbols places old k numbers so_far
           (λ s at low.
-              let same = same_Some w.in-Some.symbol s (sym w.in-Some.is ∙ c.symbol.ensures.symbol ∙ at) in
-              let past = w.if-symbol-len.false in
-              let long = so_far.len in
-              let len = w.len-in-Some.ensures in
-              omega (arith, same, past, low, long, len)))
+          let same = same_Some w.in-Some.symbol s (sym w.in-Some.is ∙ c.symbol.ensures.symbol ∙ at) in
+          let past = w.if-symbol-len.false in
+          let long = so_far.len in
+          let len = w.len-in-Some.ensures in
+          omega (arith, same, past, low, long, len)))
       | in_default w ↦
           subst (λ v. ArePut symbols places old (k + 1) v.items) (sym w.numbers-is)
           (put-past symbols places old k numbers so_far (λ s at low. none-some s (sym w.in_default.is ∙ c.symbol.ensures.symbol ∙ at)))
