@@ -162,7 +162,7 @@ module _ {A : Type 0} (symbols names : List (List ℕ)) (numbers : List ℕ) (ri
       let some = ltb-true 0 (count_of (meaning_in new) a) parts.0 in
       let n : AccessNumbers = access_by numbers by.key by.target in
       let is_new : IsNew numbers was now n =
-      record { key = by.key; target = by.target; absent = before ∙ none (count_of (meaning_in old) a) (not-true (is_in_table (meaning_in old) a) parts.1); present = subst (λ c. 0 < c) (sym after) some; same = refl }) in
+      record { key = by.key; target = by.target; absent = before ∙ none (count_of (meaning_in old) a) (not-true (is_in_table (meaning_in old) a) parts.1); present = subst (λ c. 0 < c) (sym after) some; same = refl } in
       let there = (exact n).1 is_new in
       let same : atom_at names n ≡ a = (known n is_new).named ∙ by.same in
       contains_from (map (atom_at names) found) a (any-map (atom_at names) (λ b. b ≡ a) found (any_to (λ m. atom_at names m ≡ a) found (there.0, n, there.1, there.2, same)))
