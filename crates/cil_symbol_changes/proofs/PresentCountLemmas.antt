@@ -1,5 +1,5 @@
--- How many accesses stand: word by word, line by line and kind by kind.
-use Rattle.std.proofs.Common.{◌≡◌, ℕ, ◌+◌, ◌-◌, ◌*◌, ◌/◌, ◌%◌, ◌^◌, ◌<◌, ◌==◌, ◌&&◌, Bool, true, false, cond, Option, None, Some, length, min, nat_lt, count_ones, refl, sym, ap, subst, ◌∙◌, inl, inr, arith, add-zero, zero-add, eqb-true}
+-- How many accesses stand: word by word and line by line.
+use Rattle.std.proofs.Common.{◌≡◌, ℕ, ◌+◌, ◌-◌, ◌*◌, ◌/◌, ◌%◌, ◌^◌, ◌<◌, ◌==◌, ◌&&◌, Bool, true, false, cond, Option, None, Some, length, min, nat_lt, count_ones, refl, sym, ap, ◌∙◌, inl, inr, arith, add-zero, zero-add, eqb-true}
 use Rattle.std.specs.Int.{bit_at}
 use Rattle.std.specs.Option.{SomeIff}
 use Rattle.std.proofs.lemmas.Bool.{cases_eq, cases_lt, eq-eqb, le-ltb, lt-ltb, ltb-true, ne_eqb}
