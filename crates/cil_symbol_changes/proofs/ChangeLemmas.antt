@@ -7,7 +7,7 @@ use Rattle.std.proofs.lemmas.List.Sums.{sum_by-cons, sum_by_more_le}
 use Rattle.std.proofs.lemmas.Option.{same_Some, slice_get_within}
 use Rattle.cil_accesses.specs.declared.access.AccessNumbers.{AccessNumbers}
 use Rattle.cil_accesses.specs.declared.chunk.Chunk.{Chunk}
-use Rattle.cil_keyed_lines.specs.Keyed.{Keyed, IsLineOf, IsNoLine, NoneCounted, before_at, is_key, now_at}
+use Rattle.cil_keyed_lines.specs.Keyed.{Keyed, IsLineOf, IsNoLine, NoneCounted, before_at, is_key, now_at, count_before, count_now}
 use Rattle.cil_keyed_lines.specs.declared.symbol_key.SymbolKey.{SymbolKey}
 use Rattle.cil_keyed_lines.proofs.KeyedLemmas.{line_of_key}
 use Rattle.cil_lines.specs.Line.{hit}
@@ -15,7 +15,6 @@ use Rattle.cil_recorded.specs.Log.{hit_at}
 use Rattle.cil_recorded.specs.declared.recorded_lines.changes.Change.{Change}
 use Rattle.cil_recorded.proofs.LogLemmas.{hit_in, hit_off}
 use Rattle.cil_recorded.specs.Differences.{appeared_at, gone_at}
-use Rattle.cil_keyed_lines.specs.Keyed.{count_before, count_now}
 use Rattle.cil_symbol_changes.specs.Gained.{AreGained, AreKnown, AreKnownIn, IsIn, IsTo}
 use Rattle.cil_symbol_changes.specs.Numbered.{access_by, AreNumbered, IsNew, IsNumbered}
 use Rattle.cil_symbol_changes.specs.SourceOrder.{AreAllPlaces, IsAmong}

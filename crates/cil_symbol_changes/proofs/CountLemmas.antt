@@ -9,7 +9,7 @@ use Rattle.std.proofs.lemmas.List.Sums.{sum_by-cons}
 use Rattle.std.proofs.lemmas.Nat.{zero_from_ones}
 use Rattle.std.proofs.lemmas.Nat.Bits.{bit_at_above, bit_at-lt}
 use Rattle.std.proofs.lemmas.Option.{get_or_from_slice_get, same_Some, slice_get-get_or}
-use Rattle.cil_keyed_lines.specs.Keyed.{AreKeyed, Keyed, IsLineOf, NoneCounted, before_at, is_key, now_at}
+use Rattle.cil_keyed_lines.specs.Keyed.{AreKeyed, Keyed, IsLineOf, NoneCounted, before_at, is_key, now_at, count_before, count_now}
 use Rattle.cil_keyed_lines.specs.declared.symbol_key.SymbolKey.{SymbolKey}
 use Rattle.cil_keyed_lines.proofs.KeyedLemmas.{line_of_key, placed_at}
 use Rattle.cil_recorded.specs.Differences.{appeared_at, gone_at}
@@ -20,7 +20,6 @@ use Rattle.cil_recorded.proofs.LogLemmas.{hit_nothing, hit_off, hit_on, hit_out}
 use Rattle.cil_sums.specs.Rises.{RisesBy}
 use Rattle.cil_sums.proofs.PairLemmas.{from-mapped, mapped, pairs-map}
 use Rattle.cil_sums.proofs.RiseLemmas.{rises-added, rises-bits, rises-both, rises-map, rises-none}
-use Rattle.cil_keyed_lines.specs.Keyed.{count_before, count_now}
 use Rattle.cil_text.specs.declared.statement.RuleKind.TheVariants.{Allow}
 use Rattle.cil_symbol_changes.specs.Counts.{came, has_come, has_risen, went, AreSoMany}
 

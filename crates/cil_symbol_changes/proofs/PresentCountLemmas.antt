@@ -5,11 +5,10 @@ use Rattle.std.specs.Option.{SomeIff}
 use Rattle.std.proofs.lemmas.Bool.{cases_eq, cases_lt, eq-eqb, le-ltb, lt-ltb, ltb-true, ne_eqb}
 use Rattle.std.proofs.lemmas.Nat.Bits.{bit_at_above}
 use Rattle.std.proofs.lemmas.Option.{none-some, same_Some}
-use Rattle.cil_keyed_lines.specs.Keyed.{AreKeyed, Keyed, now_at}
+use Rattle.cil_keyed_lines.specs.Keyed.{AreKeyed, Keyed, now_at, count_now}
 use Rattle.cil_lines.specs.Line.{IsNextPresent, IsPresence}
 use Rattle.cil_sums.specs.Rises.{below, RisesBy}
 use Rattle.cil_sums.proofs.RiseLemmas.{rises-bits, rises-map, rises-more, rises-same}
-use Rattle.cil_keyed_lines.specs.Keyed.{count_now}
 use Rattle.cil_symbol_changes.specs.Counts.{has_come}
 use Rattle.cil_symbol_changes.proofs.CountLemmas.{both-hold, here-now, key-count, place-now}
 

@@ -7,11 +7,10 @@ use Rattle.std.proofs.lemmas.Option.{same_Some, slice_get_within}
 use Rattle.std.proofs.lemmas.Nat.Bits.{bit_at-zero}
 use Rattle.cil_accesses.specs.declared.access.AccessNumbers.{AccessNumbers}
 use Rattle.cil_accesses.specs.declared.chunk.Chunk.{Chunk}
-use Rattle.cil_keyed_lines.specs.Keyed.{Keyed, IsLineOf, IsNoLine, now_at}
+use Rattle.cil_keyed_lines.specs.Keyed.{Keyed, IsLineOf, IsNoLine, now_at, count_now}
 use Rattle.cil_keyed_lines.specs.declared.symbol_key.SymbolKey.{SymbolKey}
 use Rattle.cil_lines.specs.Line.{hit, IsNextPresent, IsPresence, NonePresent}
 use Rattle.cil_lines.proofs.StepLemmas.{hit-here, hit-there}
-use Rattle.cil_keyed_lines.specs.Keyed.{count_now}
 use Rattle.cil_symbol_changes.specs.Gained.{AreGained, AreKnown, AreKnownIn, IsTo}
 use Rattle.cil_symbol_changes.specs.Numbered.{access_by, is_listed, listed, ArePresentNumbered, IsPresent}
 use Rattle.cil_symbol_changes.specs.SourceOrder.{AreListedPlaces, IsAmong, IsAt, IsAtWord, IsListedIn}
@@ -49,9 +48,6 @@ module _ (numbers : List ℕ) (key : SymbolKey) (counts : ℕ → ℕ) where
   moved : (f g : ℕ → Type 0) (a : AccessNumbers) (told : IsTo numbers key f a) → g told.target → IsTo numbers key g a
   moved f g a told among = record { target = told.target; among = among; same = told.same }
 
-  pub words-none : (old : List Chunk) → AreGained (IsTo numbers key (IsBefore counts 0)) old old
-  words-none old = gained-none (IsTo numbers key (IsBefore counts 0)) old (λ a told. let low = told.among.1 in omega (arith, low))
-
   pub words-more : (from word mask : ℕ) (old mid new : List Chunk) → IsNextPresent counts from word → IsPresence counts word mask → AreGained (IsTo numbers key (IsBefore counts from)) old mid
       → AreGained (IsTo numbers key (λ t. 0 < hit word mask t)) mid new → AreGained (IsTo numbers key (IsBefore counts (word + 1))) old new
   words-more from word mask old mid new next present first second =
@@ -85,12 +81,9 @@ module _ (numbers : List ℕ) (key : SymbolKey) (counts : ℕ → ℕ) where
       before : (t : ℕ) → 0 < counts t → t / 64 < from
       before t some = elim (cases_lt (t / 64) from) [ inl low ↦ low | inr past ↦ let zero = none t past in absurd (omega (arith, some, zero)) ]
 
-  -- the symbols of a word's targets have numbers, and there are more numbers than words up to it
+  -- the symbols of a word's targets have numbers
   pub known-present : (word mask : ℕ) → IsPresence counts word mask → AreKnown numbers key counts → AreKnown numbers key (hit word mask)
   known-present word mask present known t some = known t (hit-counted counts word mask present t some).1
-
-  pub word-low : (from word : ℕ) → IsNextPresent counts from word → AreKnown numbers key counts → word < length numbers
-  word-low from word next known = let (t, here, some) = next.present in let low = (known t some).among in omega (arith, here, low)
 
 -- ---- lines
 

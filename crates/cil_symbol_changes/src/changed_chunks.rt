@@ -47,13 +47,7 @@ fn push_change<A: Allocator>(
             change.appeared,
             numbers,
         )?;
-        push_targets(
-            &mut chunks.removed,
-            key,
-            change.word,
-            change.gone,
-            numbers,
-        )?;
+        push_targets(&mut chunks.removed, key, change.word, change.gone, numbers)?;
     }
     Ok(())
 }
