@@ -1,6 +1,6 @@
 -- The counters that rise where a first policy is counted are those of accesses that its rules give.
 use Rattle.std.proofs.Common.{◌≡◌, ◌≢◌, ℕ, ◌+◌, ◌<◌, ◌&&◌, true, List, get_or, length, map, nat_lt, refl, sym, ap, ◌∙◌, subst, inr, arith}
-use Rattle.std.specs.List.{list_all, All, AllPairs, Contains}
+use Rattle.std.specs.List.{list_all, Contains}
 use Rattle.std.proofs.lemmas.Bool.{lt-ltb, ltb-true}
 use Rattle.std.proofs.lemmas.List.{length-map}
 use Rattle.std.proofs.lemmas.List.Elements.{All-contains, All-map, Contains-get_or}
