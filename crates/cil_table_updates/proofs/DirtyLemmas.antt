@@ -138,10 +138,12 @@ module _ (names : List (List ℕ)) (apart : AreApart names) where
         let declared_it = passes-at (is_rule_of meaning.types meaning.attributes meaning.classes) meaning.rules i (named-rule rule) declared (to-mapped named-rule p.resolved.now.rules.items i rule at) in
         elim (cases_Bool (named c)) [
           | inl is_named_it ↦
-              covers-named p.resolved.now names p.numbering.now.symbols apart is.numbers (members_of p.members) is.members rule c.key c.target below_it declared_it is_named_it
+              covers-named p.resolved.now names p.numbering.now.symbols apart is.numbers
+              (members_of p.members) is.members rule c.key c.target below_it declared_it is_named_it
               ∙ sym (ap (λ b. b && gives meaning (named-rule rule) (atom c)) is_named_it)
           | inr unnamed ↦
-              covers-none p.resolved.now names p.numbering.now.symbols apart is.numbers (members_of p.members) is.members rule c.key c.target below_it unnamed
+              covers-none p.resolved.now names p.numbering.now.symbols apart is.numbers
+              (members_of p.members) is.members rule c.key c.target below_it unnamed
               ∙ sym (ap (λ b. b && gives meaning (named-rule rule) (atom c)) unnamed)
         ]
 

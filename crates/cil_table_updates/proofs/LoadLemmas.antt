@@ -77,7 +77,8 @@ module _ {A : Type 0} (names : List (List ℕ)) (apart : AreApart names) (p : Po
       named-at-most before after (subst (λ n. RisesBy (below (comes p) n) before after) (sym (length-map p.resolved.now.rules.items (rule_of p.resolved.now.modules.items p.resolved.now.names.items))) rises)
 
 -- each counter that isn't what it was is one that rose
-module _ {A : Type 0} (p : Policy A) (n before after : ℕ) (rises : RisesBy (below (comes p) n) before after) (was is : SymbolKey → ℕ → ℕ)
+module _ {A : Type 0} (p : Policy A) (n before after : ℕ) (rises : RisesBy (below (comes p) n) before after)
+    (was is : SymbolKey → ℕ → ℕ)
     (put : (key : SymbolKey) (t : ℕ) → is key t ≡ was key t + sum_below (given p key t) n) where
   abbrev counter_of : ℕ × Counter → Counter
   counter_of q = q.1

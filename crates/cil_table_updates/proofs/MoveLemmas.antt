@@ -27,7 +27,8 @@ module _ {A B : Type 0} (symbols : List ℕ) (rule : NumberedRule A) (reach : Re
       → (key : SymbolKey) (t : ℕ) → gives reach head key t ≡ gives_as symbols rule reach key t
   gives-listed head kind class same key t =
       and-front (reaches reach key.source t) (is_kind head.kind key.kind) _
-      ∙ λ i. is_kind (kind i) key.kind && (reaches reach key.source t && ((class i == key.class) && same key.permission i))
+      ∙ λ i. is_kind (kind i) key.kind
+      && (reaches reach key.source t && ((class i == key.class) && same key.permission i))
 
   -- what reaches nothing gives nothing
   pub gives-nothing : ((s : ℕ) → has_source reach s ≡ false) → (key : SymbolKey) (t : ℕ)

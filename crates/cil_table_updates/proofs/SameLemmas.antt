@@ -84,6 +84,8 @@ module _ {A B : Type 0} (old : Resolved A) (new : Resolved B) (names : List (Lis
         let first = is-below old rule low in
         let second = is-below new other below in
         λ i. is_kind (same-head.kind i) key.kind
-        && ((same-element members rule.source other.source key.source first.source second.source (λ j. (same j).source) i
-        && same-target members rule.target other.target key.source t first.target second.target (λ j. (same j).target) i)
+        && ((same-element members rule.source other.source key.source first.source second.source
+        (λ j. (same j).source) i
+        && same-target members rule.target other.target key.source t first.target second.target
+        (λ j. (same j).target) i)
         && ((same-head.class i == key.class) && same-head.permissions key.permission i))

@@ -21,7 +21,8 @@ returns-clause-now g c key t =
     let listed : (p : ℕ) → has_permission head.permissions.now p ≡ lists symbols rule p = λ p.
     ap (λ l. has_permission l p) c.deref.ensures.value ∙ c.in_ok-permissions.ensures.same p
     ∙ ap (list_any (λ q. p == slice_index symbols q)) c.as_slice.ensures in
-    let is : (key : SymbolKey) (t : ℕ) → gives c.in_ok-is.is' head key t ≡ gives_by c.args.policy.now key t rule = λ key t.
+    let is : (key : SymbolKey) (t : ℕ) → gives c.in_ok-is.is' head key t ≡ gives_by c.args.policy.now key t rule =
+    λ key t.
     gives-listed symbols rule c.in_ok-is.is' head refl c.symbol_of-class.ensures.is listed key t
     ∙ gives-covered symbols rule c.in_ok-is.is' members c.in_ok-is.ensures.sources c.in_ok-is.ensures.targets key t in
     omega (arith, c.in_ok-given.ensures.now key t, ap one_if (is key t))
@@ -35,7 +36,8 @@ returns-clause-adjustments g c =
     let listed : (p : ℕ) → has_permission head.permissions.now p ≡ lists symbols rule p = λ p.
     ap (λ l. has_permission l p) c.deref.ensures.value ∙ c.in_ok-permissions.ensures.same p
     ∙ ap (list_any (λ q. p == slice_index symbols q)) c.as_slice.ensures in
-    let is : (key : SymbolKey) (t : ℕ) → gives c.in_ok-is.is' head key t ≡ gives_by c.args.policy.now key t rule = λ key t.
+    let is : (key : SymbolKey) (t : ℕ) → gives c.in_ok-is.is' head key t ≡ gives_by c.args.policy.now key t rule =
+    λ key t.
     gives-listed symbols rule c.in_ok-is.is' head refl c.symbol_of-class.ensures.is listed key t
     ∙ gives-covered symbols rule c.in_ok-is.is' members c.in_ok-is.ensures.sources c.in_ok-is.ensures.targets key t in
     counter-rises (λ p. gives c.in_ok-is.is' head p.0 p.1) (gives_it c.args.policy.now rule) is
@@ -51,7 +53,8 @@ returns-clause-bounded g c key t =
     let listed : (p : ℕ) → has_permission head.permissions.now p ≡ lists symbols rule p = λ p.
     ap (λ l. has_permission l p) c.deref.ensures.value ∙ c.in_ok-permissions.ensures.same p
     ∙ ap (list_any (λ q. p == slice_index symbols q)) c.as_slice.ensures in
-    let is : (key : SymbolKey) (t : ℕ) → gives c.in_ok-is.is' head key t ≡ gives_by c.args.policy.now key t rule = λ key t.
+    let is : (key : SymbolKey) (t : ℕ) → gives c.in_ok-is.is' head key t ≡ gives_by c.args.policy.now key t rule =
+    λ key t.
     gives-listed symbols rule c.in_ok-is.is' head refl c.symbol_of-class.ensures.is listed key t
     ∙ gives-covered symbols rule c.in_ok-is.is' members c.in_ok-is.ensures.sources c.in_ok-is.ensures.targets key t in
     omega (arith, c.in_ok-given.ensures.bounded key t, ap one_if (is key t))
@@ -65,7 +68,8 @@ returns-in_err-given-clause-bounded g c key t =
     let listed : (p : ℕ) → has_permission head.permissions.now p ≡ lists symbols rule p = λ p.
     ap (λ l. has_permission l p) c.deref.ensures.value ∙ c.in_ok-permissions.ensures.same p
     ∙ ap (list_any (λ q. p == slice_index symbols q)) c.as_slice.ensures in
-    let is : (key : SymbolKey) (t : ℕ) → gives c.in_ok-is.is' head key t ≡ gives_by c.args.policy.now key t rule = λ key t.
+    let is : (key : SymbolKey) (t : ℕ) → gives c.in_ok-is.is' head key t ≡ gives_by c.args.policy.now key t rule =
+    λ key t.
     gives-listed symbols rule c.in_ok-is.is' head refl c.symbol_of-class.ensures.is listed key t
     ∙ gives-covered symbols rule c.in_ok-is.is' members c.in_ok-is.ensures.sources c.in_ok-is.ensures.targets key t in
     omega (arith, c.in_err-given.ensures.bounded key t, ap one_if (is key t))

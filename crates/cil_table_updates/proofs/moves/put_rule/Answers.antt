@@ -20,8 +20,10 @@ returns-clause-now g c =
     let members = members_of c.args.policy.now.members in
     let rule = c.args.rule.now in
     let none = gives-nothing symbols rule c.none.result c.none.ensures.none in
-    let is = gives-covered symbols rule c.in_ok-is.is' members c.in_ok-is.ensures.sources c.in_ok-is.ensures.targets in
-    on_ok_weaker c.shift_as.result (λ moved key t. omega (arith, moved key t, ap one_if (none key t), ap one_if (is key t)))
+    let is = gives-covered symbols rule c.in_ok-is.is' members
+    c.in_ok-is.ensures.sources c.in_ok-is.ensures.targets in
+    on_ok_weaker c.shift_as.result
+    (λ moved key t. omega (arith, moved key t, ap one_if (none key t), ap one_if (is key t)))
     c.shift_as.ensures.now
 
 pub returns-clause-adjustments : goal.returns-clause-adjustments
@@ -30,7 +32,8 @@ returns-clause-adjustments g c =
     let members = members_of c.args.policy.now.members in
     let rule = c.args.rule.now in
     let none = gives-nothing symbols rule c.none.result c.none.ensures.none in
-    let is = gives-covered symbols rule c.in_ok-is.is' members c.in_ok-is.ensures.sources c.in_ok-is.ensures.targets in
+    let is = gives-covered symbols rule c.in_ok-is.is' members
+    c.in_ok-is.ensures.sources c.in_ok-is.ensures.targets in
     on_ok_weaker c.shift_as.result
     (λ rises.
     put-rises symbols rule c.none.result c.in_ok-is.is' (adjustments_in c.args.meter.now)
@@ -42,5 +45,6 @@ returns-clause-bounded g c key t =
     let symbols = c.args.policy.now.numbering.now.symbols in
     let members = members_of c.args.policy.now.members in
     let rule = c.args.rule.now in
-    let is = gives-covered symbols rule c.in_ok-is.is' members c.in_ok-is.ensures.sources c.in_ok-is.ensures.targets in
+    let is = gives-covered symbols rule c.in_ok-is.is' members
+    c.in_ok-is.ensures.sources c.in_ok-is.ensures.targets in
     omega (arith, c.shift_as.ensures.bounded key t, ap one_if (is key t))

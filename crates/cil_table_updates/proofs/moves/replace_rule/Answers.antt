@@ -17,9 +17,12 @@ shift_as-requires-clause-counted g c key t =
     let was_members = members_of c.args.old.now.members in
     let was_rule = c.args.old_rule.now in
     let rule = c.args.new_rule.now in
-    let was : (key : SymbolKey) (t : ℕ) → gives_as symbols rule c.in_ok-was.was' key t ≡ gives_by c.args.old.now key t was_rule = λ key t.
-    covered-alike was_symbols symbols was_rule rule c.in_ok-was.was' c.requires.head key t
-    ∙ gives-covered was_symbols was_rule c.in_ok-was.was' was_members c.in_ok-was.ensures.sources c.in_ok-was.ensures.targets key t in
+    let reach = c.in_ok-was.was' in
+    let covered = gives-covered was_symbols was_rule reach was_members
+    c.in_ok-was.ensures.sources c.in_ok-was.ensures.targets in
+    let was : (key : SymbolKey) (t : ℕ) → gives_as symbols rule reach key t ≡ gives_by c.args.old.now key t was_rule =
+    λ key t.
+    covered-alike was_symbols symbols was_rule rule reach c.requires.head key t ∙ covered key t in
     omega (arith, c.requires.counted key t, ap one_if (was key t))
 
 pub returns-clause-now : goal.returns-clause-now
@@ -29,12 +32,17 @@ returns-clause-now g c =
     let was_members = members_of c.args.old.now.members in
     let was_rule = c.args.old_rule.now in
     let rule = c.args.new_rule.now in
-    let was : (key : SymbolKey) (t : ℕ) → gives_as symbols rule c.in_ok-was.was' key t ≡ gives_by c.args.old.now key t was_rule = λ key t.
-    covered-alike was_symbols symbols was_rule rule c.in_ok-was.was' c.requires.head key t
-    ∙ gives-covered was_symbols was_rule c.in_ok-was.was' was_members c.in_ok-was.ensures.sources c.in_ok-was.ensures.targets key t in
+    let reach = c.in_ok-was.was' in
+    let covered = gives-covered was_symbols was_rule reach was_members
+    c.in_ok-was.ensures.sources c.in_ok-was.ensures.targets in
+    let was : (key : SymbolKey) (t : ℕ) → gives_as symbols rule reach key t ≡ gives_by c.args.old.now key t was_rule =
+    λ key t.
+    covered-alike was_symbols symbols was_rule rule reach c.requires.head key t ∙ covered key t in
     let members = members_of c.args.new.now.members in
-    let is = gives-covered symbols rule c.in_ok-is.is' members c.in_ok-is.ensures.sources c.in_ok-is.ensures.targets in
-    on_ok_weaker c.shift_as.result (λ moved key t. omega (arith, moved key t, ap one_if (was key t), ap one_if (is key t)))
+    let is = gives-covered symbols rule c.in_ok-is.is' members
+    c.in_ok-is.ensures.sources c.in_ok-is.ensures.targets in
+    on_ok_weaker c.shift_as.result
+    (λ moved key t. omega (arith, moved key t, ap one_if (was key t), ap one_if (is key t)))
     c.shift_as.ensures.now
 
 pub returns-clause-adjustments : goal.returns-clause-adjustments
@@ -44,11 +52,15 @@ returns-clause-adjustments g c =
     let was_members = members_of c.args.old.now.members in
     let was_rule = c.args.old_rule.now in
     let rule = c.args.new_rule.now in
-    let was : (key : SymbolKey) (t : ℕ) → gives_as symbols rule c.in_ok-was.was' key t ≡ gives_by c.args.old.now key t was_rule = λ key t.
-    covered-alike was_symbols symbols was_rule rule c.in_ok-was.was' c.requires.head key t
-    ∙ gives-covered was_symbols was_rule c.in_ok-was.was' was_members c.in_ok-was.ensures.sources c.in_ok-was.ensures.targets key t in
+    let reach = c.in_ok-was.was' in
+    let covered = gives-covered was_symbols was_rule reach was_members
+    c.in_ok-was.ensures.sources c.in_ok-was.ensures.targets in
+    let was : (key : SymbolKey) (t : ℕ) → gives_as symbols rule reach key t ≡ gives_by c.args.old.now key t was_rule =
+    λ key t.
+    covered-alike was_symbols symbols was_rule rule reach c.requires.head key t ∙ covered key t in
     let members = members_of c.args.new.now.members in
-    let is = gives-covered symbols rule c.in_ok-is.is' members c.in_ok-is.ensures.sources c.in_ok-is.ensures.targets in
+    let is = gives-covered symbols rule c.in_ok-is.is' members
+    c.in_ok-is.ensures.sources c.in_ok-is.ensures.targets in
     on_ok_weaker c.shift_as.result
     (λ rises.
     replace-rises symbols rule c.in_ok-was.was' c.in_ok-is.is' (adjustments_in c.args.meter.now)
@@ -61,5 +73,6 @@ returns-clause-bounded g c key t =
     let symbols = c.args.new.now.numbering.now.symbols in
     let rule = c.args.new_rule.now in
     let members = members_of c.args.new.now.members in
-    let is = gives-covered symbols rule c.in_ok-is.is' members c.in_ok-is.ensures.sources c.in_ok-is.ensures.targets in
+    let is = gives-covered symbols rule c.in_ok-is.is' members
+    c.in_ok-is.ensures.sources c.in_ok-is.ensures.targets in
     omega (arith, c.shift_as.ensures.bounded key t, ap one_if (is key t))

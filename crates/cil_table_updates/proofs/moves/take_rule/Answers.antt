@@ -12,7 +12,8 @@ shift_as-requires-clause-counted g c key t =
     let symbols = c.args.policy.now.numbering.now.symbols in
     let members = members_of c.args.policy.now.members in
     let rule = c.args.rule.now in
-    let was = gives-covered symbols rule c.in_ok-was.was' members c.in_ok-was.ensures.sources c.in_ok-was.ensures.targets in
+    let was = gives-covered symbols rule c.in_ok-was.was' members
+    c.in_ok-was.ensures.sources c.in_ok-was.ensures.targets in
     omega (arith, c.requires.counted key t, ap one_if (was key t))
 
 pub returns-clause-now : goal.returns-clause-now
@@ -21,8 +22,10 @@ returns-clause-now g c =
     let members = members_of c.args.policy.now.members in
     let rule = c.args.rule.now in
     let none = gives-nothing symbols rule c.none.result c.none.ensures.none in
-    let was = gives-covered symbols rule c.in_ok-was.was' members c.in_ok-was.ensures.sources c.in_ok-was.ensures.targets in
-    on_ok_weaker c.shift_as.result (λ moved key t. omega (arith, moved key t, ap one_if (was key t), ap one_if (none key t)))
+    let was = gives-covered symbols rule c.in_ok-was.was' members
+    c.in_ok-was.ensures.sources c.in_ok-was.ensures.targets in
+    on_ok_weaker c.shift_as.result
+    (λ moved key t. omega (arith, moved key t, ap one_if (was key t), ap one_if (none key t)))
     c.shift_as.ensures.now
 
 pub returns-clause-adjustments : goal.returns-clause-adjustments
@@ -31,7 +34,8 @@ returns-clause-adjustments g c =
     let members = members_of c.args.policy.now.members in
     let rule = c.args.rule.now in
     let none = gives-nothing symbols rule c.none.result c.none.ensures.none in
-    let was = gives-covered symbols rule c.in_ok-was.was' members c.in_ok-was.ensures.sources c.in_ok-was.ensures.targets in
+    let was = gives-covered symbols rule c.in_ok-was.was' members
+    c.in_ok-was.ensures.sources c.in_ok-was.ensures.targets in
     on_ok_weaker c.shift_as.result
     (λ rises.
     take-rises symbols rule c.in_ok-was.was' c.none.result (adjustments_in c.args.meter.now)
