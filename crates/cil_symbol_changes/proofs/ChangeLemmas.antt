@@ -108,8 +108,12 @@ module _ (numbers : List ℕ) (lines : Keyed) where
     pub in-no_change : (place : ℕ) (old : List Chunk) → length changes ≤ place → AreGained (IsOfPlace place) old old
     in-no_change place old past = in-none (at (get_or changes place no_change)) old (λ l t. past-changes place l t past)
 
-    pub in-all : (order : List LinePlace) (old new : List Chunk) → AreAllPlaces (length changes) order → AreGained (IsAmong IsOfPlace order) old new → AreGained IsOfAll old new
-    in-all order old new all gained = gained-alike (IsAmong IsOfPlace order) IsOfAll old new gained (λ a some. to a some.1.place some.4) from
+    pub in-all : (order : List LinePlace) (old new : List Chunk)
+        → AreAllPlaces (length changes) order → AreGained (IsAmong IsOfPlace order) old new
+        → AreGained IsOfAll old new
+    in-all order old new all gained =
+        gained-alike (IsAmong IsOfPlace order) IsOfAll old new gained
+        (λ a some. to a some.1.place some.4) from
       where
         to : (a : AccessNumbers) (place : ℕ) → IsOfPlace place a → IsOfAll a
         to a place told =
@@ -124,7 +128,15 @@ module _ (numbers : List ℕ) (lines : Keyed) where
         from : (a : AccessNumbers) → IsOfAll a → IsAmong IsOfPlace order a
         from a told =
             let (i, within, some) = one_of (λ x. at x told.place told.target) changes told.among in
-            among-at IsOfPlace order i a (all i within) (record { place = told.place; key = told.key; line = told.line; target = told.target; among = some; same = told.same })
+            among-at IsOfPlace order i a (all i within)
+            (record {
+              place = told.place;
+              key = told.key;
+              line = told.line;
+              target = told.target;
+              among = some;
+              same = told.same;
+            })
 
   -- ---- all changes
 

@@ -247,16 +247,19 @@ module _ (lines : Keyed) (held : AreKeyed lines.keys lines.lines) where
 
 -- ---- the numbers of lines
 
-module _ (lines : Keyed) (held : AreKeyed lines.keys lines.lines) (stands : ℕ → ℕ → ℕ) (count : ℕ) (few : count < 2 ^ 96)
+module _ (lines : Keyed) (held : AreKeyed lines.keys lines.lines) (stands : ℕ → ℕ → ℕ) (count : ℕ)
+    (few : count < 2 ^ 96)
     (many : RisesBy (λ (p : ℕ × ℕ). nat_lt 0 (stands p.0 p.1)) 0 count) where
   -- the number of what appeared in the lines
-  pub lines-come : ((l t : ℕ) → stands l t ≡ min 1 (now_at lines l t) - min 1 (before_at lines l t)) → AreSoMany (has_come (count_before lines) (count_now lines)) count
+  pub lines-come : ((l t : ℕ) → stands l t ≡ min 1 (now_at lines l t) - min 1 (before_at lines l t))
+      → AreSoMany (has_come (count_before lines) (count_now lines)) count
   lines-come turned =
       so-many (has_come (count_before lines) (count_now lines)) count (omega (arith, few))
       (key-count lines stands (before_at lines) (now_at lines) (count_before lines) (count_now lines) turned (here-now lines held) (λ l key line t. (line.before t, line.now t)) (place-now lines) 0 count many)
 
   -- and of what went
-  pub lines-gone : ((l t : ℕ) → stands l t ≡ min 1 (before_at lines l t) - min 1 (now_at lines l t)) → AreSoMany (has_come (count_now lines) (count_before lines)) count
+  pub lines-gone : ((l t : ℕ) → stands l t ≡ min 1 (before_at lines l t) - min 1 (now_at lines l t))
+      → AreSoMany (has_come (count_now lines) (count_before lines)) count
   lines-gone turned =
       so-many (has_come (count_now lines) (count_before lines)) count (omega (arith, few))
       (key-count lines stands (now_at lines) (before_at lines) (count_now lines) (count_before lines) turned (here-before lines held) (λ l key line t. (line.now t, line.before t)) (place-before lines) 0 count many)
@@ -315,7 +318,10 @@ module _ (ss : List Step) (now before : ℕ → ℕ → ℕ) (turned : IsTurned 
       (omega (arith, balance l t, zero), omega (arith, balance l t, zero))
 
 module _ (lines : Keyed) (held : AreKeyed lines.keys lines.lines) (log : List Step) (is : log ≡ lines.lines.log)
-    (turned : IsTurned lines.lines.log (now_at lines) (before_at lines)) (fits : All (λ (s : Step). s.turned < 2 ^ 64) log) (added removed : ℕ) (few_added : added < 2 ^ 96) (few_removed : removed < 2 ^ 96) (came_is : added ≡ sum_by (λ s. count_ones (came s)) log)
+    (turned : IsTurned lines.lines.log (now_at lines) (before_at lines))
+    (fits : All (λ (s : Step). s.turned < 2 ^ 64) log) (added removed : ℕ)
+    (few_added : added < 2 ^ 96) (few_removed : removed < 2 ^ 96)
+    (came_is : added ≡ sum_by (λ s. count_ones (came s)) log)
     (went_is : removed ≡ sum_by (λ s. count_ones (went s)) log) (none : (added ≡ 0) ⊎ (removed ≡ 0)) where
   each : (l t : ℕ) → (came_at log l t ≡ min 1 (now_at lines l t) - min 1 (before_at lines l t)) × (went_at log l t ≡ min 1 (before_at lines l t) - min 1 (now_at lines l t))
   each =
@@ -341,7 +347,8 @@ module _ (lines : Keyed) (held : AreKeyed lines.keys lines.lines) (log : List St
 
 -- ---- changes
 
-module _ (lines : Keyed) (held : AreKeyed lines.keys lines.lines) (given changes : List Change) (all : given ≡ changes) (count : ℕ) (few : count < 2 ^ 96) where
+module _ (lines : Keyed) (held : AreKeyed lines.keys lines.lines) (given changes : List Change)
+    (all : given ≡ changes) (count : ℕ) (few : count < 2 ^ 96) where
   pub changes-come : ((l t : ℕ) → appeared_at changes l t ≡ min 1 (now_at lines l t) - min 1 (before_at lines l t)) → All (λ (c : Change). c.appeared < 2 ^ 64) given → count ≡ sum_by (λ c. count_ones c.appeared) given
       → AreSoMany (has_come (count_before lines) (count_now lines)) count
   changes-come appeared fit counted =

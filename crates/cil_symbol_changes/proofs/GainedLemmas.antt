@@ -52,10 +52,15 @@ gained-alike told other old new gained to from = record {
 }
 
 -- what is gained where there was nothing is all
-module _ (told : AccessNumbers → Type 0) (old new : List Chunk) (empty : old ≡ []) (gained : AreGained told old new) where
+module _ (told : AccessNumbers → Type 0) (old new : List Chunk) (empty : old ≡ [])
+    (gained : AreGained told old new) where
   pub gained-all : (a : AccessNumbers) → IsGiven new a ↔ told a
   gained-all a = (
-    λ h. elim ((gained.are a).0 h) [ inl before ↦ absurd (let low = (subst (λ cs. IsGiven cs a) empty before).2 in omega (arith, low)) | inr t ↦ t ],
+    λ h. elim ((gained.are a).0 h) [
+      | inl before ↦ absurd
+          (let low = (subst (λ cs. IsGiven cs a) empty before).2 in omega (arith, low))
+      | inr t ↦ t
+    ],
     λ t. (gained.are a).1 (inr t),
   )
 

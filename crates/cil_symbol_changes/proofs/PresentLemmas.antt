@@ -17,7 +17,7 @@ use Rattle.cil_symbol_changes.specs.SourceOrder.{AreListedPlaces, IsAmong, IsAt,
 use Rattle.cil_symbol_changes.specs.declared.source_order.LinePlace.{LinePlace}
 use Rattle.cil_symbol_changes.proofs.ChangeLemmas.{line-now}
 use Rattle.cil_symbol_changes.proofs.GainedLemmas.{gained-alike, gained-more, gained-none}
-use Rattle.cil_symbol_changes.proofs.OrderLemmas.{among-at}
+use Rattle.cil_symbol_changes.proofs.OrderLemmas.{among-at, IsListedPlace}
 
 -- the targets of the mask of a word are those that are counted
 hit-counted : (counts : ℕ → ℕ) (word mask : ℕ) → IsPresence counts word mask → (t : ℕ) → 0 < hit word mask t → (t / 64 ≡ word) × (0 < counts t)
@@ -107,19 +107,28 @@ module _ (numbers : List ℕ) (lines : Keyed) where
       omega (arith, within, here, behind))
 
   -- an order that has the lines of a listing
-  pub among-listed : (order : List LinePlace) (old new : List Chunk) → AreListedPlaces lines order → AreGained (IsAmong (IsAt numbers lines) order) old new → AreGained (IsListedIn numbers lines) old new
-  among-listed order old new listed gained = gained-alike (IsAmong (IsAt numbers lines) order) (IsListedIn numbers lines) old new gained to from
+  pub among-listed : (order : List LinePlace) (old new : List Chunk) → AreListedPlaces lines order
+      → AreGained (IsAmong (IsAt numbers lines) order) old new
+      → AreGained (IsListedIn numbers lines) old new
+  among-listed order old new listed gained =
+      gained-alike (IsAmong (IsAt numbers lines) order) (IsListedIn numbers lines) old new gained to
+      from
     where
       to : (a : AccessNumbers) → IsAmong (IsAt numbers lines) order a → IsListedIn numbers lines a
       to a (k, x, within, at, is) =
           let told = is.told in
-          let line : IsLineOf lines x.place told.key = subst (λ l. IsLineOf lines l told.key) is.here told.line in
-          record { told = told; listed = All-contains (λ x. (key : SymbolKey) → IsLineOf lines x.place key → is_listed key.kind ≡ true) order x listed.alone (k, within, at) told.key line }
+          let line = subst (λ l. IsLineOf lines l told.key) is.here told.line in
+          record {
+            told = told;
+            listed = All-contains (IsListedPlace lines) order x listed.alone (k, within, at) told.key line;
+          }
 
       from : (a : AccessNumbers) → IsListedIn numbers lines a → IsAmong (IsAt numbers lines) order a
       from a one =
           let told = one.told in
-          among-at (IsAt numbers lines) order told.place a (listed.all told.place told.key told.line one.listed) (record { told = told; here = refl })
+          among-at (IsAt numbers lines) order told.place a
+          (listed.all told.place told.key told.line one.listed)
+          (record { told = told; here = refl })
 
 -- ---- lines, word by word
 
@@ -177,25 +186,51 @@ module _ (numbers : List ℕ) (lines : Keyed) (source : List LinePlace) where
   pub among-no_words : (old : List Chunk) → AreGained (UpTo 0) old old
   among-no_words old = gained-none (UpTo 0) old (λ a some. let low = some.4.low in omega (arith, low))
 
-  pub among-word : (word : ℕ) (old mid new : List Chunk) → AreGained (UpTo word) old mid → AreGained (Here word) mid new → AreGained (UpTo (word + 1)) old new
-  among-word word old mid new first second = gained-more (UpTo word) (Here word) (UpTo (word + 1)) old mid new first second split left right
+  pub among-word : (word : ℕ) (old mid new : List Chunk) → AreGained (UpTo word) old mid
+      → AreGained (Here word) mid new → AreGained (UpTo (word + 1)) old new
+  among-word word old mid new first second =
+      gained-more (UpTo word) (Here word) (UpTo (word + 1)) old mid new first second split left
+      right
     where
       split : (a : AccessNumbers) → UpTo (word + 1) a → UpTo word a ⊎ Here word a
       split a (k, x, within, at, is) =
           let low = is.low in
           elim (cases_lt (is.told.told.target / 64) word) [
             | inl before ↦ inl (k, x, within, at, record { told = is.told; low = before })
-            | inr behind ↦ inr (k, x, within, at, record { told = is.told; stands = omega (arith, low, behind) })
+            | inr behind ↦
+                inr (
+                  k,
+                  x,
+                  within,
+                  at,
+                  record { told = is.told; stands = omega (arith, low, behind) },
+                )
           ]
 
       left : (a : AccessNumbers) → UpTo word a → UpTo (word + 1) a
-      left a (k, x, within, at, is) = let low = is.low in (k, x, within, at, record { told = is.told; low = omega (arith, low) })
+      left a (k, x, within, at, is) =
+          let low = is.low in (
+            k,
+            x,
+            within,
+            at,
+            record { told = is.told; low = omega (arith, low) },
+          )
 
       right : (a : AccessNumbers) → Here word a → UpTo (word + 1) a
-      right a (k, x, within, at, is) = let here = is.stands in (k, x, within, at, record { told = is.told; low = omega (arith, here) })
+      right a (k, x, within, at, is) =
+          let here = is.stands in (
+            k,
+            x,
+            within,
+            at,
+            record { told = is.told; low = omega (arith, here) },
+          )
 
   -- no symbol that is known stands behind the words
-  pub among-words : (words : ℕ) (old new : List Chunk) → length numbers ≤ 64 * words → AreKnownIn numbers lines (now_at lines) → AreGained (UpTo words) old new → AreGained Each old new
+  pub among-words : (words : ℕ) (old new : List Chunk) → length numbers ≤ 64 * words
+      → AreKnownIn numbers lines (now_at lines) → AreGained (UpTo words) old new
+      → AreGained Each old new
   among-words words old new past known gained = gained-alike (UpTo words) Each old new gained to from
     where
       to : (a : AccessNumbers) → UpTo words a → Each a
@@ -213,25 +248,48 @@ module _ (numbers : List ℕ) (lines : Keyed) where
   pub known-now : ArePresentNumbered numbers (count_now lines) → AreKnownIn numbers lines (now_at lines)
   known-now numbered place key line t some = numbered key t (subst (λ n. 0 < n) (line.now t) some)
 
-  pub in-present : (old new : List Chunk) → AreGained (IsListedIn numbers lines) old new → AreGained (IsPresent numbers (listed (count_now lines))) old new
-  in-present old new gained = gained-alike (IsListedIn numbers lines) (IsPresent numbers (listed (count_now lines))) old new gained to from
+  pub in-present : (old new : List Chunk) → AreGained (IsListedIn numbers lines) old new
+      → AreGained (IsPresent numbers (listed (count_now lines))) old new
+  in-present old new gained =
+      gained-alike (IsListedIn numbers lines) (IsPresent numbers (listed (count_now lines))) old new
+      gained to from
     where
       -- the counters of a listing, where a kind is told to be part of it or not to be
-      counted : (key : SymbolKey) (t : ℕ) (b : Bool) → is_listed key.kind ≡ b → listed (count_now lines) key t ≡ cond b (count_now lines key t) 0
+      counted : (key : SymbolKey) (t : ℕ) (b : Bool) → is_listed key.kind ≡ b
+          → listed (count_now lines) key t ≡ cond b (count_now lines key t) 0
       counted key t b is = ap (λ l. cond l (count_now lines key t) 0) is
 
       to : (a : AccessNumbers) → IsListedIn numbers lines a → IsPresent numbers (listed (count_now lines)) a
       to a one =
           let told = one.told in
-          let some : 0 < count_now lines told.key told.target = subst (λ n. 0 < n) (told.line.now told.target) told.among in
-          record { key = told.key; target = told.target; absent = refl; present = subst (λ n. 0 < n) (sym (counted told.key told.target true one.listed)) some; same = told.same }
+          let some = subst (λ n. 0 < n) (told.line.now told.target) told.among in
+          record {
+            key = told.key;
+            target = told.target;
+            absent = refl;
+            present = subst (λ n. 0 < n) (sym (counted told.key told.target true one.listed)) some;
+            same = told.same;
+          }
 
       from : (a : AccessNumbers) → IsPresent numbers (listed (count_now lines)) a → IsListedIn numbers lines a
       from a told = by (is_listed told.key.kind) refl
         where
           by : (b : Bool) → is_listed told.key.kind ≡ b → IsListedIn numbers lines a
           by true is =
-              let some : 0 < count_now lines told.key told.target = subst (λ n. 0 < n) (counted told.key told.target true is) told.present in
+              let some = subst (λ n. 0 < n) (counted told.key told.target true is) told.present in
               let (l, line) = line-now lines told.key told.target some in
-              record { told = record { place = l; key = told.key; line = line; target = told.target; among = subst (λ n. 0 < n) (sym (line.now told.target)) some; same = told.same }; listed = is }
-          by false is = absurd (let some = told.present in let none = counted told.key told.target false is in omega (arith, some, none))
+              record {
+                told = record {
+                  place = l;
+                  key = told.key;
+                  line = line;
+                  target = told.target;
+                  among = subst (λ n. 0 < n) (sym (line.now told.target)) some;
+                  same = told.same;
+                };
+                listed = is;
+              }
+          by false is =
+              let some = told.present in
+              let none = counted told.key told.target false is in
+              absurd (omega (arith, some, none))

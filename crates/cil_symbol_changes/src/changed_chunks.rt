@@ -9,7 +9,7 @@ ghost use Rattle.cil_recorded.specs.Log.{hit_at};
 ghost use Rattle.cil_keyed_lines.specs.Keyed.{count_before, count_now};
 ghost use Rattle.cil_symbol_changes.specs.Gained.{AreGained, AreKnownIn, IsIn, IsShort};
 ghost use Rattle.cil_symbol_changes.specs.Numbered.{AreNumbered, IsNew};
-ghost use Rattle.cil_symbol_changes.specs.SourceOrder.{appeared_in, gone_in, AreAllPlaces, IsAmong};
+ghost use Rattle.cil_symbol_changes.specs.SourceOrder.{AreAllPlaces, HasAppeared, HasGone, IsAmong};
 
 use crate::source_order::{LinePlace, changes_by_source, split_source};
 use crate::targets::{GrowingChunks, push_targets};
@@ -36,8 +36,12 @@ fn push_change<A: Allocator>(
     requires gone { AreKnownIn numbers.now lines.now (hit_at change.now.line change.now.word change.now.gone) }
     requires short_added { All IsShort chunks.old.added.chunks.items }
     requires short_removed { All IsShort chunks.old.removed.chunks.items }
-    ensures added { OnOk result (AreGained (IsIn numbers.now lines.now (hit_at change.now.line change.now.word change.now.appeared)) chunks.old.added.chunks.items chunks.new.added.chunks.items) }
-    ensures removed { OnOk result (AreGained (IsIn numbers.now lines.now (hit_at change.now.line change.now.word change.now.gone)) chunks.old.removed.chunks.items chunks.new.removed.chunks.items) }
+    ensures added { OnOk result
+        (AreGained (IsIn numbers.now lines.now (hit_at change.now.line change.now.word change.now.appeared))
+        chunks.old.added.chunks.items chunks.new.added.chunks.items) }
+    ensures removed { OnOk result
+        (AreGained (IsIn numbers.now lines.now (hit_at change.now.line change.now.word change.now.gone))
+        chunks.old.removed.chunks.items chunks.new.removed.chunks.items) }
 {
     if let Some(key) = lines.at(change.line) {
         push_targets(
@@ -64,8 +68,12 @@ fn push_place<A: Allocator>(
     requires gone { AreKnownIn numbers.now lines.now (gone_at changes.now) }
     requires short_added { All IsShort chunks.old.added.chunks.items }
     requires short_removed { All IsShort chunks.old.removed.chunks.items }
-    ensures added { OnOk result (AreGained (IsIn numbers.now lines.now (appeared_in changes.now place)) chunks.old.added.chunks.items chunks.new.added.chunks.items) }
-    ensures removed { OnOk result (AreGained (IsIn numbers.now lines.now (gone_in changes.now place)) chunks.old.removed.chunks.items chunks.new.removed.chunks.items) }
+    ensures added { OnOk result
+        (AreGained (HasAppeared numbers.now lines.now changes.now place)
+        chunks.old.added.chunks.items chunks.new.added.chunks.items) }
+    ensures removed { OnOk result
+        (AreGained (HasGone numbers.now lines.now changes.now place)
+        chunks.old.removed.chunks.items chunks.new.removed.chunks.items) }
 {
     if place < changes.len() {
         push_change(chunks, lines, &changes[place], numbers)
@@ -74,8 +82,8 @@ fn push_place<A: Allocator>(
     }
 }
 
-/// Appends the accesses of the changes of some places, and puts them in order: a few at a time, where these changes are of one kind and
-/// source.
+/// Appends the accesses of the changes of some places, and puts them in order: a few at a time, where
+/// these changes are of one kind and source.
 fn push_source<A: Allocator>(
     chunks: &mut ChangedChunks<A>,
     lines: &KeyedLines<A>,
@@ -87,8 +95,12 @@ fn push_source<A: Allocator>(
     requires gone { AreKnownIn numbers.now lines.now (gone_at changes.now) }
     requires short_added { All IsShort chunks.old.added.chunks.items }
     requires short_removed { All IsShort chunks.old.removed.chunks.items }
-    ensures added { OnOk result (AreGained (IsAmong (λ place. IsIn numbers.now lines.now (appeared_in changes.now place)) source.now) chunks.old.added.chunks.items chunks.new.added.chunks.items) }
-    ensures removed { OnOk result (AreGained (IsAmong (λ place. IsIn numbers.now lines.now (gone_in changes.now place)) source.now) chunks.old.removed.chunks.items chunks.new.removed.chunks.items) }
+    ensures added { OnOk result
+        (AreGained (IsAmong (HasAppeared numbers.now lines.now changes.now) source.now)
+        chunks.old.added.chunks.items chunks.new.added.chunks.items) }
+    ensures removed { OnOk result
+        (AreGained (IsAmong (HasGone numbers.now lines.now changes.now) source.now)
+        chunks.old.removed.chunks.items chunks.new.removed.chunks.items) }
 {
     let added = chunks.added.chunks.len();
     let removed = chunks.removed.chunks.len();
@@ -113,8 +125,12 @@ fn push_changes<A: Allocator>(
     requires gone { AreKnownIn numbers.now lines.now (gone_at changes.now) }
     requires short_added { All IsShort chunks.old.added.chunks.items }
     requires short_removed { All IsShort chunks.old.removed.chunks.items }
-    ensures added { OnOk result (AreGained (IsIn numbers.now lines.now (appeared_at changes.now)) chunks.old.added.chunks.items chunks.new.added.chunks.items) }
-    ensures removed { OnOk result (AreGained (IsIn numbers.now lines.now (gone_at changes.now)) chunks.old.removed.chunks.items chunks.new.removed.chunks.items) }
+    ensures added { OnOk result
+        (AreGained (IsIn numbers.now lines.now (appeared_at changes.now))
+        chunks.old.added.chunks.items chunks.new.added.chunks.items) }
+    ensures removed { OnOk result
+        (AreGained (IsIn numbers.now lines.now (gone_at changes.now))
+        chunks.old.removed.chunks.items chunks.new.removed.chunks.items) }
 {
     let mut left = order;
     while let Some((source, behind)) = split_source(left) {
@@ -131,8 +147,10 @@ pub fn collect<A: Allocator + Copy>(
     numbers: &[u32],
 ) -> Result<ChangedChunks<A>, AllocError>
     requires { AreNumbered numbers.now lines.now }
-    ensures added { IfOk result (λ chunks. (a : AccessNumbers) → IsGiven chunks.added.chunks.items a ↔ IsNew numbers.now (count_before lines.now) (count_now lines.now) a) }
-    ensures removed { IfOk result (λ chunks. (a : AccessNumbers) → IsGiven chunks.removed.chunks.items a ↔ IsNew numbers.now (count_now lines.now) (count_before lines.now) a) }
+    ensures added { IfOk result (λ chunks. (a : AccessNumbers) → IsGiven chunks.added.chunks.items a
+        ↔ IsNew numbers.now (count_before lines.now) (count_now lines.now) a) }
+    ensures removed { IfOk result (λ chunks. (a : AccessNumbers) → IsGiven chunks.removed.chunks.items a
+        ↔ IsNew numbers.now (count_now lines.now) (count_before lines.now) a) }
     ensures short_added { IfOk result (λ chunks. All IsShort chunks.added.chunks.items) }
     ensures short_removed { IfOk result (λ chunks. All IsShort chunks.removed.chunks.items) }
 {

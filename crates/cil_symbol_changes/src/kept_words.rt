@@ -81,7 +81,9 @@ fn push_word<A: Allocator>(
 ) -> Result<(), AllocError>
     requires kept { AreKept numbers.now }
     requires known { AreKnownIn numbers.now lines.now (now_at lines.now) }
-    ensures { OnOk result (AreGained (IsAmong (IsAtWord numbers.now lines.now word) source.now) chunks.old.items chunks.new.items) }
+    ensures { OnOk result
+        (AreGained (IsAmong (IsAtWord numbers.now lines.now word) source.now) chunks.old.items
+        chunks.new.items) }
 {
     for at in source {
         push_place(chunks, lines, at.place as usize, word, numbers)?;
@@ -89,8 +91,8 @@ fn push_word<A: Allocator>(
     Ok(())
 }
 
-/// Appends the accesses that the lines of some places give, word by word: where the lines are of one kind and source and in order, so are
-/// these.
+/// Appends the accesses that the lines of some places give, word by word: where the lines are of one kind
+/// and source and in order, so are these.
 pub fn push_words<A: Allocator>(
     chunks: &mut Vec<Chunk, A>,
     lines: &KeyedLines<A>,
@@ -99,7 +101,9 @@ pub fn push_words<A: Allocator>(
 ) -> Result<(), AllocError>
     requires kept { AreKept numbers.now }
     requires known { AreKnownIn numbers.now lines.now (now_at lines.now) }
-    ensures { OnOk result (AreGained (IsAmong (IsAt numbers.now lines.now) source.now) chunks.old.items chunks.new.items) }
+    ensures { OnOk result
+        (AreGained (IsAmong (IsAt numbers.now lines.now) source.now) chunks.old.items
+        chunks.new.items) }
 {
     for word in 0..words_len(numbers) {
         push_word(chunks, lines, source, word, numbers)?;

@@ -44,8 +44,8 @@ fn chunks_len<A: Allocator>(lines: &KeyedLines<A>) -> usize {
     words
 }
 
-/// Whether the lines of some places, of so many words each, have enough words with a target that they may be looked at word by word. It
-/// looks at no more lines than it takes to see that.
+/// Whether the lines of some places, of so many words each, have enough words with a target that they may
+/// be looked at word by word. It looks at no more lines than it takes to see that.
 fn are_dense<A: Allocator>(lines: &KeyedLines<A>, source: &[LinePlace], words: usize) -> bool {
     let enough = source.len().saturating_mul(words) / SPAN;
     let mut found: usize = 0;
@@ -69,7 +69,9 @@ fn push_line<A: Allocator>(
     requires line { IsLineOf lines.now place key }
     requires known { AreKnownIn numbers.now lines.now (now_at lines.now) }
     requires short { All IsShort growing.old.chunks.items }
-    ensures { OnOk result (AreGained (IsTo numbers.now key (λ t. 0 < now_at lines.now place t)) growing.old.chunks.items growing.new.chunks.items) }
+    ensures { OnOk result
+        (AreGained (IsTo numbers.now key (λ t. 0 < now_at lines.now place t))
+        growing.old.chunks.items growing.new.chunks.items) }
 {
     let mut from = 0;
     while let Some(word) = lines.next_present_word(place, from) {
@@ -89,7 +91,9 @@ fn push_place<A: Allocator>(
 ) -> Result<(), AllocError>
     requires known { AreKnownIn numbers.now lines.now (now_at lines.now) }
     requires short { All IsShort growing.old.chunks.items }
-    ensures { OnOk result (AreGained (IsAt numbers.now lines.now place) growing.old.chunks.items growing.new.chunks.items) }
+    ensures { OnOk result
+        (AreGained (IsAt numbers.now lines.now place) growing.old.chunks.items
+        growing.new.chunks.items) }
 {
     match lines.at(place) {
         Some(key) => push_line(growing, lines, place, key, numbers),
@@ -97,9 +101,9 @@ fn push_place<A: Allocator>(
     }
 }
 
-/// Appends the accesses of the lines of some places in order, where these lines are of one kind and source. Where each symbol is its own
-/// number, lines with a target in at least one word of `SPAN` are looked at word by word, which gives the order. Else what the lines give
-/// is put in order: a few at a time.
+/// Appends the accesses of the lines of some places in order, where these lines are of one kind and source.
+/// Where each symbol is its own number, lines with a target in at least one word of `SPAN` are looked at
+/// word by word, which gives the order. Else what the lines give is put in order: a few at a time.
 fn push_source<A: Allocator>(
     growing: &mut GrowingChunks<A>,
     lines: &KeyedLines<A>,
@@ -110,7 +114,9 @@ fn push_source<A: Allocator>(
     requires kept { IsTrue kept → AreKept numbers.now }
     requires known { AreKnownIn numbers.now lines.now (now_at lines.now) }
     requires short { All IsShort growing.old.chunks.items }
-    ensures { OnOk result (AreGained (IsAmong (IsAt numbers.now lines.now) source.now) growing.old.chunks.items growing.new.chunks.items) }
+    ensures { OnOk result
+        (AreGained (IsAmong (IsAt numbers.now lines.now) source.now) growing.old.chunks.items
+        growing.new.chunks.items) }
 {
     if kept && are_dense(lines, source, words_len(numbers)) {
         return push_words(&mut growing.chunks, lines, source, numbers);
@@ -133,7 +139,9 @@ fn push_lines<A: Allocator>(
     requires listed { AreListedPlaces lines.now order.now }
     requires known { AreKnownIn numbers.now lines.now (now_at lines.now) }
     requires short { All IsShort growing.old.chunks.items }
-    ensures { OnOk result (AreGained (IsListedIn numbers.now lines.now) growing.old.chunks.items growing.new.chunks.items) }
+    ensures { OnOk result
+        (AreGained (IsListedIn numbers.now lines.now) growing.old.chunks.items
+        growing.new.chunks.items) }
 {
     let kept = are_kept(numbers);
     let mut left = order;

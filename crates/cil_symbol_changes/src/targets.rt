@@ -87,7 +87,9 @@ pub fn push_targets<A: Allocator>(
 ) -> Result<(), AllocError>
     requires known { AreKnown numbers.now key (hit word mask) }
     requires short { All IsShort growing.old.chunks.items }
-    ensures { OnOk result (AreGained (IsTo numbers.now key (λ t. 0 < hit word mask t)) growing.old.chunks.items growing.new.chunks.items) }
+    ensures { OnOk result
+        (AreGained (IsTo numbers.now key (λ t. 0 < hit word mask t)) growing.old.chunks.items
+        growing.new.chunks.items) }
 {
     if mask == 0 {
         return Ok(());

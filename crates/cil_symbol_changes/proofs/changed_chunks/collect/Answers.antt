@@ -12,11 +12,14 @@ push_changes-requires-clause-all g c =
 
 pub push_changes-requires-clause-appeared : goal.push_changes-requires-clause-appeared
 push_changes-requires-clause-appeared g c =
-    known-appeared c.args.numbers.now c.args.lines.now c.deref-2.result.now c.in_ok-changes.changes.items c.deref-2.ensures.value c.in_ok-changes.ensures.appeared c.requires
+    known-appeared c.args.numbers.now c.args.lines.now c.deref-2.result.now
+    c.in_ok-changes.changes.items c.deref-2.ensures.value c.in_ok-changes.ensures.appeared
+    c.requires
 
 pub push_changes-requires-clause-gone : goal.push_changes-requires-clause-gone
 push_changes-requires-clause-gone g c =
-    known-gone c.args.numbers.now c.args.lines.now c.deref-2.result.now c.in_ok-changes.changes.items c.deref-2.ensures.value c.in_ok-changes.ensures.gone c.requires
+    known-gone c.args.numbers.now c.args.lines.now c.deref-2.result.now
+    c.in_ok-changes.changes.items c.deref-2.ensures.value c.in_ok-changes.ensures.gone c.requires
 
 pub returns : goal.returns
 returns g c =
@@ -24,11 +27,19 @@ returns g c =
     let lines = c.args.lines.now in
     let old = c.new.result.chunks.items in
     let new = c.push_changes.new.chunks in
-    let came = new-appeared numbers lines c.deref-2.result.now c.in_ok-changes.changes.items c.deref-2.ensures.value c.in_ok-changes.ensures.appeared old new.added.chunks.items c.in_ok-push_changes.ensures.added in
-    let went = new-gone numbers lines c.deref-2.result.now c.in_ok-changes.changes.items c.deref-2.ensures.value c.in_ok-changes.ensures.gone c.new-2.result.chunks.items new.removed.chunks.items c.in_ok-push_changes.ensures.removed in
+    let came = new-appeared numbers lines c.deref-2.result.now c.in_ok-changes.changes.items
+    c.deref-2.ensures.value c.in_ok-changes.ensures.appeared old new.added.chunks.items
+    c.in_ok-push_changes.ensures.added in
+    let went = new-gone numbers lines c.deref-2.result.now c.in_ok-changes.changes.items
+    c.deref-2.ensures.value c.in_ok-changes.ensures.gone c.new-2.result.chunks.items
+    new.removed.chunks.items c.in_ok-push_changes.ensures.removed in
     record {
-      added = gained-all (IsNew numbers (count_before lines) (count_now lines)) old new.added.chunks.items c.new.ensures came;
-      removed = gained-all (IsNew numbers (count_now lines) (count_before lines)) c.new-2.result.chunks.items new.removed.chunks.items c.new-2.ensures went;
-      short_added = gained-short (IsNew numbers (count_before lines) (count_now lines)) old new.added.chunks.items c.new.ensures came;
-      short_removed = gained-short (IsNew numbers (count_now lines) (count_before lines)) c.new-2.result.chunks.items new.removed.chunks.items c.new-2.ensures went;
+      added = gained-all (IsNew numbers (count_before lines) (count_now lines)) old
+          new.added.chunks.items c.new.ensures came;
+      removed = gained-all (IsNew numbers (count_now lines) (count_before lines))
+          c.new-2.result.chunks.items new.removed.chunks.items c.new-2.ensures went;
+      short_added = gained-short (IsNew numbers (count_before lines) (count_now lines)) old
+          new.added.chunks.items c.new.ensures came;
+      short_removed = gained-short (IsNew numbers (count_now lines) (count_before lines))
+          c.new-2.result.chunks.items new.removed.chunks.items c.new-2.ensures went;
     }

@@ -1,14 +1,15 @@
 use Rattle.std.proofs.Common.{length}
-use Rattle.cil_symbol_changes.specs.Gained.{IsIn}
-use Rattle.cil_symbol_changes.specs.SourceOrder.{appeared_in, gone_in}
+use Rattle.cil_symbol_changes.specs.SourceOrder.{HasAppeared, HasGone}
 use Rattle.cil_symbol_changes.proofs.OrderLemmas.{AreMissing}
 use Rattle.cil_symbol_changes.proofs.changed_chunks.push_changes.Given as goal
 
 -- the changes that are left are missing
 abbrev pub invariant-loop-source : goal.invariant-loop-source
 invariant-loop-source g l = record {
-  added : AreMissing (λ place. IsIn l.numbers l.lines (appeared_in l.changes place)) l.order l.left l.fn.chunks.added.chunks.items l.chunks.added.chunks.items;
-  removed : AreMissing (λ place. IsIn l.numbers l.lines (gone_in l.changes place)) l.order l.left l.fn.chunks.removed.chunks.items l.chunks.removed.chunks.items;
+  added : AreMissing (HasAppeared l.numbers l.lines l.changes) l.order l.left
+      l.fn.chunks.added.chunks.items l.chunks.added.chunks.items;
+  removed : AreMissing (HasGone l.numbers l.lines l.changes) l.order l.left
+      l.fn.chunks.removed.chunks.items l.chunks.removed.chunks.items;
 }
 
 abbrev pub decreases-loop-source : goal.decreases-loop-source

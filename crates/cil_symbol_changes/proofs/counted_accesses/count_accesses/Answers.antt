@@ -8,4 +8,6 @@ use Rattle.cil_symbol_changes.proofs.counted_accesses.count_accesses.Goals as go
 pub returns : goal.returns
 returns g c =
     let few = c.if-count.false in
-    so-many (has_come (λ key t. 0) (count_now c.args.lines.now)) c.in_ok-count.count (omega (arith, few)) (lines-present c.args.lines.now c.log.ensures.keyed 0 c.in_ok-count.count c.in_ok-count.ensures)
+    so-many (has_come (λ key t. 0) (count_now c.args.lines.now)) c.in_ok-count.count
+    (omega (arith, few))
+    (lines-present c.args.lines.now c.log.ensures.keyed 0 c.in_ok-count.count c.in_ok-count.ensures)

@@ -7,8 +7,13 @@ loop-at-init g c = among-none (IsAtWord c.args.numbers.now c.args.lines.now c.ar
 
 pub loop-at-preserved : goal.loop-at-preserved
 loop-at-preserved g c =
-    among-more (IsAtWord c.args.numbers.now c.args.lines.now c.args.word) c.args.source.now c.loop-at.at-index c.args.chunks.now.items c.loop-at.chunks.items c.push_place.new.chunks.items c.loop-at-test.true
+    among-more (IsAtWord c.args.numbers.now c.args.lines.now c.args.word) c.args.source.now
+    c.loop-at.at-index c.args.chunks.now.items c.loop-at.chunks.items c.push_place.new.chunks.items
+    c.loop-at-test.true
     c.loop-at.invariant c.in_ok-push_place.ensures
 
 pub returns : goal.returns
-returns g c = among-all (IsAtWord c.args.numbers.now c.args.lines.now c.args.word) c.args.source.now c.loop-at.at-index c.args.chunks.now.items c.loop-at.chunks.items c.loop-at-test.false c.loop-at.invariant
+returns g c =
+    among-all (IsAtWord c.args.numbers.now c.args.lines.now c.args.word) c.args.source.now
+    c.loop-at.at-index c.args.chunks.now.items c.loop-at.chunks.items c.loop-at-test.false
+    c.loop-at.invariant

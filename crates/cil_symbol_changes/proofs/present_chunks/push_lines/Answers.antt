@@ -4,17 +4,24 @@ use Rattle.cil_symbol_changes.proofs.PresentLemmas.{among-listed}
 use Rattle.cil_symbol_changes.proofs.present_chunks.push_lines.Goals as goal
 
 pub loop-source-init : goal.loop-source-init
-loop-source-init g c = missing-all (IsAt c.args.numbers.now c.args.lines.now) c.args.order.now c.args.growing.now.chunks.items
+loop-source-init g c =
+    missing-all (IsAt c.args.numbers.now c.args.lines.now) c.args.order.now
+    c.args.growing.now.chunks.items
 
 pub push_source-requires-clause-short : goal.push_source-requires-clause-short
 push_source-requires-clause-short g c = c.loop-source.invariant.short c.requires.short
 
 pub loop-source-preserved : goal.loop-source-preserved
 loop-source-preserved g c =
-    missing-less (IsAt c.args.numbers.now c.args.lines.now) c.args.order.now c.loop-source.left.now c.in-Some.source.now c.in-Some.behind.now c.args.growing.now.chunks.items c.loop-source.growing.chunks.items c.push_source.new.growing.chunks.items
+    missing-less (IsAt c.args.numbers.now c.args.lines.now) c.args.order.now c.loop-source.left.now
+    c.in-Some.source.now c.in-Some.behind.now c.args.growing.now.chunks.items
+    c.loop-source.growing.chunks.items c.push_source.new.growing.chunks.items
     c.loop-source.invariant c.in-Some.ensures c.in_ok-push_source.ensures
 
 pub returns : goal.returns
 returns g c =
-    among-listed c.args.numbers.now c.args.lines.now c.args.order.now c.args.growing.now.chunks.items c.loop-source.growing.chunks.items c.requires.listed
-    (missing-none (IsAt c.args.numbers.now c.args.lines.now) c.args.order.now c.loop-source.left.now c.args.growing.now.chunks.items c.loop-source.growing.chunks.items c.loop-source.invariant c.in_default.ensures)
+    among-listed c.args.numbers.now c.args.lines.now c.args.order.now
+    c.args.growing.now.chunks.items c.loop-source.growing.chunks.items c.requires.listed
+    (missing-none (IsAt c.args.numbers.now c.args.lines.now) c.args.order.now c.loop-source.left.now
+    c.args.growing.now.chunks.items c.loop-source.growing.chunks.items c.loop-source.invariant
+    c.in_default.ensures)

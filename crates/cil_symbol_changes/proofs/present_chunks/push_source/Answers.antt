@@ -7,12 +7,16 @@ loop-at-init g c = among-none (IsAt c.args.numbers.now c.args.lines.now) c.args.
 
 pub loop-at-preserved : goal.loop-at-preserved
 loop-at-preserved g c =
-    among-more (IsAt c.args.numbers.now c.args.lines.now) c.args.source.now c.loop-at.at-index c.args.growing.now.chunks.items c.loop-at.growing.chunks.items c.push_place.new.growing.chunks.items c.loop-at-test.true
+    among-more (IsAt c.args.numbers.now c.args.lines.now) c.args.source.now c.loop-at.at-index
+    c.args.growing.now.chunks.items c.loop-at.growing.chunks.items
+    c.push_place.new.growing.chunks.items c.loop-at-test.true
     c.loop-at.invariant c.in_ok-push_place.ensures
 
 pub returns : goal.returns
 returns g c =
     let at = IsAt c.args.numbers.now c.args.lines.now in
-    gained-moved (IsAmong at c.args.source.now) c.args.growing.now.chunks.items c.loop-at.growing.chunks.items c.sort_from.new.chunks.items
-    (among-all at c.args.source.now c.loop-at.at-index c.args.growing.now.chunks.items c.loop-at.growing.chunks.items c.loop-at-test.false c.loop-at.invariant)
+    gained-moved (IsAmong at c.args.source.now) c.args.growing.now.chunks.items
+    c.loop-at.growing.chunks.items c.sort_from.new.chunks.items
+    (among-all at c.args.source.now c.loop-at.at-index c.args.growing.now.chunks.items
+    c.loop-at.growing.chunks.items c.loop-at-test.false c.loop-at.invariant)
     c.sort_from.ensures

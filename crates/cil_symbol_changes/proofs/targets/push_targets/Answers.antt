@@ -6,7 +6,9 @@ use Rattle.cil_symbol_changes.proofs.GainedLemmas.{gained-nothing, gained-target
 use Rattle.cil_symbol_changes.proofs.targets.push_targets.Goals as goal
 
 pub returns-then-mask-eq0 : goal.returns-then-mask-eq0
-returns-then-mask-eq0 g c = gained-nothing c.args.numbers.now c.args.key c.args.word c.args.mask c.if-mask-eq0.true c.args.growing.now.chunks.items
+returns-then-mask-eq0 g c =
+    gained-nothing c.args.numbers.now c.args.key c.args.word c.args.mask c.if-mask-eq0.true
+    c.args.growing.now.chunks.items
 
 pub push_renumbered-requires-clause-within : goal.push_renumbered-requires-clause-within
 push_renumbered-requires-clause-within g c a of =
