@@ -67,6 +67,18 @@ tests_of s = record {
   target = λ i j source t. takes_target s i source t && takes_target s j source t;
 }
 
+-- the sources that two rules have in common, in order
+abbrev pub sources_of : {A : Type 0} → Search A → ℕ → ℕ → List ℕ
+sources_of s never allowed = hits ((tests_of s).source never allowed) 0 (names_in s)
+
+-- the targets of a source likewise
+abbrev pub targets_of : {A : Type 0} → Search A → ℕ → ℕ → ℕ → List ℕ
+targets_of s never allowed source = hits ((tests_of s).target never allowed source) 0 (names_in s)
+
+-- the violations of two rules
+abbrev pub rows_of : {A : Type 0} → Search A → ℕ → ℕ → List RowNumbers
+rows_of s never allowed = source_rows (tests_of s) (names_in s) never allowed
+
 -- the members, the permissions and the index are those of the policy
 pub record IsSearch {A : Type 0} (s : Search A) : Type 0 where
   pub members : AreMembersBy s.resolved.now (symbols_in s.members) (count_now s.members.rows.now)
