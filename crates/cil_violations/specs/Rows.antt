@@ -57,7 +57,8 @@ abbrev pub takes_source : {A : Type 0} → Search A → ℕ → ℕ → Bool
 takes_source s i source = if_there (λ r. is_held_in s.members r.source source) (slice_get (rules_in s) i)
 
 abbrev pub takes_target : {A : Type 0} → Search A → ℕ → ℕ → ℕ → Bool
-takes_target s i source target = if_there (λ r. is_held_in s.members (aim_of r.target source) target) (slice_get (rules_in s) i)
+takes_target s i source target =
+    if_there (λ r. is_held_in s.members (aim_of r.target source) target) (slice_get (rules_in s) i)
 
 abbrev pub tests_of : {A : Type 0} → Search A → Tests
 tests_of s = record {
