@@ -20,9 +20,11 @@ word-of-one n index at b small =
     ]
 
 -- the bits that two words have
-pub word-both : (p q : ℕ → Bool) (index one other : ℕ) → IsWordOf p index one → IsWordOf q index other → IsWordOf (λ t. p t && q t) index (bit_and one other)
+pub word-both : (p q : ℕ → Bool) (index one other : ℕ) → IsWordOf p index one → IsWordOf q index other
+    → IsWordOf (λ t. p t && q t) index (bit_and one other)
 word-both p q index one other first second b small =
-    ap (λ n. n == 1) (bit_at_and one other b) ∙ least (bit_at one b) (bit_at other b) (bit_at-lt one b) (bit_at-lt other b)
+    ap (λ n. n == 1) (bit_at_and one other b) ∙ least (bit_at one b) (bit_at other b) (bit_at-lt one b)
+    (bit_at-lt other b)
     ∙ (λ i. first b small i && second b small i)
   where
     least : (x y : ℕ) → x < 2 → y < 2 → (min x y == 1) ≡ ((x == 1) && (y == 1))
@@ -44,7 +46,8 @@ module _ (test : ℕ → Bool) (index word : ℕ) (is : IsWordOf test index word
   -- one that is 0 has none
   pub word-none : word ≡ 0 → (n : ℕ) → n / 64 ≡ index → test n ≡ false
   word-none clear n at =
-      ap test (omega (arith, at)) ∙ sym (is (n % 64) (omega arith)) ∙ ap (λ w. bit_at w (n % 64) == 1) clear ∙ ap (λ x. x == 1) (bit_at-zero (n % 64))
+      ap test (omega (arith, at)) ∙ sym (is (n % 64) (omega arith)) ∙ ap (λ w. bit_at w (n % 64) == 1) clear
+      ∙ ap (λ x. x == 1) (bit_at-zero (n % 64))
 
 module _ (p q : ℕ → Bool) (start : ℕ) where
   -- no number of the words from the start up to one has both tests
@@ -60,7 +63,8 @@ module _ (p q : ℕ → Bool) (start : ℕ) where
       ]
 
   -- nor has a word without a bit
-  pub word-skipped : (word bits : ℕ) → NoneBefore word → IsWordOf (λ n. p n && q n) word bits → bits ≡ 0 → NoneBefore (word + 1)
+  pub word-skipped : (word bits : ℕ) → NoneBefore word → IsWordOf (λ n. p n && q n) word bits → bits ≡ 0
+      → NoneBefore (word + 1)
   word-skipped word bits none is clear n above below =
       elim (cases_lt (n / 64) word) [
         | inl before ↦ none n above before
