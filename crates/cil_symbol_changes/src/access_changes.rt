@@ -29,8 +29,10 @@ pub fn changes<A: Allocator + Copy>(
     numbers: &[u32],
 ) -> Result<AccessChanges<A>, AllocError>
     requires known { AreNumbered numbers.now lines.now }
-    ensures added { IfOk result (λ r. (a : AccessNumbers) → Contains r.added a ↔ IsNew numbers.now (count_before lines.now) (count_now lines.now) a) }
-    ensures removed { IfOk result (λ r. (a : AccessNumbers) → Contains r.removed a ↔ IsNew numbers.now (count_now lines.now) (count_before lines.now) a) }
+    ensures added { IfOk result (λ r. (a : AccessNumbers) → Contains r.added a
+        ↔ IsNew numbers.now (count_before lines.now) (count_now lines.now) a) }
+    ensures removed { IfOk result (λ r. (a : AccessNumbers) → Contains r.removed a
+        ↔ IsNew numbers.now (count_now lines.now) (count_before lines.now) a) }
     ensures added_order { IfOk result (λ r. IsStrictlySortedBy numbers_cmp r.added) }
     ensures removed_order { IfOk result (λ r. IsStrictlySortedBy numbers_cmp r.removed) }
 {

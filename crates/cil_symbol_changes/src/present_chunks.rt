@@ -159,7 +159,8 @@ pub fn collect_present<A: Allocator + Copy>(
     numbers: &[u32],
 ) -> Result<Vec<Chunk, A>, AllocError>
     requires { ArePresentNumbered numbers.now (count_now lines.now) }
-    ensures given { IfOk result (λ chunks. (a : AccessNumbers) → IsGiven chunks.items a ↔ IsPresent numbers.now (listed (count_now lines.now)) a) }
+    ensures given { IfOk result (λ chunks. (a : AccessNumbers) → IsGiven chunks.items a
+        ↔ IsPresent numbers.now (listed (count_now lines.now)) a) }
     ensures short { IfOk result (λ chunks. All IsShort chunks.items) }
 {
     let order = by_source(alloc, lines, numbers)?;
