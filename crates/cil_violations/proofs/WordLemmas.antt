@@ -1,7 +1,7 @@
 -- Words of 64 bits that tell numbers.
 use Rattle.std.proofs.Common.{◌≡◌, ◌∙◌, ℕ, ◌+◌, ◌*◌, ◌/◌, ◌%◌, ◌^◌, ◌<◌, ◌≤◌, ◌==◌, ◌&&◌, Bool, false, IsTrue, min, zero, suc, bit_and, w64, refl, sym, ap, inl, inr, arith}
 use Rattle.std.specs.Int.{bit_at, trailing_zeros}
-use Rattle.std.proofs.lemmas.Bool.{cases_eq, cases_lt, eq-eqb, ne_eqb}
+use Rattle.std.proofs.lemmas.Bool.{cases_eq, eq-eqb, ne_eqb}
 use Rattle.std.proofs.lemmas.Nat.{one_shl}
 use Rattle.std.proofs.lemmas.Nat.Bits.{bit_at-lt, bit_at-pow_other, bit_at-pow_same, bit_at-trailing_zeros, bit_at-zero, bit_at_and}
 use Rattle.cil_violations.specs.Search.{IsFirstWordFrom, IsWordOf}
@@ -56,17 +56,9 @@ module _ (p q : ℕ → Bool) (start : ℕ) where
 
   -- the words that the first test skips have none
   pub first-skips : (from word : ℕ) → NoneBefore from → IsFirstWordFrom p from word → NoneBefore word
-  first-skips from word none first n above below =
-      elim (cases_lt (n / 64) from) [
-        | inl before ↦ none n above before
-        | inr behind ↦ ap (λ b. b && q n) (first.before n behind below)
-      ]
+  first-skips from word none first n above below = grind (arith, none n, first.before n)
 
   -- nor has a word without a bit
   pub word-skipped : (word bits : ℕ) → NoneBefore word → IsWordOf (λ n. p n && q n) word bits → bits ≡ 0
       → NoneBefore (word + 1)
-  word-skipped word bits none is clear n above below =
-      elim (cases_lt (n / 64) word) [
-        | inl before ↦ none n above before
-        | inr behind ↦ word-none (λ t. p t && q t) word bits is clear n (omega (arith, below, behind))
-      ]
+  word-skipped word bits none is clear n above below = grind (arith, none n, word-none (λ t. p t && q t) word bits is clear n)
