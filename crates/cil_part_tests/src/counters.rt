@@ -4,14 +4,12 @@ ghost use Rattle.std.specs.Prelude.{◌≡◌, length};
 ghost use Rattle.cil_resolve.specs.Resolved.{meaning_in};
 ghost use Rattle.cil_resolve.specs.Sets.{sets_in};
 ghost use Rattle.cil_counters.specs.Counted.{steps_in, IsNow, WasBefore};
-ghost use Rattle.cil_sets.specs.Members.{AreMembers};
 
 use crate::policies::policy;
 use cil_counters::Counters;
 use cil_names::Seed;
 use cil_resolve::{Meter, Resolved};
 use cil_rules::{Atom, Changes, Table};
-use cil_sets::Members;
 use cil_text::RuleKind;
 use std::alloc::Global;
 use std::process::Abort;
@@ -37,8 +35,8 @@ pub fn bring(
         .expect(rt, "memory")
 }
 
-// Keeps the counters of a policy.
-fn keep(counters: &mut Counters, policy: &Resolved)
+/// Keeps the counters of a policy.
+pub fn keep(counters: &mut Counters, policy: &Resolved)
     requires { IsNow policy.now counters.old }
     ensures now { IsNow policy.now counters.new }
     ensures before { WasBefore policy.now counters.new }
@@ -46,8 +44,8 @@ fn keep(counters: &mut Counters, policy: &Resolved)
     counters.settle();
 }
 
-// Goes back to the counters of a policy.
-fn take_back(counters: &mut Counters, policy: &Resolved)
+/// Goes back to the counters of a policy.
+pub fn take_back(counters: &mut Counters, policy: &Resolved)
     requires { WasBefore policy.now counters.old }
     ensures now { IsNow policy.now counters.new }
     ensures before { WasBefore policy.now counters.new }
@@ -98,14 +96,6 @@ pub fn load(rt: &impl Abort, alloc: Global, resolved: &Resolved, meter: &mut Met
         .load_counted(alloc, &empty, resolved, meter)
         .expect(rt, "memory");
     counters
-}
-
-/// The members of the attributes of a policy.
-pub fn members_of(rt: &impl Abort, alloc: Global, resolved: &Resolved) -> Members
-    ensures { AreMembers resolved.now result }
-{
-    let counters = counted(rt, alloc, resolved);
-    counters.members(alloc, resolved).expect(rt, "memory")
 }
 
 // A rule of an attribute that holds a, and a rule of a to itself.

@@ -6,30 +6,57 @@ ghost use Rattle.cil_keyed_lines.specs.Keyed.{count_now};
 
 use crate::recorded::{Changed, are_changes};
 use cil_keyed_lines::{KeyedLines, SymbolKey};
+use cil_text::RuleKind;
 use std::alloc::Global;
 use std::process::Abort;
 
 const ALL: u64 = u64::MAX;
 
 const READ: SymbolKey = SymbolKey {
+    kind: RuleKind::Allow,
     source: 7,
     class: 1,
     permission: 3,
 };
 
 const WRITE: SymbolKey = SymbolKey {
+    kind: RuleKind::Allow,
     source: 7,
     class: 1,
     permission: 4,
 };
 
 const OTHER_READ: SymbolKey = SymbolKey {
+    kind: RuleKind::Allow,
+    source: 2,
+    class: 1,
+    permission: 3,
+};
+
+// Keys that differ from others in the kind.
+const AUDITED_READ: SymbolKey = SymbolKey {
+    kind: RuleKind::AuditAllow,
+    source: 7,
+    class: 1,
+    permission: 3,
+};
+
+const SILENT_READ: SymbolKey = SymbolKey {
+    kind: RuleKind::DontAudit,
+    source: 2,
+    class: 1,
+    permission: 3,
+};
+
+const FORBIDDEN_READ: SymbolKey = SymbolKey {
+    kind: RuleKind::NeverAllow,
     source: 2,
     class: 1,
     permission: 3,
 };
 
 const LATER: SymbolKey = SymbolKey {
+    kind: RuleKind::Allow,
     source: 7,
     class: 2,
     permission: 0,
@@ -45,8 +72,8 @@ enum Step {
 
 use Step::{Settle, Shift, Undo};
 
-// Whether the targets of a mask can be lowered.
-fn can_go(lines: &KeyedLines, key: SymbolKey, word: usize, mask: u64) -> bool
+/// Whether each target of a mask has a counter above 0 in the line of a key.
+pub fn can_go(lines: &KeyedLines, key: SymbolKey, word: usize, mask: u64) -> bool
     ensures { result ≡ true → CanLower (count_now lines.now key) word mask }
 {
     match lines.find(key) {
@@ -145,6 +172,17 @@ const ENDED: &[Step] = &[
     Settle,
 ];
 
+// Lines of keys that differ in the kind alone.
+const KINDS: &[Step] = &[
+    Shift(READ, 2, 0, 0b011),
+    Shift(AUDITED_READ, 2, 0, 0b110),
+    Settle,
+    Shift(READ, 2, 0b001, 0),
+    Shift(SILENT_READ, 2, 0, 0b001),
+    Shift(FORBIDDEN_READ, 2, 0, 0b100),
+    Undo,
+];
+
 // The first steps of some, the keys in their order, whether steps are pending, and what they changed.
 type Stepped = (
     &'static [Step],
@@ -189,6 +227,14 @@ const STEPS: &[Stepped] = &[
     ),
     (ENDED, 13, &[READ], false, &[]),
     (ENDED, 15, &[], false, &[]),
+    (
+        KINDS,
+        6,
+        &[READ, AUDITED_READ, SILENT_READ, FORBIDDEN_READ],
+        true,
+        &[(0, 2, 0, 0b001), (2, 2, 0b001, 0), (3, 2, 0b100, 0)],
+    ),
+    (KINDS, 7, &[READ, AUDITED_READ], false, &[]),
 ];
 
 // The first steps of some, a key and a word, and what is counted there.
@@ -221,6 +267,24 @@ const WORDS: &[Word] = &[
     (ENDED, 10, WRITE, 1, (&[1, 1, 0, 0, 0], 0b11, Some(1))),
     (ENDED, 10, READ, 2, NOTHING),
     (ENDED, 13, READ, 5, (&[1, 0, 0, 0, 0], 0b1, Some(5))),
+    (KINDS, 6, READ, 2, (&[0, 1, 0, 0, 0], 0b010, Some(2))),
+    (
+        KINDS,
+        6,
+        AUDITED_READ,
+        2,
+        (&[0, 1, 1, 0, 0], 0b110, Some(2)),
+    ),
+    (KINDS, 6, SILENT_READ, 2, (&[1, 0, 0, 0, 0], 0b001, Some(2))),
+    (
+        KINDS,
+        6,
+        FORBIDDEN_READ,
+        2,
+        (&[0, 0, 1, 0, 0], 0b100, Some(2)),
+    ),
+    (KINDS, 7, READ, 2, (&[1, 1, 0, 0, 0], 0b011, Some(2))),
+    (KINDS, 7, SILENT_READ, 2, NOTHING),
 ];
 
 // Whether these are the keys, in their order.
@@ -276,11 +340,30 @@ fn words_of_keyed_lines(rt: HostRuntime) {
     }
 }
 
-// Keys go by source, then by class, then by permission.
+// Keys in their order: by kind, then by source, then by class, then by permission.
+const ORDERED: &[SymbolKey] = &[
+    OTHER_READ,
+    READ,
+    WRITE,
+    LATER,
+    AUDITED_READ,
+    SILENT_READ,
+    FORBIDDEN_READ,
+];
+
+// Whether each key is less than those behind it, and equal to itself alone.
+fn are_ordered(keys: &[SymbolKey]) -> bool {
+    for i in 0..keys.len() {
+        for j in 0..keys.len() {
+            if keys[i].cmp(&keys[j]) != i.cmp(&j) || (keys[i] == keys[j]) != (i == j) {
+                return false;
+            }
+        }
+    }
+    true
+}
+
 #[test]
 fn the_order_of_keys(rt: HostRuntime) {
-    let keys = [OTHER_READ, READ, WRITE, LATER];
-    for i in 1..keys.len() {
-        assert!(&rt; keys[i - 1] < keys[i] && keys[i - 1] != keys[i]);
-    }
+    assert!(rt; are_ordered(ORDERED));
 }

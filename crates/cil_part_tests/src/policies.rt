@@ -65,7 +65,23 @@ pub fn policy(rt: &impl Abort, alloc: Global, m: &[&[u8]]) -> Resolved {
     policy_of_two(rt, alloc, m, &[])
 }
 
-/// The number of a name, or how many names there are where it isn't among them.
-pub fn number(resolved: &Resolved, name: &[u8]) -> usize {
-    resolved.number(name).unwrap_or(resolved.names_len())
+// Appends the declaration of a type by its number below 1000.
+fn push_type(rt: &impl Abort, text: &mut Vec<u8>, number: u16) {
+    let digits = [
+        b'0' + (number / 100 % 10) as u8,
+        b'0' + (number / 10 % 10) as u8,
+        b'0' + (number % 10) as u8,
+    ];
+    text.extend_from_slice(b"(type t").expect(rt, "memory");
+    text.extend_from_slice(&digits).expect(rt, "memory");
+    text.push(b')').expect(rt, "memory");
+}
+
+/// The declarations of the types t000, t001 and so on.
+pub fn types(rt: &impl Abort, alloc: Global, count: u16) -> Vec<u8> {
+    let mut text = Vec::new(alloc);
+    for number in 0..count {
+        push_type(rt, &mut text, number);
+    }
+    text
 }

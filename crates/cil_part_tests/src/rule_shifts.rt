@@ -6,14 +6,17 @@ ghost use Rattle.cil_rule_shifts.specs.Reach.{gives, is_present, one_if, AreShor
 
 use cil_keyed_lines::{KeyedLines, SymbolKey};
 use cil_lines::Line;
-use cil_rule_shifts::{Reach, Targets, shift_rule};
+use cil_rule_shifts::{Reach, RuleHead, Targets, put_rule, shift_rule};
+use cil_text::RuleKind;
 use std::alloc::Global;
 use std::process::Abort;
 
-// The class and the permissions of all rules here.
-const CLASS: usize = 7;
-
-const PERMISSIONS: &[usize] = &[3, 5];
+// The kind, the class and the permissions of all rules here.
+const HEAD: RuleHead<'static> = RuleHead {
+    kind: RuleKind::DontAudit,
+    class: 7,
+    permissions: &[3, 5],
+};
 
 // A line with a counter above 0 for each of some symbols.
 fn line_of(rt: &impl Abort, alloc: Global, symbols: &[u32]) -> Line
@@ -49,38 +52,28 @@ fn reach(rt: &impl Abort, alloc: Global, rule: &Rule<'_>) -> Reach
     }
 }
 
-// A rule comes.
-fn add(rt: &impl Abort, alloc: Global, lines: &mut KeyedLines, rule: &Reach)
-    requires { IsShort rule.now }
-    ensures { (k : SymbolKey) (t : ℕ) → count_now lines.new k t ≡ count_now lines.old k t + one_if (gives rule.now 7 (3 ∷ 5 ∷ []) k t) }
-{
-    let none = Reach::none(alloc);
-    shift_rule(lines, alloc, CLASS, PERMISSIONS, &none, rule).expect(rt, "memory");
-}
-
-// The lines of two rules, kept.
-fn kept(rt: &impl Abort, alloc: Global, first: &Rule<'_>, second: &Reach) -> KeyedLines
-    requires { IsShort second.now }
-    ensures { (k : SymbolKey) (t : ℕ) → one_if (gives second.now 7 (3 ∷ 5 ∷ []) k t) ≤ count_now result k t }
-{
-    let mut lines = KeyedLines::new(alloc);
-    add(rt, alloc, &mut lines, &reach(rt, alloc, first));
-    add(rt, alloc, &mut lines, second);
-    lines.settle();
-    lines
-}
-
 // A source and a target, and how many rules give the access before one rule comes in another's place, and behind it.
 type Counted = (usize, usize, u64, u64);
 
-// Whether a source and a target have so many rules by both permissions, and none by another class and permission.
+// Kinds, classes and permissions, and whether rules here have them.
+const HEADS: &[(RuleKind, usize, usize, bool)] = &[
+    (RuleKind::DontAudit, 7, 3, true),
+    (RuleKind::DontAudit, 7, 5, true),
+    (RuleKind::DontAudit, 7, 4, false),
+    (RuleKind::DontAudit, 6, 3, false),
+    (RuleKind::Allow, 7, 3, false),
+];
+
+// Whether a source and a target have so many rules by both permissions, and none by another kind, class or permission.
 fn is_counted(lines: &KeyedLines, source: usize, target: usize, want: u64) -> bool {
-    for (class, permission, expected) in [(7, 3, want), (7, 5, want), (7, 4, 0), (6, 3, 0)] {
+    for (kind, class, permission, is_theirs) in HEADS {
         let key = SymbolKey {
+            kind: *kind,
             source,
-            class,
-            permission,
+            class: *class,
+            permission: *permission,
         };
+        let expected = if *is_theirs { want } else { 0 };
         if lines.count(key, target) != expected {
             return false;
         }
@@ -219,37 +212,61 @@ const SHIFTS: &[Shift<'static>] = &[
 
 const NO_RULE: Rule<'static> = (&[], None);
 
-// Whether the third rule comes in the place of the second so.
-fn are_moved(
-    rt: &impl Abort,
-    alloc: Global,
-    lines: &mut KeyedLines,
-    was: &Reach,
-    shift: &Shift<'_>,
-) -> bool
-    requires short { IsShort was.now }
-    requires counted { (k : SymbolKey) (t : ℕ) → one_if (gives was.now 7 (3 ∷ 5 ∷ []) k t) ≤ count_now lines.old k t }
-{
-    let (_, _, is, moved, words, counts) = shift;
-    let is = reach(rt, alloc, is);
-    let found = shift_rule(lines, alloc, CLASS, PERMISSIONS, was, &is).expect(rt, "memory");
-    let changes = lines.changes(alloc).expect(rt, "memory");
-    found == *moved && changes.len() == *words && are_counted(lines, counts, true)
+// The lines in which two rules are kept and a third one came in the place of the second, and how many counters that moved.
+fn shifted(rt: &impl Abort, alloc: Global, shift: &Shift<'_>) -> (KeyedLines, u128) {
+    let first = reach(rt, alloc, &shift.0);
+    let was = reach(rt, alloc, &shift.1);
+    let is = reach(rt, alloc, &shift.2);
+    let none = Reach::none(alloc);
+    let mut lines = KeyedLines::new(alloc);
+    shift_rule(&mut lines, alloc, HEAD, &none, &first).expect(rt, "memory");
+    shift_rule(&mut lines, alloc, HEAD, &none, &was).expect(rt, "memory");
+    lines.settle();
+    let moved = shift_rule(&mut lines, alloc, HEAD, &was, &is).expect(rt, "memory");
+    (lines, moved)
 }
 
-// Whether it does, and all is as before when it is taken back.
+// Whether so many counters move and words change, and all is as before when it is taken back.
 fn is_shifted(rt: &impl Abort, alloc: Global, shift: &Shift<'_>) -> bool {
-    let was = reach(rt, alloc, &shift.1);
-    let mut lines = kept(rt, alloc, &shift.0, &was);
-    let is_before = are_counted(&lines, shift.5, false);
-    let is_behind = are_moved(rt, alloc, &mut lines, &was, shift);
+    let (_, _, _, moved, words, counts) = shift;
+    let (mut lines, found) = shifted(rt, alloc, shift);
+    let changes = lines.changes(alloc).expect(rt, "memory");
+    let is_behind = are_counted(&lines, counts, true);
     lines.undo();
-    is_before & is_behind & are_counted(&lines, shift.5, false)
+    let is_before = are_counted(&lines, counts, false);
+    is_behind & is_before & (found == *moved) & (changes.len() == *words)
+}
+
+// The lines that the first two rules are put into, and how many accesses they give.
+fn put(rt: &impl Abort, alloc: Global, shift: &Shift<'_>) -> (KeyedLines, u128) {
+    let first = reach(rt, alloc, &shift.0);
+    let second = reach(rt, alloc, &shift.1);
+    let mut lines = KeyedLines::new(alloc);
+    let one = put_rule(&mut lines, alloc, HEAD, &first).expect(rt, "memory");
+    let other = put_rule(&mut lines, alloc, HEAD, &second).expect(rt, "memory");
+    (lines, one.saturating_add(other))
+}
+
+// How many accesses a rule gives to sources and targets.
+fn given(rule: &Rule<'_>) -> usize {
+    let targets = match rule.1 {
+        Some(targets) => targets.len(),
+        None => 1,
+    };
+    rule.0.len().saturating_mul(targets).saturating_mul(2)
+}
+
+// Whether they are put in so, for good.
+fn is_put(rt: &impl Abort, alloc: Global, shift: &Shift<'_>) -> bool {
+    let (lines, found) = put(rt, alloc, shift);
+    let want = given(&shift.0).saturating_add(given(&shift.1));
+    found == want as u128 && !lines.is_pending() && are_counted(&lines, shift.5, false)
 }
 
 #[test]
 fn rules_in_the_place_of_others(rt: HostRuntime) {
     for shift in SHIFTS {
         assert!(&rt; is_shifted(&rt, rt.alloc(), shift));
+        assert!(&rt; is_put(&rt, rt.alloc(), shift));
     }
 }

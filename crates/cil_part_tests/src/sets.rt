@@ -1,9 +1,10 @@
 //! The members of small policies.
 
-use crate::counters::{load, members_of};
-use crate::policies::{number, policy};
+use crate::counters::{counted, load};
+use crate::policies::policy;
+use cil_counters::Counters;
 use cil_resolve::{Meter, Resolved};
-use cil_sets::{Members, TypeSet};
+use cil_text::RuleKind;
 use std::alloc::Global;
 use std::process::Abort;
 
@@ -17,38 +18,42 @@ fn is_named(resolved: &Resolved, number: usize, letters: &[u8], place: usize) ->
     name.len() == 1 && name.first() == letters.get(place)
 }
 
-// Whether the types of a set have just these names of one letter, as they are found one behind the other and as they are asked for.
-fn are_types(resolved: &Resolved, types: TypeSet<'_>, want: &[u8]) -> bool {
-    let mut next = types.next(0);
-    let mut n: usize = 0;
-    for ty in 0..=resolved.names_len() {
-        let is_next = next == Some(ty);
-        if types.has(ty) != is_next || is_next && !is_named(resolved, ty, want, n) {
+// Whether these are the numbers of names of one letter each.
+fn are_named(resolved: &Resolved, listed: &[usize], letters: &[u8]) -> bool {
+    for i in 0..listed.len() {
+        if !is_named(resolved, listed[i], letters, i) {
             return false;
         }
-        if is_next {
-            next = types.next(ty.saturating_add(1));
-            n = n.saturating_add(1);
-        }
     }
-    next.is_none() && n == want.len()
+    listed.len() == letters.len()
 }
 
-// Whether the members of an attribute have, likewise.
-fn are_found(resolved: &Resolved, members: &Members, row: usize, want: &[u8]) -> bool {
-    let mut next = members.next_member(row, 0);
-    let mut n: usize = 0;
-    for ty in 0..=resolved.names_len() {
-        let is_next = next == Some(ty);
-        if members.has(row, ty) != is_next || is_next && !is_named(resolved, ty, want, n) {
+// Whether the members of an attribute have these names.
+fn are_listed(
+    rt: &impl Abort,
+    alloc: Global,
+    resolved: &Resolved,
+    attribute: &[u8],
+    want: &[u8],
+) -> bool {
+    let counters = counted(rt, alloc, resolved);
+    let listed = counters
+        .members(alloc, resolved, attribute)
+        .expect(rt, "memory");
+    are_named(resolved, &listed, want)
+}
+
+// Names of types, of attributes and of others, of one letter each.
+const NAMES: &[u8] = b"abcknszpx";
+
+// Whether counters tell that just these of the names are members of an attribute.
+fn are_told(counters: &Counters, attribute: &[u8], want: &[u8]) -> bool {
+    for letter in NAMES {
+        if counters.has(attribute, &[*letter]) != want.contains(letter) {
             return false;
         }
-        if is_next {
-            next = members.next_member(row, ty.saturating_add(1));
-            n = n.saturating_add(1);
-        }
     }
-    next.is_none() && n == want.len()
+    true
 }
 
 // Whether they do, and are listed so.
@@ -56,18 +61,11 @@ fn are_members(
     rt: &impl Abort,
     alloc: Global,
     resolved: &Resolved,
-    members: &Members,
     attribute: (&[u8], &[u8]),
 ) -> bool {
     let (name, want) = attribute;
-    let row = number(resolved, name);
-    let listed = members.members(alloc, row).expect(rt, "memory");
-    for i in 0..listed.len() {
-        if !is_named(resolved, listed[i], want, i) {
-            return false;
-        }
-    }
-    listed.len() == want.len() && are_found(resolved, members, row, want)
+    are_listed(rt, alloc, resolved, name, want)
+        && are_told(&counted(rt, alloc, resolved), name, want)
 }
 
 // Statements behind the start, and the members of s and of n.
@@ -140,7 +138,6 @@ const ALIAS: &[u8] = b"(typealias k)(typealiasactual k b)(typeattributeset s (c 
 fn are_stated(rt: &impl Abort, alloc: Global, stated: &Stated) -> bool {
     let (statements, s, n) = *stated;
     let resolved = policy(rt, alloc, &[START, statements]);
-    let members = members_of(rt, alloc, &resolved);
     let attributes: [(&[u8], &[u8]); 5] = [
         (b"s", s),
         (b"n", n),
@@ -149,7 +146,18 @@ fn are_stated(rt: &impl Abort, alloc: Global, stated: &Stated) -> bool {
         (b"no", b""),
     ];
     for attribute in attributes {
-        if !are_members(rt, alloc, &resolved, &members, attribute) {
+        if !are_members(rt, alloc, &resolved, attribute) {
+            return false;
+        }
+    }
+    true
+}
+
+// Whether counters tell that just these of the names are sources of accesses to a.
+fn are_told_as_sources(counters: &Counters, want: &[u8]) -> bool {
+    for letter in NAMES {
+        let count = counters.count(RuleKind::Allow, &[*letter], b"a", b"p", b"use");
+        if count != u64::from(want.contains(letter)) {
             return false;
         }
     }
@@ -159,9 +167,7 @@ fn are_stated(rt: &impl Abort, alloc: Global, stated: &Stated) -> bool {
 // Whether the source of the only rule stands for these types.
 fn are_sources(rt: &impl Abort, alloc: Global, rule: &[u8], want: &[u8]) -> bool {
     let resolved = policy(rt, alloc, &[START, ALIAS, rule]);
-    let members = members_of(rt, alloc, &resolved);
-    let rules = resolved.rules();
-    rules.len() == 1 && are_types(&resolved, members.types_of(rules[0].source), want)
+    are_told_as_sources(&counted(rt, alloc, &resolved), want)
 }
 
 #[test]

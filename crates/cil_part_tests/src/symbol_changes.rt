@@ -1,34 +1,16 @@
-//! Tables that rules move, and the accesses that stand in them, appear and go.
+//! Accesses that stand in lines of counters, appear and go, by numbers.
 
-ghost use Rattle.std.specs.Prelude.{◌≡◌, ◌+◌, ◌≤◌, ◌<◌, ◌^◌, ◌∷◌, [], ℕ, true, false, length};
-ghost use Rattle.std.specs.List.{All};
-ghost use Rattle.cil_keyed_lines.specs.declared.symbol_key.SymbolKey.{SymbolKey};
-ghost use Rattle.cil_rule_shifts.specs.Reach.{gives, is_present, one_if, reaches, IsShort};
-ghost use Rattle.cil_symbol_tables.specs.Tables.{count_now};
+ghost use Rattle.std.specs.Prelude.{◌≡◌, length};
 ghost use Rattle.cil_symbol_changes.specs.Numbered.{AreNumbered};
 
+use crate::keyed_lines::can_go;
+use RuleKind::{Allow, AuditAllow, DontAudit, NeverAllow};
 use cil_accesses::{AccessNumbers, Accesses};
-use cil_keyed_lines::SymbolKey;
-use cil_lines::Line;
-use cil_rule_shifts::{Reach, Targets};
-use cil_symbol_changes::{accesses, changes};
-use cil_symbol_tables::SymbolTables;
+use cil_keyed_lines::{KeyedLines, SymbolKey};
+use cil_symbol_changes::{accesses, changes, count_accesses, count_changes};
 use cil_text::RuleKind;
 use std::alloc::Global;
 use std::process::Abort;
-
-// All kinds of rules.
-const KINDS: [RuleKind; 4] = [
-    RuleKind::Allow,
-    RuleKind::AuditAllow,
-    RuleKind::DontAudit,
-    RuleKind::NeverAllow,
-];
-
-// The class and the permission of all rules here.
-const CLASS: usize = 7;
-
-const PERMISSION: usize = 3;
 
 // The numbers of 192 symbols, in an order the other way round.
 fn numbers(rt: &impl Abort, alloc: Global) -> Vec<u32>
@@ -41,95 +23,79 @@ fn numbers(rt: &impl Abort, alloc: Global) -> Vec<u32>
     numbers
 }
 
-// A line with a counter above 0 for each of some symbols that have numbers.
-fn line_of(rt: &impl Abort, alloc: Global, symbols: &[u32]) -> Line
-    requires { All (λ s. s < 192) symbols.now }
-    ensures { (s : ℕ) → 192 ≤ s → is_present result s ≡ false }
-{
-    let mut line = Line::new(alloc);
-    for symbol in symbols {
-        let symbol = *symbol as usize;
-        line.add(alloc, symbol / 64, 1 << (symbol % 64))
-            .expect(rt, "memory");
-    }
-    line
+// A step: a rule gave type 1 the accesses to the targets of a word that a mask has, and gives those of another mask.
+#[derive(Clone, Copy)]
+enum Step {
+    Shift(usize, u64, u64),
+    Settle,
+    Undo,
 }
 
-// Whether symbols have numbers.
-fn are_low(symbols: &[u32]) -> bool
-    ensures { result ≡ true → All (λ s. s < 192) symbols.now }
-{
-    for symbol in symbols {
-        if *symbol >= 192 {
-            return false;
-        }
-    }
-    true
-}
+use Step::{Settle, Shift, Undo};
 
-// A rule of type 1 to others.
-fn rule(rt: &impl Abort, alloc: Global, targets: &[u32]) -> Reach
-    ensures short { IsShort result }
-    ensures known { (s t : ℕ) → reaches result s t ≡ true → (s < 192) × (t < 192) }
-{
-    let low = are_low(targets);
-    assert!(rt; low);
-    Reach {
-        sources: line_of(rt, alloc, &[1]),
-        targets: Targets::These(line_of(rt, alloc, targets)),
-    }
-}
-
-// A rule comes.
-fn add(
+// A shift of a rule of a kind. All targets of its word have numbers.
+fn shift(
     rt: &impl Abort,
     alloc: Global,
     numbers: &[u32],
-    tables: &mut SymbolTables,
+    lines: &mut KeyedLines,
     kind: RuleKind,
-    rule: &Reach,
+    targets: (usize, u64, u64),
 )
-    requires short { IsShort rule.now }
-    requires known { (s t : ℕ) → reaches rule.now s t ≡ true → (s < 192) × (t < 192) }
-    requires numbers { length numbers.now ≡ 192 }
-    requires numbered { AreNumbered numbers.now tables.old }
-    ensures numbered { AreNumbered numbers.now tables.new }
-    ensures counted { (key : SymbolKey) (t : ℕ) → one_if (gives rule.now 7 (3 ∷ []) key t) ≤ count_now tables.new kind key t }
-    ensures kept { (key : SymbolKey) (t : ℕ) → count_now tables.old kind key t ≤ count_now tables.new kind key t }
+    requires { AreNumbered numbers.now lines.old }
+    ensures { AreNumbered numbers.now lines.new }
 {
-    let none = Reach::none(alloc);
-    tables
-        .shift(alloc, kind, CLASS, &[PERMISSION], &none, rule)
-        .expect(rt, "memory");
+    let (word, was, is) = targets;
+    let key = SymbolKey {
+        kind,
+        source: 1,
+        class: 7,
+        permission: 3,
+    };
+    assert!(rt; word < 3 && numbers.len() == 192);
+    let can = can_go(lines, key, word, was & !is);
+    assert!(rt; can);
+    lines.shift(alloc, key, word, was, is).expect(rt, "memory");
 }
 
-// A rule goes.
+// A step for a rule of each kind of a list.
 fn take(
     rt: &impl Abort,
     alloc: Global,
     numbers: &[u32],
-    tables: &mut SymbolTables,
-    kind: RuleKind,
-    rule: &Reach,
+    lines: &mut KeyedLines,
+    kinds: &[RuleKind],
+    step: Step,
 )
-    requires short { IsShort rule.now }
-    requires counted { (key : SymbolKey) (t : ℕ) → one_if (gives rule.now 7 (3 ∷ []) key t) ≤ count_now tables.old kind key t }
-    requires numbered { AreNumbered numbers.now tables.old }
-    ensures numbered { AreNumbered numbers.now tables.new }
+    requires { AreNumbered numbers.now lines.old }
+    ensures { AreNumbered numbers.now lines.new }
 {
-    let none = Reach::none(alloc);
-    tables
-        .shift(alloc, kind, CLASS, &[PERMISSION], rule, &none)
-        .expect(rt, "memory");
+    match step {
+        Shift(word, was, is) => {
+            for kind in kinds {
+                shift(rt, alloc, numbers, lines, *kind, (word, was, is));
+            }
+        }
+        Settle => lines.settle(),
+        Undo => lines.undo(),
+    }
 }
 
-// The rules so far are kept.
-fn settle(numbers: &[u32], tables: &mut SymbolTables)
-    requires { AreNumbered numbers.now tables.old }
-    ensures numbered { AreNumbered numbers.now tables.new }
-    ensures kept { (kind : RuleKind) (key : SymbolKey) (t : ℕ) → count_now tables.new kind key t ≡ count_now tables.old kind key t }
+// The lines after these steps.
+fn lines_of(
+    rt: &impl Abort,
+    alloc: Global,
+    numbers: &[u32],
+    kinds: &[RuleKind],
+    steps: &[Step],
+) -> KeyedLines
+    ensures { AreNumbered numbers.now result }
 {
-    tables.settle();
+    let mut lines = KeyedLines::new(alloc);
+    for step in steps {
+        take(rt, alloc, numbers, &mut lines, kinds, *step);
+    }
+    lines
 }
 
 // The access of type 1 to a type, by numbers.
@@ -143,257 +109,186 @@ const fn access(kind: RuleKind, target: u32) -> AccessNumbers {
     }
 }
 
-// Whether these are accesses of a kind to targets, in their order.
-fn are_listed(found: &Accesses, kind: RuleKind, targets: &[u32]) -> bool {
-    for i in 0..targets.len() {
-        if found.get(i) != Some(access(kind, targets[i])) {
-            return false;
+// Whether these are the accesses of each kind to each target, in this order.
+fn are_listed(found: &Accesses, kinds: &[RuleKind], targets: &[u32]) -> bool {
+    let mut place: usize = 0;
+    for kind in kinds {
+        for target in targets {
+            if found.get(place) != Some(access(*kind, *target)) {
+                return false;
+            }
+            place = place.saturating_add(1);
         }
     }
-    found.len() == targets.len() as u128
+    found.len() == place as u128
 }
 
-// Whether so many rules of a kind give type 1 the permission to type 63, and none of another kind.
-fn is_counted(tables: &SymbolTables, kind: RuleKind, count: u64) -> bool {
-    let key = SymbolKey {
-        source: 1,
-        class: CLASS,
-        permission: PERMISSION,
-    };
-    for other in KINDS {
-        let want = if other == kind { count } else { 0 };
-        if tables.count(other, key, 63) != want {
-            return false;
-        }
-        let lines = tables.lines(other).len();
-        if other != kind && lines != 0 || other == kind && count != 0 && lines != 1 {
-            return false;
-        }
-    }
-    true
-}
-
-// The targets of a rule that is kept, and those of another one, by symbols; those of the accesses that are kept, of all, of those that
-// appeared, and of those that went where the first rule goes, by numbers; and how many of the rules have target 63, the first and both.
-type Case<'t> = (
-    &'t [u32],
-    &'t [u32],
-    &'t [u32],
-    &'t [u32],
-    &'t [u32],
-    &'t [u32],
-    u64,
-    u64,
+// The kinds of rules in the order in which they come, in the order of their accesses, and those of them that a listing has.
+type Kinds = (
+    &'static [RuleKind],
+    &'static [RuleKind],
+    &'static [RuleKind],
 );
 
-const CASES: &[Case<'static>] = &[
-    // Accesses appear in the order of numbers.
+const KINDS: &[Kinds] = &[
+    (&[Allow], &[Allow], &[Allow]),
+    (&[AuditAllow], &[AuditAllow], &[AuditAllow]),
+    (&[DontAudit], &[DontAudit], &[DontAudit]),
+    (&[NeverAllow], &[NeverAllow], &[]),
     (
-        &[],
-        &[5, 63, 64, 130],
-        &[],
-        &[61, 127, 128, 186],
-        &[61, 127, 128, 186],
-        &[],
-        0,
-        1,
+        &[NeverAllow, AuditAllow, DontAudit, Allow],
+        &[Allow, AuditAllow, DontAudit, NeverAllow],
+        &[Allow, AuditAllow, DontAudit],
     ),
-    // What a second rule gives doesn't appear again.
-    (
-        &[5, 63],
-        &[63, 64],
-        &[128, 186],
-        &[127, 128, 186],
-        &[127],
-        &[186],
-        1,
-        2,
-    ),
-    (
-        &[5, 63],
-        &[63, 64, 130],
-        &[128, 186],
-        &[61, 127, 128, 186],
-        &[61, 127],
-        &[186],
-        1,
-        2,
-    ),
-    // What goes and comes back didn't change.
-    (
-        &[63, 64],
-        &[],
-        &[127, 128],
-        &[127, 128],
-        &[],
-        &[127, 128],
-        1,
-        1,
-    ),
-    (&[63], &[63], &[128], &[128], &[], &[], 1, 2),
 ];
 
-// Whether a listing of the tables has just the accesses of a kind to targets, or none of neverallow.
-fn stand(
+// The symbols of the first word whose numbers are 186 and 128, both, and the second alone.
+const BOTH: u64 = 1 << 63 | 1 << 5;
+
+const LAST: u64 = 1 << 63;
+
+// A rule of types of three words comes.
+const COME: &[Step] = &[
+    Shift(0, 0, BOTH),
+    Shift(1, 0, 1),
+    Shift(2, 0, 1 << 2),
+    Undo,
+    Shift(0, 0, BOTH),
+    Settle,
+];
+
+// Beside a rule that is kept another one comes, then the first one goes, comes back, and all behind the first is taken back.
+const BESIDE: &[Step] = &[
+    Shift(0, 0, BOTH),
+    Settle,
+    Shift(0, 0, LAST),
+    Shift(1, 0, 1),
+    Shift(2, 0, 1 << 2),
+    Shift(0, BOTH, 0),
+    Shift(0, 0, BOTH),
+    Undo,
+];
+
+// A rule goes and comes back.
+const BACK: &[Step] = &[
+    Shift(0, 0, LAST),
+    Shift(1, 0, 1),
+    Settle,
+    Shift(0, LAST, 0),
+    Shift(1, 1, 0),
+    Shift(0, 0, LAST),
+    Shift(1, 0, 1),
+    Undo,
+];
+
+// One of two rules that give an access goes.
+const TWICE: &[Step] = &[
+    Shift(0, 0, LAST),
+    Settle,
+    Shift(0, 0, LAST),
+    Shift(0, LAST, 0),
+    Settle,
+];
+
+// The first steps of some, and the targets, by numbers, of the accesses that are there behind them, that appeared and that went.
+type Case = (
+    &'static [Step],
+    usize,
+    &'static [u32],
+    &'static [u32],
+    &'static [u32],
+);
+
+const CASES: &[Case] = &[
+    (COME, 0, &[], &[], &[]),
+    // Accesses stand in the order of numbers.
+    (COME, 1, &[128, 186], &[128, 186], &[]),
+    (COME, 3, &[61, 127, 128, 186], &[61, 127, 128, 186], &[]),
+    (COME, 4, &[], &[], &[]),
+    (COME, 6, &[128, 186], &[], &[]),
+    // What a second rule gives doesn't appear again.
+    (BESIDE, 2, &[128, 186], &[], &[]),
+    (BESIDE, 3, &[128, 186], &[], &[]),
+    (BESIDE, 4, &[127, 128, 186], &[127], &[]),
+    (BESIDE, 5, &[61, 127, 128, 186], &[61, 127], &[]),
+    (BESIDE, 6, &[61, 127, 128], &[61, 127], &[186]),
+    (BESIDE, 7, &[61, 127, 128, 186], &[61, 127], &[]),
+    (BESIDE, 8, &[128, 186], &[], &[]),
+    // What goes and comes back didn't change.
+    (BACK, 3, &[127, 128], &[], &[]),
+    (BACK, 4, &[127], &[], &[128]),
+    (BACK, 5, &[], &[], &[127, 128]),
+    (BACK, 7, &[127, 128], &[], &[]),
+    (BACK, 8, &[127, 128], &[], &[]),
+    (TWICE, 3, &[128], &[], &[]),
+    (TWICE, 4, &[128], &[], &[]),
+    (TWICE, 5, &[128], &[], &[]),
+];
+
+// Whether a listing of the lines has just the accesses of kinds to targets.
+fn has_listing(
     rt: &impl Abort,
     alloc: Global,
     numbers: &[u32],
-    tables: &SymbolTables,
-    kind: RuleKind,
+    lines: &KeyedLines,
+    kinds: &[RuleKind],
     targets: &[u32],
 ) -> bool
-    requires { AreNumbered numbers.now tables.now }
+    requires { AreNumbered numbers.now lines.now }
 {
-    let found = accesses(alloc, tables, numbers).expect(rt, "memory");
-    let listed = if kind == RuleKind::NeverAllow {
-        &[]
-    } else {
-        targets
-    };
-    are_listed(&found, kind, listed)
+    let found = accesses(alloc, lines, numbers).expect(rt, "memory");
+    are_listed(&found, kinds, targets)
 }
 
-// Whether just the accesses of a kind to targets appeared, and went.
-fn turned(
+// Whether just the accesses of kinds to some targets appeared, and to others went.
+fn has_changes(
     rt: &impl Abort,
     alloc: Global,
     numbers: &[u32],
-    tables: &SymbolTables,
-    kind: RuleKind,
+    lines: &KeyedLines,
+    kinds: &[RuleKind],
     targets: (&[u32], &[u32]),
 ) -> bool
-    requires { AreNumbered numbers.now tables.now }
+    requires { AreNumbered numbers.now lines.now }
 {
-    let found = changes(alloc, tables, numbers).expect(rt, "memory");
-    are_listed(&found.added, kind, targets.0) && are_listed(&found.removed, kind, targets.1)
+    let found = changes(alloc, lines, numbers).expect(rt, "memory");
+    are_listed(&found.added, kinds, targets.0) && are_listed(&found.removed, kinds, targets.1)
 }
 
-// The first rule comes and is kept.
-fn is_kept(
-    rt: &impl Abort,
-    alloc: Global,
-    numbers: &[u32],
-    tables: &mut SymbolTables,
-    kind: RuleKind,
-    first: &Reach,
-    case: &Case<'_>,
-) -> bool
-    requires short { IsShort first.now }
-    requires known { (s t : ℕ) → reaches first.now s t ≡ true → (s < 192) × (t < 192) }
-    requires numbers { length numbers.now ≡ 192 }
-    requires numbered { AreNumbered numbers.now tables.old }
-    ensures numbered { AreNumbered numbers.now tables.new }
-    ensures counted { (key : SymbolKey) (t : ℕ) → one_if (gives first.now 7 (3 ∷ []) key t) ≤ count_now tables.new kind key t }
-{
-    let none = stand(rt, alloc, numbers, tables, kind, &[]);
-    add(rt, alloc, numbers, tables, kind, first);
-    settle(numbers, tables);
-    let one = stand(rt, alloc, numbers, tables, kind, case.2);
-    none & one & !tables.is_pending() & is_counted(tables, kind, case.6)
+// How many accesses there are, how many appeared and how many went.
+fn counted(rt: &impl Abort, alloc: Global, lines: &KeyedLines) -> (u128, u128, u128) {
+    let present = count_accesses(lines).expect(rt, "few");
+    let changed = count_changes(alloc, lines).expect(rt, "few");
+    (present, changed.added, changed.removed)
 }
 
-// The second rule comes.
-fn has_come(
-    rt: &impl Abort,
-    alloc: Global,
-    numbers: &[u32],
-    tables: &mut SymbolTables,
-    kind: RuleKind,
-    case: &Case<'_>,
-) -> bool
-    requires numbers { length numbers.now ≡ 192 }
-    requires numbered { AreNumbered numbers.now tables.old }
-    ensures numbered { AreNumbered numbers.now tables.new }
-    ensures kept { (key : SymbolKey) (t : ℕ) → count_now tables.old kind key t ≤ count_now tables.new kind key t }
-{
-    let second = rule(rt, alloc, case.1);
-    add(rt, alloc, numbers, tables, kind, &second);
-    let came = turned(rt, alloc, numbers, tables, kind, (case.4, &[]));
-    let two = stand(rt, alloc, numbers, tables, kind, case.3);
-    came & two & is_counted(tables, kind, case.7)
+// So many accesses of kinds to targets.
+fn product(kinds: &[RuleKind], targets: &[u32]) -> u128 {
+    (kinds.len() as u128).saturating_mul(targets.len() as u128)
 }
 
-// The first rule goes, comes back, and all behind it is taken back.
-fn has_gone(
-    rt: &impl Abort,
-    alloc: Global,
-    numbers: &[u32],
-    tables: &mut SymbolTables,
-    kind: RuleKind,
-    first: &Reach,
-    case: &Case<'_>,
-) -> bool
-    requires short { IsShort first.now }
-    requires known { (s t : ℕ) → reaches first.now s t ≡ true → (s < 192) × (t < 192) }
-    requires counted { (key : SymbolKey) (t : ℕ) → one_if (gives first.now 7 (3 ∷ []) key t) ≤ count_now tables.old kind key t }
-    requires numbers { length numbers.now ≡ 192 }
-    requires numbered { AreNumbered numbers.now tables.old }
-{
-    take(rt, alloc, numbers, tables, kind, first);
-    let went = turned(rt, alloc, numbers, tables, kind, (case.4, case.5));
-    let is_pending = tables.is_pending();
-    add(rt, alloc, numbers, tables, kind, first);
-    let back = turned(rt, alloc, numbers, tables, kind, (case.4, &[]));
-    tables.undo();
-    went & is_pending & back & !tables.is_pending() & is_counted(tables, kind, case.6)
-}
-
-// Whether a case is so.
-fn is_case(rt: &impl Abort, alloc: Global, kind: RuleKind, case: &Case<'_>) -> bool {
+// Whether a case is so for rules of some kinds.
+fn is_case(rt: &impl Abort, alloc: Global, kinds: &Kinds, case: &Case) -> bool {
+    let (coming, ordered, listed) = kinds;
+    let (steps, n, present, added, removed) = case;
+    assert!(rt; *n <= steps.len());
     let numbers = numbers(rt, alloc);
-    let first = rule(rt, alloc, case.0);
-    let mut tables = SymbolTables::new(alloc);
-    let kept = is_kept(rt, alloc, &numbers, &mut tables, kind, &first, case);
-    let came = has_come(rt, alloc, &numbers, &mut tables, kind, case);
-    kept & came & has_gone(rt, alloc, &numbers, &mut tables, kind, &first, case)
+    let lines = lines_of(rt, alloc, &numbers, coming, &steps[..*n]);
+    let counts = (
+        product(ordered, present),
+        product(ordered, added),
+        product(ordered, removed),
+    );
+    counted(rt, alloc, &lines) == counts
+        && has_listing(rt, alloc, &numbers, &lines, listed, present)
+        && has_changes(rt, alloc, &numbers, &lines, ordered, (added, removed))
 }
 
 #[test]
-fn accesses_of_each_kind(rt: HostRuntime) {
-    for kind in KINDS {
+fn accesses_of_kinds(rt: HostRuntime) {
+    for kinds in KINDS {
         for case in CASES {
-            assert!(&rt; is_case(&rt, rt.alloc(), kind, case));
+            assert!(&rt; is_case(&rt, rt.alloc(), kinds, case));
         }
     }
-}
-
-// A rule of each kind, the last kinds first.
-fn add_each(rt: &impl Abort, alloc: Global, numbers: &[u32], tables: &mut SymbolTables)
-    requires numbers { length numbers.now ≡ 192 }
-    requires numbered { AreNumbered numbers.now tables.old }
-    ensures { AreNumbered numbers.now tables.new }
-{
-    let rule = rule(rt, alloc, &[64]);
-    add(rt, alloc, numbers, tables, RuleKind::NeverAllow, &rule);
-    add(rt, alloc, numbers, tables, RuleKind::AuditAllow, &rule);
-    add(rt, alloc, numbers, tables, RuleKind::DontAudit, &rule);
-    add(rt, alloc, numbers, tables, RuleKind::Allow, &rule);
-}
-
-// Whether an access of each of the first kinds stands in a list, in the order of the kinds.
-fn are_each(found: &Accesses, kinds: usize) -> bool {
-    for i in 0..kinds.min(KINDS.len()) {
-        if found.get(i) != Some(access(KINDS[i], 127)) {
-            return false;
-        }
-    }
-    found.len() == kinds as u128
-}
-
-// Whether those of all four kinds appeared, none went, and a listing has those of the first three.
-fn are_in_order(rt: &impl Abort, alloc: Global, numbers: &[u32], tables: &SymbolTables) -> bool
-    requires { AreNumbered numbers.now tables.now }
-{
-    let found = changes(alloc, tables, numbers).expect(rt, "memory");
-    let present = accesses(alloc, tables, numbers).expect(rt, "memory");
-    are_each(&found.added, 4) && found.removed.len() == 0 && are_each(&present, 3)
-}
-
-#[test]
-fn kinds_stand_in_their_order(rt: HostRuntime) {
-    let alloc = rt.alloc();
-    let numbers = numbers(&rt, alloc);
-    let mut tables = SymbolTables::new(alloc);
-    add_each(&rt, alloc, &numbers, &mut tables);
-    assert!(&rt; are_in_order(&rt, alloc, &numbers, &tables));
 }

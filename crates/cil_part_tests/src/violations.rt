@@ -1,8 +1,10 @@
-//! Violations by their places, and reports to sinks that fail.
+//! Violations by their places, their order and the types that they are of, and reports to sinks that fail.
 
-use crate::counters::members_of;
-use crate::policies::policy;
-use cil_resolve::RuleView;
+use crate::counters::{bring, counted, keep, take_back};
+use crate::policies::{policy, types};
+use cil_counters::violations_at_once;
+use cil_names::Seed;
+use cil_resolve::{Resolved, RuleView};
 use cil_stream::MemorySink;
 use cil_text::RuleKind;
 use cil_violations::{Permissions, Violations};
@@ -10,21 +12,26 @@ use std::alloc::Global;
 use std::process::Abort;
 use std::rc::Rc;
 
-const START: &[u8] =
-    b"(class p (see use))(type a)(type b)(typeattribute s)(typeattributeset s (a b))";
-
-const RULES: &[u8] = b"(neverallow s b (p (use see)))\n (allow s s (p (see use)))";
-
-const REPORT: &[u8] =
-    b"neverallow m:1:79 allow m:2:2 a b:p { see use };\nneverallow m:1:79 allow m:2:2 b b:p { see use };\n";
-
-// The violations of the policy of these statements behind the start.
-fn violations_of(rt: &impl Abort, alloc: Global, statements: &[u8]) -> Violations {
-    let resolved = policy(rt, alloc, &[START, statements]);
+// The violations of a policy, by counters that are kept.
+fn violations_of(rt: &impl Abort, alloc: Global, resolved: Resolved) -> Violations {
+    let counters = counted(rt, alloc, &resolved);
     let resolved = Rc::new(alloc, resolved).expect(rt, "memory");
-    let members = members_of(rt, alloc, &resolved);
-    Violations::of(alloc, &resolved, &members).expect(rt, "memory")
+    counters.violations(alloc, &resolved).expect(rt, "memory")
 }
+
+// The violations of a policy that is compiled once.
+fn violations_once(rt: &impl Abort, alloc: Global, resolved: Resolved) -> Violations {
+    let nothing = policy(rt, alloc, &[]);
+    assert!(rt; nothing.sets_len() == 0);
+    assert!(rt; nothing.rules_len() == 0);
+    let resolved = Rc::new(alloc, resolved).expect(rt, "memory");
+    violations_at_once(alloc, Seed::fixed(), &nothing, &resolved).expect(rt, "memory")
+}
+
+const START: &[u8] =
+    b"(class p (see use))(class q (use))(type a)(type b)(typeattribute s)(typeattributeset s (a b))";
+
+const RULES: &[u8] = b"\n(neverallow s b (p (use see)))\n (allow s s (p (see use)))";
 
 // Whether a rule of the module m has that kind and stands there.
 fn is_rule(rule: &RuleView<'_>, kind: RuleKind, place: (u32, u32)) -> bool {
@@ -45,19 +52,24 @@ fn is_violation(violations: &Violations, place: usize, source: &[u8]) -> bool {
         return false;
     };
     let names = (found.source, found.target, found.class);
-    let are_rules = is_rule(&found.never, RuleKind::NeverAllow, (1, 79))
-        & is_rule(&found.allowed, RuleKind::Allow, (2, 2));
+    let are_rules = is_rule(&found.never, RuleKind::NeverAllow, (2, 1))
+        & is_rule(&found.allowed, RuleKind::Allow, (3, 2));
     let are_names = names == (source, b"b".as_slice(), b"p".as_slice());
     are_rules & are_names & are_permissions(&found.permissions)
 }
 
 // Whether there are two violations, of the sources a and b.
-fn are_two(rt: &impl Abort, alloc: Global) -> bool {
-    let violations = violations_of(rt, alloc, RULES);
-    is_violation(&violations, 0, b"a")
-        && is_violation(&violations, 1, b"b")
+fn are_two(violations: &Violations) -> bool {
+    is_violation(violations, 0, b"a")
+        && is_violation(violations, 1, b"b")
         && violations.get(2).is_none()
         && !violations.is_empty()
+}
+
+#[test]
+fn violations_by_place(rt: HostRuntime) {
+    let resolved = policy(&rt, rt.alloc(), &[START, RULES]);
+    assert!(&rt; are_two(&violations_of(&rt, rt.alloc(), resolved)));
 }
 
 // Whether the report is written whole.
@@ -74,19 +86,233 @@ fn is_cut(alloc: Global, violations: &Violations, want: &[u8]) -> bool {
     want.starts_with(short.bytes()) && failed == (want.len() > 20)
 }
 
-// Whether the report of statements is that one.
-fn is_report(rt: &impl Abort, alloc: Global, statements: &[u8], want: &[u8]) -> bool {
-    let violations = violations_of(rt, alloc, statements);
-    is_whole(rt, alloc, &violations, want) && is_cut(alloc, &violations, want)
+// Whether the report of a policy is that one, whichever way it is found.
+fn is_report(rt: &impl Abort, alloc: Global, texts: &[&[u8]], want: &[u8]) -> bool {
+    let counted = violations_of(rt, alloc, policy(rt, alloc, texts));
+    let once = violations_once(rt, alloc, policy(rt, alloc, texts));
+    is_whole(rt, alloc, &counted, want)
+        && is_cut(alloc, &counted, want)
+        && is_whole(rt, alloc, &once, want)
 }
 
 // Statements behind the start, and the report.
-const REPORTS: &[(&[u8], &[u8])] = &[(b"(allow a b (p (use)))", b""), (RULES, REPORT)];
+const REPORTS: &[(&[u8], &[u8])] = &[
+    (b"(allow a b (p (use)))", b""),
+    (
+        RULES,
+        b"neverallow m:2:1 allow m:3:2 a b:p { see use };\n\
+neverallow m:2:1 allow m:3:2 b b:p { see use };\n",
+    ),
+    // Each source itself.
+    (
+        b"\n(neverallow s self (p (use)))\n(allow s s (p (use)))",
+        b"neverallow m:2:1 allow m:3:1 a a:p { use };\n\
+neverallow m:2:1 allow m:3:1 b b:p { use };\n",
+    ),
+    (
+        b"\n(neverallow s b (p (use)))\n(allow s self (p (use)))",
+        b"neverallow m:2:1 allow m:3:1 b b:p { use };\n",
+    ),
+    (
+        b"\n(neverallow s self (p (use)))\n(allow a self (p (use)))",
+        b"neverallow m:2:1 allow m:3:1 a a:p { use };\n",
+    ),
+    // Each neverallow rule with each allow rule, in their order.
+    (
+        b"\n(allow a s (p (use)))\n(neverallow a a (p (use)))\n(allow s a (p (use)))\n(neverallow s b (p (use)))",
+        b"neverallow m:3:1 allow m:2:1 a a:p { use };\n\
+neverallow m:3:1 allow m:4:1 a a:p { use };\n\
+neverallow m:5:1 allow m:2:1 a b:p { use };\n",
+    ),
+];
+
+// Statements behind the start without a violation, since the rules share no source, no target, no class or no permission.
+const NONE: &[&[u8]] = &[
+    b"(neverallow a b (p (use)))(allow b b (p (use)))",
+    b"(neverallow s a (p (use)))(allow s b (p (use)))",
+    b"(neverallow s self (p (use)))(allow a b (p (use)))",
+    b"(neverallow a b (p (use)))(allow s self (p (use)))",
+    b"(neverallow a self (p (use)))(allow b self (p (use)))",
+    b"(neverallow s s (p (use)))(allow s s (q (use)))",
+    b"(neverallow s s (p (use)))(allow s s (p (see)))",
+    b"(neverallow s s (p (use)))(auditallow s s (p (use)))",
+];
 
 #[test]
-fn violations_by_place(rt: HostRuntime) {
-    assert!(&rt; are_two(&rt, rt.alloc()));
+fn reports_of_violations(rt: HostRuntime) {
     for (statements, want) in REPORTS {
-        assert!(&rt; is_report(&rt, rt.alloc(), statements, want));
+        assert!(&rt; is_report(&rt, rt.alloc(), &[START, statements], want));
     }
+    for statements in NONE {
+        assert!(&rt; is_report(&rt, rt.alloc(), &[START, statements], b""));
+    }
+}
+
+// Names of a wide policy behind its types: the target w, and two attributes. So the number of a type is that of its name.
+const WIDE: &[u8] = b"(class x (y))(type w)(typeattribute u)(typeattribute v)";
+
+// Rules of these, and whether each type that u and v share is the source, and the target, of a violation, or w is.
+const CROSSED: &[(&[u8], bool, bool)] = &[
+    (b"(neverallow u w (x (y)))(allow v w (x (y)))", true, false),
+    (b"(neverallow w u (x (y)))(allow w v (x (y)))", false, true),
+    (
+        b"(neverallow u self (x (y)))(allow v v (x (y)))",
+        true,
+        true,
+    ),
+    (
+        b"(neverallow u v (x (y)))(allow v self (x (y)))",
+        true,
+        true,
+    ),
+    (
+        b"(neverallow u self (x (y)))(allow v self (x (y)))",
+        true,
+        true,
+    ),
+];
+
+// Set statements of u and of v, and the types that they share.
+type Shared = (&'static [u8], &'static [u8], &'static [&'static [u8]]);
+
+const SHARED: &[Shared] = &[
+    // The 64th, the 65th, the 128th and the 129th type alone.
+    (
+        b"(typeattributeset u (t000 t062 t063))",
+        b"(typeattributeset v (t063 t064))",
+        &[b"t063"],
+    ),
+    (
+        b"(typeattributeset u (t063 t064))",
+        b"(typeattributeset v (t064 t065 t127))",
+        &[b"t064"],
+    ),
+    (
+        b"(typeattributeset u (t000 t064 t126 t127))",
+        b"(typeattributeset v (t001 t063 t127 t128))",
+        &[b"t127"],
+    ),
+    (
+        b"(typeattributeset u (t000 t064 t128))",
+        b"(typeattributeset v (t001 t063 t065 t127 t128))",
+        &[b"t128"],
+    ),
+    // Types of the same words, and of others.
+    (
+        b"(typeattributeset u (t000 t063 t064))",
+        b"(typeattributeset v (t001 t062 t065))",
+        &[],
+    ),
+    (
+        b"(typeattributeset u (t063))",
+        b"(typeattributeset v (t128))",
+        &[],
+    ),
+    (
+        b"(typeattributeset u (t128))",
+        b"(typeattributeset v (t063))",
+        &[],
+    ),
+    // Several types.
+    (
+        b"(typeattributeset u (not (t064)))",
+        b"(typeattributeset v (t063 t064 t065))",
+        &[b"t063", b"t065"],
+    ),
+    (
+        b"(typeattributeset u (t000 t063 t064 t127 t128))",
+        b"(typeattributeset v (t128 t127 t064 t063 t000))",
+        &[b"t000", b"t063", b"t064", b"t127", b"t128"],
+    ),
+];
+
+// Whether the violation of a place is one of that source and that target.
+fn is_between(violations: &Violations, place: usize, source: &[u8], target: &[u8]) -> bool {
+    match violations.get(place) {
+        Some(found) => found.source == source && found.target == target,
+        None => false,
+    }
+}
+
+// Whether there is a violation for each type, which is its source or its target, or both; w is the other.
+fn are_shared(violations: &Violations, types: &[&[u8]], source: bool, target: bool) -> bool {
+    for i in 0..types.len() {
+        let source = if source { types[i] } else { b"w" };
+        let target = if target { types[i] } else { b"w" };
+        if !is_between(violations, i, source, target) {
+            return false;
+        }
+    }
+    violations.len() == types.len()
+}
+
+// Whether it is so where these types are shared.
+fn is_crossed(
+    rt: &impl Abort,
+    alloc: Global,
+    types: &[u8],
+    shared: &Shared,
+    crossed: &(&[u8], bool, bool),
+) -> bool {
+    let (u, v, want) = shared;
+    let (rules, source, target) = crossed;
+    let resolved = policy(rt, alloc, &[types, WIDE, u, v, rules]);
+    are_shared(&violations_of(rt, alloc, resolved), want, *source, *target)
+}
+
+#[test]
+fn violations_at_the_edges_of_words(rt: HostRuntime) {
+    let types = types(&rt, rt.alloc(), 130);
+    for shared in SHARED {
+        for crossed in CROSSED {
+            assert!(&rt; is_crossed(&rt, rt.alloc(), &types, shared, crossed));
+        }
+    }
+}
+
+// Policies that come one after the other. The name z goes, a comes behind all, and b gets the symbol of z.
+const FIRST: &[u8] = b"(class p (use))(type m)(type z)";
+
+const SECOND: &[u8] =
+    b"(class p (use))(type a)(type m)\n(neverallow a m (p (use)))\n(allow a m (p (use)))";
+
+const THIRD: &[u8] =
+    b"(class p (see use))(type a)(type b)(type m)(typeattribute s)(typeattributeset s (a b m))
+(neverallow s m (p (use)))
+(neverallow m s (p (use see)))
+(allow s s (p (use see)))";
+
+const SECOND_REPORT: &[u8] = b"neverallow m:2:1 allow m:3:1 a m:p { use };\n";
+
+const THIRD_REPORT: &[u8] = b"neverallow m:2:1 allow m:4:1 a m:p { use };\n\
+neverallow m:2:1 allow m:4:1 b m:p { use };\n\
+neverallow m:2:1 allow m:4:1 m m:p { use };\n\
+neverallow m:3:1 allow m:4:1 m a:p { see use };\n\
+neverallow m:3:1 allow m:4:1 m b:p { see use };\n\
+neverallow m:3:1 allow m:4:1 m m:p { see use };\n";
+
+// The violations of the third policy, reached from the second, and then those of the second again.
+fn brought(rt: &impl Abort, alloc: Global) -> (Violations, Violations) {
+    let first = policy(rt, alloc, &[FIRST]);
+    let second = Rc::new(alloc, policy(rt, alloc, &[SECOND])).expect(rt, "memory");
+    let third = Rc::new(alloc, policy(rt, alloc, &[THIRD])).expect(rt, "memory");
+    let mut counters = counted(rt, alloc, &first);
+    bring(rt, alloc, &mut counters, &first, &second);
+    keep(&mut counters, &second);
+    bring(rt, alloc, &mut counters, &second, &third);
+    let found = counters.violations(alloc, &third).expect(rt, "memory");
+    take_back(&mut counters, &second);
+    let back = counters.violations(alloc, &second).expect(rt, "memory");
+    (found, back)
+}
+
+// Whether both are reported in the order of names.
+fn are_brought(rt: &impl Abort, alloc: Global) -> bool {
+    let (found, back) = brought(rt, alloc);
+    is_whole(rt, alloc, &found, THIRD_REPORT) && is_whole(rt, alloc, &back, SECOND_REPORT)
+}
+
+#[test]
+fn violations_behind_other_policies(rt: HostRuntime) {
+    assert!(&rt; are_brought(&rt, rt.alloc()));
 }
