@@ -52,10 +52,7 @@ impl<A: Allocator + Copy> Table<A> {
     }
 
     /// The table of these accesses by the numbers of a policy's names, which it shares.
-    pub fn numbered(
-        policy: &Rc<Resolved<A>, A>,
-        accesses: Accesses<A>,
-    ) -> Result<Self, AllocError>
+    pub fn numbered(policy: &Rc<Resolved<A>, A>, accesses: Accesses<A>) -> Result<Self, AllocError>
         requires { AreNumbered (rc_value policy.now).names.items accesses }
         ensures { IfOk result (λ table. table ≡ map (atom_at (rc_value policy.now).names.items) accesses) }
     {
