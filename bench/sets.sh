@@ -28,7 +28,7 @@ mkdir "$folder/copy"
 git archive HEAD HANDLES crates.txt crates | tar -x -C "$folder/copy"
 mkdir -p "$folder/copy/crates/set_evaluations/src"
 cp bench/evaluations/main.txt "$folder/copy/crates/set_evaluations/src/main.rt"
-echo 'set_evaluations: cil_counters cil_sets cil_resolve cil_parse cil_names' >> "$folder/copy/crates.txt"
+echo 'set_evaluations: cil_counters cil_resolve cil_parse cil_names' >> "$folder/copy/crates.txt"
 for k in 1 2 4 8; do
     sets "$k" 1 > "$folder/text"
     printf '%d times   ' "$k"

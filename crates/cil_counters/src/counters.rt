@@ -38,7 +38,7 @@ use cil_resolve::{
     Meter, Resolved, resolved_is_consistent, resolved_is_sound, resolved_names_are_kept,
     resolved_sets_are_in_order,
 };
-use cil_rules::{Changes, Table, names_of, rank};
+use cil_rules::{Changes, Table, rank};
 use cil_symbol_changes::{ChangeCounts, count_accesses};
 use cil_symbols::{Numbering, Symbols};
 use cil_table_updates::Named;
@@ -341,15 +341,15 @@ impl<A: Allocator + Copy> Counters<A> {
         Ok(ChangeCounts { added, removed: 0 })
     }
 
-    /// The accesses of the policy whose counters stand now that a listing has: those of neverallow aren't part of it. No rule is gone
-    /// over.
-    pub fn table(&self, alloc: A, policy: &Resolved<A>) -> Result<Table<A>, AllocError>
-        requires { IsNow policy.now self.now }
-        ensures { IfOk result (λ table. AreAtoms (listed (is_in_table (meaning_in policy.now))) table) }
+    /// The accesses that a listing has, of the policy whose counters stand now: all but those of neverallow. The table shares the policy's
+    /// names, and no rule is gone over.
+    pub fn table(&self, alloc: A, policy: &Rc<Resolved<A>, A>) -> Result<Table<A>, AllocError>
+        requires { IsNow (rc_value policy.now) self.now }
+        ensures { IfOk result (λ table. AreAtoms (listed (is_in_table (meaning_in (rc_value policy.now)))) table) }
     {
         let numbers = ranks_of(alloc, &self.names, self.numbering_now(), policy)?;
         let accesses = cil_symbol_changes::accesses(alloc, &self.tables, &numbers)?;
-        Table::numbered(names_of(alloc, policy)?, accesses)
+        Table::numbered(policy, accesses)
     }
 
     /// The violations of the policy whose counters stand now. No set statement is evaluated.

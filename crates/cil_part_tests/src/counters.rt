@@ -1,11 +1,12 @@
 //! The changes and the tables that the counters of small policies tell. trials/counted.trials has what they count.
 
 ghost use Rattle.std.specs.Prelude.{◌≡◌, length};
+ghost use Rattle.std.specs.Rc.{rc_value};
 ghost use Rattle.cil_resolve.specs.Resolved.{meaning_in};
 ghost use Rattle.cil_resolve.specs.Sets.{sets_in};
 ghost use Rattle.cil_counters.specs.Counted.{steps_in, IsNow, WasBefore};
 
-use crate::policies::policy;
+use crate::policies::{policy, shared};
 use cil_counters::Counters;
 use cil_names::Seed;
 use cil_resolve::{Meter, Resolved};
@@ -13,6 +14,7 @@ use cil_rules::{Atom, Changes, Table};
 use cil_text::RuleKind;
 use std::alloc::Global;
 use std::process::Abort;
+use std::rc::Rc;
 
 const START: &[u8] = b"(class p (use))(type a)(type b)(typeattribute s)";
 
@@ -145,10 +147,10 @@ fn has_table(
     rt: &impl Abort,
     alloc: Global,
     counters: &Counters,
-    resolved: &Resolved,
+    resolved: &Rc<Resolved>,
     accesses: (Named<'static>, Named<'static>),
 ) -> bool
-    requires { IsNow resolved.now counters.now }
+    requires { IsNow (rc_value resolved.now) counters.now }
 {
     let table = counters.table(alloc, resolved).expect(rt, "memory");
     is_table(&table, accesses.0, accesses.1)
@@ -179,7 +181,7 @@ fn is_changed(counters: &Counters, is: bool) -> bool {
 }
 
 // Whether they do, and the tables are those, of the new policy and of the old one again.
-fn have_tables(rt: &impl Abort, alloc: Global, old: &Resolved, new: &Resolved) -> bool {
+fn have_tables(rt: &impl Abort, alloc: Global, old: &Rc<Resolved>, new: &Rc<Resolved>) -> bool {
     let mut counters = counted(rt, alloc, old);
     let changed = has_changed(rt, alloc, &mut counters, old, new) & is_changed(&counters, true);
     let is_new = has_table(rt, alloc, &counters, new, (FIRST_COME, SECOND_COME));
@@ -190,7 +192,7 @@ fn have_tables(rt: &impl Abort, alloc: Global, old: &Resolved, new: &Resolved) -
 
 #[test]
 fn changes_and_tables(rt: HostRuntime) {
-    let old = policy(&rt, rt.alloc(), &[START, OLD]);
-    let new = policy(&rt, rt.alloc(), &[START, NEW]);
+    let old = shared(&rt, rt.alloc(), &[START, OLD]);
+    let new = shared(&rt, rt.alloc(), &[START, NEW]);
     assert!(&rt; have_tables(&rt, rt.alloc(), &old, &new));
 }

@@ -1,13 +1,14 @@
 //! The accesses of small policies, their changes and their rows by place.
 
 use crate::counters::{bring, counted};
-use crate::policies::policy;
+use crate::policies::{policy, shared};
 use cil_resolve::Resolved;
 use cil_rules::{Atom, Changes, Row, Rows, Table, write_row_line};
 use cil_stream::MemorySink;
 use cil_text::RuleKind;
 use std::alloc::Global;
 use std::process::Abort;
+use std::rc::Rc;
 
 // The bytes of an answer as text.
 fn shown(bytes: &[u8]) -> &str {
@@ -20,7 +21,7 @@ fn shown_if(bytes: Option<&[u8]>) -> Option<&str> {
 }
 
 // The accesses of a policy.
-fn table_of(rt: &impl Abort, alloc: Global, policy: &Resolved) -> Table {
+fn table_of(rt: &impl Abort, alloc: Global, policy: &Rc<Resolved>) -> Table {
     let counters = counted(rt, alloc, policy);
     counters.table(alloc, policy).expect(rt, "memory")
 }
@@ -130,7 +131,7 @@ fn have_changed(rt: &impl Abort, alloc: Global, three: &Resolved, two: &Resolved
 fn accesses_and_changes_by_place(rt: HostRuntime) {
     let alloc = rt.alloc();
     assert!(&rt; Table::empty(alloc).is_empty());
-    let three = policy(&rt, alloc, &[START, THREE]);
+    let three = shared(&rt, alloc, &[START, THREE]);
     let two = policy(&rt, alloc, &[START, TWO]);
     assert!(&rt; are_three(&table_of(&rt, alloc, &three)));
     assert!(&rt; have_come(&rt, alloc, &three));
@@ -192,7 +193,7 @@ fn are_written(sink: &mut MemorySink, table: &Table, rows: &Rows) -> bool {
 #[test]
 fn rows_by_place_and_their_lines(rt: HostRuntime) {
     let alloc = rt.alloc();
-    let table = table_of(&rt, alloc, &policy(&rt, alloc, &[START, THREE]));
+    let table = table_of(&rt, alloc, &shared(&rt, alloc, &[START, THREE]));
     let rows = table.rows(alloc).expect(&rt, "memory");
     let same = are_rows(&rows);
     assert!(rt; same);

@@ -10,6 +10,7 @@ use cil_parse::{ParsedModule, parse};
 use cil_resolve::{Joined, NamedModule, Resolved, resolve};
 use std::alloc::{AllocError, Global};
 use std::process::Abort;
+use std::rc::Rc;
 
 // The parsed module of the text of these parts.
 fn module_of(rt: &impl Abort, alloc: Global, parts: &[&[u8]]) -> ParsedModule
@@ -63,6 +64,11 @@ pub fn policy_of_two(rt: &impl Abort, alloc: Global, m: &[&[u8]], n: &[&[u8]]) -
 /// The policy of the module m, beside a module n without a statement.
 pub fn policy(rt: &impl Abort, alloc: Global, m: &[&[u8]]) -> Resolved {
     policy_of_two(rt, alloc, m, &[])
+}
+
+/// The same policy, which its counters' tables share.
+pub fn shared(rt: &impl Abort, alloc: Global, m: &[&[u8]]) -> Rc<Resolved> {
+    Rc::new(alloc, policy(rt, alloc, m)).expect(rt, "memory")
 }
 
 // Appends the declaration of a type by its number below 1000.

@@ -14,7 +14,6 @@ mod table;
 pub use atom::Atom;
 pub use changes::Changes;
 pub use listing::write_row_line;
-pub use name_list::names_of;
 pub use numbers::number;
 pub use ranks::{Ranks, rank};
 pub use row::{Names, Row};

@@ -1,17 +1,26 @@
 //! Names that several owners share.
 
 ghost use Rattle.std.specs.Prelude.{◌≡◌, [], IfOk};
+ghost use Rattle.std.specs.Rc.{rc_value};
 
 use cil_resolve::{Resolved, Text};
 use std::alloc::{AllocError, Allocator, Global};
 use std::marker::Model;
-use std::rc::RcSlice;
+use std::rc::{Rc, RcSlice};
 
-/// The names that accesses are numbered by, which a table shares with what is made of it. Where there is none it takes no memory.
-/// Contracts see it as the list of the names.
+/// Whose names they are.
+#[derive(Drop)]
+pub enum Owner<A: Allocator = Global> {
+    Nobody,
+    Own(RcSlice<Text<A>, A>),
+    OfPolicy(Rc<Resolved<A>, A>),
+}
+
+/// The names that accesses are numbered by: names of its own, or those of a policy, which it shares with others and doesn't copy. Where
+/// there is none it takes no memory. Contracts see it as the list of the names.
 #[derive(Drop)]
 pub struct NameList<A: Allocator = Global> {
-    names: Option<RcSlice<Text<A>, A>>,
+    names: Owner<A>,
 }
 
 impl<A: Allocator> Model for NameList<A> {
@@ -30,7 +39,7 @@ impl<A: Allocator + Copy> NameList<A> {
         ensures { IfOk result (λ l. l ≡ names.items) }
     {
         Ok(NameList {
-            names: Some(RcSlice::from_vec(names)?),
+            names: Owner::Own(RcSlice::from_vec(names)?),
         })
     }
 }
@@ -40,7 +49,18 @@ impl<A: Allocator> NameList<A> {
     pub fn empty() -> Self
         ensures { result ≡ [] }
     {
-        NameList { names: None }
+        NameList {
+            names: Owner::Nobody,
+        }
+    }
+
+    /// The names of a policy, in the order of their numbers. Out of memory stands where no more owners of the policy can be counted.
+    pub fn of_policy(policy: &Rc<Resolved<A>, A>) -> Result<Self, AllocError>
+        ensures { IfOk result (λ l. l ≡ (rc_value policy.now).names.items) }
+    {
+        Ok(NameList {
+            names: Owner::OfPolicy(policy.clone()?),
+        })
     }
 
     /// The same names for one more owner. Out of memory stands where no more owners can be counted.
@@ -48,10 +68,11 @@ impl<A: Allocator> NameList<A> {
         ensures { IfOk result (λ l. l ≡ self.now) }
     {
         match &self.names {
-            Some(names) => Ok(NameList {
-                names: Some(names.clone()?),
+            Owner::Own(names) => Ok(NameList {
+                names: Owner::Own(names.clone()?),
             }),
-            None => Ok(NameList::empty()),
+            Owner::OfPolicy(policy) => NameList::of_policy(policy),
+            Owner::Nobody => Ok(NameList::empty()),
         }
     }
 
@@ -59,22 +80,9 @@ impl<A: Allocator> NameList<A> {
         ensures { result.now ≡ self.now }
     {
         match &self.names {
-            Some(names) => names.as_slice(),
-            None => &[],
+            Owner::Own(names) => names.as_slice(),
+            Owner::OfPolicy(policy) => policy.names(),
+            Owner::Nobody => &[],
         }
     }
-}
-
-/// Copies of the names of a policy, in the order of their numbers.
-pub fn names_of<A: Allocator + Copy>(
-    alloc: A,
-    resolved: &Resolved<A>,
-) -> Result<Vec<Text<A>, A>, AllocError>
-    ensures { IfOk result (λ names. names.items ≡ resolved.now.names.items) }
-{
-    let mut names = Vec::with_capacity(alloc, resolved.names_len())?;
-    for i in 0..resolved.names_len() {
-        names.push(Text::of(alloc, resolved.name(i))?)?;
-    }
-    Ok(names)
 }

@@ -2,6 +2,7 @@
 
 ghost use Rattle.std.specs.Prelude.{◌≡◌, ◌≤◌, ◌==◌, Bool, List, [], length, map, slice_get, option_map, IfOk, OnErr};
 ghost use Rattle.std.specs.List.{flat_map};
+ghost use Rattle.std.specs.Rc.{rc_value};
 ghost use Rattle.cil_specs.specs.Rule as spec;
 ghost use Rattle.cil_specs.specs.Report.{AreAtoms, Row, AreRows, row_line};
 ghost use Rattle.cil_stream.specs.Device.{HasFailed, Gains, GainsFront};
@@ -13,10 +14,11 @@ use crate::name_list::NameList;
 use crate::numbers::named;
 use crate::rows::Rows;
 use cil_accesses::Accesses;
-use cil_resolve::Text;
+use cil_resolve::Resolved;
 use cil_stream::{Sink, SinkFault};
 use std::alloc::{AllocError, Allocator, Global};
 use std::marker::Model;
+use std::rc::Rc;
 
 /// The accesses that the rules of a policy give, each once, in order. Contracts see it as their list.
 #[derive(Drop)]
@@ -49,13 +51,13 @@ impl<A: Allocator + Copy> Table<A> {
         }
     }
 
-    /// The table of these accesses by the numbers of names, which it takes over.
-    pub fn numbered(names: Vec<Text<A>, A>, accesses: Accesses<A>) -> Result<Self, AllocError>
-        requires { AreNumbered names.items accesses }
-        ensures { IfOk result (λ table. table ≡ map (atom_at names.items) accesses) }
+    /// The table of these accesses by the numbers of a policy's names, which it shares.
+    pub fn numbered(policy: &Rc<Resolved<A>, A>, accesses: Accesses<A>) -> Result<Self, AllocError>
+        requires { AreNumbered (rc_value policy.now).names.items accesses }
+        ensures { IfOk result (λ table. table ≡ map (atom_at (rc_value policy.now).names.items) accesses) }
     {
         Ok(Table {
-            names: NameList::of(names)?,
+            names: NameList::of_policy(policy)?,
             accesses,
         })
     }

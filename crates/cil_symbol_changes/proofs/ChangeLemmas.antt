@@ -1,15 +1,13 @@
--- The accesses of the targets that appeared or went, change by change and kind by kind.
+-- The accesses of the targets that appeared or went, change by change.
 use Rattle.std.proofs.Common.{◌≡◌, ◌↔◌, ℕ, ◌-◌, ◌<◌, ◌≤◌, suc, List, [], ◌∷◌, Option, None, Some, MatchOption, get_or, length, min, position, slice_get, refl, sym, ap, subst, ◌∙◌, inl, inr, arith}
-use Rattle.std.specs.List.{All, sum_by}
+use Rattle.std.specs.List.{sum_by}
 use Rattle.std.proofs.lemmas.Bool.{cases_eq, cases_lt}
 use Rattle.std.proofs.lemmas.List.{get_or_past}
-use Rattle.std.proofs.lemmas.List.Elements.{All-nil}
 use Rattle.std.proofs.lemmas.List.Sums.{sum_by-cons, sum_by_more_le}
 use Rattle.std.proofs.lemmas.Option.{same_Some, slice_get_within}
 use Rattle.cil_accesses.specs.declared.access.AccessNumbers.{AccessNumbers}
 use Rattle.cil_accesses.specs.declared.chunk.Chunk.{Chunk}
-use Rattle.cil_accesses.specs.Chunks.{IsGiven}
-use Rattle.cil_keyed_lines.specs.Keyed.{Keyed, IsLineOf, IsNoLine, NoneCounted, before_at, is_key, now_at}
+use Rattle.cil_keyed_lines.specs.Keyed.{Keyed, IsLineOf, IsNoLine, NoneCounted, before_at, is_key, now_at, count_before, count_now}
 use Rattle.cil_keyed_lines.specs.declared.symbol_key.SymbolKey.{SymbolKey}
 use Rattle.cil_keyed_lines.proofs.KeyedLemmas.{line_of_key}
 use Rattle.cil_lines.specs.Line.{hit}
@@ -17,13 +15,12 @@ use Rattle.cil_recorded.specs.Log.{hit_at}
 use Rattle.cil_recorded.specs.declared.recorded_lines.changes.Change.{Change}
 use Rattle.cil_recorded.proofs.LogLemmas.{hit_in, hit_off}
 use Rattle.cil_recorded.specs.Differences.{appeared_at, gone_at}
-use Rattle.cil_keyed_lines.specs.Keyed.{count_before, count_now}
-use Rattle.cil_symbol_changes.specs.Gained.{AreGained, AreKnown, AreKnownIn, IsIn, IsShort, IsTo}
-use Rattle.cil_symbol_changes.specs.Numbered.{access_by, AreNumbered, IsNew, IsNew, IsNumbered}
-use Rattle.cil_symbol_changes.specs.SourceOrder.{AreAllPlaces, IsBetween}
+use Rattle.cil_symbol_changes.specs.Gained.{AreGained, AreKnown, AreKnownIn, IsIn, IsTo}
+use Rattle.cil_symbol_changes.specs.Numbered.{access_by, AreNumbered, IsNew, IsNumbered}
+use Rattle.cil_symbol_changes.specs.SourceOrder.{AreAllPlaces, IsAmong}
 use Rattle.cil_symbol_changes.specs.declared.source_order.LinePlace.{LinePlace}
 use Rattle.cil_symbol_changes.proofs.GainedLemmas.{gained-alike, gained-none}
-use Rattle.cil_symbol_changes.proofs.OrderLemmas.{any_place, between-from}
+use Rattle.cil_symbol_changes.proofs.OrderLemmas.{among-at}
 
 -- one of two that follow from each other, and a third
 pub alike-trans : {X Y Z : Type 0} → X ↔ Y → Y ↔ Z → X ↔ Z
@@ -111,8 +108,12 @@ module _ (numbers : List ℕ) (lines : Keyed) where
     pub in-no_change : (place : ℕ) (old : List Chunk) → length changes ≤ place → AreGained (IsOfPlace place) old old
     in-no_change place old past = in-none (at (get_or changes place no_change)) old (λ l t. past-changes place l t past)
 
-    pub in-all : (order : List LinePlace) (n : ℕ) (old new : List Chunk) → AreAllPlaces (length changes) order → length order ≤ n → AreGained (IsBetween IsOfPlace order 0 n) old new → AreGained IsOfAll old new
-    in-all order n old new all past gained = gained-alike (IsBetween IsOfPlace order 0 n) IsOfAll old new gained (λ a b. to a (get_or order b.at any_place).place b.told) from
+    pub in-all : (order : List LinePlace) (old new : List Chunk)
+        → AreAllPlaces (length changes) order → AreGained (IsAmong IsOfPlace order) old new
+        → AreGained IsOfAll old new
+    in-all order old new all gained =
+        gained-alike (IsAmong IsOfPlace order) IsOfAll old new gained
+        (λ a some. to a some.1.place some.4) from
       where
         to : (a : AccessNumbers) (place : ℕ) → IsOfPlace place a → IsOfAll a
         to a place told =
@@ -124,12 +125,20 @@ module _ (numbers : List ℕ) (lines : Keyed) where
               | inr past ↦ let zero = past-changes place told.place told.target past in absurd (omega (arith, some, zero))
             ]
 
-        from : (a : AccessNumbers) → IsOfAll a → IsBetween IsOfPlace order 0 n a
+        from : (a : AccessNumbers) → IsOfAll a → IsAmong IsOfPlace order a
         from a told =
             let (i, within, some) = one_of (λ x. at x told.place told.target) changes told.among in
-            between-from IsOfPlace order (length changes) n all past i within a (record { place = told.place; key = told.key; line = told.line; target = told.target; among = some; same = told.same })
+            among-at IsOfPlace order i a (all i within)
+            (record {
+              place = told.place;
+              key = told.key;
+              line = told.line;
+              target = told.target;
+              among = some;
+              same = told.same;
+            })
 
-  -- ---- all changes of a kind
+  -- ---- all changes
 
   -- what the changes say of places is what the counters of keys are
   module _ (stands f g : ℕ → ℕ → ℕ) (was is : SymbolKey → ℕ → ℕ) (turned : (l t : ℕ) → stands l t ≡ min 1 (g l t) - min 1 (f l t))
@@ -171,10 +180,6 @@ line-before lines key t some = by (position (is_key key) lines.keys) (line_of_ke
     by : (o : Option ℕ) → MatchOption o (NoneCounted lines key) (λ l. IsLineOf lines l key) → (l : ℕ) × IsLineOf lines l key
     by None none = let zero = (none t).1 in absurd (omega (arith, some, zero))
     by (Some l) line = (l, line)
-
--- where nothing is counted no access is new
-pub none-new : (numbers : List ℕ) (chunks : List Chunk) → AreGained (IsNew numbers (λ key t. 0) (λ key t. 0)) chunks chunks
-none-new numbers chunks = record { are = λ a. (λ h. inl h, λ h. elim h [ inl h ↦ h | inr new ↦ absurd (let some = new.present in omega (arith, some)) ]); short = λ short. short }
 
 -- ---- lines
 

@@ -1,5 +1,5 @@
--- How many accesses came: word by word, change by change, key by key and kind by kind.
-use Rattle.std.proofs.Common.{◌≡◌, ◌≢◌, ◌⊎◌, if◌then◌else◌, ℕ, zero, suc, ◌+◌, ◌-◌, ◌*◌, ◌/◌, ◌%◌, ◌^◌, ◌<◌, ◌≤◌, ◌==◌, ◌&&◌, Bool, true, false, not, cond, List, [], ◌∷◌, Option, None, Some, MatchOption, map, length, get_or, min, nat_lt, count_ones, position, slice_get, refl, sym, ap, subst, ◌∙◌, inl, inr, arith, true≢false, zero-add, eqb-true}
+-- How many accesses came: word by word, change by change and key by key.
+use Rattle.std.proofs.Common.{◌≡◌, ◌≢◌, ◌⊎◌, if◌then◌else◌, ℕ, suc, ◌+◌, ◌-◌, ◌*◌, ◌/◌, ◌%◌, ◌^◌, ◌<◌, ◌≤◌, ◌==◌, ◌&&◌, Bool, true, false, not, cond, List, [], ◌∷◌, Option, None, Some, MatchOption, map, length, get_or, min, nat_lt, count_ones, position, slice_get, refl, sym, ap, subst, ◌∙◌, inl, inr, arith, true≢false, zero-add, eqb-true}
 use Rattle.std.specs.Int.{bit_at}
 use Rattle.std.specs.List.{All, Contains, sum_by}
 use Rattle.std.proofs.lemmas.Bool.{cases_eq, cases_lt, eq-eqb, le-ltb, lt-ltb, ltb-true}
@@ -9,7 +9,7 @@ use Rattle.std.proofs.lemmas.List.Sums.{sum_by-cons}
 use Rattle.std.proofs.lemmas.Nat.{zero_from_ones}
 use Rattle.std.proofs.lemmas.Nat.Bits.{bit_at_above, bit_at-lt}
 use Rattle.std.proofs.lemmas.Option.{get_or_from_slice_get, same_Some, slice_get-get_or}
-use Rattle.cil_keyed_lines.specs.Keyed.{AreKeyed, Keyed, IsLineOf, NoneCounted, before_at, is_key, now_at}
+use Rattle.cil_keyed_lines.specs.Keyed.{AreKeyed, Keyed, IsLineOf, NoneCounted, before_at, is_key, now_at, count_before, count_now}
 use Rattle.cil_keyed_lines.specs.declared.symbol_key.SymbolKey.{SymbolKey}
 use Rattle.cil_keyed_lines.proofs.KeyedLemmas.{line_of_key, placed_at}
 use Rattle.cil_recorded.specs.Differences.{appeared_at, gone_at}
@@ -17,11 +17,11 @@ use Rattle.cil_recorded.specs.Log.{came_by, came_in, hit_at, went_by, went_in, I
 use Rattle.cil_recorded.specs.declared.recorded_lines.changes.Change.{Change}
 use Rattle.cil_recorded.specs.declared.step.Step.{Step}
 use Rattle.cil_recorded.proofs.LogLemmas.{hit_nothing, hit_off, hit_on, hit_out}
-use Rattle.cil_sums.specs.Rises.{below, RisesBy}
+use Rattle.cil_sums.specs.Rises.{RisesBy}
 use Rattle.cil_sums.proofs.PairLemmas.{from-mapped, mapped, pairs-map}
-use Rattle.cil_sums.proofs.RiseLemmas.{rises-added, rises-bits, rises-both, rises-first, rises-map, rises-next, rises-none}
-use Rattle.cil_keyed_lines.specs.Keyed.{count_before, count_now}
-use Rattle.cil_symbol_changes.specs.Counts.{came, has_come, has_come, has_risen, went, AreSoMany, SymbolAccess}
+use Rattle.cil_sums.proofs.RiseLemmas.{rises-added, rises-bits, rises-both, rises-map, rises-none}
+use Rattle.cil_text.specs.declared.statement.RuleKind.TheVariants.{Allow}
+use Rattle.cil_symbol_changes.specs.Counts.{came, has_come, has_risen, went, AreSoMany}
 
 -- Things that stand for those that pass, each for one, are as many.
 module _ {X Y : Type 0} (f : X → Y) (p : X → Bool) (q : Y → Bool) (alone : (a b : X) → p a ≡ true → p b ≡ true → f a ≡ f b → a ≡ b) (there : (x : X) → p x ≡ true → q (f x) ≡ true)
@@ -142,6 +142,10 @@ module _ {X : Type 0} (line_of word_of mask_of : X → ℕ) where
 
 -- ---- keys
 
+-- any key
+abbrev no_key : SymbolKey
+no_key = record { kind = Allow; source = 0; class = 0; permission = 0 }
+
 -- a line that its key leads to
 pub record IsFound (lines : Keyed) (l : ℕ) : Type 0 where
   pub key : SymbolKey
@@ -151,9 +155,8 @@ pub record IsFound (lines : Keyed) (l : ℕ) : Type 0 where
 -- the line of a counter above 0 is found
 pub found-line : (lines : Keyed) (l : ℕ) → AreKeyed lines.keys lines.lines → l < length lines.keys → IsFound lines l
 found-line lines l held within =
-    let none : SymbolKey = record { source = 0; class = 0; permission = 0 } in
-    let key = get_or lines.keys l none in
-    let at : slice_get lines.keys l ≡ Some key = slice_get-get_or lines.keys l none within in
+    let key = get_or lines.keys l no_key in
+    let at : slice_get lines.keys l ≡ Some key = slice_get-get_or lines.keys l no_key within in
     record { key = key; at = at; leads = placed_at lines.keys l key held.distinct at }
 
 pub line-led : (lines : Keyed) (l : ℕ) (key : SymbolKey) → position (is_key key) lines.keys ≡ Some l → IsLineOf lines l key
@@ -174,9 +177,6 @@ module _ (lines : Keyed) (stands f g : ℕ → ℕ → ℕ) (was is : SymbolKey 
     (at : (l : ℕ) (key : SymbolKey) → IsLineOf lines l key → (t : ℕ) → (f l t ≡ was key t) × (g l t ≡ is key t)) (find : (key : SymbolKey) (t : ℕ) → 0 < is key t → (l : ℕ) × (position (is_key key) lines.keys ≡ Some l)) where
   abbrev pub in_lines : ℕ × ℕ → Bool
   in_lines p = nat_lt 0 (stands p.0 p.1)
-
-  no_key : SymbolKey
-  no_key = record { source = 0; class = 0; permission = 0 }
 
   abbrev by_key : ℕ × ℕ → SymbolKey × ℕ
   by_key p = (get_or lines.keys p.0 no_key, p.1)
@@ -248,15 +248,20 @@ module _ (lines : Keyed) (held : AreKeyed lines.keys lines.lines) where
 -- ---- the numbers of lines
 
 module _ (lines : Keyed) (held : AreKeyed lines.keys lines.lines) (stands : ℕ → ℕ → ℕ) (count : ℕ)
+    (few : count < 2 ^ 96)
     (many : RisesBy (λ (p : ℕ × ℕ). nat_lt 0 (stands p.0 p.1)) 0 count) where
-  -- the number of what appeared in the lines of a kind
-  pub lines-come : ((l t : ℕ) → stands l t ≡ min 1 (now_at lines l t) - min 1 (before_at lines l t)) → RisesBy (has_come (count_before lines) (count_now lines)) 0 count
+  -- the number of what appeared in the lines
+  pub lines-come : ((l t : ℕ) → stands l t ≡ min 1 (now_at lines l t) - min 1 (before_at lines l t))
+      → AreSoMany (has_come (count_before lines) (count_now lines)) count
   lines-come turned =
+      so-many (has_come (count_before lines) (count_now lines)) count (omega (arith, few))
       (key-count lines stands (before_at lines) (now_at lines) (count_before lines) (count_now lines) turned (here-now lines held) (λ l key line t. (line.before t, line.now t)) (place-now lines) 0 count many)
 
   -- and of what went
-  pub lines-gone : ((l t : ℕ) → stands l t ≡ min 1 (before_at lines l t) - min 1 (now_at lines l t)) → RisesBy (has_come (count_now lines) (count_before lines)) 0 count
+  pub lines-gone : ((l t : ℕ) → stands l t ≡ min 1 (before_at lines l t) - min 1 (now_at lines l t))
+      → AreSoMany (has_come (count_now lines) (count_before lines)) count
   lines-gone turned =
+      so-many (has_come (count_now lines) (count_before lines)) count (omega (arith, few))
       (key-count lines stands (now_at lines) (before_at lines) (count_now lines) (count_before lines) turned (here-before lines held) (λ l key line t. (line.now t, line.before t)) (place-before lines) 0 count many)
 
 -- ---- steps that turned targets one way
@@ -313,7 +318,10 @@ module _ (ss : List Step) (now before : ℕ → ℕ → ℕ) (turned : IsTurned 
       (omega (arith, balance l t, zero), omega (arith, balance l t, zero))
 
 module _ (lines : Keyed) (held : AreKeyed lines.keys lines.lines) (log : List Step) (is : log ≡ lines.lines.log)
-    (turned : IsTurned lines.lines.log (now_at lines) (before_at lines)) (fits : All (λ (s : Step). s.turned < 2 ^ 64) log) (added removed : ℕ) (came_is : added ≡ sum_by (λ s. count_ones (came s)) log)
+    (turned : IsTurned lines.lines.log (now_at lines) (before_at lines))
+    (fits : All (λ (s : Step). s.turned < 2 ^ 64) log) (added removed : ℕ)
+    (few_added : added < 2 ^ 96) (few_removed : removed < 2 ^ 96)
+    (came_is : added ≡ sum_by (λ s. count_ones (came s)) log)
     (went_is : removed ≡ sum_by (λ s. count_ones (went s)) log) (none : (added ≡ 0) ⊎ (removed ≡ 0)) where
   each : (l t : ℕ) → (came_at log l t ≡ min 1 (now_at lines l t) - min 1 (before_at lines l t)) × (went_at log l t ≡ min 1 (before_at lines l t) - min 1 (now_at lines l t))
   each =
@@ -323,37 +331,38 @@ module _ (lines : Keyed) (held : AreKeyed lines.keys lines.lines) (log : List St
         | inr nothing ↦ inr (sym went_is ∙ nothing)
       ])
 
-  pub steps-come : RisesBy (has_come (count_before lines) (count_now lines)) 0 added
+  pub steps-come : AreSoMany (has_come (count_before lines) (count_now lines)) added
   steps-come =
-      lines-come lines held (came_at log) added
+      lines-come lines held (came_at log) added few_added
       (subst (RisesBy (λ (p : ℕ × ℕ). nat_lt 0 (came_at log p.0 p.1)) 0) (sym came_is)
       (all-masks (λ (s : Step). s.line) (λ (s : Step). s.word) came log (λ s there. came-fits s (All-contains (λ (t : Step). t.turned < 2 ^ 64) log s fits there)) (λ l t. let e = (each l t).0 in omega (arith, e))))
       (λ l t. (each l t).0)
 
-  pub steps-gone : RisesBy (has_come (count_now lines) (count_before lines)) 0 removed
+  pub steps-gone : AreSoMany (has_come (count_now lines) (count_before lines)) removed
   steps-gone =
-      lines-gone lines held (went_at log) removed
+      lines-gone lines held (went_at log) removed few_removed
       (subst (RisesBy (λ (p : ℕ × ℕ). nat_lt 0 (went_at log p.0 p.1)) 0) (sym went_is)
       (all-masks (λ (s : Step). s.line) (λ (s : Step). s.word) went log (λ s there. went-fits s (All-contains (λ (t : Step). t.turned < 2 ^ 64) log s fits there)) (λ l t. let e = (each l t).1 in omega (arith, e))))
       (λ l t. (each l t).1)
 
 -- ---- changes
 
-module _ (lines : Keyed) (held : AreKeyed lines.keys lines.lines) (given changes : List Change) (all : given ≡ changes) (count : ℕ) where
+module _ (lines : Keyed) (held : AreKeyed lines.keys lines.lines) (given changes : List Change)
+    (all : given ≡ changes) (count : ℕ) (few : count < 2 ^ 96) where
   pub changes-come : ((l t : ℕ) → appeared_at changes l t ≡ min 1 (now_at lines l t) - min 1 (before_at lines l t)) → All (λ (c : Change). c.appeared < 2 ^ 64) given → count ≡ sum_by (λ c. count_ones c.appeared) given
-      → RisesBy (has_come (count_before lines) (count_now lines)) 0 count
+      → AreSoMany (has_come (count_before lines) (count_now lines)) count
   changes-come appeared fit counted =
       let turned : (l t : ℕ) → appeared_at given l t ≡ min 1 (now_at lines l t) - min 1 (before_at lines l t) = λ l t. ap (λ cs. appeared_at cs l t) all ∙ appeared l t in
-      lines-come lines held (appeared_at given) count
+      lines-come lines held (appeared_at given) count few
       (subst (RisesBy (λ (p : ℕ × ℕ). nat_lt 0 (appeared_at given p.0 p.1)) 0) (sym counted)
       (all-masks (λ (c : Change). c.line) (λ (c : Change). c.word) (λ (c : Change). c.appeared) given (λ c there. All-contains (λ (d : Change). d.appeared < 2 ^ 64) given c fit there) (λ l t. omega (arith, turned l t))))
       turned
 
   pub changes-gone : ((l t : ℕ) → gone_at changes l t ≡ min 1 (before_at lines l t) - min 1 (now_at lines l t)) → All (λ (c : Change). c.gone < 2 ^ 64) given → count ≡ sum_by (λ c. count_ones c.gone) given
-      → RisesBy (has_come (count_now lines) (count_before lines)) 0 count
+      → AreSoMany (has_come (count_now lines) (count_before lines)) count
   changes-gone gone fit counted =
       let turned : (l t : ℕ) → gone_at given l t ≡ min 1 (before_at lines l t) - min 1 (now_at lines l t) = λ l t. ap (λ cs. gone_at cs l t) all ∙ gone l t in
-      lines-gone lines held (gone_at given) count
+      lines-gone lines held (gone_at given) count few
       (subst (RisesBy (λ (p : ℕ × ℕ). nat_lt 0 (gone_at given p.0 p.1)) 0) (sym counted)
       (all-masks (λ (c : Change). c.line) (λ (c : Change). c.word) (λ (c : Change). c.gone) given (λ c there. All-contains (λ (d : Change). d.gone < 2 ^ 64) given c fit there) (λ l t. omega (arith, turned l t))))
       turned

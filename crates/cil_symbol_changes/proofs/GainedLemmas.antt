@@ -3,7 +3,7 @@ use Rattle.std.proofs.Common.{◌≡◌, ◌≢◌, ◌⊎◌, ◌↔◌, ℕ, �
 use Rattle.std.specs.Int.{bit_at}
 use Rattle.std.specs.List.{All}
 use Rattle.std.proofs.lemmas.Bool.{cases_eq}
-use Rattle.std.proofs.lemmas.List.Elements.{All-push}
+use Rattle.std.proofs.lemmas.List.Elements.{All-nil, All-push}
 use Rattle.std.proofs.lemmas.Nat.Bits.{bit_at-lt, bit_at-zero}
 use Rattle.cil_accesses.specs.declared.access.AccessNumbers.{AccessNumbers}
 use Rattle.cil_accesses.specs.declared.chunk.Chunk.{Chunk}
@@ -50,6 +50,22 @@ gained-alike told other old new gained to from = record {
   );
   short = gained.short;
 }
+
+-- what is gained where there was nothing is all
+module _ (told : AccessNumbers → Type 0) (old new : List Chunk) (empty : old ≡ [])
+    (gained : AreGained told old new) where
+  pub gained-all : (a : AccessNumbers) → IsGiven new a ↔ told a
+  gained-all a = (
+    λ h. elim ((gained.are a).0 h) [
+      | inl before ↦ absurd
+          (let low = (subst (λ cs. IsGiven cs a) empty before).2 in omega (arith, low))
+      | inr t ↦ t
+    ],
+    λ t. (gained.are a).1 (inr t),
+  )
+
+  pub gained-short : All IsShort new
+  gained-short = gained.short (subst (All IsShort) (sym empty) (All-nil IsShort))
 
 -- ---- the accesses of a word, by symbols
 

@@ -1,23 +1,23 @@
 -- The accesses of the targets whose counters are above 0, word by word and line by line.
-use Rattle.std.proofs.Common.{◌≡◌, ◌⊎◌, ℕ, ◌+◌, ◌*◌, ◌/◌, ◌%◌, ◌<◌, ◌≤◌, List, length, min, slice_get, refl, sym, ap, subst, ◌∙◌, inl, inr, arith}
+use Rattle.std.proofs.Common.{◌≡◌, ◌⊎◌, ℕ, ◌+◌, ◌*◌, ◌/◌, ◌%◌, ◌<◌, ◌≤◌, Bool, true, false, cond, List, length, min, slice_get, refl, sym, ap, subst, ◌∙◌, inl, inr, arith}
 use Rattle.std.specs.Int.{bit_at}
 use Rattle.std.proofs.lemmas.Bool.{cases_eq, cases_lt}
+use Rattle.std.proofs.lemmas.List.Elements.{All-contains}
 use Rattle.std.proofs.lemmas.Option.{same_Some, slice_get_within}
 use Rattle.std.proofs.lemmas.Nat.Bits.{bit_at-zero}
 use Rattle.cil_accesses.specs.declared.access.AccessNumbers.{AccessNumbers}
 use Rattle.cil_accesses.specs.declared.chunk.Chunk.{Chunk}
-use Rattle.cil_keyed_lines.specs.Keyed.{Keyed, IsLineOf, IsNoLine, now_at}
+use Rattle.cil_keyed_lines.specs.Keyed.{Keyed, IsLineOf, IsNoLine, now_at, count_now}
 use Rattle.cil_keyed_lines.specs.declared.symbol_key.SymbolKey.{SymbolKey}
 use Rattle.cil_lines.specs.Line.{hit, IsNextPresent, IsPresence, NonePresent}
 use Rattle.cil_lines.proofs.StepLemmas.{hit-here, hit-there}
-use Rattle.cil_keyed_lines.specs.Keyed.{count_now}
-use Rattle.cil_symbol_changes.specs.Gained.{AreGained, AreKnown, AreKnownIn, IsIn, IsTo}
-use Rattle.cil_symbol_changes.specs.Numbered.{access_by, ArePresentNumbered, IsPresent}
-use Rattle.cil_symbol_changes.specs.SourceOrder.{AreAllPlaces, IsAt, IsAtWord, IsBetween}
+use Rattle.cil_symbol_changes.specs.Gained.{AreGained, AreKnown, AreKnownIn, IsTo}
+use Rattle.cil_symbol_changes.specs.Numbered.{access_by, is_listed, listed, ArePresentNumbered, IsPresent}
+use Rattle.cil_symbol_changes.specs.SourceOrder.{AreListedPlaces, IsAmong, IsAt, IsAtWord, IsListedIn}
 use Rattle.cil_symbol_changes.specs.declared.source_order.LinePlace.{LinePlace}
 use Rattle.cil_symbol_changes.proofs.ChangeLemmas.{line-now}
 use Rattle.cil_symbol_changes.proofs.GainedLemmas.{gained-alike, gained-more, gained-none}
-use Rattle.cil_symbol_changes.proofs.OrderLemmas.{between-from}
+use Rattle.cil_symbol_changes.proofs.OrderLemmas.{among-at, IsListedPlace}
 
 -- the targets of the mask of a word are those that are counted
 hit-counted : (counts : ℕ → ℕ) (word mask : ℕ) → IsPresence counts word mask → (t : ℕ) → 0 < hit word mask t → (t / 64 ≡ word) × (0 < counts t)
@@ -47,9 +47,6 @@ IsBefore counts from t = (0 < counts t) × (t / 64 < from)
 module _ (numbers : List ℕ) (key : SymbolKey) (counts : ℕ → ℕ) where
   moved : (f g : ℕ → Type 0) (a : AccessNumbers) (told : IsTo numbers key f a) → g told.target → IsTo numbers key g a
   moved f g a told among = record { target = told.target; among = among; same = told.same }
-
-  pub words-none : (old : List Chunk) → AreGained (IsTo numbers key (IsBefore counts 0)) old old
-  words-none old = gained-none (IsTo numbers key (IsBefore counts 0)) old (λ a told. let low = told.among.1 in omega (arith, low))
 
   pub words-more : (from word mask : ℕ) (old mid new : List Chunk) → IsNextPresent counts from word → IsPresence counts word mask → AreGained (IsTo numbers key (IsBefore counts from)) old mid
       → AreGained (IsTo numbers key (λ t. 0 < hit word mask t)) mid new → AreGained (IsTo numbers key (IsBefore counts (word + 1))) old new
@@ -84,12 +81,9 @@ module _ (numbers : List ℕ) (key : SymbolKey) (counts : ℕ → ℕ) where
       before : (t : ℕ) → 0 < counts t → t / 64 < from
       before t some = elim (cases_lt (t / 64) from) [ inl low ↦ low | inr past ↦ let zero = none t past in absurd (omega (arith, some, zero)) ]
 
-  -- the symbols of a word's targets have numbers, and there are more numbers than words up to it
+  -- the symbols of a word's targets have numbers
   pub known-present : (word mask : ℕ) → IsPresence counts word mask → AreKnown numbers key counts → AreKnown numbers key (hit word mask)
   known-present word mask present known t some = known t (hit-counted counts word mask present t some).1
-
-  pub word-low : (from word : ℕ) → IsNextPresent counts from word → AreKnown numbers key counts → word < length numbers
-  word-low from word next known = let (t, here, some) = next.present in let low = (known t some).among in omega (arith, here, low)
 
 -- ---- lines
 
@@ -112,12 +106,29 @@ module _ (numbers : List ℕ) (lines : Keyed) where
       let behind = none.behind in
       omega (arith, within, here, behind))
 
-  -- an order that has all lines
-  pub between-all : (order : List LinePlace) (n : ℕ) (old new : List Chunk) → AreAllPlaces (length lines.keys) order → length order ≤ n → AreGained (IsBetween (IsAt numbers lines) order 0 n) old new
-      → AreGained (IsIn numbers lines (now_at lines)) old new
-  between-all order n old new all past gained =
-      gained-alike (IsBetween (IsAt numbers lines) order 0 n) (IsIn numbers lines (now_at lines)) old new gained (λ a b. b.told.told)
-      (λ a told. between-from (IsAt numbers lines) order (length lines.keys) n all past told.place (slice_get_within lines.keys told.place told.key told.line.at) a (record { told = told; here = refl }))
+  -- an order that has the lines of a listing
+  pub among-listed : (order : List LinePlace) (old new : List Chunk) → AreListedPlaces lines order
+      → AreGained (IsAmong (IsAt numbers lines) order) old new
+      → AreGained (IsListedIn numbers lines) old new
+  among-listed order old new listed gained =
+      gained-alike (IsAmong (IsAt numbers lines) order) (IsListedIn numbers lines) old new gained to
+      from
+    where
+      to : (a : AccessNumbers) → IsAmong (IsAt numbers lines) order a → IsListedIn numbers lines a
+      to a (k, x, within, at, is) =
+          let told = is.told in
+          let line = subst (λ l. IsLineOf lines l told.key) is.here told.line in
+          record {
+            told = told;
+            listed = All-contains (IsListedPlace lines) order x listed.alone (k, within, at) told.key line;
+          }
+
+      from : (a : AccessNumbers) → IsListedIn numbers lines a → IsAmong (IsAt numbers lines) order a
+      from a one =
+          let told = one.told in
+          among-at (IsAt numbers lines) order told.place a
+          (listed.all told.place told.key told.line one.listed)
+          (record { told = told; here = refl })
 
 -- ---- lines, word by word
 
@@ -162,44 +173,74 @@ module _ (numbers : List ℕ) (lines : Keyed) (word place : ℕ) where
       let clear = ap (λ n. bit_at n (told.target % 64)) none ∙ bit_at-zero (told.target % 64) in
       omega (arith, some, is, clear))
 
-module _ (numbers : List ℕ) (lines : Keyed) (order : List LinePlace) (from to : ℕ) where
+module _ (numbers : List ℕ) (lines : Keyed) (source : List LinePlace) where
   abbrev pub UpTo : ℕ → AccessNumbers → Type 0
-  UpTo word = IsBetween (IsAtBefore numbers lines word) order from to
+  UpTo word = IsAmong (IsAtBefore numbers lines word) source
 
   abbrev Here : ℕ → AccessNumbers → Type 0
-  Here word = IsBetween (IsAtWord numbers lines word) order from to
+  Here word = IsAmong (IsAtWord numbers lines word) source
 
   abbrev Each : AccessNumbers → Type 0
-  Each = IsBetween (IsAt numbers lines) order from to
+  Each = IsAmong (IsAt numbers lines) source
 
-  pub between-no_words : (old : List Chunk) → AreGained (UpTo 0) old old
-  between-no_words old = gained-none (UpTo 0) old (λ a b. let low = b.told.low in omega (arith, low))
+  pub among-no_words : (old : List Chunk) → AreGained (UpTo 0) old old
+  among-no_words old = gained-none (UpTo 0) old (λ a some. let low = some.4.low in omega (arith, low))
 
-  pub between-word : (word : ℕ) (old mid new : List Chunk) → AreGained (UpTo word) old mid → AreGained (Here word) mid new → AreGained (UpTo (word + 1)) old new
-  between-word word old mid new first second = gained-more (UpTo word) (Here word) (UpTo (word + 1)) old mid new first second split left right
+  pub among-word : (word : ℕ) (old mid new : List Chunk) → AreGained (UpTo word) old mid
+      → AreGained (Here word) mid new → AreGained (UpTo (word + 1)) old new
+  among-word word old mid new first second =
+      gained-more (UpTo word) (Here word) (UpTo (word + 1)) old mid new first second split left
+      right
     where
       split : (a : AccessNumbers) → UpTo (word + 1) a → UpTo word a ⊎ Here word a
-      split a b =
-          let low = b.told.low in
-          elim (cases_lt (b.told.told.told.target / 64) word) [
-            | inl before ↦ inl (record { at = b.at; from_on = b.from_on; before = b.before; told = record { told = b.told.told; low = before } })
-            | inr behind ↦ inr (record { at = b.at; from_on = b.from_on; before = b.before; told = record { told = b.told.told; stands = omega (arith, low, behind) } })
+      split a (k, x, within, at, is) =
+          let low = is.low in
+          elim (cases_lt (is.told.told.target / 64) word) [
+            | inl before ↦ inl (k, x, within, at, record { told = is.told; low = before })
+            | inr behind ↦
+                inr (
+                  k,
+                  x,
+                  within,
+                  at,
+                  record { told = is.told; stands = omega (arith, low, behind) },
+                )
           ]
 
       left : (a : AccessNumbers) → UpTo word a → UpTo (word + 1) a
-      left a b = let low = b.told.low in record { at = b.at; from_on = b.from_on; before = b.before; told = record { told = b.told.told; low = omega (arith, low) } }
+      left a (k, x, within, at, is) =
+          let low = is.low in (
+            k,
+            x,
+            within,
+            at,
+            record { told = is.told; low = omega (arith, low) },
+          )
 
       right : (a : AccessNumbers) → Here word a → UpTo (word + 1) a
-      right a b = let here = b.told.stands in record { at = b.at; from_on = b.from_on; before = b.before; told = record { told = b.told.told; low = omega (arith, here) } }
+      right a (k, x, within, at, is) =
+          let here = is.stands in (
+            k,
+            x,
+            within,
+            at,
+            record { told = is.told; low = omega (arith, here) },
+          )
 
   -- no symbol that is known stands behind the words
-  pub between-words : (words : ℕ) (old new : List Chunk) → length numbers ≤ 64 * words → AreKnownIn numbers lines (now_at lines) → AreGained (UpTo words) old new → AreGained Each old new
-  between-words words old new past known gained =
-      gained-alike (UpTo words) Each old new gained (λ a b. record { at = b.at; from_on = b.from_on; before = b.before; told = b.told.told })
-      (λ a b.
-      let told = b.told.told in
-      let low = (known told.place told.key told.line told.target told.among).among in
-      record { at = b.at; from_on = b.from_on; before = b.before; told = record { told = b.told; low = omega (arith, low, past) } })
+  pub among-words : (words : ℕ) (old new : List Chunk) → length numbers ≤ 64 * words
+      → AreKnownIn numbers lines (now_at lines) → AreGained (UpTo words) old new
+      → AreGained Each old new
+  among-words words old new past known gained = gained-alike (UpTo words) Each old new gained to from
+    where
+      to : (a : AccessNumbers) → UpTo words a → Each a
+      to a (k, x, within, at, is) = (k, x, within, at, is.told)
+
+      from : (a : AccessNumbers) → Each a → UpTo words a
+      from a (k, x, within, at, is) =
+          let told = is.told in
+          let low = (known told.place told.key told.line told.target told.among).among in
+          (k, x, within, at, record { told = is; low = omega (arith, low, past) })
 
 -- ---- lines
 
@@ -207,14 +248,48 @@ module _ (numbers : List ℕ) (lines : Keyed) where
   pub known-now : ArePresentNumbered numbers (count_now lines) → AreKnownIn numbers lines (now_at lines)
   known-now numbered place key line t some = numbered key t (subst (λ n. 0 < n) (line.now t) some)
 
-  pub in-present : (old new : List Chunk) → AreGained (IsIn numbers lines (now_at lines)) old new → AreGained (IsPresent numbers (count_now lines)) old new
+  pub in-present : (old new : List Chunk) → AreGained (IsListedIn numbers lines) old new
+      → AreGained (IsPresent numbers (listed (count_now lines))) old new
   in-present old new gained =
-      (gained-alike (IsIn numbers lines (now_at lines)) (IsPresent numbers (count_now lines)) old new gained to from)
+      gained-alike (IsListedIn numbers lines) (IsPresent numbers (listed (count_now lines))) old new
+      gained to from
     where
-      to : (a : AccessNumbers) → IsIn numbers lines (now_at lines) a → IsPresent numbers (count_now lines) a
-      to a told = record { key = told.key; target = told.target; absent = refl; present = subst (λ n. 0 < n) (told.line.now told.target) told.among; same = told.same }
+      -- the counters of a listing, where a kind is told to be part of it or not to be
+      counted : (key : SymbolKey) (t : ℕ) (b : Bool) → is_listed key.kind ≡ b
+          → listed (count_now lines) key t ≡ cond b (count_now lines key t) 0
+      counted key t b is = ap (λ l. cond l (count_now lines key t) 0) is
 
-      from : (a : AccessNumbers) → IsPresent numbers (count_now lines) a → IsIn numbers lines (now_at lines) a
-      from a told =
-          let (l, line) = line-now lines told.key told.target told.present in
-          record { place = l; key = told.key; line = line; target = told.target; among = subst (λ n. 0 < n) (sym (line.now told.target)) told.present; same = told.same }
+      to : (a : AccessNumbers) → IsListedIn numbers lines a → IsPresent numbers (listed (count_now lines)) a
+      to a one =
+          let told = one.told in
+          let some = subst (λ n. 0 < n) (told.line.now told.target) told.among in
+          record {
+            key = told.key;
+            target = told.target;
+            absent = refl;
+            present = subst (λ n. 0 < n) (sym (counted told.key told.target true one.listed)) some;
+            same = told.same;
+          }
+
+      from : (a : AccessNumbers) → IsPresent numbers (listed (count_now lines)) a → IsListedIn numbers lines a
+      from a told = by (is_listed told.key.kind) refl
+        where
+          by : (b : Bool) → is_listed told.key.kind ≡ b → IsListedIn numbers lines a
+          by true is =
+              let some = subst (λ n. 0 < n) (counted told.key told.target true is) told.present in
+              let (l, line) = line-now lines told.key told.target some in
+              record {
+                told = record {
+                  place = l;
+                  key = told.key;
+                  line = line;
+                  target = told.target;
+                  among = subst (λ n. 0 < n) (sym (line.now told.target)) some;
+                  same = told.same;
+                };
+                listed = is;
+              }
+          by false is =
+              let some = told.present in
+              let none = counted told.key told.target false is in
+              absurd (omega (arith, some, none))

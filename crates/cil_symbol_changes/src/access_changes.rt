@@ -7,7 +7,7 @@ ghost use Rattle.cil_accesses.specs.declared.access.AccessNumbers.{AccessNumbers
 ghost use Rattle.cil_keyed_lines.specs.Keyed.{count_before, count_now};
 ghost use Rattle.cil_symbol_changes.specs.Numbered.{AreNumbered, IsNew};
 
-use crate::changed_chunks::collect;
+use crate::changed_chunks::{ChangedChunks, collect};
 use cil_accesses::Accesses;
 use cil_keyed_lines::KeyedLines;
 use std::alloc::{AllocError, Allocator, Global};
@@ -29,14 +29,16 @@ pub fn changes<A: Allocator + Copy>(
     numbers: &[u32],
 ) -> Result<AccessChanges<A>, AllocError>
     requires known { AreNumbered numbers.now lines.now }
-    ensures added { IfOk result (λ r. (a : AccessNumbers) → Contains r.added a ↔ IsNew numbers.now (count_before lines.now) (count_now lines.now) a) }
-    ensures removed { IfOk result (λ r. (a : AccessNumbers) → Contains r.removed a ↔ IsNew numbers.now (count_now lines.now) (count_before lines.now) a) }
+    ensures added { IfOk result (λ r. (a : AccessNumbers) → Contains r.added a
+        ↔ IsNew numbers.now (count_before lines.now) (count_now lines.now) a) }
+    ensures removed { IfOk result (λ r. (a : AccessNumbers) → Contains r.removed a
+        ↔ IsNew numbers.now (count_now lines.now) (count_before lines.now) a) }
     ensures added_order { IfOk result (λ r. IsStrictlySortedBy numbers_cmp r.added) }
     ensures removed_order { IfOk result (λ r. IsStrictlySortedBy numbers_cmp r.removed) }
 {
-    let found = collect(alloc, lines, numbers)?;
+    let ChangedChunks { added, removed } = collect(alloc, lines, numbers)?;
     Ok(AccessChanges {
-        added: Accesses::of(found.added),
-        removed: Accesses::of(found.removed),
+        added: Accesses::of(added.chunks),
+        removed: Accesses::of(removed.chunks),
     })
 }

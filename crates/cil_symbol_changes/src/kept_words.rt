@@ -1,11 +1,11 @@
 //! The accesses of the lines of a source, word by word, where each symbol is its own number.
 
-ghost use Rattle.std.specs.Prelude.{◌≡◌, ◌≢◌, ◌*◌, ◌<◌, ◌≤◌, length, IsTrue, OnOk};
+ghost use Rattle.std.specs.Prelude.{◌≢◌, ◌*◌, ◌<◌, ◌≤◌, length, IsTrue, OnOk};
 ghost use Rattle.std.specs.List.{All};
 ghost use Rattle.cil_keyed_lines.specs.Keyed.{now_at, IsLineOf};
 ghost use Rattle.cil_lines.specs.Line.{hit};
 ghost use Rattle.cil_symbol_changes.specs.Gained.{AreGained, AreKept, AreKnown, AreKnownIn, IsShort, IsTo};
-ghost use Rattle.cil_symbol_changes.specs.SourceOrder.{IsAt, IsAtWord, IsBetween};
+ghost use Rattle.cil_symbol_changes.specs.SourceOrder.{IsAmong, IsAt, IsAtWord};
 
 use crate::source_order::LinePlace;
 use crate::targets::short_word;
@@ -71,47 +71,42 @@ fn push_place<A: Allocator>(
     }
 }
 
-/// Appends the accesses to the targets of a word that the lines from one place of an order up to another give.
+/// Appends the accesses to the targets of a word that the lines of some places give.
 fn push_word<A: Allocator>(
     chunks: &mut Vec<Chunk, A>,
     lines: &KeyedLines<A>,
-    order: &[LinePlace],
-    from: usize,
-    to: usize,
+    source: &[LinePlace],
     word: usize,
     numbers: &[u32],
 ) -> Result<(), AllocError>
-    requires order { from ≤ to }
-    requires within { to ≤ length order.now }
     requires kept { AreKept numbers.now }
     requires known { AreKnownIn numbers.now lines.now (now_at lines.now) }
-    ensures { OnOk result (AreGained (IsBetween (IsAtWord numbers.now lines.now word) order.now from to) chunks.old.items chunks.new.items) }
+    ensures { OnOk result
+        (AreGained (IsAmong (IsAtWord numbers.now lines.now word) source.now) chunks.old.items
+        chunks.new.items) }
 {
-    for i in from..to {
-        let place = order[i].place as usize;
-        push_place(chunks, lines, place, word, numbers)?;
+    for at in source {
+        push_place(chunks, lines, at.place as usize, word, numbers)?;
     }
     Ok(())
 }
 
-/// Appends the accesses that the lines from one place of an order up to another give, word by word: where the lines are of one source and
-/// in order, so are these.
+/// Appends the accesses that the lines of some places give, word by word: where the lines are of one kind
+/// and source and in order, so are these.
 pub fn push_words<A: Allocator>(
     chunks: &mut Vec<Chunk, A>,
     lines: &KeyedLines<A>,
-    order: &[LinePlace],
-    from: usize,
-    to: usize,
+    source: &[LinePlace],
     numbers: &[u32],
 ) -> Result<(), AllocError>
-    requires order { from ≤ to }
-    requires within { to ≤ length order.now }
     requires kept { AreKept numbers.now }
     requires known { AreKnownIn numbers.now lines.now (now_at lines.now) }
-    ensures { OnOk result (AreGained (IsBetween (IsAt numbers.now lines.now) order.now from to) chunks.old.items chunks.new.items) }
+    ensures { OnOk result
+        (AreGained (IsAmong (IsAt numbers.now lines.now) source.now) chunks.old.items
+        chunks.new.items) }
 {
     for word in 0..words_len(numbers) {
-        push_word(chunks, lines, order, from, to, word, numbers)?;
+        push_word(chunks, lines, source, word, numbers)?;
     }
     Ok(())
 }

@@ -22,7 +22,8 @@ pub fn accesses<A: Allocator + Copy>(
     numbers: &[u32],
 ) -> Result<Accesses<A>, AllocError>
     requires known { ArePresentNumbered numbers.now (count_now lines.now) }
-    ensures present { IfOk result (λ found. (a : AccessNumbers) → Contains found a ↔ IsPresent numbers.now (listed (count_now lines.now)) a) }
+    ensures present { IfOk result (λ found. (a : AccessNumbers) → Contains found a
+        ↔ IsPresent numbers.now (listed (count_now lines.now)) a) }
     ensures order { IfOk result (λ found. IsStrictlySortedBy numbers_cmp found) }
 {
     Ok(Accesses::of(collect_present(alloc, lines, numbers)?))

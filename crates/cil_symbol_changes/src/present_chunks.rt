@@ -1,18 +1,18 @@
 //! The accesses that a listing has, before they are put in order.
 
-ghost use Rattle.std.specs.Prelude.{◌<◌, ◌≤◌, ◌↔◌, ℕ, length, IfOk, IsTrue, OnOk};
+ghost use Rattle.std.specs.Prelude.{◌<◌, ◌↔◌, IfOk, IsTrue, OnOk};
 ghost use Rattle.std.specs.List.{All};
 ghost use Rattle.cil_accesses.specs.Chunks.{IsGiven};
 ghost use Rattle.cil_accesses.specs.declared.access.AccessNumbers.{AccessNumbers};
 ghost use Rattle.cil_keyed_lines.specs.Keyed.{count_now, now_at, IsLineOf};
 ghost use Rattle.cil_symbol_changes.specs.Gained.{AreGained, AreKept, AreKnownIn, IsShort, IsTo};
 ghost use Rattle.cil_symbol_changes.specs.Numbered.{listed, ArePresentNumbered, IsPresent};
-ghost use Rattle.cil_symbol_changes.specs.SourceOrder.{AreListedPlaces, IsAt, IsBetween, IsListedIn};
+ghost use Rattle.cil_symbol_changes.specs.SourceOrder.{AreListedPlaces, IsAmong, IsAt, IsListedIn};
 
 use crate::kept_words::{are_kept, push_words, words_len};
-use crate::source_order::{LinePlace, by_source, is_listed_at, source_end};
-use crate::targets::push_targets;
-use cil_accesses::{Chunk, ChunkPlaces, sort_from};
+use crate::source_order::{LinePlace, by_source, is_listed_at, split_source};
+use crate::targets::{GrowingChunks, push_targets};
+use cil_accesses::{Chunk, sort_from};
 use cil_keyed_lines::{KeyedLines, SymbolKey};
 use std::alloc::{AllocError, Allocator};
 
@@ -44,32 +44,23 @@ fn chunks_len<A: Allocator>(lines: &KeyedLines<A>) -> usize {
     words
 }
 
-/// Whether so many words have a target in enough of the lines from one place of an order up to another that these may be looked at word by
-/// word. It looks at no more lines than it takes to see that.
-fn are_dense<A: Allocator>(
-    lines: &KeyedLines<A>,
-    order: &[LinePlace],
-    from: usize,
-    to: usize,
-    words: usize,
-) -> bool
-    requires { to ≤ length order.now }
-{
-    let enough = to.saturating_sub(from).saturating_mul(words) / SPAN;
+/// Whether the lines of some places, of so many words each, have enough words with a target that they may
+/// be looked at word by word. It looks at no more lines than it takes to see that.
+fn are_dense<A: Allocator>(lines: &KeyedLines<A>, source: &[LinePlace], words: usize) -> bool {
+    let enough = source.len().saturating_mul(words) / SPAN;
     let mut found: usize = 0;
-    for i in from..to {
+    for at in source {
         if found >= enough {
             return true;
         }
-        found = found.saturating_add(line_words(lines, order[i].place as usize));
+        found = found.saturating_add(line_words(lines, at.place as usize));
     }
     found >= enough
 }
 
 /// Appends the accesses of a key to the targets whose counters in its line are above 0.
 fn push_line<A: Allocator>(
-    chunks: &mut Vec<Chunk, A>,
-    places: &mut ChunkPlaces<A>,
+    growing: &mut GrowingChunks<A>,
     lines: &KeyedLines<A>,
     place: usize,
     key: SymbolKey,
@@ -77,13 +68,15 @@ fn push_line<A: Allocator>(
 ) -> Result<(), AllocError>
     requires line { IsLineOf lines.now place key }
     requires known { AreKnownIn numbers.now lines.now (now_at lines.now) }
-    requires short { All IsShort chunks.old.items }
-    ensures { OnOk result (AreGained (IsTo numbers.now key (λ t. 0 < now_at lines.now place t)) chunks.old.items chunks.new.items) }
+    requires short { All IsShort growing.old.chunks.items }
+    ensures { OnOk result
+        (AreGained (IsTo numbers.now key (λ t. 0 < now_at lines.now place t))
+        growing.old.chunks.items growing.new.chunks.items) }
 {
     let mut from = 0;
     while let Some(word) = lines.next_present_word(place, from) {
         let mask = lines.present(place, word);
-        push_targets(chunks, places, key, word, mask, numbers)?;
+        push_targets(growing, key, word, mask, numbers)?;
         from = word + 1;
     }
     Ok(())
@@ -91,73 +84,70 @@ fn push_line<A: Allocator>(
 
 /// Appends the accesses to the targets whose counters in the line of a place are above 0.
 fn push_place<A: Allocator>(
-    chunks: &mut Vec<Chunk, A>,
-    places: &mut ChunkPlaces<A>,
+    growing: &mut GrowingChunks<A>,
     lines: &KeyedLines<A>,
     place: usize,
     numbers: &[u32],
 ) -> Result<(), AllocError>
     requires known { AreKnownIn numbers.now lines.now (now_at lines.now) }
-    requires short { All IsShort chunks.old.items }
-    ensures { OnOk result (AreGained (IsAt numbers.now lines.now place) chunks.old.items chunks.new.items) }
+    requires short { All IsShort growing.old.chunks.items }
+    ensures { OnOk result
+        (AreGained (IsAt numbers.now lines.now place) growing.old.chunks.items
+        growing.new.chunks.items) }
 {
     match lines.at(place) {
-        Some(key) => push_line(chunks, places, lines, place, key, numbers),
+        Some(key) => push_line(growing, lines, place, key, numbers),
         None => Ok(()),
     }
 }
 
-/// Appends the accesses of the lines from one place of an order up to another in order, where these lines are of one kind and
-/// source. Where each
-/// symbol is its own number, lines that have most words are looked at word by word, which gives the order. Else what the lines give is
-/// put in order: a few at a time.
+/// Appends the accesses of the lines of some places in order, where these lines are of one kind and source.
+/// Where each symbol is its own number, lines with a target in at least one word of `SPAN` are looked at
+/// word by word, which gives the order. Else what the lines give is put in order: a few at a time.
 fn push_source<A: Allocator>(
-    chunks: &mut Vec<Chunk, A>,
-    places: &mut ChunkPlaces<A>,
+    growing: &mut GrowingChunks<A>,
     lines: &KeyedLines<A>,
-    order: &[LinePlace],
-    from: usize,
-    to: usize,
+    source: &[LinePlace],
     kept: bool,
     numbers: &[u32],
 ) -> Result<(), AllocError>
-    requires order { from ≤ to }
-    requires within { to ≤ length order.now }
     requires kept { IsTrue kept → AreKept numbers.now }
     requires known { AreKnownIn numbers.now lines.now (now_at lines.now) }
-    requires short { All IsShort chunks.old.items }
-    ensures { OnOk result (AreGained (IsBetween (IsAt numbers.now lines.now) order.now from to) chunks.old.items chunks.new.items) }
+    requires short { All IsShort growing.old.chunks.items }
+    ensures { OnOk result
+        (AreGained (IsAmong (IsAt numbers.now lines.now) source.now) growing.old.chunks.items
+        growing.new.chunks.items) }
 {
-    if kept && are_dense(lines, order, from, to, words_len(numbers)) {
-        return push_words(chunks, lines, order, from, to, numbers);
+    if kept && are_dense(lines, source, words_len(numbers)) {
+        return push_words(&mut growing.chunks, lines, source, numbers);
     }
-    let start = chunks.len();
-    for i in from..to {
-        push_place(chunks, places, lines, order[i].place as usize, numbers)?;
+    let start = growing.chunks.len();
+    for at in source {
+        push_place(growing, lines, at.place as usize, numbers)?;
     }
-    sort_from(chunks, start);
+    sort_from(&mut growing.chunks, start);
     Ok(())
 }
 
 /// Appends the accesses of the targets whose counters are above 0 in the lines of a listing, kind by kind and source by source.
 fn push_lines<A: Allocator>(
-    chunks: &mut Vec<Chunk, A>,
-    places: &mut ChunkPlaces<A>,
+    growing: &mut GrowingChunks<A>,
     lines: &KeyedLines<A>,
     order: &[LinePlace],
     numbers: &[u32],
 ) -> Result<(), AllocError>
     requires listed { AreListedPlaces lines.now order.now }
     requires known { AreKnownIn numbers.now lines.now (now_at lines.now) }
-    requires short { All IsShort chunks.old.items }
-    ensures { OnOk result (AreGained (IsListedIn numbers.now lines.now) chunks.old.items chunks.new.items) }
+    requires short { All IsShort growing.old.chunks.items }
+    ensures { OnOk result
+        (AreGained (IsListedIn numbers.now lines.now) growing.old.chunks.items
+        growing.new.chunks.items) }
 {
     let kept = are_kept(numbers);
-    let mut from = 0;
-    while from < order.len() {
-        let to = source_end(order, from);
-        push_source(chunks, places, lines, order, from, to, kept, numbers)?;
-        from = to;
+    let mut left = order;
+    while let Some((source, behind)) = split_source(left) {
+        push_source(growing, lines, source, kept, numbers)?;
+        left = behind;
     }
     Ok(())
 }
@@ -169,12 +159,12 @@ pub fn collect_present<A: Allocator + Copy>(
     numbers: &[u32],
 ) -> Result<Vec<Chunk, A>, AllocError>
     requires { ArePresentNumbered numbers.now (count_now lines.now) }
-    ensures given { IfOk result (λ chunks. (a : AccessNumbers) → IsGiven chunks.items a ↔ IsPresent numbers.now (listed (count_now lines.now)) a) }
+    ensures given { IfOk result (λ chunks. (a : AccessNumbers) → IsGiven chunks.items a
+        ↔ IsPresent numbers.now (listed (count_now lines.now)) a) }
     ensures short { IfOk result (λ chunks. All IsShort chunks.items) }
 {
     let order = by_source(alloc, lines, numbers)?;
-    let mut chunks = Vec::with_capacity(alloc, chunks_len(lines))?;
-    let mut places = ChunkPlaces::new(alloc);
-    push_lines(&mut chunks, &mut places, lines, &order, numbers)?;
-    Ok(chunks)
+    let mut growing = GrowingChunks::with_capacity(alloc, chunks_len(lines))?;
+    push_lines(&mut growing, lines, &order, numbers)?;
+    Ok(growing.chunks)
 }

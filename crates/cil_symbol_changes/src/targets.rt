@@ -1,13 +1,42 @@
 //! The accesses of a line to the targets of a word.
 
-ghost use Rattle.std.specs.Prelude.{◌≡◌, ◌<◌, ◌≤◌, ◌^◌, IfOk, OnErr, OnOk};
+ghost use Rattle.std.specs.Prelude.{◌≡◌, ◌<◌, ◌≤◌, ◌^◌, [], IfOk, OnErr, OnOk};
 ghost use Rattle.std.specs.List.{All};
 ghost use Rattle.cil_lines.specs.Line.{hit};
 ghost use Rattle.cil_symbol_changes.specs.Gained.{AreGained, AreKnown, chunk_by, IsShort, IsTo};
 
 use cil_accesses::{Chunk, ChunkPlaces, push_renumbered};
 use cil_keyed_lines::SymbolKey;
-use std::alloc::{AllocError, Allocator};
+use std::alloc::{AllocError, Allocator, Global};
+
+/// Chunks that accesses are appended to, and where those of each word were last pushed.
+#[derive(Drop)]
+pub struct GrowingChunks<A: Allocator = Global> {
+    pub chunks: Vec<Chunk, A>,
+    places: ChunkPlaces<A>,
+}
+
+impl<A: Allocator + Copy> GrowingChunks<A> {
+    /// No chunk, and room for some.
+    pub fn with_capacity(alloc: A, capacity: usize) -> Result<Self, AllocError>
+        ensures { IfOk result (λ growing. growing.chunks.items ≡ []) }
+    {
+        Ok(GrowingChunks {
+            chunks: Vec::with_capacity(alloc, capacity)?,
+            places: ChunkPlaces::new(alloc),
+        })
+    }
+
+    /// No chunk. It takes no memory.
+    pub fn new(alloc: A) -> Self
+        ensures { result.chunks.items ≡ [] }
+    {
+        GrowingChunks {
+            chunks: Vec::new(alloc),
+            places: ChunkPlaces::new(alloc),
+        }
+    }
+}
 
 /// A symbol or a place in 32 bits. More than these can number don't fit in memory; no other is refused.
 pub fn short(symbol: usize) -> Result<u32, AllocError>
@@ -48,23 +77,24 @@ fn by_symbols(key: SymbolKey, word: usize, mask: u64) -> Result<Chunk, AllocErro
     })
 }
 
-/// Appends the accesses of a key to the targets of a word that a mask has, by numbers. The places are those of the chunks.
+/// Appends the accesses of a key to the targets of a word that a mask has, by numbers.
 pub fn push_targets<A: Allocator>(
-    chunks: &mut Vec<Chunk, A>,
-    places: &mut ChunkPlaces<A>,
+    growing: &mut GrowingChunks<A>,
     key: SymbolKey,
     word: usize,
     mask: u64,
     numbers: &[u32],
 ) -> Result<(), AllocError>
     requires known { AreKnown numbers.now key (hit word mask) }
-    requires short { All IsShort chunks.old.items }
-    ensures { OnOk result (AreGained (IsTo numbers.now key (λ t. 0 < hit word mask t)) chunks.old.items chunks.new.items) }
+    requires short { All IsShort growing.old.chunks.items }
+    ensures { OnOk result
+        (AreGained (IsTo numbers.now key (λ t. 0 < hit word mask t)) growing.old.chunks.items
+        growing.new.chunks.items) }
 {
     if mask == 0 {
         return Ok(());
     }
     let symbols = by_symbols(key, word, mask)?;
-    push_renumbered(chunks, places, &symbols, numbers)?;
+    push_renumbered(&mut growing.chunks, &mut growing.places, &symbols, numbers)?;
     Ok(())
 }

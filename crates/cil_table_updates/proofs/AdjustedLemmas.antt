@@ -15,16 +15,23 @@ pub and-both : (a b : Bool) → (a && b) ≡ true → (a ≡ true) × (b ≡ tru
 and-both true b is = (refl, is)
 and-both false b is = absurd (true≢false (sym is))
 
+-- two tests of accesses are the same
+abbrev AreAlike : (SymbolKey → ℕ → Bool) → (SymbolKey → ℕ → Bool) → Type 0
+AreAlike p q = (key : SymbolKey) (t : ℕ) → p key t ≡ q key t
+
 -- the pairs of keys and targets that a test tells of are the counters that the same test does
-module _ (of_pair : SymbolKey × ℕ → Bool) (of_counter : Counter → Bool) (same : (key : SymbolKey) (t : ℕ) → of_pair (key, t) ≡ of_counter (record { key = key; target = t })) where
+module _ (of_pair : SymbolKey × ℕ → Bool) (of_counter : Counter → Bool)
+    (same : AreAlike (λ key t. of_pair (key, t)) (λ key t. of_counter (record { key = key; target = t }))) where
   abbrev counter : SymbolKey × ℕ → Counter
   counter p = record { key = p.0; target = p.1 }
 
-  pub counter-rises : (before some after : ℕ) → RisesBy of_pair 0 some → after ≡ min (before + some) (2 ^ 128 - 1) → RisesBy of_counter before after
+  pub counter-rises : (before some after : ℕ) → RisesBy of_pair 0 some → after ≡ min (before + some) (2 ^ 128 - 1)
+      → RisesBy of_counter before after
   counter-rises before some after rises sum =
       rises-added of_counter before some after
-      (rises-map counter (λ a b alike i. (ap (λ c. c.key) alike i, ap (λ c. c.target) alike i)) of_pair of_counter
-      (λ p is. sym (same p.0 p.1) ∙ is) (λ c is. ((c.key, c.target), same c.key c.target ∙ is, refl)) 0 some rises)
+      (rises-map counter (λ a b alike i. ((alike i).key, (alike i).target)) of_pair of_counter
+      (λ p is. sym (same p.0 p.1) ∙ is) (λ c is. ((c.key, c.target), same c.key c.target ∙ is, refl))
+      0 some rises)
       (omega (arith, sum)) (omega (arith, sum))
 
 differs-no : (a : Bool) → differs a false ≡ a
@@ -32,21 +39,24 @@ differs-no true = refl
 differs-no false = refl
 
 -- counters moved from what reaches nothing, to it, and from what one rule covers to what another does
-module _ {A B : Type 0} (symbols : List ℕ) (rule : NumberedRule A) (was is : Reach B) (before after : ℕ) (rises : RisesBy (shifts symbols rule was is) before after) where
-  pub replace-rises : (covered covers : SymbolKey → ℕ → Bool) → ((key : SymbolKey) (t : ℕ) → gives_as symbols rule was key t ≡ covered key t) → ((key : SymbolKey) (t : ℕ) → gives_as symbols rule is key t ≡ covers key t)
+module _ {A B : Type 0} (symbols : List ℕ) (rule : NumberedRule A) (was is : Reach B) (before after : ℕ)
+    (rises : RisesBy (shifts symbols rule was is) before after) where
+  pub replace-rises : (covered covers : SymbolKey → ℕ → Bool) → AreAlike (gives_as symbols rule was) covered
+      → AreAlike (gives_as symbols rule is) covers
       → RisesBy (λ (c : Counter). differs (covered c.key c.target) (covers c.key c.target)) before after
   replace-rises covered covers was_same is_same =
-      rises-same (shifts symbols rule was is) (λ c. differs (covered c.key c.target) (covers c.key c.target)) before after
-      (λ c. ap (λ b. differs b (gives_as symbols rule is c.key c.target)) (was_same c.key c.target) ∙ ap (differs (covered c.key c.target)) (is_same c.key c.target)) rises
+      rises-same (shifts symbols rule was is) (λ c. differs (covered c.key c.target) (covers c.key c.target))
+      before after (λ c i. differs (was_same c.key c.target i) (is_same c.key c.target i)) rises
 
-  pub put-rises : (covers : SymbolKey → ℕ → Bool) → ((key : SymbolKey) (t : ℕ) → gives_as symbols rule was key t ≡ false) → ((key : SymbolKey) (t : ℕ) → gives_as symbols rule is key t ≡ covers key t)
-      → RisesBy (λ (c : Counter). covers c.key c.target) before after
+  pub put-rises : (covers : SymbolKey → ℕ → Bool) → AreAlike (gives_as symbols rule was) (λ key t. false)
+      → AreAlike (gives_as symbols rule is) covers → RisesBy (λ (c : Counter). covers c.key c.target) before after
   put-rises covers none same = replace-rises (λ key t. false) covers none same
 
-  pub take-rises : (covered : SymbolKey → ℕ → Bool) → ((key : SymbolKey) (t : ℕ) → gives_as symbols rule is key t ≡ false) → ((key : SymbolKey) (t : ℕ) → gives_as symbols rule was key t ≡ covered key t)
-      → RisesBy (λ (c : Counter). covered c.key c.target) before after
+  pub take-rises : (covered : SymbolKey → ℕ → Bool) → AreAlike (gives_as symbols rule is) (λ key t. false)
+      → AreAlike (gives_as symbols rule was) covered → RisesBy (λ (c : Counter). covered c.key c.target) before after
   take-rises covered none same =
-      rises-same (λ c. differs (covered c.key c.target) false) (λ c. covered c.key c.target) before after (λ c. differs-no (covered c.key c.target)) (replace-rises covered (λ key t. false) same none)
+      rises-same (λ c. differs (covered c.key c.target) false) (λ c. covered c.key c.target) before after
+      (λ c. differs-no (covered c.key c.target)) (replace-rises covered (λ key t. false) same none)
 
 -- what is given, as a number and as a test
 pub counted-some : (b : Bool) → b ≡ nat_lt 0 (one_if b)

@@ -13,7 +13,6 @@ use Rattle.cil_specs.specs.Meaning.{gives, Meaning}
 use Rattle.cil_specs.specs.Rule.{a_type, at_itself, kind_index, Atom, IsSameRule, Rule}
 use Rattle.cil_specs.specs.Statements.{allow}
 use Rattle.cil_delta_specs.specs.Dirty.{HasGiver, OnlyOne}
-use Rattle.cil_text.specs.Image.{rule_kind_of}
 use Rattle.cil_keyed_lines.proofs.KeyedLemmas.{one_kind}
 use Rattle.cil_keyed_lines.specs.declared.symbol_key.SymbolKey.{SymbolKey}
 use Rattle.cil_matching.specs.Matching.{AreMatched, AreSameAt, Matched}
@@ -106,12 +105,15 @@ module _ (names : List (List ℕ)) (apart : AreApart names) where
       let (other_source, other_target) = and-both (nat_lt d.key.source (length names)) _ other_ends in
       let (class, permission) = and-both (nat_lt c.key.class (length names)) _ words in
       let (other_class, other_permission) = and-both (nat_lt d.key.class (length names)) _ other_words in
-      let kinds = one_kind c.key.kind d.key.kind (eq-eqb (kind_index (rule_kind_of c.key.kind)) (kind_index (rule_kind_of d.key.kind)) (ap (λ a. kind_index a.kind) same)) in
+      let kinds = one_kind c.key.kind d.key.kind (eq-eqb _ _ (ap (λ a. kind_index a.kind) same)) in
       let sources = same-symbol c.key.source d.key.source source other_source (ap (λ a. a.source) same) in
       let targets = same-symbol c.target d.target target other_target (ap (λ a. a.target) same) in
       let classes = same-symbol c.key.class d.key.class class other_class (ap (λ a. a.the_class) same) in
       let permissions = same-symbol c.key.permission d.key.permission permission other_permission (ap (λ a. a.permission) same) in
-      λ n. record { key = record { kind = kinds n; source = sources n; class = classes n; permission = permissions n }; target = targets n }
+      λ n. record {
+        key = record { kind = kinds n; source = sources n; class = classes n; permission = permissions n };
+        target = targets n;
+      }
 
   -- the same rule and the same access are of one place and one counter
   pub one-pair : (rules : List Rule) (apart_rules : spots.AreApart (map rule_spot rules)) (p q : ℕ × Counter) → p.0 < length rules → q.0 < length rules → named p.1 ≡ true → named q.1 ≡ true
@@ -136,10 +138,12 @@ module _ (names : List (List ℕ)) (apart : AreApart names) where
         let declared_it = passes-at (is_rule_of meaning.types meaning.attributes meaning.classes) meaning.rules i (named-rule rule) declared (to-mapped named-rule p.resolved.now.rules.items i rule at) in
         elim (cases_Bool (named c)) [
           | inl is_named_it ↦
-              covers-named p.resolved.now names p.numbering.now.symbols apart is.numbers (members_of p.members) is.members rule c.key c.target below_it declared_it is_named_it
+              covers-named p.resolved.now names p.numbering.now.symbols apart is.numbers
+              (members_of p.members) is.members rule c.key c.target below_it declared_it is_named_it
               ∙ sym (ap (λ b. b && gives meaning (named-rule rule) (atom c)) is_named_it)
           | inr unnamed ↦
-              covers-none p.resolved.now names p.numbering.now.symbols apart is.numbers (members_of p.members) is.members rule c.key c.target below_it unnamed
+              covers-none p.resolved.now names p.numbering.now.symbols apart is.numbers
+              (members_of p.members) is.members rule c.key c.target below_it unnamed
               ∙ sym (ap (λ b. b && gives meaning (named-rule rule) (atom c)) unnamed)
         ]
 

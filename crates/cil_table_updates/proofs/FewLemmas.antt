@@ -32,7 +32,9 @@ one-alone false b is = absurd (true≢false (sym is))
 
 -- Each access that is in the table of one policy alone has a counter that isn't what it was.
 module _ (names : List (List ℕ)) (old new : Meaning) (was is : SymbolKey → ℕ → ℕ) (found : Atom → Counter)
-    (tells : (a : Atom) → is_in_table old a ≢ is_in_table new a → (atom_of names (found a).key (found a).target ≡ a) × (was (found a).key (found a).target ≢ is (found a).key (found a).target))
+    (tells : (a : Atom) → is_in_table old a ≢ is_in_table new a
+    → (atom_of names (found a).key (found a).target ≡ a)
+    × (was (found a).key (found a).target ≢ is (found a).key (found a).target))
     (changes : Changes) (are : AreChanges (is_in_table old) (is_in_table new) changes) where
   abbrev atoms : List Atom
   atoms = changes.added ++ changes.removed

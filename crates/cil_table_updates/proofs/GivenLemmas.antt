@@ -69,7 +69,9 @@ module _ {A : Type 0} (names : List (List ℕ)) (apart : AreApart names) (r : Re
   AreDeclared rules = list_all (is_rule_of (meaning_in r).types (meaning_in r).attributes (meaning_in r).classes) (map (rule_of r.modules.items r.names.items) rules) ≡ true
 
   named-counts : is_named names key t ≡ true → (rules : List (NumberedRule A)) → AreBelow rules → AreDeclared rules
-      → count_by covers_it rules ≡ count_by (λ rule. gives (meaning_in r) rule (atom_of names key t)) (map (rule_of r.modules.items r.names.items) rules)
+      → count_by covers_it rules
+      ≡ count_by (λ rule. gives (meaning_in r) rule (atom_of names key t))
+      (map (rule_of r.modules.items r.names.items) rules)
   named-counts named [] below declared = refl
   named-counts named (rule ∷ rules) below declared =
       one-more covers_it rule rules
@@ -78,7 +80,8 @@ module _ {A : Type 0} (names : List (List ℕ)) (apart : AreApart names) (r : Re
       ∙ ap (λ n. one_if (gives (meaning_in r) (rule_of r.modules.items r.names.items rule) (atom_of names key t)) + n) (named-counts named rules (and-second _ _ below) (and-second _ _ declared))
       ∙ sym (one-more (λ one. gives (meaning_in r) one (atom_of names key t)) (rule_of r.modules.items r.names.items rule) (map (rule_of r.modules.items r.names.items) rules))
 
-  unnamed-counts : is_named names key t ≡ false → (rules : List (NumberedRule A)) → AreBelow rules → count_by covers_it rules ≡ 0
+  unnamed-counts : is_named names key t ≡ false → (rules : List (NumberedRule A)) → AreBelow rules
+      → count_by covers_it rules ≡ 0
   unnamed-counts unnamed [] below = refl
   unnamed-counts unnamed (rule ∷ rules) below =
       one-more covers_it rule rules
@@ -87,7 +90,8 @@ module _ {A : Type 0} (names : List (List ℕ)) (apart : AreApart names) (r : Re
       ∙ zero-add (count_by covers_it rules) ∙ unnamed-counts unnamed rules (and-second _ _ below)
 
   -- as many rules give an access by symbols as by names
-  pub counted-named : AreBelow r.rules.items → is_consistent (meaning_in r) ≡ true → count_by covers_it r.rules.items ≡ count_named names (meaning_in r) key t
+  pub counted-named : AreBelow r.rules.items → is_consistent (meaning_in r) ≡ true
+      → count_by covers_it r.rules.items ≡ count_named names (meaning_in r) key t
   counted-named below consistent =
       elim (cases_Bool (is_named names key t)) [
         | inl named ↦ named-counts named r.rules.items below consistent ∙ sym (ap (λ b. cond b (count_of (meaning_in r) (atom_of names key t)) 0) named)

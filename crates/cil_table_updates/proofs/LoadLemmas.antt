@@ -1,6 +1,6 @@
 -- The counters that rise where a first policy is counted are those of accesses that its rules give.
 use Rattle.std.proofs.Common.{◌≡◌, ◌≢◌, ℕ, ◌+◌, ◌<◌, ◌&&◌, true, List, get_or, length, map, nat_lt, refl, sym, ap, ◌∙◌, subst, inr, arith}
-use Rattle.std.specs.List.{list_all, All, AllPairs, Contains}
+use Rattle.std.specs.List.{list_all, Contains}
 use Rattle.std.proofs.lemmas.Bool.{lt-ltb, ltb-true}
 use Rattle.std.proofs.lemmas.List.{length-map}
 use Rattle.std.proofs.lemmas.List.Elements.{All-contains, All-map, Contains-get_or}
@@ -77,7 +77,8 @@ module _ {A : Type 0} (names : List (List ℕ)) (apart : AreApart names) (p : Po
       named-at-most before after (subst (λ n. RisesBy (below (comes p) n) before after) (sym (length-map p.resolved.now.rules.items (rule_of p.resolved.now.modules.items p.resolved.now.names.items))) rises)
 
 -- each counter that isn't what it was is one that rose
-module _ {A : Type 0} (p : Policy A) (n before after : ℕ) (rises : RisesBy (below (comes p) n) before after) (was is : SymbolKey → ℕ → ℕ)
+module _ {A : Type 0} (p : Policy A) (n before after : ℕ) (rises : RisesBy (below (comes p) n) before after)
+    (was is : SymbolKey → ℕ → ℕ)
     (put : (key : SymbolKey) (t : ℕ) → is key t ≡ was key t + sum_below (given p key t) n) where
   abbrev counter_of : ℕ × Counter → Counter
   counter_of q = q.1

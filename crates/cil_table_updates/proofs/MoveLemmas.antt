@@ -1,5 +1,5 @@
 -- A rule's counters moved by what it reaches.
-use Rattle.std.proofs.Common.{◌≡◌, ℕ, ◌+◌, ◌≤◌, ◌==◌, ◌&&◌, Bool, true, false, List, slice_index, refl, sym, ap, ◌∙◌, subst}
+use Rattle.std.proofs.Common.{◌≡◌, ℕ, ◌==◌, ◌&&◌, Bool, true, false, List, slice_index, refl, sym, ap, ◌∙◌}
 use Rattle.std.proofs.Math.Bool.{and-false}
 use Rattle.cil_keyed_lines.specs.Keyed.{is_kind}
 use Rattle.cil_keyed_lines.specs.declared.symbol_key.SymbolKey.{SymbolKey}
@@ -22,45 +22,38 @@ and-front false false b = refl
 
 -- by the kind, the class and the permissions in order of a rule, a head gives what the rule does by those it lists
 module _ {A B : Type 0} (symbols : List ℕ) (rule : NumberedRule A) (reach : Reach B) where
-  pub gives-listed : (head : RuleHead) → head.kind ≡ rule.kind → head.class ≡ slice_index symbols rule.class → ((p : ℕ) → has_permission head.permissions.now p ≡ lists symbols rule p) → (key : SymbolKey) (t : ℕ)
-      → gives reach head key t ≡ gives_as symbols rule reach key t
+  pub gives-listed : (head : RuleHead) → head.kind ≡ rule.kind → head.class ≡ slice_index symbols rule.class
+      → ((p : ℕ) → has_permission head.permissions.now p ≡ lists symbols rule p)
+      → (key : SymbolKey) (t : ℕ) → gives reach head key t ≡ gives_as symbols rule reach key t
   gives-listed head kind class same key t =
       and-front (reaches reach key.source t) (is_kind head.kind key.kind) _
-      ∙ ap (λ k. is_kind k key.kind && (reaches reach key.source t && ((head.class == key.class) && has_permission head.permissions.now key.permission))) kind
-      ∙ ap (λ n. is_kind rule.kind key.kind && (reaches reach key.source t && ((n == key.class) && has_permission head.permissions.now key.permission))) class
-      ∙ ap (λ b. is_kind rule.kind key.kind && (reaches reach key.source t && ((slice_index symbols rule.class == key.class) && b))) (same key.permission)
+      ∙ λ i. is_kind (kind i) key.kind
+      && (reaches reach key.source t && ((class i == key.class) && same key.permission i))
 
   -- what reaches nothing gives nothing
-  pub gives-nothing : ((s : ℕ) → has_source reach s ≡ false) → (key : SymbolKey) (t : ℕ) → gives_as symbols rule reach key t ≡ false
+  pub gives-nothing : ((s : ℕ) → has_source reach s ≡ false) → (key : SymbolKey) (t : ℕ)
+      → gives_as symbols rule reach key t ≡ false
   gives-nothing none key t =
-      ap (λ b. is_kind rule.kind key.kind && ((b && takes reach.targets key.source t) && ((slice_index symbols rule.class == key.class) && lists symbols rule key.permission))) (none key.source)
+      ap (λ b. is_kind rule.kind key.kind && ((b && takes reach.targets key.source t)
+      && ((slice_index symbols rule.class == key.class) && lists symbols rule key.permission))) (none key.source)
       ∙ and-false (is_kind rule.kind key.kind)
 
   -- what the rule reaches it covers
-  pub gives-covered : (members : ℕ → ℕ → ℕ) → ((s : ℕ) → has_source reach s ≡ has_by members symbols rule.source s) → ((s t : ℕ) → takes reach.targets s t ≡ aims_by members symbols rule.target s t)
+  pub gives-covered : (members : ℕ → ℕ → ℕ) → ((s : ℕ) → has_source reach s ≡ has_by members symbols rule.source s)
+      → ((s t : ℕ) → takes reach.targets s t ≡ aims_by members symbols rule.target s t)
       → (key : SymbolKey) (t : ℕ) → gives_as symbols rule reach key t ≡ covers_by members symbols rule key t
   unfolding covers_by
-  gives-covered members sources targets key t =
-      ap (λ b. is_kind rule.kind key.kind && ((b && takes reach.targets key.source t) && ((slice_index symbols rule.class == key.class) && lists symbols rule key.permission))) (sources key.source)
-      ∙ ap (λ b. is_kind rule.kind key.kind && ((has_by members symbols rule.source key.source && b) && ((slice_index symbols rule.class == key.class) && lists symbols rule key.permission))) (targets key.source t)
+  gives-covered members sources targets key t i =
+      is_kind rule.kind key.kind && ((sources key.source i && targets key.source t i)
+      && ((slice_index symbols rule.class == key.class) && lists symbols rule key.permission))
 
 -- the same by another rule of the same kind, class and permissions
-pub covered-alike : {A B C : Type 0} (old_symbols new_symbols : List ℕ) (old : NumberedRule A) (new : NumberedRule B) (reach : Reach C) → HaveSameHead old_symbols old new_symbols new
+pub covered-alike : {A B C : Type 0} (old_symbols new_symbols : List ℕ) (old : NumberedRule A) (new : NumberedRule B)
+    (reach : Reach C) → HaveSameHead old_symbols old new_symbols new
     → (key : SymbolKey) (t : ℕ) → gives_as new_symbols new reach key t ≡ gives_as old_symbols old reach key t
 covered-alike old_symbols new_symbols old new reach head key t =
-    ap (λ k. is_kind k key.kind && (reaches reach key.source t && ((slice_index new_symbols new.class == key.class) && lists new_symbols new key.permission))) (sym head.kind)
-    ∙ ap (λ c. is_kind old.kind key.kind && (reaches reach key.source t && ((c == key.class) && lists new_symbols new key.permission))) (sym head.class)
-    ∙ ap (λ b. is_kind old.kind key.kind && (reaches reach key.source t && ((slice_index old_symbols old.class == key.class) && b))) (sym (head.permissions key.permission))
-
--- a counter moved from what was given to what is given, where these are the same as two others
-pub moved-same : (new old : ℕ) (gave gives covered covers : Bool) → new + one_if gave ≡ old + one_if gives → gave ≡ covered → gives ≡ covers → new + one_if covered ≡ old + one_if covers
-moved-same new old gave gives covered covers moved was is = sym (ap (λ b. new + one_if b) was) ∙ moved ∙ ap (λ b. old + one_if b) is
-
--- counters that rise by what a rule covers at most
-pub bounded-covered : (gives covers : SymbolKey → ℕ → Bool) (new old : SymbolKey → ℕ → ℕ) → ((key : SymbolKey) (t : ℕ) → gives key t ≡ covers key t)
-    → ((key : SymbolKey) (t : ℕ) → new key t ≤ old key t + one_if (gives key t))
-    → (key : SymbolKey) (t : ℕ) → new key t ≤ old key t + one_if (covers key t)
-bounded-covered gives covers new old same bounded key t = subst (λ b. new key t ≤ old key t + one_if b) (same key t) (bounded key t)
+    sym (λ i. is_kind (head.kind i) key.kind
+    && (reaches reach key.source t && ((head.class i == key.class) && head.permissions key.permission i)))
 
 -- a rule that is passed over gives what it did
 pub stays-given : {A : Type 0} (rows : State) (old : Policy A) (i : ℕ) (new : Policy A) (j : ℕ) (replaced : IsReplaced rows old i new j)

@@ -4,7 +4,6 @@ use Rattle.std.specs.List.{list_all, list_any}
 use Rattle.std.proofs.lemmas.Bool.{eq-eqb, ltb-true}
 use Rattle.cil_specs.specs.Rule.{content_of, kind_index}
 use Rattle.cil_parse.specs.Lexicon.{AreNumbersOf}
-use Rattle.cil_text.specs.Image.{rule_kind_of}
 use Rattle.cil_expression.specs.declared.expression.Element.{Element}
 use Rattle.cil_expression.specs.declared.expression.Element.TheVariants.{«Type», Attribute}
 use Rattle.cil_keyed_lines.proofs.KeyedLemmas.{one_kind}
@@ -19,7 +18,7 @@ use Rattle.cil_resolve.specs.declared.numbered.ResolvedTarget.TheVariants as tar
 use Rattle.cil_resolve.specs.declared.resolved.Resolved.{Resolved}
 use Rattle.cil_rule_reach.specs.Reaches.{aims_by, covers_by, has_by}
 use Rattle.cil_rule_reach.proofs.NamedLemmas.{is-below, symbol-named}
-use Rattle.cil_table_updates.specs.Moves.{lists, HaveSameHead}
+use Rattle.cil_table_updates.specs.Moves.{HaveSameHead}
 use Rattle.cil_table_updates.specs.Policies.{AreApart}
 
 module _ {A B : Type 0} (old : Resolved A) (new : Resolved B) (names : List (List ℕ)) (apart : AreApart names) (old_symbols new_symbols : List ℕ)
@@ -73,7 +72,7 @@ module _ {A B : Type 0} (old : Resolved A) (new : Resolved B) (names : List (Lis
         let first = is-below old rule low in
         let second = is-below new other below in
         record {
-          kind = one_kind rule.kind other.kind (eq-eqb (kind_index (rule_kind_of rule.kind)) (kind_index (rule_kind_of other.kind)) (ap (λ c. kind_index c.kind) same));
+          kind = one_kind rule.kind other.kind (eq-eqb _ _ (ap (λ c. kind_index c.kind) same));
           class = same-symbol rule.class other.class first.class second.class (ap (λ c. c.the_class) same);
           permissions = λ p. same-permissions p rule.permissions other.permissions first.permissions second.permissions (ap (λ c. c.permissions) same);
         }
@@ -84,10 +83,9 @@ module _ {A B : Type 0} (old : Resolved A) (new : Resolved B) (names : List (Lis
     same-covers members key t =
         let first = is-below old rule low in
         let second = is-below new other below in
-        ap (λ k. is_kind k key.kind && ((has_by members old_symbols rule.source key.source && aims_by members old_symbols rule.target key.source t) && ((slice_index old_symbols rule.class == key.class) && lists old_symbols rule key.permission))) same-head.kind
-        ∙ ap (λ b. is_kind other.kind key.kind && ((b && aims_by members old_symbols rule.target key.source t) && ((slice_index old_symbols rule.class == key.class) && lists old_symbols rule key.permission)))
-        (same-element members rule.source other.source key.source first.source second.source (ap (λ c. c.source) same))
-        ∙ ap (λ b. is_kind other.kind key.kind && ((has_by members new_symbols other.source key.source && b) && ((slice_index old_symbols rule.class == key.class) && lists old_symbols rule key.permission)))
-        (same-target members rule.target other.target key.source t first.target second.target (ap (λ c. c.target) same))
-        ∙ ap (λ c. is_kind other.kind key.kind && ((has_by members new_symbols other.source key.source && aims_by members new_symbols other.target key.source t) && ((c == key.class) && lists old_symbols rule key.permission))) same-head.class
-        ∙ ap (λ b. is_kind other.kind key.kind && ((has_by members new_symbols other.source key.source && aims_by members new_symbols other.target key.source t) && ((slice_index new_symbols other.class == key.class) && b))) (same-head.permissions key.permission)
+        λ i. is_kind (same-head.kind i) key.kind
+        && ((same-element members rule.source other.source key.source first.source second.source
+        (λ j. (same j).source) i
+        && same-target members rule.target other.target key.source t first.target second.target
+        (λ j. (same j).target) i)
+        && ((same-head.class i == key.class) && same-head.permissions key.permission i))

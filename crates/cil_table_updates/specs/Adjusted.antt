@@ -1,5 +1,5 @@
 -- Which counters an update moves, and how far the count of adjustments rises.
-use Rattle.std.specs.Prelude.{◌≢◌, ◌+◌, ◌≤◌, ◌==◌, ◌&&◌, ℕ, Bool, List, length, nat_lt, not}
+use Rattle.std.specs.Prelude.{◌≢◌, ◌+◌, ◌≤◌, ◌==◌, ℕ, Bool, List, length, nat_lt, not}
 use Rattle.std.specs.List.{All, AllPairs}
 use Rattle.cil_specs.specs.Meaning.{Meaning}
 use Rattle.cil_specs.specs.Rule.{Rule, Atom}

@@ -80,9 +80,10 @@ fn add_rules<A: Allocator + Copy>(
     Ok(())
 }
 
-/// Counts what the rules of a policy give, in lines where nothing is counted. The rows hold the members of the policy now. There is no step
-/// to take back, and none is logged: after an out of memory the lines are of no use, but no counter is ever above the number of rules
-/// that give its access. The meter counts each counter each time that it rises.
+/// Counts what the rules of a policy give, in lines where nothing is counted. The rows hold the members of the policy
+/// now. There is no step to take back, and none is logged: after an out of memory the lines are of no use, but no
+/// counter is ever above the number of rules that give its access. The meter counts each counter each time that it
+/// rises.
 pub fn load<A: Allocator + Copy>(
     lines: &mut KeyedLines<A>,
     alloc: A,

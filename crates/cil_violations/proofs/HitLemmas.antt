@@ -54,7 +54,8 @@ pub hits-below : (test : ℕ → Bool) (n from k : ℕ) → k < length (hits tes
 hits-below test zero from k within = absurd (omega (arith, within))
 hits-below test (suc n) from k within = by (hits-below test n (suc from)) (test from) k within
   where
-    by : ((j : ℕ) → j < length (hits test (suc from) n) → get_or (hits test (suc from) n) j 0 < suc from + n) → (b : Bool) (j : ℕ) → j < length (cond b (from ∷ hits test (suc from) n) (hits test (suc from) n))
+    by : ((j : ℕ) → j < length (hits test (suc from) n) → get_or (hits test (suc from) n) j 0 < suc from + n)
+        → (b : Bool) (j : ℕ) → j < length (cond b (from ∷ hits test (suc from) n) (hits test (suc from) n))
         → get_or (cond b (from ∷ hits test (suc from) n) (hits test (suc from) n)) j 0 < from + suc n
     by rest true zero low = omega arith
     by rest true (suc j) low = let below = rest j (omega (arith, low)) in omega (arith, below)

@@ -9,7 +9,7 @@ use Rattle.cil_resolve.specs.declared.numbered.ResolvedTarget.TheVariants as tar
 use Rattle.cil_violations.specs.Aims.{aim_of}
 use Rattle.cil_violations.specs.Held.{are_both_held, both_hold, is_held_in, is_known, symbols_in}
 use Rattle.cil_violations.specs.Index.{if_there}
-use Rattle.cil_violations.specs.Rows.{hits, names_in, row_with, rules_in, source_rows, target_rows, tests_of, IsSearch, Tests}
+use Rattle.cil_violations.specs.Rows.{hits, names_in, row_with, rows_of, rules_in, source_rows, sources_of, target_rows, targets_of, tests_of, IsSearch, Tests}
 use Rattle.cil_violations.specs.Search.{NoneFromWord, IsFirstWordFrom}
 use Rattle.cil_violations.specs.declared.search.Search.{Search}
 use Rattle.cil_violations.proofs.HeldLemmas.{known, long}
@@ -23,51 +23,77 @@ flat-none f none [] = refl
 flat-none f none (x ∷ xs) = ap (λ l. l ++ flat_map f xs) (none x) ∙ flat-none f none xs
 
 -- what stands for one more item goes behind the others
-pub part-more : {Y : Type 0} (f : ℕ → List Y) (old mid new : List Y) (xs : List ℕ) (k : ℕ) → k < length xs → mid ≡ old ++ flat_map f (take k xs) → new ≡ mid ++ f (get_or xs k 0) → new ≡ old ++ flat_map f (take (k + 1) xs)
+pub part-more : {Y : Type 0} (f : ℕ → List Y) (old mid new : List Y) (xs : List ℕ) (k : ℕ) → k < length xs
+    → mid ≡ old ++ flat_map f (take k xs) → new ≡ mid ++ f (get_or xs k 0)
+    → new ≡ old ++ flat_map f (take (k + 1) xs)
 part-more f old mid new xs k within so_far more = grind (arith, common_steps, within, so_far, more)
 
 -- without targets there are no rows
-pub no-targets : (tests : Tests) (names never allowed : ℕ) → ((source : ℕ) → [] ≡ hits (tests.target never allowed source) 0 names) → source_rows tests names never allowed ≡ []
+pub no-targets : (tests : Tests) (names never allowed : ℕ)
+    → ((source : ℕ) → [] ≡ hits (tests.target never allowed source) 0 names)
+    → source_rows tests names never allowed ≡ []
 no-targets tests names never allowed none =
-    flat-none (target_rows tests names never allowed) (λ source. ap (flat_map (λ target. row_with never allowed source target ∷ [])) (sym (none source))) (hits (tests.source never allowed) 0 names)
+    flat-none (target_rows tests names never allowed)
+    (λ source. ap (flat_map (λ target. row_with never allowed source target ∷ [])) (sym (none source)))
+    (hits (tests.source never allowed) 0 names)
 
-module _ {A : Type 0} (s : Search A) (is : IsSearch s) (i : ℕ) (rule : NumberedRule A) (at : slice_get (rules_in s) i ≡ Some rule) where
+module _ {A : Type 0} (s : Search A) (is : IsSearch s) (i : ℕ) (rule : NumberedRule A)
+    (at : slice_get (rules_in s) i ≡ Some rule) where
   -- what a rule names is among the names
   pub source-known : is_known s.members rule.source ≡ true
-  source-known = known s.resolved.now s.members is.members rule.source (rule-sound s.resolved.now i rule at).source_below
+  source-known = known s.resolved.now s.members is.members rule.source
+      (rule-sound s.resolved.now i rule at).source_below
 
   pub element-known : (element : Element) → rule.target ≡ targets.Element element → is_known s.members element ≡ true
   element-known element same =
-      known s.resolved.now s.members is.members element (subst (λ target. is_target_below (names_in s) target ≡ true) same (rule-sound s.resolved.now i rule at).target_below)
+      let below = (rule-sound s.resolved.now i rule at).target_below in
+      known s.resolved.now s.members is.members element
+      (subst (λ target. is_target_below (names_in s) target ≡ true) same below)
 
   pub aim-known : (source : ℕ) → source < names_in s → is_known s.members (aim_of rule.target source) ≡ true
-  aim-known source low = known s.resolved.now s.members is.members (aim_of rule.target source) (aim-below (names_in s) rule.target source (rule-sound s.resolved.now i rule at).target_below low)
+  aim-known source low = known s.resolved.now s.members is.members (aim_of rule.target source)
+      (aim-below (names_in s) rule.target source (rule-sound s.resolved.now i rule at).target_below low)
 
-module _ {A : Type 0} (s : Search A) (is : IsSearch s) (i j : ℕ) (never allowed : NumberedRule A) (never_at : slice_get (rules_in s) i ≡ Some never) (allowed_at : slice_get (rules_in s) j ≡ Some allowed) where
+module _ {A : Type 0} (s : Search A) (is : IsSearch s) (i j : ℕ) (never allowed : NumberedRule A)
+    (never_at : slice_get (rules_in s) i ≡ Some never) (allowed_at : slice_get (rules_in s) j ≡ Some allowed) where
   -- two rules take in the sources that the elements of both hold
   source-test : are_both_held s.members never.source allowed.source ≡ (tests_of s).source i j
-  source-test k t = if_there (λ r. is_held_in s.members r.source t) (sym never_at k) && if_there (λ r. is_held_in s.members r.source t) (sym allowed_at k)
+  source-test k t =
+      if_there (λ r. is_held_in s.members r.source t) (sym never_at k)
+      && if_there (λ r. is_held_in s.members r.source t) (sym allowed_at k)
 
-  pub source-hits : hits (are_both_held s.members never.source allowed.source) 0 (length (symbols_in s.members)) ≡ hits ((tests_of s).source i j) 0 (names_in s)
+  pub source-hits : hits (are_both_held s.members never.source allowed.source) 0 (length (symbols_in s.members))
+      ≡ sources_of s i j
   source-hits k = hits (source-test k) 0 (long s.resolved.now s.members is.members k)
 
   -- and the targets of a source likewise
-  target-test : (source : ℕ) → are_both_held s.members (aim_of never.target source) (aim_of allowed.target source) ≡ (tests_of s).target i j source
-  target-test source k t = if_there (λ r. is_held_in s.members (aim_of r.target source) t) (sym never_at k) && if_there (λ r. is_held_in s.members (aim_of r.target source) t) (sym allowed_at k)
+  target-test : (source : ℕ) → are_both_held s.members (aim_of never.target source) (aim_of allowed.target source)
+      ≡ (tests_of s).target i j source
+  target-test source k t =
+      if_there (λ r. is_held_in s.members (aim_of r.target source) t) (sym never_at k)
+      && if_there (λ r. is_held_in s.members (aim_of r.target source) t) (sym allowed_at k)
 
-  pub target-hits : (source : ℕ) → hits (are_both_held s.members (aim_of never.target source) (aim_of allowed.target source)) 0 (length (symbols_in s.members)) ≡ hits ((tests_of s).target i j source) 0 (names_in s)
+  pub target-hits : (source : ℕ)
+      → hits (are_both_held s.members (aim_of never.target source) (aim_of allowed.target source)) 0
+      (length (symbols_in s.members))
+      ≡ targets_of s i j source
   target-hits source k = hits (target-test source k) 0 (long s.resolved.now s.members is.members k)
 
   -- where no word has a symbol of both sources there are no rows
-  pub no-sources : (found : Option ℕ) → is_some found ≡ false → MatchOption found (NoneFromWord (both_hold s.members never.source allowed.source) 0) (IsFirstWordFrom (both_hold s.members never.source allowed.source) 0)
-      → source_rows (tests_of s) (names_in s) i j ≡ []
+  pub no-sources : (found : Option ℕ) → is_some found ≡ false
+      → MatchOption found (NoneFromWord (both_hold s.members never.source allowed.source) 0)
+      (IsFirstWordFrom (both_hold s.members never.source allowed.source) 0)
+      → rows_of s i j ≡ []
   no-sources (Some word) is first = absurd (true≢false is)
   no-sources None is none =
       ap (flat_map (target_rows (tests_of s) (names_in s) i j))
-      (sym source-hits ∙ hits-none (are_both_held s.members never.source allowed.source) (length (symbols_in s.members)) 0 (λ n on. none _ (omega arith)))
+      (sym source-hits ∙ hits-none (are_both_held s.members never.source allowed.source)
+      (length (symbols_in s.members)) 0 (λ n on. none _ (omega arith)))
 
   -- where both have targets of their own these are the same for each source
-  pub same-targets : (first second : Element) → never.target ≡ targets.Element first → allowed.target ≡ targets.Element second → (source : ℕ)
-      → hits (are_both_held s.members first second) 0 (length (symbols_in s.members)) ≡ hits ((tests_of s).target i j source) 0 (names_in s)
+  pub same-targets : (first second : Element) → never.target ≡ targets.Element first
+      → allowed.target ≡ targets.Element second → (source : ℕ)
+      → hits (are_both_held s.members first second) 0 (length (symbols_in s.members)) ≡ targets_of s i j source
   same-targets first second never_is allowed_is source =
-      (λ k. hits (are_both_held s.members (aim_of (sym never_is k) source) (aim_of (sym allowed_is k) source)) 0 (length (symbols_in s.members))) ∙ target-hits source
+      (λ k. hits (are_both_held s.members (aim_of (sym never_is k) source) (aim_of (sym allowed_is k) source)) 0
+      (length (symbols_in s.members))) ∙ target-hits source

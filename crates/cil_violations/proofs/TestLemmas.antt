@@ -10,7 +10,8 @@ use Rattle.cil_violations.specs.Aims.{aim_of}
 use Rattle.cil_violations.specs.Index.{if_there}
 
 -- what holds of all holds of the one at a place
-pub all-at : {X : Type 0} (p : X → Bool) (xs : List X) (i : ℕ) (x : X) → list_all p xs ≡ true → slice_get xs i ≡ Some x → p x ≡ true
+pub all-at : {X : Type 0} (p : X → Bool) (xs : List X) (i : ℕ) (x : X) → list_all p xs ≡ true
+    → slice_get xs i ≡ Some x → p x ≡ true
 all-at p [] i x all at = absurd (none-some x at)
 all-at p (y ∷ ys) zero x all at = subst (λ z. p z ≡ true) (same_Some y x at) (and_parts (p y) (list_all p ys) all).0
 all-at p (y ∷ ys) (suc i) x all at = all-at p ys i x (and_parts (p y) (list_all p ys) all).1 at
@@ -24,6 +25,7 @@ pub if-at : {X : Type 0} (p : X → Bool) (o : Option X) (x : X) → o ≡ Some 
 if-at p o x at = ap (if_there p) at
 
 -- the element that a target takes in for a source
-pub aim-below : (n : ℕ) (target : ResolvedTarget) (source : ℕ) → is_target_below n target ≡ true → source < n → is_element_below n (aim_of target source) ≡ true
+pub aim-below : (n : ℕ) (target : ResolvedTarget) (source : ℕ) → is_target_below n target ≡ true → source < n
+    → is_element_below n (aim_of target source) ≡ true
 aim-below n targets.Itself source below low = lt-ltb source n low
 aim-below n (targets.Element element) source below low = below

@@ -1,7 +1,7 @@
 -- Words of 64 bits that tell numbers.
 use Rattle.std.proofs.Common.{◌≡◌, ◌∙◌, ℕ, ◌+◌, ◌*◌, ◌/◌, ◌%◌, ◌^◌, ◌<◌, ◌≤◌, ◌==◌, ◌&&◌, Bool, false, IsTrue, min, zero, suc, bit_and, w64, refl, sym, ap, inl, inr, arith}
 use Rattle.std.specs.Int.{bit_at, trailing_zeros}
-use Rattle.std.proofs.lemmas.Bool.{cases_eq, cases_lt, eq-eqb, ne_eqb}
+use Rattle.std.proofs.lemmas.Bool.{cases_eq, eq-eqb, ne_eqb}
 use Rattle.std.proofs.lemmas.Nat.{one_shl}
 use Rattle.std.proofs.lemmas.Nat.Bits.{bit_at-lt, bit_at-pow_other, bit_at-pow_same, bit_at-trailing_zeros, bit_at-zero, bit_at_and}
 use Rattle.cil_violations.specs.Search.{IsFirstWordFrom, IsWordOf}
@@ -20,9 +20,11 @@ word-of-one n index at b small =
     ]
 
 -- the bits that two words have
-pub word-both : (p q : ℕ → Bool) (index one other : ℕ) → IsWordOf p index one → IsWordOf q index other → IsWordOf (λ t. p t && q t) index (bit_and one other)
+pub word-both : (p q : ℕ → Bool) (index one other : ℕ) → IsWordOf p index one → IsWordOf q index other
+    → IsWordOf (λ t. p t && q t) index (bit_and one other)
 word-both p q index one other first second b small =
-    ap (λ n. n == 1) (bit_at_and one other b) ∙ least (bit_at one b) (bit_at other b) (bit_at-lt one b) (bit_at-lt other b)
+    ap (λ n. n == 1) (bit_at_and one other b) ∙ least (bit_at one b) (bit_at other b) (bit_at-lt one b)
+    (bit_at-lt other b)
     ∙ (λ i. first b small i && second b small i)
   where
     least : (x y : ℕ) → x < 2 → y < 2 → (min x y == 1) ≡ ((x == 1) && (y == 1))
@@ -44,7 +46,8 @@ module _ (test : ℕ → Bool) (index word : ℕ) (is : IsWordOf test index word
   -- one that is 0 has none
   pub word-none : word ≡ 0 → (n : ℕ) → n / 64 ≡ index → test n ≡ false
   word-none clear n at =
-      ap test (omega (arith, at)) ∙ sym (is (n % 64) (omega arith)) ∙ ap (λ w. bit_at w (n % 64) == 1) clear ∙ ap (λ x. x == 1) (bit_at-zero (n % 64))
+      ap test (omega (arith, at)) ∙ sym (is (n % 64) (omega arith)) ∙ ap (λ w. bit_at w (n % 64) == 1) clear
+      ∙ ap (λ x. x == 1) (bit_at-zero (n % 64))
 
 module _ (p q : ℕ → Bool) (start : ℕ) where
   -- no number of the words from the start up to one has both tests
@@ -53,16 +56,9 @@ module _ (p q : ℕ → Bool) (start : ℕ) where
 
   -- the words that the first test skips have none
   pub first-skips : (from word : ℕ) → NoneBefore from → IsFirstWordFrom p from word → NoneBefore word
-  first-skips from word none first n above below =
-      elim (cases_lt (n / 64) from) [
-        | inl before ↦ none n above before
-        | inr behind ↦ ap (λ b. b && q n) (first.before n behind below)
-      ]
+  first-skips from word none first n above below = grind (arith, none n, first.before n)
 
   -- nor has a word without a bit
-  pub word-skipped : (word bits : ℕ) → NoneBefore word → IsWordOf (λ n. p n && q n) word bits → bits ≡ 0 → NoneBefore (word + 1)
-  word-skipped word bits none is clear n above below =
-      elim (cases_lt (n / 64) word) [
-        | inl before ↦ none n above before
-        | inr behind ↦ word-none (λ t. p t && q t) word bits is clear n (omega (arith, below, behind))
-      ]
+  pub word-skipped : (word bits : ℕ) → NoneBefore word → IsWordOf (λ n. p n && q n) word bits → bits ≡ 0
+      → NoneBefore (word + 1)
+  word-skipped word bits none is clear n above below = grind (arith, none n, word-none (λ t. p t && q t) word bits is clear n)

@@ -32,4 +32,6 @@ are_both_held members first second ty = is_held_in members first ty && is_held_i
 
 -- the symbols of types that elements hold fit in a word
 abbrev pub AreShort : {A : Type 0} → Members A → Type 0
-AreShort members = (element : Element) (t : ℕ) → IsTrue (is_known members element) → 2 ^ 64 ≤ t → holds_symbol members element t ≡ false
+AreShort members =
+    (element : Element) (t : ℕ) → IsTrue (is_known members element) → 2 ^ 64 ≤ t
+    → holds_symbol members element t ≡ false

@@ -57,7 +57,8 @@ abbrev pub takes_source : {A : Type 0} → Search A → ℕ → ℕ → Bool
 takes_source s i source = if_there (λ r. is_held_in s.members r.source source) (slice_get (rules_in s) i)
 
 abbrev pub takes_target : {A : Type 0} → Search A → ℕ → ℕ → ℕ → Bool
-takes_target s i source target = if_there (λ r. is_held_in s.members (aim_of r.target source) target) (slice_get (rules_in s) i)
+takes_target s i source target =
+    if_there (λ r. is_held_in s.members (aim_of r.target source) target) (slice_get (rules_in s) i)
 
 abbrev pub tests_of : {A : Type 0} → Search A → Tests
 tests_of s = record {
@@ -66,6 +67,18 @@ tests_of s = record {
   source = λ i j t. takes_source s i t && takes_source s j t;
   target = λ i j source t. takes_target s i source t && takes_target s j source t;
 }
+
+-- the sources that two rules have in common, in order
+abbrev pub sources_of : {A : Type 0} → Search A → ℕ → ℕ → List ℕ
+sources_of s never allowed = hits ((tests_of s).source never allowed) 0 (names_in s)
+
+-- the targets of a source likewise
+abbrev pub targets_of : {A : Type 0} → Search A → ℕ → ℕ → ℕ → List ℕ
+targets_of s never allowed source = hits ((tests_of s).target never allowed source) 0 (names_in s)
+
+-- the violations of two rules
+abbrev pub rows_of : {A : Type 0} → Search A → ℕ → ℕ → List RowNumbers
+rows_of s never allowed = source_rows (tests_of s) (names_in s) never allowed
 
 -- the members, the permissions and the index are those of the policy
 pub record IsSearch {A : Type 0} (s : Search A) : Type 0 where

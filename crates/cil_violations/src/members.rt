@@ -13,8 +13,8 @@ use std::alloc::{Allocator, Global};
 /// How many types a word has.
 pub const WORD: usize = 64;
 
-/// The members of a policy's attributes: counters by symbols, and the symbols of the policy's names. Reading
-/// them takes no memory.
+/// The members of a policy's attributes: counters by symbols, and the symbols of the policy's names.
+/// Reading them takes no memory.
 #[derive(Clone, Copy)]
 pub struct Members<'r, A: Allocator = Global> {
     pub rows: &'r MemberRows<A>,
@@ -74,7 +74,8 @@ impl<A: Allocator> Members<'_, A> {
         self.word(first, index) & self.word(second, index)
     }
 
-    /// The first word from one on with a type that two elements hold. Words without a type of either are skipped.
+    /// The first word from one on with a type that two elements hold. Words without a type of either are
+    /// skipped.
     pub fn next_shared_word(&self, first: Element, second: Element, from: usize) -> Option<usize>
         requires short { AreShort self.now }
         requires first { IsTrue (is_known self.now first) }

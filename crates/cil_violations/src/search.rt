@@ -5,7 +5,8 @@ ghost use Rattle.std.specs.List.{flat_map};
 ghost use Rattle.cil_violations.specs.Aims.{aim_of};
 ghost use Rattle.cil_violations.specs.Index.{is_met, IsNext};
 ghost use Rattle.cil_violations.specs.Permissions.{share};
-ghost use Rattle.cil_violations.specs.Rows.{hits, names_in, row_with, tests_of, rules_in, permissions_at, IsSearch, source_rows, pair_rows, all_rows};
+ghost use Rattle.cil_violations.specs.Rows.{names_in, permissions_at, rules_in, tests_of, IsSearch};
+ghost use Rattle.cil_violations.specs.Rows.{all_rows, pair_rows, row_with, rows_of, sources_of, targets_of};
 
 use crate::index::ClassIndex;
 use crate::members::Members;
@@ -17,8 +18,9 @@ use cil_resolve::{Element, NumberedRule, Resolved, ResolvedTarget};
 use cil_text::RuleKind;
 use std::alloc::{AllocError, Allocator, Global};
 
-/// What violations are looked for in: a policy, the members of its attributes, the permissions of each rule in order, and the allow rules
-/// of each class. Lists of the types that two rules have in common are made by the allocator.
+/// What violations are looked for in: a policy, the members of its attributes, the permissions of each
+/// rule in order, and the allow rules of each class. Lists of the types that two rules have in common are
+/// made by the allocator.
 #[derive(Clone, Copy)]
 pub struct Search<'r, A: Allocator = Global> {
     pub alloc: A,
@@ -46,7 +48,8 @@ fn push_rows<A: Allocator>(
     source: usize,
     targets: &[usize],
 ) -> Result<(), AllocError>
-    ensures { OnOk result (rows.new.items ≡ rows.old.items ++ flat_map (λ target. row_with never allowed source target ∷ []) targets.now) }
+    ensures { OnOk result (rows.new.items ≡ rows.old.items
+        ++ flat_map (λ target. row_with never allowed source target ∷ []) targets.now) }
 {
     for target in targets {
         rows.push(RowNumbers {
@@ -123,7 +126,7 @@ impl<A: Allocator + Copy> Search<'_, A> {
         requires search { IsSearch self.now }
         requires never { never < length (rules_in self.now) }
         requires allowed { allowed < length (rules_in self.now) }
-        ensures { IfOk result (λ list. list.items ≡ hits ((tests_of self.now).source never allowed) 0 (names_in self.now)) }
+        ensures { IfOk result (λ list. list.items ≡ sources_of self.now never allowed) }
     {
         let first = self.rule(never).source;
         let second = self.rule(allowed).source;
@@ -141,7 +144,7 @@ impl<A: Allocator + Copy> Search<'_, A> {
         requires never { never < length (rules_in self.now) }
         requires allowed { allowed < length (rules_in self.now) }
         requires source { source < names_in self.now }
-        ensures { IfOk result (λ list. list.items ≡ hits ((tests_of self.now).target never allowed source) 0 (names_in self.now)) }
+        ensures { IfOk result (λ list. list.items ≡ targets_of self.now never allowed source) }
     {
         let first = aim(self.rule(never).target, source);
         let second = aim(self.rule(allowed).target, source);
@@ -159,8 +162,8 @@ impl<A: Allocator + Copy> Search<'_, A> {
         requires search { IsSearch self.now }
         requires never { never < length (rules_in self.now) }
         requires allowed { allowed < length (rules_in self.now) }
-        requires targets { (source : ℕ) → targets.now ≡ hits ((tests_of self.now).target never allowed source) 0 (names_in self.now) }
-        ensures { OnOk result (rows.new.items ≡ rows.old.items ++ source_rows (tests_of self.now) (names_in self.now) never allowed) }
+        requires targets { (source : ℕ) → targets.now ≡ targets_of self.now never allowed source }
+        ensures { OnOk result (rows.new.items ≡ rows.old.items ++ rows_of self.now never allowed) }
     {
         if targets.is_empty() {
             return Ok(());
@@ -181,7 +184,7 @@ impl<A: Allocator + Copy> Search<'_, A> {
         requires search { IsSearch self.now }
         requires never { never < length (rules_in self.now) }
         requires allowed { allowed < length (rules_in self.now) }
-        ensures { OnOk result (rows.new.items ≡ rows.old.items ++ source_rows (tests_of self.now) (names_in self.now) never allowed) }
+        ensures { OnOk result (rows.new.items ≡ rows.old.items ++ rows_of self.now never allowed) }
     {
         for source in &self.sources(never, allowed)? {
             let targets = self.targets(never, allowed, *source)?;
@@ -190,7 +193,8 @@ impl<A: Allocator + Copy> Search<'_, A> {
         Ok(())
     }
 
-    /// Appends the violations of two rules. Most have no source in common, or no target: then it takes no memory.
+    /// Appends the violations of two rules. Most have no source in common, or no target: then it takes no
+    /// memory, where neither target is the source itself.
     fn push_sources(
         &self,
         rows: &mut Vec<RowNumbers, A>,
@@ -200,7 +204,7 @@ impl<A: Allocator + Copy> Search<'_, A> {
         requires search { IsSearch self.now }
         requires never { never < length (rules_in self.now) }
         requires allowed { allowed < length (rules_in self.now) }
-        ensures { OnOk result (rows.new.items ≡ rows.old.items ++ source_rows (tests_of self.now) (names_in self.now) never allowed) }
+        ensures { OnOk result (rows.new.items ≡ rows.old.items ++ rows_of self.now never allowed) }
     {
         let first = self.rule(never);
         let second = self.rule(allowed);
@@ -223,7 +227,8 @@ impl<A: Allocator + Copy> Search<'_, A> {
     fn push_pairs(&self, rows: &mut Vec<RowNumbers, A>, never: usize) -> Result<(), AllocError>
         requires search { IsSearch self.now }
         requires never { never < length (rules_in self.now) }
-        ensures { OnOk result (rows.new.items ≡ rows.old.items ++ pair_rows (tests_of self.now) (length (rules_in self.now)) (names_in self.now) never) }
+        ensures { OnOk result (rows.new.items ≡ rows.old.items
+            ++ pair_rows (tests_of self.now) (length (rules_in self.now)) (names_in self.now) never) }
     {
         let mut next = self.first_of_class(never);
         while let Some(allowed) = next {
@@ -238,7 +243,8 @@ impl<A: Allocator + Copy> Search<'_, A> {
     /// Appends all violations.
     pub fn push_all(&self, rows: &mut Vec<RowNumbers, A>) -> Result<(), AllocError>
         requires { IsSearch self.now }
-        ensures { OnOk result (rows.new.items ≡ rows.old.items ++ all_rows (tests_of self.now) (length (rules_in self.now)) (names_in self.now)) }
+        ensures { OnOk result (rows.new.items ≡ rows.old.items
+            ++ all_rows (tests_of self.now) (length (rules_in self.now)) (names_in self.now)) }
     {
         for never in 0..self.resolved.rules_len() {
             if self.is_never(never) {

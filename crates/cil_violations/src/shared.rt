@@ -1,6 +1,7 @@
 //! The types that two names of rules have in common.
 
-ghost use Rattle.std.specs.Prelude.{◌≡◌, ◌⊎◌, ◌+◌, ◌*◌, ◌<◌, ◌^◌, ◌↔◌, ℕ, Contains, IsTrue, length, slice_get, Some, IfOk, OnOk};
+ghost use Rattle.std.specs.Prelude.{◌≡◌, ◌⊎◌, ◌<◌, ◌^◌, ◌↔◌, ℕ, Contains, IsTrue, length};
+ghost use Rattle.std.specs.Prelude.{slice_get, Some, IfOk, OnOk};
 ghost use Rattle.cil_violations.specs.Held.{are_both_held, is_known, symbols_in, AreShort};
 ghost use Rattle.cil_violations.specs.Rows.{hits};
 ghost use Rattle.cil_violations.specs.Shared.{HasBit};
@@ -45,7 +46,8 @@ fn push_names<A: Allocator>(
     Ok(())
 }
 
-/// The types that two elements hold, by the numbers of their names, in order. It takes no memory where there is none.
+/// The types that two elements hold, by the numbers of their names, in order. It takes no memory where there
+/// is none.
 pub fn shared<A: Allocator + Copy>(
     alloc: A,
     members: &Members<'_, A>,

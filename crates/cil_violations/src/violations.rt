@@ -103,9 +103,8 @@ fn find<A: Allocator + Copy>(
 }
 
 impl<A: Allocator + Copy> Violations<A> {
-    /// The violations of a policy whose names have these symbols, and whose members the rows count by them. Lists
-    /// of types are made only for pairs of rules with a violation. An out of memory stands also where no more
-    /// owners of the policy can be counted.
+    /// The violations of a policy whose names have these symbols, and whose members the rows count by them.
+    /// An out of memory stands also where no more owners of the policy can be counted.
     pub fn of(
         alloc: A,
         resolved: &Rc<Resolved<A>, A>,

@@ -1,7 +1,9 @@
 use Rattle.std.proofs.Common.{◌∙◌, length, subst, sym}
-use Rattle.std.proofs.lemmas.Result.{on_ok_weaker}
+use Rattle.cil_keyed_lines.specs.Keyed.{count_before, count_now}
+use Rattle.cil_symbol_changes.specs.Numbered.{IsNew}
 use Rattle.cil_symbol_changes.specs.SourceOrder.{AreAllPlaces}
 use Rattle.cil_symbol_changes.proofs.ChangeLemmas.{known-appeared, known-gone, new-appeared, new-gone}
+use Rattle.cil_symbol_changes.proofs.GainedLemmas.{gained-all, gained-short}
 use Rattle.cil_symbol_changes.proofs.changed_chunks.collect.Goals as goal
 
 pub push_changes-requires-clause-all : goal.push_changes-requires-clause-all
@@ -10,24 +12,34 @@ push_changes-requires-clause-all g c =
 
 pub push_changes-requires-clause-appeared : goal.push_changes-requires-clause-appeared
 push_changes-requires-clause-appeared g c =
-    known-appeared {A = g.row.A.Denot} c.args.lines.now c.args.numbers.now c.lines-lines.result.now c.deref-2.result.now c.in_ok-changes.changes.items c.lines-lines.ensures c.deref-2.ensures.value
-    c.in_ok-changes.ensures.appeared c.requires.numbered
+    known-appeared c.args.numbers.now c.args.lines.now c.deref-2.result.now
+    c.in_ok-changes.changes.items c.deref-2.ensures.value c.in_ok-changes.ensures.appeared
+    c.requires
 
 pub push_changes-requires-clause-gone : goal.push_changes-requires-clause-gone
 push_changes-requires-clause-gone g c =
-    known-gone {A = g.row.A.Denot} c.args.lines.now c.args.numbers.now c.lines-lines.result.now c.deref-2.result.now c.in_ok-changes.changes.items c.lines-lines.ensures c.deref-2.ensures.value
-    c.in_ok-changes.ensures.gone c.requires.numbered
+    known-gone c.args.numbers.now c.args.lines.now c.deref-2.result.now
+    c.in_ok-changes.changes.items c.deref-2.ensures.value c.in_ok-changes.ensures.gone c.requires
 
-pub returns-clause-added : goal.returns-clause-added
-returns-clause-added g c =
-    on_ok_weaker c.push_changes.result
-    (new-appeared {A = g.row.A.Denot} c.args.lines.now c.args.numbers.now c.lines-lines.result.now c.deref-2.result.now c.in_ok-changes.changes.items c.lines-lines.ensures c.deref-2.ensures.value
-    c.in_ok-changes.ensures.appeared c.args.chunks.now.added.items c.push_changes.new.chunks.added.items)
-    c.push_changes.ensures.added
-
-pub returns-clause-removed : goal.returns-clause-removed
-returns-clause-removed g c =
-    on_ok_weaker c.push_changes.result
-    (new-gone {A = g.row.A.Denot} c.args.lines.now c.args.numbers.now c.lines-lines.result.now c.deref-2.result.now c.in_ok-changes.changes.items c.lines-lines.ensures c.deref-2.ensures.value
-    c.in_ok-changes.ensures.gone c.args.chunks.now.removed.items c.push_changes.new.chunks.removed.items)
-    c.push_changes.ensures.removed
+pub returns : goal.returns
+returns g c =
+    let numbers = c.args.numbers.now in
+    let lines = c.args.lines.now in
+    let old = c.new.result.chunks.items in
+    let new = c.push_changes.new.chunks in
+    let came = new-appeared numbers lines c.deref-2.result.now c.in_ok-changes.changes.items
+    c.deref-2.ensures.value c.in_ok-changes.ensures.appeared old new.added.chunks.items
+    c.in_ok-push_changes.ensures.added in
+    let went = new-gone numbers lines c.deref-2.result.now c.in_ok-changes.changes.items
+    c.deref-2.ensures.value c.in_ok-changes.ensures.gone c.new-2.result.chunks.items
+    new.removed.chunks.items c.in_ok-push_changes.ensures.removed in
+    record {
+      added = gained-all (IsNew numbers (count_before lines) (count_now lines)) old
+          new.added.chunks.items c.new.ensures came;
+      removed = gained-all (IsNew numbers (count_now lines) (count_before lines))
+          c.new-2.result.chunks.items new.removed.chunks.items c.new-2.ensures went;
+      short_added = gained-short (IsNew numbers (count_before lines) (count_now lines)) old
+          new.added.chunks.items c.new.ensures came;
+      short_removed = gained-short (IsNew numbers (count_now lines) (count_before lines))
+          c.new-2.result.chunks.items new.removed.chunks.items c.new-2.ensures went;
+    }

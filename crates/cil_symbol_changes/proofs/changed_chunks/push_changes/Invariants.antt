@@ -1,14 +1,16 @@
-use Rattle.std.proofs.Common.{◌-◌, length}
-use Rattle.cil_symbol_changes.specs.Gained.{AreGained, IsIn}
-use Rattle.cil_symbol_changes.specs.SourceOrder.{appeared_in, gone_in, IsBetween}
+use Rattle.std.proofs.Common.{length}
+use Rattle.cil_symbol_changes.specs.SourceOrder.{HasAppeared, HasGone}
+use Rattle.cil_symbol_changes.proofs.OrderLemmas.{AreMissing}
 use Rattle.cil_symbol_changes.proofs.changed_chunks.push_changes.Given as goal
 
--- the changes so far are taken
-abbrev pub invariant-loop-from : goal.invariant-loop-from
-invariant-loop-from g l = record {
-  added : AreGained (IsBetween (λ place. IsIn l.numbers l.lines (appeared_in l.changes place)) l.order 0 l.from) l.fn.chunks.added.items l.chunks.added.items;
-  removed : AreGained (IsBetween (λ place. IsIn l.numbers l.lines (gone_in l.changes place)) l.order 0 l.from) l.fn.chunks.removed.items l.chunks.removed.items;
+-- the changes that are left are missing
+abbrev pub invariant-loop-source : goal.invariant-loop-source
+invariant-loop-source g l = record {
+  added : AreMissing (HasAppeared l.numbers l.lines l.changes) l.order l.left
+      l.fn.chunks.added.chunks.items l.chunks.added.chunks.items;
+  removed : AreMissing (HasGone l.numbers l.lines l.changes) l.order l.left
+      l.fn.chunks.removed.chunks.items l.chunks.removed.chunks.items;
 }
 
-abbrev pub decreases-loop-from : goal.decreases-loop-from
-decreases-loop-from g l = length l.order - l.from
+abbrev pub decreases-loop-source : goal.decreases-loop-source
+decreases-loop-source g l = length l.left

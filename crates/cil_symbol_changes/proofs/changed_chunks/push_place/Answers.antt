@@ -14,9 +14,13 @@ push_change-requires-clause-gone g c =
 pub returns-else-place-changes-clause-added : goal.returns-else-place-changes-clause-added
 returns-else-place-changes-clause-added g c =
     let past = c.if-place-changes.false in
-    in-no_change c.args.numbers.now c.args.lines.now (λ d l t. hit_at d.line d.word d.appeared l t) (λ l t. hit_nothing 0 0 l t) c.args.changes.now c.args.place c.args.chunks.now.added.items past
+    in-no_change c.args.numbers.now c.args.lines.now (λ d l t. hit_at d.line d.word d.appeared l t)
+    (λ l t. hit_nothing 0 0 l t) c.args.changes.now c.args.place
+    c.args.chunks.now.added.chunks.items past
 
 pub returns-else-place-changes-clause-removed : goal.returns-else-place-changes-clause-removed
 returns-else-place-changes-clause-removed g c =
     let past = c.if-place-changes.false in
-    in-no_change c.args.numbers.now c.args.lines.now (λ d l t. hit_at d.line d.word d.gone l t) (λ l t. hit_nothing 0 0 l t) c.args.changes.now c.args.place c.args.chunks.now.removed.items past
+    in-no_change c.args.numbers.now c.args.lines.now (λ d l t. hit_at d.line d.word d.gone l t)
+    (λ l t. hit_nothing 0 0 l t) c.args.changes.now c.args.place
+    c.args.chunks.now.removed.chunks.items past

@@ -1,10 +1,15 @@
-use Rattle.cil_symbol_changes.specs.Gained.{AreGained, IsIn}
-use Rattle.cil_symbol_changes.specs.SourceOrder.{appeared_in, gone_in, IsBetween}
+use Rattle.std.proofs.Common.{take}
+use Rattle.cil_symbol_changes.specs.Gained.{AreGained}
+use Rattle.cil_symbol_changes.specs.SourceOrder.{HasAppeared, HasGone, IsAmong}
 use Rattle.cil_symbol_changes.proofs.changed_chunks.push_source.Given as goal
 
 -- the changes so far are taken
-abbrev pub invariant-loop-i : goal.invariant-loop-i
-invariant-loop-i g l = record {
-  added : AreGained (IsBetween (λ place. IsIn l.numbers l.lines (appeared_in l.changes place)) l.order l.fn.from l.i) l.fn.chunks.added.items l.chunks.added.items;
-  removed : AreGained (IsBetween (λ place. IsIn l.numbers l.lines (gone_in l.changes place)) l.order l.fn.from l.i) l.fn.chunks.removed.items l.chunks.removed.items;
+abbrev pub invariant-loop-at : goal.invariant-loop-at
+invariant-loop-at g l = record {
+  added : AreGained
+      (IsAmong (HasAppeared l.numbers l.lines l.changes)
+      (take l.at-index l.source)) l.fn.chunks.added.chunks.items l.chunks.added.chunks.items;
+  removed : AreGained
+      (IsAmong (HasGone l.numbers l.lines l.changes)
+      (take l.at-index l.source)) l.fn.chunks.removed.chunks.items l.chunks.removed.chunks.items;
 }

@@ -4,4 +4,4 @@ use Rattle.cil_symbol_changes.proofs.kept_words.push_words.Given as goal
 
 -- the words so far are taken
 abbrev pub invariant-loop-word : goal.invariant-loop-word
-invariant-loop-word g l = AreGained (UpTo l.numbers l.lines l.order l.fn.from l.fn.to l.word) l.fn.chunks.items l.chunks.items
+invariant-loop-word g l = AreGained (UpTo l.numbers l.lines l.source l.word) l.fn.chunks.items l.chunks.items

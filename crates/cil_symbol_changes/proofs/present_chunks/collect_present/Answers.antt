@@ -1,18 +1,26 @@
-use Rattle.std.proofs.Common.{length, subst, sym}
-use Rattle.std.proofs.lemmas.Result.{on_ok_weaker}
-use Rattle.cil_symbol_changes.specs.SourceOrder.{AreAllPlaces}
+use Rattle.std.proofs.Common.{subst, sym}
+use Rattle.cil_keyed_lines.specs.Keyed.{count_now}
+use Rattle.cil_symbol_changes.specs.Numbered.{listed, IsPresent}
+use Rattle.cil_symbol_changes.specs.SourceOrder.{AreListedPlaces}
+use Rattle.cil_symbol_changes.proofs.GainedLemmas.{gained-all, gained-short}
 use Rattle.cil_symbol_changes.proofs.PresentLemmas.{in-present, known-now}
 use Rattle.cil_symbol_changes.proofs.present_chunks.collect_present.Goals as goal
 
-pub push_lines-requires-clause-all : goal.push_lines-requires-clause-all
-push_lines-requires-clause-all g c = subst (AreAllPlaces (length c.lines-lines.result.now.keys)) (sym c.deref.ensures.value) c.in_ok-order.ensures
+pub push_lines-requires-clause-listed : goal.push_lines-requires-clause-listed
+push_lines-requires-clause-listed g c =
+    subst (AreListedPlaces c.args.lines.now) (sym c.deref.ensures.value) c.in_ok-order.ensures
 
 pub push_lines-requires-clause-known : goal.push_lines-requires-clause-known
-push_lines-requires-clause-known g c =
-    known-now {A = g.row.A.Denot} c.args.lines.now c.args.numbers.now c.lines-lines.result.now c.lines-lines.ensures c.requires.numbered
+push_lines-requires-clause-known g c = known-now c.args.numbers.now c.args.lines.now c.requires
 
 pub returns : goal.returns
 returns g c =
-    on_ok_weaker c.push_lines.result
-    (in-present {A = g.row.A.Denot} c.args.lines.now c.args.numbers.now c.lines-lines.result.now c.lines-lines.ensures c.args.chunks.now.items c.push_lines.new.chunks.items)
-    c.push_lines.ensures
+    let told = IsPresent c.args.numbers.now (listed (count_now c.args.lines.now)) in
+    let old = c.in_ok-growing.growing.chunks.items in
+    let new = c.push_lines.new.growing.chunks.items in
+    let gained = in-present c.args.numbers.now c.args.lines.now old new c.in_ok-push_lines.ensures in
+    record {
+      given = gained-all told old new c.in_ok-growing.ensures gained;
+      short = gained-short
+          told old new c.in_ok-growing.ensures gained;
+    }

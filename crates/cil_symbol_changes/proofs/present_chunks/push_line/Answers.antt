@@ -9,9 +9,14 @@ push_targets-requires-clause-known g c =
 
 pub loop-word-preserved : goal.loop-word-preserved
 loop-word-preserved g c =
-    words-more c.args.numbers.now c.args.key (now_at c.args.lines.now c.args.place) c.loop-word.from c.in-Some.word c.present-mask.result c.args.chunks.now.items c.loop-word.chunks.items
-    c.push_targets.new.chunks.items c.in-Some.ensures c.present-mask.ensures c.loop-word.invariant c.in_ok-push_targets.ensures
+    words-more c.args.numbers.now c.args.key (now_at c.args.lines.now c.args.place) c.loop-word.from
+    c.in-Some.word c.present-mask.result c.args.growing.now.chunks.items
+    c.loop-word.growing.chunks.items
+    c.push_targets.new.growing.chunks.items c.in-Some.ensures c.present-mask.ensures
+    c.loop-word.invariant c.in_ok-push_targets.ensures
 
 pub returns : goal.returns
 returns g c =
-    words-all c.args.numbers.now c.args.key (now_at c.args.lines.now c.args.place) c.loop-word.from c.args.chunks.now.items c.loop-word.chunks.items c.in_default.ensures c.loop-word.invariant
+    words-all c.args.numbers.now c.args.key (now_at c.args.lines.now c.args.place) c.loop-word.from
+    c.args.growing.now.chunks.items c.loop-word.growing.chunks.items c.in_default.ensures
+    c.loop-word.invariant

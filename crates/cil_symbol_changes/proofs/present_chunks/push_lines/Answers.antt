@@ -1,19 +1,27 @@
-use Rattle.std.proofs.Common.{arith}
 use Rattle.cil_symbol_changes.specs.SourceOrder.{IsAt}
-use Rattle.cil_symbol_changes.proofs.OrderLemmas.{between-join, between-none}
-use Rattle.cil_symbol_changes.proofs.PresentLemmas.{between-all}
+use Rattle.cil_symbol_changes.proofs.OrderLemmas.{missing-all, missing-less, missing-none}
+use Rattle.cil_symbol_changes.proofs.PresentLemmas.{among-listed}
 use Rattle.cil_symbol_changes.proofs.present_chunks.push_lines.Goals as goal
 
-pub loop-from-init : goal.loop-from-init
-loop-from-init g c = between-none (IsAt c.args.numbers.now c.args.lines.now) c.args.order.now 0 c.args.chunks.now.items
+pub loop-source-init : goal.loop-source-init
+loop-source-init g c =
+    missing-all (IsAt c.args.numbers.now c.args.lines.now) c.args.order.now
+    c.args.growing.now.chunks.items
 
-pub loop-from-preserved : goal.loop-from-preserved
-loop-from-preserved g c =
-    let behind = c.source_end-to.ensures.behind in
-    between-join (IsAt c.args.numbers.now c.args.lines.now) c.args.order.now 0 c.loop-from.from c.source_end-to.result c.args.chunks.now.items c.loop-from.chunks.items c.push_source.new.chunks.items
-    (omega arith) (omega (arith, behind)) c.loop-from.invariant c.in_ok-push_source.ensures
+pub push_source-requires-clause-short : goal.push_source-requires-clause-short
+push_source-requires-clause-short g c = c.loop-source.invariant.short c.requires.short
+
+pub loop-source-preserved : goal.loop-source-preserved
+loop-source-preserved g c =
+    missing-less (IsAt c.args.numbers.now c.args.lines.now) c.args.order.now c.loop-source.left.now
+    c.in-Some.source.now c.in-Some.behind.now c.args.growing.now.chunks.items
+    c.loop-source.growing.chunks.items c.push_source.new.growing.chunks.items
+    c.loop-source.invariant c.in-Some.ensures c.in_ok-push_source.ensures
 
 pub returns : goal.returns
 returns g c =
-    let past = c.loop-from-test.false in
-    between-all c.args.numbers.now c.args.lines.now c.args.order.now c.loop-from.from c.args.chunks.now.items c.loop-from.chunks.items c.requires.all past c.loop-from.invariant
+    among-listed c.args.numbers.now c.args.lines.now c.args.order.now
+    c.args.growing.now.chunks.items c.loop-source.growing.chunks.items c.requires.listed
+    (missing-none (IsAt c.args.numbers.now c.args.lines.now) c.args.order.now c.loop-source.left.now
+    c.args.growing.now.chunks.items c.loop-source.growing.chunks.items c.loop-source.invariant
+    c.in_default.ensures)

@@ -1,11 +1,13 @@
-use Rattle.std.proofs.Common.{◌-◌, length}
-use Rattle.cil_symbol_changes.specs.Gained.{AreGained}
-use Rattle.cil_symbol_changes.specs.SourceOrder.{IsAt, IsBetween}
+use Rattle.std.proofs.Common.{length}
+use Rattle.cil_symbol_changes.specs.SourceOrder.{IsAt}
+use Rattle.cil_symbol_changes.proofs.OrderLemmas.{AreMissing}
 use Rattle.cil_symbol_changes.proofs.present_chunks.push_lines.Given as goal
 
--- the lines so far are taken
-abbrev pub invariant-loop-from : goal.invariant-loop-from
-invariant-loop-from g l = AreGained (IsBetween (IsAt l.numbers l.lines) l.order 0 l.from) l.fn.chunks.items l.chunks.items
+-- the lines that are left are missing
+abbrev pub invariant-loop-source : goal.invariant-loop-source
+invariant-loop-source g l =
+    AreMissing (IsAt l.numbers l.lines) l.order l.left l.fn.growing.chunks.items
+    l.growing.chunks.items
 
-abbrev pub decreases-loop-from : goal.decreases-loop-from
-decreases-loop-from g l = length l.order - l.from
+abbrev pub decreases-loop-source : goal.decreases-loop-source
+decreases-loop-source g l = length l.left

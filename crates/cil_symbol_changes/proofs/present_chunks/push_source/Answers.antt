@@ -1,21 +1,22 @@
-use Rattle.std.proofs.Common.{arith, subst}
-use Rattle.cil_symbol_changes.specs.Gained.{AreGained}
-use Rattle.cil_symbol_changes.specs.SourceOrder.{IsAt, IsBetween}
-use Rattle.cil_symbol_changes.proofs.OrderLemmas.{between-more, between-none, gained-moved}
+use Rattle.cil_symbol_changes.specs.SourceOrder.{IsAmong, IsAt}
+use Rattle.cil_symbol_changes.proofs.OrderLemmas.{among-all, among-more, among-none, gained-moved}
 use Rattle.cil_symbol_changes.proofs.present_chunks.push_source.Goals as goal
 
-pub loop-i-init : goal.loop-i-init
-loop-i-init g c = between-none (IsAt c.args.numbers.now c.args.lines.now) c.args.order.now c.args.from c.args.chunks.now.items
+pub loop-at-init : goal.loop-at-init
+loop-at-init g c = among-none (IsAt c.args.numbers.now c.args.lines.now) c.args.growing.now.chunks.items
 
-pub loop-i-preserved : goal.loop-i-preserved
-loop-i-preserved g c =
-    between-more (IsAt c.args.numbers.now c.args.lines.now) c.args.order.now c.args.from c.loop-i.i c.args.chunks.now.items c.loop-i.chunks.items c.push_place.new.chunks.items c.loop-i.auto.i
-    c.loop-i.invariant c.in_ok-push_place.ensures
+pub loop-at-preserved : goal.loop-at-preserved
+loop-at-preserved g c =
+    among-more (IsAt c.args.numbers.now c.args.lines.now) c.args.source.now c.loop-at.at-index
+    c.args.growing.now.chunks.items c.loop-at.growing.chunks.items
+    c.push_place.new.growing.chunks.items c.loop-at-test.true
+    c.loop-at.invariant c.in_ok-push_place.ensures
 
 pub returns : goal.returns
 returns g c =
-    let low = c.loop-i.auto.i-end c.requires.order in
-    let past = c.loop-i-test.false in
-    gained-moved (IsBetween (IsAt c.args.numbers.now c.args.lines.now) c.args.order.now c.args.from c.args.to) c.args.chunks.now.items c.loop-i.chunks.items c.sort_from.new.chunks.items
-    (subst (λ n. AreGained (IsBetween (IsAt c.args.numbers.now c.args.lines.now) c.args.order.now c.args.from n) c.args.chunks.now.items c.loop-i.chunks.items) (omega (arith, low, past)) c.loop-i.invariant)
+    let at = IsAt c.args.numbers.now c.args.lines.now in
+    gained-moved (IsAmong at c.args.source.now) c.args.growing.now.chunks.items
+    c.loop-at.growing.chunks.items c.sort_from.new.chunks.items
+    (among-all at c.args.source.now c.loop-at.at-index c.args.growing.now.chunks.items
+    c.loop-at.growing.chunks.items c.loop-at-test.false c.loop-at.invariant)
     c.sort_from.ensures

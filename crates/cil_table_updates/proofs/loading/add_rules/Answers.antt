@@ -1,5 +1,4 @@
-use Rattle.std.proofs.Common.{◌∙◌, refl, ap, arith, length, subst, sym, ◌<◌, ◌≡◌, nat_lt}
-use Rattle.cil_resolve.specs.Below.{is_rule_below}
+use Rattle.std.proofs.Common.{◌∙◌, refl, ap, arith, length, subst, sym, ◌<◌, nat_lt}
 use Rattle.cil_resolve.specs.Meter.{adjustments_in}
 use Rattle.cil_sums.proofs.RiseLemmas.{rises-first, rises-next, rises-same}
 use Rattle.cil_sums.proofs.SumLemmas.{sum-more, sum-none, sum-part}
@@ -7,7 +6,7 @@ use Rattle.cil_table_updates.specs.Adjusted.{comes, gives_it}
 use Rattle.cil_table_updates.specs.Given.{given}
 use Rattle.cil_table_updates.proofs.AdjustedLemmas.{counted-some}
 use Rattle.cil_table_updates.proofs.GivenLemmas.{given-rule}
-use Rattle.cil_table_updates.proofs.PlaceLemmas.{passes-at, read-at}
+use Rattle.cil_table_updates.proofs.PlaceLemmas.{read-at}
 use Rattle.cil_table_updates.proofs.loading.add_rules.Goals as goal
 
 pub loop-j-init : goal.loop-j-init

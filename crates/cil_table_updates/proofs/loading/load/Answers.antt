@@ -1,4 +1,4 @@
-use Rattle.std.proofs.Common.{◌∙◌, arith, length, sym, ap, subst}
+use Rattle.std.proofs.Common.{◌∙◌, arith, length, ap, subst}
 use Rattle.std.proofs.lemmas.Result.{on_ok_weaker}
 use Rattle.cil_matching.proofs.ApartLemmas.{apart-rules}
 use Rattle.cil_resolve.specs.Meter.{adjustments_in}

@@ -1,29 +1,29 @@
-use Rattle.std.proofs.Common.{◌∙◌, add-zero, ap, arith, false, sym}
+use Rattle.std.proofs.Common.{ap, arith}
 use Rattle.std.proofs.lemmas.Result.{on_ok_weaker}
 use Rattle.cil_resolve.specs.Meter.{adjustments_in}
 use Rattle.cil_rule_reach.specs.Reaches.{covers_by, members_of}
 use Rattle.cil_rule_shifts.specs.Reach.{one_if}
-use Rattle.cil_keyed_lines.specs.Keyed.{count_now}
-use Rattle.cil_table_updates.specs.Moves.{gives_as}
 use Rattle.cil_table_updates.proofs.AdjustedLemmas.{put-rises}
-use Rattle.cil_table_updates.proofs.MoveLemmas.{bounded-covered, gives-covered, gives-nothing, moved-same}
+use Rattle.cil_table_updates.proofs.MoveLemmas.{gives-covered, gives-nothing}
 use Rattle.cil_table_updates.proofs.moves.put_rule.Goals as goal
 
 pub shift_as-requires-clause-counted : goal.shift_as-requires-clause-counted
 shift_as-requires-clause-counted g c key t =
-    let none = ap one_if (gives-nothing c.args.policy.now.numbering.now.symbols c.args.rule.now c.none.result c.none.ensures.none key t) in
-    omega (arith, none)
+    let symbols = c.args.policy.now.numbering.now.symbols in
+    let rule = c.args.rule.now in
+    let none = gives-nothing symbols rule c.none.result c.none.ensures.none in
+    omega (arith, ap one_if (none key t))
 
 pub returns-clause-now : goal.returns-clause-now
 returns-clause-now g c =
     let symbols = c.args.policy.now.numbering.now.symbols in
     let members = members_of c.args.policy.now.members in
     let rule = c.args.rule.now in
+    let none = gives-nothing symbols rule c.none.result c.none.ensures.none in
+    let is = gives-covered symbols rule c.in_ok-is.is' members
+    c.in_ok-is.ensures.sources c.in_ok-is.ensures.targets in
     on_ok_weaker c.shift_as.result
-    (λ moved key t.
-    sym (add-zero (count_now c.shift_as.new.lines key t))
-    ∙ moved-same (count_now c.shift_as.new.lines key t) (count_now c.args.lines.now key t) (gives_as symbols rule c.none.result key t) (gives_as symbols rule c.in_ok-is.is' key t) false (covers_by members symbols rule key t) (moved key t)
-    (gives-nothing symbols rule c.none.result c.none.ensures.none key t) (gives-covered symbols rule c.in_ok-is.is' members c.in_ok-is.ensures.sources c.in_ok-is.ensures.targets key t))
+    (λ moved key t. omega (arith, moved key t, ap one_if (none key t), ap one_if (is key t)))
     c.shift_as.ensures.now
 
 pub returns-clause-adjustments : goal.returns-clause-adjustments
@@ -31,16 +31,20 @@ returns-clause-adjustments g c =
     let symbols = c.args.policy.now.numbering.now.symbols in
     let members = members_of c.args.policy.now.members in
     let rule = c.args.rule.now in
+    let none = gives-nothing symbols rule c.none.result c.none.ensures.none in
+    let is = gives-covered symbols rule c.in_ok-is.is' members
+    c.in_ok-is.ensures.sources c.in_ok-is.ensures.targets in
     on_ok_weaker c.shift_as.result
     (λ rises.
-    put-rises symbols rule c.none.result c.in_ok-is.is' (adjustments_in c.args.meter.now) (adjustments_in c.shift_as.new.meter) rises (covers_by members symbols rule) (gives-nothing symbols rule c.none.result c.none.ensures.none)
-    (gives-covered symbols rule c.in_ok-is.is' members c.in_ok-is.ensures.sources c.in_ok-is.ensures.targets))
+    put-rises symbols rule c.none.result c.in_ok-is.is' (adjustments_in c.args.meter.now)
+    (adjustments_in c.shift_as.new.meter) rises (covers_by members symbols rule) none is)
     c.shift_as.ensures.adjustments
 
 pub returns-clause-bounded : goal.returns-clause-bounded
-returns-clause-bounded g c =
+returns-clause-bounded g c key t =
     let symbols = c.args.policy.now.numbering.now.symbols in
     let members = members_of c.args.policy.now.members in
     let rule = c.args.rule.now in
-    bounded-covered (gives_as symbols rule c.in_ok-is.is') (covers_by members symbols rule) (count_now c.shift_as.new.lines) (count_now c.args.lines.now)
-    (gives-covered symbols rule c.in_ok-is.is' members c.in_ok-is.ensures.sources c.in_ok-is.ensures.targets) c.shift_as.ensures.bounded
+    let is = gives-covered symbols rule c.in_ok-is.is' members
+    c.in_ok-is.ensures.sources c.in_ok-is.ensures.targets in
+    omega (arith, c.shift_as.ensures.bounded key t, ap one_if (is key t))

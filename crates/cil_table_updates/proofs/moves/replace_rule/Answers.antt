@@ -1,12 +1,13 @@
-use Rattle.std.proofs.Common.{◌≤◌, ◌∙◌, subst, sym}
+use Rattle.std.proofs.Common.{◌≡◌, ◌∙◌, ℕ, ap, arith}
 use Rattle.std.proofs.lemmas.Result.{on_ok_weaker}
+use Rattle.cil_keyed_lines.specs.declared.symbol_key.SymbolKey.{SymbolKey}
 use Rattle.cil_resolve.specs.Meter.{adjustments_in}
 use Rattle.cil_rule_reach.specs.Reaches.{covers_by, members_of}
 use Rattle.cil_rule_shifts.specs.Reach.{one_if}
-use Rattle.cil_keyed_lines.specs.Keyed.{count_now}
+use Rattle.cil_table_updates.specs.Given.{gives_by}
 use Rattle.cil_table_updates.specs.Moves.{gives_as}
 use Rattle.cil_table_updates.proofs.AdjustedLemmas.{replace-rises}
-use Rattle.cil_table_updates.proofs.MoveLemmas.{bounded-covered, covered-alike, gives-covered, moved-same}
+use Rattle.cil_table_updates.proofs.MoveLemmas.{covered-alike, gives-covered}
 use Rattle.cil_table_updates.proofs.moves.replace_rule.Goals as goal
 
 pub shift_as-requires-clause-counted : goal.shift_as-requires-clause-counted
@@ -16,25 +17,32 @@ shift_as-requires-clause-counted g c key t =
     let was_members = members_of c.args.old.now.members in
     let was_rule = c.args.old_rule.now in
     let rule = c.args.new_rule.now in
-    subst (λ b. one_if b ≤ count_now c.args.lines.now key t)
-    (sym (covered-alike was_symbols symbols was_rule rule c.in_ok-was.was' c.requires.head key t
-    ∙ gives-covered was_symbols was_rule c.in_ok-was.was' was_members c.in_ok-was.ensures.sources c.in_ok-was.ensures.targets key t)) (c.requires.counted key t)
+    let reach = c.in_ok-was.was' in
+    let covered = gives-covered was_symbols was_rule reach was_members
+    c.in_ok-was.ensures.sources c.in_ok-was.ensures.targets in
+    let was : (key : SymbolKey) (t : ℕ) → gives_as symbols rule reach key t ≡ gives_by c.args.old.now key t was_rule =
+    λ key t.
+    covered-alike was_symbols symbols was_rule rule reach c.requires.head key t ∙ covered key t in
+    omega (arith, c.requires.counted key t, ap one_if (was key t))
 
 pub returns-clause-now : goal.returns-clause-now
 returns-clause-now g c =
     let was_symbols = c.args.old.now.numbering.now.symbols in
     let symbols = c.args.new.now.numbering.now.symbols in
     let was_members = members_of c.args.old.now.members in
-    let members = members_of c.args.new.now.members in
     let was_rule = c.args.old_rule.now in
     let rule = c.args.new_rule.now in
+    let reach = c.in_ok-was.was' in
+    let covered = gives-covered was_symbols was_rule reach was_members
+    c.in_ok-was.ensures.sources c.in_ok-was.ensures.targets in
+    let was : (key : SymbolKey) (t : ℕ) → gives_as symbols rule reach key t ≡ gives_by c.args.old.now key t was_rule =
+    λ key t.
+    covered-alike was_symbols symbols was_rule rule reach c.requires.head key t ∙ covered key t in
+    let members = members_of c.args.new.now.members in
+    let is = gives-covered symbols rule c.in_ok-is.is' members
+    c.in_ok-is.ensures.sources c.in_ok-is.ensures.targets in
     on_ok_weaker c.shift_as.result
-    (λ moved key t.
-    moved-same (count_now c.shift_as.new.lines key t) (count_now c.args.lines.now key t) (gives_as symbols rule c.in_ok-was.was' key t) (gives_as symbols rule c.in_ok-is.is' key t)
-    (covers_by was_members was_symbols was_rule key t) (covers_by members symbols rule key t) (moved key t)
-    (covered-alike was_symbols symbols was_rule rule c.in_ok-was.was' c.requires.head key t
-    ∙ gives-covered was_symbols was_rule c.in_ok-was.was' was_members c.in_ok-was.ensures.sources c.in_ok-was.ensures.targets key t)
-    (gives-covered symbols rule c.in_ok-is.is' members c.in_ok-is.ensures.sources c.in_ok-is.ensures.targets key t))
+    (λ moved key t. omega (arith, moved key t, ap one_if (was key t), ap one_if (is key t)))
     c.shift_as.ensures.now
 
 pub returns-clause-adjustments : goal.returns-clause-adjustments
@@ -42,22 +50,29 @@ returns-clause-adjustments g c =
     let was_symbols = c.args.old.now.numbering.now.symbols in
     let symbols = c.args.new.now.numbering.now.symbols in
     let was_members = members_of c.args.old.now.members in
-    let members = members_of c.args.new.now.members in
     let was_rule = c.args.old_rule.now in
     let rule = c.args.new_rule.now in
+    let reach = c.in_ok-was.was' in
+    let covered = gives-covered was_symbols was_rule reach was_members
+    c.in_ok-was.ensures.sources c.in_ok-was.ensures.targets in
+    let was : (key : SymbolKey) (t : ℕ) → gives_as symbols rule reach key t ≡ gives_by c.args.old.now key t was_rule =
+    λ key t.
+    covered-alike was_symbols symbols was_rule rule reach c.requires.head key t ∙ covered key t in
+    let members = members_of c.args.new.now.members in
+    let is = gives-covered symbols rule c.in_ok-is.is' members
+    c.in_ok-is.ensures.sources c.in_ok-is.ensures.targets in
     on_ok_weaker c.shift_as.result
     (λ rises.
-    replace-rises symbols rule c.in_ok-was.was' c.in_ok-is.is' (adjustments_in c.args.meter.now) (adjustments_in c.shift_as.new.meter) rises (covers_by was_members was_symbols was_rule) (covers_by members symbols rule)
-    (λ key t.
-    covered-alike was_symbols symbols was_rule rule c.in_ok-was.was' c.requires.head key t
-    ∙ gives-covered was_symbols was_rule c.in_ok-was.was' was_members c.in_ok-was.ensures.sources c.in_ok-was.ensures.targets key t)
-    (gives-covered symbols rule c.in_ok-is.is' members c.in_ok-is.ensures.sources c.in_ok-is.ensures.targets))
+    replace-rises symbols rule c.in_ok-was.was' c.in_ok-is.is' (adjustments_in c.args.meter.now)
+    (adjustments_in c.shift_as.new.meter) rises (covers_by was_members was_symbols was_rule)
+    (covers_by members symbols rule) was is)
     c.shift_as.ensures.adjustments
 
 pub returns-clause-bounded : goal.returns-clause-bounded
-returns-clause-bounded g c =
+returns-clause-bounded g c key t =
     let symbols = c.args.new.now.numbering.now.symbols in
-    let members = members_of c.args.new.now.members in
     let rule = c.args.new_rule.now in
-    bounded-covered (gives_as symbols rule c.in_ok-is.is') (covers_by members symbols rule) (count_now c.shift_as.new.lines) (count_now c.args.lines.now)
-    (gives-covered symbols rule c.in_ok-is.is' members c.in_ok-is.ensures.sources c.in_ok-is.ensures.targets) c.shift_as.ensures.bounded
+    let members = members_of c.args.new.now.members in
+    let is = gives-covered symbols rule c.in_ok-is.is' members
+    c.in_ok-is.ensures.sources c.in_ok-is.ensures.targets in
+    omega (arith, c.shift_as.ensures.bounded key t, ap one_if (is key t))

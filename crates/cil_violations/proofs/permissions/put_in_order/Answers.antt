@@ -3,4 +3,5 @@ use Rattle.cil_violations.proofs.PermissionLemmas.{ordered-list}
 use Rattle.cil_violations.proofs.permissions.put_in_order.Goals as goal
 
 pub returns : goal.returns
-returns g c = ordered-list _ _ _ c.sort_unstable.ensures.permutation c.sort_unstable.ensures.sorted (dedup_is _ _ _ c.dedup.ensures.filtered)
+returns g c = ordered-list _ _ _ c.sort_unstable.ensures.permutation c.sort_unstable.ensures.sorted
+    (dedup_is _ _ _ c.dedup.ensures.filtered)

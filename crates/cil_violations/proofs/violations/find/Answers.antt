@@ -10,17 +10,35 @@ use Rattle.cil_violations.proofs.violations.find.Goals as goal
 
 pub returns-clause-rows : goal.returns-clause-rows
 returns-clause-rows g c =
-    let s : Search _ = record { alloc = c.args.alloc; resolved = c.args.resolved; members = c.args.members; permissions = record { ref_ptr = c.args.resolved.ref_ptr; now = c.in_ok-permissions.permissions }; index = record { ref_ptr = c.args.resolved.ref_ptr; now = c.in_ok-index.index } } in
-    let ordered = subst (λ rules. AreOrdered rules c.in_ok-permissions.permissions.0) c.rules.ensures.rules c.in_ok-permissions.ensures in
+    let s : Search _ = record {
+      alloc = c.args.alloc;
+      resolved = c.args.resolved;
+      members = c.args.members;
+      permissions = record { ref_ptr = c.args.resolved.ref_ptr; now = c.in_ok-permissions.permissions };
+      index = record { ref_ptr = c.args.resolved.ref_ptr; now = c.in_ok-index.index };
+    } in
+    let ordered = subst (λ rules. AreOrdered rules c.in_ok-permissions.permissions.0) c.rules.ensures.rules
+    c.in_ok-permissions.ensures in
     let is : IsSearch s = record { members = c.requires; permissions = ordered; index = c.in_ok-index.ensures } in
     let rows = all_rows (tests_of s) (length (rules_in s)) (length c.args.resolved.now.names.items) in
-    subst (AreRows c.args.resolved.now c.in_ok-permissions.permissions.0) (sym (c.in_ok-push_all.ensures ∙ ap (λ l. l ++ rows) c.new-rows.ensures.items)) (are-rows s is c.in_ok-permissions.permissions.0 ordered.len)
+    subst (AreRows c.args.resolved.now c.in_ok-permissions.permissions.0)
+    (sym (c.in_ok-push_all.ensures ∙ ap (λ l. l ++ rows) c.new-rows.ensures.items))
+    (are-rows s is c.in_ok-permissions.permissions.0 ordered.len)
 
 pub returns-clause-violations : goal.returns-clause-violations
 returns-clause-violations g c =
-    let s : Search _ = record { alloc = c.args.alloc; resolved = c.args.resolved; members = c.args.members; permissions = record { ref_ptr = c.args.resolved.ref_ptr; now = c.in_ok-permissions.permissions }; index = record { ref_ptr = c.args.resolved.ref_ptr; now = c.in_ok-index.index } } in
-    let ordered = subst (λ rules. AreOrdered rules c.in_ok-permissions.permissions.0) c.rules.ensures.rules c.in_ok-permissions.ensures in
+    let s : Search _ = record {
+      alloc = c.args.alloc;
+      resolved = c.args.resolved;
+      members = c.args.members;
+      permissions = record { ref_ptr = c.args.resolved.ref_ptr; now = c.in_ok-permissions.permissions };
+      index = record { ref_ptr = c.args.resolved.ref_ptr; now = c.in_ok-index.index };
+    } in
+    let ordered = subst (λ rules. AreOrdered rules c.in_ok-permissions.permissions.0) c.rules.ensures.rules
+    c.in_ok-permissions.ensures in
     let is : IsSearch s = record { members = c.requires; permissions = ordered; index = c.in_ok-index.ensures } in
     let rows = all_rows (tests_of s) (length (rules_in s)) (length c.args.resolved.now.names.items) in
-    subst (λ found. AreViolations (meaning_in c.args.resolved.now) (map (violation_by c.args.resolved.now c.in_ok-permissions.permissions.0) found)) (sym (c.in_ok-push_all.ensures ∙ ap (λ l. l ++ rows) c.new-rows.ensures.items))
+    subst (λ found. AreViolations (meaning_in c.args.resolved.now)
+    (map (violation_by c.args.resolved.now c.in_ok-permissions.permissions.0) found))
+    (sym (c.in_ok-push_all.ensures ∙ ap (λ l. l ++ rows) c.new-rows.ensures.items))
     (are-violations s is c.resolved_rules_are_in_order.ensures)

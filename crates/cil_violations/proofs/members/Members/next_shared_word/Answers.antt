@@ -11,8 +11,10 @@ returns-then-shared_word-ne0 g c =
     let more = c.in_ok-word.ensures.from_on in
     record {
       from_on = omega (arith, on, more);
-      holds = word-some (both_hold c.args.self.now c.args.first c.args.second) c.in_ok-word.word c.shared_word.result c.shared_word.ensures (omega arith) (omega arith);
-      before = first-skips p q c.args.from c.loop-word.from c.in_ok-word.word c.loop-word.invariant.before c.in_ok-word.ensures;
+      holds = word-some (both_hold c.args.self.now c.args.first c.args.second) c.in_ok-word.word
+          c.shared_word.result c.shared_word.ensures (omega arith) (omega arith);
+      before = first-skips p q c.args.from c.loop-word.from c.in_ok-word.word c.loop-word.invariant.before
+          c.in_ok-word.ensures;
     }
 
 pub loop-word-preserved-then-from-word : goal.loop-word-preserved-then-from-word
@@ -25,5 +27,6 @@ loop-word-preserved-then-from-word g c =
       from_on = omega (arith, on, more);
       before =
           word-skipped p q c.args.from c.in_ok-word.word c.shared_word.result
-          (first-skips p q c.args.from c.loop-word.from c.in_ok-word.word c.loop-word.invariant.before c.in_ok-word.ensures) c.shared_word.ensures (omega arith);
+          (first-skips p q c.args.from c.loop-word.from c.in_ok-word.word c.loop-word.invariant.before
+          c.in_ok-word.ensures) c.shared_word.ensures (omega arith);
     }

@@ -1,8 +1,9 @@
 use Rattle.std.proofs.Common.{◌≡◌, ◌++◌, flat_map, take}
-use Rattle.cil_violations.specs.Rows.{hits, names_in, target_rows, tests_of}
+use Rattle.cil_violations.specs.Rows.{names_in, sources_of, target_rows, tests_of}
 use Rattle.cil_violations.proofs.search.Search.push_by_source.Given as goal
 
 -- those of the sources so far stand behind
 abbrev pub invariant-loop-source : goal.invariant-loop-source
 invariant-loop-source g l =
-    l.rows.items ≡ l.fn.rows.items ++ flat_map (target_rows (tests_of l.self) (names_in l.self) l.never l.allowed) (take l.source-index (hits ((tests_of l.self).source l.never l.allowed) 0 (names_in l.self)))
+    l.rows.items ≡ l.fn.rows.items ++ flat_map (target_rows (tests_of l.self) (names_in l.self) l.never l.allowed)
+    (take l.source-index (sources_of l.self l.never l.allowed))

@@ -1,6 +1,6 @@
-use Rattle.std.proofs.Common.{◌≡◌, ◌∙◌, ◌++◌, ◌∷◌, ◌<◌, [], append-nil, flat_map, get_or, length, ap, arith, subst, sym}
+use Rattle.std.proofs.Common.{ℕ, ◌≡◌, ◌∙◌, ◌++◌, ◌∷◌, ◌<◌, [], append-nil, flat_map, get_or, length, ap, arith, subst, sym}
 use Rattle.std.proofs.lemmas.Grind.{common_steps}
-use Rattle.cil_violations.specs.Rows.{hits, names_in, row_with, target_rows, tests_of}
+use Rattle.cil_violations.specs.Rows.{names_in, row_with, sources_of, target_rows, tests_of}
 use Rattle.cil_violations.proofs.PairLemmas.{no-targets, part-more}
 use Rattle.cil_violations.proofs.search.Search.push_with_targets.Goals as goal
 
@@ -8,7 +8,8 @@ pub returns-then-is_empty : goal.returns-then-is_empty
 returns-then-is_empty g c =
     let s = c.args.self.now in
     let none : c.args.targets.now ≡ [] = grind (arith, common_steps) in
-    sym (ap (λ l. c.args.rows.now.items ++ l) (no-targets (tests_of s) (names_in s) c.args.never c.args.allowed (λ source. sym none ∙ c.requires.targets source)) ∙ append-nil c.args.rows.now.items)
+    sym (ap (λ l. c.args.rows.now.items ++ l) (no-targets (tests_of s) (names_in s) c.args.never c.args.allowed
+    (λ source. sym none ∙ c.requires.targets source)) ∙ append-nil c.args.rows.now.items)
 
 pub loop-source-preserved : goal.loop-source-preserved
 loop-source-preserved g c =
@@ -16,8 +17,10 @@ loop-source-preserved g c =
     let is = c.deref-source-items.ensures.value ∙ c.in_ok-sources.ensures in
     let rows = target_rows (tests_of s) (names_in s) c.args.never c.args.allowed in
     let source = get_or c.deref-source-items.result.now c.loop-source.source-index 0 in
-    part-more rows c.args.rows.now.items c.loop-source.rows.items c.push_rows.new.rows.items (hits ((tests_of s).source c.args.never c.args.allowed) 0 (names_in s)) c.loop-source.source-index
+    let row = λ (target : ℕ). row_with c.args.never c.args.allowed source target ∷ [] in
+    part-more rows c.args.rows.now.items c.loop-source.rows.items c.push_rows.new.rows.items
+    (sources_of s c.args.never c.args.allowed) c.loop-source.source-index
     (subst (λ l. c.loop-source.source-index < length l) is c.loop-source-test.true) c.loop-source.invariant
     (c.in_ok-push_rows.ensures
-    ∙ ap (λ l. c.loop-source.rows.items ++ flat_map (λ target. row_with c.args.never c.args.allowed source target ∷ []) l) (c.requires.targets source)
+    ∙ ap (λ l. c.loop-source.rows.items ++ flat_map row l) (c.requires.targets source)
     ∙ ap (λ l. c.loop-source.rows.items ++ rows (get_or l c.loop-source.source-index 0)) is)
