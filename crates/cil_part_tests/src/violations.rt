@@ -1,7 +1,7 @@
 //! Violations by their places, their order and the types that they are of, and reports to sinks that fail.
 
 use crate::counters::{bring, counted, keep, take_back};
-use crate::policies::{policy, types};
+use crate::policies::{policy, shared, types};
 use cil_counters::violations_at_once;
 use cil_names::Seed;
 use cil_resolve::{Resolved, RuleView};
@@ -13,19 +13,17 @@ use std::process::Abort;
 use std::rc::Rc;
 
 // The violations of a policy, by counters that are kept.
-fn violations_of(rt: &impl Abort, alloc: Global, resolved: Resolved) -> Violations {
-    let counters = counted(rt, alloc, &resolved);
-    let resolved = Rc::new(alloc, resolved).expect(rt, "memory");
-    counters.violations(alloc, &resolved).expect(rt, "memory")
+fn violations_of(rt: &impl Abort, alloc: Global, resolved: &Rc<Resolved>) -> Violations {
+    let counters = counted(rt, alloc, resolved);
+    counters.violations(alloc, resolved).expect(rt, "memory")
 }
 
 // The violations of a policy that is compiled once.
-fn violations_once(rt: &impl Abort, alloc: Global, resolved: Resolved) -> Violations {
+fn violations_once(rt: &impl Abort, alloc: Global, resolved: &Rc<Resolved>) -> Violations {
     let nothing = policy(rt, alloc, &[]);
     assert!(rt; nothing.sets_len() == 0);
     assert!(rt; nothing.rules_len() == 0);
-    let resolved = Rc::new(alloc, resolved).expect(rt, "memory");
-    violations_at_once(alloc, Seed::fixed(), &nothing, &resolved).expect(rt, "memory")
+    violations_at_once(alloc, Seed::fixed(), &nothing, resolved).expect(rt, "memory")
 }
 
 const START: &[u8] =
@@ -68,8 +66,8 @@ fn are_two(violations: &Violations) -> bool {
 
 #[test]
 fn violations_by_place(rt: HostRuntime) {
-    let resolved = policy(&rt, rt.alloc(), &[START, RULES]);
-    assert!(&rt; are_two(&violations_of(&rt, rt.alloc(), resolved)));
+    let resolved = shared(&rt, rt.alloc(), &[START, RULES]);
+    assert!(&rt; are_two(&violations_of(&rt, rt.alloc(), &resolved)));
 }
 
 // Whether the report is written whole.
@@ -88,8 +86,9 @@ fn is_cut(alloc: Global, violations: &Violations, want: &[u8]) -> bool {
 
 // Whether the report of a policy is that one, whichever way it is found.
 fn is_report(rt: &impl Abort, alloc: Global, texts: &[&[u8]], want: &[u8]) -> bool {
-    let counted = violations_of(rt, alloc, policy(rt, alloc, texts));
-    let once = violations_once(rt, alloc, policy(rt, alloc, texts));
+    let resolved = shared(rt, alloc, texts);
+    let counted = violations_of(rt, alloc, &resolved);
+    let once = violations_once(rt, alloc, &resolved);
     is_whole(rt, alloc, &counted, want)
         && is_cut(alloc, &counted, want)
         && is_whole(rt, alloc, &once, want)
@@ -251,21 +250,21 @@ fn is_crossed(
     rt: &impl Abort,
     alloc: Global,
     types: &[u8],
-    shared: &Shared,
+    sets: &Shared,
     crossed: &(&[u8], bool, bool),
 ) -> bool {
-    let (u, v, want) = shared;
+    let (u, v, want) = sets;
     let (rules, source, target) = crossed;
-    let resolved = policy(rt, alloc, &[types, WIDE, u, v, rules]);
-    are_shared(&violations_of(rt, alloc, resolved), want, *source, *target)
+    let resolved = shared(rt, alloc, &[types, WIDE, u, v, rules]);
+    are_shared(&violations_of(rt, alloc, &resolved), want, *source, *target)
 }
 
 #[test]
 fn violations_at_the_edges_of_words(rt: HostRuntime) {
     let types = types(&rt, rt.alloc(), 130);
-    for shared in SHARED {
+    for sets in SHARED {
         for crossed in CROSSED {
-            assert!(&rt; is_crossed(&rt, rt.alloc(), &types, shared, crossed));
+            assert!(&rt; is_crossed(&rt, rt.alloc(), &types, sets, crossed));
         }
     }
 }
@@ -294,8 +293,8 @@ neverallow m:3:1 allow m:4:1 m m:p { see use };\n";
 // The violations of the third policy, reached from the second, and then those of the second again.
 fn brought(rt: &impl Abort, alloc: Global) -> (Violations, Violations) {
     let first = policy(rt, alloc, &[FIRST]);
-    let second = Rc::new(alloc, policy(rt, alloc, &[SECOND])).expect(rt, "memory");
-    let third = Rc::new(alloc, policy(rt, alloc, &[THIRD])).expect(rt, "memory");
+    let second = shared(rt, alloc, &[SECOND]);
+    let third = shared(rt, alloc, &[THIRD]);
     let mut counters = counted(rt, alloc, &first);
     bring(rt, alloc, &mut counters, &first, &second);
     keep(&mut counters, &second);
