@@ -52,7 +52,8 @@ fn shift(
         class: 7,
         permission: 3,
     };
-    assert!(rt; word < 3 && numbers.len() == 192);
+    assert!(rt; word < 3);
+    assert!(rt; numbers.len() == 192);
     let can = can_go(lines, key, word, was & !is);
     assert!(rt; can);
     lines.shift(alloc, key, word, was, is).expect(rt, "memory");
