@@ -54,9 +54,9 @@ use std::rc::Rc;
 #[derive(Drop)]
 pub struct Counters<A: Allocator = Global> {
     names: Symbols<A>,
-    /// Those of the policy before the steps.
+    /// The symbols of the policy before the steps.
     policy: PolicySymbols<A>,
-    /// Those of the policy that the steps lead to.
+    /// The symbols of the policy that the steps lead to.
     next: Option<PolicySymbols<A>>,
     rows: MemberRows<A>,
     tables: KeyedLines<A>,
@@ -341,8 +341,8 @@ impl<A: Allocator + Copy> Counters<A> {
         Ok(ChangeCounts { added, removed: 0 })
     }
 
-    /// The accesses that a listing has, of the policy whose counters stand now: all but those of neverallow. The table shares the policy's
-    /// names, and no rule is gone over.
+    /// The accesses that a listing has, of the policy whose counters stand now: all but those of neverallow. The table shares the
+    /// policy, whose names it has, and no rule is gone over. Out of memory stands also where no more owners can be counted.
     pub fn table(&self, alloc: A, policy: &Rc<Resolved<A>, A>) -> Result<Table<A>, AllocError>
         requires { IsNow (rc_value policy.now) self.now }
         ensures { IfOk result (λ table. AreAtoms (listed (is_in_table (meaning_in (rc_value policy.now)))) table) }
@@ -352,7 +352,8 @@ impl<A: Allocator + Copy> Counters<A> {
         Table::numbered(policy, accesses)
     }
 
-    /// The violations of the policy whose counters stand now. No set statement is evaluated.
+    /// The violations of the policy whose counters stand now. No set statement is evaluated. Out of memory stands also where no more
+    /// owners of the policy can be counted.
     pub fn violations(
         &self,
         alloc: A,
@@ -538,7 +539,8 @@ impl<A: Allocator> Counters<A> {
         self.tables.count(key, target)
     }
 
-    /// Whether there are steps that `undo` would take back. No means that `undo` and `settle` would change nothing.
+    /// Whether there are steps that `undo` would take back. No means that `undo` and `settle` would change no counter; which policy's
+    /// symbols are kept they may change still.
     pub fn is_pending(&self) -> bool
         ensures steps { IsTrue result ↔ (0 < steps_in self.now) }
         ensures members { result ≡ false → (a t : ℕ) → member_rows.count_before self.now.rows a t ≡ member_rows.count_now self.now.rows a t }

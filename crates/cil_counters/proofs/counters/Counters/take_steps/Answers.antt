@@ -34,13 +34,13 @@ returns-clause-now g c = record {
 pub returns-in_err-update-clause-before : goal.returns-in_err-update-clause-before
 returns-in_err-update-clause-before g c =
     let rows = member_rows.count_before c.bring_members.new.self.rows in
-    counted-by-alike c.args.old.now c.bring_members.new.self c.bring_members.new.self rows rows (access_tables.count_before c.bring_members.new.self.tables) (access_tables.count_before c.update.new.tables)
+    counted-by-alike c.args.old.now c.bring_members.new.self c.bring_members.new.self rows rows (access_tables.count_before c.bring_members.new.self.tables) (access_tables.count_before c.update.new.lines)
     c.bring_members.ensures.before refl refl (λ a t. refl) c.update.ensures.before
 
 pub returns-clause-before : goal.returns-clause-before
 returns-clause-before g c =
     let rows = member_rows.count_before c.bring_members.new.self.rows in
-    counted-by-alike c.args.old.now c.bring_members.new.self c.bring_members.new.self rows rows (access_tables.count_before c.bring_members.new.self.tables) (access_tables.count_before c.update.new.tables)
+    counted-by-alike c.args.old.now c.bring_members.new.self c.bring_members.new.self rows rows (access_tables.count_before c.bring_members.new.self.tables) (access_tables.count_before c.update.new.lines)
     c.bring_members.ensures.before refl refl (λ a t. refl) c.update.ensures.before
 
 pub returns-clause-evaluations : goal.returns-clause-evaluations
@@ -53,7 +53,7 @@ returns-clause-adjustments g c changes are =
     let old = c.args.old.now in
     let new = c.args.new.now in
     let was = access_tables.count_now c.bring_members.new.self.tables in
-    let is = access_tables.count_now c.update.new.tables in
+    let is = access_tables.count_now c.update.new.lines in
     let old_rows = member_rows.count_before c.bring_members.new.self.rows in
     let rows = member_rows.count_now c.bring_members.new.self.rows in
     let between = adjustments_in c.bring_members.new.meter in
