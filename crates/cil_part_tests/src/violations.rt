@@ -151,7 +151,9 @@ fn reports_of_violations(rt: HostRuntime) {
 const WIDE: &[u8] = b"(class x (y))(type w)(typeattribute u)(typeattribute v)";
 
 // Rules of these, and whether each type that u and v share is the source, and the target, of a violation, or w is.
-const CROSSED: &[(&[u8], bool, bool)] = &[
+type Crossed = (&'static [u8], bool, bool);
+
+const CROSSED: &[Crossed] = &[
     (b"(neverallow u w (x (y)))(allow v w (x (y)))", true, false),
     (b"(neverallow w u (x (y)))(allow w v (x (y)))", false, true),
     (
@@ -246,25 +248,19 @@ fn are_shared(violations: &Violations, types: &[&[u8]], source: bool, target: bo
 }
 
 // Whether it is so where these types are shared.
-fn is_crossed(
-    rt: &impl Abort,
-    alloc: Global,
-    types: &[u8],
-    sets: &Shared,
-    crossed: &(&[u8], bool, bool),
-) -> bool {
+fn is_crossed(rt: &impl Abort, alloc: Global, sets: &Shared, crossed: &Crossed) -> bool {
     let (u, v, want) = sets;
     let (rules, source, target) = crossed;
-    let resolved = shared(rt, alloc, &[types, WIDE, u, v, rules]);
+    let types = types(rt, alloc, 130);
+    let resolved = shared(rt, alloc, &[&types, WIDE, u, v, rules]);
     are_shared(&violations_of(rt, alloc, &resolved), want, *source, *target)
 }
 
 #[test]
 fn violations_at_the_edges_of_words(rt: HostRuntime) {
-    let types = types(&rt, rt.alloc(), 130);
     for sets in SHARED {
         for crossed in CROSSED {
-            assert!(&rt; is_crossed(&rt, rt.alloc(), &types, sets, crossed));
+            assert!(&rt; is_crossed(&rt, rt.alloc(), sets, crossed));
         }
     }
 }
