@@ -1,10 +1,10 @@
 //! The trials of the engine that changes its counters.
 
-use crate::engine::{Heap, count_rules, end_of, has_member, refuse, run_script};
+use crate::engine::{Heap, atom_of, end_of, refuse, run_script};
 use crate::work::make_edits;
 use cil_program::script::memory::answer_script;
 use cil_program::script::session::session;
-use cil_store::Delta;
+use cil_store::{Compiled, Delta};
 use cil_stream::{MemorySink, Sink, Source};
 use cil_trial_cases::{Access, End, Engine, Fault, Refusal};
 use std::alloc::Global;
@@ -57,10 +57,10 @@ impl<'h> Engine for TriedDelta<'h> {
     }
 
     fn has(&self, attribute: &str, ty: &str) -> bool {
-        has_member(&self.engine, attribute, ty)
+        self.engine.has(attribute.as_bytes(), ty.as_bytes())
     }
 
     fn count(&self, access: Access<'_>) -> u64 {
-        count_rules(&self.engine, access)
+        self.engine.count(&atom_of(access))
     }
 }

@@ -12,7 +12,7 @@ use cil_stream::{MemorySink, SinkFault};
 use cil_text::RuleKind;
 use cil_trial_cases::{Access, Case, End, Engines, Fault, Job, Kind, Refusal, Rule};
 use refusing::Refusing;
-use std::alloc::Global;
+use std::alloc::{Allocator, Global};
 
 /// An allocator of which growths may be refused.
 pub type Heap = Refusing<Global>;
@@ -47,8 +47,8 @@ pub fn refuse(heap: &Heap, refusal: Refusal) {
 }
 
 /// Has `run` make calls, and writes its replies.
-fn run_calls<'h, C: Compiled<&'h Heap>>(
-    heap: &'h Heap,
+fn run_calls<A: Allocator + Copy, C: Compiled<A>>(
+    heap: A,
     engine: &mut C,
     calls: &[Call<'_>],
     sink: &mut MemorySink,
@@ -60,9 +60,9 @@ fn run_calls<'h, C: Compiled<&'h Heap>>(
 }
 
 /// Has `run` make the calls that the commands of a script ask for, and writes its replies.
-pub fn run_script<'h, C: Compiled<&'h Heap>>(
+pub fn run_script<A: Allocator + Copy, C: Compiled<A>>(
     alloc: Global,
-    heap: &'h Heap,
+    heap: A,
     engine: &mut C,
     script: &[u8],
     sink: &mut MemorySink,
@@ -72,20 +72,15 @@ pub fn run_script<'h, C: Compiled<&'h Heap>>(
     or_memory(run_calls(heap, engine, calls.as_slice(), sink))
 }
 
-/// Whether a type is a member of an attribute.
-pub fn has_member<'h, C: Compiled<&'h Heap>>(engine: &C, attribute: &str, ty: &str) -> bool {
-    engine.has(attribute.as_bytes(), ty.as_bytes())
-}
-
-/// How many rules give an access.
-pub fn count_rules<'h, C: Compiled<&'h Heap>>(engine: &C, access: Access<'_>) -> u64 {
-    engine.count(&Atom {
+/// The access that a case names.
+pub fn atom_of(access: Access<'_>) -> Atom<'_> {
+    Atom {
         kind: kind_of(access.rule),
         source: access.source.as_bytes(),
         target: access.target.as_bytes(),
         class: access.class.as_bytes(),
         permission: access.permission.as_bytes(),
-    })
+    }
 }
 
 /// Makes the engines of the trials.

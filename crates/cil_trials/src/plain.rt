@@ -1,12 +1,12 @@
 //! The trials of the engine that compiles anew.
 
 use crate::calls::push_entries;
-use crate::engine::{Heap, count_rules, end_of, has_member, refuse, run_script};
+use crate::engine::{Heap, atom_of, end_of, refuse, run_script};
 use crate::replies::or_memory;
 use cil_program::script::memory::answer_script;
 use cil_program::script::reply;
 use cil_program::script::session::session;
-use cil_store::{Entry, Plain, Seed};
+use cil_store::{Compiled, Entry, Plain, Seed};
 use cil_stream::{MemorySink, Sink, Source};
 use cil_trial_cases::{Access, End, Engine, Fault, Refusal, write_text};
 use std::alloc::Global;
@@ -76,10 +76,10 @@ impl<'h> Engine for TriedPlain<'h> {
     }
 
     fn has(&self, attribute: &str, ty: &str) -> bool {
-        has_member(&self.engine, attribute, ty)
+        self.engine.has(attribute.as_bytes(), ty.as_bytes())
     }
 
     fn count(&self, access: Access<'_>) -> u64 {
-        count_rules(&self.engine, access)
+        self.engine.count(&atom_of(access))
     }
 }

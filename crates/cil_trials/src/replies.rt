@@ -1,10 +1,10 @@
 //! The writers of replies.
 
-use crate::engine::Heap;
 use cil_program::script::reply;
 use cil_store::{ChangeCounts, Reply};
 use cil_stream::{MemorySink, SinkFault, write_all};
 use cil_trial_cases::Fault;
+use std::alloc::Allocator;
 
 /// What was written to memory, which fails only where memory lacks.
 pub fn or_memory(written: Result<(), SinkFault>) -> Result<(), Fault> {
@@ -14,7 +14,7 @@ pub fn or_memory(written: Result<(), SinkFault>) -> Result<(), Fault> {
     }
 }
 
-fn write_reply(sink: &mut MemorySink, reply: &Reply<&Heap>) -> Result<(), SinkFault> {
+fn write_reply<A: Allocator>(sink: &mut MemorySink, reply: &Reply<A>) -> Result<(), SinkFault> {
     match reply {
         Reply::Changes(changes) => reply::write_changes(
             sink,
@@ -38,7 +38,10 @@ fn write_reply(sink: &mut MemorySink, reply: &Reply<&Heap>) -> Result<(), SinkFa
 }
 
 /// Writes replies one after the other.
-pub fn write_replies(sink: &mut MemorySink, replies: &[Reply<&Heap>]) -> Result<(), SinkFault> {
+pub fn write_replies<A: Allocator>(
+    sink: &mut MemorySink,
+    replies: &[Reply<A>],
+) -> Result<(), SinkFault> {
     for reply in replies {
         write_reply(sink, reply)?;
     }
